@@ -1,15 +1,17 @@
 """`ucl_evening`: evenings of threads with real pipes and processes, whose parts break."""
 
+import concurrent.futures
 import fcntl
 import itertools
 import json
 import os
 import random
 import signal
+import time
 
 import pytest
-from conftest import EXAMPLES, command, decoded, lines_of, text_of
-from model import CLUBS, FINISHED, ROSTER, Style, fresh, line_of, match_of, sheet, version
+from conftest import EXAMPLES, Started, command, decoded, lines_of, text_of
+from model import CLUBS, FINISHED, ROSTER, Evening, Style, followed, fresh, line_of, match_of, sheet, version
 from threads import History, faults_of, replies_of
 
 pytestmark = pytest.mark.limit(60)
@@ -471,3 +473,137 @@ def test_reporter_at_standard_input(hall):
     evening.write("1,0,kickoff\n1,1,goal-home")
     assert numbers_of(evening.end().output)[0] == 2
     assert hall.read("replies") == "1 ok 1 1 1\n2 ok 1 2 2\n"
+
+
+# ---- answers in JSON
+
+MISTAKES = "1,0,kickoff\n1,0,kickoff\n2,1,goal-home\n13,0,kickoff\n1,x,kickoff\n1,1,goal-hoem\n\n1,1\n1,1,goal-home\r\n1,2,fulltime\n1,3,goal-home\n\"1\",3,reopen\n" + "9" * 300 + "\né\n2,0,kickoff"
+
+
+def as_typed(line, rows):
+    """An answer of `ucl_live` in JSON as the reporter has it, whose rows come without the reporter and are the first lines."""
+    answer = json.loads(line)
+    answer["row"] -= 4
+    if "text" in answer:
+        answer["text"] = "" if not rows[answer["row"] - 1].isascii() else rows[answer["row"] - 1].rstrip("\r")[:64]
+    return answer
+
+
+@pytest.mark.parametrize("words", [[], ["--group", "C", "--order", "away-in-tie"]])
+def test_answers_in_json(hall, words):
+    """They are those of `ucl_live`, a line each, whatever form the screens have."""
+    rows = MISTAKES.split("\n")
+    hall.write("north.rows", MISTAKES)
+    assert hall.held("--reporter", NORTH, "--format", "json", "--screen", "stadium", *words)[::2] == (0, "")
+    lines = hall.read("north.replies").splitlines(True)
+    expected = Evening(["--format", "json", *words]).of(CLUBS + "".join(f"1,{row}\n" if row else "\n" for row in rows))[1]
+    assert [json.loads(line) for line in lines] == [as_typed(line, rows) for line in expected.splitlines()]
+    assert all(line == line_of(json.loads(line)) and len(line) <= 4096 for line in lines)
+    assert hall.read("stadium").startswith(f"GROUP {words[1] if words else 'A'} v000")
+
+
+def text_told(line):
+    """What a line of JSON says, as the line of text."""
+    it = json.loads(line)
+    said = f"ok {it['match']} {it['number']} {it['version']}" if it["reply"] == "ok" else f"refused {it['code']} {it['name']}" + (f" {it['number']}" if "number" in it else "")
+    return f"{it['row']} {said}\n"
+
+
+def test_answers_in_json_of_two_at_once(hall):
+    """One history explains them; each accepted one has the words of a moment after its event, and a stale one its match as it stood then or later."""
+    chance = random.Random(66)
+    typed = {name: "".join(chance.choice(up_and_down(game, 200)[at:at + 3]) for game in (1, 2) for at in range(190)) for name in ("north", "south")}
+    for name, rows in typed.items():
+        hall.write(f"{name}.rows", rows)
+    assert hall.held(*BOTH, "--format", "json").status == 0
+    answers = {name: hall.read(f"{name}.replies").splitlines(True) for name in typed}
+    history = History([replies_of(rows, "".join(map(text_told, answers[name]))) for name, rows in typed.items()])
+    for reporter, name in enumerate(typed, 1):
+        seen = [0] * 12
+        for it in map(json.loads, answers[name]):
+            row = typed[name].splitlines()[it["row"] - 1].split(",")
+            assert [it["reporter"], it["match"], it["expected"], it["event"]] == [reporter, int(row[0]), int(row[1]), row[2]]
+            if it["reply"] == "ok":
+                before, seen = seen, [int(word, 16) & 4095 for word in it["words"]]
+                assert it["words"] == [states.get(number) for number, states in zip(seen, history.words)] and sum(seen) == it["version"]
+                assert seen[it["match"] - 1] >= it["number"] and all(early <= late for early, late in zip(before, seen))
+            elif it["name"] == "stale":
+                assert it["stands"]["match"] == it["match"] and it["stands"]["number"] >= it["number"] >= seen[it["match"] - 1]
+
+
+NIGHT = text_of(EXAMPLES / "group_a_2021_night.csv")
+
+
+class Journal:
+    """Evenings of two reporters in a folder, each of which is killed: the answers that are left, and the rows that have no whole answer yet."""
+
+    NAMES = ("north", "south")
+
+    def __init__(self, program, chance, folder):
+        self.evening, self.follow, self.chance, self.folder = program("ucl_evening"), [program("ucl_follow"), "--resume"], chance, folder
+        lines = NIGHT.splitlines(True)
+        self.clubs, rows = "".join(lines[:4]), [row.split(",", 1)[1] for row in lines[4:]]
+        self.rows = {name: [row for row in rows if (int(row.split(",")[0]) <= 6) == (name == "north")] for name in self.NAMES}
+        self.left, self.journal, self.newest, self.lives = {name: list(rows) for name, rows in self.rows.items()}, "", "", 0
+
+    def live(self):
+        """Goes on from the answers that were left, and is killed, or all its answers are cut where chance says."""
+        start = command(self.follow, self.journal)
+        assert not self.newest or (start.status, start.output) == followed(["--resume"], self.newest)[:2]
+        (self.folder / "clubs.csv").write_text(start.output or self.clubs)
+        again = {}
+        for name in self.NAMES:
+            answered = self.rows[name][: len(self.rows[name]) - len(self.left[name])]
+            again[name] = self.chance.sample(answered, min(1, len(answered)))
+            (self.folder / f"{name}.rows").write_text("".join(again[name] + self.left[name][:6]))
+            (self.folder / f"{name}.replies").unlink(missing_ok=True)
+        words = [self.evening, "clubs.csv", *BOTH, "--format", "json"]
+        is_killed = self.lives % 4 == 0
+        with Started(words, cwd=self.folder) as evening:
+            if not is_killed:
+                assert evening.end().status == 0
+            else:
+                evening.stderr.readline()
+                time.sleep(self.chance.random() / 200)
+                evening.kill()
+                evening.wait()
+        for name in self.NAMES:
+            replies = self.folder / f"{name}.replies"
+            text = replies.read_text() if replies.exists() else ""
+            self.take(name, text if is_killed else text[: self.chance.randint(0, 2600)], len(again[name]))
+        self.lives += 1
+
+    def take(self, name, left, again):
+        """Takes what is left of a reporter's answers. A line that was cut may lack its end alone."""
+        lines = [line + "\n" for line in left.split("\n") if line.endswith("}") and line.count("{") == line.count("}")]
+        self.journal += left + "\n"
+        for line in lines:
+            if "version" in json.loads(line) and (not self.newest or json.loads(line)["version"] > json.loads(self.newest)["version"]):
+                self.newest = line
+        self.left[name] = self.left[name][max(0, len(lines) - again) :]
+
+    def check(self):
+        """The newest moment has each event whose answer is whole."""
+        numbers = [int(word, 16) & 4095 for word in json.loads(self.newest)["words"]] if self.newest else [0] * 12
+        whole = [json.loads(line) for line in self.journal.splitlines() if line.endswith("}") and line.count("{") == line.count("}")]
+        assert all(it["number"] <= numbers[it["match"] - 1] for it in whole if it["reply"] == "ok")
+
+
+def test_evenings_killed_a_thousand_times_lose_no_whole_answer(program, tmp_path):
+    """The newest moment in all answers together, cut anywhere, has every event whose answer is whole: with an end to each line they are a journal."""
+    last = Evening([]).of(NIGHT + "screen,,,\n")[1].splitlines()[-6:]
+
+    def killed(seed):
+        """How often an evening was killed until all its rows were answered."""
+        folder = tmp_path / str(seed)
+        folder.mkdir()
+        journal = Journal(program, random.Random(seed), folder)
+        while any(journal.left.values()):
+            journal.live()
+            journal.check()
+        start = command(journal.follow, journal.journal).output
+        assert command([program("ucl_live")], start + "screen,,,\n").output.splitlines()[-6:] == last
+        return journal.lives
+
+    with concurrent.futures.ThreadPoolExecutor() as evenings:
+        assert sum(evenings.map(killed, range(80))) >= 1_000

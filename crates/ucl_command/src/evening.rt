@@ -8,7 +8,8 @@ use crate::files::{EveningArgs, ReporterFiles, ScreenFile};
 use crate::help::{ROW_GROUP, ROW_ORDER, evening as help};
 use crate::names::{are_apart, names_of};
 use crate::options::{
-    Format, group_of, group_option, order_of, order_option, program, several_option,
+    Format, format_of, format_option, group_of, group_option, order_of, order_option, program,
+    several_option,
 };
 use clap::{Arg, ArgAction, ArgMatches, Command};
 use std::alloc::{AllocError, Global};
@@ -30,6 +31,7 @@ fn command<'a>(alloc: Global) -> Result<Command<'a>, AllocError> {
     program(alloc, "ucl_evening", help::PROGRAM, help::PROGRAM_MORE)
         .arg(clubs(alloc))?
         .arg(several_option(alloc, "reporter", "IN=OUT", help::REPORTER).required(true))?
+        .arg(format_option(alloc, help::FORMAT))?
         .arg(several_option(alloc, "screen", "OUT", help::SCREEN))?
         .arg(several_option(alloc, "json", "OUT", help::JSON))?
         .arg(group_option(alloc, ROW_GROUP))?
@@ -95,6 +97,7 @@ fn args_in(alloc: Global, matches: &ArgMatches<'_>) -> Result<EveningArgs, LineF
         clubs: String::from_str(alloc, clubs)?,
         reporters: reporters_in(alloc, matches)?,
         screens,
+        format: read(alloc, format_of(matches))?,
         group,
         profile,
     })
@@ -118,8 +121,9 @@ fn if_evening(alloc: Global, args: EveningArgs) -> Result<EveningArgs, LineFault
 
 /// What the words ask of `ucl_evening`. The first word is the program's name.
 ///
-/// The arguments are the name of the script; `--reporter` with `IN=OUT`, once for each of 1 to 16 reporters; `--screen` and `--json` with the
-/// name of a file or pipe, at most 16 together; `--group` with a letter from `A` to `H`; and `--order` with `uefa` or `away-in-tie`.
+/// The arguments are the name of the script; `--reporter` with `IN=OUT`, once for each of 1 to 16 reporters; `--screen` and `--json` with
+/// the name of a file or pipe, at most 16 together; `--format` with `text` or `json`, which is `text` where it is left out; `--group` with
+/// a letter from `A` to `H`; and `--order` with `uefa` or `away-in-tie`.
 ///
 /// # Errors
 ///

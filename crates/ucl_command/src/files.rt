@@ -33,6 +33,8 @@ pub struct EveningArgs {
     pub reporters: Vec<ReporterFiles>,
     /// The screens: those of text, and then those of JSON, each in the order of the words.
     pub screens: Vec<ScreenFile>,
+    /// The form of the reporters' answers.
+    pub format: Format,
     /// The letter of the group that was asked for, `A` to `H`.
     pub group: Option<u8>,
     /// The order of the clubs that was asked for.

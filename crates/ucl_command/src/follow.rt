@@ -1,7 +1,7 @@
 //! The arguments of `ucl_follow`.
 
 use crate::fault::{LineFault, matches_from, read};
-use crate::help::follow as help;
+use crate::help::{FORMAT, follow as help};
 use crate::options::{
     Format, flag_option, format_of, format_option, group_of, group_option, order_of, order_option,
     program,
@@ -46,7 +46,7 @@ fn command<'a>(alloc: Global) -> Result<Command<'a>, AllocError> {
     program(alloc, "ucl_follow", help::PROGRAM, help::PROGRAM_MORE)
         .arg(group_option(alloc, help::GROUP))?
         .arg(order_option(alloc, help::ORDER))?
-        .arg(format_option(alloc))?
+        .arg(format_option(alloc, FORMAT))?
         .arg(flag_option(alloc, "resume", help::RESUME))?
         .arg(matches_option(alloc)?)
 }

@@ -4,7 +4,7 @@ ghost use Rattle.std.specs.Prelude.{◌≡◌, true};
 ghost use Rattle.ucl_command.specs.Groups.{may_be_asked};
 
 use crate::fault::{LineFault, matches_from, read};
-use crate::help::{ROW_GROUP, ROW_ORDER, live as help};
+use crate::help::{FORMAT, ROW_GROUP, ROW_ORDER, live as help};
 use crate::options::{
     Format, flag_option, format_of, format_option, group_of, group_option, order_of, order_option,
     program,
@@ -40,7 +40,7 @@ fn command<'a>(alloc: Global) -> Result<Command<'a>, AllocError> {
         .arg(order_option(alloc, ROW_ORDER))?
         .arg(flag_option(alloc, "resumed", help::RESUMED))?
         .arg(flag_option(alloc, "screens", help::SCREENS))?
-        .arg(format_option(alloc))?
+        .arg(format_option(alloc, FORMAT))?
         .arg(flag_option(alloc, EXPLAIN, help::EXPLAIN))
 }
 

@@ -63,8 +63,8 @@ pub(crate) fn order_option<'a>(alloc: Global, says: &'a str) -> Arg<'a> {
 }
 
 /// `--format` with `text` or `json`, which is `text` where it is left out.
-pub(crate) fn format_option<'a>(alloc: Global) -> Arg<'a> {
-    option(alloc, "format", "FORMAT", help::FORMAT)
+pub(crate) fn format_option<'a>(alloc: Global, says: &'a str) -> Arg<'a> {
+    option(alloc, "format", "FORMAT", says)
         .value_parser(FORMATS.as_slice())
         .default_value(TEXT)
 }

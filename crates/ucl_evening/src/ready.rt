@@ -12,6 +12,7 @@ use std::io::Stderr;
 use ucl_runs::{OTHER_GROUP, RunFault, first_group, title_for};
 use ucl_board::Board;
 use ucl_command::EveningArgs;
+use ucl_evenings::Shape;
 use ucl_evenings_threads::{Place, Reporter, night_towards};
 use ucl_io::first_line;
 use ucl_json::Title;
@@ -50,6 +51,7 @@ fn reporters_on<'r, R: Files<File = File>>(
     alloc: Global,
     asked: &'r EveningArgs,
     befores: &[Before],
+    shape: Shape,
     errors: Stderr,
 ) -> Result<Vec<Reporter<FromRead<In<'r, R>>, ToWrite<Out<'r, R>>>>, RunFault> {
     let mut reporters = Vec::new(alloc);
@@ -57,6 +59,7 @@ fn reporters_on<'r, R: Files<File = File>>(
         let reporter = Reporter {
             rows: FromRead::new(In::named(rt, ways.rows.as_str(), errors)),
             replies: ToWrite::new(Out::named(rt, ways.replies.as_str(), errors, *before)),
+            shape,
         };
         if reporters.push(reporter).is_err() {
             return Err(RunFault::OutOfMemory);
@@ -169,7 +172,11 @@ pub fn ready_for<'r, R: Files<File = File>>(
         &mut FromRead::new(In::named(rt, asked.clubs.as_str(), errors)),
     )?;
     let Beginning { title, night } = beginning_of(alloc, asked, script.as_slice())?;
-    let reporters = reporters_on(rt, alloc, asked, &before_replies, errors)?;
+    let shape = Shape {
+        title,
+        format: asked.format,
+    };
+    let reporters = reporters_on(rt, alloc, asked, &before_replies, shape, errors)?;
     let places = places_on(rt, alloc, asked, &before_screens, errors)?;
     Ok(Ready {
         title,

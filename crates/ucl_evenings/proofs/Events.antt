@@ -1,6 +1,8 @@
 -- The events of a reporter's pass, one after the other.
-use Rattle.std.proofs.Common.{◌≡◌, ℕ, ◌+◌, ◌-◌, ◌≤◌, List, [], ◌∷◌, ◌++◌, length, take, slice_get, refl, sym, ap, ◌∙◌, subst, append_assoc, append-nil, arith, length-append, le_refl}
-use Rattle.std.proofs.Math.Seq.{take-append_seam, take-length}
+use Rattle.std.proofs.Common.{zero, suc, Some}
+use Rattle.std.proofs.Common.{◌≡◌, ℕ, ◌+◌, ◌-◌, ◌<◌, ◌≤◌, List, [], ◌∷◌, ◌++◌, length, take, slice_get, refl, sym, ap, ◌∙◌, subst, append_assoc, append-nil, arith, length-append, le_refl}
+use Rattle.std.proofs.Math.Seq.{take-append_seam}
+use Rattle.std.proofs.lemmas.List.Elements.{All-cons, All-head, All-nil, All-tail}
 use mathlib.Core.List.{IsPrefix}
 use Rattle.ucl_word.specs.declared.event.EventCall.{EventCall}
 use Rattle.ucl_word.specs.declared.event.Accepted.{Accepted}
@@ -8,13 +10,12 @@ use Rattle.ucl_word.specs.declared.refusal.Refusal.{Refusal}
 use Rattle.ucl_word.proofs.Sequences.{at_end}
 use Rattle.ucl_board.specs.declared.entry.Entry.{Entry}
 use Rattle.ucl_board.specs.declared.reading.Reading.{Reading}
-use Rattle.ucl_board.specs.History.{entry_of, sequential_reply}
-use Rattle.ucl_board.proofs.Beginnings.{at_beginning, begins_length, take_beginning}
+use Rattle.ucl_board.specs.History.{board_of, entry_of, sequential_reply}
+use Rattle.ucl_board.proofs.Beginnings.{at_beginning, begins_length, take_beginning, take_whole}
 use Rattle.ucl_shared.specs.Passes.{PassView, IsSound, Continues, ReportsMore, AcceptedReport, RefusedReport, SharedReading}
 use Rattle.ucl_shared.proofs.Lists.{unchanged}
 use Rattle.ucl_runs.proofs.EnteredRows.{goes_on}
-use Rattle.ucl_evenings.specs.declared.outcome.Outcome.{Outcome}
-use Rattle.ucl_evenings.specs.declared.outcome.Outcome.TheVariants.{Entered, Refused}
+use Rattle.ucl_evenings.specs.Reporting.{Entered, EventOutcome, IsAmong, IsNoOlder, IsReadingFrom, MomentsHaveTheirEvents, Refused}
 use Rattle.ucl_evenings.specs.Reporting.{IsOutcomeAt, past_point, GoThrough, entered_by, entered_in, accepted_in, HasReportedRows, RangFor}
 
 -- no event
@@ -24,7 +25,7 @@ rows_none k sound = record { always = unchanged k k sound refl; through = le_ref
 
 -- an event that was accepted, and a reading after it
 pub row_accepted : (k m z : PassView) (call : EventCall) (reply : Accepted) (reading : Reading) → Continues k m → AcceptedReport k call reply m → Continues m z → SharedReading m reading z
-    → HasReportedRows k z (call ∷ []) (Entered reply.number reading.version ∷ [])
+    → HasReportedRows k z (call ∷ []) (Entered reply.number reading ∷ [])
 unfolding GoThrough entered_in
 row_accepted k m z call reply reading first a then read =
     let p : ℕ = length a.before in
@@ -42,48 +43,58 @@ row_accepted k m z call reply reading first a then read =
         record {
           reply = ap (λ (l : List Entry). sequential_reply l call) front ∙ a.answer;
           entry = at_beginning m.seen z.seen p e on (ap (λ (l : List Entry). slice_get l p) a.last ∙ at_end a.before e);
-          read = omega arith;
-          within = read.high;
+          read = record { low = omega arith; high = read.high; snapshot = read.snapshot };
         },
         omega arith,
       );
       mine = read.mine ∙ a.mine;
     }
 
--- an event that was refused
-pub row_refused : (k m : PassView) (call : EventCall) (refusal : Refusal) → Continues k m → RefusedReport k call refusal m → HasReportedRows k m (call ∷ []) (Refused refusal ∷ [])
+pub past_accepted : (k m z : PassView) (call : EventCall) (reply : Accepted) (reading : Reading) → AcceptedReport k call reply m → SharedReading m reading z → 0 < reading.version
+past_accepted k m z call reply reading a read =
+    let long = ap length a.last ∙ length-append a.before (entry_of k.number call ∷ []) in let low = read.low in omega arith
+
+-- an event that was refused, and a reading after it
+pub row_refused : (k m z : PassView) (call : EventCall) (refusal : Refusal) (reading : Reading) → Continues k m → RefusedReport k call refusal m → Continues m z → SharedReading m reading z
+    → HasReportedRows k z (call ∷ []) (Refused refusal reading ∷ [])
 unfolding GoThrough entered_in
-row_refused k m call refusal on r = record {
-  always = on;
-  through = (
-    length m.seen,
-    begins_length k.seen m.seen on.on.seen,
-    (le_refl (length m.seen), ap (λ (l : List Entry). sequential_reply l call) (take-length m.seen) ∙ r.answer),
-    le_refl (length m.seen),
-  );
-  mine = r.mine ∙ sym (append-nil k.mine);
-}
+row_refused k m z call refusal reading on r then read =
+    let all : take (length m.seen) z.seen ≡ m.seen = take_whole m.seen z.seen then.on.seen in record {
+      always = goes_on k m z on then;
+      through = (
+        length m.seen,
+        begins_length k.seen m.seen on.on.seen,
+        (record { low = read.low; high = read.high; snapshot = read.snapshot }, ap (λ (l : List Entry). sequential_reply l call) all ∙ r.answer),
+        begins_length m.seen z.seen then.on.seen,
+      );
+      mine = read.mine ∙ r.mine ∙ sym (append-nil k.mine);
+    }
 
 -- ---- events after events
 
 module _ (reporter : ℕ) (s h : List Entry) (on : IsPrefix s h) where
-  at_on : (point : ℕ) (call : EventCall) (w : Outcome) → IsOutcomeAt reporter s point call w → IsOutcomeAt reporter h point call w
-  at_on point call (Entered number version) r =
-      let read = r.read in
-      let within = r.within in
-      let longer = begins_length s h on in
+  reading_on : (least : ℕ) (reading : Reading) → IsReadingFrom least s reading → IsReadingFrom least h reading
+  reading_on least reading r = let longer = begins_length s h on in record {
+    low = r.low;
+    high = omega (arith, r.high);
+    snapshot = r.snapshot ∙ ap (λ (l : List Entry). record { board = board_of l; version = reading.version }) (sym (take_beginning s h reading.version on r.high));
+  }
+
+  pub at_on : (point : ℕ) (call : EventCall) (w : EventOutcome) → IsOutcomeAt reporter s point call w → IsOutcomeAt reporter h point call w
+  at_on point call (Entered number reading) r =
+      let low = r.read.low in
+      let high = r.read.high in
       record {
         reply = ap (λ (l : List Entry). sequential_reply l call) (take_beginning s h point on (omega arith)) ∙ r.reply;
         entry = at_beginning s h point (entry_of reporter call) on r.entry;
-        read = r.read;
-        within = omega arith;
+        read = reading_on (point + 1) reading r.read;
       }
-  at_on point call (Refused refusal) r =
-      let within = r.0 in
-      let longer = begins_length s h on in
-      (omega arith, ap (λ (l : List Entry). sequential_reply l call) (take_beginning s h point on r.0) ∙ r.1)
+  at_on point call (Refused refusal reading) r =
+      let low = r.0.low in
+      let high = r.0.high in
+      (reading_on point reading r.0, ap (λ (l : List Entry). sequential_reply l call) (take_beginning s h point on (omega arith)) ∙ r.1)
 
-  through_on : (low high : ℕ) (calls : List EventCall) (outcomes : List Outcome) → GoThrough reporter s low high calls outcomes → GoThrough reporter h low high calls outcomes
+  through_on : (low high : ℕ) (calls : List EventCall) (outcomes : List EventOutcome) → GoThrough reporter s low high calls outcomes → GoThrough reporter h low high calls outcomes
   unfolding GoThrough
   through_on low high [] [] g = g
   through_on low high [] (w ∷ outcomes) g = absurd g
@@ -91,14 +102,15 @@ module _ (reporter : ℕ) (s h : List Entry) (on : IsPrefix s h) where
   through_on low high (call ∷ calls) (w ∷ outcomes) g = (g.0, g.1, at_on g.0 call w g.2, through_on (past_point g.0 w) high calls outcomes g.3)
 
 module _ (reporter : ℕ) (h : List Entry) where
-  through_lower : (low low2 high : ℕ) (calls : List EventCall) (outcomes : List Outcome) → low ≤ low2 → GoThrough reporter h low2 high calls outcomes → GoThrough reporter h low high calls outcomes
+  through_lower : (low low2 high : ℕ) (calls : List EventCall) (outcomes : List EventOutcome) → low ≤ low2 → GoThrough reporter h low2 high calls outcomes
+      → GoThrough reporter h low high calls outcomes
   unfolding GoThrough
   through_lower low low2 high [] [] le g = omega arith
   through_lower low low2 high [] (w ∷ outcomes) le g = absurd g
   through_lower low low2 high (call ∷ calls) [] le g = absurd g
   through_lower low low2 high (call ∷ calls) (w ∷ outcomes) le g = let x = g.1 in (g.0, omega arith, g.2, g.3)
 
-  through_then : (low mid high : ℕ) (calls more : List EventCall) (outcomes later : List Outcome) → GoThrough reporter h low mid calls outcomes → GoThrough reporter h mid high more later
+  through_then : (low mid high : ℕ) (calls more : List EventCall) (outcomes later : List EventOutcome) → GoThrough reporter h low mid calls outcomes → GoThrough reporter h mid high more later
       → GoThrough reporter h low high (calls ++ more) (outcomes ++ later)
   unfolding GoThrough
   through_then low mid high [] more [] later g k = through_lower low mid high more later g k
@@ -106,14 +118,14 @@ module _ (reporter : ℕ) (h : List Entry) where
   through_then low mid high (call ∷ calls) more [] later g k = absurd g
   through_then low mid high (call ∷ calls) more (w ∷ outcomes) later g k = (g.0, g.1, g.2, through_then (past_point g.0 w) mid high calls more outcomes later g.3 k)
 
-  through_count : (low high : ℕ) (calls : List EventCall) (outcomes : List Outcome) → GoThrough reporter h low high calls outcomes → length outcomes ≡ length calls
+  through_count : (low high : ℕ) (calls : List EventCall) (outcomes : List EventOutcome) → GoThrough reporter h low high calls outcomes → length outcomes ≡ length calls
   unfolding GoThrough
   through_count low high [] [] g = refl
   through_count low high [] (w ∷ outcomes) g = absurd g
   through_count low high (call ∷ calls) [] g = absurd g
   through_count low high (call ∷ calls) (w ∷ outcomes) g = let n = through_count (past_point g.0 w) high calls outcomes g.3 in omega arith
 
-entered_then : (reporter : ℕ) (calls more : List EventCall) (outcomes later : List Outcome) → length outcomes ≡ length calls
+entered_then : (reporter : ℕ) (calls more : List EventCall) (outcomes later : List EventOutcome) → length outcomes ≡ length calls
     → entered_in reporter (calls ++ more) (outcomes ++ later) ≡ entered_in reporter calls outcomes ++ entered_in reporter more later
 unfolding entered_in
 entered_then reporter [] more [] later same = refl
@@ -123,11 +135,11 @@ entered_then reporter (call ∷ calls) more (w ∷ outcomes) later same =
     ap (λ (l : List Entry). entered_by reporter call w ++ l) (entered_then reporter calls more outcomes later (omega arith))
     ∙ sym (append_assoc (entered_by reporter call w) (entered_in reporter calls outcomes) (entered_in reporter more later))
 
-pub rows_count : (k m : PassView) (calls : List EventCall) (outcomes : List Outcome) → HasReportedRows k m calls outcomes → length outcomes ≡ length calls
+pub rows_count : (k m : PassView) (calls : List EventCall) (outcomes : List EventOutcome) → HasReportedRows k m calls outcomes → length outcomes ≡ length calls
 rows_count k m calls outcomes r = through_count k.number m.seen (length k.seen) (length m.seen) calls outcomes r.through
 
 -- what a pass did, and then did more
-pub rows_then : (k m z : PassView) (calls more : List EventCall) (outcomes later : List Outcome) → HasReportedRows k m calls outcomes → HasReportedRows m z more later
+pub rows_then : (k m z : PassView) (calls more : List EventCall) (outcomes later : List EventOutcome) → HasReportedRows k m calls outcomes → HasReportedRows m z more later
     → HasReportedRows k z (calls ++ more) (outcomes ++ later)
 rows_then k m z calls more outcomes later a b =
     let same : m.number ≡ k.number = a.always.number in
@@ -144,15 +156,15 @@ rows_then k m z calls more outcomes later a b =
 
 -- ---- rings
 
-entered_count : (reporter : ℕ) (calls : List EventCall) (outcomes : List Outcome) → length outcomes ≡ length calls → length (entered_in reporter calls outcomes) ≡ accepted_in outcomes
+entered_count : (reporter : ℕ) (calls : List EventCall) (outcomes : List EventOutcome) → length outcomes ≡ length calls → length (entered_in reporter calls outcomes) ≡ accepted_in outcomes
 unfolding entered_in accepted_in
 entered_count reporter [] [] same = refl
 entered_count reporter [] (w ∷ outcomes) same = absurd (omega arith)
 entered_count reporter (call ∷ calls) [] same = absurd (omega arith)
-entered_count reporter (call ∷ calls) (Entered number version ∷ outcomes) same = let rest = entered_count reporter calls outcomes (omega arith) in omega arith
-entered_count reporter (call ∷ calls) (Refused refusal ∷ outcomes) same = let rest = entered_count reporter calls outcomes (omega arith) in omega arith
+entered_count reporter (call ∷ calls) (Entered number reading ∷ outcomes) same = let rest = entered_count reporter calls outcomes (omega arith) in omega arith
+entered_count reporter (call ∷ calls) (Refused refusal reading ∷ outcomes) same = let rest = entered_count reporter calls outcomes (omega arith) in omega arith
 
-pub rang_for : (k m : PassView) (calls : List EventCall) (outcomes : List Outcome) (rung rung2 : ℕ → Type 0) → HasReportedRows k m calls outcomes → RangFor k m rung rung2
+pub rang_for : (k m : PassView) (calls : List EventCall) (outcomes : List EventOutcome) (rung rung2 : ℕ → Type 0) → HasReportedRows k m calls outcomes → RangFor k m rung rung2
     → ReportsMore rung (accepted_in outcomes) rung2
 rang_for k m calls outcomes rung rung2 p r n h =
     let all = ap (length {A = Entry}) p.mine ∙ length-append k.mine (entered_in k.number calls outcomes) in
@@ -167,12 +179,33 @@ rang_once k m z call reply reading rung rung2 a read once =
     let all = ap (length {A = Entry}) (read.mine ∙ a.mine) ∙ length-append k.mine (entry_of k.number call ∷ []) in
     record { grows = omega arith; rang = λ n h. subst rung2 (omega arith) (once n h) }
 
-pub rang_not : (k m : PassView) (call : EventCall) (refusal : Refusal) (rung : ℕ → Type 0) → RefusedReport k call refusal m → RangFor k m rung rung
-rang_not k m call refusal rung r =
-    let all = ap (length {A = Entry}) r.mine in record { grows = omega arith; rang = λ n h. subst rung (omega arith) h }
+pub rang_not : (k m z : PassView) (call : EventCall) (refusal : Refusal) (reading : Reading) (rung : ℕ → Type 0) → RefusedReport k call refusal m → SharedReading m reading z → RangFor k z rung rung
+rang_not k m z call refusal reading rung r read =
+    let all = ap (length {A = Entry}) (read.mine ∙ r.mine) in record { grows = omega arith; rang = λ n h. subst rung (omega arith) h }
 
 pub rang_then : (k m z : PassView) (a b c : ℕ → Type 0) → RangFor k m a b → RangFor m z b c → RangFor k z a c
 rang_then k m z a b c p q =
     let le = p.grows in let le2 = q.grows in
     let more = length m.mine - length k.mine in
     record { grows = omega arith; rang = λ n h. subst c (omega arith) (q.rang (n + more) (p.rang n h)) }
+
+-- ---- answers that are whole
+
+taken_at : (l : List Entry) (p n : ℕ) (e : Entry) → p < n → slice_get l p ≡ Some e → slice_get (take n l) p ≡ Some e
+taken_at l p zero e less at = absurd (omega arith)
+taken_at [] p (suc n) e less at = at
+taken_at (x ∷ l) zero (suc n) e less at = at
+taken_at (x ∷ l) (suc p) (suc n) e less at = taken_at l p n e (omega arith) at
+
+pub moments_have : MomentsHaveTheirEvents
+unfolding GoThrough entered_in
+moments_have reporter h low high moment [] [] later g all = All-nil (IsAmong (take moment h))
+moments_have reporter h low high moment (call ∷ calls) [] later g all = All-nil (IsAmong (take moment h))
+moments_have reporter h low high moment [] (w ∷ first) later g all = absurd g
+moments_have reporter h low high moment (call ∷ calls) (Entered number reading ∷ first) later g all =
+    let at = g.2.read.low in
+    let told = All-head (IsNoOlder moment) (Entered number reading) first all in
+    All-cons (IsAmong (take moment h)) (entry_of reporter call) (entered_in reporter calls first) (g.0, taken_at h g.0 moment (entry_of reporter call) (omega arith) g.2.entry)
+    (moments_have reporter h (g.0 + 1) high moment calls first later g.3 (All-tail (IsNoOlder moment) (Entered number reading) first all))
+moments_have reporter h low high moment (call ∷ calls) (Refused refusal reading ∷ first) later g all =
+    moments_have reporter h g.0 high moment calls first later g.3 (All-tail (IsNoOlder moment) (Refused refusal reading) first all)

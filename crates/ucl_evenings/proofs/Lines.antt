@@ -1,14 +1,20 @@
 -- Lines whose events a reporter's pass has reported, one after the other.
 use Rattle.std.proofs.Common.{◌≡◌, ℕ, ◌+◌, List, [], ◌∷◌, ◌++◌, length, sym, ap, ap₂, ◌∙◌, subst, arith, length-append}
+use Rattle.ucl_word.specs.declared.event.Accepted.{Accepted}
 use Rattle.ucl_word.specs.declared.event.EventCall.{EventCall}
-use Rattle.ucl_shared.specs.Passes.{PassView, IsSound, ReportsMore}
+use Rattle.ucl_word.specs.declared.refusal.Refusal.{Refusal}
+use Rattle.ucl_board.specs.declared.reading.Reading.{Reading}
+use Rattle.ucl_shared.specs.Passes.{AcceptedReport, Continues, IsSound, PassView, RefusedReport, ReportsMore, SharedReading}
+use Rattle.ucl_runs.specs.BadRows.{shown_text}
 use Rattle.ucl_evenings.specs.declared.input.Input.{Input}
-use Rattle.ucl_evenings.specs.declared.outcome.Outcome.{Outcome}
+use Rattle.ucl_evenings.specs.declared.input.Input.TheVariants.{Event}
+use Rattle.ucl_order.specs.Roster.{NamedClub}
+use Rattle.ucl_evenings.specs.declared.shape.Shape.{Shape}
 use Rattle.ucl_evenings.specs.Inputs.{input_on}
-use Rattle.ucl_evenings.specs.Answering.{calls_of, calls_in, input_answer, answers_in}
-use Rattle.ucl_evenings.specs.Reporting.{HasReportedRows, RangFor}
+use Rattle.ucl_evenings.specs.Answering.{ReplyStyle, answers_in, calls_in, calls_of, input_answer, outcome_answer, reply_style}
+use Rattle.ucl_evenings.specs.Reporting.{Entered, EventOutcome, HasReportedRows, RangFor, Refused}
 use Rattle.ucl_evenings.specs.Rows.{HasReportedLines, TurnsBy, TurnsLines}
-use Rattle.ucl_evenings.proofs.Events.{rang_none, rang_then, rows_count, rows_none, rows_then}
+use Rattle.ucl_evenings.proofs.Events.{rang_none, rang_not, rang_once, rang_then, row_accepted, row_refused, rows_count, rows_none, rows_then}
 use Rattle.ucl_evenings.proofs.LineAnswers.{answers_none, answers_one, answers_then, calls_none, calls_one, calls_then}
 
 pub reports_none : (before : ℕ → Type 0) → ReportsMore before 0 before
@@ -24,7 +30,7 @@ lines_none k before row sound = record {
   reports = subst (λ (calls : List EventCall). ReportsMore before (length calls) before) (sym (calls_none row)) (reports_none before);
 }
 
-pub reported_then : (k m z : PassView) (a b c : ℕ → Type 0) (row : ℕ) (lines more : List (List ℕ)) (outcomes later : List Outcome) → HasReportedLines k m a b row lines outcomes
+pub reported_then : (k m z : PassView) (a b c : ℕ → Type 0) (row : ℕ) (lines more : List (List ℕ)) (outcomes later : List EventOutcome) → HasReportedLines k m a b row lines outcomes
     → HasReportedLines m z b c (row + length lines) more later → HasReportedLines k z a c row (lines ++ more) (outcomes ++ later)
 reported_then k m z a b c row lines more outcomes later p q =
     let first = calls_in row lines in
@@ -35,16 +41,17 @@ reported_then k m z a b c row lines more outcomes later p q =
       reports = subst (λ (n : ℕ). ReportsMore a n c) (sym (ap length calls ∙ count)) (reports_then a b c (length first) (length then) p.reports q.reports);
     }
 
-pub lines_count : (k m : PassView) (a b : ℕ → Type 0) (row : ℕ) (lines : List (List ℕ)) (outcomes : List Outcome) → HasReportedLines k m a b row lines outcomes
+pub lines_count : (k m : PassView) (a b : ℕ → Type 0) (row : ℕ) (lines : List (List ℕ)) (outcomes : List EventOutcome) → HasReportedLines k m a b row lines outcomes
     → length outcomes ≡ length (calls_in row lines)
 lines_count k m a b row lines outcomes p = rows_count k m (calls_in row lines) outcomes p.rows
 
 -- ---- and were answered
 
 -- one line, which says this
-pub turns_line : (k m : PassView) (a b r s : ℕ → Type 0) (row : ℕ) (line : List ℕ) (t : Input) → input_on row line ≡ t → (outcomes : List Outcome) → HasReportedRows k m (calls_of t) outcomes
-    → ReportsMore a (length (calls_of t)) b → RangFor k m r s → (text : List ℕ) → text ≡ input_answer row t outcomes → TurnsLines k m a b r s row (line ∷ []) text
-turns_line k m a b r s row line t is outcomes rows reports rang text e =
+pub turns_line : (s : ReplyStyle) (k m : PassView) (a b r q : ℕ → Type 0) (row : ℕ) (line : List ℕ) (t : Input) → input_on row line ≡ t → (outcomes : List EventOutcome)
+    → HasReportedRows k m (calls_of t) outcomes → ReportsMore a (length (calls_of t)) b → RangFor k m r q → (text : List ℕ) → text ≡ input_answer s row (shown_text line) t outcomes
+    → TurnsLines s k m a b r q row (line ∷ []) text
+turns_line s k m a b r q row line t is outcomes rows reports rang text e =
     let calls = calls_one row line ∙ ap calls_of is in (
       outcomes,
       record {
@@ -53,20 +60,48 @@ turns_line k m a b r s row line t is outcomes rows reports rang text e =
           reports = subst (λ (c : List EventCall). ReportsMore a (length c) b) (sym calls) reports;
         };
         rang = rang;
-        text_is = e ∙ sym (answers_one row line outcomes ∙ ap (λ (x : Input). input_answer row x outcomes) is);
+        text_is = e ∙ sym (answers_one s row line outcomes ∙ ap (λ (x : Input). input_answer s row (shown_text line) x outcomes) is);
       },
     )
 
+-- an accepted event, and a reading after it
+pub entered_turn : (s : ReplyStyle) (k m z : PassView) (a b d r q : ℕ → Type 0) (row : ℕ) (line : List ℕ) (call : EventCall) → input_on row line ≡ Event call → (reply : Accepted) (reading : Reading)
+    → Continues k m → AcceptedReport k call reply m → Continues m z → SharedReading m reading z → ReportsMore a 1 b → ReportsMore b 0 d → ReportsMore r 1 q
+    → (text : List ℕ) → text ≡ outcome_answer s row call (Entered reply.number reading) → TurnsLines s k z a d r q row (line ∷ []) text
+entered_turn s k m z a b d r q row line call is reply reading on accepted then read reports none once text e =
+    turns_line s k z a d r q row line (Event call) is (Entered reply.number reading ∷ []) (row_accepted k m z call reply reading on accepted then read) (reports_then a b d 1 0 reports none)
+    (rang_once k m z call reply reading r q accepted read once) text e
+
+-- a refused one
+pub refused_turn : (s : ReplyStyle) (k m z : PassView) (a b d r : ℕ → Type 0) (row : ℕ) (line : List ℕ) (call : EventCall) → input_on row line ≡ Event call → (refusal : Refusal) (reading : Reading)
+    → Continues k m → RefusedReport k call refusal m → Continues m z → SharedReading m reading z → ReportsMore a 1 b → ReportsMore b 0 d
+    → (text : List ℕ) → text ≡ outcome_answer s row call (Refused refusal reading) → TurnsLines s k z a d r r row (line ∷ []) text
+refused_turn s k m z a b d r row line call is refusal reading on refused then read reports none text e =
+    turns_line s k z a d r r row line (Event call) is (Refused refusal reading ∷ []) (row_refused k m z call refusal reading on refused then read) (reports_then a b d 1 0 reports none)
+    (rang_not k m z call refusal reading r refused read) text e
+
+-- no event
+pub plain_turn : (s : ReplyStyle) (k : PassView) (a r : ℕ → Type 0) (row : ℕ) (line : List ℕ) (t : Input) → input_on row line ≡ t → calls_of t ≡ [] → IsSound k
+    → (text : List ℕ) → text ≡ input_answer s row (shown_text line) t [] → TurnsLines s k k a a r r row (line ∷ []) text
+plain_turn s k a r row line t is none sound text e =
+    turns_line s k k a a r r row line t is [] (subst (λ (c : List EventCall). HasReportedRows k k c []) (sym none) (rows_none k sound))
+    (subst (λ (c : List EventCall). ReportsMore a (length c) a) (sym none) (reports_none a)) (rang_none k r) text e
+
+-- a pass goes on under its number
+pub same_style : (shape : Shape) (clubs : List NamedClub) (k z : PassView) → z.number ≡ k.number → reply_style shape clubs z ≡ reply_style shape clubs k
+same_style shape clubs k z is = ap (λ (n : ℕ). record { shape = shape; clubs = clubs; reporter = n }) is
+
 -- no line
-pub by_none : (k : PassView) (a r : ℕ → Type 0) (row : ℕ) → IsSound k → TurnsBy k k a a r r row [] [] []
-by_none k a r row sound = record { reported = lines_none k a row sound; rang = rang_none k r; text_is = sym (answers_none row []) }
+pub by_none : (s : ReplyStyle) (k : PassView) (a r : ℕ → Type 0) (row : ℕ) → IsSound k → TurnsBy s k k a a r r row [] [] []
+by_none s k a r row sound = record { reported = lines_none k a row sound; rang = rang_none k r; text_is = sym (answers_none s row []) }
 
 -- lines after lines
-pub by_then : (k m z : PassView) (a b c r s t : ℕ → Type 0) (row next : ℕ) (lines more : List (List ℕ)) (text later : List ℕ) (outcomes outcomes2 : List Outcome) → next ≡ row + length lines
-    → TurnsBy k m a b r s row lines text outcomes → TurnsBy m z b c s t next more later outcomes2 → TurnsBy k z a c r t row (lines ++ more) (text ++ later) (outcomes ++ outcomes2)
-by_then k m z a b c r s t row next lines more text later outcomes outcomes2 is p q = record {
-  reported = reported_then k m z a b c row lines more outcomes outcomes2 p.reported (subst (λ (n : ℕ). HasReportedLines m z b c n more outcomes2) is q.reported);
-  rang = rang_then k m z r s t p.rang q.rang;
-  text_is = ap₂ (λ (x y : List ℕ). x ++ y) p.text_is (q.text_is ∙ ap (λ (n : ℕ). answers_in n more outcomes2) is)
-      ∙ sym (answers_then row lines more outcomes outcomes2 (lines_count k m a b row lines outcomes p.reported));
+pub by_then : (s : ReplyStyle) (k m z : PassView) (a b c r q t : ℕ → Type 0) (row next : ℕ) (lines more : List (List ℕ)) (text later : List ℕ) (outcomes outcomes2 : List EventOutcome)
+    → next ≡ row + length lines → TurnsBy s k m a b r q row lines text outcomes → TurnsBy s m z b c q t next more later outcomes2
+    → TurnsBy s k z a c r t row (lines ++ more) (text ++ later) (outcomes ++ outcomes2)
+by_then s k m z a b c r q t row next lines more text later outcomes outcomes2 is x y = record {
+  reported = reported_then k m z a b c row lines more outcomes outcomes2 x.reported (subst (λ (n : ℕ). HasReportedLines m z b c n more outcomes2) is y.reported);
+  rang = rang_then k m z r q t x.rang y.rang;
+  text_is = ap₂ (λ (x y : List ℕ). x ++ y) x.text_is (y.text_is ∙ ap (λ (n : ℕ). answers_in s n more outcomes2) is)
+      ∙ sym (answers_then s row lines more outcomes outcomes2 (lines_count k m a b row lines outcomes x.reported));
 }

@@ -6,7 +6,7 @@ use mathlib.Core.List.{IsPrefix}
 use Rattle.ucl_board.proofs.Beginnings.{begins_longer}
 use Rattle.ucl_io.specs.declared.fault.PumpFault.{PumpFault}
 use Rattle.ucl_io.specs.declared.fault.PumpFault.TheVariants.{Machine, ReadFailed, TooLong, WriteFailed}
-use Rattle.ucl_io.specs.Calls.{Device, LogsCalls}
+use Rattle.ucl_io.specs.Calls.{Device, HasEnded, LogsCalls}
 use Rattle.ucl_io.specs.Output.{SinkEnds, StoppedAt}
 use Rattle.ucl_io.specs.Turns.{AreGiven, AreTurns, KeptBack, StopsNext, Turn, lines_in, state_after, text_in}
 use Rattle.ucl_io.specs.Pumping.{LineRules, HasClosed, HasMade, IsPromptAt, Pumped, Seen, StopsLast, is_source_failed, rules_of}
@@ -14,51 +14,62 @@ use Rattle.ucl_io.proofs.Calls.{logs-as}
 use Rattle.ucl_io.proofs.Turns.{lines_count as turns_count}
 use Rattle.ucl_shared.specs.Passes.{PassView, IsSound}
 use Rattle.ucl_runs.specs.declared.fault.RunFault.{RunFault}
+use Rattle.ucl_runs.specs.declared.fault.RunFault.TheVariants.{OutOfMemory}
+use Rattle.ucl_command.specs.declared.options.Format.TheVariants.{Json}
 use Rattle.ucl_runs.specs.Run.{SinkFails, fault_of, is_read_failed}
 use Rattle.ucl_runs.proofs.Driven.{IfMachine, IsOwn, reads, sinks}
 use Rattle.ucl_io.specs.Lines.{begun_line, ended_lines}
 use Rattle.ucl_runs.specs.InputLines.{last_lines, lines_of}
-use Rattle.ucl_evenings.specs.declared.outcome.Outcome.{Outcome}
-use Rattle.ucl_evenings.specs.Answering.{calls_in, answers_in}
-use Rattle.ucl_evenings.specs.Reporting.{RangFor, accepted_in}
-use Rattle.ucl_evenings.specs.Rows.{IsAnsweredUpTo, RunEnds, StopsInLast, TookRows, TurnsBy, TurnsLines}
+use Rattle.ucl_evenings.specs.Answering.{ReplyStyle, calls_in, answers_in}
+use Rattle.ucl_evenings.specs.Reporting.{EventOutcome, RangFor, accepted_in}
+use Rattle.ucl_evenings.specs.Rows.{HasNoMemory, IsAnsweredUpTo, RunEnds, StopsInLast, TookRows, TurnsBy, TurnsLines}
 use Rattle.ucl_evenings.proofs.Events.{rang_for}
 use Rattle.ucl_evenings.proofs.LineAnswers.{answers_none, answers_then}
 use Rattle.ucl_evenings.proofs.Lines.{by_none, by_then, lines_count}
 
-behind : (a b c : List Outcome) → IsPrefix b c → IsPrefix (a ++ b) (a ++ c)
+behind : (a b c : List EventOutcome) → IsPrefix b c → IsPrefix (a ++ b) (a ++ c)
 behind [] b c p = p
-behind (w ∷ a) b c p = let q = behind a b c p in (q.0, ap (λ (x : List Outcome). w ∷ x) q.1)
+behind (w ∷ a) b c p = let q = behind a b c p in (q.0, ap (λ (x : List EventOutcome). w ∷ x) q.1)
 
 -- what a machine whose pass reports events does with lines
-module _ (M K : Type 0) (board : M → K) (view : M → PassView) (reports rung : M → ℕ → Type 0) (A Z : M → ℕ → List ℕ → M → List ℕ → Type 0) (S E : M → ℕ → List ℕ → RunFault → Type 0)
-    (stays : (m : M) (row : ℕ) (line : List ℕ) (n : M) (text : List ℕ) → A m row line n text → board n ≡ board m)
-    (ends : (m : M) (row : ℕ) (line : List ℕ) (n : M) (text : List ℕ) → Z m row line n text → board n ≡ board m)
-    (gives : (m : M) (row : ℕ) (line : List ℕ) (n : M) (text : List ℕ) → A m row line n text → TurnsLines (view m) (view n) (reports m) (reports n) (rung m) (rung n) row (line ∷ []) text)
+module _ (M K : Type 0) (board : M → K) (style : M → ReplyStyle) (view : M → PassView) (reports rung : M → ℕ → Type 0) (A Z : M → ℕ → List ℕ → M → List ℕ → Type 0)
+    (S E : M → ℕ → List ℕ → M → RunFault → Type 0)
+    (stays : (m : M) (row : ℕ) (line : List ℕ) (n : M) (text : List ℕ) → A m row line n text → (board n ≡ board m) × (style n ≡ style m))
+    (ends : (m : M) (row : ℕ) (line : List ℕ) (n : M) (text : List ℕ) → Z m row line n text → (board n ≡ board m) × (style n ≡ style m))
+    (gives : (m : M) (row : ℕ) (line : List ℕ) (n : M) (text : List ℕ) → A m row line n text
+    → TurnsLines (style m) (view m) (view n) (reports m) (reports n) (rung m) (rung n) row (line ∷ []) text)
     (closes : (m : M) (row : ℕ) (begun : List ℕ) (n : M) (text : List ℕ) → Z m row begun n text
-    → TurnsLines (view m) (view n) (reports m) (reports n) (rung m) (rung n) row (last_lines begun) text)
-    (never : (m : M) (row : ℕ) (line : List ℕ) (f : RunFault) → S m row line f → ⊥) (never_last : (m : M) (row : ℕ) (line : List ℕ) (f : RunFault) → E m row line f → ⊥) where
-  unfoldable outcomes_of : (row : ℕ) (m : M) (turns : List (Turn M)) → AreTurns A row m turns → List Outcome
+    → TurnsLines (style m) (view m) (view n) (reports m) (reports n) (rung m) (rung n) row (last_lines begun) text)
+    (halts : (m : M) (row : ℕ) (line : List ℕ) (n : M) (f : RunFault) → S m row line n f
+    → (board n ≡ board m) × HasNoMemory (style m) (view m) (view n) (reports m) (reports n) (rung m) (rung n) row line f)
+    (halts_last : (m : M) (row : ℕ) (begun : List ℕ) (n : M) (f : RunFault) → E m row begun n f
+    → (last_lines begun ≡ begun ∷ []) × (board n ≡ board m) × HasNoMemory (style m) (view m) (view n) (reports m) (reports n) (rung m) (rung n) row begun f) where
+  unfoldable outcomes_of : (row : ℕ) (m : M) (turns : List (Turn M)) → AreTurns A row m turns → List EventOutcome
   unfolding AreTurns
   outcomes_of row m [] p = []
   outcomes_of row m (t ∷ turns) p = (gives m row t.line t.after t.text p.0).0 ++ outcomes_of (row + 1) t.after turns p.1
 
-  abbrev By : M → M → ℕ → List (List ℕ) → List ℕ → List Outcome → Type 0
-  By m n row lines text outcomes = TurnsBy (view m) (view n) (reports m) (reports n) (rung m) (rung n) row lines text outcomes
+  abbrev At : ReplyStyle → M → M → ℕ → List (List ℕ) → List ℕ → List EventOutcome → Type 0
+  At s m n row lines text outcomes = TurnsBy s (view m) (view n) (reports m) (reports n) (rung m) (rung n) row lines text outcomes
 
-  turned : (row : ℕ) (m : M) (turns : List (Turn M)) (p : AreTurns A row m turns) → IsSound (view m) → By m (state_after m turns) row (lines_in turns) (text_in turns) (outcomes_of row m turns p)
+  turned : (row : ℕ) (m : M) (turns : List (Turn M)) (p : AreTurns A row m turns) → IsSound (view m)
+      → At (style m) m (state_after m turns) row (lines_in turns) (text_in turns) (outcomes_of row m turns p)
   unfolding AreTurns outcomes_of lines_in text_in state_after
-  turned row m [] p sound = by_none (view m) (reports m) (rung m) row sound
+  turned row m [] p sound = by_none (style m) (view m) (reports m) (rung m) row sound
   turned row m (t ∷ turns) p sound =
       let x = gives m row t.line t.after t.text p.0 in
       let n = state_after t.after turns in
-      by_then (view m) (view t.after) (view n) (reports m) (reports t.after) (reports n) (rung m) (rung t.after) (rung n) row (row + 1) (t.line ∷ []) (lines_in turns) t.text (text_in turns) x.0 _ refl
-      x.1 (turned (row + 1) t.after turns p.1 x.1.reported.rows.always.sound)
+      let later = outcomes_of (row + 1) t.after turns p.1 in
+      by_then (style m) (view m) (view t.after) (view n) (reports m) (reports t.after) (reports n) (rung m) (rung t.after) (rung n) row (row + 1) (t.line ∷ []) (lines_in turns)
+      t.text (text_in turns) x.0 later refl x.1
+      (subst (λ (s : ReplyStyle). At s t.after n (row + 1) (lines_in turns) (text_in turns) later) (stays m row t.line t.after t.text p.0).1
+      (turned (row + 1) t.after turns p.1 x.1.reported.rows.always.sound))
 
-  same_board : (row : ℕ) (m : M) (turns : List (Turn M)) → AreTurns A row m turns → board (state_after m turns) ≡ board m
+  same_board : (row : ℕ) (m : M) (turns : List (Turn M)) → AreTurns A row m turns → (board (state_after m turns) ≡ board m) × (style (state_after m turns) ≡ style m)
   unfolding AreTurns state_after
-  same_board row m [] p = refl
-  same_board row m (t ∷ turns) p = same_board (row + 1) t.after turns p.1 ∙ stays m row t.line t.after t.text p.0
+  same_board row m [] p = (refl, refl)
+  same_board row m (t ∷ turns) p =
+      let later = same_board (row + 1) t.after turns p.1 in let now = stays m row t.line t.after t.text p.0 in (later.0 ∙ now.0, later.1 ∙ now.1)
 
   front : (row : ℕ) (m : M) (first rest : List (Turn M)) (p : AreTurns A row m (first ++ rest))
       → (q : AreTurns A row m first) × IsPrefix (outcomes_of row m first q) (outcomes_of row m (first ++ rest) p)
@@ -77,22 +88,28 @@ module _ (M K : Type 0) (board : M → K) (view : M → PassView) (reports rung 
   lines_last (t ∷ before) last = ap (λ (l : List (List ℕ)). t.line ∷ l) (lines_last before last)
 
   module _ (old new : Seen M) (sound : IsSound (view old.machine)) where
+    abbrev s0 : ReplyStyle
+    s0 = style old.machine
+
+    abbrev By : M → M → ℕ → List (List ℕ) → List ℕ → List EventOutcome → Type 0
+    By m n row lines text outcomes = At s0 m n row lines text outcomes
+
     -- the answers to some first lines do not depend on how later events went
-    first_text : (turns first rest : List (Turn M)) → turns ≡ first ++ rest → (p : AreTurns A 1 old.machine turns) (more : List Outcome)
-        → answers_in 1 (lines_in first) (outcomes_of 1 old.machine turns p ++ more) ≡ text_in first
+    first_text : (turns first rest : List (Turn M)) → turns ≡ first ++ rest → (p : AreTurns A 1 old.machine turns) (more : List EventOutcome)
+        → answers_in s0 1 (lines_in first) (outcomes_of 1 old.machine turns p ++ more) ≡ text_in first
     first_text turns first rest e p more =
         let x = front_of 1 old.machine turns first rest e p in
         let outcomes = outcomes_of 1 old.machine first x.0 in
         let by = turned 1 old.machine first x.0 sound in
         let z = state_after old.machine first in
-        ap (λ (l : List Outcome). answers_in 1 (lines_in first) (l ++ more)) (sym x.1.1) ∙ ap (answers_in 1 (lines_in first)) (append_assoc outcomes x.1.0 more)
-        ∙ ap (λ (l : List (List ℕ)). answers_in 1 l (outcomes ++ (x.1.0 ++ more))) (sym (append-nil (lines_in first)))
-        ∙ answers_then 1 (lines_in first) [] outcomes (x.1.0 ++ more) (lines_count (view old.machine) (view z) (reports old.machine) (reports z) 1 (lines_in first) outcomes by.reported)
-        ∙ ap₂ (λ (a b : List ℕ). a ++ b) (sym by.text_is) (answers_none (1 + length (lines_in first)) (x.1.0 ++ more)) ∙ append-nil (text_in first)
+        ap (λ (l : List EventOutcome). answers_in s0 1 (lines_in first) (l ++ more)) (sym x.1.1) ∙ ap (answers_in s0 1 (lines_in first)) (append_assoc outcomes x.1.0 more)
+        ∙ ap (λ (l : List (List ℕ)). answers_in s0 1 l (outcomes ++ (x.1.0 ++ more))) (sym (append-nil (lines_in first)))
+        ∙ answers_then s0 1 (lines_in first) [] outcomes (x.1.0 ++ more) (lines_count (view old.machine) (view z) (reports old.machine) (reports z) 1 (lines_in first) outcomes by.reported)
+        ∙ ap₂ (λ (a b : List ℕ). a ++ b) (sym by.text_is) (answers_none s0 (1 + length (lines_in first)) (x.1.0 ++ more)) ∙ append-nil (text_in first)
 
     -- at one time
-    prompt : (now : Seen M) (turns : List (Turn M)) (p : AreTurns A 1 old.machine turns) (later : List Outcome) → IsPromptAt 258 old now turns
-        → IsAnsweredUpTo (outcomes_of 1 old.machine turns p ++ later) old.left now.left old.taken now.taken (rung old.machine) (rung now.machine)
+    prompt : (now : Seen M) (turns : List (Turn M)) (p : AreTurns A 1 old.machine turns) (later : List EventOutcome) → IsPromptAt 258 old now turns
+        → IsAnsweredUpTo s0 (outcomes_of 1 old.machine turns p ++ later) old.left now.left old.taken now.taken (rung old.machine) (rung now.machine)
     prompt now turns p later u =
         let x = front_of 1 old.machine turns u.first u.later u.among p in
         let outcomes = outcomes_of 1 old.machine u.first x.0 in
@@ -115,21 +132,34 @@ module _ (M K : Type 0) (board : M → K) (view : M → PassView) (reports rung 
         subst (By old.machine new.machine 1 (lines_in turns) (text_in turns)) (sym (append-nil (outcomes_of 1 old.machine turns p)))
         (subst (λ (k : M). By old.machine k 1 (lines_in turns) (text_in turns) (outcomes_of 1 old.machine turns p)) (sym is) (turned 1 old.machine turns p sound))
 
+    -- after these turns
+    there : (turns : List (Turn M)) (p : AreTurns A 1 old.machine turns) (lines : List (List ℕ)) (text : List ℕ) (outcomes : List EventOutcome)
+        → At (style (state_after old.machine turns)) (state_after old.machine turns) new.machine (1 + length turns) lines text outcomes
+        → By (state_after old.machine turns) new.machine (1 + length turns) lines text outcomes
+    there turns p lines text outcomes x =
+        subst (λ (s : ReplyStyle). At s (state_after old.machine turns) new.machine (1 + length turns) lines text outcomes) (same_board 1 old.machine turns p).1 x
+
+    -- and one answer more
+    with_one : (turns : List (Turn M)) (p : AreTurns A 1 old.machine turns) (lines : List (List ℕ)) (text : List ℕ) (outcomes : List EventOutcome)
+        → At (style (state_after old.machine turns)) (state_after old.machine turns) new.machine (1 + length turns) lines text outcomes
+        → By old.machine new.machine 1 (lines_in turns ++ lines) (text_in turns ++ text) (outcomes_of 1 old.machine turns p ++ outcomes)
+    with_one turns p lines text outcomes x =
+        let z = state_after old.machine turns in
+        by_then s0 (view old.machine) (view z) (view new.machine) (reports old.machine) (reports z) (reports new.machine) (rung old.machine) (rung z) (rung new.machine) 1 (1 + length turns)
+        (lines_in turns) lines (text_in turns) text (outcomes_of 1 old.machine turns p) outcomes (ap (λ (n : ℕ). 1 + n) (sym (turns_count M turns)))
+        (turned 1 old.machine turns p sound) (there turns p lines text outcomes x)
+
     with_last : (turns : List (Turn M)) (p : AreTurns A 1 old.machine turns) (begun text : List ℕ) (x : Z (state_after old.machine turns) (1 + length turns) begun new.machine text)
         → By old.machine new.machine 1 (lines_in turns ++ last_lines begun) (text_in turns ++ text)
         (outcomes_of 1 old.machine turns p ++ (closes (state_after old.machine turns) (1 + length turns) begun new.machine text x).0)
     with_last turns p begun text x =
-        let z = state_after old.machine turns in
-        let last = closes z (1 + length turns) begun new.machine text x in
-        by_then (view old.machine) (view z) (view new.machine) (reports old.machine) (reports z) (reports new.machine) (rung old.machine) (rung z) (rung new.machine) 1 (1 + length turns)
-        (lines_in turns) (last_lines begun) (text_in turns) text (outcomes_of 1 old.machine turns p) last.0 (ap (λ (n : ℕ). 1 + n) (sym (turns_count M turns)))
-        (turned 1 old.machine turns p sound) last.1
+        let last = closes (state_after old.machine turns) (1 + length turns) begun new.machine text x in with_one turns p (last_lines begun) text last.0 last.1
 
     -- ---- how a run ends that has taken these bytes
 
     module _ (failed : Bool) where
-      abbrev Stops : List (List ℕ) → List Outcome → ℕ → Type 0
-      Stops lines outcomes n = StopsInLast 1 lines outcomes 0 failed old.taken new.taken n
+      abbrev Stops : List (List ℕ) → List EventOutcome → ℕ → Type 0
+      Stops lines outcomes n = StopsInLast s0 1 lines outcomes 0 failed old.taken new.taken n
 
       cut : (text text2 : List ℕ) (n count : ℕ) → text ≡ text2 → StoppedAt 0 failed old.taken new.taken text n count → StoppedAt 0 failed old.taken new.taken text2 n count
       cut text text2 n count e s = subst (λ (l : List ℕ). StoppedAt 0 failed old.taken new.taken l n count) e s
@@ -154,8 +184,8 @@ module _ (M K : Type 0) (board : M → K) (view : M → PassView) (reports rung 
           → length (text_in turns) ≤ count → StoppedAt 0 failed old.taken new.taken (text_in turns ++ last) n count
           → Stops (lines_in turns ++ last_lines begun) (outcomes_of 1 old.machine turns p ++ (closes (state_after old.machine turns) (1 + length turns) begun new.machine last x).0) n
       last_stops turns p [] last x n count out s =
-          let by = (closes (state_after old.machine turns) (1 + length turns) [] new.machine last x).1 in
-          let none = ap (λ (l : List ℕ). length l) (by.text_is ∙ answers_none (1 + length turns) _) in
+          let by = closes (state_after old.machine turns) (1 + length turns) [] new.machine last x in
+          let none = ap (λ (l : List ℕ). length l) ((there turns p [] last by.0 by.1).text_is ∙ answers_none s0 (1 + length turns) _) in
           let long = length-append (text_in turns) last in
           let less = s.first.cut in absurd (omega arith)
       last_stops turns p (b ∷ line) last x n count out s =
@@ -174,8 +204,8 @@ module _ (M K : Type 0) (board : M → K) (view : M → PassView) (reports rung 
         abbrev Before : List (Turn M) → Type 0
         Before turns = LogsCalls count times times2 calls calls2 (λ t. IsPromptAt 258 old (at t) turns)
 
-        abbrev Then : List Outcome → Type 0
-        Then outcomes = LogsCalls count times times2 calls calls2 (λ t. IsAnsweredUpTo outcomes old.left (at t).left old.taken (at t).taken (rung old.machine) (rung (at t).machine))
+        abbrev Then : List EventOutcome → Type 0
+        Then outcomes = LogsCalls count times times2 calls calls2 (λ t. IsAnsweredUpTo s0 outcomes old.left (at t).left old.taken (at t).taken (rung old.machine) (rung (at t).machine))
 
         abbrev D : LineRules M RunFault
         D = rules_of A S Z E
@@ -183,12 +213,14 @@ module _ (M K : Type 0) (board : M → K) (view : M → PassView) (reports rung 
         abbrev Run : Result ℕ (PumpFault RunFault) → Type 0
         Run result = Pumped D 258 0 old new failed result Before
 
-        always : (turns : List (Turn M)) (p : AreTurns A 1 old.machine turns) (later : List Outcome) → Before turns → Then (outcomes_of 1 old.machine turns p ++ later)
+        always : (turns : List (Turn M)) (p : AreTurns A 1 old.machine turns) (later : List EventOutcome) → Before turns → Then (outcomes_of 1 old.machine turns p ++ later)
         always turns p later logged = logs-as count times times2 calls calls2 _ _ (λ t u. prompt (at t) turns p later u) logged
 
-        no_fault : (f : RunFault) (bytes : List ℕ) (turns : List (Turn M)) (rest : List (List ℕ)) → (StopsNext S 1 old.machine turns rest f ⊎ StopsLast D 258 old new bytes turns rest f) → ⊥
-        no_fault f bytes turns rest (inl e) = never _ _ _ f e.stops
-        no_fault f bytes turns rest (inr e) = never_last _ _ _ f e.stops
+        -- a fault of the machine is want of memory
+        no_memory : (f : RunFault) (bytes : List ℕ) (turns : List (Turn M)) (rest : List (List ℕ))
+            → (StopsNext S 1 old.machine new.machine turns rest f ⊎ StopsLast D 258 old new bytes turns rest f) → f ≡ OutOfMemory
+        no_memory f bytes turns rest (inl e) = (halts _ _ _ _ f e.stops).1.memory.fault_is
+        no_memory f bytes turns rest (inr e) = (halts_last _ _ _ _ f e.stops).2.memory.fault_is
 
         module _ (x y z : Bool) where
           abbrev before : Device
@@ -199,7 +231,7 @@ module _ (M K : Type 0) (board : M → K) (view : M → PassView) (reports rung 
 
           -- what it came to
           pub record Came (result : Result ⊤ RunFault) : Type 0 where
-            pub took : TookRows (view old.machine) (view new.machine) (reports old.machine) (reports new.machine) before after result Then
+            pub took : TookRows s0 (view old.machine) (view new.machine) (reports old.machine) (reports new.machine) before after result Then
             pub rang : RangFor (view old.machine) (view new.machine) (rung old.machine) (rung new.machine)
             pub same : board new.machine ≡ board old.machine
 
@@ -210,7 +242,7 @@ module _ (M K : Type 0) (board : M → K) (view : M → PassView) (reports rung 
 
             -- between two lines
             came_turns : (result : Result ⊤ RunFault) → new.machine ≡ state_after old.machine turns
-                → RunEnds before after result bytes (lines_in turns) (outcomes_of 1 old.machine turns p.turned ++ []) → Came result
+                → RunEnds s0 before after result bytes (lines_in turns) (outcomes_of 1 old.machine turns p.turned ++ []) → Came result
             came_turns result is how = let all = all_turns turns p.turned is in record {
               took = record {
                 bytes = bytes;
@@ -222,12 +254,12 @@ module _ (M K : Type 0) (board : M → K) (view : M → PassView) (reports rung 
                 ends = how;
               };
               rang = all.rang;
-              same = ap board is ∙ same_board 1 old.machine turns p.turned;
+              same = ap board is ∙ (same_board 1 old.machine turns p.turned).0;
             }
 
             -- at the end
             came_last : (result : Result ⊤ RunFault) (last : List ℕ) (e : HasClosed D 258 old new bytes turns rest last)
-                → RunEnds before after result bytes (lines_in turns ++ last_lines (begun_line 258 [] bytes))
+                → RunEnds s0 before after result bytes (lines_in turns ++ last_lines (begun_line 258 [] bytes))
                 (outcomes_of 1 old.machine turns p.turned ++ (closes (state_after old.machine turns) (1 + length turns) (begun_line 258 [] bytes) new.machine last e.last).0) → Came result
             came_last result last e how = let all = with_last turns p.turned (begun_line 258 [] bytes) last e.last in record {
               took = record {
@@ -240,7 +272,7 @@ module _ (M K : Type 0) (board : M → K) (view : M → PassView) (reports rung 
                 ends = how;
               };
               rang = all.rang;
-              same = ends (state_after old.machine turns) (1 + length turns) (begun_line 258 [] bytes) new.machine last e.last ∙ same_board 1 old.machine turns p.turned;
+              same = (ends (state_after old.machine turns) (1 + length turns) (begun_line 258 [] bytes) new.machine last e.last).0 ∙ (same_board 1 old.machine turns p.turned).0;
             }
 
             whole_lines : (last : List ℕ) → HasClosed D 258 old new bytes turns rest last → lines_in turns ++ last_lines (begun_line 258 [] bytes) ≡ lines_of bytes
@@ -250,13 +282,56 @@ module _ (M K : Type 0) (board : M → K) (view : M → PassView) (reports rung 
             came_short n text k (inl (e, inl is, kept)) s =
                 came_turns (Err (fault_of (WriteFailed n))) is
                 (record { some = inl (rest, sym p.lines_are); stopped = turns_stop turns p.turned is n k kept (cut text (text_in turns) n k e s) })
-            came_short n text k (inl (e, inr stops, kept)) s = absurd (never _ _ _ _ stops.1.stops)
+            came_short n text k (inl (e, inr stops, kept)) s = absurd (let held = stops.0 in omega arith)
             came_short n text k (inr (last, e, closed, out)) s =
                 came_last (Err (fault_of (WriteFailed n))) last closed
                 (record {
                   some = inr (closed.ended, ([], append-nil _ ∙ whole_lines last closed));
                   stopped = last_stops turns p.turned (begun_line 258 [] bytes) last closed.last n k out (cut text (text_in turns ++ last) n k e s);
                 })
+
+            -- there was no memory for the answer to one line more
+            came_out : (f : RunFault) (line : List ℕ) → board new.machine ≡ board (state_after old.machine turns)
+                → (h : HasNoMemory (style (state_after old.machine turns)) (view (state_after old.machine turns)) (view new.machine) (reports (state_after old.machine turns))
+                (reports new.machine) (rung (state_after old.machine turns)) (rung new.machine) (1 + length turns) line f)
+                → IsPrefix (lines_in turns ++ line ∷ []) (ended_lines 258 [] bytes) ⊎ (HasEnded old.left new.left × (lines_in turns ++ line ∷ [] ≡ lines_of bytes))
+                → Appends old.taken new.taken (text_in turns) → Came (Err f)
+            came_out f line here h some out =
+                let last = h.turned in
+                let all = with_one turns p.turned (line ∷ []) h.text last.0 last.1 in
+                let on = same_board 1 old.machine turns p.turned in
+                subst (λ (x : RunFault). Came (Err x)) (sym h.memory.fault_is)
+                (record {
+                  took = record {
+                    bytes = bytes;
+                    lines = lines_in turns ++ line ∷ [];
+                    outcomes = outcomes_of 1 old.machine turns p.turned ++ last.0;
+                    consumed = consumed;
+                    reported = all.reported;
+                    prompt = always turns p.turned last.0 logged;
+                    ends = record {
+                      some = some;
+                      json = sym (ap (λ (s : ReplyStyle). s.shape.format) on.1) ∙ h.memory.json;
+                      before = lines_in turns;
+                      last = line;
+                      in_last = refl;
+                      answered = subst (Appends old.taken new.taken) (sym (first_text turns turns [] (sym (append-nil turns)) p.turned last.0)) out;
+                    };
+                  };
+                  rang = all.rang;
+                  same = here ∙ on.0;
+                })
+
+            came_stopped : (f : RunFault) → (StopsNext S 1 old.machine new.machine turns rest f ⊎ StopsLast D 258 old new bytes turns rest f)
+                → Appends old.taken new.taken (text_in turns) → Came (Err f)
+            came_stopped f (inl e) out =
+                let h = halts _ _ _ _ f e.stops in
+                let lines = append_assoc (lines_in turns) (e.line ∷ []) e.later ∙ ap (λ (l : List (List ℕ)). lines_in turns ++ l) (sym e.next) ∙ sym p.lines_are in
+                came_out f e.line h.0 h.1 (inl (e.later, lines)) out
+            came_stopped f (inr e) out =
+                let h = halts_last _ _ _ _ f e.stops in
+                let lines = ap (λ (l : List (List ℕ)). lines_in turns ++ l) (sym h.0) ∙ ap (λ (l : List (List ℕ)). l ++ last_lines (begun_line 258 [] bytes)) (all_lines e.all) in
+                came_out f (begun_line 258 [] bytes) h.1 h.2 (inr (e.ended, lines)) out
 
           pub came_well : (n : ℕ) (done : ⊤) → Run (Ok n) → Came (Ok done)
           came_well n done p =
@@ -281,13 +356,13 @@ module _ (M K : Type 0) (board : M → K) (view : M → PassView) (reports rung 
               came_turns p.bytes p.turns p.rest p.consumed p.given p.prompt (Err (fault_of TooLong)) e.machine
               (record { all = all_lines p.bytes p.turns p.rest p.consumed p.given p.prompt e.all; answered = subst (Appends old.taken new.taken) all.text_is e.out }, p.ends.0)
           came_badly (WriteFailed n) p = came_short p.bytes p.turns p.rest p.consumed p.given p.prompt n p.ends.0 p.ends.1 p.ends.2 p.ends.3
-          came_badly (Machine f) p = absurd (no_fault f p.bytes p.turns p.rest p.ends.0)
+          came_badly (Machine f) p = came_stopped p.bytes p.turns p.rest p.consumed p.given p.prompt f p.ends.0 p.ends.1
 
         own : (f : PumpFault RunFault) → Run (Err f) → IfMachine IsOwn f
         own (ReadFailed n) p = tt
         own TooLong p = tt
         own (WriteFailed n) p = tt
-        own (Machine f) p = absurd (no_fault f p.bytes p.turns p.rest p.ends.0)
+        own (Machine f) p = subst IsOwn (sym (no_memory f p.bytes p.turns p.rest p.ends.0)) (record { not_read = refl; sink = λ failed failed2 e. e })
 
         pub run_reads : (f : PumpFault RunFault) (z : Bool) → Run (Err f) → z ≡ is_source_failed {V = ℕ} (Err f) → z ≡ is_read_failed {U = ⊤} (Err (fault_of f))
         run_reads f z p e = reads ℕ ⊤ f z (own f p) e

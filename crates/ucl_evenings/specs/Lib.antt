@@ -1,5 +1,5 @@
 pub mod Inputs
-pub mod Answering
 pub mod Reporting
+pub mod Answering
 pub mod Rows
 pub mod Showing

@@ -1,17 +1,76 @@
-//! The line that answers an event.
+//! The answers of a reporter.
 
-ghost use Rattle.std.specs.Prelude.{◌≡◌};
-ghost use Rattle.ucl_evenings.specs.Answering.{outcome_line};
+ghost use Rattle.std.specs.Prelude.{◌≡◌, ◌<◌, IfErr, IfOk, OnOk};
+ghost use Rattle.ucl_runs.specs.BadRows.{shown_text};
+ghost use Rattle.ucl_runs.specs.Seen.{bytes_of};
+ghost use Rattle.ucl_runs.specs.LiveText.{bad_answer};
+ghost use Rattle.ucl_evenings.specs.Answering.{outcome_answer, event_outcome};
+ghost use Rattle.ucl_evenings.specs.Rows.{IsOutOfMemory};
 
-use crate::outcome::Outcome;
-use ucl_runs::{ReplyLine, accepted_line, refused_line};
+use crate::shape::Shape;
+use std::alloc::Global;
+use ucl_runs::{Answer, BadField, RunFault, bad_answer, reply_answer};
+use ucl_board::Reading;
+use ucl_command::Format;
+use ucl_order::Roster;
+use ucl_screen::NightEvent;
+use ucl_word::{Accepted, Refusal};
 
-/// The line of how an event of a match went.
-pub(crate) fn outcome_line(row: u64, game: u8, outcome: Outcome) -> ReplyLine
-    ensures { result.bytes ≡ outcome_line row game outcome }
+/// Answers a row that asks for nothing that there is, for this field.
+pub(crate) fn answer_bad(
+    alloc: Global,
+    format: Format,
+    row: u64,
+    field: BadField,
+    line: &[u8],
+    text: &mut Answer,
+) -> Result<(), RunFault>
+    ensures text { OnOk result
+        (bytes_of text.new ≡ bad_answer format row field (shown_text line.now)) }
+    ensures memory { IfErr result (IsOutOfMemory format) }
 {
-    match outcome {
-        Outcome::Entered { number, version } => accepted_line(row, game, number, version),
-        Outcome::Refused(refusal) => refused_line(row, refusal),
+    match bad_answer(alloc, format, row, field, line) {
+        Ok(answer) => {
+            *text = answer;
+            Ok(())
+        }
+        Err(_) => Err(RunFault::OutOfMemory),
+    }
+}
+
+/// Answers an event that went so, and after which the reading was taken.
+pub(crate) fn answer_event(
+    alloc: Global,
+    shape: Shape,
+    roster: &Roster,
+    row: u64,
+    event: &NightEvent,
+    reply: Result<Accepted, Refusal>,
+    reading: &Reading,
+    text: &mut Answer,
+) -> Result<(), RunFault>
+    requires { IfOk reply (λ _. 0 < reading.now.version) }
+    ensures text { OnOk result (bytes_of text.new ≡ outcome_answer
+        (record { shape = shape; clubs = roster.now; reporter = event.now.reporter })
+        row event.now.call (event_outcome reply reading.now)) }
+    ensures memory { IfErr result (IsOutOfMemory shape.format) }
+{
+    let before = reading.version.saturating_sub(1);
+    match reply_answer(
+        alloc,
+        shape.format,
+        shape.title,
+        row,
+        event,
+        before,
+        reply,
+        &reading.board,
+        roster,
+    ) {
+        Ok(answer) => {
+            *text = answer;
+            Ok(())
+        }
+        Err(_) => Err(RunFault::OutOfMemory),
     }
 }

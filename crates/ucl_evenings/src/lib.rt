@@ -4,7 +4,6 @@
 
 mod answer;
 mod input;
-mod outcome;
 mod reporter;
 mod ring;
 mod screen;
@@ -12,8 +11,7 @@ mod shape;
 mod show;
 mod take;
 
-pub use outcome::Outcome;
-pub use reporter::{Reply, Reporter};
+pub use reporter::Reporter;
 pub use ring::Ring;
 pub use screen::Screen;
 pub use shape::Shape;

@@ -3,53 +3,33 @@
 ghost use Rattle.std.specs.Prelude.{◌≡◌, ◌∷◌, []};
 ghost use Rattle.ucl_shared.specs.Passes.{IsSound};
 ghost use Rattle.ucl_runs.specs.InputLines.{last_lines};
-ghost use Rattle.ucl_evenings.specs.Rows.{TurnsLines, reply_bytes};
+ghost use Rattle.ucl_evenings.specs.Answering.{reply_style};
+ghost use Rattle.ucl_evenings.specs.Rows.{HasNoMemory, TurnsLines};
 
-use crate::answer::outcome_line;
+use crate::answer::{answer_bad, answer_event};
 use crate::input::{Input, input_on};
-use crate::outcome::Outcome;
 use crate::ring::Ring;
+use crate::shape::Shape;
+use std::alloc::Global;
 use std::sync::Wait;
-use ucl_runs::{LineReader, ReplyLine, RunFault, bad_line};
-use ucl_io::{LineMachine, Text};
+use ucl_runs::{Answer, LineReader, RunFault};
+use ucl_io::LineMachine;
+use ucl_order::Roster;
+use ucl_screen::NightEvent;
 use ucl_shared::LiveBoard;
 
-/// What a reporter's line is answered.
-#[derive(Drop)]
-pub enum Reply {
-    /// Nothing: the line is empty.
-    Nothing,
-    /// A line.
-    Line(ReplyLine),
-}
-
-impl Text for Reply {
-    ghost bytes = { reply_bytes };
-
-    ghost front = { reply_bytes };
-
-    fn new() -> Reply {
-        Reply::Nothing
-    }
-
-    fn front(&self) -> &[u8] {
-        match self {
-            Reply::Nothing => b"".as_slice(),
-            Reply::Line(line) => line.as_str().as_bytes(),
-        }
-    }
-
-    fn back(&self) -> &[u8] {
-        b"".as_slice()
-    }
-}
-
-/// A reporter: the board, its pass, and what it rings. It always has an answer.
+/// A reporter: the board, its pass, what it rings, and how it is answered.
 pub struct Reporter<'a, B: LiveBoard, V: Ring, R: Wait> {
     /// What may wait.
     pub rt: &'a R,
+    /// Where answers in JSON have their memory from.
+    pub alloc: Global,
     /// The board.
     pub board: &'a B,
+    /// Its clubs.
+    pub roster: &'a Roster,
+    /// How it is answered.
+    pub shape: Shape,
     /// The pass of the board.
     pub pass: B::ReporterPass,
     /// What is rung.
@@ -59,61 +39,93 @@ pub struct Reporter<'a, B: LiveBoard, V: Ring, R: Wait> {
 }
 
 impl<'a, B: LiveBoard, V: Ring, R: Wait> LineMachine for Reporter<'a, B, V, R> {
-    type Answer = Reply;
+    type Answer = Answer;
 
     type Fault = RunFault;
 
     ghost ready = { λ m. B.is_reporter m.board.now m.pass × IsSound (B.reporter m.pass) };
 
-    ghost answers = { λ m row line n text. (n.board ≡ m.board) × TurnsLines
+    ghost answers = { λ m row line n text. (n.board ≡ m.board)
+        × (reply_style n.shape n.roster.now (B.reporter n.pass)
+        ≡ reply_style m.shape m.roster.now (B.reporter m.pass))
+        × TurnsLines (reply_style m.shape m.roster.now (B.reporter m.pass))
         (B.reporter m.pass) (B.reporter n.pass)
         (B.has_reported m.pass) (B.has_reported n.pass)
         (V.rung m.bells) (V.rung n.bells)
         row (line ∷ []) text };
 
-    ghost stops = { λ _ _ _ _. ⊥ };
+    ghost stops = { λ m row line n fault. (n.board ≡ m.board)
+        × HasNoMemory (reply_style m.shape m.roster.now (B.reporter m.pass))
+        (B.reporter m.pass) (B.reporter n.pass)
+        (B.has_reported m.pass) (B.has_reported n.pass)
+        (V.rung m.bells) (V.rung n.bells)
+        row line fault };
 
-    ghost ends = { λ m row begun n text. (n.board ≡ m.board) × TurnsLines
+    ghost ends = { λ m row begun n text. (n.board ≡ m.board)
+        × (reply_style n.shape n.roster.now (B.reporter n.pass)
+        ≡ reply_style m.shape m.roster.now (B.reporter m.pass))
+        × TurnsLines (reply_style m.shape m.roster.now (B.reporter m.pass))
         (B.reporter m.pass) (B.reporter n.pass)
         (B.has_reported m.pass) (B.has_reported n.pass)
         (V.rung m.bells) (V.rung n.bells)
         row (last_lines begun) text };
 
-    ghost stops_at_end = { λ _ _ _ _. ⊥ };
+    ghost stops_at_end = { λ m row begun n fault. (last_lines begun ≡ begun ∷ [])
+        × (n.board ≡ m.board)
+        × HasNoMemory (reply_style m.shape m.roster.now (B.reporter m.pass))
+        (B.reporter m.pass) (B.reporter n.pass)
+        (B.has_reported m.pass) (B.has_reported n.pass)
+        (V.rung m.bells) (V.rung n.bells)
+        row begun fault };
 
-    fn answer(&mut self, row: u64, line: &[u8], text: &mut Reply) -> Result<(), RunFault> {
+    fn answer(&mut self, row: u64, line: &[u8], text: &mut Answer) -> Result<(), RunFault> {
         match input_on(&mut self.lines, row, line) {
             Input::Nothing => {
-                *text = Reply::Nothing;
+                *text = Answer::nothing();
                 Ok(())
             }
-            Input::Bad(_) => {
-                *text = Reply::Line(bad_line(row));
-                Ok(())
+            Input::Bad(field) => answer_bad(self.alloc, self.shape.format, row, field, line, text),
+            Input::Event(call) => {
+                let reporter = B::number_of(&self.pass);
+                let event = NightEvent { reporter, call };
+                match self.board.report(self.rt, &mut self.pass, &call) {
+                    Ok(accepted) => {
+                        self.bells.ring();
+                        let reading = self.board.read_own(self.rt, &mut self.pass);
+                        let reply = Ok(accepted);
+                        answer_event(
+                            self.alloc,
+                            self.shape,
+                            self.roster,
+                            row,
+                            &event,
+                            reply,
+                            &reading,
+                            text,
+                        )
+                    }
+                    Err(refusal) => {
+                        let reading = self.board.read_own(self.rt, &mut self.pass);
+                        let reply = Err(refusal);
+                        answer_event(
+                            self.alloc,
+                            self.shape,
+                            self.roster,
+                            row,
+                            &event,
+                            reply,
+                            &reading,
+                            text,
+                        )
+                    }
+                }
             }
-            Input::Event(call) => match self.board.report(self.rt, &mut self.pass, &call) {
-                Ok(accepted) => {
-                    self.bells.ring();
-                    let reading = self.board.read_own(self.rt, &mut self.pass);
-                    let outcome = Outcome::Entered {
-                        number: accepted.number,
-                        version: reading.version,
-                    };
-                    *text = Reply::Line(outcome_line(row, call.game.get(), outcome));
-                    Ok(())
-                }
-                Err(refusal) => {
-                    let outcome = Outcome::Refused(refusal);
-                    *text = Reply::Line(outcome_line(row, call.game.get(), outcome));
-                    Ok(())
-                }
-            },
         }
     }
 
-    fn end(&mut self, row: u64, begun: &[u8], text: &mut Reply) -> Result<(), RunFault> {
+    fn end(&mut self, row: u64, begun: &[u8], text: &mut Answer) -> Result<(), RunFault> {
         if begun.is_empty() {
-            *text = Reply::Nothing;
+            *text = Answer::nothing();
             return Ok(());
         }
         self.answer(row, begun, text)

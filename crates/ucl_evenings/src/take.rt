@@ -4,6 +4,7 @@ ghost use Rattle.std.specs.Prelude.{◌≡◌, IfErr, OnOk};
 ghost use Rattle.ucl_shared.specs.Passes.{IsSound};
 ghost use Rattle.ucl_runs.specs.Run.{SinkFails, is_read_failed};
 ghost use Rattle.ucl_io.specs.Calls.{LogsCalls, device};
+ghost use Rattle.ucl_evenings.specs.Answering.{reply_style};
 ghost use Rattle.ucl_evenings.specs.Reporting.{RangFor};
 ghost use Rattle.ucl_evenings.specs.Rows.{IsAnsweredUpTo, TookRows};
 
@@ -21,14 +22,16 @@ const PAGE: usize = 0;
 /// Enters the rows of a source on a reporter's pass until the source ends, and answers each at once, before the next is entered.
 /// It rings each time that an event was accepted, before that is answered.
 ///
-/// A row is `MATCH,EXPECTED,EVENT`; its reporter is the pass. It is answered `ROW ok MATCH NUMBER VERSION` with the version of a
-/// reading that was taken after it, or `ROW refused CODE NAME`. An empty line is passed over and counted, and a line that is no row is
-/// answered `ROW refused 20 bad-row`. The pass has to be sound, as one that was just enlisted is.
+/// A row is `MATCH,EXPECTED,EVENT`; its reporter is the pass. It is answered as text `ROW ok MATCH NUMBER VERSION` with the version of a
+/// reading that was taken after it, or `ROW refused CODE NAME`. In JSON the answer is a line as `ucl_live` writes it: of an accepted event
+/// with the words of that reading, and of a stale one with the match as it stands there. An empty line is passed over and counted, and a
+/// line that is no row is answered `ROW refused 20 bad-row`. The pass has to be sound, as one that was just enlisted is.
 ///
 /// # Errors
 ///
-/// `ReadFailed` where the source failed; `WriteFailed` where the sink did; `TooLong` after more than 2^62 bytes, which no evening has.
-/// What was entered by then stays entered, and the pass is as good as before.
+/// `ReadFailed` where the source failed; `WriteFailed` where the sink did; `OutOfMemory` where there was none for an answer in JSON, whose
+/// event is entered; `TooLong` after more than 2^62 bytes, which no evening has. What was entered by then stays entered, and the pass is
+/// as good as before.
 pub fn take_rows<'a, B: LiveBoard, S: Source, W: Sink, V: Ring, R: Wait>(
     reporter: &mut Reporter<'a, B, V, R>,
     duplex: &mut Duplex<S, W, Reporter<'a, B, V, R>>,
@@ -40,7 +43,9 @@ pub fn take_rows<'a, B: LiveBoard, S: Source, W: Sink, V: Ring, R: Wait>(
     // Which bytes it took, which rows it entered and how they went, what is out, and how it ended. Just before each call for
     // bytes, the answers to all lines that had an end by then were out, and nothing else, and it had rung for each event among them that
     // was accepted.
-    ensures took { TookRows (B.reporter reporter.old.pass) (B.reporter reporter.new.pass)
+    ensures took { TookRows
+        (reply_style reporter.old.shape reporter.old.roster.now (B.reporter reporter.old.pass))
+        (B.reporter reporter.old.pass) (B.reporter reporter.new.pass)
         (B.has_reported reporter.old.pass) (B.has_reported reporter.new.pass)
         (device S.left S.failed W.taken W.failed duplex.old)
         (device S.left S.failed W.taken W.failed duplex.new)
@@ -48,7 +53,9 @@ pub fn take_rows<'a, B: LiveBoard, S: Source, W: Sink, V: Ring, R: Wait>(
         (λ outcomes. LogsCalls (λ time. S.calls time.0)
         duplex.old.log.times duplex.new.log.times
         (S.calls duplex.old.source) (S.calls duplex.new.source)
-        (λ time. IsAnsweredUpTo outcomes (S.left duplex.old.source) (S.left time.0)
+        (λ time. IsAnsweredUpTo
+        (reply_style reporter.old.shape reporter.old.roster.now (B.reporter reporter.old.pass))
+        outcomes (S.left duplex.old.source) (S.left time.0)
         (W.taken duplex.old.sink) (W.taken time.1)
         (V.rung reporter.old.bells) (V.rung time.2.bells))) }
 

@@ -18,9 +18,8 @@ use Rattle.ucl_shared.specs.Passes.{PassView, entries_by}
 use Rattle.ucl_runs.specs.declared.fault.RunFault.{RunFault}
 use Rattle.ucl_runs.specs.InputLines.{lines_of}
 use Rattle.ucl_io.specs.Calls.{Device}
-use Rattle.ucl_evenings.specs.Answering.{calls_in}
-use Rattle.ucl_evenings.specs.Reporting.{entered_in}
-use Rattle.ucl_evenings.specs.declared.outcome.Outcome.{Outcome}
+use Rattle.ucl_evenings.specs.Answering.{ReplyStyle, calls_in}
+use Rattle.ucl_evenings.specs.Reporting.{EventOutcome, entered_in}
 use Rattle.ucl_evenings.specs.Rows.{RunEnds}
 use Rattle.ucl_evenings_threads.specs.declared.evening.EveningEnd.{EveningEnd}
 use Rattle.ucl_evenings_threads.specs.declared.workers.Reporter.{Reporter}
@@ -100,14 +99,14 @@ all_last P (x ∷ xs) ys all = all_last P xs ys (All-tail P x (xs ++ ys) all)
 -- ---- reporters
 
 -- a run that ended well has taken all lines
-all_lines : (old new : Device) (r : Result ⊤ RunFault) (bytes : List ℕ) (lines : List (List ℕ)) (outcomes : List Outcome) → RunEnds old new r bytes lines outcomes
+all_lines : (s : ReplyStyle) (old new : Device) (r : Result ⊤ RunFault) (bytes : List ℕ) (lines : List (List ℕ)) (outcomes : List EventOutcome) → RunEnds s old new r bytes lines outcomes
     → IfOk r (λ (done : ⊤). lines ≡ lines_of bytes)
-all_lines old new (Ok done) bytes lines outcomes e = e.all
-all_lines old new (Err fault) bytes lines outcomes e = tt
+all_lines s old new (Ok done) bytes lines outcomes e = e.all
+all_lines s old new (Err fault) bytes lines outcomes e = tt
 
-module _ {B R P N S W : Type 0} (live : boards.Ghosts B R P N) (board : B) (source : sources.Ghosts S) (replies : sinks.Ghosts W) (before h : List Entry) where
+module _ {B R P N S W : Type 0} (live : boards.Ghosts B R P N) (board : B) (source : sources.Ghosts S) (replies : sinks.Ghosts W) (clubs : List NamedClub) (before h : List Entry) where
   abbrev Answered : Reporter S W → ReporterEnd P S W → Type 0
-  Answered reporter end = HasAnsweredRows live board source replies before h reporter end
+  Answered reporter end = HasAnsweredRows live board source replies clubs before h reporter end
 
   -- what a reporter entered
   abbrev entering : (reporter : Reporter S W) (end : ReporterEnd P S W) → Answered reporter end → Entering
@@ -120,7 +119,7 @@ module _ {B R P N S W : Type 0} (live : boards.Ghosts B R P N) (board : B) (sour
     lines = a.run.took.lines;
     consumed = a.run.took.consumed;
     calls = refl;
-    all = all_lines _ _ end.result a.run.took.bytes a.run.took.lines _ a.run.took.ends;
+    all = all_lines _ _ _ end.result a.run.took.bytes a.run.took.lines _ a.run.took.ends;
   }
 
   outcomes : (reporter : Reporter S W) (end : ReporterEnd P S W) (a : Answered reporter end) → Own h (live.reporter end.pass) → WentThrough before h (entering reporter end a)
@@ -193,8 +192,8 @@ module _ {B R P N S W V : Type 0} (live : boards.Ghosts B R P N) (board : B) (so
   abbrev late : List PassView
   late = views_of live end.reporters.items
 
-  drawn : Drawn live board source replies before history reporters end.reporters.items (rise_later 0 255 early late held.theirs.rise).0
-  drawn = draw live board source replies before history (rise_later 0 255 early late held.theirs.rise).0 255 reporters end.reporters.items held.reported
+  drawn : Drawn live board source replies clubs before history reporters end.reporters.items (rise_later 0 255 early late held.theirs.rise).0
+  drawn = draw live board source replies clubs before history (rise_later 0 255 early late held.theirs.rise).0 255 reporters end.reporters.items held.reported
       (all_last (Own history) early late held.theirs.own) (rise_later 0 255 early late held.theirs.rise).1
 
   by_these : All (HadEntered before) early → (p : ℕ) (x : Entry) → length before ≤ p → slice_get history p ≡ Some x → Any (IsNumber x.reporter) drawn.all
@@ -209,7 +208,7 @@ module _ {B R P N S W V : Type 0} (live : boards.Ghosts B R P N) (board : B) (so
 
   pub is_decided : RowsDecide live source before entered reporters end
   is_decided had =
-      let theirs = subst (All (HadEntered before)) (sym (same_views live board source replies before history entered end.entered.items held.kept)) had in
+      let theirs = subst (All (HadEntered before)) (sym (same_views live board source replies clubs before history entered end.entered.items held.kept)) had in
       record {
         all = drawn.all;
         came = drawn.came;

@@ -12,9 +12,8 @@ use Rattle.ucl_runs.specs.declared.fault.RunFault.TheVariants.{Input, OutOfMemor
 use Rattle.ucl_evenings.specs.declared.shape.Shape.{Shape}
 use Rattle.ucl_runs.specs.Run.{SinkFails}
 use Rattle.ucl_io.specs.Calls.{Device}
-use Rattle.ucl_evenings.specs.declared.outcome.Outcome.{Outcome}
-use Rattle.ucl_evenings.specs.Answering.{calls_in}
-use Rattle.ucl_evenings.specs.Reporting.{HasReportedRows}
+use Rattle.ucl_evenings.specs.Answering.{ReplyStyle, calls_in}
+use Rattle.ucl_evenings.specs.Reporting.{HasReportedRows, EventOutcome}
 use Rattle.ucl_evenings.specs.Rows.{TookRows}
 use Rattle.ucl_evenings.specs.Showing.{RiseWithin, ScreensEnd, Screening, ShowsSince, SoFar, AreFew, GoesOnOrStays, screens_shown}
 use Rattle.ucl_evenings.proofs.ShownScreens.{goes_next, rise_count, rise_lower, rise_upper, screens_on}
@@ -27,9 +26,10 @@ use Rattle.ucl_evenings_threads.specs.Whole.{IsSeenIn}
 use Rattle.ucl_evenings_threads.proofs.Counting.{seen_on}
 
 -- a reporter's run, after its pass has told what it has seen
-pub took_later : (k m m2 : PassView) (a b c : ℕ → Type 0) (old new : Device) (r : Result ⊤ RunFault) (P Q : List Outcome → Type 0) → ((outcomes : List Outcome) → P outcomes → Q outcomes)
-    → TookRows k m a b old new r P → m2 ≡ m → ReportsMore b 0 c → TookRows k m2 a c old new r Q
-took_later k m m2 a b c old new r P Q f t same more = record {
+pub took_later : (s : ReplyStyle) (k m m2 : PassView) (a b c : ℕ → Type 0) (old new : Device) (r : Result ⊤ RunFault) (P Q : List EventOutcome → Type 0)
+    → ((outcomes : List EventOutcome) → P outcomes → Q outcomes)
+    → TookRows s k m a b old new r P → m2 ≡ m → ReportsMore b 0 c → TookRows s k m2 a c old new r Q
+took_later s k m m2 a b c old new r P Q f t same more = record {
   bytes = t.bytes;
   lines = t.lines;
   outcomes = t.outcomes;
@@ -153,5 +153,6 @@ goes_then k m z a (inr e) = subst (GoesOnOrStays k) (sym e) a
 pub heard_more : (s h : List Entry) (views : List PassView) (k : PassView) → IsPrefix s h → All (IsSeenIn s) views → IsSound k → IsPrefix k.seen h → All (IsSeenIn h) (views ++ k ∷ [])
 heard_more s h views k on all sound seen = All-push (IsSeenIn h) views k (seen_on s h views on all) (sound, seen)
 
-pub took_plain : (k m : PassView) (a b : ℕ → Type 0) (old new : Device) (r : Result ⊤ RunFault) (P : List Outcome → Type 0) → TookRows k m a b old new r P → TookRows k m a b old new r (λ outcomes. ⊤)
-took_plain k m a b old new r P t = took_later k m m a b b old new r P (λ outcomes. ⊤) (λ outcomes h. tt) t refl (λ n h. subst b (omega arith) h)
+pub took_plain : (s : ReplyStyle) (k m : PassView) (a b : ℕ → Type 0) (old new : Device) (r : Result ⊤ RunFault) (P : List EventOutcome → Type 0)
+    → TookRows s k m a b old new r P → TookRows s k m a b old new r (λ outcomes. ⊤)
+took_plain s k m a b old new r P t = took_later s k m m a b b old new r P (λ outcomes. ⊤) (λ outcomes h. tt) t refl (λ n h. subst b (omega arith) h)

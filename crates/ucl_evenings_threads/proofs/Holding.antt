@@ -14,10 +14,9 @@ use Rattle.ucl_io.specs.declared.stream.Source as sources
 use Rattle.ucl_io.specs.declared.stream.Sink as sinks
 use Rattle.ucl_shared.specs.declared.live_board.LiveBoard as boards
 use Rattle.ucl_shared.specs.Passes.{PassView, Continues, SharedReading}
-use Rattle.ucl_evenings.specs.declared.outcome.Outcome.{Outcome}
-use Rattle.ucl_evenings.specs.declared.outcome.Outcome.TheVariants.{Entered, Refused}
 use Rattle.ucl_evenings.specs.Answering.{calls_in}
-use Rattle.ucl_evenings.specs.Reporting.{GoThrough, HasReportedRows, IsOutcomeAt, past_point}
+use Rattle.ucl_evenings.specs.Reporting.{GoThrough, HasReportedRows, EventOutcome, past_point}
+use Rattle.ucl_evenings.proofs.Events.{at_on}
 use Rattle.ucl_evenings.specs.Showing.{RiseWithin, screens_shown}
 use Rattle.ucl_evenings_threads.specs.declared.workers.Reporter.{Reporter}
 use Rattle.ucl_evenings_threads.specs.declared.workers.ReporterEnd.{ReporterEnd}
@@ -43,7 +42,8 @@ module _ (p z : PassView) (last : Reading) (on : Continues p z) (read : SharedRe
   whole_long = length-take-le last.version z.seen read.high
 
   -- those who entered events before had been heard then, and the reporters later
-  module _ (s early : List Entry) (views more : List PassView) (since : IsPrefix s early) (before : IsPrefix early p.seen) (heard : All (IsSeenIn s) views) (heard_more : All (IsSeenIn early) more) where
+  module _ (s early : List Entry) (views more : List PassView) (since : IsPrefix s early) (before : IsPrefix early p.seen)
+      (heard : All (IsSeenIn s) views) (heard_more : All (IsSeenIn early) more) where
     pub heard_at_end : All (IsSeenIn whole) (views ++ more)
     heard_at_end =
         let later = begins_through early p.seen whole before begins_whole in
@@ -91,47 +91,31 @@ module _ {B R P N V : Type 0} (live : boards.Ghosts B R P N) (board : B) (sink :
       screens lookings ends looking shown
 
 module _ (reporter : ℕ) (s h : List Entry) (on : IsPrefix s h) where
-  at_in : (point : ℕ) (call : EventCall) (w : Outcome) → IsOutcomeAt reporter s point call w → IsOutcomeAt reporter h point call w
-  at_in point call (Entered number version) r =
-      let read = r.read in
-      let within = r.within in
-      let longer = begins_length s h on in
-      record {
-        reply = ap (λ (l : List Entry). sequential_reply l call) (take_beginning s h point on (omega arith)) ∙ r.reply;
-        entry = at_beginning s h point (entry_of reporter call) on r.entry;
-        read = r.read;
-        within = omega arith;
-      }
-  at_in point call (Refused refusal) r =
-      let within = r.0 in
-      let longer = begins_length s h on in
-      (omega arith, ap (λ (l : List Entry). sequential_reply l call) (take_beginning s h point on r.0) ∙ r.1)
-
   -- events that went so in what a pass has seen went so in the history that this begins
-  through_in : (low low2 high high2 : ℕ) (calls : List EventCall) (outcomes : List Outcome) → low2 ≤ low → high ≤ high2 → GoThrough reporter s low high calls outcomes
+  through_in : (low low2 high high2 : ℕ) (calls : List EventCall) (outcomes : List EventOutcome) → low2 ≤ low → high ≤ high2 → GoThrough reporter s low high calls outcomes
       → GoThrough reporter h low2 high2 calls outcomes
   unfolding GoThrough
   through_in low low2 high high2 [] [] le more g = omega arith
   through_in low low2 high high2 [] (w ∷ outcomes) le more g = absurd g
   through_in low low2 high high2 (call ∷ calls) [] le more g = absurd g
   through_in low low2 high high2 (call ∷ calls) (w ∷ outcomes) le more g =
-      let x = g.1 in (g.0, omega arith, at_in g.0 call w g.2, through_in (past_point g.0 w) (past_point g.0 w) high high2 calls outcomes (le_refl (past_point g.0 w)) more g.3)
+      let x = g.1 in (g.0, omega arith, at_on reporter s h on g.0 call w g.2, through_in (past_point g.0 w) (past_point g.0 w) high high2 calls outcomes (le_refl (past_point g.0 w)) more g.3)
 
-rows_in : (first h : List Entry) (k m : PassView) (calls : List EventCall) (outcomes : List Outcome) → IsPrefix first k.seen → IsPrefix m.seen h → HasReportedRows k m calls outcomes
+rows_in : (first h : List Entry) (k m : PassView) (calls : List EventCall) (outcomes : List EventOutcome) → IsPrefix first k.seen → IsPrefix m.seen h → HasReportedRows k m calls outcomes
     → GoThrough m.number h (length first) (length h) calls outcomes
 rows_in first h k m calls outcomes early on r =
     subst (λ (n : ℕ). GoThrough n h (length first) (length h) calls outcomes) (sym r.always.number)
     (through_in k.number m.seen h on (length k.seen) (length first) (length m.seen) (length h) calls outcomes (begins_length first k.seen early) (begins_length m.seen h on) r.through)
 
-module _ {B R P N S W : Type 0} (live : boards.Ghosts B R P N) (board : B) (source : sources.Ghosts S) (replies : sinks.Ghosts W) where
+module _ {B R P N S W : Type 0} (live : boards.Ghosts B R P N) (board : B) (source : sources.Ghosts S) (replies : sinks.Ghosts W) (clubs : List NamedClub) where
   pub reported_at_end : (first before s h : List Entry) (reporters : List (Reporter S W)) (all : List (Enlisted P S W)) (ends : List (ReporterEnd P S W)) → IsPrefix first before → IsPrefix s h
-      → AllZip (WasEnlisted live board before) reporters all → AllZip (HasRun live board source replies) all ends → All (IsSeenIn s) (views_of live ends)
-      → AllZip (HasAnsweredRows live board source replies first h) reporters ends
+      → AllZip (WasEnlisted live board before) reporters all → AllZip (HasRun live board source replies clubs) all ends → All (IsSeenIn s) (views_of live ends)
+      → AllZip (HasAnsweredRows live board source replies clubs first h) reporters ends
   reported_at_end first before s h reporters all ends early on enlisted run heard =
-      zip_then_of (WasEnlisted live board before) (HasRun live board source replies) (λ (end : ReporterEnd P S W). live.reporter end.pass) (IsSeenIn s)
-      (HasAnsweredRows live board source replies first h)
+      zip_then_of (WasEnlisted live board before) (HasRun live board source replies clubs) (λ (end : ReporterEnd P S W). live.reporter end.pass) (IsSeenIn s)
+      (HasAnsweredRows live board source replies clubs first h)
       (λ reporter enlisted end l p seen.
-      let q : HasTakenRows live board source replies enlisted.pass reporter end = subst (λ (x : Reporter S W). HasTakenRows live board source replies enlisted.pass x end) l.same p in
+      let q : HasTakenRows live board source replies clubs enlisted.pass reporter end = subst (λ (x : Reporter S W). HasTakenRows live board source replies clubs enlisted.pass x end) l.same p in
       record {
         pass = enlisted.pass;
         ready = l.ready;

@@ -24,9 +24,7 @@ use Rattle.ucl_board.proofs.Histories.{entries_same, entries_else}
 use Rattle.ucl_shared.specs.Passes.{entries_by}
 use Rattle.ucl_shared.proofs.Lists.{by_own, by_other}
 use Rattle.ucl_runs.proofs.Elements.{get_some, take_one}
-use Rattle.ucl_evenings.specs.declared.outcome.Outcome.{Outcome}
-use Rattle.ucl_evenings.specs.declared.outcome.Outcome.TheVariants.{Entered, Refused}
-use Rattle.ucl_evenings.specs.Reporting.{GoThrough, entered_in, accepted_in}
+use Rattle.ucl_evenings.specs.Reporting.{Entered, GoThrough, EventOutcome, Refused, accepted_in, entered_in}
 use Rattle.ucl_evenings_threads.specs.OneReporter.{AddedBy, DifferInNumber, Entering, RowsDecideTheBoard, WentThrough, attempts_of_all}
 
 -- ---- attempts, and the entries of one match
@@ -108,20 +106,21 @@ module _ (n : ℕ) (h : List Entry) where
       subst (λ (x : ℕ). own_at a ≤ own_at x) e (own_rises a (p - a) (omega arith))
 
   -- events that went through a history have left as many entries as were accepted
-  has_entered : (low : ℕ) (calls : List EventCall) (outcomes : List Outcome) → GoThrough n h low (length h) calls outcomes → own_at low + accepted_in outcomes ≤ own_at (length h)
+  has_entered : (low : ℕ) (calls : List EventCall) (outcomes : List EventOutcome) → GoThrough n h low (length h) calls outcomes → own_at low + accepted_in outcomes ≤ own_at (length h)
   unfolding GoThrough accepted_in
   has_entered low [] [] g = let e = own_from low (length h) g (omega arith) in omega arith
   has_entered low [] (w ∷ outcomes) g = absurd g
   has_entered low (call ∷ calls) [] g = absurd g
-  has_entered low (call ∷ calls) (Entered number version ∷ outcomes) (p, above, w, rest) =
+  has_entered low (call ∷ calls) (Entered number reading ∷ outcomes) (p, above, w, rest) =
       let below = at_below h p (entry_of n call) w.entry in
       let more = own_from low p above (omega arith) in
       let next = own_next p (entry_of n call) w.entry refl in
       let later = has_entered (p + 1) calls outcomes rest in
       let one : p + 1 ≡ suc p = omega arith in
       let e = ap own_at one in omega arith
-  has_entered low (call ∷ calls) (Refused refusal ∷ outcomes) (p, above, w, rest) =
-      let more = own_from low p above w.0 in
+  has_entered low (call ∷ calls) (Refused refusal reading ∷ outcomes) (p, above, w, rest) =
+      let inside : p ≤ length h = omega (arith, w.0.low, w.0.high) in
+      let more = own_from low p above inside in
       let later = has_entered p calls outcomes rest in omega arith
 
   -- a match whose entries, from some place on, are this reporter's
@@ -158,14 +157,14 @@ module _ (n : ℕ) (h : List Entry) where
     ]
 
     -- all its events, of which as many were accepted as it has entries from here on
-    rows_decide_match : (low : ℕ) (s : List Entry) (calls : List EventCall) (outcomes : List Outcome) → start ≤ low → GoThrough n h low (length h) calls outcomes
+    rows_decide_match : (low : ℕ) (s : List Entry) (calls : List EventCall) (outcomes : List EventOutcome) → start ≤ low → GoThrough n h low (length h) calls outcomes
         → own_at (length h) ≤ own_at low + accepted_in outcomes → entries_of g s ≡ entries_at h g low
         → entries_of g (fold after_attempt s (map (attempted n) calls)) ≡ entries_at h g (length h)
     unfolding GoThrough accepted_in
     rows_decide_match low s [] [] from t few same = same ∙ sym (same_from low (length h) from t (omega arith) (omega arith))
     rows_decide_match low s [] (w ∷ outcomes) from t few same = absurd t
     rows_decide_match low s (call ∷ calls) [] from t few same = absurd t
-    rows_decide_match low s (call ∷ calls) (Entered number version ∷ outcomes) from (p, above, w, rest) few same =
+    rows_decide_match low s (call ∷ calls) (Entered number reading ∷ outcomes) from (p, above, w, rest) few same =
         let below = at_below h p (entry_of n call) w.entry in
         let more = own_from low p above (omega arith) in
         let next = own_next p (entry_of n call) w.entry refl in
@@ -175,33 +174,34 @@ module _ (n : ℕ) (h : List Entry) where
         let here = same ∙ sym (same_from low p from above (omega arith) (omega arith)) in
         rows_decide_match (p + 1) (after_attempt s (attempted n call)) calls outcomes (omega arith) rest (omega arith)
         (entered_one s call p (record { number = number }) w.reply w.entry here ∙ ap (entries_at h g) (sym e))
-    rows_decide_match low s (call ∷ calls) (Refused refusal ∷ outcomes) from (p, above, w, rest) few same =
-        let more = own_from low p above w.0 in
+    rows_decide_match low s (call ∷ calls) (Refused refusal reading ∷ outcomes) from (p, above, w, rest) few same =
+        let inside : p ≤ length h = omega (arith, w.0.low, w.0.high) in
+        let more = own_from low p above inside in
         let later = has_entered p calls outcomes rest in
-        let here = same ∙ sym (same_from low p from above w.0 (omega arith)) in
+        let here = same ∙ sym (same_from low p from above inside (omega arith)) in
         rows_decide_match p (after_attempt s (attempted n call)) calls outcomes (omega arith) rest (omega arith) (refused_one s call p (ap is_ok w.1) here)
 
 -- ---- the entries of reporters are those of their events
 
 -- the entries that events came to are of their matches
-entered_games : (P : Entry → Type 0) (n : ℕ) (calls : List EventCall) (outcomes : List Outcome) → All (λ (call : EventCall). P (entry_of n call)) calls → All P (entered_in n calls outcomes)
+entered_games : (P : Entry → Type 0) (n : ℕ) (calls : List EventCall) (outcomes : List EventOutcome) → All (λ (call : EventCall). P (entry_of n call)) calls → All P (entered_in n calls outcomes)
 unfolding entered_in
 entered_games P n [] outcomes all = All-nil P
 entered_games P n (call ∷ calls) [] all = All-nil P
-entered_games P n (call ∷ calls) (Entered number version ∷ outcomes) all =
+entered_games P n (call ∷ calls) (Entered number reading ∷ outcomes) all =
     All-cons P (entry_of n call) (entered_in n calls outcomes) (All-head (λ (c : EventCall). P (entry_of n c)) call calls all)
     (entered_games P n calls outcomes (All-tail (λ (c : EventCall). P (entry_of n c)) call calls all))
-entered_games P n (call ∷ calls) (Refused refusal ∷ outcomes) all = entered_games P n calls outcomes (All-tail (λ (c : EventCall). P (entry_of n c)) call calls all)
+entered_games P n (call ∷ calls) (Refused refusal reading ∷ outcomes) all = entered_games P n calls outcomes (All-tail (λ (c : EventCall). P (entry_of n c)) call calls all)
 
 -- how many of them there are
-entered_count : (n : ℕ) (calls : List EventCall) (outcomes : List Outcome) (h : List Entry) (low : ℕ) → GoThrough n h low (length h) calls outcomes
+entered_count : (n : ℕ) (calls : List EventCall) (outcomes : List EventOutcome) (h : List Entry) (low : ℕ) → GoThrough n h low (length h) calls outcomes
     → length (entered_in n calls outcomes) ≡ accepted_in outcomes
 unfolding GoThrough accepted_in entered_in
 entered_count n [] [] h low t = refl
 entered_count n [] (w ∷ outcomes) h low t = absurd t
 entered_count n (call ∷ calls) [] h low t = absurd t
-entered_count n (call ∷ calls) (Entered number version ∷ outcomes) h low (p, above, w, rest) = let e = entered_count n calls outcomes h (p + 1) rest in omega arith
-entered_count n (call ∷ calls) (Refused refusal ∷ outcomes) h low (p, above, w, rest) = let e = entered_count n calls outcomes h p rest in omega arith
+entered_count n (call ∷ calls) (Entered number reading ∷ outcomes) h low (p, above, w, rest) = let e = entered_count n calls outcomes h (p + 1) rest in omega arith
+entered_count n (call ∷ calls) (Refused refusal reading ∷ outcomes) h low (p, above, w, rest) = let e = entered_count n calls outcomes h p rest in omega arith
 
 tail_of : (P : Entry → Type 0) (b : Bool) (y : Entry) (l : List Entry) → All P (cond b (y ∷ l) l) → All P l
 tail_of P true y l all = All-tail P y l all

@@ -43,28 +43,28 @@ pub record HasHeld {B R P N S W V : Type 0} (live : boards.Ghosts B R P N) (boar
   pub since : IsPrefix before (history_of_end live end)
   pub kept : AllZip (IsHandedBack live board) entered end.entered.items
   pub theirs : IsTheirs (all_views live end) (history_of_end live end)
-  pub reported : AllZip (HasAnsweredRows live board source replies before (history_of_end live end)) reporters end.reporters.items
+  pub reported : AllZip (HasAnsweredRows live board source replies clubs before (history_of_end live end)) reporters end.reporters.items
   pub shown : AllZip (HasShownOf live board sink clubs before (history_of_end live end) (LastIs end.last.version)) screens end.screens.items
 
 -- all reporters of an evening have run and were heard, and then a version was read that is not that of their events and of those who entered
 -- events before: the board has events of others, or the numbers do not rise in the order in which they were given
 pub record EveningFoundStrangers {B R P N S W : Type 0} (live : boards.Ghosts B R P N) (board : B) (source : sources.Ghosts S) (replies : sinks.Ghosts W)
-    (before : List Entry) (entered : List P) (reporters : List (Reporter S W)) (version : ℕ) : Type 0 where
+    (clubs : List NamedClub) (before : List Entry) (entered : List P) (reporters : List (Reporter S W)) (version : ℕ) : Type 0 where
   pub back : List P
   pub ends : List (ReporterEnd P S W)
   pub pass : R
   pub own : live.is_reader board pass
   pub high : version ≤ length (live.reader pass).seen
   pub kept : AllZip (IsHandedBack live board) entered back
-  pub reported : AllZip (HasAnsweredRows live board source replies before (take version (live.reader pass).seen)) reporters ends
+  pub reported : AllZip (HasAnsweredRows live board source replies clubs before (take version (live.reader pass).seen)) reporters ends
   pub heard : All (IsSeenIn (take version (live.reader pass).seen)) (map live.reporter back ++ views_of live ends)
   pub others : AreAllOf (map live.reporter back ++ views_of live ends) version → ⊥
 
-abbrev pub IsOfStrangers : {B R P N S W : Type 0} → boards.Ghosts B R P N → B → sources.Ghosts S → sinks.Ghosts W → List Entry → List P → List (Reporter S W) → RunFault → Type 0
-IsOfStrangers live board source replies before entered reporters (Strangers version) = EveningFoundStrangers live board source replies before entered reporters version
-IsOfStrangers live board source replies before entered reporters _ = ⊥
+abbrev pub IsOfStrangers : {B R P N S W : Type 0} → boards.Ghosts B R P N → B → sources.Ghosts S → sinks.Ghosts W → List NamedClub → List Entry → List P → List (Reporter S W) → RunFault → Type 0
+IsOfStrangers live board source replies clubs before entered reporters (Strangers version) = EveningFoundStrangers live board source replies clubs before entered reporters version
+IsOfStrangers live board source replies clubs before entered reporters _ = ⊥
 
 -- why an evening was not held: want of memory or of a thread, no number for a reporter, or strangers
-abbrev pub IsWhyNoEvening : {B R P N S W : Type 0} → boards.Ghosts B R P N → B → sources.Ghosts S → sinks.Ghosts W → List Entry → List P → List (Reporter S W) → RunFault → Type 0
-IsWhyNoEvening live board source replies before entered reporters fault =
-    IsOfThreads fault ⊎ (IsOfEnlisting live board fault ⊎ IsOfStrangers live board source replies before entered reporters fault)
+abbrev pub IsWhyNoEvening : {B R P N S W : Type 0} → boards.Ghosts B R P N → B → sources.Ghosts S → sinks.Ghosts W → List NamedClub → List Entry → List P → List (Reporter S W) → RunFault → Type 0
+IsWhyNoEvening live board source replies clubs before entered reporters fault =
+    IsOfThreads fault ⊎ (IsOfEnlisting live board fault ⊎ IsOfStrangers live board source replies clubs before entered reporters fault)

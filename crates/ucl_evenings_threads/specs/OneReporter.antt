@@ -10,9 +10,8 @@ use Rattle.ucl_io.specs.declared.stream.Source as sources
 use Rattle.ucl_shared.specs.declared.live_board.LiveBoard as boards
 use Rattle.ucl_shared.specs.Passes.{PassView, entries_by}
 use Rattle.ucl_runs.specs.InputLines.{lines_of}
-use Rattle.ucl_evenings.specs.declared.outcome.Outcome.{Outcome}
 use Rattle.ucl_evenings.specs.Answering.{calls_in}
-use Rattle.ucl_evenings.specs.Reporting.{GoThrough, entered_in}
+use Rattle.ucl_evenings.specs.Reporting.{GoThrough, EventOutcome, entered_in}
 use Rattle.ucl_evenings_threads.specs.declared.evening.EveningEnd.{EveningEnd}
 use Rattle.ucl_evenings_threads.specs.declared.workers.Reporter.{Reporter}
 use Rattle.ucl_evenings_threads.specs.declared.workers.ReporterEnd.{ReporterEnd}
@@ -21,7 +20,7 @@ use Rattle.ucl_evenings_threads.specs.declared.workers.ReporterEnd.{ReporterEnd}
 pub record Entering : Type 0 where
   pub number : ℕ
   pub calls : List EventCall
-  pub outcomes : List Outcome
+  pub outcomes : List EventOutcome
 
 -- so they went in a history, after a beginning of it, and those that were accepted are all the entries that the reporter has there
 pub record WentThrough (before history : List Entry) (e : Entering) : Type 0 where

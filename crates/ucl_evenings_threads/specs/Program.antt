@@ -48,7 +48,7 @@ pub record FailsAfterEntering {B R P N S W : Type 0} (live : boards.Ghosts B R P
     (night : Night) (before : List Entry) (reporters : List (Reporter S W)) (fault : RunFault) : Type 0 where
   pub earlier : Earlier R P
   pub entered : WereEntered live before night.events.items earlier.pass earlier.reporters.items
-  pub why : IsWhyNoEvening live board source replies (live.reader earlier.pass).seen earlier.reporters.items reporters fault
+  pub why : IsWhyNoEvening live board source replies night.roster (live.reader earlier.pass).seen earlier.reporters.items reporters fault
 
 -- the evening was not held: there was no memory, or an event of the script was not entered, or the evening failed after that
 abbrev pub IsWhyNotHeld : {B R P N S W : Type 0} → boards.Ghosts B R P N → B → sources.Ghosts S → sinks.Ghosts W → Night → List Entry → List (Reporter S W) → RunFault → Type 0

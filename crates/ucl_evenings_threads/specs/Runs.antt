@@ -14,7 +14,7 @@ use Rattle.ucl_runs.specs.declared.fault.RunFault.TheVariants.{OutOfMemory, NoTh
 use Rattle.ucl_runs.specs.Faults.{HasNoNumberLeft}
 use Rattle.ucl_runs.specs.Run.{SinkFails, is_read_failed}
 use Rattle.ucl_io.specs.Calls.{Device}
-use Rattle.ucl_evenings.specs.Answering.{calls_in}
+use Rattle.ucl_evenings.specs.Answering.{calls_in, reply_style}
 use Rattle.ucl_evenings.specs.Reporting.{GoThrough}
 use Rattle.ucl_evenings.specs.Rows.{TookRows}
 use Rattle.ucl_evenings.specs.Showing.{IsNewScreen, IsScreenOn, RiseWithin, ScreensEnd, ShowsSince, StaysScreen, screens_shown, standing}
@@ -103,7 +103,7 @@ pub record IsReady {B R P N : Type 0} (live : boards.Ghosts B R P N) (board : B)
   pub reported : live.has_reported pass 0
 
 abbrev pub reporter_of : {P S W : Type 0} → Enlisted P S W → Reporter S W
-reporter_of enlisted = record { rows = enlisted.rows; replies = enlisted.replies }
+reporter_of enlisted = record { rows = enlisted.rows; replies = enlisted.replies; shape = enlisted.shape }
 
 abbrev pub IsReadyToRun : {B R P N S W : Type 0} → boards.Ghosts B R P N → B → Enlisted P S W → Type 0
 IsReadyToRun live board enlisted = IsReady live board enlisted.pass
@@ -114,24 +114,24 @@ pub record WasEnlisted {B R P N S W : Type 0} (live : boards.Ghosts B R P N) (bo
   pub ready : IsReady live board enlisted.pass
   pub since : IsPrefix before (live.reporter enlisted.pass).seen
 
--- a reporter with this pass has taken rows from its source, and answered them: a failed read is told just where the source failed
-pub record HasTakenRows {B R P N S W : Type 0} (live : boards.Ghosts B R P N) (board : B) (source : sources.Ghosts S) (sink : sinks.Ghosts W) (pass : P) (reporter : Reporter S W)
-    (end : ReporterEnd P S W) : Type 0 where
+-- a reporter with this pass has taken rows from its source, and answered them in its shape: a failed read is told just where the source failed
+pub record HasTakenRows {B R P N S W : Type 0} (live : boards.Ghosts B R P N) (board : B) (source : sources.Ghosts S) (sink : sinks.Ghosts W) (clubs : List NamedClub) (pass : P)
+    (reporter : Reporter S W) (end : ReporterEnd P S W) : Type 0 where
   pub own : live.is_reporter board end.pass
-  pub took : TookRows (live.reporter pass) (live.reporter end.pass) (live.has_reported pass) (live.has_reported end.pass)
+  pub took : TookRows (reply_style reporter.shape clubs (live.reporter pass)) (live.reporter pass) (live.reporter end.pass) (live.has_reported pass) (live.has_reported end.pass)
       (device_of source sink reporter.rows reporter.replies) (device_of source sink end.rows end.replies) end.result (λ outcomes. ⊤)
   pub read_failed : source.failed end.rows ≡ is_read_failed end.result
   pub served : SinkServed sink reporter.replies end.replies end.result
 
-abbrev pub HasRun : {B R P N S W : Type 0} → boards.Ghosts B R P N → B → sources.Ghosts S → sinks.Ghosts W → Enlisted P S W → ReporterEnd P S W → Type 0
-HasRun live board source sink enlisted end = HasTakenRows live board source sink enlisted.pass (reporter_of enlisted) end
+abbrev pub HasRun : {B R P N S W : Type 0} → boards.Ghosts B R P N → B → sources.Ghosts S → sinks.Ghosts W → List NamedClub → Enlisted P S W → ReporterEnd P S W → Type 0
+HasRun live board source sink clubs enlisted end = HasTakenRows live board source sink clubs enlisted.pass (reporter_of enlisted) end
 
 -- the same of a pass that had reported nothing before: its events went so in a history, after what had been seen before
-pub record HasAnsweredRows {B R P N S W : Type 0} (live : boards.Ghosts B R P N) (board : B) (source : sources.Ghosts S) (sink : sinks.Ghosts W) (before history : List Entry)
-    (reporter : Reporter S W) (end : ReporterEnd P S W) : Type 0 where
+pub record HasAnsweredRows {B R P N S W : Type 0} (live : boards.Ghosts B R P N) (board : B) (source : sources.Ghosts S) (sink : sinks.Ghosts W) (clubs : List NamedClub)
+    (before history : List Entry) (reporter : Reporter S W) (end : ReporterEnd P S W) : Type 0 where
   pub pass : P
   pub ready : IsReady live board pass
-  pub run : HasTakenRows live board source sink pass reporter end
+  pub run : HasTakenRows live board source sink clubs pass reporter end
   pub through : GoThrough (live.reporter end.pass).number history (length before) (length history) (calls_in 1 run.took.lines) run.took.outcomes
 
 -- ---- screens
@@ -194,7 +194,7 @@ pub record HaveRun {B R P N S W V : Type 0} (live : boards.Ghosts B R P N) (boar
   pub early : List Entry
   pub since : IsPrefix before early
   pub on : IsPrefix early history
-  pub run : AllZip (HasRun live board source replies) all ran.reporters.items
+  pub run : AllZip (HasRun live board source replies clubs) all ran.reporters.items
   pub heard : All (IsSeenIn early) (views_of live ran.reporters.items)
   pub shown : AllZip (HasShownAbove live board sink clubs history (length early)) screens ran.screens.items
   pub kept : AllZip (KeepsShare live) screens ran.screens.items

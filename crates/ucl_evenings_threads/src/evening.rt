@@ -147,7 +147,7 @@ pub fn hold_evening<
 
     // Where it was not held, the fault says why: that a number was wanting, or that there are strangers, is so.
     ensures kinds { IfErr result (IsWhyNoEvening B.LiveBoard board.entry.now S.Source W.Sink
-        (B.reader pass).seen entered.items reporters.items) }
+        roster.entry.now (B.reader pass).seen entered.items reporters.items) }
 {
     let entered = hear_all(rt, alloc, board, &mut pass, entered)?;
     let screens = look_all(rt, alloc, board, &mut pass, screens)?;

@@ -52,7 +52,14 @@ pub fn enlist_all<B: LiveBoard, S: Drop, W: Drop, R: Wait>(
         (shares_enlisted B.LiveBoard all.items) (B.reader pass.new).share) }
     ensures kinds { IfErr result (IsOfEnlisting B.LiveBoard board.now) }
 {
-    let Some(Reporter { rows, replies }) = take_last(&mut reporters) else {
+    let Some(
+        Reporter {
+            rows,
+            replies,
+            shape,
+        },
+    ) = take_last(&mut reporters)
+    else {
         return Ok(Vec::new(alloc));
     };
     let mut all = enlist_all(rt, alloc, board, pass, reporters)?;
@@ -61,6 +68,7 @@ pub fn enlist_all<B: LiveBoard, S: Drop, W: Drop, R: Wait>(
         pass: second,
         rows,
         replies,
+        shape,
     };
     put(&mut all, enlisted)?;
     Ok(all)

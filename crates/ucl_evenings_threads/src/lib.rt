@@ -21,7 +21,7 @@ pub use beginning::{NoBeginning, night_towards};
 pub use earlier::{Earlier, enter_earlier};
 pub use ending::{Part, Worker, put_words, tell_faults, tell_part};
 pub use evening::{EveningEnd, hold_evening};
-pub use laws::rows_decide_the_board;
+pub use laws::{moments_have_their_events, rows_decide_the_board};
 pub use program::{EveningRun, Place, run_evening_of};
 pub use ucl_evenings::Screen;
 pub use workers::{Reporter, ReporterEnd, ScreenEnd};

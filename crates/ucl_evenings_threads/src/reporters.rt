@@ -17,27 +17,35 @@ use std::thread::{Promise, PromisedHandle, Scope, Threads};
 use ucl_runs::{LineReader, RunFault};
 use ucl_evenings::{Reporter, take_rows};
 use ucl_io::Duplex;
+use ucl_order::Roster;
 use ucl_screen::{Sink, Source};
 use ucl_shared::LiveBoard;
 
 /// What the thread of a reporter does: it takes the rows of its source, and answers them.
 fn report<B: LiveBoard, S: Source, W: Sink, R: Wait>(
     rt: &R,
+    alloc: Global,
     board: &B,
     wakes: &[Wake],
+    roster: &Roster,
     enlisted: Enlisted<B::ReporterPass, S, W>,
 ) -> ReporterEnd<B::ReporterPass, S, W>
     requires ready { IsReadyToRun B.LiveBoard board.now enlisted }
-    ensures { HasRun B.LiveBoard board.entry.now S.Source W.Sink enlisted result }
+    ensures { HasRun B.LiveBoard board.entry.now S.Source W.Sink roster.entry.now
+        enlisted result }
 {
     let Enlisted {
         pass,
         rows,
         replies,
+        shape,
     } = enlisted;
     let mut reporter = Reporter {
         rt,
+        alloc,
         board,
+        roster,
+        shape,
         pass,
         bells: Bells::of(wakes),
         lines: LineReader::new(),
@@ -51,7 +59,10 @@ fn report<B: LiveBoard, S: Source, W: Sink, R: Wait>(
     } = duplex;
     let Reporter {
         rt: _,
+        alloc: _,
         board: _,
+        roster: _,
+        shape: _,
         pass,
         bells: _,
         lines: _,
@@ -68,13 +79,14 @@ fn report<B: LiveBoard, S: Source, W: Sink, R: Wait>(
 #[derive(Drop)]
 pub struct Reporting<B: LiveBoard, S, W> {
     board: Snapshot<B>,
+    roster: Snapshot<Roster>,
     enlisted: Snapshot<Enlisted<B::ReporterPass, S, W>>,
 }
 
 impl<B: LiveBoard, S: Source, W: Sink> Promise<ReporterEnd<B::ReporterPass, S, W>>
     for Reporting<B, S, W> {
     ghost kept_by = { λ p end.
-        HasRun B.LiveBoard p.board.value S.Source W.Sink p.enlisted.value end };
+        HasRun B.LiveBoard p.board.value S.Source W.Sink p.roster.value p.enlisted.value end };
 }
 
 /// Starts the thread of a reporter.
@@ -88,27 +100,32 @@ fn start_reporter<
 >(
     scope: &Scope<'s, E>,
     rt: &'s R,
+    alloc: Global,
     board: &'s B,
     wakes: &'s [Wake],
+    roster: &'s Roster,
     enlisted: Enlisted<B::ReporterPass, S, W>,
 ) -> Result<PromisedHandle<ReporterEnd<B::ReporterPass, S, W>, Reporting<B, S, W>>, RunFault>
 where
     B::ReporterPass: 's,
     requires ready { IsReadyToRun B.LiveBoard board.now enlisted }
     ensures board { IfOk result (λ worker. worker.promise.board.value ≡ board.now) }
+    ensures roster { IfOk result (λ worker. worker.promise.roster.value ≡ roster.now) }
     ensures enlisted { IfOk result (λ worker. worker.promise.enlisted.value ≡ enlisted) }
     ensures kinds { IfErr result IsOfThreads }
 {
     let promise = Reporting {
         board: Snapshot::of(board),
+        roster: Snapshot::of(roster),
         enlisted: Snapshot::of(&enlisted),
     };
     let started = scope.spawn_with(
         promise,
         move || -> ReporterEnd<B::ReporterPass, S, W>
             requires { IsReadyToRun B.LiveBoard board.now enlisted }
-            ensures { HasRun B.LiveBoard board.entry.now S.Source W.Sink enlisted result }
-        { report(rt, board, wakes, enlisted) },
+            ensures { HasRun B.LiveBoard board.entry.now S.Source W.Sink roster.entry.now
+                enlisted result }
+        { report(rt, alloc, board, wakes, roster, enlisted) },
     );
     started.map_err(|_| RunFault::NoThread)
 }
@@ -127,6 +144,7 @@ pub fn run_reporters<
     alloc: Global,
     board: &'s B,
     wakes: &'s [Wake],
+    roster: &'s Roster,
     pass: &mut B::ReaderPass,
     mut all: Vec<Enlisted<B::ReporterPass, S, W>>,
 ) -> Result<Vec<ReporterEnd<B::ReporterPass, S, W>>, RunFault>
@@ -137,7 +155,7 @@ where
     ensures own { B.is_reader board.now pass.new }
     ensures always { GoesOnOrStays (B.reader pass.old) (B.reader pass.new) }
     ensures run { IfOk result (λ ends.
-        AllZip (HasRun B.LiveBoard board.now S.Source W.Sink) all.items ends.items) }
+        AllZip (HasRun B.LiveBoard board.now S.Source W.Sink roster.now) all.items ends.items) }
     ensures heard { IfOk result (λ ends. All (IsSeenIn (B.reader pass.new).seen)
         (views_of B.LiveBoard ends.items)) }
     ensures kinds { IfErr result IsOfThreads }
@@ -145,8 +163,8 @@ where
     let Some(enlisted) = take_last(&mut all) else {
         return Ok(Vec::new(alloc));
     };
-    let worker = start_reporter(scope, rt, board, wakes, enlisted)?;
-    let mut ends = run_reporters(scope, rt, alloc, board, wakes, pass, all)?;
+    let worker = start_reporter(scope, rt, alloc, board, wakes, roster, enlisted)?;
+    let mut ends = run_reporters(scope, rt, alloc, board, wakes, roster, pass, all)?;
     let mut end = worker.join(rt);
     hear_reporter(rt, board, pass, &mut end.pass);
     put(&mut ends, end)?;

@@ -174,7 +174,7 @@ where
     ensures kinds { IfErr result IsOfThreads }
 {
     let Some(looking) = take_last(&mut screens) else {
-        let run = run_reporters(scope, rt, alloc, board, wakes, pass, all);
+        let run = run_reporters(scope, rt, alloc, board, wakes, roster, pass, all);
         end_all(wakes);
         let reporters = run?;
         return Ok(Ran {

@@ -1,5 +1,6 @@
 //! Who takes part in an evening, and how each ended.
 
+use ucl_evenings::Shape;
 use ucl_runs::RunFault;
 
 /// A reporter of an evening.
@@ -9,6 +10,8 @@ pub struct Reporter<S, W> {
     pub rows: S,
     /// Where the answers go.
     pub replies: W,
+    /// How they are written.
+    pub shape: Shape,
 }
 
 /// How a reporter ended.
@@ -41,6 +44,7 @@ pub struct Enlisted<P, S, W> {
     pub pass: P,
     pub rows: S,
     pub replies: W,
+    pub shape: Shape,
 }
 
 /// A screen with the pass that it is lent.

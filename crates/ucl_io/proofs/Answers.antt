@@ -16,7 +16,7 @@ flushed a b failed x y w text written count none put s =
     (at_put a b failed x y w text [] written count put s)
 
 -- so it was at the end
-pub end_cut : (V M F : Type 0) (Z : M → ℕ → List ℕ → M → List ℕ → Type 0) (S : M → ℕ → List ℕ → F → Type 0) (r : Result V (PumpFault F)) (row : ℕ) (m n : M) (begun text : List ℕ)
+pub end_cut : (V M F : Type 0) (Z : M → ℕ → List ℕ → M → List ℕ → Type 0) (S : M → ℕ → List ℕ → M → F → Type 0) (r : Result V (PumpFault F)) (row : ℕ) (m n : M) (begun text : List ℕ)
     (a b : Waiting) (failed : Bool)
     (x y w : Option (List ℕ)) → Z m row begun n text → a.held ≡ [] → HasPut a b x y text → IfErr r (IsPutShort b failed y w []) → IfErr r (FailsAtEnd Z S row m n begun a.out failed x w)
 end_cut V M F Z S (Ok v) row m n begun text a b failed x y w h none put s = tt
@@ -109,7 +109,7 @@ module _ (M : Type 0) (A : M → ℕ → List ℕ → M → List ℕ → Type 0)
     },
   )
 
-  module _ (F : Type 0) (S : M → ℕ → List ℕ → F → Type 0) (page : ℕ) where
+  module _ (F : Type 0) (S : M → ℕ → List ℕ → M → F → Type 0) (page : ℕ) where
     pub stopped_one : (row : ℕ) (m n : M) (line text : List ℕ) (a b : Waiting) (failed : Bool) (x y : Option (List ℕ)) (f : PumpFault F) → length a.held ≤ page
         → A m row line n text → IsPutShort a failed x y text f → FailsToAnswer A S page row m n (line ∷ []) a b failed x y f
     stopped_one row m n line text a b failed x y (WriteFailed written) few h s = record {
@@ -125,13 +125,13 @@ module _ (M : Type 0) (A : M → ℕ → List ℕ → M → List ℕ → Type 0)
     stopped_one row m n line text a b failed x y TooLong few h s = absurd s
     stopped_one row m n line text a b failed x y (Machine f) few h s = absurd s
 
-    pub line_stops : (row : ℕ) (m n : M) (line : List ℕ) (a : Waiting) (failed : Bool) (x : Option (List ℕ)) (fault : F) → a.out ≤ 2 ^ 64 - 1 → S m row line fault
+    pub line_stops : (row : ℕ) (m n : M) (line : List ℕ) (a : Waiting) (failed : Bool) (x : Option (List ℕ)) (fault : F) → a.out ≤ 2 ^ 64 - 1 → S m row line n fault
         → FailsToAnswer A S page row m n (line ∷ []) a a failed x x (Machine fault)
     line_stops row m n line a failed x fault bound h = record {
       turns = [];
       rest = line ∷ [];
       given = given_none M A row m (line ∷ []);
-      stops = next_one M A F S row m line fault h;
+      stops = next_one M A F S row m n line fault h;
       put = subst (HasPut a a x x) (sym (text_none M)) (put_nothing a x bound);
     }
 
@@ -151,7 +151,7 @@ module _ (M : Type 0) (A : M → ℕ → List ℕ → M → List ℕ → Type 0)
       turns = q.turns;
       rest = q.rest ++ more;
       given = given_more M A row m lines more q.rest q.turns q.given;
-      stops = next_more M A F S row m q.turns q.rest more fault q.stops;
+      stops = next_more M A F S row m z q.turns q.rest more fault q.stops;
       put = q.put;
     }
     fails_more row m z lines more a b failed x y (ReadFailed k) q = absurd q
@@ -182,7 +182,7 @@ module _ (M : Type 0) (A : M → ℕ → List ℕ → M → List ℕ → Type 0)
       turns = q.turns;
       rest = q.rest;
       given = q.given;
-      left = inr (fault, q.stops);
+      left = inr (let cut = s.first.cut in let same = ap (λ (l : List ℕ). length l) (append-nil b.held) in omega arith, (fault, q.stops));
       count = length q.put.given + s.count;
       stopped = flushed a b failed2 x y w (text_in q.turns) written s.count none q.put (stopped_at b.out failed2 y w (b.held ++ []) written s);
       kept = kept_flush M page a b failed2 x y w q.turns written s.count none few q.put (stopped_at b.out failed2 y w (b.held ++ []) written s);
@@ -216,7 +216,7 @@ module _ (M : Type 0) (A : M → ℕ → List ℕ → M → List ℕ → Type 0)
         turns = turns ++ q.turns;
         rest = q.rest;
         given = given_then M A row m n lines more q.rest turns q.turns p.given p.machine q.given;
-        stops = next_then M A F S row m n lines q.rest turns q.turns fault p.given p.machine q.stops;
+        stops = next_then M A F S row m n z lines q.rest turns q.turns fault p.given p.machine q.stops;
         put = subst (HasPut a c w y) (sym (text_then M turns q.turns)) (put_then a b c w x y (text_in turns) (text_in q.turns) p.put q.put);
       }
       fails_then failed (ReadFailed k) q = absurd q

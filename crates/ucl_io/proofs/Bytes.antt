@@ -43,7 +43,7 @@ module _ (cap i : ℕ) (line bytes end : List ℕ) (short : length line ≤ cap)
       let long = length-take i bytes in
       let past = line_within bytes i end first within in omega arith
 
-  module _ (M : Type 0) (A : M → ℕ → List ℕ → M → List ℕ → Type 0) (F : Type 0) (S : M → ℕ → List ℕ → F → Type 0) (page row : ℕ) (m n z : M) (a b c : Waiting) (w x y : Option (List ℕ))
+  module _ (M : Type 0) (A : M → ℕ → List ℕ → M → List ℕ → Type 0) (F : Type 0) (S : M → ℕ → List ℕ → M → F → Type 0) (page row : ℕ) (m n z : M) (a b c : Waiting) (w x y : Option (List ℕ))
       (p : AreAnswered A row m n (ended_lines cap line (take i bytes)) a b w x) (begun : List ℕ) (now : ℕ) (begun_is : begun ≡ begun_line cap line (take i bytes))
       (now_is : now ≡ row + length (ended_lines cap line (take i bytes))) where
     abbrev before : List (List ℕ)

@@ -108,7 +108,7 @@ module _ (M F : Type 0) (D : LineRules M F) (cap page : ℕ) (old mid : Seen M) 
         length (text_in turns) + q.count,
         inl (
           refl,
-          left_then M D.Answers F D.Stops 1 old.machine mid.machine new.machine done q.rest turns q.turns p.given p.machine q.left,
+          left_then M D.Answers F D.Stops page 1 old.machine mid.machine new.machine done q.rest turns q.turns p.given p.machine q.left,
           kept_after M page turns q.turns q.count q.kept,
         ),
         subst (λ (l : List ℕ). StoppedAt 0 failed old.taken new.taken l written (length (text_in turns) + q.count)) (sym (text_then M turns q.turns))
@@ -123,7 +123,7 @@ module _ (M F : Type 0) (D : LineRules M F) (cap page : ℕ) (old mid : Seen M) 
       given = more_given more q.rest q.turns q.given;
       prompt = prompt q.turns;
       ends = (
-        inl (next_then M D.Answers F D.Stops 1 old.machine mid.machine done q.rest turns q.turns fault p.given p.machine q.stops),
+        inl (next_then M D.Answers F D.Stops 1 old.machine mid.machine new.machine done q.rest turns q.turns fault p.given p.machine q.stops),
         subst (Appends old.taken new.taken) (sym (text_then M turns q.turns)) (appends-then old.taken mid.taken new.taken (text_in turns) (text_in q.turns) out q.out),
       );
     }
@@ -197,7 +197,7 @@ module _ (M F : Type 0) (D : LineRules M F) (cap page : ℕ) (old mid : Seen M) 
         inr (record {
           ended = ended-since old.left mid.left new.left bytes consumed (ended mid.left new.left over moved);
           all = refl;
-          stops = at_end (λ (k : M) (n : ℕ) (line : List ℕ). D.StopsAtEnd k n line fault) (begun_line cap [] bytes) q.0;
+          stops = at_end (λ (k : M) (n : ℕ) (line : List ℕ). D.StopsAtEnd k n line new.machine fault) (begun_line cap [] bytes) q.0;
         }),
         subst (λ (t : Option (List ℕ)). Appends old.taken t (text_in turns)) (sym q.1) out,
       );
@@ -225,4 +225,4 @@ pub goes_further : (M : Type 0) (A : M → ℕ → List ℕ → M → List ℕ �
     → AreAnsweredBy A row m z (ended_lines cap line (bytes ++ more)) a c w y (turns ++ later)
 goes_further M A cap row m n z line bytes more turns later a b c w x y p q =
     subst (λ (l : List (List ℕ)). AreAnsweredBy A row m z l a c w y (turns ++ later)) (sym (ended_append cap line bytes more))
-    (answered_then M A ⊤ (λ _ _ _ _. ⊤) 0 row m n z (ended_lines cap line bytes) (ended_lines cap (begun_line cap line bytes) more) turns a b c w x y p later q)
+    (answered_then M A ⊤ (λ _ _ _ _ _. ⊤) 0 row m n z (ended_lines cap line bytes) (ended_lines cap (begun_line cap line bytes) more) turns a b c w x y p later q)

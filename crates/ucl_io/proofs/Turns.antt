@@ -90,36 +90,36 @@ module _ (M : Type 0) where
 
     -- ---- a machine that has no answer to the next
 
-    module _ (F : Type 0) (S : M → ℕ → List ℕ → F → Type 0) where
-      pub next_one : (row : ℕ) (m : M) (line : List ℕ) (fault : F) → S m row line fault → StopsNext S row m [] (line ∷ []) fault
-      next_one row m line fault h = record {
+    module _ (F : Type 0) (S : M → ℕ → List ℕ → M → F → Type 0) where
+      pub next_one : (row : ℕ) (m z : M) (line : List ℕ) (fault : F) → S m row line z fault → StopsNext S row m z [] (line ∷ []) fault
+      next_one row m z line fault h = record {
         line = line;
         later = [];
         next = refl;
-        stops = subst (λ (n : ℕ). S (state_after m []) n line fault) (omega arith) (subst (λ (k : M). S k row line fault) (sym (state_none m)) h);
+        stops = subst (λ (n : ℕ). S (state_after m []) n line z fault) (omega arith) (subst (λ (k : M). S k row line z fault) (sym (state_none m)) h);
       }
 
-      pub next_more : (row : ℕ) (m : M) (turns : List (Turn M)) (rest more : List (List ℕ)) (fault : F) → StopsNext S row m turns rest fault → StopsNext S row m turns (rest ++ more) fault
-      next_more row m turns rest more fault p = record {
+      pub next_more : (row : ℕ) (m z : M) (turns : List (Turn M)) (rest more : List (List ℕ)) (fault : F) → StopsNext S row m z turns rest fault → StopsNext S row m z turns (rest ++ more) fault
+      next_more row m z turns rest more fault p = record {
         line = p.line;
         later = p.later ++ more;
         next = ap (λ (l : List (List ℕ)). l ++ more) p.next;
         stops = p.stops;
       }
 
-      pub next_then : (row : ℕ) (m n : M) (lines rest : List (List ℕ)) (turns later : List (Turn M)) (fault : F) → AreGiven A row m lines turns [] → n ≡ state_after m turns
-          → StopsNext S (row + length lines) n later rest fault → StopsNext S row m (turns ++ later) rest fault
-      next_then row m n lines rest turns later fault p is q =
+      pub next_then : (row : ℕ) (m n z : M) (lines rest : List (List ℕ)) (turns later : List (Turn M)) (fault : F) → AreGiven A row m lines turns [] → n ≡ state_after m turns
+          → StopsNext S (row + length lines) n z later rest fault → StopsNext S row m z (turns ++ later) rest fault
+      next_then row m n z lines rest turns later fault p is q =
           let long = length-append turns later in
           let many = given_count row m lines turns p in record {
             line = q.line;
             later = q.later;
             next = q.next;
-            stops = subst (λ (k : ℕ). S (state_after m (turns ++ later)) k q.line fault) (omega arith)
-                (subst (λ (k : M). S k (row + length lines + length later) q.line fault) (both_states m n (state_after n later) turns later is refl) q.stops);
+            stops = subst (λ (k : ℕ). S (state_after m (turns ++ later)) k q.line z fault) (omega arith)
+                (subst (λ (k : M). S k (row + length lines + length later) q.line z fault) (both_states m n (state_after n later) turns later is refl) q.stops);
           }
 
-      pub left_then : (row : ℕ) (m n z : M) (lines rest : List (List ℕ)) (turns later : List (Turn M)) → AreGiven A row m lines turns [] → n ≡ state_after m turns
-          → IsLeft S (row + length lines) n z later rest → IsLeft S row m z (turns ++ later) rest
-      left_then row m n z lines rest turns later p is (inl e) = inl (both_states m n z turns later is e)
-      left_then row m n z lines rest turns later p is (inr s) = inr (s.0, next_then row m n lines rest turns later s.0 p is s.1)
+      pub left_then : (page row : ℕ) (m n z : M) (lines rest : List (List ℕ)) (turns later : List (Turn M)) → AreGiven A row m lines turns [] → n ≡ state_after m turns
+          → IsLeft S page (row + length lines) n z later rest → IsLeft S page row m z (turns ++ later) rest
+      left_then page row m n z lines rest turns later p is (inl e) = inl (both_states m n z turns later is e)
+      left_then page row m n z lines rest turns later p is (inr s) = inr (s.0, (s.1.0, next_then row m n z lines rest turns later s.1.0 p is s.1.1))

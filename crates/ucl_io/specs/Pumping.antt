@@ -11,12 +11,12 @@ use Rattle.ucl_io.specs.Turns.{AreGiven, IsLeft, KeptBack, StopsNext, Turn, line
 -- what a machine does with a line, and with what has begun of a last one
 pub record LineRules (M F : Type 0) : Type 1 where
   pub Answers : M → ℕ → List ℕ → M → List ℕ → Type 0
-  pub Stops : M → ℕ → List ℕ → F → Type 0
+  pub Stops : M → ℕ → List ℕ → M → F → Type 0
   pub Ends : M → ℕ → List ℕ → M → List ℕ → Type 0
-  pub StopsAtEnd : M → ℕ → List ℕ → F → Type 0
+  pub StopsAtEnd : M → ℕ → List ℕ → M → F → Type 0
 
-abbrev pub rules_of : {M F : Type 0} → (M → ℕ → List ℕ → M → List ℕ → Type 0) → (M → ℕ → List ℕ → F → Type 0) → (M → ℕ → List ℕ → M → List ℕ → Type 0)
-    → (M → ℕ → List ℕ → F → Type 0) → LineRules M F
+abbrev pub rules_of : {M F : Type 0} → (M → ℕ → List ℕ → M → List ℕ → Type 0) → (M → ℕ → List ℕ → M → F → Type 0) → (M → ℕ → List ℕ → M → List ℕ → Type 0)
+    → (M → ℕ → List ℕ → M → F → Type 0) → LineRules M F
 rules_of answers stops ends stops_at_end = record { Answers = answers; Stops = stops; Ends = ends; StopsAtEnd = stops_at_end }
 
 -- a source, a sink and a machine at one time: what the source has left and the sink has taken, where these are known
@@ -58,13 +58,13 @@ pub record HasClosed {M F : Type 0} (D : LineRules M F) (cap : ℕ) (old new : S
 pub record StopsLast {M F : Type 0} (D : LineRules M F) (cap : ℕ) (old new : Seen M) (bytes : List ℕ) (turns : List (Turn M)) (rest : List (List ℕ)) (fault : F) : Type 0 where
   pub ended : HasEnded old.left new.left
   pub all : rest ≡ []
-  pub stops : D.StopsAtEnd (state_after old.machine turns) (1 + length turns) (begun_line cap [] bytes) fault
+  pub stops : D.StopsAtEnd (state_after old.machine turns) (1 + length turns) (begun_line cap [] bytes) new.machine fault
 
 -- the text that was made when the sink failed after so many bytes: the answers of the turns; or also that to what has begun of a last line,
 -- once those are out
 abbrev pub HasMade : {M F : Type 0} → LineRules M F → ℕ → ℕ → Seen M → Seen M → List ℕ → List (Turn M) → List (List ℕ) → List ℕ → ℕ → Type 0
 HasMade D cap page old new bytes turns rest text count =
-    ((text ≡ text_in turns) × IsLeft D.Stops 1 old.machine new.machine turns rest × KeptBack page [] turns count)
+    ((text ≡ text_in turns) × IsLeft D.Stops page 1 old.machine new.machine turns rest × KeptBack page [] turns count)
     ⊎ ((last : List ℕ) × (text ≡ text_in turns ++ last) × HasClosed D cap old new bytes turns rest last × (length (text_in turns) ≤ count))
 
 abbrev pub PumpEnds : {M F : Type 0} → LineRules M F → ℕ → ℕ → Seen M → Seen M → Bool → List ℕ → List (Turn M) → List (List ℕ) → Result ℕ (PumpFault F) → Type 0
@@ -75,7 +75,7 @@ PumpEnds D cap page old new failed bytes turns rest (Err TooLong) = (2 ^ 62 < le
 PumpEnds D cap page old new failed bytes turns rest (Err (WriteFailed written)) =
     (text : List ℕ) × (count : ℕ) × HasMade D cap page old new bytes turns rest text count × StoppedAt 0 failed old.taken new.taken text written count
 PumpEnds D cap page old new failed bytes turns rest (Err (Machine fault)) =
-    (StopsNext D.Stops 1 old.machine turns rest fault ⊎ StopsLast D cap old new bytes turns rest fault) × Appends old.taken new.taken (text_in turns)
+    (StopsNext D.Stops 1 old.machine new.machine turns rest fault ⊎ StopsLast D cap old new bytes turns rest fault) × Appends old.taken new.taken (text_in turns)
 
 -- a run, whatever it came to: which bytes it took, by which turns the first of their lines were answered, and how it ended
 pub record Pumped {M F : Type 0} (D : LineRules M F) (cap page : ℕ) (old new : Seen M) (failed : Bool) (result : Result ℕ (PumpFault F)) (Prompt : List (Turn M) → Type 0) : Type 0 where

@@ -62,56 +62,56 @@ pub record AnswersStop {M : Type 0} (Answers : M → ℕ → List ℕ → M → 
   pub stopped : StoppedAt before.out failed old new (before.held ++ text_in turns) written count
   pub kept : KeptBack page before.held turns count
 
--- the machine has no answer to the first of the rest
-pub record StopsNext {M F : Type 0} (Stops : M → ℕ → List ℕ → F → Type 0) (row : ℕ) (m : M) (turns : List (Turn M)) (rest : List (List ℕ)) (fault : F) : Type 0 where
+-- the machine has no answer to the first of the rest, and is m2 then
+pub record StopsNext {M F : Type 0} (Stops : M → ℕ → List ℕ → M → F → Type 0) (row : ℕ) (m m2 : M) (turns : List (Turn M)) (rest : List (List ℕ)) (fault : F) : Type 0 where
   pub line : List ℕ
   pub later : List (List ℕ)
   pub next : rest ≡ line ∷ later
-  pub stops : Stops (state_after m turns) (row + length turns) line fault
+  pub stops : Stops (state_after m turns) (row + length turns) line m2 fault
 
 -- so it was with a line; those before it were answered, whole
-pub record LineStops {M F : Type 0} (Answers : M → ℕ → List ℕ → M → List ℕ → Type 0) (Stops : M → ℕ → List ℕ → F → Type 0) (row : ℕ) (m : M) (lines : List (List ℕ)) (before after : Waiting)
+pub record LineStops {M F : Type 0} (Answers : M → ℕ → List ℕ → M → List ℕ → Type 0) (Stops : M → ℕ → List ℕ → M → F → Type 0) (row : ℕ) (m m2 : M) (lines : List (List ℕ)) (before after : Waiting)
     (old new : Option (List ℕ)) (fault : F) : Type 0 where
   pub turns : List (Turn M)
   pub rest : List (List ℕ)
   pub given : AreGiven Answers row m lines turns rest
-  pub stops : StopsNext Stops row m turns rest fault
+  pub stops : StopsNext Stops row m m2 turns rest fault
   pub put : HasPut before after old new (text_in turns)
 
-abbrev pub FailsToAnswer : {M F : Type 0} → (M → ℕ → List ℕ → M → List ℕ → Type 0) → (M → ℕ → List ℕ → F → Type 0) → ℕ → ℕ → M → M → List (List ℕ) → Waiting → Waiting
+abbrev pub FailsToAnswer : {M F : Type 0} → (M → ℕ → List ℕ → M → List ℕ → Type 0) → (M → ℕ → List ℕ → M → F → Type 0) → ℕ → ℕ → M → M → List (List ℕ) → Waiting → Waiting
     → Bool → Option (List ℕ) → Option (List ℕ) → PumpFault F → Type 0
 FailsToAnswer Answers Stops page row m m2 lines before after failed old new (WriteFailed written) = AnswersStop Answers page row m m2 lines before failed old new written
-FailsToAnswer Answers Stops page row m m2 lines before after failed old new (Machine fault) = LineStops Answers Stops row m lines before after old new fault
+FailsToAnswer Answers Stops page row m m2 lines before after failed old new (Machine fault) = LineStops Answers Stops row m m2 lines before after old new fault
 FailsToAnswer Answers Stops page row m m2 lines before after failed old new _ = ⊥
 
 -- ---- the same once the answers were given to the sink
 
--- the machine is as the turns left it, or has no answer to the next line
-abbrev pub IsLeft : {M F : Type 0} → (M → ℕ → List ℕ → F → Type 0) → ℕ → M → M → List (Turn M) → List (List ℕ) → Type 0
-IsLeft {M} {F} Stops row m m2 turns rest = (m2 ≡ state_after m turns) ⊎ ((fault : F) × StopsNext Stops row m turns rest fault)
+-- the machine is as the turns left it; or answers may wait, and it has no answer to the next line
+abbrev pub IsLeft : {M F : Type 0} → (M → ℕ → List ℕ → M → F → Type 0) → ℕ → ℕ → M → M → List (Turn M) → List (List ℕ) → Type 0
+IsLeft {M} {F} Stops page row m m2 turns rest = (m2 ≡ state_after m turns) ⊎ ((1 ≤ page) × ((fault : F) × StopsNext Stops row m m2 turns rest fault))
 
-pub record GivesShort {M F : Type 0} (Answers : M → ℕ → List ℕ → M → List ℕ → Type 0) (Stops : M → ℕ → List ℕ → F → Type 0) (page row : ℕ) (m m2 : M) (lines : List (List ℕ)) (out : ℕ)
+pub record GivesShort {M F : Type 0} (Answers : M → ℕ → List ℕ → M → List ℕ → Type 0) (Stops : M → ℕ → List ℕ → M → F → Type 0) (page row : ℕ) (m m2 : M) (lines : List (List ℕ)) (out : ℕ)
     (failed : Bool) (old new : Option (List ℕ)) (written : ℕ) : Type 0 where
   pub turns : List (Turn M)
   pub rest : List (List ℕ)
   pub given : AreGiven Answers row m lines turns rest
-  pub left : IsLeft Stops row m m2 turns rest
+  pub left : IsLeft Stops page row m m2 turns rest
   pub count : ℕ
   pub stopped : StoppedAt out failed old new (text_in turns) written count
   pub kept : KeptBack page [] turns count
 
-pub record GivesUp {M F : Type 0} (Answers : M → ℕ → List ℕ → M → List ℕ → Type 0) (Stops : M → ℕ → List ℕ → F → Type 0) (row : ℕ) (m : M) (lines : List (List ℕ))
+pub record GivesUp {M F : Type 0} (Answers : M → ℕ → List ℕ → M → List ℕ → Type 0) (Stops : M → ℕ → List ℕ → M → F → Type 0) (row : ℕ) (m m2 : M) (lines : List (List ℕ))
     (old new : Option (List ℕ)) (fault : F) : Type 0 where
   pub turns : List (Turn M)
   pub rest : List (List ℕ)
   pub given : AreGiven Answers row m lines turns rest
-  pub stops : StopsNext Stops row m turns rest fault
+  pub stops : StopsNext Stops row m m2 turns rest fault
   pub out : Appends old new (text_in turns)
 
-abbrev pub FailsInBytes : {M F : Type 0} → (M → ℕ → List ℕ → M → List ℕ → Type 0) → (M → ℕ → List ℕ → F → Type 0) → ℕ → ℕ → M → M → List (List ℕ) → ℕ
+abbrev pub FailsInBytes : {M F : Type 0} → (M → ℕ → List ℕ → M → List ℕ → Type 0) → (M → ℕ → List ℕ → M → F → Type 0) → ℕ → ℕ → M → M → List (List ℕ) → ℕ
     → Bool → Option (List ℕ) → Option (List ℕ) → PumpFault F → Type 0
 FailsInBytes Answers Stops page row m m2 lines out failed old new (WriteFailed written) = GivesShort Answers Stops page row m m2 lines out failed old new written
-FailsInBytes Answers Stops page row m m2 lines out failed old new (Machine fault) = GivesUp Answers Stops row m lines old new fault
+FailsInBytes Answers Stops page row m m2 lines out failed old new (Machine fault) = GivesUp Answers Stops row m m2 lines old new fault
 FailsInBytes Answers Stops page row m m2 lines out failed old new _ = ⊥
 
 -- ---- what has begun of a last line
@@ -126,10 +126,10 @@ pub record EndStops {M : Type 0} (Ends : M → ℕ → List ℕ → M → List �
   pub last : Ends m row begun m2 text
   pub stopped : StoppedShort out failed old new text written
 
-abbrev pub FailsAtEnd : {M F : Type 0} → (M → ℕ → List ℕ → M → List ℕ → Type 0) → (M → ℕ → List ℕ → F → Type 0) → ℕ → M → M → List ℕ → ℕ
+abbrev pub FailsAtEnd : {M F : Type 0} → (M → ℕ → List ℕ → M → List ℕ → Type 0) → (M → ℕ → List ℕ → M → F → Type 0) → ℕ → M → M → List ℕ → ℕ
     → Bool → Option (List ℕ) → Option (List ℕ) → PumpFault F → Type 0
 FailsAtEnd Ends Stops row m m2 begun out failed old new (WriteFailed written) = EndStops Ends row m m2 begun out failed old new written
-FailsAtEnd Ends Stops row m m2 begun out failed old new (Machine fault) = Stops m row begun fault × (new ≡ old)
+FailsAtEnd Ends Stops row m m2 begun out failed old new (Machine fault) = Stops m row begun m2 fault × (new ≡ old)
 FailsAtEnd Ends Stops row m m2 begun out failed old new _ = ⊥
 
 -- a text was not put after what waited

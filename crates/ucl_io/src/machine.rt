@@ -39,13 +39,13 @@ pub trait LineMachine {
     // In the first state it answers the line of this number so, and is in the second state then.
     ghost answers: { Self → ℕ → List ℕ → Self → List ℕ → Type 0 };
 
-    // In this state it has no answer to the line of this number, for this reason.
-    ghost stops: { Self → ℕ → List ℕ → Self.Fault → Type 0 };
+    // In the first state it has no answer to the line of this number, for this reason, and is in the second state then.
+    ghost stops: { Self → ℕ → List ℕ → Self → Self.Fault → Type 0 };
 
     // The same where the input ends, and a last line of this number has begun so: it may have no byte.
     ghost ends: { Self → ℕ → List ℕ → Self → List ℕ → Type 0 };
 
-    ghost stops_at_end: { Self → ℕ → List ℕ → Self.Fault → Type 0 };
+    ghost stops_at_end: { Self → ℕ → List ℕ → Self → Self.Fault → Type 0 };
 
     /// Answers the line of this number, which comes without its line feed. The answer takes the place of the one before.
     fn answer(&mut self, row: u64, line: &[u8], text: &mut Self::Answer) -> Result<(), Self::Fault>
@@ -53,7 +53,7 @@ pub trait LineMachine {
         ensures ready { ready self.new }
         ensures answers { OnOk result
             (answers self.old row line.now self.new (Self.Answer.bytes text.new)) }
-        ensures stops { IfErr result (stops self.old row line.now) };
+        ensures stops { IfErr result (stops self.old row line.now self.new) };
 
     /// Answers what has begun of a last line, which has no end.
     fn end(&mut self, row: u64, begun: &[u8], text: &mut Self::Answer) -> Result<(), Self::Fault>
@@ -61,5 +61,5 @@ pub trait LineMachine {
         ensures ready { ready self.new }
         ensures answers { OnOk result
             (ends self.old row begun.now self.new (Self.Answer.bytes text.new)) }
-        ensures stops { IfErr result (stops_at_end self.old row begun.now) };
+        ensures stops { IfErr result (stops_at_end self.old row begun.now self.new) };
 }

@@ -39,8 +39,8 @@ module _ (T : Type 0) where
   abbrev Ends : M → ℕ → List ℕ → M → List ℕ → Type 0
   Ends m row begun n text = (n.shape ≡ m.shape) × (n.following ≡ m.following) × (text ≡ resuming_text m.shape m.following.newest)
 
-  abbrev RanOut : M → ℕ → List ℕ → OutOfMemory → Type 0
-  RanOut m row line fault = ⊤
+  abbrev RanOut : M → ℕ → List ℕ → M → OutOfMemory → Type 0
+  RanOut m row line n fault = ⊤
 
   -- ---- what turns come to
 

@@ -29,14 +29,14 @@ use Rattle.ucl_runs.proofs.Silence.{is_open, missing-shut, refused-shut, shut-li
 abbrev Answers : Held → ℕ → List ℕ → Held → List ℕ → Type 0
 Answers m row line n text = (evening_of n (row + 1) ≡ next (evening_of m row) (said_on row line)) × (text ≡ answer_said (evening_of m row) (said_on row line) (shown_text line))
 
-abbrev Stops : Held → ℕ → List ℕ → LiveFault → Type 0
-Stops m row line fault = HasNoAnswer (evening_of m row) (said_on row line) fault
+abbrev Stops : Held → ℕ → List ℕ → Held → LiveFault → Type 0
+Stops m row line n fault = HasNoAnswer (evening_of m row) (said_on row line) fault
 
 abbrev Ends : Held → ℕ → List ℕ → Held → List ℕ → Type 0
 Ends m row begun n text = Closes (evening_of m row) begun text
 
-abbrev StopsAtEnd : Held → ℕ → List ℕ → LiveFault → Type 0
-StopsAtEnd m row begun fault = HasNoEnd (evening_of m row) begun fault
+abbrev StopsAtEnd : Held → ℕ → List ℕ → Held → LiveFault → Type 0
+StopsAtEnd m row begun n fault = HasNoEnd (evening_of m row) begun fault
 
 -- ---- what turns come to
 
@@ -101,13 +101,13 @@ module _ (old new : Seen Held) where
 
     -- ---- a refused evening, which has answered nothing
 
-    line_refused : (fault : BeginningFault) → StopsNext Stops 1 old.machine turns rest (Beginning fault) → (after_bytes start bytes).stage ≡ Refused fault
+    line_refused : (fault : BeginningFault) → StopsNext Stops 1 old.machine new.machine turns rest (Beginning fault) → (after_bytes start bytes).stage ≡ Refused fault
     line_refused fault s =
         let lines = p.lines_are ∙ ap (λ (l : List (List ℕ)). lines_in turns ++ l) s.next in
         let after = after-append start (lines_in turns) (s.line ∷ s.later) ∙ ap (λ (k : Evening). after_lines k (s.line ∷ s.later)) (sym reaches) ∙ after-one reached s.line s.later in
         ap (λ (k : Evening). k.stage) (ap (after_lines start) lines ∙ after) ∙ stays-refused (next reached (said_on reached.row s.line)) s.later fault s.stops
 
-    line_silent : (fault : BeginningFault) → StopsNext Stops 1 old.machine turns rest (Beginning fault) → text_in turns ≡ []
+    line_silent : (fault : BeginningFault) → StopsNext Stops 1 old.machine new.machine turns rest (Beginning fault) → text_in turns ≡ []
     line_silent fault s =
         let lines = p.lines_are ∙ ap (λ (l : List (List ℕ)). lines_in turns ++ l) s.next in
         let shut = refused-shut _ fault (line_refused fault s) in
@@ -128,7 +128,7 @@ module _ (old new : Seen Held) where
       abbrev after : Device
       after = record { left = new.left; source_failed = z; taken = new.taken; sink_failed = sink_failed }
 
-      line_asks : StopsNext Stops 1 old.machine turns rest OutOfMemory → Appends old.taken new.taken (text_in turns) → RanOut start bytes before after
+      line_asks : StopsNext Stops 1 old.machine new.machine turns rest OutOfMemory → Appends old.taken new.taken (text_in turns) → RanOut start bytes before after
       line_asks s out =
           let at = cut_at 258 [] bytes (lines_in turns) s.line s.later (p.lines_are ∙ ap (λ (l : List (List ℕ)). lines_in turns ++ l) s.next) in
           let here : reached ≡ after_bytes start at.front = reaches ∙ ap (after_lines start) (sym at.before) in
@@ -152,7 +152,7 @@ module _ (old new : Seen Held) where
         asks = subst (λ (k : Evening). AsksForMemory k (said_on k.row begun)) (all_reached e.all) e.stops;
       }
 
-      stops : (fault : LiveFault) → (StopsNext Stops 1 old.machine turns rest fault ⊎ StopsLast (rules_of Answers Stops Ends StopsAtEnd) 258 old new bytes turns rest fault)
+      stops : (fault : LiveFault) → (StopsNext Stops 1 old.machine new.machine turns rest fault ⊎ StopsLast (rules_of Answers Stops Ends StopsAtEnd) 258 old new bytes turns rest fault)
           → Appends old.taken new.taken (text_in turns) → LiveFailsAfter start bytes before after (Machine fault)
       stops OutOfMemory (inl s) out = line_asks s out
       stops OutOfMemory (inr e) out = end_asks e out

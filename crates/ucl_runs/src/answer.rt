@@ -1,6 +1,6 @@
 //! Single answers, each in its format.
 
-ghost use Rattle.std.specs.Prelude.{◌≡◌, ◌<◌, ◌≤◌, ◌-◌, ◌^◌, ◌++◌, IfErr, IfOk};
+ghost use Rattle.std.specs.Prelude.{◌≡◌, ◌<◌, ◌≤◌, ◌-◌, ◌^◌, ◌++◌, [], IfErr, IfOk};
 ghost use Rattle.arrayvec.specs.ArrayString.{array_string_len};
 ghost use Rattle.ucl_word.specs.Names.{refusal_text};
 ghost use Rattle.ucl_screen.specs.Screen.{IsGroup};
@@ -15,8 +15,11 @@ use crate::stage::Table;
 use arrayvec::ArrayString;
 use itoa::Buffer;
 use std::alloc::{AllocError, Global};
+use ucl_board::Board;
 use ucl_command::Format;
+use ucl_io::Text;
 use ucl_json::{Title, bad_row_json, edition_screen_json, matches_json, reply_json};
+use ucl_order::Roster;
 use ucl_screen::{NightEvent, matches, screen};
 use ucl_word::{Accepted, OutOfMemory, Refusal};
 
@@ -32,7 +35,32 @@ pub enum Answer {
     Long(String),
 }
 
+impl Text for Answer {
+    ghost bytes = { bytes_of };
+
+    ghost front = { bytes_of };
+
+    fn new() -> Answer {
+        Answer::nothing()
+    }
+
+    fn front(&self) -> &[u8] {
+        self.bytes()
+    }
+
+    fn back(&self) -> &[u8] {
+        b"".as_slice()
+    }
+}
+
 impl Answer {
+    /// No answer.
+    pub fn nothing() -> Answer
+        ensures { bytes_of result ≡ [] }
+    {
+        Answer::Short(ReplyLine::new())
+    }
+
     /// The bytes of the answer.
     pub(crate) fn bytes(&self) -> &[u8]
         ensures { result.now ≡ bytes_of self.now }
@@ -45,7 +73,7 @@ impl Answer {
 }
 
 /// The line of an event that was entered.
-pub fn accepted_line(row: u64, game: u8, number: u16, version: u16) -> ReplyLine
+fn accepted_line(row: u64, game: u8, number: u16, version: u16) -> ReplyLine
     ensures { result.bytes ≡ accepted_line row game number version }
 {
     let mut line = ArrayString::new();
@@ -76,7 +104,7 @@ fn push_refusal(line: &mut ReplyLine, refusal: Refusal)
 }
 
 /// The line of an event that was refused.
-pub fn refused_line(row: u64, refusal: Refusal) -> ReplyLine
+fn refused_line(row: u64, refusal: Refusal) -> ReplyLine
     ensures { result.bytes ≡ refused_line row refusal }
 {
     let mut line = ArrayString::new();
@@ -88,7 +116,7 @@ pub fn refused_line(row: u64, refusal: Refusal) -> ReplyLine
 }
 
 /// The line of a row that asks for nothing that there is.
-pub fn bad_line(row: u64) -> ReplyLine
+fn bad_line(row: u64) -> ReplyLine
     ensures { result.bytes ≡ bad_line row }
 {
     let mut line = ArrayString::new();
@@ -108,8 +136,12 @@ fn reply_line(row: u64, game: u8, before: u16, reply: Result<Accepted, Refusal>)
     }
 }
 
-/// The reply to an event, where so many events were accepted before, and the table is that after it.
-pub(crate) fn reply_answer(
+/// The reply to an event, where so many events were accepted before, and the board is one after it.
+///
+/// # Errors
+///
+/// Where there is no memory for an answer in JSON.
+pub fn reply_answer(
     alloc: Global,
     format: Format,
     title: Title,
@@ -117,30 +149,29 @@ pub(crate) fn reply_answer(
     event: &NightEvent,
     before: u16,
     reply: Result<Accepted, Refusal>,
-    after: &Table,
+    board: &Board,
+    roster: &Roster,
 ) -> Result<Answer, AllocError>
     requires few { before < 2 ^ 16 - 1 }
     requires letter { IsGroup title.group }
     ensures text { IfOk result (λ answer. bytes_of answer
-        ≡ reply_answer format title row after.now.roster event.now before reply after.now.board) }
+        ≡ reply_answer format title row roster.now event.now before reply board.now) }
     ensures memory { IfErr result (λ _. format ≡ Format.Json) }
 {
     match format {
         Format::Text => Ok(Answer::Short(reply_line(row, event.call.game.get(), before, reply))),
         Format::Json => Ok(Answer::Long(reply_json(
-            alloc,
-            row,
-            event,
-            reply,
-            &after.board,
-            &after.roster,
-            title,
+            alloc, row, event, reply, board, roster, title,
         )?)),
     }
 }
 
 /// The answer to a row that asks for nothing that there is, for this field.
-pub(crate) fn bad_answer(
+///
+/// # Errors
+///
+/// Where there is no memory for an answer in JSON.
+pub fn bad_answer(
     alloc: Global,
     format: Format,
     row: u64,

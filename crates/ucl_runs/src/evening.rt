@@ -149,11 +149,11 @@ impl LineMachine for Evening {
         (evening_of n (row + 1) ≡ next (evening_of m row) (said_on row line))
         × (text ≡ answer_said (evening_of m row) (said_on row line) (shown_text line)) };
 
-    ghost stops = { λ m row line fault. HasNoAnswer (evening_of m row) (said_on row line) fault };
+    ghost stops = { λ m row line _ fault. HasNoAnswer (evening_of m row) (said_on row line) fault };
 
     ghost ends = { λ m row begun _ text. Closes (evening_of m row) begun text };
 
-    ghost stops_at_end = { λ m row begun fault. HasNoEnd (evening_of m row) begun fault };
+    ghost stops_at_end = { λ m row begun _ fault. HasNoEnd (evening_of m row) begun fault };
 
     fn answer(&mut self, row: u64, line: &[u8], text: &mut Parts) -> Result<(), LiveFault> {
         if let Some(four) = plain_row(row, line) {

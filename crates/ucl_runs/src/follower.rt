@@ -128,13 +128,13 @@ impl<T: Sink> LineMachine for Follower<T> {
     ghost answers = { λ m row line n text. IsHeard m n (moment_on line)
         × (text ≡ told_text (shape_of m) (following_of m) (moment_on line)) };
 
-    ghost stops = { λ _ _ _ _. ⊤ };
+    ghost stops = { λ _ _ _ _ _. ⊤ };
 
     ghost ends = { λ m row begun n text. (shape_of n ≡ shape_of m)
         × (following_of n ≡ following_of m)
         × (text ≡ resuming_text (shape_of m) (following_of m).newest) };
 
-    ghost stops_at_end = { λ _ _ _ _. ⊤ };
+    ghost stops_at_end = { λ _ _ _ _ _. ⊤ };
 
     fn answer(&mut self, _row: u64, line: &[u8], text: &mut Sight) -> Result<(), OutOfMemory> {
         let told = moment_on(self.alloc, line)?;

@@ -5,7 +5,7 @@ ghost use Rattle.ucl_runs.specs.Feed.{word_lines};
 ghost use Rattle.ucl_runs.specs.Seen.{bytes_of};
 ghost use Rattle.ucl_runs.specs.Holding.{parts_bytes, parts_front};
 
-use crate::answer::{Answer, ReplyLine};
+use crate::answer::Answer;
 use crate::words::{Lines, word_lines};
 use ucl_board::Board;
 use ucl_io::Text;
@@ -26,7 +26,7 @@ impl Text for Parts {
 
     fn new() -> Parts {
         Parts {
-            first: Answer::Short(ReplyLine::new()),
+            first: Answer::nothing(),
             second: None,
             words: Lines::new(),
             is_words: false,
@@ -54,7 +54,7 @@ impl Parts {
     pub(crate) fn put_nothing(&mut self)
         ensures { parts_bytes self.new ≡ [] }
     {
-        self.put(Answer::Short(ReplyLine::new()));
+        self.put(Answer::nothing());
     }
 
     /// This answer.

@@ -47,7 +47,8 @@ impl Table {
             event,
             before,
             reply,
-            self,
+            &self.board,
+            &self.roster,
         )?;
         if options.screens && reply.is_ok() {
             let screen = screen_answer(alloc, options.format, title, row, self)?;

@@ -31,6 +31,10 @@ at most 256 bytes, and one with nothing on it is passed over and counted
   LINE refused CODE NAME         it is refused, for the reason of this name
   LINE refused 20 bad-row        the line is no such row
 
+With --format json each answer is an object on a line, as ucl_live writes it: that
+to an accepted event has the clubs and the words of the board after it, and
+stands for itself: after a crash, awk 1 OUT.. | ucl_follow --resume > NEXT.
+
 Events:
   kickoff, goal-home, goal-away, disallow-home, disallow-away, yellow-home,
   yellow-away, second-yellow-home, second-yellow-away, red-home, red-away,
@@ -80,6 +84,11 @@ answers go; 1 to 16 times";
 
 /// What `--screen` is.
 pub(crate) const SCREEN: &str = "Where a screen goes, as text";
+
+/// What `--format` is.
+pub(crate) const FORMAT: &str = "\
+The form of all reporters' answers; screens have
+theirs by --screen and --json";
 
 /// What `--json` is.
 pub(crate) const JSON: &str = "\

@@ -2,13 +2,16 @@
 
 ghost use Rattle.std.specs.Prelude.{◌≡◌};
 
+use crate::threads::screens::{roster, shape};
 use std::alloc::Global;
 use std::sync::Wait;
 use std::test::Fail;
 use ucl_runs::{LineReader, RunFault};
+use ucl_command::Format;
 use ucl_devices::{Cut, Full, Out};
 use ucl_evenings::{Reporter, Ring, take_rows};
 use ucl_io::Duplex;
+use ucl_order::Roster;
 use ucl_screen::{FromRead, InputFault, ToWrite};
 use ucl_shared::LiveBoard;
 use ucl_words::WordBoard;
@@ -38,6 +41,7 @@ fn told_on<B: LiveBoard, R: Wait>(
     alloc: Global,
     board: &B,
     reader: &mut B::ReaderPass,
+    roster: &Roster,
     text: &[u8],
     piece: usize,
     rooms: (usize, usize),
@@ -64,7 +68,10 @@ fn told_on<B: LiveBoard, R: Wait>(
         });
         let mut reporter = Reporter {
             rt,
+            alloc,
             board,
+            roster,
+            shape: shape(Format::Text),
             pass,
             bells: Counting { rung: 0 },
             lines: LineReader::new(),
@@ -73,7 +80,10 @@ fn told_on<B: LiveBoard, R: Wait>(
         let answer = take_rows(&mut reporter, &mut duplex);
         let Reporter {
             rt: _,
+            alloc: _,
             board: _,
+            roster: _,
+            shape: _,
             pass: _,
             bells,
             lines: _,
@@ -114,6 +124,7 @@ fn has_written(told: &Option<Told>, text: &str, rings: u32) -> bool {
 #[test]
 fn two_reporters_on_one_board(rt: HostRuntime) -> Result<(), Fail> {
     let alloc = rt.alloc();
+    let roster = roster(alloc)?;
     for piece in [1, 5, 64] {
         let (board, mut reader) = WordBoard::open(&rt, alloc)?;
         let north = told_on(
@@ -121,6 +132,7 @@ fn two_reporters_on_one_board(rt: HostRuntime) -> Result<(), Fail> {
             alloc,
             &board,
             &mut reader,
+            &roster,
             NORTH.as_bytes(),
             piece,
             AMPLE,
@@ -130,6 +142,7 @@ fn two_reporters_on_one_board(rt: HostRuntime) -> Result<(), Fail> {
             alloc,
             &board,
             &mut reader,
+            &roster,
             SOUTH.as_bytes(),
             piece,
             AMPLE,
@@ -154,12 +167,14 @@ fn has_failed(told: &Option<Told>, fault: RunFault, text: &str, rings: u32) -> b
 #[test]
 fn devices_that_fail(rt: HostRuntime) -> Result<(), Fail> {
     let alloc = rt.alloc();
+    let roster = roster(alloc)?;
     let (board, mut reader) = WordBoard::open(&rt, alloc)?;
     let cut = told_on(
         &rt,
         alloc,
         &board,
         &mut reader,
+        &roster,
         NORTH.as_bytes(),
         5,
         (20, usize::MAX),
@@ -171,6 +186,7 @@ fn devices_that_fail(rt: HostRuntime) -> Result<(), Fail> {
         alloc,
         &board,
         &mut reader,
+        &roster,
         SOUTH.as_bytes(),
         64,
         (usize::MAX, 3),

@@ -63,13 +63,26 @@ fn club(alloc: Global, name: &str, coefficient: u32) -> Result<Club, Fail> {
     })
 }
 
-fn roster(alloc: Global) -> Result<Roster, Fail> {
+/// The four clubs of the tests.
+pub(super) fn roster(alloc: Global) -> Result<Roster, Fail> {
     Ok(Roster::new([
         club(alloc, "Alpha", 60000)?,
         club(alloc, "Bravo", 95000)?,
         club(alloc, "Charlie", 60000)?,
         club(alloc, "Delta", 81500)?,
     ])?)
+}
+
+/// Group A by the Regulations, in this form.
+pub(super) fn shape(format: Format) -> Shape {
+    Shape {
+        title: Title {
+            group: b'A',
+            profile: Profile::Uefa,
+            edition: 0,
+        },
+        format,
+    }
 }
 
 /// The screens before and after match 1 has kicked off.
@@ -93,14 +106,7 @@ fn shown<R: Wait>(rt: &R, alloc: Global, roster: &Roster, room: usize) -> Result
     let (board, mut reader) = WordBoard::open(rt, alloc)?;
     let pass = board.split_now(&mut reader);
     let reporter = board.enlist_now(pass).ok().ok_or("no number")?;
-    let shape = Shape {
-        title: Title {
-            group: b'A',
-            profile: Profile::Uefa,
-            edition: 0,
-        },
-        format: Format::Text,
-    };
+    let shape = shape(Format::Text);
     let mut bell = KickOff {
         board: &board,
         reporter,

@@ -48,7 +48,8 @@ returns-clause-held g c =
       since = begins_through first p.seen (whole p z last read.always read.reading) (begins_through first heard p.seen early before) on;
       kept = c.in_ok-entered.ensures.kept;
       theirs = theirs_at_end p z last read.always read.reading heard ran.early _ _ since ran.on c.in_ok-entered.ensures.heard ran.heard all;
-      reported = reported_at_end live board g.S.Source g.W.Sink first looked p.seen (whole p z last read.always read.reading) _ _ _ split on c.in_ok-all.ensures.enlisted ran.run (seen_on ran.early p.seen _ ran.on ran.heard);
+      reported = reported_at_end live board g.S.Source g.W.Sink c.args.roster.now first looked p.seen
+          (whole p z last read.always read.reading) _ _ _ split on c.in_ok-all.ensures.enlisted ran.run (seen_on ran.early p.seen _ ran.on ran.heard);
       shown = shown_at_end live board g.V.Sink c.args.roster.now first heard p.seen (whole p z last read.always read.reading) last.version _ _ _ _ early on
           (whole_long p z last read.always read.reading) (early_long p z last read.always read.reading heard ran.early _ _ since ran.on c.in_ok-entered.ensures.heard ran.heard all)
           c.in_ok-screens.ensures.looking ran.shown;
@@ -65,7 +66,7 @@ returns-clause-shares g c =
     split_both (known c.args.pass).share (known c.hear_all.new.pass).share _ (known c.enlist_all.new.pass).share (known c.read-last.new.pass).share _ _ _ _
     (stays_share _ _ c.hear_all.ensures.always) c.in_ok-screens.ensures.split c.in_ok-all.ensures.split
     (maps_same (KeepsShare g.B.LiveBoard) _ _ (λ looking end same. same) _ _ ran.kept)
-    (maps_same (HasRun g.B.LiveBoard c.args.board.now g.S.Source g.W.Sink) _ _ (λ enlisted end h. h.took.reported.rows.always.on.share) _ _ ran.run)
+    (maps_same (HasRun g.B.LiveBoard c.args.board.now g.S.Source g.W.Sink c.args.roster.now) _ _ (λ enlisted end h. h.took.reported.rows.always.on.share) _ _ ran.run)
     (c.read-last.ensures.always.on.share ∙ stays_share _ _ c.in_ok-pass.ensures.always)
 
 pub returns-then-not-is_theirs-clause-kinds : goal.returns-then-not-is_theirs-clause-kinds
@@ -89,7 +90,7 @@ returns-then-not-is_theirs-clause-kinds g c =
       own = read.own;
       high = read.reading.high;
       kept = c.in_ok-entered.ensures.kept;
-      reported = reported_at_end live c.args.board.now g.S.Source g.W.Sink first looked p.seen _ _ _ _ (subst (IsPrefix first) (sym c.look_all.ensures.seen) early)
+      reported = reported_at_end live c.args.board.now g.S.Source g.W.Sink c.args.roster.now first looked p.seen _ _ _ _ (subst (IsPrefix first) (sym c.look_all.ensures.seen) early)
           (begins_whole p z c.read-last.result read.always read.reading) c.in_ok-all.ensures.enlisted ran.run (seen_on ran.early p.seen _ ran.on ran.heard);
       heard = heard_at_end p z c.read-last.result read.always read.reading heard ran.early _ _ since ran.on c.in_ok-entered.ensures.heard ran.heard;
       others = rw (c.deref-2.ensures.value, c.deref-3.ensures.value) at (c.are_all_of-is_theirs.ensures.others c.if-not-is_theirs.true);

@@ -17,18 +17,18 @@ pub returns-clause-always : goal.returns-clause-always
 returns-clause-always g t c = goes_then _ _ _ c.run_reporters.ensures.always (inl c.hear_reporter.ensures.always)
 
 pub returns-in_default-clause-run : goal.returns-in_default-clause-run
-returns-in_default-clause-run g t c = zip_none (HasRun g.B.LiveBoard c.args.board.now g.S.Source g.W.Sink) _ _ c.in_default.ensures.none c.new.ensures.items
+returns-in_default-clause-run g t c = zip_none (HasRun g.B.LiveBoard c.args.board.now g.S.Source g.W.Sink c.args.roster.now) _ _ c.in_default.ensures.none c.new.ensures.items
 
 pub returns-clause-run : goal.returns-clause-run
 returns-clause-run g t c =
     let one = c.hear_reporter.ensures in
-    let run : HasRun g.B.LiveBoard c.args.board.now g.S.Source g.W.Sink c.in-Some.enlisted c.join-end.result =
-    rw (c.in_ok-worker.ensures.board, c.in_ok-worker.ensures.enlisted) at c.join-end.ensures in
+    let run : HasRun g.B.LiveBoard c.args.board.now g.S.Source g.W.Sink c.args.roster.now c.in-Some.enlisted c.join-end.result =
+    rw (c.in_ok-worker.ensures.board, c.in_ok-worker.ensures.roster, c.in_ok-worker.ensures.enlisted) at c.join-end.ensures in
     rw (c.in-Some.ensures.some, c.in_ok-put.ensures.items)
-    (zip_push (HasRun g.B.LiveBoard c.args.board.now g.S.Source g.W.Sink) _ _ _ _ c.in_ok-ends.ensures.run
+    (zip_push (HasRun g.B.LiveBoard c.args.board.now g.S.Source g.W.Sink c.args.roster.now) _ _ _ _ c.in_ok-ends.ensures.run
     (record {
       own = one.own.1;
-      took = took_later _ _ _ _ _ _ _ _ _ _ _ (λ outcomes h. h) run.took one.unchanged one.reported;
+      took = took_later _ _ _ _ _ _ _ _ _ _ _ _ (λ outcomes h. h) run.took one.unchanged one.reported;
       read_failed = run.read_failed;
       served = run.served;
     }))

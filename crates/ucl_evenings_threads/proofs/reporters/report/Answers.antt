@@ -6,7 +6,7 @@ returns g c =
     let t = rw (c.new-duplex.ensures.source, c.new-duplex.ensures.sink) at c.take_rows-result.ensures.took in
     record {
       own = c.take_rows-result.ensures.own;
-      took = took_plain _ _ _ _ _ _ _ _ t;
+      took = took_plain _ _ _ _ _ _ _ _ _ t;
       read_failed = c.take_rows-result.ensures.read_failed;
       served = served_by g.W.Sink c.args.enlisted.replies c.take_rows-result.new.duplex.sink c.take_rows-result.result
           (rw c.new-duplex.ensures.sink at c.take_rows-result.ensures.sink_sound)

@@ -1,52 +1,112 @@
-use Rattle.std.proofs.Common.{[], ◌∷◌, refl, sym, ◌∙◌}
-use Rattle.ucl_evenings.specs.declared.input.Input.TheVariants.{Nothing, Bad, Event}
-use Rattle.ucl_evenings.specs.declared.outcome.Outcome.TheVariants.{Entered, Refused}
-use Rattle.ucl_evenings.proofs.Events.{rang_none, rang_not, rang_once, row_accepted, row_refused, rows_none}
-use Rattle.ucl_evenings.proofs.Lines.{reports_none, reports_then, turns_line}
+use Rattle.std.proofs.Common.{refl, sym, ap, ◌∙◌}
+use Rattle.ucl_io.proofs.Bytes.{if_err, on_ok}
+use Rattle.ucl_evenings.specs.declared.input.Input.TheVariants.{Nothing, Bad}
+use Rattle.ucl_evenings.specs.Reporting.{Entered, Refused}
+use Rattle.ucl_evenings.specs.Answering.{outcome_answer, reply_style}
+use Rattle.ucl_evenings.proofs.Events.{past_accepted}
+use Rattle.ucl_evenings.proofs.Lines.{entered_turn, plain_turn, refused_turn, same_style}
 use Rattle.ucl_evenings.proofs.reporter.ReporterLineMachine.answer.Goals as goal
 
 pub returns-in-Nothing-clause-answers : goal.returns-in-Nothing-clause-answers
 returns-in-Nothing-clause-answers g c =
-    let k = g.B.LiveBoard.reporter c.args.self.now.pass in
-    let b = g.B.LiveBoard.has_reported c.args.self.now.pass in
-    let r = g.V.Ring.rung c.args.self.now.bells in
-    (refl, turns_line k k b b r r c.args.row c.args.line.now Nothing (sym c.input_on.ensures ∙ c.in-Nothing.is) [] (rows_none k c.requires.1) (reports_none b) (rang_none k r) [] refl)
+    let me = c.args.self.now in
+    let k = g.B.LiveBoard.reporter me.pass in
+    let is = sym c.input_on.ensures ∙ c.in-Nothing.is in
+    (refl, refl, plain_turn (reply_style me.shape me.roster.now k) k _ _ c.args.row c.args.line.now Nothing is refl c.requires.1 _ c.nothing.ensures)
 
 pub returns-in-Bad-clause-answers : goal.returns-in-Bad-clause-answers
 returns-in-Bad-clause-answers g c =
-    let k = g.B.LiveBoard.reporter c.args.self.now.pass in
-    let b = g.B.LiveBoard.has_reported c.args.self.now.pass in
-    let r = g.V.Ring.rung c.args.self.now.bells in
+    let me = c.args.self.now in
+    let k = g.B.LiveBoard.reporter me.pass in
     let is = sym c.input_on.ensures ∙ c.in-Bad.is in
-    (refl, turns_line k k b b r r c.args.row c.args.line.now (Bad c.in-Bad.field-0) is [] (rows_none k c.requires.1) (reports_none b) (rang_none k r) _ c.bad_line.ensures)
+    on_ok c.answer_bad.result _ _
+    (λ text. (refl, refl, plain_turn (reply_style me.shape me.roster.now k) k _ _ c.args.row c.args.line.now (Bad c.in-Bad.field) is refl c.requires.1 _ text)) c.answer_bad.ensures.text
+
+pub returns-in-Bad-clause-stops : goal.returns-in-Bad-clause-stops
+returns-in-Bad-clause-stops g c =
+    let me = c.args.self.now in
+    let k = g.B.LiveBoard.reporter me.pass in
+    let is = sym c.input_on.ensures ∙ c.in-Bad.is in
+    if_err c.answer_bad.result _ _
+    (λ fault memory. (refl, record {
+      memory = memory;
+      text = _;
+      turned = plain_turn (reply_style me.shape me.roster.now k) k _ _ c.args.row c.args.line.now (Bad c.in-Bad.field) is refl c.requires.1 _ refl;
+    })) c.answer_bad.ensures.memory
+
+pub answer_event-requires : goal.answer_event-requires
+answer_event-requires g c = past_accepted _ _ _ _ _ _ c.in-Ok.ensures.accepted c.read_own-reading.ensures.reading
 
 pub returns-in-Ok-clause-answers : goal.returns-in-Ok-clause-answers
 returns-in-Ok-clause-answers g c =
-    let k = g.B.LiveBoard.reporter c.args.self.now.pass in
-    let m = g.B.LiveBoard.reporter c.report.new.pass in
-    let z = g.B.LiveBoard.reporter c.read_own-reading.new.pass in
-    let a = g.B.LiveBoard.has_reported c.args.self.now.pass in
-    let b = g.B.LiveBoard.has_reported c.report.new.pass in
-    let d = g.B.LiveBoard.has_reported c.read_own-reading.new.pass in
+    let me = c.args.self.now in
+    let live = g.B.LiveBoard in
+    let k = live.reporter me.pass in
+    let m = live.reporter c.report.new.pass in
+    let z = live.reporter c.read_own-reading.new.pass in
     let call = c.in-Event.call in
     let reply = c.in-Ok.accepted in
     let reading = c.read_own-reading.result in
-    let text = rw c.get.ensures.value at c.outcome_line.ensures in (
-      refl,
-      turns_line k z a d _ _ c.args.row c.args.line.now (Event call) (sym c.input_on.ensures ∙ c.in-Event.is) (Entered reply.number reading.version ∷ [])
-          (row_accepted k m z call reply reading c.in-Ok.ensures.always c.in-Ok.ensures.accepted c.read_own-reading.ensures.always c.read_own-reading.ensures.reading)
-          (reports_then a b d 1 0 c.in-Ok.ensures.reported c.read_own-reading.ensures.reported)
-          (rang_once k m z call reply reading _ _ c.in-Ok.ensures.accepted c.read_own-reading.ensures.reading c.ring.ensures) _ text,
-    )
+    let first = c.in-Ok.ensures in
+    let then = c.read_own-reading.ensures in
+    let number = ap (λ n. outcome_answer (record { shape = me.shape; clubs = me.roster.now; reporter = n }) c.args.row call (Entered reply.number reading)) c.number_of-reporter.ensures in
+    on_ok c.answer_event.result _ _
+    (λ text. (refl, same_style me.shape me.roster.now k z (then.always.number ∙ first.always.number),
+    entered_turn (reply_style me.shape me.roster.now k) k m z (live.has_reported me.pass) (live.has_reported c.report.new.pass) (live.has_reported c.read_own-reading.new.pass) _ _
+    c.args.row c.args.line.now call (sym c.input_on.ensures ∙ c.in-Event.is) reply reading
+    first.always first.accepted then.always then.reading first.reported then.reported c.ring.ensures _ (text ∙ number))) c.answer_event.ensures.text
+
+pub returns-in-Ok-clause-stops : goal.returns-in-Ok-clause-stops
+returns-in-Ok-clause-stops g c =
+    let me = c.args.self.now in
+    let live = g.B.LiveBoard in
+    let k = live.reporter me.pass in
+    let m = live.reporter c.report.new.pass in
+    let z = live.reporter c.read_own-reading.new.pass in
+    let first = c.in-Ok.ensures in
+    let then = c.read_own-reading.ensures in
+    if_err c.answer_event.result _ _
+    (λ fault memory. (refl, record {
+      memory = memory;
+      text = _;
+      turned = entered_turn (reply_style me.shape me.roster.now k) k m z (live.has_reported me.pass) (live.has_reported c.report.new.pass) (live.has_reported c.read_own-reading.new.pass) _ _
+          c.args.row c.args.line.now c.in-Event.call (sym c.input_on.ensures ∙ c.in-Event.is) c.in-Ok.accepted c.read_own-reading.result
+          first.always first.accepted then.always then.reading first.reported then.reported c.ring.ensures _ refl;
+    })) c.answer_event.ensures.memory
 
 pub returns-in-Err-clause-answers : goal.returns-in-Err-clause-answers
 returns-in-Err-clause-answers g c =
-    let k = g.B.LiveBoard.reporter c.args.self.now.pass in
-    let m = g.B.LiveBoard.reporter c.report.new.pass in
+    let me = c.args.self.now in
+    let live = g.B.LiveBoard in
+    let k = live.reporter me.pass in
+    let m = live.reporter c.report.new.pass in
+    let z = live.reporter c.read_own-reading-in-Err.new.pass in
     let call = c.in-Event.call in
-    let text = c.outcome_line-in-Err.ensures in (
-      refl,
-      turns_line k m _ _ _ _ c.args.row c.args.line.now (Event call) (sym c.input_on.ensures ∙ c.in-Event.is) (Refused c.in-Err.refusal ∷ [])
-          (row_refused k m call c.in-Err.refusal c.in-Err.ensures.always c.in-Err.ensures.refused) c.in-Err.ensures.reported
-          (rang_not k m call c.in-Err.refusal (g.V.Ring.rung c.args.self.now.bells) c.in-Err.ensures.refused) _ text,
-    )
+    let refusal = c.in-Err.refusal in
+    let reading = c.read_own-reading-in-Err.result in
+    let first = c.in-Err.ensures in
+    let then = c.read_own-reading-in-Err.ensures in
+    let number = ap (λ n. outcome_answer (record { shape = me.shape; clubs = me.roster.now; reporter = n }) c.args.row call (Refused refusal reading)) c.number_of-reporter.ensures in
+    on_ok c.answer_event-in-Err.result _ _
+    (λ text. (refl, same_style me.shape me.roster.now k z (then.always.number ∙ first.always.number),
+    refused_turn (reply_style me.shape me.roster.now k) k m z (live.has_reported me.pass) (live.has_reported c.report.new.pass) (live.has_reported c.read_own-reading-in-Err.new.pass)
+    (g.V.Ring.rung me.bells) c.args.row c.args.line.now call (sym c.input_on.ensures ∙ c.in-Event.is) refusal reading
+    first.always first.refused then.always then.reading first.reported then.reported _ (text ∙ number))) c.answer_event-in-Err.ensures.text
+
+pub returns-in-Err-clause-stops : goal.returns-in-Err-clause-stops
+returns-in-Err-clause-stops g c =
+    let me = c.args.self.now in
+    let live = g.B.LiveBoard in
+    let k = live.reporter me.pass in
+    let m = live.reporter c.report.new.pass in
+    let z = live.reporter c.read_own-reading-in-Err.new.pass in
+    let first = c.in-Err.ensures in
+    let then = c.read_own-reading-in-Err.ensures in
+    if_err c.answer_event-in-Err.result _ _
+    (λ fault memory. (refl, record {
+      memory = memory;
+      text = _;
+      turned = refused_turn (reply_style me.shape me.roster.now k) k m z (live.has_reported me.pass) (live.has_reported c.report.new.pass) (live.has_reported c.read_own-reading-in-Err.new.pass)
+          (g.V.Ring.rung me.bells) c.args.row c.args.line.now c.in-Event.call (sym c.input_on.ensures ∙ c.in-Event.is) c.in-Err.refusal c.read_own-reading-in-Err.result
+          first.always first.refused then.always then.reading first.reported then.reported _ refl;
+    })) c.answer_event-in-Err.ensures.memory
