@@ -1,4 +1,4 @@
--- The answers to the lines of a reporter of an evening: those of the live command, each with the number of its line.
+-- The answers to the lines of a reporter: those of `ucl_live`, each with its line's number.
 use Rattle.std.specs.Prelude.{ℕ, ◌+◌, List, [], ◌∷◌, ◌++◌}
 use Rattle.ucl_word.specs.declared.event.EventCall.{EventCall}
 use Rattle.ucl_runs.specs.Lines.{accepted_line, refused_line}

@@ -1,4 +1,4 @@
--- What a reporter's pass of a live board has done, event by event, and how each went in the history of the board.
+-- What a reporter's pass has done, event by event, and how each went in the history.
 use Rattle.std.specs.Prelude.{◌≡◌, ℕ, ◌+◌, ◌-◌, ◌<◌, ◌≤◌, List, [], ◌∷◌, ◌++◌, length, take, slice_get, Some, Ok, Err}
 use Rattle.ucl_word.specs.declared.event.EventCall.{EventCall}
 use Rattle.ucl_board.specs.declared.entry.Entry.{Entry}

@@ -1,4 +1,4 @@
--- Faults of the program.
+-- Which faults a run can have, their lines and statuses.
 use Rattle.std.specs.Prelude.{ℕ, ⊤, List, ◌++◌, codes, decimal}
 use Rattle.ucl_screen.specs.declared.fault.InputFault.{InputFault}
 use Rattle.ucl_screen.specs.declared.fault.InputFault.TheVariants as input

@@ -1,4 +1,4 @@
--- A journal: the output of an evening in JSON, of which a crash left so many bytes. What `--resume` makes of it.
+-- A journal: an evening's JSON that a crash cut; what `--resume` makes of it.
 use Rattle.std.specs.Prelude.{◌≡◌, ◌<◌, ◌≤◌, ◌^◌, true, ℕ, List, [], ◌∷◌, ◌++◌, length, Option, Some, None, IfSome, ◌+◌}
 use Rattle.std.specs.Result.{is_ok}
 use Rattle.ucl_word.specs.Rules.{reply_of}

@@ -1,4 +1,4 @@
--- What holds of all that is followed.
+-- The moments that a follower shows, and the latest of its lines.
 use Rattle.std.specs.Prelude.{◌≡◌, ◌⊎◌, ⊤, true, ℕ, if◌then◌else◌, All, List, [], ◌∷◌, ◌++◌, flat_map, Option, Some, None}
 use Rattle.ucl_screen.specs.Screen.{screen_text}
 use Rattle.ucl_json.specs.declared.moment.Moment.{Moment}
