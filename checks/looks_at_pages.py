@@ -22,6 +22,8 @@ SUM = re.compile(r"\blogic(?: sum)?(?: is)? `?([0-9a-f]{16})\b")
 # A path of the machine that a text was written on, and how the work is organised; data and marks of matches are no such texts.
 STRAY = re.compile(r"(?<![\w.])/(?:work|root)/|\.\./shared/|\bissue #?\d|\b(?:sessions? of the project|handover)\b", re.I)
 LABEL = re.compile(r"(?<![\w.'\"`-])(?:T[1-5]\.[1-7]|[DRW][1-9]\d?|K[1-8]|G2|S6)(?![\w'\"`])")
+MAP = "docs/ARCHITECTURE.md"
+MARKS = "<!-- checks/definitions writes what follows -->\n", "<!-- checks/definitions ends here -->\n"
 
 
 def pages(top):
@@ -90,10 +92,25 @@ def sentences_are_short(top):
 
 def crates_are_listed(top):
     """The table of crates has each crate of crates.txt, once."""
-    section = (top / "docs/ARCHITECTURE.md").read_text().split("\n## The crates\n", 1)[-1].split("\n## ", 1)[0]
+    section = (top / MAP).read_text().split("\n## The crates\n", 1)[-1].split("\n## ", 1)[0]
     told = [name for line in section.split("\n") if line.startswith("| `") for name in re.findall(r"`(\w+)`", line.split("|")[1])]
     crates = list(sources.crates_of(top))
     return [f"{name}: in the table of crates {told.count(name)} times" for name in sorted({*told, *crates}) if told.count(name) != crates.count(name)]
+
+
+def map_with_definitions(top):
+    """The page of the map as it has to be: between its marks stands a row for each file of definitions, with its first line, by the order of crates."""
+    before, rest = (top / MAP).read_text().split(MARKS[0])
+    rows = ["", "| File of `specs/` | What it defines |", "|---|---|"]
+    for crate in sources.crates_of(top):
+        files = [path for path in sorted((top / "crates" / crate / "specs").glob("*.antt")) if path.stem != "Lib"]
+        rows += [f"| `{crate}`: `{path.stem}` | {path.read_text().split(chr(10))[0].lstrip('- ')} |" for path in files]
+    return before + MARKS[0] + "\n".join([*rows, "", ""]) + MARKS[1] + rest.split(MARKS[1])[1]
+
+
+def definitions_are_mapped(top):
+    """docs/ARCHITECTURE.md says where each definition lives, as the files of specs/ begin."""
+    return [] if (top / MAP).read_text() == map_with_definitions(top) else [f"{MAP}: run checks/definitions"]
 
 
 def reading_quotes(top):
@@ -197,6 +214,7 @@ LOOKS = [
     ("what pages name and link to is there", names_are_there),
     ("sentences are short", sentences_are_short),
     ("the table of crates is that of crates.txt", crates_are_listed),
+    ("where definitions live is as their files begin", definitions_are_mapped),
     ("each block of docs/READING.md stands in its file", reading_quotes),
     ("each promise names its function and its clause", promises_are_carried),
     ("the tables of memory and of waiting are those of the signatures", tables_are_of_signatures),

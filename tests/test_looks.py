@@ -9,6 +9,7 @@ from conftest import TOP, command, needs
 
 sys.path.insert(0, str(TOP / "checks"))
 
+import looks_at_pages
 import looks_at_sources as looks
 
 SUM = "dac8208d650f15bf"
@@ -57,3 +58,17 @@ def test_planted(tmp_path, look, file, old, new):
     assert path.read_text().count(old) == 1
     path.write_text(path.read_text().replace(old, new))
     assert look(tmp_path)
+
+
+@pytest.mark.quick
+def test_definitions_out_of_step(tmp_path):
+    """The page of the map is as the definitions begin, and no more where one begins otherwise."""
+    for folder in TOP.glob("crates/*/specs"):
+        shutil.copytree(folder, tmp_path / folder.relative_to(TOP))
+    for name in "crates.txt", looks_at_pages.MAP:
+        (tmp_path / name).parent.mkdir(exist_ok=True)
+        shutil.copy(TOP / name, tmp_path / name)
+    assert looks_at_pages.definitions_are_mapped(tmp_path) == []
+    path = tmp_path / "crates/ucl_board/specs/Fixtures.antt"
+    path.write_text("-- Whose ground it is.\n" + path.read_text())
+    assert looks_at_pages.definitions_are_mapped(tmp_path)

@@ -1,4 +1,4 @@
--- Which boards there can be.
+-- Which boards there can be, what leads from one to another, and a board under one reporter.
 use Rattle.std.specs.Prelude.{◌≡◌, ◌↔◌, ◌<◌, ℕ, List, [], map, true}
 use Rattle.std.specs.Result.{is_ok}
 use Rattle.ucl_word.specs.Layout.{record_at, word_of}

@@ -1,4 +1,4 @@
--- What is answered for an event, and how C sees a record.
+-- What C is answered for an event, and how C sees a record.
 use Rattle.std.specs.Prelude.{ℕ, Option, Some, None, unwrap_or}
 use Rattle.ucl_word.specs.declared.event.Kind.{Kind}
 use Rattle.ucl_word.specs.declared.record.MatchRecord.{MatchRecord}

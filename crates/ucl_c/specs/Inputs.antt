@@ -1,4 +1,4 @@
--- What the code has of inputs with no fault.
+-- Definitions that private functions alone cite: what the code has of inputs with no fault.
 use Rattle.std.specs.Prelude.{◌≡◌, ℕ, ◌+◌, ◌≤◌, List, None, Some, Ok}
 use Rattle.ucl_word.specs.Layout.{layout, held_at, IsMarked}
 use Rattle.ucl_board.specs.Words.{AreWords}

@@ -1,4 +1,4 @@
--- What a handle holds.
+-- What a handle holds: a pass or none; why a call on it is not done.
 use Rattle.std.specs.Prelude.{◌≡◌, Bool, true, false, Option, None, Some}
 use denote.RawPtr.{Ptr, null_ptr, block_ptr}
 use Rattle.ucl_c_boards.specs.declared.board_pass.AnyPass.{AnyPass}

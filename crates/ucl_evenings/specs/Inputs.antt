@@ -1,4 +1,5 @@
--- What a line of a reporter of an evening asks for: its row is `MATCH,EXPECTED,EVENT`. The reporter is whose line it is.
+-- What a line of a reporter asks for: its row is `MATCH,EXPECTED,EVENT`.
+-- The reporter is whose line it is.
 use Rattle.std.specs.Prelude.{ℕ, List, [], ◌∷◌, Option, Some, None}
 use Rattle.ucl_word.specs.declared.event.EventCall.{EventCall}
 use Rattle.ucl_screen.specs.Rows.{Fields}

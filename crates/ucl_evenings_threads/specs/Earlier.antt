@@ -1,4 +1,4 @@
--- The events that were entered before an evening: each is accepted after those before it, or the first row whose event is not is told.
+-- Events entered before an evening: all in their order, or the first that is refused.
 use Rattle.std.specs.Prelude.{◌≡◌, ◌⊎◌, ⊤, ℕ, ◌+◌, ◌-◌, ◌==◌, ◌≤◌, true, false, if◌then◌else◌, List, [], ◌∷◌, ◌++◌, All, length, map, filter, slice_index, Result, Ok, Err}
 use Rattle.std.specs.Result.{is_ok}
 use mathlib.Core.List.{IsPrefix}

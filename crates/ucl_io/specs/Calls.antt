@@ -1,4 +1,4 @@
--- When a source was called for bytes.
+-- When a source was called for bytes, and a device as a run leaves it.
 use Rattle.std.specs.Prelude.{◌≡◌, ⊤, ℕ, ◌+◌, Bool, List, [], ◌∷◌, ◌++◌, length, All, Option, Some, IfSome}
 use Rattle.ucl_io.specs.declared.duplex.Duplex.{Duplex}
 

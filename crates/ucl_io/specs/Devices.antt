@@ -1,4 +1,4 @@
--- What clauses see of a reader as a source and of a writer as a sink.
+-- What clauses see of a reader of std as a source, and of a writer as a sink.
 use Rattle.std.specs.Prelude.{ℕ, zero, suc, Bool, Option, Some, None, Result, Ok, Err}
 use Rattle.ucl_io.specs.declared.devices.FromRead.{FromRead}
 use Rattle.ucl_io.specs.declared.devices.ToWrite.{ToWrite}

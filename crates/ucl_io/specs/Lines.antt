@@ -1,4 +1,4 @@
--- The lines of an input.
+-- The lines of an input that have an end, and the line that has begun.
 use Rattle.std.specs.Prelude.{◌≡◌, ⊤, ℕ, ◌==◌, nat_le, if◌then◌else◌, List, [], ◌∷◌, ◌++◌, length}
 
 -- a line with one byte more. What comes after so many bytes of a line is passed over: it is too long by then

@@ -1,4 +1,4 @@
--- What waits to be given to a sink.
+-- What of the answers waits to be given to a sink, and what went out.
 use Rattle.std.specs.Prelude.{◌≡◌, ℕ, ◌+◌, ◌-◌, ◌^◌, ◌≤◌, min, Bool, true, false, List, ◌++◌, length, Option, Result, Err}
 use Rattle.std.specs.Io.KnownBytes.{Appends}
 use Rattle.ucl_io.specs.declared.fault.PumpFault.{PumpFault}

@@ -1,4 +1,4 @@
--- What calls do to the bytes that a source has left and that a sink has taken, where those are known.
+-- What calls do to the known bytes that a source has left and that a sink has taken.
 use Rattle.std.specs.Prelude.{◌≡◌, ℕ, ◌+◌, ◌<◌, ◌≤◌, List, length, take, Option, Some, None, Result, Ok, Err}
 use Rattle.std.specs.Io.KnownBytes.{Keeps, Appends, Consumes}
 

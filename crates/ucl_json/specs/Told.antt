@@ -1,5 +1,6 @@
--- The moment that a line tells: it is JSON whose members `group`, `order`, `edition`, `clubs` and `words` are those of a board of a group.
--- Without `edition` it is of edition 0. Whatever else a line has, and in whichever order, does not matter.
+-- The moment that a line of JSON tells.
+-- Its members `group`, `order`, `edition`, `clubs` and `words` are those of a board of a group. Without `edition` it is of edition 0.
+-- Whatever else a line has, and in whichever order, does not matter.
 use Rattle.std.specs.Prelude.{ℕ, ◌==◌, ◌&&◌, nat_le, if◌then◌else◌, List, [], ◌∷◌, codes, length, Option, Some, None, option_and_then, Result, Ok, Err}
 use Rattle.std.specs.Str.{is_utf8}
 use Rattle.serde_json.specs.Data.{Data, Items, item, no_items}

@@ -1,5 +1,6 @@
--- Answers as values. The members of an object stand in the order of their names. An accepted event's answer and a screen's stand for
--- themselves: each has the group, its order, its edition, the clubs and the words of the board, so that it is one moment, whole.
+-- Answers as values of JSON.
+-- The members of an object stand in the order of their names. An accepted event's answer and a screen's stand for themselves:
+-- each has the group, its order, its edition, the clubs and the words of the board, so that it is one moment, whole.
 use Rattle.std.specs.Prelude.{ℕ, pos, ◌-ℤ◌, List, [], ◌∷◌, codes, Option, None, Some, Result, Ok, Err}
 use Rattle.serde_json.specs.Data.{Data, Items, item, no_items, Members, member, no_members, array, boolean, null, number, object, put, string, unsigned}
 use Rattle.serde_json.specs.Find.{of_integer}

@@ -1,4 +1,4 @@
--- What the code keeps and counts on its way: contracts of private functions cite these, and no public one does.
+-- Definitions that contracts of private functions alone cite: what the code counts on its way.
 pub mod Members
 pub mod Counting
 pub mod PointBounds

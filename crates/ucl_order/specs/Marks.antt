@@ -1,4 +1,4 @@
--- Which clubs are sure to be, or not to be, among the first two.
+-- Marks: which clubs are sure to be, or not to be, among the first two; completions.
 use Rattle.std.specs.Prelude.{◌≡◌, ℕ, ◌+◌, ◌*◌, ◌==◌, ◌&&◌, not, nat_lt, nat_le, if◌then◌else◌, Bool, List, count_by, take, Contains}
 use Rattle.std.specs.List.{list_all}
 use Rattle.ucl_word.specs.declared.record.State.TheVariants.{Finished}

@@ -1,4 +1,4 @@
--- The matches of a board, each with the clubs that play it.
+-- The matches of a board with their scores, each with the clubs that play it.
 use Rattle.std.specs.Prelude.{◌≢◌, ◌≤◌, ℕ, not, Bool, List, map, filter}
 use Rattle.ucl_word.specs.declared.record.MatchRecord.{MatchRecord}
 use Rattle.ucl_word.specs.Rules.{is_scheduled, is_finished}

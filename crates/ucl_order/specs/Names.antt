@@ -1,4 +1,5 @@
--- The codes and names of orders. Each stands here and nowhere else.
+-- Codes and names of orders.
+-- Each stands here and nowhere else.
 use Rattle.std.specs.Prelude.{ℕ, List, [], ◌∷◌, codes, find, slice_get, Option}
 use Rattle.std.specs.Str.{bytes_eq}
 use Rattle.ucl_order.specs.declared.profile.Profile.{Profile}

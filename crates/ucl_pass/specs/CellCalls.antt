@@ -1,4 +1,5 @@
--- Which steps a call on the cell takes, and what it leaves among the finished calls of its pass: the pass was v and is w.
+-- Which steps a call on the cell takes, and what it leaves among its pass's finished calls.
+-- The pass was v and is w.
 use Rattle.std.specs.Prelude.{◌≡◌, ℕ, ◌+◌, ◌==◌, ◌≤◌, Bool, true, false, List, [], ◌∷◌, ◌++◌, length, filter, if◌then◌else◌, Option, None, Result, Ok, Err}
 use Rattle.std.specs.List.{AllByRecursion, flat_map}
 use Rattle.ucl_word.specs.declared.event.EventCall.{EventCall}

@@ -1,4 +1,5 @@
--- What each kind of step on the cell tells its pass, and which call it decides: v before and w after, x the words found and y the words left.
+-- What each kind of step on the cell tells its pass, and which call it decides.
+-- The pass was v and is w; x are the words found and y the words left.
 use Rattle.std.specs.Prelude.{◌≡◌, ◌≢◌, ◌⊎◌, ℕ, ◌+◌, ◌≤◌, List, [], ◌∷◌, ◌++◌, length, take, slice_index, slice_set, Option, Some, None, Result, MatchResult}
 use Rattle.ucl_word.specs.declared.event.EventCall.{EventCall}
 use Rattle.ucl_word.specs.declared.refusal.Refusal.{Refusal}

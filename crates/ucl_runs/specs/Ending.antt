@@ -1,4 +1,4 @@
--- How a program ends.
+-- How a program ends: what it wrote, and its exit status.
 use Rattle.std.specs.Prelude.{◌≡◌, ℕ, ⊤, Bool, List, Option, Result, Ok, Err, IfErr, OnOk, string_bytes}
 use Rattle.std.specs.Io.KnownBytes.{Appends}
 use Rattle.ucl_io.specs.declared.duplex.Duplex.{Duplex}

@@ -1,4 +1,4 @@
--- The text of `feed`: a reply line for each event of the script, in turn, and then the lines of the twelve match words.
+-- The text of `feed`: a reply line for each event, and then the twelve word lines.
 use Rattle.std.specs.Prelude.{◌≡◌, ℕ, ◌+◌, List, [], ◌∷◌, ◌++◌, length, map, Result, Ok, Err}
 use Rattle.ucl_word.specs.declared.event.EventCall.{EventCall}
 use Rattle.ucl_word.specs.declared.event.Accepted.{Accepted}

@@ -1,4 +1,4 @@
--- What a follower writes.
+-- What a follower shows, and the rows by which an evening goes on.
 use Rattle.std.specs.Prelude.{ℕ, ◌+◌, ◌-◌, ◌^◌, ◌==◌, ◌||◌, ◌&&◌, min, nat_lt, if◌then◌else◌, Bool, true, List, [], ◌∷◌, ◌++◌, codes, decimal, flat_map, Option, Some, None}
 use Rattle.ucl_io.specs.Lines.{ended_lines}
 use Rattle.ucl_board.specs.Words.{version_of}

@@ -1,4 +1,5 @@
--- The lines of an input. What comes after the 258th byte of a line is passed over, since it is too long by then, whatever its end is.
+-- The lines of an input, each cut at its 258th byte.
+-- What comes after that byte is passed over: the line is too long by then, whatever its end is.
 use Rattle.std.specs.Prelude.{ℕ, List, [], ◌∷◌, ◌++◌}
 use Rattle.ucl_io.specs.Lines.{begun_line, ended_lines}
 

@@ -1,4 +1,4 @@
--- What the program does with what its words ask for.
+-- What `ucl_live` does for its arguments, and how it ends.
 use Rattle.std.specs.Prelude.{◌≡◌, ℕ, ⊤, Bool, List, Option, Some, None, IfSome, Result, Ok, Err, IfErr, OnOk}
 use Rattle.std.specs.Io.KnownBytes.{Appends}
 use Rattle.ucl_io.specs.declared.stream.Source as reads

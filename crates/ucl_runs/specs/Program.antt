@@ -1,4 +1,4 @@
--- What the program does with what its words ask for.
+-- What `ucl_night` does for its arguments, and how it ends.
 use Rattle.std.specs.Prelude.{◌≡◌, ◌≢◌, ℕ, ◌≤◌, ⊤, Bool, List, All, length, map, take, Option, Some, None, IfSome, Result, Ok, Err, IfErr}
 use Rattle.ucl_board.specs.declared.entry.Entry.{Entry}
 use Rattle.ucl_board.specs.History.{accepted_of, board_of}

@@ -1,4 +1,4 @@
--- How rows are read: the rules of scripts, at the states that the reading of one row can have.
+-- How the code reads rows: the rules of scripts, at the states that the reading of one row can have.
 use Rattle.std.specs.Prelude.{◌≡◌, ◌⊎◌, ⊤, if◌then◌else◌, Bool, true, false, not, ◌==◌, ◌&&◌, ℕ, List, [], ◌∷◌, ◌++◌, length, drop, Option, Some, None}
 use Rattle.csv.specs.Machine.{after_end, ends_with}
 use Rattle.csv.specs.Machine.{Read, next_record, ends_at_end}

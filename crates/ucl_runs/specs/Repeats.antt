@@ -1,4 +1,4 @@
--- Attempts that are made again.
+-- Events that are entered again, and change nothing.
 use Rattle.std.specs.Prelude.{◌≡◌, ◌⊎◌, true, List, [], ◌∷◌, ◌++◌, All}
 use Rattle.std.specs.List.{fold}
 use Rattle.std.specs.Result.{is_ok}

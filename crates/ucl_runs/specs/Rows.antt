@@ -1,5 +1,6 @@
--- What a line says. With its line feed it is a text of its own, which is read by the rules of scripts: so a quote that is not closed
--- takes in the line feed, which stands in no field that is good.
+-- What a line says, as a row of its own.
+-- With its line feed a line is a text that is read by the rules of scripts. So a quote that is not closed takes in the line feed, which
+-- stands in no field that is good.
 use Rattle.std.specs.Prelude.{ℕ, ◌-◌, ◌==◌, nat_le, if◌then◌else◌, Bool, List, [], ◌∷◌, ◌++◌, length, get_or, Option, Some, None}
 use Rattle.csv.specs.Reading.{default_config, records}
 use Rattle.ucl_screen.specs.Rows.{Fields, FourFields, four_of, rows_of}

@@ -1,4 +1,4 @@
--- What a row of a script says.
+-- What an event row says, and which board and history come of it.
 use Rattle.std.specs.Prelude.{◌≡◌, ℕ, List, length, Option, Some, option_and_then}
 use Rattle.ucl_word.specs.declared.event.EventCall.{EventCall}
 use Rattle.ucl_word.specs.Names.{kind_named}

@@ -1,4 +1,4 @@
--- What words are read as: a word of the layout as it is, and a word of the layout before it as the word of the same record.
+-- What words of either layout are read as, as a function of them.
 use Rattle.std.specs.Prelude.{ℕ, ◌+◌, ◌==◌, ◌&&◌, nat_le, if◌then◌else◌, Bool, List, [], ◌∷◌, Option, Some, None, Result, Ok, Err}
 use Rattle.ucl_word.specs.declared.record.MatchRecord.{MatchRecord}
 use Rattle.ucl_word.specs.Record.{is_valid}

@@ -1,4 +1,5 @@
--- Which steps a call on any shared board takes: the pass was v and is w.
+-- Which steps a call on any shared board takes.
+-- The pass was v and is w.
 use Rattle.std.specs.Prelude.{◌≡◌, ℕ, List, [], ◌∷◌, ◌++◌, length, Option, Some, None, Result, Ok, Err}
 use Rattle.std.specs.List.{AllByRecursion}
 use Rattle.ucl_word.specs.declared.event.EventCall.{EventCall}

@@ -1,4 +1,4 @@
--- The numbers of reporters in the order of time.
+-- Numbers of reporters in the order of time.
 use Rattle.std.specs.Prelude.{◌≡◌, ℕ, ◌<◌, List}
 use mathlib.Core.Option.{some}
 use lib.ListN.{get_elem?}

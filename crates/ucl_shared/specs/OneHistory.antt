@@ -1,4 +1,4 @@
--- The rule of every shared board: what holds of its words and of all passes between any two steps, whatever the schedule.
+-- The rule of every shared board: what holds of its words and passes between any two steps.
 use Rattle.std.specs.Prelude.{◌≡◌, ◌⊎◌, ℕ, zero, suc, ◌<◌, ◌≤◌, Bool, true, false, List, [], ◌∷◌, ◌++◌, map, All, length, slice_set, Some, None, IsTrue}
 use mathlib.Core.List.{IsPrefix}
 use mathlib.Core.Option.{some}

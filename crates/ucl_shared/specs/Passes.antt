@@ -1,4 +1,5 @@
--- What contracts know of a pass, and what each call on a shared board says of it. Every shared board, settling and the night cite these.
+-- What contracts know of a pass, and what each call on a shared board says of it.
+-- Every shared board, settling and the night cite these.
 use Rattle.std.specs.Prelude.{◌≡◌, ℕ, ◌+◌, ◌==◌, ◌<◌, ◌≤◌, List, [], ◌∷◌, ◌++◌, length, filter, IsSome, Ok, Err}
 use mathlib.Core.List.{IsPrefix}
 use Rattle.ucl_word.specs.declared.event.EventCall.{EventCall}

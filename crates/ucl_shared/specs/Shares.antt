@@ -1,4 +1,5 @@
--- Shares of a board. A pass acts by its share alone. The whole is in one pass when the board opens; a split gives each of two passes a half
+-- Shares of a board, their halves, and when two overlap.
+-- A pass acts by its share alone. The whole is in one pass when the board opens; a split gives each of two passes a half
 -- of a share. A share is written as the way to it: which half of the board, which half of that, and so on.
 use Rattle.std.specs.Prelude.{◌⊎◌, Bool, true, false, List, [], ◌∷◌, ◌++◌, Option, Some, None}
 use mathlib.Core.List.{IsPrefix}

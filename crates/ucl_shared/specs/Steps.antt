@@ -1,4 +1,5 @@
--- What each kind of step on a shared board tells its pass: v before and w after.
+-- What each kind of step on a shared board tells its pass.
+-- The pass was v and is w.
 use Rattle.std.specs.Prelude.{◌≡◌, ℕ, ◌+◌, ◌<◌, ◌≤◌, List, [], ◌∷◌, All, length, Some, None, IsSome}
 use mathlib.Core.List.{IsPrefix}
 use Rattle.ucl_word.specs.declared.event.EventCall.{EventCall}

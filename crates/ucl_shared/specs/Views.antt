@@ -1,4 +1,4 @@
--- What contracts read off the view of a pass; and the view of a new pass, of a second pass, of a note, and of a pass that took in a note.
+-- What contracts read off the view of a pass; the views of new passes and of notes.
 use Rattle.std.specs.Prelude.{◌≡◌, ℕ, List, [], ◌∷◌, ◌++◌, None, length, nat_lt, if◌then◌else◌}
 use Rattle.atomic_table.specs.Seated.{TableId}
 use Rattle.ucl_board.specs.declared.entry.Entry.{Entry}

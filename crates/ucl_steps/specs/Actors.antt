@@ -1,4 +1,5 @@
--- The passes of a board as actors of the protocol's machine: a run whose calls are theirs, and whose accesses are those of the board's log.
+-- The passes of a board as actors of the machine: a run whose calls are theirs.
+-- Its accesses are those of the board's log.
 use Rattle.std.specs.Prelude.{◌≡◌, ℕ, ◌+◌, ◌<◌, ◌≤◌, List, [], ◌∷◌, All, map, length, Some}
 use Rattle.std.specs.List.{flat_map}
 use mathlib.Core.Option.{some}

@@ -1,5 +1,4 @@
--- The passes of a board as callers of the machine: what each has done and what it holds are what the machine's
--- callers have done and hold.
+-- The passes of a board as callers of the machine: what each has done, and what it holds.
 use Rattle.std.specs.Prelude.{◌≡◌, ◌≢◌, ℕ, ◌+◌, ◌==◌, ◌&&◌, nat_le, ◌<◌, ◌≤◌, ◌⊎◌, Bool, if◌then◌else◌, List, [], ◌∷◌, ◌++◌, map, filter, flat_map, Option, Some, None, length, slice_get}
 use Rattle.ucl_word.specs.Record.{IsReporter}
 use Rattle.ucl_word.specs.Rules.{refusal_of, after}

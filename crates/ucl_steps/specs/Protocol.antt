@@ -1,6 +1,6 @@
--- The protocol: what a caller holds between two of its steps on match words, and what comes of each step,
--- as one function of what was held and of the word that the step finds. Here it is said once: the machine
--- takes these steps for all its callers, and a pass of a board for its own calls.
+-- The protocol: what a caller holds between two steps on match words, and what comes of each step.
+-- That is one function of what was held and of the word that the step finds. The machine takes these steps for all its callers,
+-- and a pass of a board for its own calls.
 use Rattle.std.specs.Prelude.{◌≡◌, ℕ, ◌+◌, ◌==◌, if◌then◌else◌, List, [], ◌∷◌, ◌++◌, length, Option, Some, None, Result, Ok, Err, slice_index}
 use Rattle.ucl_word.specs.declared.event.EventCall.{EventCall}
 use Rattle.ucl_word.specs.declared.event.Accepted as event

@@ -1,4 +1,4 @@
--- What the code goes by on its way: contracts of private functions cite these, and no public one does.
+-- Definitions that contracts of private functions alone cite: how the next word is made.
 pub mod Changes
 pub mod Moving
 pub mod Reading

@@ -1,4 +1,5 @@
--- The numbers, names and texts of refusals, and the codes and names of kinds of events. Each stands here and nowhere else.
+-- Numbers, names and texts of refusals; codes and names of kinds of events.
+-- Each stands here and nowhere else.
 use Rattle.std.specs.Prelude.{ℕ, ◌==◌, List, [], ◌∷◌, ◌++◌, codes, decimal, find, slice_get, Option, None, Some}
 use Rattle.std.specs.Str.{bytes_eq}
 use Rattle.ucl_word.specs.declared.event.Side.TheVariants.{Home, Away}

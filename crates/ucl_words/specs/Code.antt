@@ -1,5 +1,5 @@
--- How the code goes on its way: what a report holds, and what the two collects of a reading find and leave, one after the other. The pass was
--- v and is w. Private functions alone say these.
+-- Definitions that private functions alone cite: what a report holds, and what the two collects of a reading find.
+-- The pass was v and is w.
 use Rattle.std.specs.Prelude.{◌≡◌, ℕ, ◌≤◌, List, [], ◌∷◌, ◌++◌, length, Some, None, slice_get}
 use Rattle.ucl_word.specs.declared.event.EventCall.{EventCall}
 use Rattle.ucl_board.specs.declared.entry.Entry.{Entry}

@@ -1,4 +1,5 @@
--- What a call of the word board says of the steps that it takes, one by one: the pass was v and is w.
+-- What a call of the word board says of the steps that it takes, one by one.
+-- The pass was v and is w.
 use Rattle.std.specs.Prelude.{◌≡◌, ◌≢◌, ◌⊎◌, ℕ, ◌+◌, ◌<◌, ◌≤◌, List, [], ◌∷◌, ◌++◌, length, Option, Some, None, Result, slice_get}
 use Rattle.ucl_word.specs.declared.event.EventCall.{EventCall}
 use Rattle.ucl_word.specs.declared.event.Accepted.{Accepted}

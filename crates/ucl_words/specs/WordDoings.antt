@@ -1,4 +1,4 @@
--- What calls of the word board leave as done.
+-- What calls of the word board leave among the finished calls of their pass.
 use Rattle.std.specs.Prelude.{◌≡◌, ℕ, ◌≤◌, Bool, true, false, List, filter, length}
 use Rattle.ucl_steps.specs.declared.step.Call.{Call}
 use Rattle.ucl_steps.specs.declared.step.Call.TheVariants.{Event, Reading}

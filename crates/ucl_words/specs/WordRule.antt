@@ -1,4 +1,4 @@
--- The words of the table, and its rule.
+-- The words of the table, and its rule: its log is one run of the machine.
 use Rattle.std.specs.Prelude.{ℕ, ◌≤◌, List, ◌∷◌, map, length}
 use Rattle.atomic_table.specs.Table.{State}
 use Rattle.ucl_board.specs.declared.entry.Entry.{Entry}

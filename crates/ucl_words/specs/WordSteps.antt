@@ -1,4 +1,5 @@
--- What each kind of atomic step on the table tells its pass: v before and w after, and n the word that was found.
+-- What each kind of atomic step on the table tells its pass.
+-- The pass was v and is w; n is the word that was found.
 use Rattle.std.specs.Prelude.{◌≡◌, ◌≢◌, ℕ, ◌+◌, ◌==◌, ◌≤◌, List, [], ◌∷◌, ◌++◌, length, slice_index, if◌then◌else◌}
 use mathlib.Core.Option.{Option, none, some}
 use Rattle.atomic_table.specs.Table.{Step, Me}

@@ -1,5 +1,4 @@
--- What contracts see of a pass of the word board; and the view of a new pass, of the first pass, of a pass that
--- another was split off, of a second pass, of a note, and of a pass that took in a note.
+-- What contracts see of a pass of the word board; the views of new passes and of notes.
 use Rattle.std.specs.Prelude.{◌≡◌, ℕ}
 use Rattle.atomic_table.specs.Seated.{TableId}
 use Rattle.ucl_steps.specs.Protocol.{Doing, nothing_done}
