@@ -27,18 +27,19 @@ pub use Rattle.ucl_pass.specs.CellViews.{CellPass, IsCellNote, actor_of, actors_
 pub use Rattle.ucl_pass.specs.CellViews.{second_cell_pass, told_cell_pass, views_known}
 pub use Rattle.ucl_pass.specs.Laws.{CellBoardsAreRuns, CellGoesOnWith, CellNumbersRise, CellRunsGrow, IsRunOfCell, LaterCellsGoOn}
 pub use Rattle.ucl_pass.specs.declared.view.CellView.{CellView}
-pub use Rattle.ucl_shared.proofs.CallsBySteps.{Stays, all_more, number_told, room, sound_kept, sound_second, stays_more, stays_none, takes_count, takes_none, takes_on}
-pub use Rattle.ucl_shared.proofs.KeptRule.{RuleWith, add_keeps, add_tells, enlist_keeps, enlist_tells, enlisted_as, entered, longer_history, look_keeps, look_tells, looked, note_added, note_joined}
-pub use Rattle.ucl_shared.proofs.KeptRule.{opens, same_history, second_added, unchanged_history}
-pub use Rattle.ucl_shared.specs.CallSteps.{MeetingSteps, steps_with}
-pub use Rattle.ucl_shared.specs.OneHistory.{KeepsOneHistory}
-pub use Rattle.ucl_shared.specs.Passes.{AcceptedReport, Continues, Enlistment, Hearing, IsSound, RefusedReport, ReportsMore, SharedReading}
-pub use Rattle.ucl_shared.specs.Steps.{Enlists, Goes, no_call}
-pub use Rattle.ucl_shared.specs.Views.{Takes, count_of, newcomer, note_of, opener, pass_view_of, told_by}
-pub use Rattle.ucl_shared.specs.declared.view.View.{View}
+pub use Rattle.ucl_live_board.proofs.CallsBySteps.{Stays, all_more, number_told, room, sound_kept, sound_second, stays_more, stays_none, takes_count, takes_none, takes_on}
+pub use Rattle.ucl_live_board.proofs.KeptRule.{RuleWith, add_keeps, add_tells, enlist_keeps, enlist_tells, enlisted_as}
+pub use Rattle.ucl_live_board.proofs.KeptRule.{entered, longer_history, look_keeps, look_tells, looked, note_added, note_joined}
+pub use Rattle.ucl_live_board.proofs.KeptRule.{opens, same_history, second_added, unchanged_history}
+pub use Rattle.ucl_live_board.specs.CallSteps.{MeetingSteps, steps_with}
+pub use Rattle.ucl_live_board.specs.OneHistory.{KeepsOneHistory}
+pub use Rattle.ucl_live_board.specs.Passes.{AcceptedReport, Continues, Enlistment, Hearing, IsSound, RefusedReport, ReportsMore, SharedReading}
+pub use Rattle.ucl_live_board.specs.Steps.{Enlists, Goes, no_call}
+pub use Rattle.ucl_live_board.specs.Views.{Takes, count_of, newcomer, note_of, opener, pass_view_of, told_by}
+pub use Rattle.ucl_live_board.specs.declared.view.View.{View}
 pub use Rattle.ucl_steps.proofs.ActorRuns.{Apart, Burst, one_turn, run_begins, run_burst, run_enlisted, run_more}
 pub use Rattle.ucl_steps.proofs.Runs.{kept_at_start, linearizable_run, run_kept, words_of_run}
-pub use Rattle.ucl_shared.proofs.KeptBoards.{there_is}
+pub use Rattle.ucl_live_board.proofs.KeptBoards.{there_is}
 pub use Rattle.ucl_steps.proofs.Seats.{place_below}
 pub use Rattle.ucl_steps.specs.Actors.{Actor, IsRunOfActors}
 pub use Rattle.ucl_steps.specs.Growing.{GoesOnFrom, HasGoneOn, HaveGoneOn}

@@ -15,7 +15,7 @@ use Rattle.ucl_word.specs.Record.{IsReporter}
 use Rattle.ucl_board.specs.History.{board_of}
 use Rattle.ucl_steps.specs.declared.trace.Reply.{Reply}
 use Rattle.ucl_steps.specs.declared.trace.Reply.TheVariants.{Accepted}
-use Rattle.ucl_shared.proofs.KeptBoards.{apart, low, Kept, kept, moved, one_more, joined}
+use Rattle.ucl_live_board.proofs.KeptBoards.{apart, low, Kept, kept, moved, one_more, joined}
 use Rattle.ucl_pass.proofs.Bursts.{reading_at_once, refused_at_once, accepted_at_once}
 
 -- the thirteen words

@@ -5,7 +5,7 @@ use Rattle.ucl_pass.proofs.Common.{actor_of, views_known, left_cell_pass, second
 use Rattle.ucl_pass.proofs.Common.{after_load, LookOfCell, AddOfCell, ReadOfCell, CountOfCell, EnlistOfCell, TellsAndStands, CellGoesOnWith, LaterCellsGoOn, CellRunsGrow, CellNumbersRise, actors_of}
 use Rattle.ucl_pass.proofs.Common.{HaveGoneOn, RuleWith, at_map}
 use Rattle.ucl_steps.proofs.GoneOn.{gone_same, gone_through}
-use Rattle.ucl_shared.proofs.LaterLogs.{says_found, go_through, step_goes, split_goes, hearing_goes, number_rises}
+use Rattle.ucl_live_board.proofs.LaterLogs.{says_found, go_through, step_goes, split_goes, hearing_goes, number_rises}
 use Rattle.ucl_pass.specs.CellLater.{CellKind, LetsPassGoOn, CellStepped, CellSplit, CellHeard, CellStepsTo, CellLeadsTo, CellStepsLeadOn, CellFindsEnlisted}
 use Rattle.ucl_pass.proofs.KeptRule.{found_last}
 use Rattle.ucl_pass.specs.CellLater.{CellLook, CellAdd, CellRead, CellCount, CellEnlist, CellSecond, CellNoted, CellHears}

@@ -18,15 +18,15 @@ pub use Rattle.ucl_board.specs.Log.{taken_by}
 pub use Rattle.ucl_board.specs.Words.{AreWords, greatest_version, version_of, word_at}
 pub use Rattle.ucl_board.specs.declared.entry.Entry.{Entry}
 pub use Rattle.ucl_board.specs.declared.reading.Reading.{Reading}
-pub use Rattle.ucl_shared.proofs.CallsBySteps.{all_more, number_told, one_more, room, sound_kept, takes_count, takes_none, takes_on}
-pub use Rattle.ucl_shared.proofs.KeptRule.{RuleWith, add, add_keeps, add_tells, count, enlist_keeps, enlist_tells, enlisted_as, entered, logged, longer_history, look}
-pub use Rattle.ucl_shared.proofs.KeptRule.{look_keeps, look_tells, looked, note_added, note_joined, same_history, second_added, unchanged_history}
-pub use Rattle.ucl_shared.specs.CallSteps.{EnlistSteps, FoundEnlisted, IsOnEnlisted, MeetingSteps, steps_with}
-pub use Rattle.ucl_shared.specs.OneHistory.{KeepsOneHistory}
-pub use Rattle.ucl_shared.specs.Passes.{AcceptedReport, Continues, Enlistment, Hearing, RefusedReport, SeesOn, SharedReading}
-pub use Rattle.ucl_shared.specs.Steps.{Enlists, no_call}
-pub use Rattle.ucl_shared.specs.Views.{Takes, count_of, kept_of, newcomer, note_of, opener, pass_view_of, second_of, steps_of, told_by, trail_of}
-pub use Rattle.ucl_shared.specs.declared.view.View.{View}
+pub use Rattle.ucl_live_board.proofs.CallsBySteps.{all_more, number_told, one_more, room, sound_kept, takes_count, takes_none, takes_on}
+pub use Rattle.ucl_live_board.proofs.KeptRule.{RuleWith, add, add_keeps, add_tells, count, enlist_keeps, enlist_tells, enlisted_as, entered, logged, longer_history, look}
+pub use Rattle.ucl_live_board.proofs.KeptRule.{look_keeps, look_tells, looked, note_added, note_joined, same_history, second_added, unchanged_history}
+pub use Rattle.ucl_live_board.specs.CallSteps.{EnlistSteps, FoundEnlisted, IsOnEnlisted, MeetingSteps, steps_with}
+pub use Rattle.ucl_live_board.specs.OneHistory.{KeepsOneHistory}
+pub use Rattle.ucl_live_board.specs.Passes.{AcceptedReport, Continues, Enlistment, Hearing, RefusedReport, SeesOn, SharedReading}
+pub use Rattle.ucl_live_board.specs.Steps.{Enlists, no_call}
+pub use Rattle.ucl_live_board.specs.Views.{Takes, count_of, kept_of, newcomer, note_of, opener, pass_view_of, second_of, steps_of, told_by, trail_of}
+pub use Rattle.ucl_live_board.specs.declared.view.View.{View}
 pub use Rattle.ucl_steps.proofs.Accesses.{clean_shows, collect_more, collect_none, collect_set, follows_append, follows_longer, follows_one, follows_wider, reading_whole, report_whole, unclean_try}
 pub use Rattle.ucl_steps.proofs.OneStep.{IsNow, none_of}
 pub use Rattle.ucl_steps.proofs.Seats.{place_below}

@@ -5,8 +5,8 @@ use Rattle.ucl_words.proofs.Common.{Hearing, pass_view_of, steps_of, count_of, t
 use Rattle.ucl_words.proofs.Common.{all_more, takes_none, takes_on, takes_count, one_more, sound_kept, LoadsEnlisted, EnlistWon, HasTrail, IsSteady, Enlisting, EnlistTries, KeepsTrail, WordView}
 use Rattle.ucl_words.proofs.Common.{note_pass, IsNotePass}
 use Rattle.std.specs.Prelude.{Option}
-use Rattle.ucl_shared.proofs.Lists.{none_by_zero}
-use Rattle.ucl_shared.proofs.Halves.{half_acts, half_not_whole}
+use Rattle.ucl_live_board.proofs.Lists.{none_by_zero}
+use Rattle.ucl_live_board.proofs.Halves.{half_acts, half_not_whole}
 use Rattle.ucl_words.proofs.StepRuns.{trail_longer, takes_trail}
 
 -- a step on the enlist word leaves no access

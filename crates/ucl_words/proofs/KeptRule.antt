@@ -9,8 +9,8 @@ use Rattle.ucl_words.proofs.Common.{accesses_of_log, IsRunOfLog, IsNow, at_map, 
 use Rattle.ucl_words.proofs.Common.{IsHoldingFor, words_after, known, word_actor, word_actors, TableKeepsOneHistory, Stands, StandAfterSplit, LoadsMatch, point_shown, ExchangeWon, IsNextWord}
 use Rattle.ucl_words.proofs.Common.{LookStep, FirstStep, SecondStep, EnlistedStep, ExchangeStep, EnlistStep, room, RuleWith}
 use Rattle.ucl_word.specs.Record.{IsReporter}
-use Rattle.ucl_shared.proofs.KeptRule as moves
-use Rattle.ucl_shared.proofs.KeptBoards.{apart, low, Kept, kept, moved, one_more, joined}
+use Rattle.ucl_live_board.proofs.KeptRule as moves
+use Rattle.ucl_live_board.proofs.KeptBoards.{apart, low, Kept, kept, moved, one_more, joined}
 use Rattle.ucl_steps.specs.declared.step.Caller.{Caller}
 use Rattle.ucl_steps.specs.declared.step.Caller.TheVariants.{Reporter, Reader}
 use Rattle.ucl_steps.specs.declared.step.Cast.{Cast}

@@ -11,7 +11,7 @@ use mathlib.Core.Option as library
 use native.Mathlib.Decide.{ℕ_discrete}
 use Rattle.ucl_steps.specs.declared.step.Call.TheVariants.{Event, Reading}
 use Rattle.ucl_steps.proofs.GoneOn.{gone_same, gone_through}
-use Rattle.ucl_shared.proofs.LaterLogs.{says_found, go_through, step_goes, split_goes, hearing_goes, number_rises}
+use Rattle.ucl_live_board.proofs.LaterLogs.{says_found, go_through, step_goes, split_goes, hearing_goes, number_rises}
 use Rattle.ucl_words.specs.Later.{StepKind, LetsGoOn, PassSteps, PassSplits, PassHears, StepsTo, LeadsTo, StepsLeadOn, FindsEnlisted}
 use Rattle.ucl_words.specs.Later.{ByLook, ByFirst, BySecond, ByCount, BySwap, ByEnlist, BySplit, ByNote, ByHearing}
 use Rattle.ucl_words.proofs.KeptRule.{known_at, enlist_word}

@@ -1,5 +1,5 @@
 use Rattle.ucl_pass.proofs.Common.{rules, List, ℕ, ◌∷◌, ◌++◌, sym, subst, ap, ◌∙◌, [], words_after, CellStands}
-use Rattle.ucl_shared.proofs.LogFacts.{opens_fresh}
+use Rattle.ucl_live_board.proofs.LogFacts.{opens_fresh}
 use Rattle.ucl_pass.proofs.KeptRule.{begins, begins_stands}
 use Rattle.ucl_pass.proofs.cell_board.CellBoard.open.Goals as goal
 

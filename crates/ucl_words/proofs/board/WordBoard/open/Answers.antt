@@ -1,4 +1,4 @@
-use Rattle.ucl_shared.proofs.LogFacts.{opens_fresh}
+use Rattle.ucl_live_board.proofs.LogFacts.{opens_fresh}
 use Rattle.ucl_words.proofs.Common.{words_after, ℕ, sym, subst, Stands}
 use Rattle.ucl_words.proofs.KeptRule.{opens, opened_stands}
 use Rattle.ucl_words.proofs.board.WordBoard.open.Goals as goal
