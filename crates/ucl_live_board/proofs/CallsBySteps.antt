@@ -39,11 +39,8 @@ all_more P (y ∷ xs) x all one = (all.0, all_more P xs x all.1 one)
 
 -- one step more on the number of the enlisted
 pub one_more : (v w u : View) (found at : ℕ) → EnlistSteps v w → Takes w (step_taken (Enlisted found) at None ∷ []) u → EnlistSteps v u
-one_more v w u found at s t = record {
-  steps = s.steps ++ step_taken (Enlisted found) at None ∷ [];
-  takes = takes_on v w u s.steps (step_taken (Enlisted found) at None ∷ []) s.takes t;
-  on_enlisted = all_more IsOnEnlisted s.steps (step_taken (Enlisted found) at None) s.on_enlisted (found, (refl, refl));
-}
+one_more v w u found at s t =
+    search (arith, takes_on v w u s.steps (step_taken (Enlisted found) at None ∷ []) s.takes t, all_more IsOnEnlisted s.steps (step_taken (Enlisted found) at None) s.on_enlisted (found, (refl, refl)))
 
 pub number_told : (u v : View) (r : Option ℕ) (n : ℕ) → Enlistment (pass_view_of u) (pass_view_of v) → v.number ≡ n → IfSome r (λ k. k ≡ n)
     → IfSome r (λ k. Enlistment (pass_view_of u) (pass_view_of v) × (v.number ≡ k))

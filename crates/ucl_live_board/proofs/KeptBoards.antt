@@ -62,12 +62,7 @@ module _ (words_after : List Entry → ℕ → List ℕ) {V A : Type 0} (pass : 
       one_more none more u w same is m =
           kept words (set views seat u ++ w ∷ []) (set (map pass views) seat (pass u) ++ pass w ∷ []) r.enlisted r.log m
           (sym (map-append pass (set views seat u) (w ∷ []) ∙ ap (λ (l : List View). l ++ pass w ∷ []) (map-set pass views seat u)))
-          (λ readers all.
-          let long = length-append (set views seat u) (w ∷ []) in
-          let wide = length-set views seat u in
-          let actors = length-map views actor in
-          let are : map actor (set views seat u ++ w ∷ []) ≡ map actor views ++ none ∷ [] = search (arith, map-append, still) in
-          subst (Run readers r.enlisted r.log) (sym are) (more readers (map actor views) (runs readers (omega arith)) (omega arith)))
+          (search (arith, length-append, length-set, length-map, map-append, still))
 
       -- one pass took another in, which is then another one: both with the same actors
       pub joined : (u : V) (other : ℕ) (z w : V) → get_elem? (set views seat u) other ≡ some z → actor u ≡ actor v → actor w ≡ actor z
@@ -75,8 +70,4 @@ module _ (words_after : List Entry → ℕ → List ℕ) {V A : Type 0} (pass : 
       joined u other z w there same is m =
           kept words (set (set views seat u) other w) (set (set (map pass views) seat (pass u)) other (pass w)) r.enlisted r.log m
           (sym (map-set pass (set views seat u) other w ∙ ap (λ (l : List View). set l other (pass w)) (map-set pass views seat u)))
-          (λ readers all.
-          let wide = length-set views seat u in
-          let wider = length-set (set views seat u) other w in
-          let are : map actor (set (set views seat u) other w) ≡ map actor views = search (arith, map-set, set_again, at_map, still) in
-          subst (Run readers r.enlisted r.log) (sym are) (runs readers (omega arith)))
+          (search (arith, length-set, map-set, set_again, at_map, still))

@@ -157,9 +157,7 @@ module _ (words_after : List Entry → ℕ → List ℕ) where
         → (j : ℕ) × (u : View) × (get_elem? (set views seat w) j ≡ some u) × (u.number ≡ n)
     still_given w enlisted same le n low high =
         let g = r.given n low (omega arith) in
-        dite (ℕ_discrete g.0 seat)
-        (λ is. (seat, w, set_here views seat w below, same ∙ (ap (λ (u : View). u.number) (some-injective v g.1 (sym here ∙ (ap (get_elem? views) (sym is) ∙ g.2))) ∙ g.3)))
-        (λ not. (g.0, g.1, set_else views seat g.0 w not ∙ g.2, g.3))
+        search (arith, set_here views seat w below, get_elem? views, dite, below, some-injective, set_else)
 
     still_alone : (w : View) → w.number ≡ v.number → (j : ℕ) (u : View) → j ≢ seat → get_elem? views j ≡ some u → 0 < w.number → w.number ≢ u.number
     still_alone w is j u ne e pos same = ne (sym (r.apart seat j v u here e (subst (λ (n : ℕ). 0 < n) is pos) (sym is ∙ same)))
@@ -399,10 +397,7 @@ module _ (words_after : List Entry → ℕ → List ℕ) where
         let r2 = halved words views r seat v here in
         let f = r2.rule.fits seat (kept_of v) (set_here views seat (kept_of v) (below words views r seat v here)) in
         added words (set views seat (kept_of v)) r.enlisted r.log r2 (second_of v) refl refl refl refl f.seen refl f.listed
-        (λ j u e over. ⊎_elim
-        (λ (t : (j ≡ seat) × (kept_of v ≡ u)). halves_apart v.share (subst (λ (q : View). Overlap (second_half v.share) q.share) (sym t.1) over))
-        (λ (t : (j ≢ seat) × (get_elem? views j ≡ some u)). still_lone words views r seat v here v refl j u t.0 t.1 (half_overlaps true v.share u.share over))
-        (at_set views seat j (kept_of v) u e))
+        (λ j u e over. search (arith, get_elem?, still_lone, half_overlaps, at_set, halves_apart))
 
     pub note_added : RuleWith words (set views seat v ++ note_of v ∷ []) r.enlisted r.log
     note_added =

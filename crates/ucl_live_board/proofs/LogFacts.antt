@@ -60,13 +60,7 @@ module _ (seat j : ℕ) (t : Taken) (steps : List Taken) (old new : Log)
     (knows : Knows seat (logged_by j t ∷ old) new) (more : taken_by seat new ≡ taken_by seat (logged_by j t ∷ old) ++ steps) where
   onward : (rest : Log) → new ≡ logged_by j t ∷ rest → new ≡ logged_by j t ∷ (old ++ map (logged_by seat) steps)
   onward rest is =
-      let before : taken_by seat (logged_by j t ∷ rest) ≡ taken_by seat (logged_by j t ∷ old) ++ steps = sym (ap (taken_by seat) is) ∙ more in
-      let after : taken_by seat rest ≡ taken_by seat old ++ steps = dite (ℕ_discrete j seat)
-      (λ own. tail_same t t (taken_by seat rest) (taken_by seat old ++ steps)
-      (sym (taken_here seat t rest) ∙ (subst (λ (k : ℕ). taken_by seat (logged_by k t ∷ rest) ≡ taken_by seat (logged_by k t ∷ old) ++ steps) own before
-      ∙ ap (λ (l : List Taken). l ++ steps) (taken_here seat t old))))
-      (λ not. sym (taken_else seat j t rest not) ∙ (before ∙ ap (λ (l : List Taken). l ++ steps) (taken_else seat j t old not))) in
-      is ∙ ap (λ (l : Log). logged_by j t ∷ l) (onward_from rest (both_after seat (logged_by j t) old rest (subst (Knows seat (logged_by j t ∷ old)) is knows)) after)
+      search (arith, taken_here seat t rest, taken_here seat t old, both_after seat (logged_by j t) old rest (subst (Knows seat (logged_by j t ∷ old)) is knows), dite, tail_same, taken_else)
 
   else_ : j ≢ seat → new ≡ logged_by j t ∷ (old ++ map (logged_by seat) steps)
   else_ not =
@@ -83,9 +77,7 @@ module _ (seat j : ℕ) (t : Taken) (steps : List Taken) (old new : Log)
       go : (log : Log) → new ≡ log → new ≡ logged_by j t ∷ (old ++ map (logged_by seat) steps)
       go [] empty = let l = ap length (sym (ap (taken_by seat) empty) ∙ mine) in absurd (omega arith)
       go (y ∷ rest) full = dite (ℕ_discrete y.seat seat)
-          (λ own_too.
-          let same : y.step ≡ t = search (arith, head_same, taken_here, mine) in
-          onward rest (full ∙ (λ z. logged_by ((own_too ∙ sym is) z) (same z) ∷ rest)))
+          (search (arith, head_same, taken_here, onward))
           (λ not.
           let k = knows y.seat not in
           let any : taken_by y.seat k.0 ≢ [] = (λ none. some_here y.seat y.step rest (ap (taken_by y.seat) (sym full) ∙ (sym k.4 ∙ none))) in
@@ -142,8 +134,7 @@ last_sees_all words_after words views r before seat x v is here =
     let none : length (taken_by seat f.knows.0) ≡ 0 = omega (arith, ap length cut, length-append (taken_by seat v.log) (taken_by seat f.knows.0), ap length (f.all_own ∙ f.own)) in
     let whole : v.log ≡ r.log = ⊎_elim
     (λ empty. sym (append-nil v.log) ∙ (ap (λ (l : Log). v.log ++ l) (sym empty) ∙ f.knows.1))
-    (λ (t : (init : Log) × (f.knows.0 ≡ init ++ logged_by seat x ∷ [])). let l = ap length (ap (taken_by seat) t.1 ∙ taken_own seat t.0 x) in
-    absurd (omega (arith, none, l, length-append (taken_by seat t.0) (x ∷ []))))
+    (search (arith, taken_own, length-append))
     (end_in v.log f.knows.0 before (logged_by seat x) (f.knows.1 ∙ is)) in
     same_from_both v.seen (history_of r.log) f.seen (subst (λ (l : Log). IsPrefix (history_of l) v.seen) whole f.sees)
 
@@ -169,9 +160,7 @@ opens_fresh words_after words r =
 all_of : (P : ℕ → Type 0) (log : Log) → ((j : ℕ) → taken_by j log ≢ [] → P j) → All (λ (x : Logged). P x.seat) log
 all_of P [] each = All-nil (λ (x : Logged). P x.seat)
 all_of P (x ∷ log) each = All-cons (λ (y : Logged). P y.seat) x log (each x.seat (some_here x.seat x.step log))
-    (all_of P log (λ j any. each j (λ none. dite (ℕ_discrete x.seat j)
-    (λ is. some_here j x.step log (ap (λ (k : ℕ). taken_by j (logged_by k x.step ∷ log)) (sym is) ∙ none))
-    (λ not. any (sym (taken_else j x.seat x.step log not) ∙ none)))))
+    (all_of P log (λ j any. each j (λ none. search (arith, dite, some_here, taken_else))))
 
 module _ (words_after : List Entry → ℕ → List ℕ) (words : List ℕ) (views : List View) (r : KeepsOneHistory words_after words views) (held : ℕ → Bool) where
   one_holds : (way : List Bool) → IsHeld views held way → (seat : ℕ) (u : View) → get_elem? views seat ≡ some u → Overlap u.share (Some way) → IsTrue (held seat)

@@ -148,8 +148,7 @@ module _ (cast : Cast) (seat number : ℕ) (steps : List Step) (w : MachineState
       let legal = (run_kept steps [] (initial_state cast) w (kept_at_start cast) run).legal in
       let back : record_at found_at ≡ match_after w.history e.game = read_back w.history e.game legal in
       let accepts : refusal_of (match_after w.history e.game) e.expected e.kind ≡ None = ap (λ (m : MatchRecord). refusal_of m e.expected e.kind) (sym back) ∙ is in
-      ap (λ (m : MatchRecord). (record_at (word_of (after m number e.kind))).number) back
-      ∙ (number_next w.history (entry_of number e) legal (may_attempt w.history (attempted number e) legal may accepts) ∙ ap (λ (m : MatchRecord). m.number + 1) (sym back))
+      search (arith, number_next w.history (entry_of number e) legal (may_attempt w.history (attempted number e) legal may accepts), may_attempt w.history (attempted number e) legal may accepts)
 
   pub accepted_at_once : refusal_of (record_at found_at) e.expected e.kind ≡ None
       → Burst seat number w (Reporter number) (ends (Event e) (Accepted (record { number = (record_at found_at).number + 1 })) (length w.history) (length w.history + 1) d) (entry_of number e ∷ [])

@@ -86,11 +86,7 @@ module _ (call : EventCall) (v w u : View) (x : List ℕ) (tried : TriedReport c
   module _ (refusal : Refusal) (said : (history : List Entry) → IsLegal history → board_of history ≡ take 12 x → Err refusal ≡ sequential_reply history call)
       (answer : reply_of (record_at (word_at x call.game)) call ≡ Err refusal) where
     pub refuses : RefusedReport (pass_view_of v) call refusal (pass_view_of u)
-    refuses = record {
-      answer = sym (said u.seen looked.sees.goes.legal (sym (board_seen x w u looked.seen_all looked.sees.goes)));
-      mine = look_stays.mine;
-      shown = look_stays.shown;
-    }
+    refuses = search (arith, board_seen x w u looked.seen_all looked.sees.goes)
 
     pub refused_steps : CellReport v call (Err refusal) u
     refused_steps = record {
@@ -126,9 +122,7 @@ module _ (call : EventCall) (v w u : View) (x : List ℕ) (tried : TriedReport c
           missed = record { at = length u.seen; accesses = refl; may = may };
         });
         lost = lost_more v.listed tried.tries one w.listed z.listed tried.lost (let a = looked.seen_all.listed in let b = lost.seen_all.listed in omega arith)
-            (λ is.
-            let less = enlisted_between u z x y looked.seen_all.words_are lost.seen_all.words_are other lost.sees.goes.seen lost.seen_all.listed (eqb-true (length u.seen) (length z.seen) is) in
-            omega arith);
+            (search (arith, enlisted_between, eqb-true));
       }
 
   -- they accept, and an exchange was won
@@ -218,10 +212,7 @@ module _ (v w u : View) (x : List ℕ) (tried : TriedEnlist v w) (looked : Looks
         takes = search (arith, append_assoc, takes_on, count_takes);
         missed = all_more CellEnlistMissed tried.tries one tried.missed (record { loaded = slice_index x 12; found = slice_index y 12; at = length u.seen; later = length z.seen; steps_are = refl });
         lost = lost_more v.listed tried.tries one w.listed z.listed tried.lost (let a = looked.seen_all.listed in let b = missed.seen_all.listed in omega arith)
-            (λ is.
-            let less = enlisted_between u z x y looked.seen_all.words_are missed.seen_all.words_are other missed.sees.goes.seen missed.seen_all.listed
-            (eqb-true (length u.seen) (length z.seen) is) in
-            omega arith);
+            (search (arith, enlisted_between, eqb-true));
       }
 
   module _ (z : View) (next : List ℕ) (stored : StoresReporter u x next z) where
@@ -247,11 +238,7 @@ module _ (a v w : View) (x : List ℕ) (looked : LooksAtEnlisted (told_by v (not
   met_continues = search (arith, sound, own_first)
 
   pub met_steps : MeetingSteps v w
-  met_steps = record {
-    found = slice_index x 12;
-    takes = record { own = looked.sees.takes.own; copied = looked.sees.takes.copied };
-    listed = sym (last_seen x (told_by v (note_of a)) w looked.seen_all looked.sees.goes);
-  }
+  met_steps = search (arith, last_seen x (told_by v (note_of a)) w looked.seen_all looked.sees.goes)
 
 -- the finished calls after a report, and between its tries
 

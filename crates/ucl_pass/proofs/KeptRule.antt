@@ -46,9 +46,7 @@ looked_there : (kind : AccessKind) (game : ℕ) (x : List ℕ) (h : List Entry) 
 looked_there kind game x h n is are = (is, ap (λ (ws : List ℕ). word_at ws game) are ∙ match_word h n game is)
 
 entry_differs : (h : List Entry) (n : ℕ) (e : Entry) → IsLegal (followed_by h e) → words_after h n ≢ words_after (followed_by h e) n
-entry_differs h n e legal same =
-    let boards : board_of h ≡ board_of (followed_by h e) = sym (match_words h n) ∙ (ap (take 12) same ∙ match_words (followed_by h e) n) in
-    (one_word h e legal).changed (sym (ap (λ (b : List ℕ). word_at b e.game) boards))
+entry_differs h n e legal same = search (arith, match_words h n, match_words (followed_by h e) n, one_word h e legal)
 
 reporter_differs : (h : List Entry) (n : ℕ) → words_after h n ≢ words_after h (n + 1)
 reporter_differs h n same = let e : n ≡ n + 1 = sym (last_word h n) ∙ (ap (λ (l : List ℕ). slice_index l 12) same ∙ last_word h (n + 1)) in omega arith
@@ -123,8 +121,7 @@ module _ (x : List ℕ) (views : List CellView) (r : CellKeepsOneHistory x views
 
     -- a load that decides nothing
     idle_load : (shown : List ℕ) → CellKeepsOneHistory x (set views seat (record { pass = seen_by_load shown; calls = v.calls }))
-    idle_load shown = load_keeps shown v.calls (λ readers all. subst (λ (h : List Entry). IsRunOfActors readers r.shared.enlisted h (set (actors_of views) seat (actor_of v))) (sym (load_same shown))
-        (subst (IsRunOfActors readers r.shared.enlisted (history_of r.shared.log)) (sym (set_again (actors_of views) seat (actor_of v) actor_at)) (r.one_run readers all)))
+    idle_load shown = search (arith, load_same shown, set_again (actors_of views) seat (actor_of v) actor_at, load_keeps)
 
     -- one that decides a call, by all steps of it
     deciding_load : (shown : List ℕ) (calls : List Answer) (c : Caller)
@@ -188,11 +185,8 @@ pub looks : (seat : ℕ) (v : CellView) (e : EventCall) → IsSome v.pass.share 
 looks seat v e acts pos is x views r here = look_by x views r seat v e here acts pos is (refusal_of (record_at (word_at x e.game)) e.expected e.kind) refl
 
 pub counts : (seat : ℕ) (v : CellView) → IsSome v.pass.share → Turns CellKeepsOneHistory seat v (λ x. x) CountOfCell
-counts seat v acts x views r here = (
-  record { pass = seen_by_load x views r seat v here acts (Enlisted (slice_index x 12)) tt v.pass.shown; calls = v.calls },
-  idle_load x views r seat v here acts (Enlisted (slice_index x 12)) tt v.pass.shown,
-  record { counts = load_tells x views r seat v here acts (Enlisted (slice_index x 12)) tt v.pass.shown; calls = refl },
-)
+counts seat v acts x views r here =
+    search (arith, idle_load x views r seat v here acts (Enlisted (slice_index x 12)) tt v.pass.shown, load_tells x views r seat v here acts (Enlisted (slice_index x 12)) tt v.pass.shown)
 
 pub reads : (seat : ℕ) (v : CellView) → IsSome v.pass.share → Turns CellKeepsOneHistory seat v (λ x. x) ReadOfCell
 reads seat v acts x views r here =
@@ -215,8 +209,7 @@ reads seat v acts x views r here =
 
 -- a board may open with the words of no event and no reporter
 pub begins : (words : List ℕ) → words ≡ words_after [] 0 → CellKeepsOneHistory words (first_cell_pass ∷ [])
-begins words are = of_kept words (first_cell_pass ∷ [])
-    (kept words_after pass_of actor_of RunOf words (first_cell_pass ∷ []) (opener ∷ []) 0 [] (opens words_after words are) refl (λ readers all. run_begins readers all))
+begins words are = search (arith, kept words_after pass_of actor_of RunOf words (first_cell_pass ∷ []) (opener ∷ []) 0, opens words_after words are, of_kept, run_begins)
 
 -- its first pass stands there, as the only one
 pub begins_stands : CellStands 0 first_cell_pass
@@ -294,12 +287,7 @@ module _ (x next : List ℕ) (views : List CellView) (r : CellKeepsOneHistory x 
       }
 
   store_decides : HasAccepted e (word_at x e.game) v after_store
-  store_decides = record {
-    begun = length (history_of r.shared.log);
-    last = one_longer;
-    since = begins_length v.pass.seen (history_of r.shared.log) (r.shared.fits seat v.pass known_here).seen;
-    calls = refl;
-  }
+  store_decides = search (arith, begins_length v.pass.seen (history_of r.shared.log) (r.shared.fits seat v.pass known_here).seen, one_longer)
 
   store_differs : x ≢ next
   store_differs same = entry_differs (history_of r.shared.log) r.shared.enlisted entry next_is.1 (sym r.shared.words_are ∙ (same ∙ next_is.0))
@@ -363,12 +351,7 @@ module _ (x : List ℕ) (views : List CellView) (r : CellKeepsOneHistory x views
       (low_actors x views r)))
 
   enlisting_tells : StoresReporter v.pass x (with_one_more x) seen_by_enlisting
-  enlisting_tells =
-      let f = r.shared.fits seat v.pass seat_known in
-      record {
-        seen_all = record { words_are = more ∙ ap (λ (h : List Entry). words_after h (r.shared.enlisted + 1)) (sym enlisting_same); listed = omega arith; up_to_date = refl };
-        enlists = subst (λ (n : ℕ). Enlists n v.pass seen_by_enlisting) (found_last x views r) (enlist_tells words_after x (views_known views) r.shared seat v.pass seat_known acts reader left);
-      }
+  enlisting_tells = search (arith, found_last x views r, enlist_tells words_after x (views_known views) r.shared seat v.pass seat_known acts reader left, more, enlisting_same, left)
 
   enlisting_differs : x ≢ with_one_more x
   enlisting_differs same = reporter_differs (history_of r.shared.log) r.shared.enlisted (sym r.shared.words_are ∙ (same ∙ more))
@@ -385,19 +368,13 @@ enlists seat v current next acts reader room is x views r here =
       enlisting_keeps x views r seat v here acts reader room',
       record { reader = reader; enlists = inr (enlisting_differs x views r seat v here acts reader room', enlisting_tells x views r seat v here acts reader room'); calls = refl },
     ))
-    (λ _. (
-      record { pass = seen_by_load x views r seat v here acts (Enlisted (slice_index x 12)) tt v.pass.shown; calls = v.calls },
-      idle_load x views r seat v here acts (Enlisted (slice_index x 12)) tt v.pass.shown,
-      record { reader = reader; enlists = inl (refl, load_tells x views r seat v here acts (Enlisted (slice_index x 12)) tt v.pass.shown); calls = refl },
-    ))
+    (λ _. search (arith, idle_load x views r seat v here acts (Enlisted (slice_index x 12)) tt v.pass.shown, load_tells x views r seat v here acts (Enlisted (slice_index x 12)) tt v.pass.shown))
 
 -- one pass more, that has finished no call, beside one that has finished what it had finished
 split_keeps : (x : List ℕ) (views : List CellView) (r : CellKeepsOneHistory x views) (seat : ℕ) (v : CellView) (here : get_elem? views seat ≡ some v) (u w : CellView) → actor_of u ≡ actor_of v
     → actor_of w ≡ record { number = 0; doing = nothing_done }
     → RuleWith words_after x (set (views_known views) seat u.pass ++ w.pass ∷ []) r.shared.enlisted r.shared.log → CellKeepsOneHistory x (set views seat u ++ w ∷ [])
-split_keeps x views r seat v here u w same none m = of_kept x (set views seat u ++ w ∷ [])
-    (one_more words_after pass_of actor_of RunOf x views r.shared r.one_run seat v here (record { number = 0; doing = nothing_done })
-    (λ readers actors one less. run_more readers r.shared.enlisted (history_of r.shared.log) actors one less) u w same none m)
+split_keeps x views r seat v here u w same none m = search (arith, of_kept, one_more, run_more)
 
 pub seconds : (seat : ℕ) (v : CellView) → Forks CellKeepsOneHistory seat v (left_cell_pass v) (second_cell_pass v)
 seconds seat v x views r here =

@@ -158,8 +158,7 @@ report_whole h low high now call (Ok reply) ms legal f won =
     let swapped : Access = access Swap call.game won.looked won.before in
     let t : Follows h low (access Look call.game won.looked won.at ∷ swapped ∷ []) high = subst (λ (z : List Access). Follows h low z high) won.accesses f in
     let place : now - 1 ≡ won.before = omega arith in
-    ap (λ (z : ℕ). reply_of (match_after (take z h) call.game) call) place
-    ∙ (ap (λ (z : MatchRecord). reply_of z call) (sym (found_record h swapped call.game legal t.2.1 refl)) ∙ won.answer)
+    search (arith, found_record h swapped call.game legal t.2.1 refl)
 report_whole h low high now call (Err refusal) ms legal f (inl refused) =
     let looked : Access = access Look call.game refused.looked now in
     let t : Follows h low (looked ∷ []) high = subst (λ (z : List Access). Follows h low z high) refused.accesses f in

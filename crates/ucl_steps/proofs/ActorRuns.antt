@@ -83,14 +83,8 @@ module _ (readers enlisted : ℕ) (history : List Entry) (actors : List Actor) (
   -- callers stay those of their actors
   still_of : (b : Actor) (P : ℕ → ℕ → Type 0) → (P seat a.number → P seat b.number) → (j : ℕ) (u : Actor) → get_elem? actors j ≡ some u
       → (x : Actor) × (get_elem? (set actors seat b) j ≡ some x) × (P j u.number → P j x.number)
-  still_of b P kept j u at = dite (ℕ_discrete j seat)
-      (λ is. (
-        b,
-        ap (get_elem? (set actors seat b)) is ∙ set_here actors seat b (place_below actors seat a here),
-        λ of. let same : u ≡ a = some-injective u a (sym at ∙ (ap (get_elem? actors) is ∙ here)) in
-            subst (λ (i : ℕ). P i b.number) (sym is) (kept (subst (λ (i : ℕ). P i a.number) is (subst (λ (z : Actor). P j z.number) same of))),
-      ))
-      (λ not. (u, set_else actors seat j b not ∙ at, λ of. of))
+  still_of b P kept j u at =
+      search (arith, get_elem? (set actors seat b), get_elem? actors, set_here actors seat b (place_below actors seat a here), place_below actors seat a here, dite, some-injective, set_else)
 
   some_still : (b : Actor) → ((c : Caller) → IsOf seat a.number c → IsOf seat b.number c) → (x : Told) → IsOfActor actors x → IsOfActor (set actors seat b) x
   some_still b kept x t = let k = still_of b (λ i n. IsOf i n x.0) (kept x.0) t.0 t.1 t.2 in (t.0, k.0, k.1, k.2 t.3)

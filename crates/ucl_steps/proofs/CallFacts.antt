@@ -94,8 +94,7 @@ module _ (h h' : List Entry) (b : IsPrefix h h') where
     next = s.next;
   }
   sees_later a (Within k (Collecting words)) s = record { reads = s.reads; few = s.few; loaded = loaded_later words (length h) (length h') (le_refl (length h)) (begins_length h h' b) s.loaded }
-  sees_later a (Within k (Checking words checked point)) s = let long = begins_length h h' b in let l = s.late in
-      search (arith, loaded_later, le_refl, moved_word, s.reads, s.twelve, s.few, s.early, s.late, s.loaded, s.same)
+  sees_later a (Within k (Checking words checked point)) s = search (arith, begins_length h h' b, loaded_later, le_refl, moved_word, s.late, s.reads, s.twelve, s.few, s.early, s.loaded, s.same)
   sees_later a (Answered k) s = s
 
   sequential_later : (k : ℕ) (c : Caller) (call : Call) (r : Reply) → k ≤ length h → IsSequential h k c call r → IsSequential h' k c call r

@@ -51,13 +51,7 @@ module _ (xs : List CallRecord) (k : ℕ) (f : CallRecord → CallRecord) where
     -- a call that is not accepted now
     pub once_refused : (h : List Entry) → is_accepted (f a).reply ≡ false → EntryHasOneCall h xs → EntryHasOneCall h (change_at k f xs)
     once_refused h other = once_same h xs (change_at k f xs) (λ i m made. else_made i m (not_made i m made) made)
-        (λ i m made. elim (cases_eq i k) [
-          | inl is ↦
-              let t = and_some (slice_get (change_at k f xs) i) (IsMaker m) made in
-              let same : t.0 ≡ f a = same_Some t.0 (f a) (sym t.1 ∙ (ap (slice_get (change_at k f xs)) is ∙ change_at_here k f xs a here)) in
-              absurd (false≢true (sym other ∙ (ap (λ (z : CallRecord). is_accepted z.reply) (sym same) ∙ t.2.0)))
-          | inr not ↦ made_else i m not made
-        ])
+        (λ i m made. search (arith, cases_eq, and_some, change_at_here, same_Some, false≢true, made_else))
 
     -- the call that made the new entry
     pub once_accepted : (h : List Entry) (e : Entry) → is_accepted (f a).reply ≡ true → (f a).point ≡ Some (length h) → ((i m : ℕ) → Makes xs i m → m < length h) → EntryHasOneCall h xs
@@ -73,10 +67,7 @@ module _ (xs : List CallRecord) (k : ℕ) (f : CallRecord → CallRecord) where
             t.0,
             else_made t.0 m (not_made t.0 m t.1) t.1,
             λ j made. elim (cases_eq j k) [
-              | inl same ↦
-                  let u = and_some (slice_get (change_at k f xs) j) (IsMaker m) made in
-                  let is : u.0 ≡ f a = same_Some u.0 (f a) (sym u.1 ∙ (ap (slice_get (change_at k f xs)) same ∙ change_at_here k f xs a here)) in
-                  absurd (not-last (same_Some m (length h) (sym u.2.1 ∙ (ap (λ (z : CallRecord). z.point) is ∙ point))))
+              | inl same ↦ search (arith, and_some, change_at_here, same_Some)
               | inr not ↦ t.2 j (made_else j m not made)
             ],
           )
@@ -86,10 +77,7 @@ module _ (xs : List CallRecord) (k : ℕ) (f : CallRecord → CallRecord) where
 pub once_begun : (h : List Entry) (xs : List CallRecord) (new : CallRecord) → new.reply ≡ None → EntryHasOneCall h xs → EntryHasOneCall h (xs ++ new ∷ [])
 once_begun h xs new none = once_same h xs (xs ++ new ∷ [])
     (λ i m made. let t = and_some (slice_get xs i) (IsMaker m) made in some_and (slice_get (xs ++ new ∷ []) i) (IsMaker m) t.0 (at_longer xs (new ∷ []) i t.0 t.1) t.2)
-    (λ i m made. let t = and_some (slice_get (xs ++ new ∷ []) i) (IsMaker m) made in elim (at_either xs new i t.0 t.1) [
-      | inl u ↦ some_and (slice_get xs i) (IsMaker m) t.0 u.1 t.2
-      | inr u ↦ absurd (undecided new m none (subst (IsMaker m) (sym u.1) t.2))
-    ])
+    (λ i m made. search (arith, and_some, at_either, some_and, undecided))
 
 accepted_within : (h : List Entry) (c : CallRecord) (p : Option ℕ) (r : Option Reply) (m : ℕ) → IsExplained h c p r → is_accepted r ≡ true → p ≡ Some m → m < length h
 accepted_within h c p r m s made is = search (arith, same_Some, false≢true, none-some)

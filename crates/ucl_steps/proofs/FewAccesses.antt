@@ -136,10 +136,7 @@ few_accesses readers enlisted enlisted' log since actors later r q on apart fini
     by_number (suc n) is few done w t kept steps e less f open_calls ys are =
         let all = by_takers later seat b there (λ c. one_if (is_caller (Reader (seat + 1)) c) + one_if (is_caller (Reporter b.number) c))
         (λ xs. accesses_by (Reader (seat + 1)) xs + accesses_by (Reporter b.number) xs)
-        (λ x xs.
-        let p = longer_by (λ (x : Caller × Access). is_caller (Reader (seat + 1)) x.0) x xs in
-        let q = longer_by (λ (x : Caller × Access). is_caller (Reporter b.number) x.0) x xs in
-        omega arith)
+        (search (arith, longer_by))
         (taker seat b.number) (left_by steps (Some w)) ys are in
         let reads = accesses_few (Reader (seat + 1)) steps (Some w) in
         let reports = accesses_few (Reporter b.number) steps (Some w) in

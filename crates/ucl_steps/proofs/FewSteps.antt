@@ -277,17 +277,8 @@ stays_open c done (s ∷ steps) w t x kept e few held opened idle = option_and_t
     let one = step_counted done w kept s (held_by w.callers (caller_of s)) v refl is in
     elim one.comes [
       | inl decided ↦ absurd (omega arith)
-      | inr g ↦
-          elim (same_caller c (caller_of s)) [
-            | inl own ↦
-                let was : x ≡ one.was = same_Some x one.was (sym held ∙ (ap (held_by w.callers) own ∙ one.held)) in
-                stays_open c (done ++ s ∷ []) steps v t one.is later then (omega arith)
-                (ap (held_by v.callers) own ∙ (ap (λ (z : Callers). held_by z (caller_of s)) one.callers ∙ held_here w.callers (caller_of s) one.was one.is one.held))
-                (g.opens (subst NotAnswered was (open_not x opened))) idle
-            | inr other ↦
-                stays_open c (done ++ s ∷ []) steps v t x later then (omega arith)
-                (ap (λ (z : Callers). held_by z c) one.callers ∙ (held_else w.callers (caller_of s) c one.is one.was one.held other ∙ held)) opened idle
-          ]
+      | inr g ↦ search (arith, same_caller c (caller_of s), held_here w.callers (caller_of s) one.was one.is one.held, stays_open c (done ++ s ∷ []) steps v t one.is later,
+          stays_open c (done ++ s ∷ []) steps v t x later, same_Some, held_else)
     ])
   where
     open_not : (x : Holds) → IsOpen x → NotAnswered x
@@ -306,17 +297,8 @@ takes_none c done (s ∷ steps) w t kept e few not idle = option_and_then_some (
     let one = step_counted done w kept s (held_by w.callers (caller_of s)) v refl is in
     elim one.comes [
       | inl decided ↦ absurd (omega arith)
-      | inr g ↦
-          elim (same_caller c (caller_of s)) [
-            | inl own ↦ absurd (stays_open c (done ++ s ∷ []) steps v t one.is later then (omega arith)
-                (ap (held_by v.callers) own ∙ (ap (λ (z : Callers). held_by z (caller_of s)) one.callers ∙ held_here w.callers (caller_of s) one.was one.is one.held))
-                (g.opens (not_answered one.was (λ k answered. not k (ap (held_by w.callers) own ∙ (one.held ∙ ap Some answered))))) idle)
-            | inr other ↦
-                let rest = takes_none c (done ++ s ∷ []) steps v t later then (omega arith)
-                (λ k answered. not k (sym (held_else w.callers (caller_of s) c one.is one.was one.held other) ∙ (ap (λ (z : Callers). held_by z c) (sym one.callers) ∙ answered))) idle in
-                let count : length (steps_by c (s ∷ steps)) ≡ length (steps_by c steps) = search (arith, not_caller) in
-                omega arith
-          ]
+      | inr g ↦ search (arith, same_caller c (caller_of s), stays_open c (done ++ s ∷ []) steps v t one.is later, held_here w.callers (caller_of s) one.was one.is one.held,
+          takes_none c (done ++ s ∷ []) steps v t later, not_answered, held_else, not_caller)
     ])
 
 -- all callers
@@ -329,11 +311,7 @@ all_left words callers = sum_left words callers.reporters + sum_left words calle
 
 sum_less : (words : List ℕ) (xs : List Holds) (k : ℕ) (x y : Holds) → slice_get xs k ≡ Some x → left_in words y + 1 ≤ left_in words x → sum_left words (slice_set xs k y) + 1 ≤ sum_left words xs
 sum_less words [] k x y at less = absurd (none-some x at)
-sum_less words (z ∷ xs) zero x y at less =
-    let is = ap (left_in words) (same_Some z x at) in
-    let a = sum_by-cons (left_in words) z xs in
-    let b = sum_by-cons (left_in words) y xs in
-    omega arith
+sum_less words (z ∷ xs) zero x y at less = search (arith, same_Some z x at, sum_by-cons (left_in words) z xs, sum_by-cons (left_in words) y xs)
 sum_less words (z ∷ xs) (suc k) x y at less = search (arith, sum_by-cons, sum_less words xs k x y at less)
 
 before_it : (k : ℕ) → k ≡ suc k - 1
@@ -350,11 +328,7 @@ few_in_all done (s ∷ steps) w t kept e few = option_and_then_some (after_steps
     let one = step_counted done w kept s (held_by w.callers (caller_of s)) v refl is in
     elim one.comes [
       | inl decided ↦ absurd (omega arith)
-      | inr g ↦
-          let rest = few_in_all (done ++ s ∷ []) steps v t later then (omega arith) in
-          let now : all_left v.words v.callers ≡ all_left w.words (set_held one.is (caller_of s) w.callers) = search arith in
-          let less = all_less w.words w.callers (caller_of s) one.was one.is one.held g.less in
-          omega arith
+      | inr g ↦ search (arith, all_less, few_in_all (done ++ s ∷ []) steps v t later)
     ])
 
 -- so many reporters and readers as the cast has
@@ -383,7 +357,4 @@ pub some_decided : SomeCallIsDecided
 some_decided cast before steps s t e f same =
     let kept = run_kept before [] (initial_state cast) s (kept_at_start cast) e in
     let sizes = as_cast_run cast [] before (initial_state cast) s (kept_at_start cast) (record { reporters = length-replicate cast.reporters Idle; readers = length-replicate cast.readers Idle }) e in
-    record {
-      each = λ c. each_few c before steps s t kept f same;
-      all = let few = few_in_all before steps s t kept f (omega arith) in let most = all_few cast before s kept sizes in omega arith;
-    }
+    search (arith, few_in_all before steps s t kept f (omega arith), all_few cast before s kept sizes, each_few)

@@ -48,9 +48,7 @@ module _ (steps : List Step) (w : MachineState) (kept : Keeps steps w) (c : Call
       → ((k : ℕ) → in_call y ≡ Some k → Knows h' calls c y k)
       → (d : Caller) (z : Holds) (k : ℕ) → held_by (set_held y c w.callers) d ≡ Some z → in_call z ≡ Some k → Knows h' calls d z k
   knows_all h' calls y b same own d z k at within = elim (same_caller d c) [
-    | inl is ↦
-        let z_is : y ≡ z = same_Some y z (sym (held_here w.callers c x y holds) ∙ (ap (held_by (set_held y c w.callers)) (sym is) ∙ at)) in
-        subst (λ (v : Caller). Knows h' calls v z k) (sym is) (subst (λ (v : Holds). Knows h' calls c v k) z_is (own k (ap in_call z_is ∙ within)))
+    | inl is ↦ search (arith, same_Some, held_here, in_call)
     | inr not ↦
         let t = kept.knows d z k (sym (held_else w.callers c d y x holds not) ∙ at) within in
         record { call = t.call; at = same d k t.call not t.at t.caller; caller = t.caller; unended = t.unended; sees = sees_later w.history h' b t.call z t.sees }
@@ -58,10 +56,7 @@ module _ (steps : List Step) (w : MachineState) (kept : Keeps steps w) (c : Call
 
   -- a call that this caller was not in is held as before
   still_held : (i : ℕ) (a : CallRecord) (y : Holds) → slice_get w.calls i ≡ Some a → a.ended ≡ None → in_call x ≢ Some i → IsHeld (set_held y c w.callers) a.caller i
-  still_held i a y at none other = let o = kept.unended i a at none in elim (same_caller a.caller c) [
-    | inl is ↦ absurd (other (ap in_call (same_Some x o.holds (sym holds ∙ (ap (held_by w.callers) (sym is) ∙ o.held_is))) ∙ o.in_it))
-    | inr not ↦ record { holds = o.holds; held_is = held_else w.callers c a.caller y x holds not ∙ o.held_is; in_it = o.in_it }
-  ]
+  still_held i a y at none other = let o = kept.unended i a at none in search (arith, same_caller a.caller c, in_call, same_Some, held_else)
 
   -- one step within a call
   module _ (k : ℕ) (within : in_call x ≡ Some k) where
@@ -69,9 +64,7 @@ module _ (steps : List Step) (w : MachineState) (kept : Keeps steps w) (c : Call
     mine = kept.knows c x k holds within
 
     other_call : (d : Caller) (i : ℕ) (b : CallRecord) → d ≢ c → slice_get w.calls i ≡ Some b → b.caller ≡ d → i ≢ k
-    other_call d i b not at is same = not (sym is
-        ∙ (ap (λ (z : CallRecord). z.caller) (same_Some b (kept.knows c x k holds within).call (sym at ∙ (ap (slice_get w.calls) same ∙ (kept.knows c x k holds within).at)))
-        ∙ (kept.knows c x k holds within).caller))
+    other_call d i b not at is same = search (arith, same_Some b (kept.knows c x k holds within).call (sym at ∙ (ap (slice_get w.calls) same ∙ (kept.knows c x k holds within).at)))
 
     pub moved : (s : Step) (y : Holds) (h' : List Entry) (words' : List ℕ) (f : CallRecord → CallRecord) → IsInner s → IsPrefix w.history h' → IsLegal h' → words' ≡ board_of h'
         → ((a : CallRecord) → time_of (f a) ≡ time_of a) → EntryHasOneCall h' (change_at k f w.calls)
@@ -89,20 +82,8 @@ module _ (steps : List Step) (w : MachineState) (kept : Keeps steps w) (c : Call
           ];
           once = once;
           turns = search (arith, map_unseen, turns_inner, begins_length);
-          knows = knows_all h' calls' y b (λ e j a other there own. change_at_else k f w.calls j a (other_call e j a other there own) there) (λ j at.
-              subst (λ (v : ℕ). Knows h' calls' c y v) (same_Some k j (sym inside ∙ at)) (record {
-                call = f m.call;
-                at = change_at_here k f w.calls m.call m.at;
-                caller = ap (λ (t : Time). t.caller) (timed m.call) ∙ m.caller;
-                unended = ap (λ (t : Time). t.ended) (timed m.call) ∙ m.unended;
-                sees = told.1;
-              }));
-          unended = λ i a at none. elim (get-change_at k f w.calls i a at) [
-            | inl u ↦
-                let own : a.caller ≡ c = search (arith, same_Some) in
-                record { holds = y; held_is = ap (held_by (set_held y c w.callers)) own ∙ held_here w.callers c x y holds; in_it = inside ∙ ap Some (sym u.0) }
-            | inr u ↦ still_held i a y u.1 none (λ e. u.0 (same_Some i k (sym e ∙ within)))
-          ];
+          knows = knows_all h' calls' y b (λ e j a other there own. change_at_else k f w.calls j a (other_call e j a other there own) there) (search (arith, same_Some, change_at_here));
+          unended = λ i a at none. search (arith, get-change_at, held_here, same_Some, still_held);
         }
 
     -- one step that leaves the calls
@@ -126,14 +107,10 @@ module _ (steps : List Step) (w : MachineState) (kept : Keeps steps w) (c : Call
           words = kept.words;
           explained = search (arith, get-change_at, same_Some, explained_closed);
           once = once_kept w.calls k f w.history (λ a i made. made) (λ a i made. made) kept.once;
-          turns = subst (Turns (steps ++ End c ∷ []) n) (sym (map-change_at time_of k f (ended_at n) (λ a. refl) w.calls))
-              (turns_end steps n (map time_of w.calls) c k (time_of m.call) here m.caller m.unended kept.turns);
+          turns = search (arith, ended_at n, turns_end steps n (map time_of w.calls) c k (time_of m.call) here m.caller m.unended kept.turns, map-change_at);
           knows = knows_all w.history calls' Idle (begins_same w.history) (λ e j a other there own. change_at_else k f w.calls j a (other_call e j a other there own) there)
               (λ j at. absurd (none-some j at));
-          unended = λ i a at none. elim (get-change_at k f w.calls i a at) [
-            | inl u ↦ absurd (none-some n (sym none ∙ ap (λ (z : CallRecord). z.ended) (sym u.3)))
-            | inr u ↦ still_held i a Idle u.1 none (λ e. u.0 (same_Some i k (sym e ∙ within)))
-          ];
+          unended = λ i a at none. search (arith, get-change_at, none-some, still_held, same_Some);
         }
 
   -- a call begins
@@ -155,22 +132,8 @@ module _ (steps : List Step) (w : MachineState) (kept : Keeps steps w) (c : Call
         once = once_begun w.history w.calls new refl kept.once;
         turns = subst (Turns (steps ++ Begin c call ∷ []) n) (sym (map-append time_of w.calls (new ∷ [])))
             (turns_begin steps n (map time_of w.calls) c call (λ i t at own. timed_ended i t at own closed_all) kept.turns);
-        knows = knows_all w.history calls' y (begins_same w.history) (λ e j a other there own. at_longer w.calls (new ∷ []) j a there) (λ j at.
-            subst (λ (v : ℕ). Knows w.history calls' c y v) (same_Some (length w.calls) j (sym inside ∙ at)) (record {
-              call = new;
-              at = at_end w.calls new;
-              caller = refl;
-              unended = refl;
-              sees = sees;
-            }));
-        unended = λ i a at none. elim (at_either w.calls new i a at) [
-          | inl u ↦ still_held i a y u.1 none (λ e. none-some i (ap in_call (sym idle) ∙ e))
-          | inr u ↦ record {
-            holds = y;
-            held_is = ap (held_by (set_held y c w.callers)) (ap (λ (z : CallRecord). z.caller) (sym u.1)) ∙ held_here w.callers c x y holds;
-            in_it = inside ∙ ap Some (sym u.0);
-          }
-        ];
+        knows = knows_all w.history calls' y (begins_same w.history) (λ e j a other there own. at_longer w.calls (new ∷ []) j a there) (search (arith, same_Some, at_end));
+        unended = λ i a at none. search (arith, at_either, in_call, held_here, still_held, none-some);
       }
     where
       timed_ended : (i : ℕ) (t : Time) → slice_get (map time_of w.calls) i ≡ Some t → t.caller ≡ c → ((i : ℕ) (a : CallRecord) → slice_get w.calls i ≡ Some a → a.caller ≡ c → a.ended ≡ None → ⊥)

@@ -112,10 +112,7 @@ module _ (steps : List Step) (w : MachineState) (kept : Keeps steps w) where
           may_attempt w.history (attempted n e) kept.legal ((omega arith, omega arith), sees_it.asks.game) accepted_now
 
       new_is : new ≡ word_of (after (match_after w.history e.game) n e.kind)
-      new_is =
-          let m = kept.knows (Reporter n) (Within k (Holding e old new)) k holds refl in
-          let r_is : sees_it.asks.reporter ≡ n = same_reporter sees_it.asks.reporter n (sym sees_it.asks.caller ∙ m.caller) in
-          sees_it.next ∙ (ap (λ (z : ℕ). word_of (after (record_at old) z e.kind)) r_is ∙ ap (λ (z : MatchRecord). word_of (after z n e.kind)) match_is)
+      new_is = search (arith, same_reporter, match_is, kept.knows, sees_it.asks.reporter, sees_it.asks.caller, sees_it.next, e.kind)
 
       new_number : (record_at new).number ≡ (match_after w.history e.game).number + 1
       new_number = ap (λ (z : ℕ). (record_at z).number) new_is ∙ number_next w.history (entered e n) kept.legal may_follow
@@ -157,9 +154,7 @@ module _ (steps : List Step) (w : MachineState) (kept : Keeps steps w) where
       let long = length_push loaded (slice_index w.words (length loaded)) in
       elim (cases_lt i (length loaded)) [
         | inl l ↦ let t = before i l in (t.0, t.1, get_or_append_left loaded (slice_index w.words (length loaded) ∷ []) 0 i l ∙ t.2)
-        | inr l ↦
-            let is : length loaded ≡ i = omega arith in
-            (now, le_refl now, get_or_push loaded (slice_index w.words (length loaded)) 0 i is ∙ (ap (slice_index w.words) is ∙ word_at_place i (omega arith)))
+        | inr l ↦ search (arith, le_refl now, word_at_place i (omega arith), get_or_push)
       ]
 
   first_kept : (c : Caller) (k : ℕ) (loaded : List ℕ) (holds : held_by w.callers c ≡ Some (Within k (Collecting loaded))) (b : Bool)
@@ -272,10 +267,7 @@ module _ (steps : List Step) (w : MachineState) (kept : Keeps steps w) where
       subst (Keeps (steps ++ Swap (Reporter n) ∷ [])) (same_Some (state_after_swap n k e old new w) w' done) (swap_kept n k e old new holds (word_at w.words e.game == old) refl)
   step_kept (First c) (Some (Within k (Collecting loaded))) w' holds done =
       subst (Keeps (steps ++ First c ∷ [])) (same_Some (state_after_first c k loaded w) w' done) (first_kept c k loaded holds (length (loaded ++ slice_index w.words (length loaded) ∷ []) == 12) refl)
-  step_kept (Second c) (Some (Within k (Checking words checked point))) w' holds done =
-      subst (Keeps (steps ++ Second c ∷ [])) (same_Some (state_after_second c k words checked point w) w' done)
-      (second_kept c k words checked point holds (slice_index w.words checked == slice_index words checked) (checked == 11) refl refl)
-  step_kept (End c) (Some (Answered k)) w' holds done =
-      subst (Keeps (steps ++ End c ∷ [])) (same_Some (with_held Idle c (record w { calls = change_at k (with_end now) w.calls })) w' done)
-      (ended steps w kept c (Answered k) holds k refl (kept.knows c (Answered k) k holds refl).sees)
+  step_kept (Second c) (Some (Within k (Checking words checked point))) w' holds done = search (arith, same_Some (state_after_second c k words checked point w) w' done,
+      second_kept c k words checked point holds (slice_index w.words checked == slice_index words checked) (checked == 11) refl refl)
+  step_kept (End c) (Some (Answered k)) w' holds done = search (arith, ended steps w kept c (Answered k) holds k refl (kept.knows c (Answered k) k holds refl).sees, same_Some)
   step_kept s o w' holds done = absurd (none-some w' done)

@@ -85,10 +85,7 @@ step_alike s a b a' b' alike ea eb =
     let held_b : held_by b.callers c ≡ Some p.holds = q.held ∙ ap (λ (z : Holds). Some z) (sym (alike.holds c p.holds q.holds p.held q.held)) in
     let there : MachineState = record a' { callers = set_held p.then c b.callers } in
     let done : there ≡ b' = same_Some there b' (sym (p.other b.callers held_b) ∙ (ap (λ (st : MachineState). after_step st s) (sym alike.is) ∙ eb)) in
-    subst (Alike a') done (record {
-      is = refl;
-      holds = subst (λ (cs : Callers). HoldAlike cs (set_held p.then c b.callers)) (sym p.callers) (set_alike a.callers b.callers c p.then p.holds p.holds p.held held_b alike.holds);
-    })
+    search (arith, set_alike a.callers b.callers c p.then p.holds p.holds p.held held_b alike.holds)
 
 -- what others hold, and what the caller then holds
 step_keeps : (s : Step) (a a' : MachineState) (d : Caller) → after_step a s ≡ Some a' → d ≢ caller_of s → held_by a'.callers d ≡ held_by a.callers d
@@ -190,9 +187,7 @@ accessing c kind ends rest w last e =
 moving_by : (c : Caller) (begins : Option Call) (kind : AccessKind) (ends : Bool) (rest : List Step) (a last : MachineState)
     → after_steps (steps_of_move (move_of c begins kind ends) ++ rest) a ≡ Some last
     → Moving (move_of c begins kind ends) rest a last
-moving_by c None kind ends rest a last e =
-    let t = accessing c kind ends rest a last e in
-    search (arith, accessing)
+moving_by c None kind ends rest a last e = search (arith, accessing c kind ends rest a last e)
 moving_by c (Some call) kind ends rest a last e = option_and_then_some (after_steps (step_of c kind ∷ end_by c ends ++ rest)) (after_step a (Begin c call)) last e (λ w is then.
     let t = accessing c kind ends rest w last then in
     record {
@@ -242,8 +237,7 @@ ended_keeps c d false v z is not = cc
 ended_keeps c d true v z is not = step_keeps (End c) v z d is not
 
 moved_keeps : (m : Move) (a z : MachineState) (d : Caller) → Moved m a z → d ≢ m.caller → held_by z.callers d ≡ held_by a.callers d
-moved_keeps m a z d t not = search (arith, ended_keeps m.caller d m.ends t.made z t.ends not, caller_of_kind m.caller m.kind, begun_keeps m.caller d m.begins a t.begun t.begins not, step_keeps,
-    m.caller, m.ends, t.made, t.ends, m.kind, t.begun, t.makes, m.begins, t.begins)
+moved_keeps m a z d t not = search (arith, ended_keeps m.caller d m.ends t.made z t.ends not, caller_of_kind m.caller m.kind, begun_keeps m.caller d m.begins a t.begun t.begins not, step_keeps)
 
 -- a caller whose call has its reply makes no move
 none_answered : (c : Caller) (o : Option Call) (kind : AccessKind) (a w v : MachineState) (k : ℕ) → AfterBegin c o a w → after_step w (step_of c kind) ≡ Some v
@@ -306,10 +300,7 @@ module _ (c : Caller) (kind : AccessKind) (o p : Option Call) (x y : Bool) (a b 
   made_alike = search (arith, begin_alike, same_begin, step_alike, step_of)
 
   same_end : x ≡ y
-  same_end =
-      let h = step_holds (step_of c kind) t.begun t.made t.makes in
-      let g = step_holds (step_of c kind) u.begun u.made u.makes in
-      search (arith, same_ends, made_alike, caller_of_kind, h.0, g.0, h.1, g.1)
+  same_end = search (arith, step_holds (step_of c kind) t.begun t.made t.makes, step_holds (step_of c kind) u.begun u.made u.makes, same_ends, made_alike, caller_of_kind)
 
   moved_alike : Alike za zb
   moved_alike = end_alike c x t.made u.made za zb made_alike t.ends (subst (λ (q : Bool). AfterEnd c q u.made zb) (sym same_end) u.ends)

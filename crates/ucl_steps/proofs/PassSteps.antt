@@ -41,12 +41,8 @@ module _ (seat number : ℕ) (c : Caller) (w w' : MachineState) (apart : (d : Ca
   held_else_by begun held high f = search (arith, held_still)
 
   pub fits_else : (d : Doing) → FitsRun w seat number d → FitsRun w' seat number d
-  fits_else d f = record {
-    high = f.high;
-    recorded = records_kept w.calls w'.calls seat number 0 d.calls f.high passes.ended f.recorded;
-    held = held_else_by d.begun d.held f.high f.held;
-    whole = calls_else seat number c w w' apart passes ∙ f.whole;
-  }
+  fits_else d f =
+      search (arith, records_kept w.calls w'.calls seat number 0 d.calls f.high passes.ended f.recorded, held_else_by d.begun d.held f.high f.held, calls_else seat number c w w' apart passes)
 
 -- the machine's move for one step of the pass
 pub record Turn (seat number : ℕ) (w : MachineState) (c : Caller) (m : Access) (d : Doing) (entries : List Entry) : Type 0 where
@@ -135,17 +131,8 @@ module _ (seat number : ℕ) (call : Call) (w : MachineState) (may : MayAsk numb
     begins_under : Under seat number after_it fs call (length w.history) (held_at_begin call)
     begins_under =
         let passes = begins_passes idle_now in
-        record {
-          may = may;
-          high = high;
-          recorded = records_kept w.calls after_it.calls seat number 0 fs high passes.ended recorded;
-          place = length w.calls;
-          low = le;
-          at = at_end w.calls (began mine call (length w.history));
-          held = held_here w.callers mine Idle (held_at_begin call (length w.calls)) idle_now;
-          others = λ d of not. passes.holds d not ∙ idle d of;
-          whole = search (arith, map-append, began, calls_one, own_caller, append-nil);
-        }
+        search (arith, records_kept w.calls after_it.calls seat number 0 fs high passes.ended recorded, at_end w.calls (began mine call (length w.history)), began mine call (length w.history),
+            held_here w.callers mine Idle (held_at_begin call (length w.calls)) idle_now, idle_now, map-append, calls_one, own_caller, append-nil)
 
 -- what comes of a step can be held, by a pass that makes this call
 abbrev CanGo : ℕ → Call → Outcome → Type 0

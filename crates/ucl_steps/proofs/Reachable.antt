@@ -105,11 +105,8 @@ module _ (w : MachineState) (r : IsReachable w) (c : Caller) (o : Option Held) (
       let sees = (kept.knows c (Within k (Checking ws n p)) k (holds (has.Checking k ws n p) is) refl).sees in
       record {
         twelve = sees.twelve;
-        each = λ i d below. let t = sees.loaded i below in record {
-          of = match_after (take t.0 w.history) (i + 1);
-          valid = match_valid (i + 1) (take t.0 w.history) (legal_beginning w.history t.0 kept.legal);
-          packed = sym t.2 ∙ get_or_default ws i 0 d below;
-        };
+        each = λ i d below. let t = sees.loaded i below in
+            search (arith, match_valid (i + 1) (take t.0 w.history) (legal_beginning w.history t.0 kept.legal), legal_beginning w.history t.0 kept.legal, get_or_default ws i 0 d below);
       }
 
   pub wanted_word : (k : ℕ) (e : EventCall) → o ≡ Some (has.Wanting k e) → IsWord (word_at w.words e.game)

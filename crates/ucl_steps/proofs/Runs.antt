@@ -115,8 +115,7 @@ words_of_run cast steps w e = (run_kept steps [] (initial_state cast) w (kept_at
 -- so of every trace
 module _ (cast : Cast) (steps : List Step) (w : MachineState) (trace : Trace) (last : after_steps steps (initial_state cast) ≡ Some w) (left : IsLeftBy w trace) where
   pub linearizable_trace : IsLinearizable steps trace.history.items trace.calls.items
-  linearizable_trace = subst (λ (h : List Entry). IsLinearizable steps h trace.calls.items) (sym left.history)
-      (subst (IsLinearizable steps w.history) (sym left.calls) (linearizable_run cast steps w last))
+  linearizable_trace = search (arith, linearizable_run cast steps w last)
 
   pub words_of_trace : trace.words ≡ board_of trace.history.items
   words_of_trace = left.words ∙ (words_of_run cast steps w last ∙ ap board_of (sym left.history))

@@ -103,12 +103,7 @@ turns_begin steps n ts c call idle k =
                 let f' = back_begins steps s q j d' m f in
                 let below = at_below (begun_in steps) j (d', f'.call) (begins_call steps q j d' f') in
                 k.real p q i j d d' a b o.0 f' l o.1 (get_back ts (new ∷ []) j b (omega arith) at')
-            | inr t ↦
-                let is = number_at_end steps s j d' q t.0 f in
-                elim (at_either ts new j b at') [
-                  | inl u ↦ let lj = u.0 in absurd (omega arith)
-                  | inr u ↦ subst (λ (z : Time). EndedBy a.ended z.begun) u.1 (ended_by a.ended n (k.finished p i d a o.0 o.1) (k.past i a o.1).1)
-                ]
+            | inr t ↦ search (arith, number_at_end steps s j d' q t.0 f, at_either ts new j b at', ended_by a.ended n (k.finished p i d a o.0 o.1) (k.past i a o.1).1)
           ];
     }
   where
@@ -183,13 +178,7 @@ module _ (steps : List Step) (n : ℕ) (ts : List Time) (c : Caller) (k : ℕ) (
       let s = End c in
       record {
         same = begun_in-append steps (s ∷ []) ∙ (append-nil (begun_in steps) ∙ (kept.same ∙ sym (map_unseen told k (ended_at n) (λ x. refl) ts)));
-        past = λ i t at. let w = time_before i t at in let low = (kept.past i w.time w.there).0 in let b = w.begun in (
-          omega arith,
-          elim w.which [
-            | inl u ↦ subst (λ (z : Option ℕ). IfSome z (λ e. e ≤ n)) (sym u.1) (le_refl n)
-            | inr u ↦ subst (λ (z : Time). IfSome z.ended (λ e. e ≤ n)) u.1 (kept.past i w.time w.there).1
-          ],
-        );
+        past = λ i t at. let w = time_before i t at in let low = (kept.past i w.time w.there).0 in let b = w.begun in search (arith, le_refl n);
         turns = λ i j a b l at at' same.
             let w = time_before i a at in
             let v = time_before j b at' in
@@ -209,12 +198,8 @@ module _ (steps : List Step) (n : ℕ) (ts : List Time) (c : Caller) (k : ℕ) (
         closed = λ i a at some.
             let w = time_before i a at in
             elim w.which [
-              | inl u ↦
-                  let caller : c ≡ a.caller = sym own ∙ (ap (λ (z : Time). z.caller) (same_Some held w.time (sym here ∙ (ap (slice_get ts) (sym u.0) ∙ w.there))) ∙ w.caller) in
-                  (length steps, subst (λ (z : ℕ). EndsAt (steps ++ s ∷ []) (length steps) z a.caller) (sym u.0) (subst (EndsAt (steps ++ s ∷ []) (length steps) k) caller new_end))
-              | inr u ↦
-                  let t = kept.closed i a (subst (λ (z : Time). slice_get ts i ≡ Some z) u.1 w.there) some in
-                  (t.0, more_ends steps s t.0 i a.caller t.1)
+              | inl u ↦ search (arith, same_Some, new_end)
+              | inr u ↦ search (arith, more_ends)
             ];
         real = λ p q i j d d' a b e f l at at'.
             let w = time_before i a at in

@@ -11,8 +11,7 @@ pub along_none : (v : WordView) (call : Call) → GoesAlong v call v
 along_none v call = record { steps = []; takes = takes_none v.pass; does = refl }
 
 pub along_on : (u v w : WordView) (call : Call) → v.pass.number ≡ u.pass.number → GoesAlong u call v → GoesAlong v call w → GoesAlong u call w
-along_on u v w call same a b = search (arith, takes_on u.pass v.pass w.pass a.steps b.steps a.takes b.takes, along_append u.pass.number call a.steps b.steps u.doing, a.steps, b.steps, u.pass,
-    v.pass, w.pass, a.takes, b.takes, b.does, v.doing, u.pass.number, a.does, u.doing)
+along_on u v w call same a b = search (arith, takes_on u.pass v.pass w.pass a.steps b.steps a.takes b.takes, along_append u.pass.number call a.steps b.steps u.doing)
 
 -- a step that stored nothing counts the entries as they are
 same_count : (n : ℕ) → n ≡ n + 0

@@ -71,9 +71,7 @@ module _ (seen : ℕ) (d : Doing) (words : List ℕ) (i now : ℕ) (f : Doing) (
   first_next is = search (arith, begin_by, still_collecting, some_words)
 
   pub first_on : (n later : ℕ) (g : Doing) → seen ≤ later → g ≡ after_first n later f → Firsts seen d words i now f → Firsts seen d (set words i n) (i + 1) later g
-  first_on n later g grown is (inl t) =
-      let start = (begin_by d.held may n later d).1 in
-      search (arith, begin_by, take_set)
+  first_on n later g grown is (inl t) = search (arith, begin_by d.held may n later d, take_set)
   first_on n later g grown is (inr t) = search (arith, still_collecting, take_set)
 
 pub firsts_all : (seen : ℕ) (d : Doing) (words : List ℕ) (i now : ℕ) (f : Doing) → length words ≡ 12 → i ≡ 12 → Firsts seen d words i now f → HasFirsts seen d words now f

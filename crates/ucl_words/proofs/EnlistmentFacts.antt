@@ -85,11 +85,7 @@ module _ (v x w : View) (n found : ℕ) (was : Missed v x n) where
           number = missed.sees.number ∙ was.number;
           shown = missed.shown ∙ was.shown;
           known = omega arith;
-          steps = record {
-            steps = was.steps.steps ++ next ∷ [];
-            takes = takes_on v x w was.steps.steps (next ∷ []) was.steps.takes missed.sees.takes;
-            on_enlisted = all_more IsOnEnlisted was.steps.steps next was.steps.on_enlisted (found, (refl, refl));
-          };
+          steps = search (arith, takes_on v x w was.steps.steps (next ∷ []) was.steps.takes missed.sees.takes, all_more IsOnEnlisted was.steps.steps next was.steps.on_enlisted (found, (refl, refl)));
           tries = tries_more 0 n found (length w.seen) was.steps.steps was.tries below other;
           trail = no_access x w found missed.sees.takes ∙ was.trail;
           taken = omega arith;
@@ -112,11 +108,7 @@ module _ (v x w : View) (n found : ℕ) (was : Missed v x n) where
     pub won_tries : EnlistTries v (Some w.number) w
     won_tries =
         let last : Taken = step_taken (Enlisted found) (length w.seen) None in
-        record {
-          steps = was.steps.steps ++ last ∷ [];
-          takes = takes_on v x w was.steps.steps (last ∷ []) was.steps.takes won.enlists.takes;
-          tries = subst (λ (k : ℕ). Enlisting 0 (was.steps.steps ++ last ∷ []) (Some k)) (sym won_number) (tries_won 0 n found (length w.seen) was.steps.steps was.tries below same);
-        }
+        search (arith, takes_on v x w was.steps.steps (last ∷ []) was.steps.takes won.enlists.takes, tries_won 0 n found (length w.seen) was.steps.steps was.tries below same, won_number)
 
 pub tries_told : (v w : View) (r : Option ℕ) (n : ℕ) → w.number ≡ n → EnlistTries v (Some w.number) w → IfSome r (λ k. k ≡ n) → IsSome r → EnlistTries v r w
 tries_told v w r n is tries told some = search (arith, false≢true)

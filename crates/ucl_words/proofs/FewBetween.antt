@@ -31,11 +31,7 @@ some_at (x ∷ xs) (suc k) l = some_at xs k (omega arith)
 
 no_fewer : (were are : List Actor) → HaveGoneOn were are → length were ≤ length are
 no_fewer were are on = elim (cases_lt (length are) (length were)) [
-  | inl less ↦
-      let a = some_at were (length are) less in
-      let b = on (length are) a.0 a.1 in
-      let below = place_below are (length are) b.0 b.1 in
-      absurd (omega arith)
+  | inl less ↦ search (arith, some_at were (length are) less, place_below)
   | inr more ↦ omega arith
 ]
 

@@ -98,10 +98,7 @@ module _ (s : Position) (r : TableKeepsOneHistory s) (seat : ℕ) (v : WordView)
   -- the access of a step on a match word is at the machine's history, whose word it found
   is_now : (kind : AccessKind) (game at readers : ℕ) → IsMatch game → at ≡ length history → (one : IsRunOfLog readers r.shared.enlisted r.shared.log (word_actors s.views))
       → IsNow one.of_actors.state (access kind game (get_or s.words game 0) at)
-  is_now kind game at readers is place one = record {
-    place = place ∙ ap length (sym one.of_actors.history_is);
-    found = (there_now s r kind game is).1 ∙ ap (λ (h : List Entry). word_of (match_after h game)) (sym one.of_actors.history_is);
-  }
+  is_now kind game at readers is place one = search (arith, there_now s r kind game is)
 
   -- a step on a match word that stored nothing, by the turn that the machine takes
   module _ (kind : AccessKind) (game : ℕ) (is : IsMatch game) (shown : List ℕ) where
@@ -174,11 +171,7 @@ pub looks : (slots seat game place : ℕ) (m : Me Entry WordView) (e : EventCall
 looks slots seat game place m e is_seat acts is of reporter nothing =
     let number = m.0.pass.number in
     loads_by slots seat game m Look (λ n now. after_look number e n now m.0.doing) (λ n. m.0.pass.shown) acts is
-    (λ cast steps w run fits a now kind at. (
-      Reporter number,
-      (refl, reporter),
-      turn_look cast seat number steps w run m.0.doing fits a now e (reporter, subst IsMatch (sym of) is) nothing (kind, at ∙ sym of),
-    ))
+    (λ cast steps w run fits a now kind at. search (arith, turn_look))
     (LookStep place e (step slots game 0 0 none) m)
     (λ n w loads shown stands. record { nothing = nothing; loads = record { loads = loads; shown = shown }; doing = refl; stands = stands place is_seat })
 
@@ -186,11 +179,7 @@ pub firsts : (slots seat game : ℕ) (m : Me Entry WordView) → IsSome m.0.pass
     → Allows TableKeepsOneHistory slots seat m game (λ n. n) (FirstStep (step slots game 0 0 none) m)
 firsts slots seat game m acts is next =
     loads_by slots seat game m First (λ n now. after_first n now m.0.doing) (λ n. m.0.pass.shown) acts is
-    (λ cast steps w run fits a now kind at. (
-      Reader (seat + 1),
-      refl,
-      turn_firsts cast seat m.0.pass.number steps w run m.0.doing fits a now kind (subst (λ (g : ℕ). IsNext First g m.0.doing.held) (sym at) next),
-    ))
+    (λ cast steps w run fits a now kind at. search (arith, turn_firsts))
     (FirstStep (step slots game 0 0 none) m)
     (λ n w loads shown stands. record { loads = record { loads = loads; shown = shown }; doing = refl })
 
@@ -198,8 +187,7 @@ pub again : (slots seat game place : ℕ) (m : Me Entry WordView) → place ≡ 
     → Allows TableKeepsOneHistory slots seat m game (λ n. n) (SecondStep place (step slots game 0 0 none) m)
 again slots seat game place m is_seat acts is next =
     loads_by slots seat game m Second (λ n now. after_second n now m.0.doing) (λ n. m.0.pass.shown ++ point_shown m.0.doing.held n) acts is
-    (λ cast steps w run fits a now kind at.
-    (Reader (seat + 1), refl, turn_seconds cast seat m.0.pass.number steps w run m.0.doing fits a now kind (subst (λ (g : ℕ). IsNext Second g m.0.doing.held) (sym at) next)))
+    (search (arith, turn_seconds))
     (SecondStep place (step slots game 0 0 none) m)
     (λ n w loads shown stands. record { loads = loads; shown = shown; doing = refl; stands = stands place is_seat })
 
@@ -212,18 +200,8 @@ counts slots seat place m is_seat acts s r _ here _ =
     let low = (r.shared.fits seat v.pass at).listed in
     let le : n ≤ r.shared.enlisted = omega arith in
     let w : WordView = record { pass = looked_at s r seat v here acts (Enlisted n) tt n v.pass.shown le; doing = v.doing } in
-    let rule = count_runs s r seat v here acts n n v.pass.shown le m.1 in (
-      w,
-      keeps,
-      tt,
-      rule,
-      record {
-        word = refl;
-        loads = record { sees = look_tells words_after s.words (known s.views) r.shared seat v.pass at acts (Enlisted n) tt n v.pass.shown le; above = omega arith; listed = refl; shown = refl };
-        doing = refl;
-        stands = stands_after s 0 n seat m.1 v w here rule place is_seat;
-      },
-    )
+    let rule = count_runs s r seat v here acts n n v.pass.shown le m.1 in
+        search (arith, look_tells words_after s.words (known s.views) r.shared seat v.pass at acts (Enlisted n) tt n v.pass.shown le, stands_after s 0 n seat m.1 v w here rule place is_seat)
 
 -- a pass with a number is a reporter's
 reporter_is : (s : Position) (r : TableKeepsOneHistory s) (seat : ℕ) (v : WordView) → get_elem? s.views seat ≡ some v → 0 < v.pass.number → IsReporter v.pass.number
@@ -300,19 +278,8 @@ swaps slots seat place m e old new is_seat acts is pos me next holds s r _ here 
     exchanged n old new
     (λ x. (w : WordView) × (a : Rattle.atomic_table.specs.Table.Act Entry) × Valid s.homes m.1 a × TableKeepsOneHistory (stepped s e.game x seat m.1 w a)
     × ExchangeStep place (step slots e.game old new (some e)) m n (w, carried_after m.1 a))
-    (λ hit. (
-      after_won s r seat v e old new here acts is pos me next hit holds,
-      keeps,
-      tt,
-      swap_keeps s r seat v e old new here acts is pos me next hit holds m.1,
-      record {
-        won = λ _. swap_tells s r seat v e old new here acts is pos me next hit holds;
-        missed = λ miss. absurd (miss hit);
-        doing = refl;
-        stands = stands_after s e.game new seat m.1 v (after_won s r seat v e old new here acts is pos me next hit holds) here (swap_keeps s r seat v e old new here acts is pos me next hit holds m.1)
-            place is_seat;
-      },
-    ))
+    (λ hit. search (arith, swap_keeps s r seat v e old new here acts is pos me next hit holds m.1, swap_tells s r seat v e old new here acts is pos me next hit holds,
+        stands_after s e.game new seat m.1 v (after_won s r seat v e old new here acts is pos me next hit holds) here (swap_keeps s r seat v e old new here acts is pos me next hit holds m.1) place is_seat))
     (λ miss. let w = after_load s r seat v here acts Swap e.game is v.pass.shown in let kept = load_runs s r seat v here acts Swap e.game is v.pass.shown (after_swap n (length w.seen) v.doing)
     (λ readers one now. (
       Reporter v.pass.number,
@@ -362,11 +329,7 @@ enlists slots seat place m old is_seat acts reader nothing room s r _ here _ =
       record {
         reader = reader;
         word = refl;
-        won = λ _. record {
-          enlists = subst (λ (k : ℕ). Enlists k v.pass w.pass) (sym is) (enlist_tells words_after s.words (known s.views) r.shared seat v.pass at acts reader left);
-          above = omega arith;
-          listed = ap (λ (k : ℕ). k + 1) (sym is);
-        };
+        won = λ _. search (arith, enlist_tells words_after s.words (known s.views) r.shared seat v.pass at acts reader left);
         missed = λ miss. absurd (miss hit);
         doing = refl;
         stands = stands_after s 0 (old + 1) seat m.1 v w here rule place is_seat;
@@ -383,8 +346,7 @@ enlists slots seat place m old is_seat acts reader nothing room s r _ here _ =
         won = λ hit. absurd (miss hit);
         missed = λ _. record { sees = look_tells words_after s.words (known s.views) r.shared seat v.pass at acts (Enlisted n) tt n v.pass.shown le; above = omega arith; listed = refl; shown = refl };
         doing = refl;
-        stands = stands_after s 0 n seat m.1 v (record { pass = looked_at s r seat v here acts (Enlisted n) tt n v.pass.shown le; doing = v.doing }) here
-            (count_runs s r seat v here acts n n v.pass.shown le m.1) place is_seat;
+        stands = search (arith, count_runs s r seat v here acts n n v.pass.shown le m.1, stands_after);
       },
     ))
 
@@ -393,9 +355,7 @@ split_keeps : (seat : ℕ) (v : WordView) (s : Position) (r : TableKeepsOneHisto
     → word_actor w ≡ record { number = 0; doing = nothing_done }
     → RuleWith words_after s.words (set (known s.views) seat u.pass ++ w.pass ∷ []) r.shared.enlisted r.shared.log
     → TableKeepsOneHistory record { words = s.words; homes = s.homes; views = set s.views seat u ++ w ∷ [] }
-split_keeps seat v s r here u w same is m = of_kept (record { words = s.words; homes = s.homes; views = set s.views seat u ++ w ∷ [] })
-    (one_more words_after pass_of word_actor IsRunOfLog s.words s.views r.shared r.one_run seat v here (record { number = 0; doing = nothing_done })
-    (λ readers actors one less. log_more readers r.shared.enlisted r.shared.log actors one less) u w same is m)
+split_keeps seat v s r here u w same is m = search (arith, of_kept, one_more, log_more)
 
 pub seconds : (seat : ℕ) (v : WordView) → Splits TableKeepsOneHistory seat v (left_pass v) (second_pass v)
 seconds seat v s r here =
@@ -406,14 +366,10 @@ pub split_stands : (v : WordView) → StandAfterSplit v (left_pass v) (second_pa
 split_stands v seat was =
     let left = set was.state.views seat (left_pass v) in
     let below = place_below left seat (left_pass v) (set_here was.state.views seat (left_pass v) (place_below was.state.views seat v was.here)) in
-    record {
-      state = record { words = was.state.words; homes = was.state.homes; views = left ++ second_pass v ∷ [] };
-      rule = seconds seat v was.state was.rule was.here;
-      here = at_longer left (second_pass v ∷ []) seat (left_pass v) (set_here was.state.views seat (left_pass v) (place_below was.state.views seat v was.here));
-      other = length left;
-      apart = λ is. omega arith;
-      there = at_last left (second_pass v) (length left) refl;
-    }
+    search (arith, seconds seat v was.state was.rule was.here,
+        at_longer left (second_pass v ∷ []) seat (left_pass v) (set_here was.state.views seat (left_pass v) (place_below was.state.views seat v was.here)),
+            set_here was.state.views seat (left_pass v) (place_below was.state.views seat v was.here), place_below was.state.views seat v was.here, at_last left (second_pass v) (length left) refl,
+                apart)
 
 pub notes : (seat : ℕ) (v : WordView) → Splits TableKeepsOneHistory seat v v (note_pass v)
 notes seat v s r here = split_keeps seat v s r here v (note_pass v) refl refl (note_added words_after s.words (known s.views) r.shared seat v.pass (known_at s.views seat v here))

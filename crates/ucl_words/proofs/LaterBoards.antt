@@ -98,9 +98,7 @@ won_number : (o : library.Option Entry) (v : View) (n : ℕ) (w : View) → WonF
 won_number x0 x1 x2 x3 x4 = search arith
 
 pub swaps_on : (place : ℕ) → LetsGoOn (ExchangeStep place)
-swaps_on place st m n m' l =
-    gone m.0 m'.0 (λ _. dite (ℕ_discrete n st.first) (λ hit. won_number st.said m.0.pass n m'.0.pass (l.won hit)) (λ miss. (l.missed miss).loads.sees.number))
-    (subst (DoesOn m.0.doing) (sym l.doing) (swap_goes n (length m'.0.pass.seen) m.0.doing m.0.doing.held refl))
+swaps_on place st m n m' l = search (arith, swap_goes n (length m'.0.pass.seen) m.0.doing m.0.doing.held refl, gone, dite, won_number)
 
 pub enlists_on : (place : ℕ) → LetsGoOn (EnlistStep place)
 enlists_on place st m n m' l = gone m.0 m'.0 (λ pos. let reader = l.reader in absurd (omega arith)) (does_same m.0.doing m'.0.doing l.doing)

@@ -33,9 +33,8 @@ pub walks_none : (v : View) → IsSteady v → Walks v [] v
 walks_none v steady = search (arith, begins_same, le_refl, takes_none, append-nil)
 
 pub walks_on : (u v w : View) (ms ns : List Access) → Walks u ms v → Walks v ns w → Walks u (ms ++ ns) w
-walks_on u v w ms ns a b = search (arith, begins_through u.seen v.seen w.seen a.on.seen b.on.seen, plain_append ms ns, length-append ms ns, takes_on, append_assoc, follows_append, follows_longer,
-    le_refl, b.steady, u.seen, v.seen, w.seen, a.on.seen, b.on.seen, a.on.listed, b.on.listed, b.on.share, a.on.share, b.mine, a.mine, b.number, a.number, a.leaves.takes, b.leaves.takes,
-    b.leaves.trail, a.leaves.trail, a.leaves.taken, b.leaves.taken, b.leaves.whole_trail)
+walks_on u v w ms ns a b =
+    search (arith, begins_through u.seen v.seen w.seen a.on.seen b.on.seen, plain_append ms ns, length-append ms ns, takes_on, append_assoc, follows_append, follows_longer, le_refl)
 
 -- a word that a load found is that of a valid record
 pub found_valid : (h : List Entry) (game n : ℕ) → IsLegal h → IsMatch game → n ≡ word_of (match_after h game) → IsWord n

@@ -19,10 +19,8 @@ of_packed-requires c = are_words c.tries.seat.me.0.pass c.collect-words.new.seat
     c.collect-words.ensures.collects c.if-is_clean.ensures.compared
 
 pub tries-smaller : goal.tries-smaller
-tries-smaller c =
-    let t = tried_longer c.tries.seat.me.0.pass c.collect-words.new.seat.me.0.pass c.is_clean.new.seat.me.0.pass c.collect-words.result c.collect-words.ensures.collects
-    c.if-is_clean.ensures.compared in
-    omega (arith, t.0, t.1)
+tries-smaller c = search (arith,
+    tried_longer c.tries.seat.me.0.pass c.collect-words.new.seat.me.0.pass c.is_clean.new.seat.me.0.pass c.collect-words.result c.collect-words.ensures.collects c.if-is_clean.ensures.compared)
 
 pub tries-preserved : goal.tries-preserved
 tries-preserved c = record {
@@ -30,9 +28,7 @@ tries-preserved c = record {
   place = c.is_clean.ensures.seat ∙ (c.collect-words.ensures.seat ∙ c.tries.invariant.place);
   tried = tried_again c.tries.seat.me.0.pass c.collect-words.new.seat.me.0.pass c.is_clean.new.seat.me.0.pass c.collect-words.result c.collect-words.ensures.collects c.if-is_clean.ensures.compared
       c.args.seat.now.me.0.pass c.tries.invariant.tried;
-  does = tries_again (length c.args.seat.now.me.0.pass.seen) c.args.seat.now.me.0.doing c.requires.next c.tries.seat.me.0.doing c.collect-words.new.seat.me.0.doing c.collect-words.result
-      (length c.tries.seat.me.0.pass.seen) _ (begins_length _ _ c.tries.invariant.tried.walks.on.seen) c.tries.invariant.does c.collect-words.ensures.does c.is_clean.new.seat.me.0.doing
-      c.if-is_clean.ensures.does;
+  does = search (arith, begins_length _ _ c.tries.invariant.tried.walks.on.seen, tries_again);
   along = search (arith, along_on);
 }
 

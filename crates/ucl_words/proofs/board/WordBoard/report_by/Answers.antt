@@ -37,8 +37,7 @@ swap-found-requires-clause-me c = search arith
 pub swap-found-requires-clause-word : goal.swap-found-requires-clause-word
 swap-found-requires-clause-word c =
     let call = c.args.call.now in
-    subst (λ (e : Entry). IsNextWord e c.look-loaded.result c.in_ok-next.next) (sym c.of-entry.ensures)
-    (next_after call.game c.args.reporter call.kind c.look-loaded.result c.in_ok-next.next c.look-loaded.ensures.game c.in_ok-next.ensures.valid c.in_ok-next.ensures.counted)
+    search (arith, next_after call.game c.args.reporter call.kind c.look-loaded.result c.in_ok-next.next c.look-loaded.ensures.game c.in_ok-next.ensures.valid c.in_ok-next.ensures.counted)
 
 pub swap-found-requires-clause-next : goal.swap-found-requires-clause-next
 swap-found-requires-clause-next c = search (arith, holding_for, begins_length)

@@ -10,13 +10,8 @@ compare_exchange_with-requires g c =
     let e : Entry = c.args.entry in
     let low : (1 ≤ e.game) × (e.game ≤ 12) = (omega arith, omega arith) in
     let slots : ℕ = c.self.inside.table.shared.table_id.slots in
-    let seat = c.args.seat.now in (
-      c.requires.table ∙ sym c.self.view_is,
-      omega (arith, c.self.invariant.0),
-      subst (λ (w : ℕ). Allows TableKeepsOneHistory slots seat.id seat.me w (λ n. either (n == c.args.loaded) c.args.next n)
-          (ExchangeStep g.K.Asking.seat (step slots w c.args.loaded c.args.next (some e)) seat.me)) (sym (is ∙ value))
-          (swaps slots seat.id _ seat.me e c.args.loaded c.args.next c.requires.place c.requires.acts low c.requires.me.0 c.requires.me.1 c.requires.word c.requires.next),
-    )
+    let seat = c.args.seat.now in
+        search (arith, swaps slots seat.id _ seat.me e c.args.loaded c.args.next c.requires.place c.requires.acts low c.requires.me.0 c.requires.me.1 c.requires.word c.requires.next)
 
 pub returns-clause-won : goal.returns-clause-won
 returns-clause-won g c hit = c.compare_exchange_with.ensures.2.won hit
