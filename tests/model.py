@@ -366,7 +366,8 @@ class Style:
     def json(self, matches, roster, row):
         """The screen as a line of JSON."""
         table = list(places(matches, roster, self.order != "uefa"))
-        return {"reply": "screen", "row": row, "in_play": in_play(matches), "table": table, **self.moment(matches, roster)}
+        games = [m.members(game) for game, m in enumerate(matches, 1)]
+        return {"reply": "screen", "row": row, "in_play": in_play(matches), "table": table, "matches": games, **self.moment(matches, roster)}
 
 
 def night(subcommand, words, text):

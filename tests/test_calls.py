@@ -173,7 +173,7 @@ def test_a_screen(memory, data, nth, row, room):
     if line[3]:
         style = model.Style(["--group", chr(sheet.group), "--order", ["uefa", "away-in-tie"][sheet.order]])
         # Calls of C know no edition.
-        members = {name: said for name, said in style.json(sheet.matches, sheet.roster, row).items() if name != "edition"}
+        members = {name: said for name, said in style.json(sheet.matches, sheet.roster, row).items() if name not in ("edition", "matches")}
         assert line[3].decode() == model.line_of(members) + "\0"
 
 

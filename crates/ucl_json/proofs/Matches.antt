@@ -10,8 +10,11 @@ use Rattle.ucl_board.specs.Fixtures.{match_numbers}
 use Rattle.ucl_board.specs.Words.{game_at}
 use Rattle.ucl_order.specs.Roster.{NamedClub}
 use Rattle.ucl_screen.proofs.OneMatchMore.{match-numbered}
-use Rattle.ucl_json.specs.Values.{match_items, match_value, matches_value}
-use Rattle.ucl_json.proofs.Places.{add, view-add}
+use Rattle.ucl_order.specs.Rows.{rows_of}
+use Rattle.serde_json.proofs.OnLiterals.{serde_json_on_literals}
+use Rattle.ucl_json.specs.declared.title.Title.{Title}
+use Rattle.ucl_json.specs.Values.{edition_screen_value, match_items, match_value, matches_value, screen_value}
+use Rattle.ucl_json.proofs.Places.{add, places-flat, places-whole, view-add, words-flat, words-items}
 
 match-add : (board games : List ℕ) (game : ℕ) → match_items board (games ++ game ∷ []) ≡ add (match_items board games) (match_value game (game_at board game))
 match-add board [] game = refl
@@ -45,3 +48,13 @@ items-flat board (game ∷ games) = let k = items-flat board games in omega (ari
 pub matches-shallow : (row : ℕ) (board : List ℕ) (roster : List NamedClub) → depth (matches_value row board roster) ≤ max_depth
 unfolding matches_value
 matches-shallow row board roster = let k = items-flat board match_numbers in omega (arith, k)
+
+-- and the screen with them
+pub edition-whole : (row : ℕ) (title : Title) (board : List ℕ) (roster : List NamedClub) → has_float (edition_screen_value row title board roster) ≡ false
+unfolding edition_screen_value screen_value serde_json_on_literals
+edition-whole row title board roster = rw (places-whole roster (rows_of title.profile board roster), words-items board, items-whole board match_numbers) refl
+
+pub edition-shallow : (row : ℕ) (title : Title) (board : List ℕ) (roster : List NamedClub) → depth (edition_screen_value row title board roster) ≤ max_depth
+unfolding edition_screen_value screen_value serde_json_on_literals
+edition-shallow row title board roster =
+    let k = places-flat roster (rows_of title.profile board roster) in let m = items-flat board match_numbers in rw (words-flat board) (omega (arith, k, m))

@@ -21,7 +21,7 @@ use Rattle.ucl_order.specs.Rows.{rows_of}
 use Rattle.ucl_order.specs.Roster.{NamedClub}
 use Rattle.ucl_screen.specs.Numbers.{hex_digits}
 use Rattle.ucl_json.specs.declared.title.Title.{Title}
-use Rattle.ucl_json.specs.Values.{accepted_value, edition_screen_value, place_items, place_value, refused_by, reply_value, screen_value, with_club, with_goals, with_matches, word_items, words_value}
+use Rattle.ucl_json.specs.Values.{accepted_value, place_items, place_value, refused_by, reply_value, screen_value, with_club, with_goals, with_matches, word_items, words_value}
 
 abbrev pub add : Items → Data → Items
 add no_items d = item d no_items
@@ -66,14 +66,14 @@ int-whole : (z : ℤ) → is_float (of_integer z) ≡ false
 int-whole (pos n) = refl
 int-whole (negsuc n) = refl
 
-words-items : (ws : List ℕ) → items_have_float (word_items ws) ≡ false
+pub words-items : (ws : List ℕ) → items_have_float (word_items ws) ≡ false
 words-items [] = refl
 words-items (w ∷ ws) = words-items ws
 
 pub words-whole : (row : ℕ) (ws : List ℕ) → has_float (words_value row ws) ≡ false
 words-whole row ws = rw (words-items ws) refl
 
-words-flat : (ws : List ℕ) → items_depth (word_items ws) ≡ 0
+pub words-flat : (ws : List ℕ) → items_depth (word_items ws) ≡ 0
 words-flat [] = refl
 words-flat (w ∷ ws) = rw (words-flat ws) refl
 
@@ -84,7 +84,7 @@ place-whole : (roster : List NamedClub) (row : Row) → has_float (place_value r
 unfolding place_value
 place-whole roster row = rw (int-whole (pos row.goals_for -ℤ pos row.goals_against)) refl
 
-places-whole : (roster : List NamedClub) (rows : List Row) → items_have_float (place_items roster rows) ≡ false
+pub places-whole : (roster : List NamedClub) (rows : List Row) → items_have_float (place_items roster rows) ≡ false
 places-whole roster [] = refl
 places-whole roster (row ∷ rows) = rw (place-whole roster row, places-whole roster rows) refl
 
@@ -92,7 +92,7 @@ place-flat : (roster : List NamedClub) (row : Row) → depth (place_value roster
 unfolding place_value
 place-flat roster row = refl
 
-places-flat : (roster : List NamedClub) (rows : List Row) → items_depth (place_items roster rows) ≤ 1
+pub places-flat : (roster : List NamedClub) (rows : List Row) → items_depth (place_items roster rows) ≤ 1
 places-flat roster [] = omega arith
 places-flat roster (row ∷ rows) = let k = places-flat roster rows in rw (place-flat roster row) (omega (arith, k))
 
@@ -103,15 +103,6 @@ screen-whole row profile board roster group = rw (places-whole roster (rows_of p
 pub screen-shallow : (row : ℕ) (profile : Profile) (board : List ℕ) (roster : List NamedClub) (group : ℕ) → depth (screen_value row profile board roster group) ≤ max_depth
 unfolding screen_value
 screen-shallow row profile board roster group = let k = places-flat roster (rows_of profile board roster) in rw (words-flat board) (omega (arith, k))
-
--- and the screen with its edition
-pub edition-whole : (row : ℕ) (title : Title) (board : List ℕ) (roster : List NamedClub) → has_float (edition_screen_value row title board roster) ≡ false
-unfolding edition_screen_value screen_value serde_json_on_literals
-edition-whole row title board roster = rw (places-whole roster (rows_of title.profile board roster), words-items board) refl
-
-pub edition-shallow : (row : ℕ) (title : Title) (board : List ℕ) (roster : List NamedClub) → depth (edition_screen_value row title board roster) ≤ max_depth
-unfolding edition_screen_value screen_value serde_json_on_literals
-edition-shallow row title board roster = let k = places-flat roster (rows_of title.profile board roster) in rw (words-flat board) (omega (arith, k))
 
 -- a reply
 refused-whole : (row : ℕ) (event : NightEvent) (code : ℕ) (name : List ℕ) (found : Option ℕ) (m : MatchRecord) → has_float (refused_by row event code name found m) ≡ false

@@ -206,15 +206,18 @@ screen_value row profile board roster group = object (
     member (codes "version") (number_value (version_of board)) (
     member (codes "words") (array (word_items board)) no_members)))))))))
 
--- the same among whose members is the edition of the board
-abbrev pub with_edition : ℕ → Data → Data
-with_edition edition (object ms) = object (put (codes "edition") (number_value edition) ms)
-with_edition edition (array items) = array items
-with_edition edition (string text) = string text
-with_edition edition (number n) = number n
-with_edition edition (boolean b) = boolean b
-with_edition edition null = null
+-- the same among whose members are the edition of the board and its twelve matches
+abbrev pub with_games : ℕ → List ℕ → Members → Members
+with_games edition board ms = put (codes "matches") (array (match_items board match_numbers)) (put (codes "edition") (number_value edition) ms)
 
--- the screen of a board under a title
+abbrev pub with_board : ℕ → List ℕ → Data → Data
+with_board edition board (object ms) = object (with_games edition board ms)
+with_board edition board (array items) = array items
+with_board edition board (string text) = string text
+with_board edition board (number n) = number n
+with_board edition board (boolean b) = boolean b
+with_board edition board null = null
+
+-- the screen of a board under a title, with the matches from which the table is worked out
 unfoldable pub edition_screen_value : ℕ → Title → List ℕ → List NamedClub → Data
-edition_screen_value row title board roster = with_edition title.edition (screen_value row title.profile board roster title.group)
+edition_screen_value row title board roster = with_board title.edition board (screen_value row title.profile board roster title.group)

@@ -16,7 +16,7 @@ use ucl_order::Roster;
 use ucl_word::MatchNo;
 
 /// Each match as it stands.
-fn match_values(alloc: Global, board: &Board) -> Result<Vec<Value>, AllocError>
+pub(crate) fn match_values(alloc: Global, board: &Board) -> Result<Vec<Value>, AllocError>
     ensures { IfOk result
         (λ values. items_view values.items ≡ match_items board.now match_numbers) }
 {

@@ -5,9 +5,10 @@ ghost use Rattle.serde_json.specs.View.{items_view, members_view, view};
 ghost use Rattle.ucl_order.specs.Rows.{IsWithinTable, rows_of};
 ghost use Rattle.ucl_screen.specs.Screen.{IsGroup};
 ghost use Rattle.ucl_json.specs.Lines.{IsLineOf};
-ghost use Rattle.ucl_json.specs.Values.{edition_screen_value, mark_name, place_items, place_value, screen_value, with_club, with_edition, with_goals, with_matches};
+ghost use Rattle.ucl_json.specs.Values.{edition_screen_value, mark_name, place_items, place_value, screen_value, with_board, with_club, with_games, with_goals, with_matches};
 
 use crate::clubs::club_values;
+use crate::games::match_values;
 use crate::line::line_of;
 use crate::title::Title;
 use crate::words::word_values;
@@ -164,14 +165,34 @@ pub fn screen_json(
     line_of(alloc, &value)
 }
 
-/// A value with the edition of its board among its members.
-fn with_edition(alloc: Global, value: Value, edition: u16) -> Result<Value, AllocError>
-    ensures { IfOk result (λ with. view with ≡ with_edition edition (view value)) }
+/// Puts the edition of a board and its twelve matches.
+fn put_games(
+    map: &mut Map<String, Value>,
+    alloc: Global,
+    edition: u16,
+    board: &Board,
+) -> Result<(), AllocError>
+    ensures { OnOk result (members_view map.new.entries
+        ≡ with_games edition board.now (members_view map.old.entries)) }
+{
+    let matches = match_values(alloc, board)?;
+    put(map, alloc, "edition", Value::from(edition))?;
+    put(map, alloc, "matches", Value::Array(matches))
+}
+
+/// A value with the edition of a board and its twelve matches among its members.
+fn with_board(
+    alloc: Global,
+    value: Value,
+    edition: u16,
+    board: &Board,
+) -> Result<Value, AllocError>
+    ensures { IfOk result (λ with. view with ≡ with_board edition board.now (view value)) }
 {
     match value {
         Value::Object(map) => {
             let mut map = map;
-            put(&mut map, alloc, "edition", Value::from(edition))?;
+            put_games(&mut map, alloc, edition, board)?;
             Ok(Value::Object(map))
         }
         other => Ok(other),
@@ -192,10 +213,10 @@ fn edition_screen_value(
         ≡ edition_screen_value row title board.now roster.now) }
 {
     let screen = screen_value(alloc, row, board, roster, title.group, title.profile)?;
-    with_edition(alloc, screen, title.edition)
+    with_board(alloc, screen, title.edition, board)
 }
 
-/// The line of the screen of a board under a title, with its edition.
+/// The line of the screen of a board under a title, with its edition and the twelve matches.
 ///
 /// # Errors
 ///

@@ -15,7 +15,7 @@ use Rattle.ucl_command.specs.declared.follow.FollowArgs.{FollowArgs}
 use Rattle.ucl_command.specs.declared.follow.FollowShape.TheVariants.{Text}
 use Rattle.ucl_json.specs.Told.{moment_on}
 use Rattle.ucl_runs.specs.Follow.{after_told, followed, is_later, is_newer, is_shown, passed_over, shown_too, sights, told_text, unseen}
-use Rattle.ucl_runs.specs.Latest.{IsLineOfThese, IsNoNewer, IsFollowedBy, IsShownLast, IsToldIn, LatestIsShownLast, OthersDoNotMatter, RiseAbove}
+use Rattle.ucl_runs.specs.Latest.{IsLineOfThese, IsNoNewer, IsFollowed, IsShownLast, IsToldIn, LatestIsShownLast, OthersDoNotMatter, RiseAbove}
 use Rattle.ucl_runs.specs.Latest.{ShownVersionsRise, moments_shown, shown_of}
 
 abbrev Lines : Type 0
@@ -109,17 +109,17 @@ alike m title h group profile =
 abbrev IsTitled : Following → Moment → Type 0
 IsTitled f m = (f.group ≡ Some m.title.group) × (f.profile ≡ Some m.title.profile)
 
-one-refines : (f : Following) (o : Option Moment) (m : Moment) → IsFollowedBy (after_told f o) m → IsFollowedBy f m
+one-refines : (f : Following) (o : Option Moment) (m : Moment) → IsFollowed (after_told f o) m → IsFollowed f m
 one-refines f None m h = h
 one-refines f (Some n) m h = elim (cases_Bool (is_shown f n)) [
   | inl y ↦
       let now : after_told f (Some n) ≡ shown_too f n = rw y refl in
-      let same : IsTitledAs n m.title = subst (λ (g : Following). IsFollowedBy g m) now h in
+      let same : IsTitledAs n m.title = subst (λ (g : Following). IsFollowed g m) now h in
       alike n m.title same f.group f.profile ∙ (and_parts (is_asked f.group f.profile n.title) (is_newer f.newest n) y).0
-  | inr other ↦ let now : after_told f (Some n) ≡ passed_over f = rw other refl in subst (λ (g : Following). IsFollowedBy g m) now h
+  | inr other ↦ let now : after_told f (Some n) ≡ passed_over f = rw other refl in subst (λ (g : Following). IsFollowed g m) now h
 ]
 
-refines : (f : Following) (lines : Lines) (m : Moment) → IsFollowedBy (followed f lines) m → IsFollowedBy f m
+refines : (f : Following) (lines : Lines) (m : Moment) → IsFollowed (followed f lines) m → IsFollowed f m
 unfolding followed
 refines f [] m h = h
 refines f (line ∷ lines) m h = one-refines f (moment_on line) m (refines (after_told f (moment_on line)) lines m h)
@@ -143,30 +143,30 @@ unfolding followed
 titled-stays f [] m h = h
 titled-stays f (line ∷ lines) m h = titled-stays (after_told f (moment_on line)) lines m (one-titled f (moment_on line) m h)
 
-of-title : (f : Following) (m : Moment) → IsTitled f m → IsFollowedBy f m
+of-title : (f : Following) (m : Moment) → IsTitled f m → IsFollowed f m
 of-title f m h = rw (h.0, h.1) (titled-so m m refl)
 
-first-titled : (f : Following) (o : Option Moment) (lines : Lines) → All (IsFollowedBy (followed (after_told f o) lines)) (shown_of f o)
-first-titled f None lines = All-nil (IsFollowedBy (followed (passed_over f) lines))
+first-titled : (f : Following) (o : Option Moment) (lines : Lines) → All (IsFollowed (followed (after_told f o) lines)) (shown_of f o)
+first-titled f None lines = All-nil (IsFollowed (followed (passed_over f) lines))
 first-titled f (Some m) lines = elim (cases_Bool (is_shown f m)) [
   | inl y ↦
-      let P : Moment → Type 0 = IsFollowedBy (followed (shown_too f m) lines) in
+      let P : Moment → Type 0 = IsFollowed (followed (shown_too f m) lines) in
       rw y (All-cons P m [] (of-title (followed (shown_too f m) lines) m (titled-stays (shown_too f m) lines m (refl, refl))) (All-nil P))
-  | inr n ↦ rw n (All-nil (IsFollowedBy (followed (passed_over f) lines)))
+  | inr n ↦ rw n (All-nil (IsFollowed (followed (passed_over f) lines)))
 ]
 
-titled : (f : Following) (lines : Lines) → All (IsFollowedBy (followed f lines)) (moments_shown f lines)
+titled : (f : Following) (lines : Lines) → All (IsFollowed (followed f lines)) (moments_shown f lines)
 unfolding followed moments_shown
-titled f [] = All-nil (IsFollowedBy f)
+titled f [] = All-nil (IsFollowed f)
 titled f (line ∷ lines) =
     let now = after_told f (moment_on line) in
-    All-append (IsFollowedBy (followed now lines)) (shown_of f (moment_on line)) (moments_shown now lines) (first-titled f (moment_on line) lines) (titled now lines)
+    All-append (IsFollowed (followed now lines)) (shown_of f (moment_on line)) (moments_shown now lines) (first-titled f (moment_on line) lines) (titled now lines)
 
-all-asked : (f : Following) (lines : Lines) (ms : List Moment) → All (IsFollowedBy (followed f lines)) ms → All (IsFollowedBy f) ms
-all-asked f lines [] h = All-nil (IsFollowedBy f)
+all-asked : (f : Following) (lines : Lines) (ms : List Moment) → All (IsFollowed (followed f lines)) ms → All (IsFollowed f) ms
+all-asked f lines [] h = All-nil (IsFollowed f)
 all-asked f lines (m ∷ ms) h =
-    let P : Moment → Type 0 = IsFollowedBy (followed f lines) in
-    All-cons (IsFollowedBy f) m ms (refines f lines m (All-head P m ms h)) (all-asked f lines ms (All-tail P m ms h))
+    let P : Moment → Type 0 = IsFollowed (followed f lines) in
+    All-cons (IsFollowed f) m ms (refines f lines m (All-head P m ms h)) (all-asked f lines ms (All-tail P m ms h))
 
 pub versions : ShownVersionsRise
 versions f lines = record {
@@ -197,7 +197,7 @@ module _ (args : FollowArgs) (m : Moment) (asked : is_asked args.group args.prof
 
   -- what is followed is the group and the order of the moment, as far as they are known, and nothing that is not as asked
   record Follows (f : Following) : Type 0 where
-    own : IsFollowedBy f m
+    own : IsFollowed f m
     others : (title : Title) → is_asked args.group args.profile title ≡ false → is_asked f.group f.profile title ≡ false
 
   follows-on : (f : Following) (other : Moment) → IsTitledAs m other.title → Follows (shown_too f other)

@@ -61,7 +61,7 @@ use Rattle.ucl_runs.specs.Journals.{moment_at, moment_now, moment_with}
 use Rattle.ucl_runs.proofs.JournalLines.{IsLineThat, IsShown, TellsAlone, TellsAtMost, alone-as, alone-line, alone-none, alone-then, bad-line}
 use Rattle.ucl_runs.proofs.JournalLines.{begun-then, board-fits, found-fits, lines-then, lines_in, matches-line, refused-line, shown-text, value-line, words-line}
 use Rattle.ucl_runs.proofs.Answered.{both}
-use Rattle.ucl_runs.proofs.PlainAnswers.{told-lines}
+use Rattle.ucl_runs.proofs.Matches.{told-lines}
 
 abbrev pub Lines : Type 0
 Lines = List (List ℕ)

@@ -31,8 +31,8 @@ use Rattle.ucl_json.specs.declared.moment.Moment.{Moment}
 use Rattle.ucl_runs.specs.declared.following.Following.{Following}
 use Rattle.ucl_runs.specs.Answered.{IsMoment}
 use Rattle.ucl_json.specs.Told.{moment_on}
-use Rattle.ucl_runs.specs.Follow.{after_told, follow_text, followed, is_later, is_newer, is_plain_title, is_shown}
-use Rattle.ucl_runs.specs.Follow.{passed_over, resuming_text, shown_too, sights, told_text, unseen, version_at, whole_lines}
+use Rattle.ucl_runs.specs.Follow.{after_told, follow_text, followed, is_later, is_newer, is_plain_title, is_shown, passed_over, resuming_text}
+use Rattle.ucl_runs.specs.Follow.{shown_too, sights, told_text, unseen, version_at, whole_lines}
 use Rattle.ucl_runs.specs.Journals.{CutJournalsResume, TakesEvent, IsAnsweredIn, moment_at, moment_now, moment_with, resume}
 use Rattle.ucl_runs.specs.Journals.{AreStarts, GoesOnAgain, IsStart, IsTorn, JournalsGoOn, Start, gone_on, journal, newest_in}
 use Rattle.ucl_runs.specs.Latest.{IsToldIn}

@@ -71,7 +71,7 @@ words-plain (word ∷ words) h =
     let more = words-plain words (All-tail (λ w. w < 2 ^ 64) word words h) in
     ((one.0, more.0), (let l = one.1 in let m = more.1 in omega arith))
 
-version-fits : (board : List ℕ) → AreWords board → version_of board < 2 ^ 64
+pub version-fits : (board : List ℕ) → AreWords board → version_of board ≤ 49140
 version-fits board w =
     let most : version_of board ≤ length board * 4095 =
     sum_by-le (λ word. (record_at word).number) 4095 board (λ k d less. number_valid (record_at (slice_index_or board k d)) (word_valid (slice_index_or board k d) (w.each k d less))) in
@@ -79,10 +79,10 @@ version-fits board w =
 
 -- ---- clubs
 
-record IsPlainClub (club : NamedClub) : Type 0 where
-  name : IsText club.name
-  short : length club.name ≤ 20
-  coefficient : club.coefficient ≤ 999999
+pub record IsPlainClub (club : NamedClub) : Type 0 where
+  pub name : IsText club.name
+  pub short : length club.name ≤ 20
+  pub coefficient : club.coefficient ≤ 999999
 
 club-plain : (club : NamedClub) → IsClub club → IsPlainClub club
 unfolding is_club
@@ -103,7 +103,7 @@ club-plain club h =
         let s = and_parts (nat_le 1 (length name)) (nat_le (length name) 20) r.0 in (few (length name) s.1, r.1)
 
 -- the club in a slot
-slot-plain : (clubs : List NamedClub) → IsRoster clubs → (slot : ℕ) → IsSlot slot → IsPlainClub (club_in clubs slot)
+pub slot-plain : (clubs : List NamedClub) → IsRoster clubs → (slot : ℕ) → IsSlot slot → IsPlainClub (club_in clubs slot)
 slot-plain clubs is slot h =
     let four = is.four in let low = h.0 in let high = h.1 in
     club-plain (club_in clubs slot) (is.each (slot - 1) (named [] 0) (omega arith))
@@ -128,10 +128,10 @@ clubs-plain clubs is =
 
 -- ---- the answer to an accepted event
 
-group-text : (group : ℕ) → IsGroup group → IsText (group ∷ [])
+pub group-text : (group : ℕ) → IsGroup group → IsText (group ∷ [])
 group-text group h = and_from (is_printed group) true (let l = h.0 in let m = h.1 in printed-between group (omega arith) (omega arith)) refl
 
-order-text : (profile : Profile) → IsText (profile_name profile) × (length (profile_name profile) ≤ 11)
+pub order-text : (profile : Profile) → IsText (profile_name profile) × (length (profile_name profile) ≤ 11)
 order-text Uefa = (refl, omega arith)
 order-text AwayInTie = (refl, omega arith)
 
@@ -159,7 +159,7 @@ accepted-plain row event number m is r fits n =
     let kind = kind-text event.call.kind in
     let order = order-text m.title.profile in
     let group = group-text m.title.group is.letter in
-    let version = version-fits m.board is.words in
+    let version : version_of m.board < 2 ^ 64 = let v = version-fits m.board is.words in omega arith in
     let edition : m.title.edition < 2 ^ 64 = let e = is.edition in omega (arith, e) in
     let twelve = is.words.twelve in
     let few = words.1 in
@@ -172,85 +172,3 @@ accepted-plain row event number m is r fits n =
       ),
       omega arith,
     )
-
--- ---- the screen
-
-difference-plain : (z : ℤ) (a b : ℕ) → z ≡ pos a -ℤ pos b → a ≤ 378 → b ≤ 378 → IsPlainNumber (of_integer z)
-difference-plain (pos n) a b e h k = omega (arith, ints)
-difference-plain (negsuc n) a b e h k = omega (arith, ints)
-
-mark-text : (mark : Mark) → IsText (mark_name mark) × (length (mark_name mark) ≤ 1)
-mark-text Plus = (refl, omega arith)
-mark-text Minus = (refl, omega arith)
-mark-text Blank = (refl, omega arith)
-
-abbrev IsPlainPlace : List NamedClub → Row → Type 0
-IsPlainPlace roster row = IsPlain 125 (place_value roster row) × (size (place_value roster row) ≤ 600)
-
-place-plain : (roster : List NamedClub) (row : Row) → IsRoster roster → IsWithinTable row → row.place ≤ 4 → IsPlainPlace roster row
-unfolding place_value serde_json_on_literals
-place-plain roster row is w four =
-    let club = slot-plain roster is row.slot w.slot in
-    let mark = mark-text row.mark in
-    let drawn : row.draws < 2 ^ 64 = let n = w.draws in omega arith in
-    let apart = difference-plain (pos row.goals_for -ℤ pos row.goals_against) row.goals_for row.goals_against refl w.goals_for w.goals_against in
-    let against : row.goals_against < 2 ^ 64 = let n = w.goals_against in omega arith in
-    let scored : row.goals_for < 2 ^ 64 = let n = w.goals_for in omega arith in
-    let lost : row.losses < 2 ^ 64 = let n = w.losses in omega arith in
-    let place : row.place < 2 ^ 64 = omega arith in
-    let played : row.played < 2 ^ 64 = let n = w.played in omega arith in
-    let points : row.points < 2 ^ 64 = let n = w.points in omega arith in
-    let slot : row.slot < 2 ^ 64 = let n = w.slot.1 in omega arith in
-    let won : row.wins < 2 ^ 64 = let n = w.wins in omega arith in
-    let short = club.short in
-    let sign = mark.1 in
-    (((refl, refl), (club.name, (drawn, (apart, (against, (scored, (lost, (mark.0, (place, (played, (points, (slot, (won, tt))))))))))))), omega arith)
-
-abbrev ArePlainPlaces : List NamedClub → List Row → Type 0
-ArePlainPlaces roster rows = ArePlain 125 (place_items roster rows) × (items_size (place_items roster rows) ≤ 2405)
-
-row-at : (profile : Profile) (board : List ℕ) (roster : List NamedClub) (place : ℕ) → place ≤ 4 → (row_of profile board roster place).place ≤ 4
-unfolding row_of
-row-at profile board roster place h = h
-
-places-plain : (profile : Profile) (board : List ℕ) (roster : List NamedClub) → IsRoster roster → AreWords board → ArePlainPlaces roster (rows_of profile board roster)
-places-plain profile board roster is words =
-    let within = rows_within profile board roster (words_valid board words) in
-    let row = row_of profile board roster in
-    let at = row-at profile board roster in
-    let w = place-plain roster (row 1) is (within 0 (row 1) (omega arith)) (at 1 (omega arith)) in
-    let x = place-plain roster (row 2) is (within 1 (row 1) (omega arith)) (at 2 (omega arith)) in
-    let y = place-plain roster (row 3) is (within 2 (row 1) (omega arith)) (at 3 (omega arith)) in
-    let z = place-plain roster (row 4) is (within 3 (row 1) (omega arith)) (at 4 (omega arith)) in
-    ((w.0, (x.0, (y.0, (z.0, tt)))), (let a = w.1 in let b = x.1 in let c = y.1 in let d = z.1 in omega arith))
-
-pub screen-plain : (row : ℕ) (m : Moment) → IsMoment m → row < 2 ^ 64
-    → IsPlain 127 (edition_screen_value row m.title m.board m.roster) × (size (edition_screen_value row m.title m.board m.roster) ≤ 4096)
-unfolding edition_screen_value screen_value serde_json_on_literals
-screen-plain row m is r =
-    let words = words-plain m.board is.bits in
-    let clubs = clubs-plain m.roster is.clubs in
-    let order = order-text m.title.profile in
-    let group = group-text m.title.group is.letter in
-    let places = places-plain m.title.profile m.board m.roster is.clubs is.words in
-    let version = version-fits m.board is.words in
-    let edition : m.title.edition < 2 ^ 64 = let e = is.edition in omega (arith, e) in
-    let twelve = is.words.twelve in
-    let playing = count_by-le-length (λ word. is_in_play (record_at word).state) m.board in
-    let now : in_play m.board < 2 ^ 64 = omega (arith, twelve, playing) in
-    let few = words.1 in
-    let four = clubs.1 in
-    let short = order.1 in
-    let table = places.1 in
-    (((refl, refl), (clubs.0, (edition, (group, (now, (order.0, (refl, (r, (places.0, (version, (words.0, tt))))))))))), omega arith)
-
--- ---- their lines
-
-pub told-lines : LinesTellTheirMoment
-told-lines row event number m is r fits n =
-    let reply = accepted-plain row event number m is r fits n in
-    let screen = screen-plain row m is r in
-    let told = answered row event number m is in record {
-      reply = told-by-line (accepted_value row event number m.title m.board m.roster) reply.0 reply.1 ∙ told.reply;
-      screen = told-by-line (edition_screen_value row m.title m.board m.roster) screen.0 screen.1 ∙ told.screen;
-    }

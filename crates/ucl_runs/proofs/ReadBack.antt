@@ -228,6 +228,13 @@ in-quotes s h =
     wider (quoted s) (1 + (2 * length s + 1)) (2 * length s + 2) (omega arith)
     (first 34 (escape s ++ 34 ∷ []) (2 * length s + 1) (omega arith) (then (escape s) (34 ∷ []) (2 * length s) 1 (escaped s h) (first 34 [] 0 (omega arith) none)))
 
+-- a text in which no byte is escaped
+plain-quotes : (s : List ℕ) → IsText s → escape s ≡ s → IsShort (quoted s) (length s + 2)
+plain-quotes s h same = record {
+  ascii = (in-quotes s h).ascii;
+  short = let long = ap (λ (e : List ℕ). length (e ++ 34 ∷ [])) same in omega (arith, long, length-append s (34 ∷ []));
+}
+
 comma : (later : Bool) → IsShort (comma_if later) 1
 comma true = first 44 [] 0 (omega arith) none
 comma false = wider [] 0 1 (omega arith) none
@@ -251,14 +258,22 @@ with-item {ds} {n} {m} d p q = record {
 pub no-member : AreShortMembers no_members 1
 no-member = record { short = λ later. first 125 [] 0 (omega arith) none }
 
-pub with-member : {ms : Members} {n m : ℕ} (k : List ℕ) (d : Data) → IsText k → IsShort (compact_text d) n → AreShortMembers ms m
-    → AreShortMembers (member k d ms) (1 + ((2 * length k + 2) + (1 + (n + m))))
-with-member {ms} {n} {m} k d key p q =
+with-quoted : {ms : Members} {n m : ℕ} (k : List ℕ) (d : Data) (long : ℕ) → IsShort (quoted k) long → IsShort (compact_text d) n → AreShortMembers ms m
+    → AreShortMembers (member k d ms) (1 + (long + (1 + (n + m))))
+with-quoted {ms} {n} {m} k d long key p q =
     let rest = compact_text d ++ members_text true ms in record {
-      short = λ later. then (comma_if later) (quoted k ++ 58 ∷ rest) 1 ((2 * length k + 2) + (1 + (n + m))) (comma later)
-          (then (quoted k) (58 ∷ rest) (2 * length k + 2) (1 + (n + m)) (in-quotes k key)
+      short = λ later. then (comma_if later) (quoted k ++ 58 ∷ rest) 1 (long + (1 + (n + m))) (comma later)
+          (then (quoted k) (58 ∷ rest) long (1 + (n + m)) key
           (first 58 rest (n + m) (omega arith) (then (compact_text d) (members_text true ms) n m p (q.short true))));
     }
+
+pub with-member : {ms : Members} {n m : ℕ} (k : List ℕ) (d : Data) → IsText k → IsShort (compact_text d) n → AreShortMembers ms m
+    → AreShortMembers (member k d ms) (1 + ((2 * length k + 2) + (1 + (n + m))))
+with-member k d key p q = with-quoted k d (2 * length k + 2) (in-quotes k key) p q
+
+pub with-key : {ms : Members} {n m : ℕ} (k : List ℕ) (d : Data) → IsText k → escape k ≡ k → IsShort (compact_text d) n → AreShortMembers ms m
+    → AreShortMembers (member k d ms) (1 + ((length k + 2) + (1 + (n + m))))
+with-key k d key same p q = with-quoted k d (length k + 2) (plain-quotes k key same) p q
 
 pub short-array : {ds : Items} {n : ℕ} → AreShortItems ds n → IsShort (compact_text (array ds)) (1 + n)
 short-array {ds} {n} p = first 91 (items_text false ds) n (omega arith) (p.short false)

@@ -34,8 +34,8 @@ RiseAbove newest [] = ⊤
 RiseAbove newest (moment ∷ moments) = (is_newer newest moment ≡ true) × RiseAbove (Some moment) moments
 
 -- a moment is of the group and the order that are followed, as far as these are known
-abbrev pub IsFollowedBy : Following → Moment → Type 0
-IsFollowedBy f moment = is_asked f.group f.profile moment.title ≡ true
+abbrev pub IsFollowed : Following → Moment → Type 0
+IsFollowed f moment = is_asked f.group f.profile moment.title ≡ true
 
 -- the moments that are shown rise, and the text is that of their screens. Each is of the group and order that were asked for, and of those that
 -- are followed in the end, so all are of one
@@ -43,8 +43,8 @@ pub record RisesInText (f : Following) (lines : List (List ℕ)) : Type 0 where
   pub rise : RiseAbove f.newest (moments_shown f lines)
   pub text : sights Text f lines ≡ flat_map (λ m. screen_text m.title.profile m.board m.roster m.title.group) (moments_shown f lines)
   pub told : All (IsToldIn lines) (moments_shown f lines)
-  pub asked : All (IsFollowedBy f) (moments_shown f lines)
-  pub titled : All (IsFollowedBy (followed f lines)) (moments_shown f lines)
+  pub asked : All (IsFollowed f) (moments_shown f lines)
+  pub titled : All (IsFollowed (followed f lines)) (moments_shown f lines)
 
 abbrev pub ShownVersionsRise : Type 0
 ShownVersionsRise = (f : Following) (lines : List (List ℕ)) → RisesInText f lines

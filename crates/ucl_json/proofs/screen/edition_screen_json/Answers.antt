@@ -1,4 +1,4 @@
-use Rattle.ucl_json.proofs.Places.{edition-shallow, edition-whole}
+use Rattle.ucl_json.proofs.Matches.{edition-shallow, edition-whole}
 use Rattle.ucl_json.proofs.screen.edition_screen_json.Goals as goal
 
 pub line_of-requires-clause-whole : goal.line_of-requires-clause-whole

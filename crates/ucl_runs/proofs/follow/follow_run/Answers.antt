@@ -8,8 +8,8 @@ pub returns-in_err-pump-clause-prompt : goal.returns-in_err-pump-clause-prompt
 returns-in_err-pump-clause-prompt g c =
     let run = c.in_err-pump.ensures.pumped in
     let old = seen g.S.Source.left g.W.Sink.taken (c.args.duplex.now.source, c.args.duplex.now.sink, c.new-follower.result) in
-    (logs-as _ _ _ _ _ _ _ (λ time u. followed_at _ c.args.args old (seen g.S.Source.left g.W.Sink.taken time)
-      c.new-follower.ensures.following c.new-follower.ensures.shape run.turns run.given.turned u) run.prompt)
+    let fresh = c.new-follower.ensures in
+    (logs-as _ _ _ _ _ _ _ (λ time u. followed_at _ c.args.args old (seen g.S.Source.left g.W.Sink.taken time) fresh.following fresh.shape run.turns run.given.turned u) run.prompt)
 
 pub returns-in_err-pump-clause-fails : goal.returns-in_err-pump-clause-fails
 returns-in_err-pump-clause-fails g c =
@@ -35,5 +35,5 @@ pub returns-clause-prompt : goal.returns-clause-prompt
 returns-clause-prompt g c =
     let run = c.in_ok-pump.ensures.pumped in
     let old = seen g.S.Source.left g.W.Sink.taken (c.args.duplex.now.source, c.args.duplex.now.sink, c.new-follower.result) in
-    (logs-as _ _ _ _ _ _ _ (λ time u. followed_at _ c.args.args old (seen g.S.Source.left g.W.Sink.taken time)
-      c.new-follower.ensures.following c.new-follower.ensures.shape run.turns run.given.turned u) run.prompt)
+    let fresh = c.new-follower.ensures in
+    (logs-as _ _ _ _ _ _ _ (λ time u. followed_at _ c.args.args old (seen g.S.Source.left g.W.Sink.taken time) fresh.following fresh.shape run.turns run.given.turned u) run.prompt)
