@@ -266,6 +266,21 @@ def word(fields, game):
     return fields[2] if is_word and len(fields[2]) == 16 and all(c in "0123456789abcdefABCDEF" for c in fields[2]) else None
 
 
+def result(fields, game):
+    """The word that the row of a result gives for a match, after the fewest events, all by reporter 1; None where it gives none."""
+    if len(fields) not in (4, 8) or fields[0] != "result" or not number(fields[1], 2, game, game):
+        return None
+    m, most = Match(), [63, 63, 63, 63, 31, 31]
+    if fields[2:] == ["", ""]:
+        return m.word()
+    counts = [number(text, 2, 0, top) for text, top in zip(fields[2:] + ["0"] * (8 - len(fields)), most)]
+    if None in counts:
+        return None
+    m.goals, m.yellows, m.expulsions = counts[:2], counts[2:4], counts[4:]
+    m.state, m.number, m.reporter = FINISHED, 2 + sum(counts), 1
+    return m.word()
+
+
 def fields_on(row, line):
     """The fields of a line that has this number: [] where it is too long or has several rows, and None where nothing is on it."""
     line = line.removesuffix("\r")
@@ -426,10 +441,11 @@ class Evening:
             if not self.style.take(fields):
                 raise Fault(f"input refused 20: row {row}")
             return True
-        is_word = self.matches is None and (self.resumed or self.given or len(fields) == 4 and fields[0] == "word")
+        is_word = self.matches is None and (self.resumed or self.given or (len(fields), *fields[:1]) in [(4, "word"), (4, "result"), (8, "result")])
         if place == 4 and not is_word:
             return False
-        said = club(fields, place + 1) if place < 4 else word(fields, len(self.given) + 1)
+        game = len(self.given) + 1
+        said = club(fields, place + 1) if place < 4 else word(fields, game) or result(fields, game)
         if said is None:
             raise Fault(f"input refused 20: row {row}")
         (self.roster if place < 4 else self.given).append(said)

@@ -153,7 +153,7 @@ test_helps = tabled({line: (line, "", Has("", *parts)) for line, parts in {
     "ucl_night feed --help": ["Usage: ucl_night feed\n", CLUB_ROW, EVENT_ROW, WORD_ROW, *RULES[:3], "1,1,0,kickoff", *REPLIES, STARTS[0]],
     "ucl_night show --help": ["Usage: ucl_night show [OPTIONS]\n", *GROUP, *ORDER, CLUB_ROW, WORD_ROW, STARTS[1]],
     "ucl_night night --help": ["Usage: ucl_night night [OPTIONS]\n", *GROUP, *ORDER, *READINGS, STARTS[2]],
-    "ucl_live --help": ["Usage: ucl_live [OPTIONS]", *RULES, "1,1,0,kickoff", "matches,,,", *ASKED, "--resumed", "--screens", "--explain", "--format <FORMAT>"],
+    "ucl_live --help": ["Usage: ucl_live [OPTIONS]", *RULES, "1,1,0,kickoff", "matches,,,", "result,7,2,1", *ASKED, "--resumed", "--screens", "--explain", "--format <FORMAT>"],
     "ucl_follow --help": ["Usage: ucl_follow [OPTIONS]", *RULES, "--group <GROUP>", "--order <ORDER>", "--matches", "--resume", "--format <FORMAT>"],
     "ucl_evening --help": ["Usage: ucl_evening ", *RULES, "1,0,kickoff", *WAYS, *ASKED, STATUSES[1]],
 }.items()})

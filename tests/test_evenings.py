@@ -40,6 +40,10 @@ test_rows = tabled({
 CLUB = CLUBS.splitlines(True)
 WORD = "word,1,2000000000000000,\n"
 WORDS = "".join(f"word,{game},{'2000000000000000' if game < 3 else 'f' * 16},\n" for game in range(1, 13))
+NOT_PLAYED = [f"result,{game},,\n" for game in range(1, 13)]
+BAD_RESULTS = [f"result,{fields}" for fields in (
+    "1,0", "1,0,0,", "1,0,0,0,0,0", "1,0,0,0,0,0,0,0", "1,0,", "1,,0", "1,,,,,,", "1,0,0,0,0,0,", "1,64,0", "1,0,64", "1,0,000", "1,+1,0", "1,-1,0", "1, 1,0", "1,x,0",
+    "1,0,0,64,0,0,0", "1,0,0,0,64,0,0", "1,0,0,0,0,32,0", "1,0,0,0,0,0,32", "3,0,0", "001,0,0", ",0,0")]
 
 NAME = ": a name has 1 to 20 bytes of printable ASCII\n"
 NUMBER = ": a coefficient is a whole number of thousandths, at most 999999: 35.500 is 35500\n"
@@ -63,6 +67,10 @@ test_beginnings_that_are_refused = tabled({name: ("ucl_live", text, "", 3, f"inp
     "a long name": (CLUB[0] + "club,2,Bravo Bravo Bravo Bra,1\n" + "".join(CLUB[2:]), "21: slot 2", "club 2" + NAME),
     "twenty-one quotes": (CLUBS.replace("Delta", '"' + 42 * '"' + '"'), "21: slot 4", "club 4" + NAME),
     "a name in UTF-8": (CLUBS.replace("Alpha", "Málaga") + "1,1,0,kickoff\n", "21: slot 1", "club 1" + NAME),
+    **{f"the result {row}": (CLUBS + row + "\n" + "".join(NOT_PLAYED[1:]), "20: row 5") for row in BAD_RESULTS if len(row.split(",")) in (4, 8)},
+    **{f"the result {row} of match 2": (CLUBS + NOT_PLAYED[0] + row.replace("1", "2", 1) + "\n", "20: row 6") for row in BAD_RESULTS},
+    "a missing result": (CLUBS + "".join(NOT_PLAYED[:11]), "20: row 16"),
+    "an event among the results": (CLUBS + NOT_PLAYED[0] + "1,2,0,kickoff\n", "20: row 6"),
     "one word": (CLUBS.replace("Delta", '"' + 40 * '"' + '"') + WORD, "20: row 6"),
     "a word twice": (CLUBS + WORD * 2, "20: row 6"),
     "the second word first": (CLUBS + WORD.replace("1", "2", 1), "20: row 5"),
@@ -115,6 +123,7 @@ SENTENCES = [
     (CLUBS, "é", f'""{NO_FIELDS}, such as 1,7,0,kickoff'),
     (STARTED, "club,1,Alpha,60000", '"club" rows come before all events; leave it out'),
     (STARTED, "word,1,2000000000000000,", '"word" rows come before all events; leave it out'),
+    (STARTED, "result,1,2,1", '"result" rows come before all events; leave it out'),
 ]
 
 test_refusals_in_words = tabled({f"{before.count(chr(10)) + 1}: {row[:40]!r}": (
@@ -196,6 +205,18 @@ def test_bad_rows_in_json(run, row, field, text):
     """The first field that is none of an event, and the row up to its first byte that is not printable ASCII, at most 64 bytes."""
     wanted = f'{{"code":20,"field":"{field}","name":"bad-row","reply":"refused","row":5,"text":"{text}"}}\n'
     assert run("ucl_live", "--format", "json", input=CLUBS + row + "\r\n") == (0, wanted, "")
+
+
+def test_results(run):
+    """A board begins from results, words, and matches that were not played, and goes on from there; also where words have to come."""
+    rows = ["result,1,2,1\n", "result,02,00,00,1,02,0,31\n", NOT_PLAYED[2], "word,4,2001000000005002,\n", "result,5,63,63,63,63,31,31\n", *NOT_PLAYED[5:]]
+    ended = ["match  1 v0005 FINISHED   2-1 Y 0-0 E 0-0 by   1 Bravo v Charlie\n", "match  2 v0036 FINISHED   0-0 Y 1-2 E 0-31 by   1 Delta v Alpha\n"]
+    ended += ["match  3 v0000 SCHEDULED  0-0 Y 0-0 E 0-0 by   0 Alpha v Bravo\n", "match  4 v0002 IN PLAY    1-0 Y 0-0 E 0-0 by   1 Charlie v Delta\n"]
+    ended += ["match  5 v0316 FINISHED  63-63 Y 63-63 E 31-31 by   1 Charlie v Alpha\n", "match  6 v0000 SCHEDULED  0-0 Y 0-0 E 0-0 by   0 Bravo v Delta\n"]
+    for words in ([], ["--resumed"]):
+        text = CLUBS + "".join(rows) + "matches,,,\n2,1,5,reopen\n2,3,0,kickoff\nresult,3,0,0,0,0,0,0\n"
+        output = run("ucl_live", *words, input=text).output.splitlines(True)
+        assert output[:6] == ended and output[12:] == ["18 ok 1 6 360\n", "19 ok 3 1 361\n", "20 refused 20 bad-row\n"]
 
 
 def test_matches(run):

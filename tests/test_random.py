@@ -4,6 +4,7 @@
 """
 
 import contextlib
+import copy
 import os
 import random
 import tempfile
@@ -12,7 +13,7 @@ import pytest
 from conftest import EXAMPLES, Started, command, decoded, encoded, faults_alone, text_of
 from hypothesis import given, settings
 from hypothesis import strategies as st
-from model import CLUBS, FINISHED, IN_PLAY, ROSTER, SCHEDULED, WORDS, Evening, entered, followed, fresh, night, sheet
+from model import CLUBS, FINISHED, IN_PLAY, ROSTER, SCHEDULED, WORDS, Evening, Match, entered, followed, fresh, night, sheet
 from threads import History, faults_of, replies_of
 
 pytestmark = pytest.mark.limit(600)
@@ -117,7 +118,38 @@ def test_scripts_and_sheets(program, data):
     assert fed(program("ucl_night"), [word, *words], text, draw(PIECES)) == night(word, words, text)
 
 
-ODD_ROWS = ["screen,,,", "words,,,", "matches,,,", "", "\r", "x", "1,1,0", "screen,1,,", "y" * 257, "z" * 700, "word,1,,", '1,1,0,"kickoff', 'word,1,2000000000000000,"', "1,13,0,goal", '1,1,"0', "\ufeff1,1,0,kickoff"]
+COUNTS = st.lists(st.integers(0, 6) | st.integers(0, 31), min_size=6, max_size=6)
+
+
+def played(counts):
+    """A match after kick-off, its goals, yellows and reds, and full time, each entered by reporter 1."""
+    match = Match()
+    sides = [f"{kind}-{side}" for kind in ("goal", "yellow", "red") for side in ("home", "away")]
+    for event in ["kickoff", *(side for side, times in zip(sides, counts) for _ in range(times)), "fulltime"]:
+        assert match.refusal(match.number, event) is None
+        match.enter(1, event)
+    return match
+
+
+@given(st.data())
+def test_results(program, data):
+    """`ucl_live` from results is as after the events that they stand for."""
+    draw, rows, found = data.draw, [], fresh()
+    for game, counts in enumerate(draw(st.lists(st.none() | COUNTS, min_size=12, max_size=12))):
+        with_cards = draw(st.booleans())
+        if counts is None:
+            rows.append(f"result,{game + 1},,\n")
+        else:
+            found[game] = played(counts if with_cards else counts[:2])
+            rows.append(",".join(map(str, ["result", game + 1, *(counts if with_cards else counts[:2])])) + "\n")
+    clubs, words = draw(club_rows()), draw(GROUPS) + draw(ORDERS)
+    after = ["screen,,,\n", "words,,,\n", *event_rows(draw(PICKS), copy.deepcopy(found)), "matches,,,\n"]
+    wanted = Evening(words).of("".join([*clubs, *sheet(found).splitlines(True), *after]))
+    assert faults_alone(fed(program("ucl_live"), words, "".join(clubs + rows + after), draw(PIECES))) == wanted
+
+
+ODD_ROWS = ["result,1,0,0", "result,2,,", "result,1,1,0,0,0,0,1", "result,1,x,0"]
+ODD_ROWS += ["screen,,,", "words,,,", "matches,,,", "", "\r", "x", "1,1,0", "screen,1,,", "y" * 257, "z" * 700, "word,1,,", '1,1,0,"kickoff', 'word,1,2000000000000000,"', "1,13,0,goal", '1,1,"0', "\ufeff1,1,0,kickoff"]
 
 
 @given(st.data())

@@ -248,7 +248,7 @@ fn push_meant(to: &mut Sentence, meant: &str, more: &str) {
 /// Puts what is wrong with the first field of a row.
 fn push_first(to: &mut Sentence, row: &str) {
     let field = field_of(row, 0);
-    if field == "club" || field == "word" {
+    if field == "club" || field == "word" || field == "result" {
         push_field(to, field, " rows come before all events; leave it out");
     } else if row.ends_with(",,,") {
         push_field(to, field, " asks for nothing that there is");

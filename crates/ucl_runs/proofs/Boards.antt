@@ -31,7 +31,7 @@ use Rattle.ucl_runs.specs.declared.request.Request.{Request}
 use Rattle.ucl_runs.specs.declared.request.Request.TheVariants.{Bad, Event, Screen, Words, Matches}
 use Rattle.ucl_runs.specs.BadRows.{bad_field, shown_text}
 use Rattle.ucl_runs.specs.Requests.{asked_by, event_or_bad, request_of, shown_by}
-use Rattle.ucl_runs.specs.Rows.{Said, Nothing, Garbled, Row, said_on}
+use Rattle.ucl_runs.specs.Rows.{Said, Nothing, Other, Row, said_on}
 use Rattle.ucl_runs.specs.Stages.{Stage, Open, Restoring, next_board, next_stage}
 use Rattle.ucl_runs.specs.LiveText.{Evening, after_lines, answer_said, answer_of, answers, next, next_title, reply_answer, screen_after}
 use Rattle.ucl_runs.specs.ByHistory.{answer_by_history, answers_by_history, attempts_in, attempts_of, attempts_on, line_by_history, reply_by_history}
@@ -116,7 +116,7 @@ asked f = asked-by AreAttempts f none none none none (by-event f (event_of f) (e
 
 said-attempts : (r : Said) → All IsAttempt (attempts_on r)
 said-attempts Nothing = none
-said-attempts Garbled = none
+said-attempts (Other eight) = none
 said-attempts (Row f) = asked f
 
 all-attempts : (row : ℕ) (lines : List (List ℕ)) → All IsAttempt (attempts_in row lines)
@@ -135,17 +135,17 @@ fold-request board Matches more = refl
 
 abbrev board_on : List ℕ → Said → List ℕ
 board_on board Nothing = board
-board_on board Garbled = board
+board_on board (Other eight) = board
 board_on board (Row f) = next_board board (request_of (Row f))
 
 fold-said : (board : List ℕ) (r : Said) (more : List Attempt) → fold board_after board (attempts_on r ++ more) ≡ fold board_after (board_on board r) more
 fold-said board Nothing more = refl
-fold-said board Garbled more = refl
+fold-said board (Other eight) more = refl
 fold-said board (Row f) more = fold-request board (request_of (Row f)) more
 
 next-open : (options : LiveArgs) (row : ℕ) (clubs : List NamedClub) (board : List ℕ) (r : Said) → next_stage options row (Open clubs board) r ≡ Open clubs (board_on board r)
 next-open options row clubs board Nothing = refl
-next-open options row clubs board Garbled = refl
+next-open options row clubs board (Other eight) = refl
 next-open options row clubs board (Row f) = refl
 
 pub boards : BoardsTakeEvents
@@ -213,7 +213,7 @@ request-answer options title row clubs history Matches shown legal all = refl
 said-answer : (e : Evening) (clubs : List NamedClub) (history : List Entry) (r : Said) (shown : List ℕ) → IsLegal history → e.stage ≡ Open clubs (board_of history)
     → answer_said e r shown ≡ line_by_history e.options e.title e.row clubs history r shown
 said-answer e clubs history Nothing shown legal h = refl
-said-answer e clubs history Garbled shown legal h = rw h refl
+said-answer e clubs history (Other eight) shown legal h = rw h refl
 said-answer e clubs history (Row f) shown legal h = rw h (request-answer e.options e.title e.row clubs history (request_of (Row f)) shown legal (asked f))
 
 -- the board that a line leaves
@@ -256,13 +256,13 @@ sequential e lines clubs history legal h =
 first-answer : (e : Evening) (clubs : List NamedClub) (r : Said) (shown : List ℕ) → e.options.resumed ≡ false → e.stage ≡ Restoring clubs [] → IsOtherRow r
     → answer_said e r shown ≡ answer_said (fresh_at e clubs) r shown
 first-answer e clubs Nothing shown new h k = absurd k
-first-answer e clubs Garbled shown new h k = rw (h, new) refl
+first-answer e clubs (Other eight) shown new h k = rw (h, new, k) refl
 first-answer e clubs (Row f) shown new h k = rw (h, new, k) refl
 
 first-next : (e : Evening) (clubs : List NamedClub) (r : Said) → e.options.resumed ≡ false → e.stage ≡ Restoring clubs [] → IsOtherRow r
     → next e r ≡ next (fresh_at e clubs) r
 first-next e clubs Nothing new h k = absurd k
-first-next e clubs Garbled new h k = rw (h, new) refl
+first-next e clubs (Other eight) new h k = rw (h, new, k) refl
 first-next e clubs (Row f) new h k = rw (h, new, k) refl
 
 pub first-rows : FirstRowsOpenTheBoard

@@ -46,7 +46,7 @@ use Rattle.ucl_command.specs.Groups.{may_be_asked}
 use Rattle.ucl_command.proofs.Letters.{asked_letter}
 use Rattle.ucl_runs.proofs.Silence.{is_open}
 use Rattle.ucl_runs.specs.Requests.{asked_by, event_or_bad, request_of}
-use Rattle.ucl_runs.specs.Rows.{Said, Nothing, Garbled, Row, said_on}
+use Rattle.ucl_runs.specs.Rows.{Said, Nothing, Other, Row, said_on}
 use Rattle.ucl_runs.specs.Stages.{Stage, Beginning, Naming, Open, Refused, Restoring, after_club, after_beginning, after_row, after_title, after_word}
 use Rattle.ucl_runs.specs.Stages.{club_said, is_word_row, next_board, next_stage, opened, restored, with_roster, with_words, word_said}
 use Rattle.ucl_runs.specs.LiveText.{Evening, after_lines, answer_at, answer_of, answer_said, answers, next, next_title, reply_answer, screen_after, screen_answer, start_of, title_or}
@@ -133,7 +133,7 @@ good-board board Matches w all = w
 
 of-request : (r : Said) → AreAttempts (request_of r)
 of-request Nothing = All-nil IsAttempt
-of-request Garbled = All-nil IsAttempt
+of-request (Other eight) = All-nil IsAttempt
 of-request (Row f) = asked f
 
 good-title : (options : LiveArgs) (row : ℕ) (title : Option Title) → IsGood (after_title options row title)
@@ -153,7 +153,7 @@ good-row options row (Refused fault) r g = tt
 
 good-next : (options : LiveArgs) (row : ℕ) (s : Stage) (r : Said) → IsGood s → IsGood (next_stage options row s r)
 good-next options row s Nothing g = g
-good-next options row s Garbled g = good-row options row (opened options s Garbled) Garbled (good-opened options s Garbled g)
+good-next options row s (Other eight) g = good-row options row (opened options s (Other eight)) (Other eight) (good-opened options s (Other eight) g)
 good-next options row s (Row f) g = good-row options row (opened options s (Row f)) (Row f) (good-opened options s (Row f) g)
 
 ranged : (low high : ℕ) (o : Option ℕ) (n : ℕ) → in_range low high o ≡ Some n → n ≤ high
@@ -216,7 +216,7 @@ either-title false x y p q = q
 
 row-title : (title : Title) (r : Said) → IsTitle title → IsTitle (title_or title (title_said r))
 row-title title Nothing is = is
-row-title title Garbled is = is
+row-title title (Other eight) is = is
 row-title title (Row f) is = or-title title (title_by f) is (said-title f)
 
 next-good : (title : Title) (s : Stage) (r : Said) → IsTitle title → IsTitle (next_title title s r)
@@ -306,7 +306,7 @@ fits-asked f = asked-by Fits f tt tt tt tt (fits-event f (event_of f) (numbers f
 
 fits-request : (r : Said) → Fits (request_of r)
 fits-request Nothing = tt
-fits-request Garbled = tt
+fits-request (Other eight) = tt
 fits-request (Row f) = fits-asked f
 
 -- ---- what the answer to a line tells
@@ -408,9 +408,9 @@ same-title options title (Refused fault) r h = refl
 line-tells : (e : Evening) (r : Said) (shown : List ℕ) → e.options.format ≡ Json → e.row < 2 ^ 64 → IsSound e → IsShown shown
     → TellsAlone (moment_now (next e r)) (answer_said e r shown)
 line-tells e Nothing shown json fits g short = alone-none (moment_now (next e Nothing))
-line-tells e Garbled shown json fits g short =
-    stage-tells e.options e.title (next_title e.title e.stage Garbled) e.row (opened e.options e.stage Garbled) Garbled shown json fits g.title (good-opened e.options e.stage Garbled g.stage) short
-    (same-title e.options e.title e.stage Garbled)
+line-tells e (Other eight) shown json fits g short =
+    let r = Other eight in stage-tells e.options e.title (next_title e.title e.stage r) e.row (opened e.options e.stage r) r shown json fits g.title (good-opened e.options e.stage r g.stage) short
+    (same-title e.options e.title e.stage r)
 line-tells e (Row f) shown json fits g short =
     stage-tells e.options e.title (next_title e.title e.stage (Row f)) e.row (opened e.options e.stage (Row f)) (Row f) shown json fits g.title (good-opened e.options e.stage (Row f) g.stage) short
     (same-title e.options e.title e.stage (Row f))
@@ -489,7 +489,7 @@ is_taken board a = is_ok (reply_of (game_at board a.call.game) a.call)
 pub answers-first : (e : Evening) (r : Said) (shown : List ℕ) (clubs : List NamedClub) (board : List ℕ) (a : Attempt) → e.options.format ≡ Json → e.row < 2 ^ 64 → IsSound e
     → opened e.options e.stage r ≡ Open clubs board → attempts_on r ≡ a ∷ [] → is_ok (reply_of (game_at board a.call.game) a.call) ≡ true → AnswersFirst e r shown board
 answers-first e Nothing shown clubs board a json fits g stands asks ok = cc
-answers-first e Garbled shown clubs board a json fits g stands asks ok = cc
+answers-first e (Other eight) shown clubs board a json fits g stands asks ok = cc
 answers-first e (Row f) shown clubs board a json fits g stands asks ok =
     let q = by-request (asked_by f) a asks in
     let event = q.0 in

@@ -18,7 +18,7 @@ use Rattle.ucl_runs.specs.declared.request.Request.TheVariants.{Bad, Event, Scre
 use Rattle.ucl_runs.specs.ByHistory.{attempts_in, attempts_of, attempts_on}
 use Rattle.ucl_runs.specs.InputLines.{lines_of}
 use Rattle.ucl_runs.specs.Requests.{asked_by}
-use Rattle.ucl_runs.specs.Rows.{Said, Nothing, Garbled, Row, said_on}
+use Rattle.ucl_runs.specs.Rows.{Said, Nothing, Other, Row, said_on}
 use Rattle.ucl_runs.specs.Stages.{Stage, Open, next_board, next_stage, opened}
 use Rattle.ucl_runs.specs.Titles.{is_asked}
 use Rattle.ucl_runs.specs.LiveText.{Evening, after_lines, answers, next, start_of}
@@ -69,7 +69,7 @@ module _ (e : Evening) (line : List ℕ) (clubs : List NamedClub) (board : List 
 
   by-said : (r : Said) → said_on e.row line ≡ r → StaysOr e line clubs board
   by-said Nothing is = inl (moved Nothing is)
-  by-said Garbled is = inl (moved Garbled is)
+  by-said (Other eight) is = inl (moved (Other eight) is)
   by-said (Row f) is = by-request f (asked_by f) is refl
 
 abbrev HasAccepted : Evening → Lines → Type 0

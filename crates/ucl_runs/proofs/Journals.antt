@@ -20,7 +20,7 @@ use Rattle.ucl_runs.proofs.Silence.{is_open}
 use Rattle.ucl_runs.specs.BadRows.{shown_text}
 use Rattle.ucl_runs.specs.ByHistory.{attempts_in, attempts_on}
 use Rattle.ucl_runs.specs.InputLines.{last_lines, lines_of}
-use Rattle.ucl_runs.specs.Rows.{Said, Nothing, Garbled, Row, said_on}
+use Rattle.ucl_runs.specs.Rows.{Said, Nothing, Other, Row, said_on}
 use Rattle.ucl_runs.specs.Stages.{Stage, Beginning, Naming, Open, Refused, Restoring, opened}
 use Rattle.ucl_runs.specs.LiveText.{Evening, after_lines, answers, live_text, next, next_title, start_of}
 use Rattle.ucl_runs.proofs.Boards.{asked, boards}
@@ -222,7 +222,7 @@ all-rise board (a ∷ attempts) w all =
 
 said-attempts : (r : Said) → All IsAttempt (attempts_on r)
 said-attempts Nothing = All-nil IsAttempt
-said-attempts Garbled = All-nil IsAttempt
+said-attempts (Other eight) = All-nil IsAttempt
 said-attempts (Row f) = asked f
 
 pub lines-attempts : (row : ℕ) (lines : Lines) → All IsAttempt (attempts_in row lines)

@@ -16,7 +16,7 @@ use Rattle.ucl_command.specs.declared.options.Format.TheVariants.{Json}
 use Rattle.ucl_command.specs.declared.live.LiveArgs.{LiveArgs}
 use Rattle.ucl_runs.specs.declared.request.Request.{Request}
 use Rattle.ucl_runs.specs.declared.request.Request.TheVariants.{Bad, Event, Screen, Words, Matches}
-use Rattle.ucl_runs.specs.Rows.{Said, Nothing, Garbled, Row, said_on}
+use Rattle.ucl_runs.specs.Rows.{Said, Nothing, Other, Row, said_on}
 use Rattle.ucl_runs.specs.BadRows.{field_name, shown_text}
 use Rattle.ucl_runs.specs.Requests.{request_of}
 use Rattle.ucl_runs.specs.Stages.{Stage, Beginning, Naming, Restoring, Open, Refused, next_board, opened}
@@ -62,7 +62,7 @@ stage-lines options title row (Refused fault) request shown h = no_lines
 
 said-lines : (e : Evening) (said : Said) (shown : List ℕ) → e.options.format ≡ Json → AreLinesOfValues (answer_said e said shown)
 said-lines e Nothing shown h = no_lines
-said-lines e Garbled shown h = stage-lines e.options e.title e.row (opened e.options e.stage Garbled) (request_of Garbled) shown h
+said-lines e (Other eight) shown h = stage-lines e.options e.title e.row (opened e.options e.stage (Other eight)) (request_of (Other eight)) shown h
 said-lines e (Row f) shown h = stage-lines e.options e.title e.row (opened e.options e.stage (Row f)) (request_of (Row f)) shown h
 
 pub json-lines : JsonAnswersAreLines

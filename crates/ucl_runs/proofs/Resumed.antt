@@ -2,6 +2,7 @@
 use Rattle.std.proofs.Common.{◌≡◌, ◌∙◌, ℕ, ◌+◌, ◌^◌, ◌<◌, refl, sym, ap, ap₂, subst, arith, List, [], ◌∷◌, ◌++◌, codes, length, append_assoc, append-nil, length-append, ne_eqb}
 use Rattle.std.proofs.Common.{Option, Some, None, Bool, true, false, ◌==◌, ◌&&◌, inl, inr}
 use Rattle.std.specs.Prelude.{All, ◌||◌}
+use Rattle.std.specs.Option.{option_or}
 use Rattle.std.proofs.lemmas.Bool.{cases_Bool, eqb-true}
 use Rattle.std.proofs.lemmas.List.{take_all}
 use Rattle.std.proofs.lemmas.List.Elements.{All-head, All-tail}
@@ -12,6 +13,7 @@ use Rattle.ucl_order.specs.Roster.{IsRoster, NamedClub, bad_slot}
 use Rattle.ucl_runs.specs.Feed.{word_lines}
 use Rattle.ucl_runs.specs.Lines.{word_line}
 use Rattle.ucl_screen.specs.Rows.{FourFields}
+use Rattle.ucl_screen.specs.Results.{result_of_row}
 use Rattle.ucl_screen.specs.Script.{club_of, word_of_row}
 use Rattle.ucl_command.specs.declared.live.LiveArgs.{LiveArgs}
 use Rattle.ucl_io.specs.Lines.{begun_line, ended_lines}
@@ -22,7 +24,7 @@ use Rattle.ucl_runs.specs.Titles.{asked_group, asked_order, asked_title, is_as_a
 use Rattle.ucl_runs.specs.Requests.{request_of}
 use Rattle.ucl_runs.specs.BadRows.{shown_text}
 use Rattle.ucl_runs.specs.Rows.{Row, Said, said_by_text, said_on}
-use Rattle.ucl_runs.specs.Stages.{Stage, Beginning, Naming, Open, Restoring, after_club, after_row, after_word, next_stage, opened, with_clubs, with_roster, with_words}
+use Rattle.ucl_runs.specs.Stages.{Stage, Beginning, Naming, Open, Restoring, after_club, after_row, after_word, next_stage, opened, with_clubs, with_roster, with_words, word_said}
 use Rattle.ucl_runs.specs.Holding.{after_bytes, answers_to}
 use Rattle.ucl_runs.specs.LiveText.{Evening, after_lines, answer_at, answer_said, answers, live_text, next, start_of}
 use Rattle.ucl_runs.proofs.Boards.{sequential}
@@ -159,7 +161,7 @@ word-passes options title row index clubs words text word here says =
     let e = at options title row (Restoring clubs words) in
     let still = opened-same options clubs words f says.first in
     let one = row-passes e text f says.says (λ shown. ap (λ (s : Stage). answer_at options title row s (request_of (Row f)) shown) still) in
-    let is : word_of_row (length words + 1) f ≡ Some word = ap (λ (n : ℕ). word_of_row n f) here ∙ says.word_is in
+    let is : word_said (length words + 1) (Row f) ≡ Some word = ap (λ (o : Option ℕ). option_or o (result_of_row (length words + 1) f)) (ap (λ (n : ℕ). word_of_row n f) here ∙ says.word_is) in
     let stage : next_stage options row (Restoring clubs words) (Row f) ≡ with_words clubs (words ++ word ∷ []) =
     ap (λ (s : Stage). after_row options row s (Row f)) still ∙ ap (λ (o : Option ℕ). after_word row clubs words o) is in
     subst (λ (s : Stage). Passes e text (at options title (row + 1) s)) stage one

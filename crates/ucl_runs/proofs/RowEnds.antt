@@ -2,7 +2,9 @@
 use Rattle.std.proofs.Common.{◌≡◌, ◌≢◌, ℕ, suc, ◌+◌, ◌-◌, ◌<◌, ◌≤◌, ◌==◌, Bool, true, false, List, [], ◌∷◌, ◌++◌, length, take, drop, get_or, Option, Some, None, refl, sym, ap, ◌∙◌, inl, inr, arith}
 use Rattle.csv.specs.Machine.{Read, ends_at_end, next_record, step}
 use Rattle.csv.specs.Reading.{default_config, records}
-use Rattle.csv.specs.Records.{Rising, cut_from, last_end}
+use Rattle.csv.specs.Records.{Rising, cut_from, field_at, last_end}
+use Rattle.ucl_screen.specs.Rows.{FourFields}
+use Rattle.ucl_runs.specs.Rows.{eight_of}
 use Rattle.csv.specs.declared.parser.State.{State}
 use Rattle.csv.specs.declared.parser.State.TheVariants as st
 use Rattle.std.proofs.lemmas.Bool.Decides.{nat_tests}
@@ -97,3 +99,24 @@ fill-step state d o i text fields fields2 field field2 h e reads =
 pub fill-end : (state : RowState) (i : ℕ) (text : List ℕ) (fields : Row) (field : List ℕ) → length text ≤ i
     → next_record default_config (csv_state_of state) fields field (drop i text) ≡ Some (fields ++ field ∷ [], st.StartRecord, [])
 fill-end state i text fields field h = rw (drop_all i text h) (at-end state fields field)
+
+-- ---- a row of eight fields, read one at a time
+
+abbrev pub eight_from : (a b c d e f g h i : Option (List ℕ)) → Option (FourFields × FourFields)
+eight_from (Some a) (Some b) (Some c) (Some d) (Some e) (Some f) (Some g) (Some h) None =
+    Some (record { first = a; second = b; third = c; fourth = d }, record { first = e; second = f; third = g; fourth = h })
+eight_from _ _ _ _ _ _ _ _ _ = None
+
+pub eight_by : (fs : List (List ℕ)) → eight_of fs
+    ≡ eight_from (field_at fs 0) (field_at fs 1) (field_at fs 2) (field_at fs 3) (field_at fs 4) (field_at fs 5) (field_at fs 6) (field_at fs 7) (field_at fs 8)
+unfolding field_at
+eight_by [] = refl
+eight_by (a ∷ []) = refl
+eight_by (a ∷ b ∷ []) = refl
+eight_by (a ∷ b ∷ c ∷ []) = refl
+eight_by (a ∷ b ∷ c ∷ d ∷ []) = refl
+eight_by (a ∷ b ∷ c ∷ d ∷ e ∷ []) = refl
+eight_by (a ∷ b ∷ c ∷ d ∷ e ∷ f ∷ []) = refl
+eight_by (a ∷ b ∷ c ∷ d ∷ e ∷ f ∷ g ∷ []) = refl
+eight_by (a ∷ b ∷ c ∷ d ∷ e ∷ f ∷ g ∷ h ∷ []) = refl
+eight_by (a ∷ b ∷ c ∷ d ∷ e ∷ f ∷ g ∷ h ∷ i ∷ fs) = refl

@@ -34,7 +34,7 @@ use Rattle.ucl_runs.specs.InputLines.{lines_of}
 use Rattle.ucl_runs.specs.Members.{text_told, texts_told}
 use Rattle.ucl_runs.specs.BadRows.{field_name, shown_text}
 use Rattle.ucl_runs.specs.Requests.{request_of}
-use Rattle.ucl_runs.specs.Rows.{Said, Nothing, Garbled, Row, said_on}
+use Rattle.ucl_runs.specs.Rows.{Said, Nothing, Other, Row, said_on}
 use Rattle.ucl_runs.specs.Stages.{Stage, Beginning, Naming, Restoring, Open, Refused}
 use Rattle.ucl_runs.specs.Stages.{after_beginning, after_club, after_row, after_title, after_word}
 use Rattle.ucl_runs.specs.Stages.{club_said, is_word_row, next_board, next_stage, opened, restored, with_roster, with_words, word_said}
@@ -195,7 +195,7 @@ good-board board Matches w all = w
 
 of-request : (r : Said) → AreAttempts (request_of r)
 of-request Nothing = All-nil IsAttempt
-of-request Garbled = All-nil IsAttempt
+of-request (Other eight) = All-nil IsAttempt
 of-request (Row f) = asked f
 
 good-title : (options : LiveArgs) (row : ℕ) (title : Option Title) → Good (after_title options row title)
@@ -215,7 +215,7 @@ good-row options row (Refused fault) r g = tt
 
 good-next : (options : LiveArgs) (row : ℕ) (s : Stage) (r : Said) → Good s → Good (next_stage options row s r)
 good-next options row s Nothing g = g
-good-next options row s Garbled g = good-row options row (opened options s Garbled) Garbled (good-opened options s Garbled g)
+good-next options row s (Other eight) g = good-row options row (opened options s (Other eight)) (Other eight) (good-opened options s (Other eight) g)
 good-next options row s (Row f) g = good-row options row (opened options s (Row f)) (Row f) (good-opened options s (Row f) g)
 
 -- ---- the form of the answers changes no stage
@@ -241,7 +241,7 @@ row-text options row (Refused fault) r = refl
 
 stage-text : (options : LiveArgs) (row : ℕ) (s : Stage) (r : Said) → next_stage (as_text options) row s r ≡ next_stage options row s r
 stage-text options row s Nothing = refl
-stage-text options row s Garbled = rw (opened-text options s Garbled) (row-text options row (opened options s Garbled) Garbled)
+stage-text options row s (Other eight) = rw (opened-text options s (Other eight)) (row-text options row (opened options s (Other eight)) (Other eight))
 stage-text options row s (Row f) = rw (opened-text options s (Row f)) (row-text options row (opened options s (Row f)) (Row f))
 
 stage-lines : (options : LiveArgs) (title : Title) (row : ℕ) (s : Stage) (r : Said) (shown : List ℕ) → options.format ≡ Json → Good s
@@ -264,8 +264,8 @@ text-next e r =
 
 said-lines : (e : Evening) (r : Said) (shown : List ℕ) → e.options.format ≡ Json → Good e.stage → AreLinesSaying (answer_said (text_of e) r shown) (answer_said e r shown)
 said-lines e Nothing shown h g = no-lines
-said-lines e Garbled shown h g =
-    rw (opened-text e.options e.stage Garbled) (stage-lines e.options e.title e.row (opened e.options e.stage Garbled) Garbled shown h (good-opened e.options e.stage Garbled g))
+said-lines e (Other eight) shown h g =
+    let r = Other eight in rw (opened-text e.options e.stage r) (stage-lines e.options e.title e.row (opened e.options e.stage r) r shown h (good-opened e.options e.stage r g))
 said-lines e (Row f) shown h g =
     rw (opened-text e.options e.stage (Row f)) (stage-lines e.options e.title e.row (opened e.options e.stage (Row f)) (Row f) shown h (good-opened e.options e.stage (Row f) g))
 

@@ -5,7 +5,7 @@ use Rattle.ucl_command.specs.declared.live.LiveArgs.{LiveArgs}
 use Rattle.ucl_runs.specs.declared.live_fault.BeginningFault.{BeginningFault}
 use Rattle.ucl_runs.specs.BadRows.{shown_text}
 use Rattle.ucl_runs.specs.Requests.{request_of}
-use Rattle.ucl_runs.specs.Rows.{Said, Nothing, Garbled, Row, said_on}
+use Rattle.ucl_runs.specs.Rows.{Said, Nothing, Other, Row, said_on}
 use Rattle.ucl_runs.specs.Stages.{Stage, Beginning, Naming, Restoring, Open, Refused, after_row, missing, next_stage, opened}
 use Rattle.ucl_runs.specs.LiveText.{Evening, after_lines, answer_said, answer_at, answers, next}
 
@@ -34,7 +34,7 @@ open-opened options (Refused fault) r h = cc
 
 open-next : (options : LiveArgs) (row : ℕ) (s : Stage) (r : Said) → is_open s ≡ true → is_open (next_stage options row s r) ≡ true
 open-next options row s Nothing h = h
-open-next options row s Garbled h = open-row options row (opened options s Garbled) Garbled (open-opened options s Garbled h)
+open-next options row s (Other eight) h = open-row options row (opened options s (Other eight)) (Other eight) (open-opened options s (Other eight) h)
 open-next options row s (Row f) h = open-row options row (opened options s (Row f)) (Row f) (open-opened options s (Row f) h)
 
 pub stays-open : (e : Evening) (lines : List (List ℕ)) → is_open e.stage ≡ true → is_open (after_lines e lines).stage ≡ true
@@ -55,7 +55,7 @@ silent-at e (Open clubs board) r shown h = cc
 
 silent-answer : (e : Evening) (r : Said) (shown : List ℕ) → is_open (next e r).stage ≡ false → answer_said e r shown ≡ []
 silent-answer e Nothing shown h = refl
-silent-answer e Garbled shown h = silent-at e (opened e.options e.stage Garbled) Garbled shown (shut-row e.options e.row (opened e.options e.stage Garbled) Garbled h)
+silent-answer e (Other eight) shown h = silent-at e (opened e.options e.stage (Other eight)) (Other eight) shown (shut-row e.options e.row (opened e.options e.stage (Other eight)) (Other eight) h)
 silent-answer e (Row f) shown h = silent-at e (opened e.options e.stage (Row f)) (Row f) shown (shut-row e.options e.row (opened e.options e.stage (Row f)) (Row f) h)
 
 pub shut-lines : (e : Evening) (lines : List (List ℕ)) → is_open (after_lines e lines).stage ≡ false → is_open e.stage ≡ false
@@ -73,7 +73,7 @@ silent e (line ∷ lines) h =
 
 refused-next : (options : LiveArgs) (row : ℕ) (r : Said) (fault : BeginningFault) → next_stage options row (Refused fault) r ≡ Refused fault
 refused-next options row Nothing fault = refl
-refused-next options row Garbled fault = refl
+refused-next options row (Other eight) fault = refl
 refused-next options row (Row f) fault = refl
 
 pub stays-refused : (e : Evening) (lines : List (List ℕ)) (fault : BeginningFault) → e.stage ≡ Refused fault → (after_lines e lines).stage ≡ Refused fault

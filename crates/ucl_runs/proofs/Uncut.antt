@@ -1,5 +1,5 @@
 -- The lines as they are read, and as they came.
-use Rattle.std.proofs.Common.{◌≡◌, ℕ, ◌+◌, ◌-◌, ◌≤◌, ◌<◌, ◌==◌, false, List, [], ◌∷◌, ◌++◌, length, take, get_or, refl, sym, ap, ◌∙◌, inl, inr, arith, length-append}
+use Rattle.std.proofs.Common.{◌≡◌, ℕ, ◌+◌, ◌-◌, ◌≤◌, ◌<◌, ◌==◌, false, List, [], ◌∷◌, ◌++◌, length, take, get_or, None, refl, sym, ap, ◌∙◌, inl, inr, arith, length-append}
 use Rattle.std.specs.Prelude.{⊤, ◌⊎◌, nat_le}
 use Rattle.std.proofs.lemmas.Bool.{cases_Bool, lt-leb}
 use Rattle.std.proofs.lemmas.Bool.Decides.{nat_tests}
@@ -8,7 +8,7 @@ use Rattle.ucl_io.specs.Lines.{begun_line, ended_lines, longer}
 use Rattle.ucl_runs.specs.InputLines.{last_lines, lines_of}
 use Rattle.ucl_runs.specs.UncutLines.{uncut_after, uncut_lines}
 use Rattle.ucl_runs.specs.BadRows.{printed, shown_text}
-use Rattle.ucl_runs.specs.Rows.{Garbled, fits, row_by_text, said_on}
+use Rattle.ucl_runs.specs.Rows.{Other, fits, row_by_text, said_on}
 use Rattle.ucl_runs.specs.LiveText.{Evening, after_lines, answer_said, answers, next}
 use Rattle.ucl_runs.specs.LiveLaws.{LinesAreReadWhole}
 
@@ -42,7 +42,7 @@ no-room text h = elim (cases_Bool (get_or text (length text - 2) 0 == 13)) [
   | inr n ↦ rw n (lt-leb (length text) 257 (omega (arith, h)))
 ]
 
-too-long : (row : ℕ) (line : List ℕ) → 258 ≤ length line → said_on row line ≡ Garbled
+too-long : (row : ℕ) (line : List ℕ) → 258 ≤ length line → said_on row line ≡ Other None
 unfolding row_by_text
 too-long row line h = rw (no-room (line ++ 10 ∷ []) (let m = longer-by line 10 in omega (arith, h, m))) refl
 

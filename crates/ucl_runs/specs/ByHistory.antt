@@ -15,7 +15,7 @@ use Rattle.ucl_command.specs.declared.options.Format.TheVariants.{Text, Json}
 use Rattle.ucl_command.specs.declared.live.LiveArgs.{LiveArgs}
 use Rattle.ucl_runs.specs.declared.request.Request.{Request}
 use Rattle.ucl_runs.specs.declared.request.Request.TheVariants.{Bad, Event, Screen, Words, Matches}
-use Rattle.ucl_runs.specs.Rows.{Said, Nothing, Garbled, Row, said_on}
+use Rattle.ucl_runs.specs.Rows.{Said, Nothing, Other, Row, said_on}
 use Rattle.ucl_runs.specs.BadRows.{shown_text}
 use Rattle.ucl_runs.specs.Requests.{request_of}
 use Rattle.ucl_runs.specs.LiveText.{bad_answer, matches_answer, screen_after, screen_answer, words_answer}
@@ -31,7 +31,7 @@ attempts_of Matches = []
 
 abbrev pub attempts_on : Said → List Attempt
 attempts_on Nothing = []
-attempts_on Garbled = []
+attempts_on (Other eight) = []
 attempts_on (Row f) = attempts_of (request_of (Row f))
 
 unfoldable pub attempts_in : ℕ → List (List ℕ) → List Attempt
@@ -59,7 +59,7 @@ answer_by_history options title row clubs history Matches shown = matches_answer
 -- the answer to what a line says that is shown so
 abbrev pub line_by_history : LiveArgs → Title → ℕ → List NamedClub → List Entry → Said → List ℕ → List ℕ
 line_by_history options title row clubs history Nothing shown = []
-line_by_history options title row clubs history Garbled shown = answer_by_history options title row clubs history (request_of Garbled) shown
+line_by_history options title row clubs history (Other eight) shown = answer_by_history options title row clubs history (request_of (Other eight)) shown
 line_by_history options title row clubs history (Row f) shown = answer_by_history options title row clubs history (request_of (Row f)) shown
 
 -- the answers to lines, each after the history of the events that were accepted before it

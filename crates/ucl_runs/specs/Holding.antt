@@ -22,7 +22,7 @@ use Rattle.ucl_runs.specs.declared.request.Request.TheVariants.{Bad, Event, Scre
 use Rattle.ucl_runs.specs.declared.parts.Parts.{Parts}
 use Rattle.ucl_runs.specs.InputLines.{last_lines}
 use Rattle.ucl_runs.specs.Requests.{request_of}
-use Rattle.ucl_runs.specs.Rows.{Said, Nothing, Garbled, Row, said_on}
+use Rattle.ucl_runs.specs.Rows.{Said, Nothing, Other, Row, said_on}
 use Rattle.ucl_runs.specs.Seen.{bytes_of, stage_seen}
 use Rattle.ucl_runs.specs.Stages.{Stage, Beginning, Naming, Restoring, Open, Refused, opened}
 use Rattle.ucl_runs.specs.LiveText.{Evening, after_lines, answers, live_text, missing_after, missing_now, next}
@@ -48,7 +48,7 @@ AsksAt options (Refused fault) request = ⊥
 
 abbrev pub AsksForMemory : Evening → Said → Type 0
 AsksForMemory e Nothing = ⊥
-AsksForMemory e Garbled = AsksAt e.options (opened e.options e.stage Garbled) (request_of Garbled)
+AsksForMemory e (Other eight) = AsksAt e.options (opened e.options e.stage (Other eight)) (request_of (Other eight))
 AsksForMemory e (Row f) = AsksAt e.options (opened e.options e.stage (Row f)) (request_of (Row f))
 
 -- ---- the machine

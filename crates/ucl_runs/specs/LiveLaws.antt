@@ -24,7 +24,7 @@ use Rattle.ucl_runs.specs.ByHistory.{answers_by_history, attempts_in}
 use Rattle.ucl_runs.specs.InputLines.{lines_of}
 use Rattle.ucl_runs.specs.Members.{text_told, texts_told}
 use Rattle.ucl_runs.specs.UncutLines.{uncut_lines}
-use Rattle.ucl_runs.specs.Rows.{Said, Nothing, Garbled, Row, said_on}
+use Rattle.ucl_runs.specs.Rows.{Said, Nothing, Other, Row, said_on}
 use Rattle.ucl_runs.specs.Stages.{Open, Refused, Restoring, is_word_row}
 use Rattle.ucl_runs.specs.LiveText.{Evening, after_lines, answers, bad_line, live_text, reply_answer, start_of}
 
@@ -54,16 +54,16 @@ abbrev pub EveningsAreSequential : Type 0
 EveningsAreSequential = (e : Evening) (lines : List (List ℕ)) (clubs : List NamedClub) (history : List Entry) → IsLegal history → e.stage ≡ Open clubs (board_of history)
     → IsSequential e lines clubs history
 
--- a row that is not that of a word
+-- a row that is neither that of a word nor of a result
 abbrev pub IsOtherRow : Said → Type 0
 IsOtherRow Nothing = ⊥
-IsOtherRow Garbled = ⊤
+IsOtherRow (Other eight) = is_word_row (Other eight) ≡ false
 IsOtherRow (Row f) = is_word_row (Row f) ≡ false
 
 abbrev pub fresh_at : Evening → List NamedClub → Evening
 fresh_at e clubs = record e { stage = Open clubs (board_of []) }
 
--- four clubs were named: where the first row after them is not that of a word, all goes on as on the open board of no event
+-- four clubs were named: where the first row after them is that of neither, all goes on as on the open board of no event
 pub record GoesOnFresh (e : Evening) (lines : List (List ℕ)) (clubs : List NamedClub) : Type 0 where
   pub text : answers e lines ≡ answers (fresh_at e clubs) lines
   pub after : after_lines e lines ≡ after_lines (fresh_at e clubs) lines

@@ -19,7 +19,7 @@ use Rattle.ucl_runs.specs.declared.live_fault.BeginningFault.{BeginningFault}
 use Rattle.ucl_runs.specs.declared.request.Request.{Request}
 use Rattle.ucl_runs.specs.declared.request.Request.TheVariants.{Bad, Event, Screen, Words, Matches}
 use Rattle.ucl_runs.specs.InputLines.{lines_of}
-use Rattle.ucl_runs.specs.Rows.{Said, Nothing, Garbled, Row, said_on}
+use Rattle.ucl_runs.specs.Rows.{Said, Nothing, Other, Row, said_on}
 use Rattle.ucl_runs.specs.BadRows.{field_name, shown_text}
 use Rattle.ucl_runs.specs.Requests.{request_of}
 use Rattle.ucl_runs.specs.Titles.{asked_title, is_group_row, title_said}
@@ -100,7 +100,7 @@ answer_at options title row (Refused fault) request shown = []
 -- the answer to what a line says that is shown so
 abbrev pub answer_said : Evening → Said → List ℕ → List ℕ
 answer_said e Nothing shown = []
-answer_said e Garbled shown = answer_at e.options e.title e.row (opened e.options e.stage Garbled) (request_of Garbled) shown
+answer_said e (Other eight) shown = answer_at e.options e.title e.row (opened e.options e.stage (Other eight)) (request_of (Other eight)) shown
 answer_said e (Row f) shown = answer_at e.options e.title e.row (opened e.options e.stage (Row f)) (request_of (Row f)) shown
 
 -- the first row may say what the board is told under

@@ -4,7 +4,7 @@ use Rattle.std.specs.Str.{bytes_eq}
 use Rattle.ucl_screen.specs.declared.night.NightEvent.{NightEvent}
 use Rattle.ucl_screen.specs.Rows.{FourFields}
 use Rattle.ucl_screen.specs.Events.{event_of}
-use Rattle.ucl_runs.specs.Rows.{Said, Nothing, Garbled, Row}
+use Rattle.ucl_runs.specs.Rows.{Said, Nothing, Other, Row}
 use Rattle.ucl_runs.specs.BadRows.{bad_field}
 use Rattle.ucl_runs.specs.declared.bad_row.BadField.TheVariants.{Count}
 use Rattle.ucl_runs.specs.declared.request.Request.{Request}
@@ -27,5 +27,5 @@ asked_by f =
 
 abbrev pub request_of : Said → Request
 request_of Nothing = Bad Count
-request_of Garbled = Bad Count
+request_of (Other eight) = Bad Count
 request_of (Row f) = asked_by f

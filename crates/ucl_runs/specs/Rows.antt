@@ -3,7 +3,9 @@
 -- stands in no field that is good.
 use Rattle.std.specs.Prelude.{ℕ, ◌-◌, ◌==◌, nat_le, if◌then◌else◌, Bool, List, [], ◌∷◌, ◌++◌, length, get_or, Option, Some, None}
 use Rattle.csv.specs.Reading.{default_config, records}
-use Rattle.ucl_screen.specs.Rows.{Fields, FourFields, four_of, rows_of}
+use Rattle.ucl_screen.specs.Rows.{Fields, FourFields, four_of, four_seen, rows_of}
+use Rattle.ucl_runs.specs.declared.row.RowFields.{RowFields}
+use Rattle.ucl_runs.specs.declared.row.RowFields.TheVariants as seen
 
 -- what a line has: no row; or several, or what is too long to be read; or one
 pub data LineRow : Type 0 where
@@ -32,22 +34,34 @@ row_by_text row text = if fits text then only_row (rows_at (row == 1) text) else
 abbrev pub row_on : ℕ → List ℕ → LineRow
 row_on row line = row_by_text row (line ++ 10 ∷ [])
 
--- ---- rows of four fields
+-- ---- rows of four fields, and of eight
 
--- nothing; or what is no row of four fields, or too long; or a row
+-- the fields of a row that has eight: the first four, and the last
+abbrev pub eight_of : Fields → Option (FourFields × FourFields)
+eight_of (a ∷ b ∷ c ∷ d ∷ e ∷ f ∷ g ∷ h ∷ []) =
+    Some (record { first = a; second = b; third = c; fourth = d }, record { first = e; second = f; third = g; fourth = h })
+eight_of _ = None
+
+-- nothing; or no row of four fields, or what is too long: of eight fields, these; or a row of four
 pub data Said : Type 0 where
   Nothing : Said
-  Garbled : Said
+  Other : (eight : Option (FourFields × FourFields)) → Said
   Row : (fields : FourFields) → Said
 
-abbrev pub of_row : Option FourFields → Said
-of_row None = Garbled
-of_row (Some f) = Row f
+abbrev pub of_row : Option FourFields → Option (FourFields × FourFields) → Said
+of_row None eight = Other eight
+of_row (Some f) eight = Row f
+
+-- the same, as the code borrows them
+abbrev pub fields_seen : RowFields → Said
+fields_seen (seen.Four f) = Row (four_seen f)
+fields_seen (seen.Eight f g) = Other (Some (four_seen f, four_seen g))
+fields_seen seen.Neither = Other None
 
 abbrev pub said_of : LineRow → Said
 said_of NoRow = Nothing
-said_of Unread = Garbled
-said_of (OneRow row) = of_row (four_of row)
+said_of Unread = Other None
+said_of (OneRow row) = of_row (four_of row) (eight_of row)
 
 abbrev pub of_rows : List Fields → Said
 of_rows rows = said_of (only_row rows)

@@ -1,16 +1,18 @@
 -- How far an evening is, and what a line makes of it.
-use Rattle.std.specs.Prelude.{ℕ, ◌+◌, ◌-◌, ◌^◌, min, ◌==◌, ◌||◌, if◌then◌else◌, Bool, false, List, [], ◌∷◌, ◌++◌, length, codes, Option, Some, None, Result, Ok, Err}
+use Rattle.std.specs.Prelude.{ℕ, ◌+◌, ◌-◌, ◌^◌, min, ◌==◌, ◌||◌, if◌then◌else◌, Bool, false, List, [], ◌∷◌, ◌++◌, length, codes, Option, Some, None, option_and_then, Result, Ok, Err}
+use Rattle.std.specs.Option.{option_or}
 use Rattle.std.specs.Str.{bytes_eq}
 use Rattle.ucl_board.specs.History.{board_after, board_of}
 use Rattle.ucl_order.specs.Roster.{NamedClub, bad_slot}
 use Rattle.ucl_screen.specs.Events.{attempt_of}
 use Rattle.ucl_screen.specs.Script.{club_of, word_of_row}
+use Rattle.ucl_screen.specs.Results.{result_of_eight, result_of_row}
 use Rattle.ucl_command.specs.declared.live.LiveArgs.{LiveArgs}
 use Rattle.ucl_runs.specs.declared.live_fault.BeginningFault.{BeginningFault}
 use Rattle.ucl_runs.specs.declared.live_fault.BeginningFault.TheVariants.{BadRow, BadRoster, BadWordAt, OtherGroup}
 use Rattle.ucl_json.specs.declared.title.Title.{Title}
 use Rattle.ucl_runs.specs.Titles.{is_as_asked, is_group_row, title_said}
-use Rattle.ucl_runs.specs.Rows.{Said, Nothing, Garbled, Row}
+use Rattle.ucl_runs.specs.Rows.{Said, Nothing, Other, Row}
 use Rattle.ucl_runs.specs.declared.request.Request.{Request}
 use Rattle.ucl_runs.specs.declared.request.Request.TheVariants.{Bad, Event, Screen, Words, Matches}
 use Rattle.ucl_runs.specs.Requests.{request_of}
@@ -36,7 +38,7 @@ bad_row row = Refused (BadRow (told_row row))
 
 abbrev pub club_said : ℕ → Said → Option NamedClub
 club_said slot (Row f) = club_of slot f
-club_said slot Garbled = None
+club_said slot (Other eight) = None
 club_said slot Nothing = None
 
 abbrev pub with_roster : List NamedClub → Option ℕ → Stage
@@ -61,11 +63,12 @@ after_title options row (Some title) = if is_as_asked options title then Naming 
 abbrev pub after_beginning : LiveArgs → ℕ → Said → Stage
 after_beginning options row said = if is_group_row said then after_title options row (title_said said) else after_club row [] (club_said 1 said)
 
--- ---- words
+-- ---- words and results
 
+-- the word of the row of this match, written as a word or as a result
 abbrev pub word_said : ℕ → Said → Option ℕ
-word_said game (Row f) = word_of_row game f
-word_said game Garbled = None
+word_said game (Row f) = option_or (word_of_row game f) (result_of_row game f)
+word_said game (Other eight) = option_and_then (λ f. result_of_eight game f.0 f.1) eight
 word_said game Nothing = None
 
 abbrev pub restored : List NamedClub → Result (List ℕ) ℕ → Stage
@@ -80,9 +83,11 @@ abbrev pub after_word : ℕ → List NamedClub → List ℕ → Option ℕ → S
 after_word row clubs words None = bad_row row
 after_word row clubs words (Some word) = with_words clubs (words ++ word ∷ [])
 
+-- whether a row is that of a word or of a result, good or bad
 abbrev pub is_word_row : Said → Bool
-is_word_row (Row f) = bytes_eq f.first (codes "word")
-is_word_row Garbled = false
+is_word_row (Row f) = bytes_eq f.first (codes "word") || bytes_eq f.first (codes "result")
+is_word_row (Other None) = false
+is_word_row (Other (Some f)) = bytes_eq f.0.first (codes "result")
 is_word_row Nothing = false
 
 -- ---- the stage after a line
@@ -115,7 +120,7 @@ after_row options row (Refused fault) said = Refused fault
 -- the stage after a line with this number
 abbrev pub next_stage : LiveArgs → ℕ → Stage → Said → Stage
 next_stage options row stage Nothing = stage
-next_stage options row stage Garbled = after_row options row (opened options stage Garbled) Garbled
+next_stage options row stage (Other eight) = after_row options row (opened options stage (Other eight)) (Other eight)
 next_stage options row stage (Row f) = after_row options row (opened options stage (Row f)) (Row f)
 
 -- why an evening is refused that ends here, before a line with this number: a club or a word is missing

@@ -10,7 +10,7 @@ use Rattle.ucl_screen.specs.Rows.{FourFields}
 use Rattle.ucl_screen.specs.Screen.{letter_in}
 use Rattle.ucl_json.specs.declared.title.Title.{Title}
 use Rattle.ucl_command.specs.declared.live.LiveArgs.{LiveArgs}
-use Rattle.ucl_runs.specs.Rows.{Said, Nothing, Garbled, Row}
+use Rattle.ucl_runs.specs.Rows.{Said, Nothing, Other, Row}
 
 -- ---- the row
 
@@ -28,12 +28,12 @@ title_by f = do
 
 abbrev pub is_group_row : Said → Bool
 is_group_row (Row f) = bytes_eq f.first (codes "group")
-is_group_row Garbled = false
+is_group_row (Other eight) = false
 is_group_row Nothing = false
 
 abbrev pub title_said : Said → Option Title
 title_said (Row f) = title_by f
-title_said Garbled = None
+title_said (Other eight) = None
 title_said Nothing = None
 
 -- what a row says of its group, where it is that of one: a title, or none

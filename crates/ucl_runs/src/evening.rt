@@ -1,28 +1,26 @@
 //! An evening, which answers lines.
 
-ghost use Rattle.std.specs.Prelude.{◌≡◌, ◌+◌, ⊤, IfErr, IfOk, OnOk, option_map};
-ghost use Rattle.ucl_screen.specs.Rows.{four_seen};
+ghost use Rattle.std.specs.Prelude.{◌≡◌, ◌+◌, ⊤, IfErr, IfOk, OnOk};
 ghost use Rattle.ucl_runs.specs.BadRows.{shown_text};
 ghost use Rattle.ucl_runs.specs.Holding.{AsksAt, Closes, HasNoAnswer, HasNoEnd, StopsAt, evening_at, evening_of, parts_bytes};
 ghost use Rattle.ucl_runs.specs.Requests.{request_of};
-ghost use Rattle.ucl_runs.specs.Rows.{of_row, said_on};
+ghost use Rattle.ucl_runs.specs.Rows.{fields_seen, said_on};
 ghost use Rattle.ucl_runs.specs.Seen.{stage_seen};
 ghost use Rattle.ucl_runs.specs.Stages.{after_row, next_stage};
 ghost use Rattle.ucl_runs.specs.LiveText.{answer_at, answer_said, next, next_title, start_of};
 
-use crate::live_fault::LiveFault;
 use crate::headed::Headed;
 use crate::line::{LineReader, plain_row};
+use crate::live_fault::LiveFault;
 use crate::parts::Parts;
 use crate::request::request_of;
-use crate::row::RowCount;
+use crate::row::{RowCount, RowFields};
 use crate::stage::{Stage, with_club, with_first};
 use crate::title::asked_title;
 use std::alloc::Global;
 use std::mem;
 use ucl_command::LiveArgs;
 use ucl_io::LineMachine;
-use ucl_screen::Four;
 
 /// An evening between two lines: how it answers, what its board is told under, how far it is, and what it reads lines by.
 #[derive(Drop)]
@@ -41,21 +39,19 @@ fn after_row(
     title: &mut Headed,
     row: u64,
     stage: Stage,
-    said: &Option<Four<'_>>,
+    said: &RowFields<'_>,
     text: &[u8],
     parts: &mut Parts,
 ) -> Result<Stage, LiveFault>
     ensures title { OnOk result (title.new.title ≡ next_title title.old.title (stage_seen stage)
-        (of_row (option_map four_seen said.now))) }
+        (fields_seen said.now)) }
     ensures next { IfOk result (λ after. stage_seen after
-        ≡ after_row options.now row (stage_seen stage) (of_row (option_map four_seen said.now))) }
+        ≡ after_row options.now row (stage_seen stage) (fields_seen said.now)) }
     ensures text { OnOk result (parts_bytes parts.new ≡ answer_at options.now title.old.title row (stage_seen stage)
-        (request_of (of_row (option_map four_seen said.now))) (shown_text text.now)) }
+        (request_of (fields_seen said.now)) (shown_text text.now)) }
     ensures stops { IfErr result (StopsAt
-        (AsksAt options.now (stage_seen stage)
-        (request_of (of_row (option_map four_seen said.now))))
-        (after_row options.now row (stage_seen stage)
-        (of_row (option_map four_seen said.now)))) }
+        (AsksAt options.now (stage_seen stage) (request_of (fields_seen said.now)))
+        (after_row options.now row (stage_seen stage) (fields_seen said.now))) }
 {
     parts.put_nothing();
     match stage {
@@ -79,28 +75,27 @@ fn after_row(
 }
 
 impl Stage {
-    /// Answers a row of this number, which has four fields or is garbled, and whose text is this.
-
+    /// Answers a row of this number, whose text is this.
     fn answered(
         &mut self,
         alloc: Global,
         options: &LiveArgs,
         title: &mut Headed,
         row: u64,
-        said: &Option<Four<'_>>,
+        said: &RowFields<'_>,
         text: &[u8],
         parts: &mut Parts,
     ) -> Result<(), LiveFault>
         ensures title { OnOk result (title.new.title ≡ next_title title.old.title (stage_seen self.old)
-            (of_row (option_map four_seen said.now))) }
+            (fields_seen said.now)) }
         ensures next { OnOk result (stage_seen self.new
-            ≡ next_stage options.now row (stage_seen self.old) (of_row (option_map four_seen said.now))) }
+            ≡ next_stage options.now row (stage_seen self.old) (fields_seen said.now)) }
         ensures text { OnOk result (parts_bytes parts.new
             ≡ answer_said (evening_at options.now title.old.title row (stage_seen self.old))
-            (of_row (option_map four_seen said.now)) (shown_text text.now)) }
+            (fields_seen said.now) (shown_text text.now)) }
         ensures stops { IfErr result
             (HasNoAnswer (evening_at options.now title.old.title row (stage_seen self.old))
-            (of_row (option_map four_seen said.now))) }
+            (fields_seen said.now)) }
     {
         if let Stage::Open(table) = self {
             table.answered(
@@ -162,7 +157,7 @@ impl LineMachine for Evening {
                 &self.options,
                 &mut self.title,
                 row,
-                &Some(four),
+                &RowFields::Four(four),
                 line,
                 text,
             );
@@ -177,18 +172,18 @@ impl LineMachine for Evening {
                 &self.options,
                 &mut self.title,
                 row,
-                &None,
+                &RowFields::Neither,
                 line,
                 text,
             ),
             RowCount::One => {
-                let four = self.reader.four();
+                let said = self.reader.row();
                 self.stage.answered(
                     self.alloc,
                     &self.options,
                     &mut self.title,
                     row,
-                    &four,
+                    &said,
                     line,
                     text,
                 )

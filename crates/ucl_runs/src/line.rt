@@ -2,12 +2,12 @@
 
 ghost use Rattle.std.specs.Prelude.{◌≡◌, ◌∷◌, [], ◌++◌, option_map, IfSome};
 ghost use Rattle.csv.specs.Records.{field_at};
-ghost use Rattle.ucl_screen.specs.Rows.{four_of, four_seen};
+ghost use Rattle.ucl_screen.specs.Rows.{four_seen};
 ghost use Rattle.ucl_runs.specs.Reading.{HoldsRow, fields_read, row_in};
-ghost use Rattle.ucl_runs.specs.Rows.{Row, fits, row_on, said_on};
+ghost use Rattle.ucl_runs.specs.Rows.{OneRow, Row, fields_seen, fits, row_on, said_of, said_on};
 
 use crate::plain::plain_four;
-use crate::row::{Fields, MOST_LINE_BYTES, RowCount, without_mark};
+use crate::row::{Fields, MOST_LINE_BYTES, RowCount, RowFields, without_mark};
 use arrayvec::ArrayVec;
 use ucl_screen::Four;
 
@@ -83,11 +83,11 @@ impl LineReader {
         self.fields.field(index)
     }
 
-    /// The fields of the row that was read, where they are four.
-    pub(crate) fn four(&self) -> Option<Four<'_>>
+    /// The fields of the row that was read.
+    pub(crate) fn row(&self) -> RowFields<'_>
         requires { HoldsRow self.now }
-        ensures { option_map four_seen result ≡ four_of (fields_read self.now) }
+        ensures { fields_seen result ≡ said_of (OneRow (fields_read self.now)) }
     {
-        self.fields.four()
+        self.fields.row()
     }
 }

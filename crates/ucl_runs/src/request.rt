@@ -1,11 +1,12 @@
 //! What a row asks for.
 
-ghost use Rattle.std.specs.Prelude.{◌≡◌, option_map};
+ghost use Rattle.std.specs.Prelude.{◌≡◌};
 ghost use Rattle.ucl_screen.specs.Rows.{four_seen};
 ghost use Rattle.ucl_runs.specs.Requests.{asked_by, request_of};
-ghost use Rattle.ucl_runs.specs.Rows.{of_row};
+ghost use Rattle.ucl_runs.specs.Rows.{fields_seen};
 
 use crate::bad_row::{BadField, bad_field};
+use crate::row::RowFields;
 use ucl_screen::{Four, NightEvent, event_of_fields};
 
 /// What a row asks for, once there is a board.
@@ -46,12 +47,12 @@ fn asked_by(four: &Four<'_>) -> Request
     }
 }
 
-/// What a row asks for, where it has four fields.
-pub(crate) fn request_of(row: &Option<Four<'_>>) -> Request
-    ensures { result ≡ request_of (of_row (option_map four_seen row.now)) }
+/// What a row asks for.
+pub(crate) fn request_of(row: &RowFields<'_>) -> Request
+    ensures { result ≡ request_of (fields_seen row.now) }
 {
     match row {
-        None => Request::Bad(BadField::Count),
-        Some(four) => asked_by(four),
+        RowFields::Eight(_, _) | RowFields::Neither => Request::Bad(BadField::Count),
+        RowFields::Four(four) => asked_by(four),
     }
 }

@@ -2,14 +2,14 @@
 
 ghost use Rattle.std.specs.Prelude.{◌≡◌, ◌+◌, ◌-◌, ◌^◌, ◌<◌, ◌≤◌, ◌++◌, [], ◌∷◌, IfOk, OnOk, length, map, option_map};
 ghost use Rattle.ucl_order.specs.Roster.{bad_slot, club_seen};
-ghost use Rattle.ucl_screen.specs.Rows.{four_seen};
-ghost use Rattle.ucl_runs.specs.Rows.{of_row};
+ghost use Rattle.ucl_runs.specs.Rows.{fields_seen};
 ghost use Rattle.ucl_runs.specs.Stages.{Beginning, Restoring, after_beginning, club_said, is_word_row, missing, opened, told_row, after_club, with_clubs, with_roster, after_word, with_words, word_said};
 ghost use Rattle.ucl_runs.specs.LiveText.{next_title};
 ghost use Rattle.ucl_runs.specs.Seen.{Becomes, BecomesIfMemory, clubs_seen, stage_seen};
 
-use crate::live_fault::{BeginningFault, LiveFault};
 use crate::headed::Headed;
+use crate::live_fault::{BeginningFault, LiveFault};
+use crate::row::RowFields;
 use crate::some_words::SomeWords;
 use crate::title::{is_as_asked, is_group_row, title_said};
 use arrayvec::ArrayVec;
@@ -17,7 +17,7 @@ use std::alloc::{AllocError, Global};
 use ucl_board::Board;
 use ucl_command::LiveArgs;
 use ucl_order::{Club, Roster};
-use ucl_screen::{Four, club_of_fields, word_of_fields};
+use ucl_screen::{club_of_fields, result_of_eight, result_of_fields, word_of_fields};
 
 /// The clubs that are named so far, fewer than four.
 #[derive(Drop)]
@@ -67,34 +67,41 @@ fn bad_row(row: u64) -> BeginningFault
 }
 
 /// The club that a row says.
-fn club_said(alloc: Global, slot: u8, row: &Option<Four<'_>>) -> Result<Option<Club>, AllocError>
+fn club_said(alloc: Global, slot: u8, row: &RowFields<'_>) -> Result<Option<Club>, AllocError>
     requires { slot ≤ 4 }
     ensures { IfOk result (λ club. option_map club_seen club ≡ club_said slot
-        (of_row (option_map four_seen row.now))) }
+        (fields_seen row.now)) }
 {
     match row {
-        None => Ok(None),
-        Some(four) => club_of_fields(alloc, slot, four),
+        RowFields::Eight(_, _) | RowFields::Neither => Ok(None),
+        RowFields::Four(four) => club_of_fields(alloc, slot, four),
     }
 }
 
-/// The word that the row of a match says.
-fn word_said(game: u8, row: &Option<Four<'_>>) -> Option<u64>
-    ensures { result ≡ word_said game (of_row (option_map four_seen row.now)) }
+/// The word that the row of a match says, as a word or as a result.
+fn word_said(game: u8, row: &RowFields<'_>) -> Option<u64>
+    ensures { result ≡ word_said game (fields_seen row.now) }
 {
     match row {
-        None => None,
-        Some(four) => word_of_fields(game, four),
+        RowFields::Neither => None,
+        RowFields::Eight(four, cards) => result_of_eight(game, four, cards),
+        RowFields::Four(four) => match word_of_fields(game, four) {
+            Some(word) => Some(word),
+            None => result_of_fields(game, four),
+        },
     }
 }
 
-/// Whether a row is that of a word, good or bad.
-fn is_word_row(row: &Option<Four<'_>>) -> bool
-    ensures { result ≡ is_word_row (of_row (option_map four_seen row.now)) }
+/// Whether a row is that of a word or of a result, good or bad.
+fn is_word_row(row: &RowFields<'_>) -> bool
+    ensures { result ≡ is_word_row (fields_seen row.now) }
 {
     match row {
-        None => false,
-        Some(four) => four.first == b"word".as_slice(),
+        RowFields::Neither => false,
+        RowFields::Eight(four, _) => four.first == b"result".as_slice(),
+        RowFields::Four(four) => {
+            four.first == b"word".as_slice() || four.first == b"result".as_slice()
+        }
     }
 }
 
@@ -144,10 +151,10 @@ pub(crate) fn with_club(
     alloc: Global,
     row: u64,
     clubs: Clubs,
-    said: &Option<Four<'_>>,
+    said: &RowFields<'_>,
 ) -> Result<Stage, LiveFault>
     ensures { BecomesIfMemory (after_club row (clubs_seen clubs)
-        (club_said (length (clubs_seen clubs) + 1) (of_row (option_map four_seen said.now))))
+        (club_said (length (clubs_seen clubs) + 1) (fields_seen said.now)))
         result }
 {
     match club_said(alloc, clubs.next_slot(), said)? {
@@ -161,13 +168,13 @@ pub(crate) fn with_first(
     alloc: Global,
     options: &LiveArgs,
     row: u64,
-    said: &Option<Four<'_>>,
+    said: &RowFields<'_>,
     title: &mut Headed,
 ) -> Result<Stage, LiveFault>
     ensures stage { BecomesIfMemory (after_beginning options.now row
-        (of_row (option_map four_seen said.now))) result }
+        (fields_seen said.now)) result }
     ensures title { OnOk result (title.new.title ≡ next_title title.old.title Beginning
-        (of_row (option_map four_seen said.now))) }
+        (fields_seen said.now)) }
 {
     if !is_group_row(said) {
         return with_club(alloc, row, Clubs::NoClub, said);
@@ -201,9 +208,9 @@ impl SomeWords {
     }
 
     /// The stage after a row with this number that has to give a word.
-    pub(crate) fn with_row(self, row: u64, said: &Option<Four<'_>>) -> Result<Stage, BeginningFault>
+    pub(crate) fn with_row(self, row: u64, said: &RowFields<'_>) -> Result<Stage, BeginningFault>
         ensures { Becomes (after_word row self.roster self.words.items
-            (word_said (length self.words.items + 1) (of_row (option_map four_seen said.now))))
+            (word_said (length self.words.items + 1) (fields_seen said.now)))
             result }
     {
         let game = self.words.len() as u8 + 1;
@@ -214,9 +221,9 @@ impl SomeWords {
     }
 
     /// The stage in which a row is read: where no word came yet, and none has to, a row that is none opens the fresh board.
-    fn opened(self, options: &LiveArgs, said: &Option<Four<'_>>) -> Stage
+    fn opened(self, options: &LiveArgs, said: &RowFields<'_>) -> Stage
         ensures { stage_seen result ≡ opened options.now (Restoring self.roster self.words.items)
-            (of_row (option_map four_seen said.now)) }
+            (fields_seen said.now) }
     {
         if self.words.is_empty() && !(options.resumed || is_word_row(said)) {
             Stage::Open(Table {
@@ -231,9 +238,8 @@ impl SomeWords {
 
 impl Stage {
     /// The stage in which a row is read.
-    pub(crate) fn opened(self, options: &LiveArgs, said: &Option<Four<'_>>) -> Stage
-        ensures { stage_seen result ≡ opened options.now (stage_seen self)
-            (of_row (option_map four_seen said.now)) }
+    pub(crate) fn opened(self, options: &LiveArgs, said: &RowFields<'_>) -> Stage
+        ensures { stage_seen result ≡ opened options.now (stage_seen self) (fields_seen said.now) }
     {
         match self {
             Stage::Beginning => Stage::Beginning,

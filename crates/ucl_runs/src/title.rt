@@ -1,15 +1,15 @@
 //! What the first row may say of the board.
 
-ghost use Rattle.std.specs.Prelude.{◌≡◌, true, IfSome, option_map};
+ghost use Rattle.std.specs.Prelude.{◌≡◌, true, IfSome};
 ghost use Rattle.ucl_order.specs.Names.{profile_named};
 ghost use Rattle.ucl_screen.specs.Rows.{four_seen};
 ghost use Rattle.ucl_screen.specs.Screen.{IsGroup};
 ghost use Rattle.ucl_command.specs.Groups.{may_be_asked};
-ghost use Rattle.ucl_runs.specs.Rows.{of_row, said_on};
+ghost use Rattle.ucl_runs.specs.Rows.{fields_seen, said_on};
 ghost use Rattle.ucl_runs.specs.Titles.{asked_group, asked_order, asked_title, group_said, is_as_asked, is_asked, is_asked_group, is_asked_order, is_group_row, is_same_order, title_by, title_for, title_said};
 
 use crate::line::LineReader;
-use crate::row::RowCount;
+use crate::row::{RowCount, RowFields};
 use ucl_command::LiveArgs;
 use ucl_json::Title;
 use ucl_order::Profile;
@@ -45,23 +45,23 @@ fn title_by(four: &Four<'_>) -> Option<Title>
 }
 
 /// Whether a row is that of a group, good or bad.
-pub(crate) fn is_group_row(row: &Option<Four<'_>>) -> bool
-    ensures { result ≡ is_group_row (of_row (option_map four_seen row.now)) }
+pub(crate) fn is_group_row(row: &RowFields<'_>) -> bool
+    ensures { result ≡ is_group_row (fields_seen row.now) }
 {
     match row {
-        None => false,
-        Some(four) => four.first == b"group".as_slice(),
+        RowFields::Eight(_, _) | RowFields::Neither => false,
+        RowFields::Four(four) => four.first == b"group".as_slice(),
     }
 }
 
 /// The title that a row says.
-pub(crate) fn title_said(row: &Option<Four<'_>>) -> Option<Title>
-    ensures told { result ≡ title_said (of_row (option_map four_seen row.now)) }
+pub(crate) fn title_said(row: &RowFields<'_>) -> Option<Title>
+    ensures told { result ≡ title_said (fields_seen row.now) }
     ensures letter { IfSome result (λ title. IsGroup title.group) }
 {
     match row {
-        None => None,
-        Some(four) => title_by(four),
+        RowFields::Eight(_, _) | RowFields::Neither => None,
+        RowFields::Four(four) => title_by(four),
     }
 }
 
@@ -151,8 +151,8 @@ pub(crate) fn asked_title(options: &LiveArgs) -> Title
 }
 
 /// What a row says of its group, where it is that of one: a title, or none where the row is bad.
-fn group_said(row: &Option<Four<'_>>) -> Option<Option<Title>>
-    ensures told { result ≡ group_said (of_row (option_map four_seen row.now)) }
+fn group_said(row: &RowFields<'_>) -> Option<Option<Title>>
+    ensures told { result ≡ group_said (fields_seen row.now) }
     ensures letter { IfSome result (λ said. IfSome said (λ title. IsGroup title.group)) }
 {
     if is_group_row(row) {
@@ -171,8 +171,8 @@ pub fn first_group(line: &[u8]) -> Option<Option<Title>>
     match reader.read(1, line) {
         RowCount::Nothing | RowCount::More => None,
         RowCount::One => {
-            let four = reader.four();
-            group_said(&four)
+            let row = reader.row();
+            group_said(&row)
         }
     }
 }

@@ -1,4 +1,5 @@
 pub mod Input
+pub mod Results
 pub mod Rows
 pub mod Numbers
 pub mod Events

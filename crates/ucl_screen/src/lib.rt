@@ -9,6 +9,7 @@ mod laws;
 mod lines;
 mod night;
 mod reading;
+mod result;
 mod rows;
 mod sheet;
 mod text;
@@ -24,6 +25,7 @@ pub use reading::{
     FIRST_EVENT_ROW, club_of_fields, event_of_fields, night_of_bytes, read_night, read_words,
     word_of_fields,
 };
+pub use result::{result_of_eight, result_of_fields};
 pub use rows::Four;
 pub use sheet::Sheet;
 pub use text::{is_group, letter_in, matches_in_play, screen, text_of};

@@ -18,6 +18,11 @@ bytes; a line with nothing on it is passed over and counted
                                  thousandths 1 to 9 digits, up to 999,999
   word,MATCH,WORD,               then, where a board was written down, the word
                                  of each match, 1 to 12; the board goes on there
+  result,MATCH,HOME,AWAY         or in its place the result, as result,7,2,1; it
+                                 may go on with the standing yellows of both
+                                 sides, and their expulsions, as
+                                 result,7,2,1,0,1,0,0; a match that was not
+                                 played is result,8,,
   REPORTER,MATCH,EXPECTED,EVENT  then, in any order and without an end: who
                                  enters the event, 1 to 255; the match, 1 to 12;
                                  the event number last seen of it; the event; as

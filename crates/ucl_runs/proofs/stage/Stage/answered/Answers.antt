@@ -1,7 +1,5 @@
 use Rattle.std.proofs.Common.{ap, ◌∙◌}
-use Rattle.std.specs.Prelude.{option_map}
-use Rattle.ucl_screen.specs.Rows.{four_seen}
-use Rattle.ucl_runs.specs.Rows.{of_row}
+use Rattle.ucl_runs.specs.Rows.{fields_seen}
 use Rattle.ucl_runs.specs.Seen.{stage_seen}
 use Rattle.ucl_runs.specs.Stages.{opened}
 use Rattle.ucl_runs.proofs.TitleRows.{title_opened}
@@ -9,6 +7,6 @@ use Rattle.ucl_runs.proofs.stage.Stage.answered.Goals as goal
 
 pub returns-clause-title : goal.returns-clause-title
 returns-clause-title c =
-    title_opened c.args.options.now c.args.title.now.title _ (stage_seen c.args.self.now) _ (of_row (option_map four_seen c.args.said.now))
-    (c.opened-stage.ensures ∙ ap (λ s. opened c.args.options.now (stage_seen s) (of_row (option_map four_seen c.args.said.now))) c.replace.ensures.value)
+    title_opened c.args.options.now c.args.title.now.title _ (stage_seen c.args.self.now) _ (fields_seen c.args.said.now)
+    (c.opened-stage.ensures ∙ ap (λ s. opened c.args.options.now (stage_seen s) (fields_seen c.args.said.now)) c.replace.ensures.value)
     c.in_ok-self.ensures.title
