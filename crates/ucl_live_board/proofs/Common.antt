@@ -8,7 +8,7 @@ pub use Rattle.std.proofs.lemmas.List.Elements.{All-append, All-cons, All-head, 
 pub use Rattle.std.specs.Prelude.{All, Err, IfOk, IfSome, IsSome, IsTrue, None, Ok, Option, Result, Some, drop, filter, is_ok, not, ◌&&◌}
 pub use Rattle.ucl_board.proofs.Beginnings.{begins_length, begins_more, begins_none, begins_same, begins_take, begins_through}
 pub use Rattle.ucl_board.proofs.Logs.{added_more, history_more, history_same, log_more, log_none, taken_append, taken_none, taken_other, taken_own}
-pub use Rattle.ucl_board.specs.History.{IsLegal, MayFollow, entry_of, followed_by}
+pub use Rattle.ucl_board.specs.History.{IsLegal, MayFollow, followed_by}
 pub use Rattle.ucl_board.specs.Log.{Enlisted, IsLog, IsThere, Log, Logged, Match, Swap, Taken, Target, added_by, entry_list, history_of, logged_by, step_taken, taken_by}
 pub use Rattle.ucl_board.specs.Words.{greatest_version}
 pub use Rattle.ucl_board.specs.declared.entry.Entry.{Entry}

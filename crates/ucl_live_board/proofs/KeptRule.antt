@@ -6,8 +6,7 @@ use Rattle.ucl_live_board.proofs.Common.{IsPrefix, dite, some, some-ne-none, som
 use Rattle.ucl_live_board.proofs.Common.{at_longer, set_here, set_else, may_none, Entry, IsLegal, followed_by, Target}
 use Rattle.ucl_live_board.proofs.Common.{Match, Enlisted, Swap, Taken, step_taken, Logged, logged_by, Log, entry_list, added_by, history_of, IsThere, IsLog, log_none, log_more, history_more}
 use Rattle.ucl_live_board.proofs.Common.{history_same, taken_own, taken_other, taken_none, added_more, begins_more, begins_none, begins_same, begins_take, begins_through, View, IsAlone, entries_by}
-use Rattle.ucl_live_board.proofs.Common.{Share, whole, Overlap, second_half, pass_view_of, newcomer, opener, kept_of, second_of}
-use Rattle.ucl_live_board.proofs.Common.{note_of, told_by, Fits, KeepsOneHistory, Sees, Adds, Enlists, not, Goes}
+use Rattle.ucl_live_board.proofs.Common.{Share, whole, Overlap, pass_view_of, newcomer, opener, kept_of, second_of, note_of, told_by, Fits, KeepsOneHistory, Sees, Adds, Enlists, not, Goes}
 use Rattle.std.proofs.Common.{Some, None}
 use Rattle.std.proofs.Math.Seq.{take-append_seam}
 use Rattle.ucl_live_board.proofs.Lists.{by_own, by_other, none_by_zero}
@@ -65,8 +64,6 @@ other_fits : (log : Log) (enlisted more seat : ℕ) (t : Taken) (j : ℕ) (u : V
     → Fits log enlisted j u → Fits (logged log seat t) more j u
 other_fits log enlisted more seat t j u not le same f =
     let longer : IsPrefix (history_of log) (history_of (logged log seat t)) = (entry_list t.entry, sym (history_more log seat t)) in
-    let a = f.number in
-    let b = f.listed in
     record {
       seen = begins_through u.seen (history_of log) (history_of (logged log seat t)) f.seen longer;
       told = λ k d lt. begins_through _ (history_of log) (history_of (logged log seat t)) (f.told k d lt) longer;
@@ -144,7 +141,6 @@ module _ (words_after : List Entry → ℕ → List ℕ) where
       let there = set_here views seat w below in
       let did = whole_is_alone words_after after (set views seat w) s.rule seat w there share in
       let listed = (s.rule.fits seat w there).listed in
-      let number = did.number in
       let one = did.one in
       record { seen = is ∙ (ap history_of (sym s.log_is) ∙ sym did.mine); listed = omega arith; one = omega arith }
 
@@ -157,7 +153,7 @@ module _ (words_after : List Entry → ℕ → List ℕ) where
         → (j : ℕ) × (u : View) × (get_elem? (set views seat w) j ≡ some u) × (u.number ≡ n)
     still_given w enlisted same le n low high =
         let g = r.given n low (omega arith) in
-        search (arith, set_here views seat w below, get_elem? views, dite, below, some-injective, set_else)
+        search (arith, set_here views seat w below, dite, some-injective, set_else)
 
     still_alone : (w : View) → w.number ≡ v.number → (j : ℕ) (u : View) → j ≢ seat → get_elem? views j ≡ some u → 0 < w.number → w.number ≢ u.number
     still_alone w is j u ne e pos same = ne (sym (r.apart seat j v u here e (subst (λ (n : ℕ). 0 < n) is pos) (sym is ∙ same)))

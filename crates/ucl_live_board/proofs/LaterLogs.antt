@@ -1,7 +1,7 @@
 -- Two rules, one after the other: their logs, and the numbers that were given meanwhile.
 use Rattle.ucl_live_board.proofs.Common.{◌≡◌, ℕ, suc, ◌<◌, List, ◌∷◌, ◌++◌, map, set, refl, sym, ap, ◌∙◌, subst, arith, append-nil, [], IsPrefix, dite, some, some-injective, get_elem?, dec_le}
 use Rattle.ucl_live_board.proofs.Common.{set_again, None, Entry, Enlisted, Taken, step_taken, logged_by, View, KeepsOneHistory, Takes, CountsReporters, at_longer, at_map, set_else, set_here, ◌≢◌}
-use Rattle.ucl_live_board.proofs.Common.{map-append, map-set, not, Log, ℕ_discrete}
+use Rattle.ucl_live_board.proofs.Common.{map-append, map-set, Log}
 use Rattle.ucl_live_board.specs.Numbers.{IsGivenAfter}
 use Rattle.ucl_live_board.proofs.KeptRule.{place_below, RuleWith}
 use Rattle.ucl_live_board.proofs.KeptBoards.{there_is}

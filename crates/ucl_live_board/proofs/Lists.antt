@@ -22,7 +22,6 @@ none_by_zero = may_induction MayFollow (λ h. entries_by 0 h ≡ []) refl (λ h 
 pub few_mine : (k : PassView) → IsSound k → length k.mine ≤ greatest_version
 few_mine k s =
     let v = versions k.seen s.legal in
-    let l = v.1 in
     let d = length-filter_both (λ (e : Entry). e.reporter == k.number) (λ (e : Entry). not (e.reporter == k.number)) (λ _. refl) k.seen in
     let o = ap length s.own in
     omega arith

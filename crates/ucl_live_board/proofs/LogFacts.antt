@@ -3,7 +3,7 @@ use Rattle.ucl_live_board.proofs.Common.{◌≡◌, ◌≢◌, ◌⊎◌, inl, i
 use Rattle.ucl_live_board.proofs.Common.{List, ◌∷◌, ◌++◌, length, map, set, refl, sym, ap, ◌∙◌, subst, arith, append-nil, []}
 use Rattle.ucl_live_board.proofs.Common.{length-append, All, drop, Some, None, IsTrue, nil_from_length, All-head, All-cons, All-nil, IsPrefix, dite, some, some-ne-none, some-injective, get_elem?}
 use Rattle.ucl_live_board.proofs.Common.{ℕ_discrete, set_here, set_else, Entry, Taken, Logged, logged_by, Log, taken_by, history_of, taken_append, taken_own, begins_length, begins_none, View, Share}
-use Rattle.ucl_live_board.proofs.Common.{Overlap, opener, KeepsOneHistory, BoardsOpenFresh, StepsComeLast, LastStepsSeeAll, IsHeld, MakeUp, HoldersDidAll, not, whole}
+use Rattle.ucl_live_board.proofs.Common.{Overlap, opener, KeepsOneHistory, BoardsOpenFresh, StepsComeLast, LastStepsSeeAll, IsHeld, MakeUp, HoldersDidAll, not}
 use Rattle.std.proofs.lemmas.List.{length-set}
 use Rattle.ucl_live_board.proofs.Halves.{in_whole, on_a_side}
 use Rattle.ucl_live_board.proofs.Alone.{taken_here, taken_else, some_here, only_own, view_at, none_beyond}
@@ -150,7 +150,6 @@ numberless seat v n here is low = search (arith, some-injective, some-ne-none)
 pub opens_fresh : (words_after : List Entry → ℕ → List ℕ) → BoardsOpenFresh words_after
 opens_fresh words_after words r =
     let f = r.fits 0 opener refl in
-    let none : r.log ≡ [] = no_steps r.log r.seated (sym f.own) in
     let nobody : r.enlisted ≡ 0 = dite (ℕ_discrete r.enlisted 0) (λ is. is) (λ not. let g = r.given 1 (omega arith) (omega arith) in absurd (numberless g.0 g.1 1 g.2 g.3 (omega arith))) in
     search (arith, no_steps, dite, numberless)
 

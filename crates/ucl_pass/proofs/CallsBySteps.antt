@@ -12,8 +12,6 @@ use Rattle.std.proofs.lemmas.Bool.{eqb-true}
 use Rattle.std.proofs.lemmas.Grind.{flat_map-append}
 use mathlib.Core.Logic.{dite}
 use Rattle.ucl_board.specs.declared.reading.Reading.{Reading}
-use Rattle.ucl_steps.specs.declared.step.Call.TheVariants as calls
-use Rattle.ucl_steps.specs.declared.trace.Reply.TheVariants as replies
 use Rattle.ucl_pass.proofs.KeptRule.{match_words, match_word, last_word}
 
 -- an exchange that was won

@@ -1,11 +1,10 @@
 -- The words and lemmas from elsewhere that the proofs of this crate share.
-pub use Rattle.atomic_table.proofs.Lists.{at_map, set_again, at_last, at_longer, set_else, set_here}
+pub use Rattle.atomic_table.proofs.Lists.{at_last, at_longer, at_map, set_again, set_else, set_here}
 pub use Rattle.crossbeam_utils.specs.Register.{Forks, Merges, Turns}
 pub use Rattle.crossbeam_utils.specs.Seq.{cell_view}
 pub use Rattle.std.proofs.Common.{Bool, List, None, Option, Some, [], ap, append-nil, append_assoc, arith, cond, eq-eqb, false, filter, get_or, if◌then◌else◌, inl, inr, le_refl, length}
-pub use Rattle.std.proofs.Common.{length-append, length-set, map, nat_eq, ne_eqb, refl, rules, set, subst, suc, sym, take, true, true≢false, zero, ℕ, ⊎_elim, ◌++◌, ◌+◌, ◌-◌, ◌<◌, ◌==◌, ◌∙◌, ◌∷◌}
-pub use Rattle.std.proofs.Common.{◌≡◌, ◌≢◌, ◌≤◌}
-pub use Rattle.std.proofs.lemmas.List.{map-set, length-take-le, map-append, nil_from_length, take_all}
+pub use Rattle.std.proofs.Common.{length-append, map, nat_eq, ne_eqb, refl, rules, set, subst, suc, sym, take, true, true≢false, zero, ℕ, ⊎_elim, ◌++◌, ◌+◌, ◌-◌, ◌<◌, ◌∙◌, ◌∷◌, ◌≡◌, ◌≢◌, ◌≤◌}
+pub use Rattle.std.proofs.lemmas.List.{length-take-le, map-append, map-set, nil_from_length, take_all}
 pub use Rattle.std.proofs.lemmas.List.Elements.{All-head, All-tail, filter-append}
 pub use Rattle.std.specs.List.{AllByRecursion, flat_map}
 pub use Rattle.std.specs.Prelude.{Err, IfErr, IfOk, IsOk, IsSome, MatchResult, Ok, Result, is_ok, slice_index}
@@ -28,18 +27,17 @@ pub use Rattle.ucl_pass.specs.CellViews.{second_cell_pass, told_cell_pass, views
 pub use Rattle.ucl_pass.specs.Laws.{CellBoardsAreRuns, CellGoesOnWith, CellNumbersRise, CellRunsGrow, IsRunOfCell, LaterCellsGoOn}
 pub use Rattle.ucl_pass.specs.declared.view.CellView.{CellView}
 pub use Rattle.ucl_live_board.proofs.CallsBySteps.{Stays, all_more, number_told, room, sound_kept, sound_second, stays_more, stays_none, takes_count, takes_none, takes_on}
+pub use Rattle.ucl_live_board.proofs.KeptBoards.{there_is}
 pub use Rattle.ucl_live_board.proofs.KeptRule.{RuleWith, add_keeps, add_tells, enlist_keeps, enlist_tells, enlisted_as}
 pub use Rattle.ucl_live_board.proofs.KeptRule.{entered, longer_history, look_keeps, look_tells, looked, note_added, note_joined}
 pub use Rattle.ucl_live_board.proofs.KeptRule.{opens, same_history, second_added, unchanged_history}
 pub use Rattle.ucl_live_board.specs.CallSteps.{MeetingSteps, steps_with}
-pub use Rattle.ucl_live_board.specs.OneHistory.{KeepsOneHistory}
 pub use Rattle.ucl_live_board.specs.Passes.{AcceptedReport, Continues, Enlistment, Hearing, IsSound, RefusedReport, ReportsMore, SharedReading}
-pub use Rattle.ucl_live_board.specs.Steps.{Enlists, Goes, no_call}
-pub use Rattle.ucl_live_board.specs.Views.{Takes, count_of, newcomer, note_of, opener, pass_view_of, told_by}
+pub use Rattle.ucl_live_board.specs.Steps.{Goes, no_call}
+pub use Rattle.ucl_live_board.specs.Views.{Takes, count_of, note_of, opener, pass_view_of, told_by}
 pub use Rattle.ucl_live_board.specs.declared.view.View.{View}
 pub use Rattle.ucl_steps.proofs.ActorRuns.{Apart, Burst, one_turn, run_begins, run_burst, run_enlisted, run_more}
 pub use Rattle.ucl_steps.proofs.Runs.{kept_at_start, linearizable_run, run_kept, words_of_run}
-pub use Rattle.ucl_live_board.proofs.KeptBoards.{there_is}
 pub use Rattle.ucl_steps.proofs.Seats.{place_below}
 pub use Rattle.ucl_steps.specs.Actors.{Actor, IsRunOfActors}
 pub use Rattle.ucl_steps.specs.Growing.{GoesOnFrom, HasGoneOn, HaveGoneOn}

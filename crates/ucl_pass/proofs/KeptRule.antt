@@ -2,7 +2,7 @@
 use Rattle.ucl_pass.proofs.Common.{◌≡◌, ◌≢◌, inl, inr, ℕ, zero, suc, ◌+◌, ◌-◌, ◌<◌, ◌≤◌, true, false, Option, Some, None, List, ◌∷◌, ◌++◌, length, set, take, nat_eq, get_or, [], if◌then◌else◌, refl}
 use Rattle.ucl_pass.proofs.Common.{sym, ap, ◌∙◌, subst, arith, le_refl, append-nil, length-append, true≢false, slice_index, Result, MatchResult, IsSome, some, get_elem?, Turns, Forks, Merges}
 use Rattle.ucl_pass.proofs.Common.{at_longer, set_here, at_last, EventCall, Refusal, refusal_of, word_of, record_at, Entry, IsMatch, word_at, match_after, IsLegal, followed_by, entry_of, reading_of}
-use Rattle.ucl_pass.proofs.Common.{AccessKind, Look, Swap, Target, Enlisted, Whole, history_of, IsThere, Log, board_length, word_after, one_word, begins_length, View, opener, Enlists, Caller}
+use Rattle.ucl_pass.proofs.Common.{AccessKind, Look, Swap, Target, Enlisted, Whole, history_of, IsThere, Log, board_length, word_after, one_word, begins_length, View, opener, Caller}
 use Rattle.ucl_pass.proofs.Common.{Reporter, Reader, Call, Event, Reading, Refused, Copied, MachineState, Answer, ends, nothing_done, cast_for, steps_of_moves, CellView, Actor, IsRunOfActors}
 use Rattle.ucl_pass.proofs.Common.{new_cell_pass, first_cell_pass, left_cell_pass, second_cell_pass, note_cell_pass, told_cell_pass, all_finished, actor_of, actors_of, views_known, words_after}
 use Rattle.ucl_pass.proofs.Common.{CellKeepsOneHistory, CellStands, CellStandAfterSplit, IsNextBoard, with_one_more, word_looked_at, Looks, StoresEntry, StoresReporter, LooksOnly, LooksAtEnlisted}

@@ -1,6 +1,6 @@
 -- What bursts of actors, splits and enlistments do to the run of the machine that a board's rule says there is.
 use Rattle.ucl_steps.proofs.Common.{◌≡◌, ◌≢◌, inl, inr, ⊎_elim, ℕ, zero, suc, ◌+◌, ◌<◌, ◌≤◌, Bool, false, cond, List, ◌∷◌, ◌++◌, length, set, map, Option, Some, refl, sym, ap, ◌∙◌, subst, arith, []}
-use Rattle.ucl_steps.proofs.Common.{le_refl, append-nil, length-append, ne_eqb, All, filter, dite, some, some-ne-none, some-injective, get_elem?, ℕ_discrete, flat_map-append, All-append, All-cons}
+use Rattle.ucl_steps.proofs.Common.{le_refl, append-nil, length-append, ne_eqb, All, filter, dite, some, some-ne-none, some-injective, get_elem?, flat_map-append, All-append, All-cons}
 use Rattle.ucl_steps.proofs.Common.{All-nil, All-head, All-tail, Entry, AccessKind, Access, Taken, logged_by, Log, history_of, access_list, Caller, Reporter, Reader, Call, Step, CallRecord, Idle}
 use Rattle.ucl_steps.proofs.Common.{MachineState, initial_state, held_by, after_steps, Held, Nothing, Answer, Doing, nothing_done, cast_for, IsOf, IsRecordOf, AreRecordsOf, FitsHeld, is_of}
 use Rattle.ucl_steps.proofs.Common.{calls_told, left_by, FitsRun, Move, steps_of_move, steps_of_moves, Actor, IsOfActor, IsRunOfActors, IsTakenBy, accesses_of_log, AreStepsOf, IsRunOfLog}
@@ -84,7 +84,7 @@ module _ (readers enlisted : ℕ) (history : List Entry) (actors : List Actor) (
   still_of : (b : Actor) (P : ℕ → ℕ → Type 0) → (P seat a.number → P seat b.number) → (j : ℕ) (u : Actor) → get_elem? actors j ≡ some u
       → (x : Actor) × (get_elem? (set actors seat b) j ≡ some x) × (P j u.number → P j x.number)
   still_of b P kept j u at =
-      search (arith, get_elem? (set actors seat b), get_elem? actors, set_here actors seat b (place_below actors seat a here), place_below actors seat a here, dite, some-injective, set_else)
+      search (arith, set_here actors seat b (place_below actors seat a here), dite, some-injective, set_else)
 
   some_still : (b : Actor) → ((c : Caller) → IsOf seat a.number c → IsOf seat b.number c) → (x : Told) → IsOfActor actors x → IsOfActor (set actors seat b) x
   some_still b kept x t = let k = still_of b (λ i n. IsOf i n x.0) (kept x.0) t.0 t.1 t.2 in (t.0, k.0, k.1, k.2 t.3)

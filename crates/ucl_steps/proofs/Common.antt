@@ -59,4 +59,3 @@ pub use lib.ListN.{get_elem?}
 pub use mathlib.Core.List.{IsPrefix}
 pub use mathlib.Core.Logic.{dite}
 pub use mathlib.Core.Option.{some, some-injective, some-ne-none}
-pub use native.Mathlib.Decide.{ℕ_discrete}

@@ -5,7 +5,7 @@ use Rattle.ucl_steps.proofs.Common.{false≢true, eqb-true, eqb-false, and_parts
 use Rattle.ucl_steps.proofs.Common.{EventCall, Refusal, Stale, refusal_of, after, word_of, record_at, Entry, word_at, version_of, answer, match_after, board_of, MayFollow, sequential_reply}
 use Rattle.ucl_steps.proofs.Common.{attempted, reading_of, at_end, same_number, may_attempt, begins_same, Caller, Reporter, Reader, Call, Event, Reading, Step, Begin, Look, Swap, First, Second, End}
 use Rattle.ucl_steps.proofs.Common.{CallRecord, Accepted, Refused, Copied, Holding, Collecting, Checking, GoesOn, Answers, by_rules, may_begin, after_begin, after_step_holding, caller_of, Holds}
-use Rattle.ucl_steps.proofs.Common.{Idle, Wanting, Within, Answered, MachineState, held_by, with_held, change_at, with_reply, with_end, after_outcome, stored, state_after_look, state_after_swap}
+use Rattle.ucl_steps.proofs.Common.{Idle, Wanting, Within, Answered, MachineState, held_by, with_held, with_reply, after_outcome, stored, state_after_look, state_after_swap}
 use Rattle.ucl_steps.proofs.Common.{state_after_first, state_after_second, after_reply}
 use Rattle.ucl_steps.proofs.Histories.{number_expected, is_stale, legal_snoc, legal_beginning, read_back, number_next, squeezed, board_at, board_get, board_next, board_from, version_is}
 use Rattle.ucl_steps.proofs.Explanations.{IsExplained, IsSequential}

@@ -1,5 +1,5 @@
 -- The steps of a call, one after another, as the protocol's.
-use Rattle.ucl_words.proofs.Common.{◌≡◌, ◌≢◌, ℕ, ◌+◌, List, ◌∷◌, ◌++◌, length, refl, sym, ap, ◌∙◌, arith, [], cases_eq, length_push, EventCall, Entry, Look, First, Second, Taken, takes_none}
+use Rattle.ucl_words.proofs.Common.{◌≡◌, ◌≢◌, ℕ, ◌+◌, List, ◌∷◌, ◌++◌, length, refl, arith, [], cases_eq, length_push, EventCall, Entry, Look, First, Second, Taken, takes_none}
 use Rattle.ucl_words.proofs.Common.{takes_on, Call, Doing, after_look, after_swap, after_first, after_second, along, WordView, GoesAlong, LoadsMatch, ExchangeWon, ExchangeMissed}
 use Rattle.ucl_steps.specs.declared.step.Call.TheVariants as calls
 

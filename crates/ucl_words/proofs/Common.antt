@@ -1,31 +1,31 @@
 -- The words and lemmas from elsewhere that the proofs of this crate share.
-pub use Rattle.atomic_table.proofs.Lists.{at_map, set_again, at_last, at_longer, exchanged, set_else, set_here}
-pub use Rattle.atomic_table.specs.Table.{Allows, Joins, Me, Splits, State, Step, Valid, carried_after, keeps, opening, step, stepped}
+pub use Rattle.atomic_table.proofs.Lists.{at_last, at_longer, at_map, exchanged, set_again, set_else, set_here}
+pub use Rattle.atomic_table.specs.Table.{Allows, Joins, Me, Splits, State, Valid, carried_after, keeps, opening, step, stepped}
 pub use Rattle.std.proofs.Common.{Bool, List, None, Option, Some, [], ap, append-nil, append_assoc, arith, cond, eq-eqb, false, get_or, get_or-set_same, if◌then◌else◌, inl, inr, le_refl, length}
 pub use Rattle.std.proofs.Common.{length-append, length-set, map, ne_eqb, refl, rules, set, subst, suc, sym, take, true, zero, ℕ, ◌++◌, ◌+◌, ◌-◌, ◌<◌, ◌==◌, ◌∙◌, ◌∷◌, ◌≡◌, ◌≢◌, ◌≤◌, ◌⊎◌}
 pub use Rattle.std.proofs.Math.Seq.{take-append_seam, take-length}
 pub use Rattle.std.proofs.lemmas.Bool.{cases_eq, cases_lt, eqb-false, false≢true}
-pub use Rattle.std.proofs.lemmas.List.{map-set, length-map, length-take-le, length_push, map-append, set-get_or}
+pub use Rattle.std.proofs.lemmas.List.{length-map, length-take-le, length_push, map-append, map-set, set-get_or}
 pub use Rattle.std.proofs.lemmas.List.Elements.{All-cons, All-head, All-tail, filter-append}
 pub use Rattle.std.specs.Prelude.{All, Err, IfErr, IfOk, IfSome, IsOk, IsSome, Ok, Result, filter, slice_get, slice_index, ◌*◌}
 pub use Rattle.ucl_board.proofs.Beginnings.{begins_length, begins_more, begins_none, begins_same, begins_through}
 pub use Rattle.ucl_board.proofs.Histories.{accepted_reply, board_length, board_with, board_words, game_after, match_valid, next_board, refused_reply, word_after}
 pub use Rattle.ucl_board.proofs.HistoryLaws.{beginnings, entry_known, versions}
 pub use Rattle.ucl_board.specs.Fixtures.{IsMatch}
-pub use Rattle.ucl_board.specs.History.{IsLegal, board_of, entry_of, followed_by, match_after, reading_of, sequential_reply}
+pub use Rattle.ucl_board.specs.History.{IsLegal, board_of, entry_of, followed_by, match_after, reading_of}
 pub use Rattle.ucl_board.specs.Log.{Access, AccessKind, Enlisted, First, IsThere, Log, Logged, Look, Match, Second, Swap, Taken, Target, access, access_list, accesses_in, history_of, step_taken}
 pub use Rattle.ucl_board.specs.Log.{taken_by}
 pub use Rattle.ucl_board.specs.Words.{AreWords, greatest_version, version_of, word_at}
 pub use Rattle.ucl_board.specs.declared.entry.Entry.{Entry}
 pub use Rattle.ucl_board.specs.declared.reading.Reading.{Reading}
 pub use Rattle.ucl_live_board.proofs.CallsBySteps.{all_more, number_told, one_more, room, sound_kept, takes_count, takes_none, takes_on}
-pub use Rattle.ucl_live_board.proofs.KeptRule.{RuleWith, add, add_keeps, add_tells, count, enlist_keeps, enlist_tells, enlisted_as, entered, logged, longer_history, look}
-pub use Rattle.ucl_live_board.proofs.KeptRule.{look_keeps, look_tells, looked, note_added, note_joined, same_history, second_added, unchanged_history}
+pub use Rattle.ucl_live_board.proofs.KeptRule.{RuleWith, add, add_keeps, add_tells, count, enlist_keeps, enlist_tells}
+pub use Rattle.ucl_live_board.proofs.KeptRule.{enlisted_as, entered, logged, longer_history, look, look_keeps, look_tells, looked}
+pub use Rattle.ucl_live_board.proofs.KeptRule.{note_added, note_joined, same_history, second_added, unchanged_history}
 pub use Rattle.ucl_live_board.specs.CallSteps.{EnlistSteps, FoundEnlisted, IsOnEnlisted, MeetingSteps, steps_with}
-pub use Rattle.ucl_live_board.specs.OneHistory.{KeepsOneHistory}
 pub use Rattle.ucl_live_board.specs.Passes.{AcceptedReport, Continues, Enlistment, Hearing, RefusedReport, SeesOn, SharedReading}
-pub use Rattle.ucl_live_board.specs.Steps.{Enlists, no_call}
-pub use Rattle.ucl_live_board.specs.Views.{Takes, count_of, kept_of, newcomer, note_of, opener, pass_view_of, second_of, steps_of, told_by, trail_of}
+pub use Rattle.ucl_live_board.specs.Steps.{no_call}
+pub use Rattle.ucl_live_board.specs.Views.{Takes, count_of, kept_of, note_of, opener, pass_view_of, second_of, steps_of, told_by, trail_of}
 pub use Rattle.ucl_live_board.specs.declared.view.View.{View}
 pub use Rattle.ucl_steps.proofs.Accesses.{clean_shows, collect_more, collect_none, collect_set, follows_append, follows_longer, follows_one, follows_wider, reading_whole, report_whole, unclean_try}
 pub use Rattle.ucl_steps.proofs.OneStep.{IsNow, none_of}

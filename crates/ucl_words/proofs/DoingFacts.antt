@@ -1,6 +1,6 @@
 -- What the steps of a call leave as done and as held.
 use Rattle.ucl_words.proofs.Common.{◌≡◌, ◌≢◌, ◌⊎◌, inl, inr, ℕ, zero, suc, ◌+◌, ◌<◌, ◌≤◌, ◌==◌, Bool, true, cond, List, ◌∷◌, ◌++◌, take, length, set, Some, None, refl, sym, ap, ◌∙◌, subst, arith}
-use Rattle.ucl_words.proofs.Common.{[], eq-eqb, ne_eqb, slice_index, length-take-le, take-length, MatchRecord, EventCall, Accepted, Refusal, Stale, refusal_of, after, reply_of, record_at, IsWord}
+use Rattle.ucl_words.proofs.Common.{[], eq-eqb, ne_eqb, slice_index, length-take-le, take-length, EventCall, Accepted, Refusal, Stale, refusal_of, after, reply_of, record_at, IsWord}
 use Rattle.ucl_words.proofs.Common.{after_number, word_packed, Reading, reading_of, First, Second, Reply, Held, Nothing, Holding, Collecting, Checking, Outcome, GoesOn, Answers, Doing, goes, ends}
 use Rattle.ucl_words.proofs.Common.{done_by, IsNext, after_look, after_swap, collected, firsts_holding, after_first, after_second, none_of, WordView, AnswersCall, point_shown, IsHoldingFor}
 use Rattle.ucl_words.proofs.Common.{MayCollect, IsBegun, HasFirsts, has_copied, begins_anew}

@@ -2,7 +2,7 @@
 use Rattle.ucl_words.proofs.Common.{◌≡◌, ℕ, zero, suc, ◌+◌, ◌<◌, ◌≤◌, ◌==◌, Bool, true, false, cond, List, ◌∷◌, ◌++◌, length, map, inl, inr, refl, sym, subst, arith, [], le_refl, length-append}
 use Rattle.ucl_words.proofs.Common.{ne_eqb, ◌*◌, All, filter, cases_lt, eqb-false, filter-append, All-head, All-tail, All-cons, some, get_elem?, State, Entry, Access, Logged, Log, taken_by}
 use Rattle.ucl_words.proofs.Common.{access_list, accesses_in, Actor, accesses_of_log, IsRunOfLog, HaveGoneOn, at_map, place_below, WordView, word_actor, word_actors, TableKeepsOneHistory}
-use Rattle.ucl_words.proofs.Common.{PassesTookFew, length-map, none}
+use Rattle.ucl_words.proofs.Common.{PassesTookFew, length-map}
 use Rattle.std.specs.Prelude.{◌≢◌}
 use mathlib.Core.Bool.{not}
 use Rattle.ucl_steps.proofs.FewAccesses.{few_accesses}

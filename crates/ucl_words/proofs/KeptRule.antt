@@ -1,8 +1,8 @@
 -- Each kind of atomic step on the table keeps the rule, and tells its pass what it says.
 use Rattle.ucl_words.proofs.Common.{◌≡◌, Some, ℕ, ◌+◌, ◌-◌, ◌==◌, ◌<◌, ◌≤◌, List, ◌∷◌, ◌++◌, length, set, get_or, refl, sym, ap, ◌∙◌, subst, arith, append-nil, length-append, [], IsSome, set-get_or}
 use Rattle.ucl_words.proofs.Common.{none, some, get_elem?, either, at_longer, at_last, set_here, State, Me, step, keeps, stepped, carried_after, Valid, opening, Allows, Splits, Joins, exchanged}
-use Rattle.ucl_words.proofs.Common.{EventCall, word_of, Entry, IsMatch, word_at, match_after, board_of, IsLegal, followed_by, entry_of, AccessKind, Look, First, Second, Swap, Target, Match}
-use Rattle.ucl_words.proofs.Common.{Enlisted, history_of, Access, access, Taken, Log, IsThere, word_after, board_with, View, opener, Enlists, logged, look, looked, same_history, look_keeps}
+use Rattle.ucl_words.proofs.Common.{EventCall, Entry, IsMatch, word_at, board_of, IsLegal, followed_by, entry_of, AccessKind, Look, First, Second, Swap, Target, Match}
+use Rattle.ucl_words.proofs.Common.{Enlisted, history_of, Access, access, Taken, Log, IsThere, word_after, board_with, View, opener, logged, look, looked, same_history, look_keeps}
 use Rattle.ucl_words.proofs.Common.{look_tells, add, entered, longer_history, add_keeps, add_tells, count, enlisted_as, unchanged_history, enlist_keeps, enlist_tells, second_added, note_added}
 use Rattle.ucl_words.proofs.Common.{note_joined, Nothing, Doing, nothing_done, IsNext, after_look, after_swap, after_first, after_second, cast_for, FitsRun, steps_of_moves, Actor, IsTakenBy}
 use Rattle.ucl_words.proofs.Common.{accesses_of_log, IsRunOfLog, IsNow, at_map, map-set, set_again, place_below, WordView, new_pass, first_pass, left_pass, second_pass, note_pass, told_pass}
@@ -12,7 +12,7 @@ use Rattle.ucl_word.specs.Record.{IsReporter}
 use Rattle.ucl_live_board.proofs.KeptRule as moves
 use Rattle.ucl_live_board.proofs.KeptBoards.{apart, low, Kept, kept, moved, one_more, joined}
 use Rattle.ucl_steps.specs.declared.step.Caller.{Caller}
-use Rattle.ucl_steps.specs.declared.step.Caller.TheVariants.{Reporter, Reader}
+use Rattle.ucl_steps.specs.declared.step.Caller.TheVariants.{Reporter}
 use Rattle.ucl_steps.specs.declared.step.Cast.{Cast}
 use Rattle.ucl_steps.specs.declared.step.Step as machine
 use Rattle.ucl_steps.specs.Machine.{initial_state, MachineState, after_steps}

@@ -1,7 +1,7 @@
 -- What a report says: one load on whose word the rules refuse, or a load and an exchange.
 use Rattle.ucl_words.proofs.Common.{◌≡◌, ◌≢◌, inl, inr, ℕ, ◌+◌, ◌-◌, ◌<◌, ◌≤◌, List, ◌∷◌, ◌++◌, length, refl, sym, ap, ◌∙◌, subst, arith, le_refl, append_assoc, length-append, get_or-set_same, []}
 use Rattle.ucl_words.proofs.Common.{Result, Ok, Err, IsOk, take-length, IsPrefix, MatchRecord, EventCall, Accepted, Refusal, Stale, refusal_of, after, reply_of, word_of, record_at, IsWord}
-use Rattle.ucl_words.proofs.Common.{after_number, word_packed, Entry, IsMatch, word_at, board_of, IsLegal, followed_by, entry_of, sequential_reply, beginnings, board_length, word_after, game_after}
+use Rattle.ucl_words.proofs.Common.{after_number, word_packed, Entry, IsMatch, word_at, board_of, IsLegal, followed_by, entry_of, beginnings, board_length, word_after, game_after}
 use Rattle.ucl_words.proofs.Common.{next_board, accepted_reply, refused_reply, Look, Swap, Access, access, Match, Taken, step_taken, begins_length, begins_more, begins_same, begins_through, Follows}
 use Rattle.ucl_words.proofs.Common.{ReportAccesses, follows_longer, follows_wider, follows_append, follows_one, report_whole, Continues, AcceptedReport, RefusedReport, View, pass_view_of, trail_of}
 use Rattle.ucl_words.proofs.Common.{Takes, takes_on, takes_count, Loads, ExchangeMissed, ExchangeWon, IsNextWord, Walks, steps_with, HasTrail, IsSteady, ReportSteps}

@@ -1,8 +1,8 @@
 -- Steps on match words, one after another.
-use Rattle.ucl_words.proofs.Common.{◌≡◌, ℕ, ◌+◌, List, ◌∷◌, ◌++◌, length, map, None, refl, sym, ap, ◌∙◌, subst, arith, le_refl, append_assoc, append-nil, length-append, [], map-append, IsPrefix}
+use Rattle.ucl_words.proofs.Common.{◌≡◌, ℕ, ◌+◌, List, ◌∷◌, ◌++◌, length, map, None, refl, sym, ap, ◌∙◌, arith, le_refl, append_assoc, append-nil, length-append, [], map-append, IsPrefix}
 use Rattle.ucl_words.proofs.Common.{word_of, IsWord, Entry, IsMatch, match_after, IsLegal, AccessKind, Access, access, Match, Taken, step_taken, accesses_in, match_valid, begins_length, begins_same}
 use Rattle.ucl_words.proofs.Common.{begins_through, Follows, follows_longer, follows_wider, follows_append, follows_one, View, Continues, pass_view_of, count_of, trail_of, Takes, takes_none}
-use Rattle.ucl_words.proofs.Common.{takes_on, takes_count, LoadsMatch, Walks, steps_with, HasTrail, IsSteady}
+use Rattle.ucl_words.proofs.Common.{takes_on, takes_count, LoadsMatch, Walks, steps_with, IsSteady}
 use Rattle.ucl_board.proofs.Logs.{accesses_append}
 
 -- accesses that follow what a trail has, over a history that is longer

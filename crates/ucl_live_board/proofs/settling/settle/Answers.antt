@@ -1,4 +1,4 @@
-use Rattle.std.proofs.Common.{◌+◌, List, ◌∷◌, ◌++◌, ℕ, ap, ◌∙◌, arith, []}
+use Rattle.std.proofs.Common.{List, ◌∷◌, ◌++◌, ℕ, ap, ◌∙◌, arith, []}
 use Rattle.ucl_live_board.proofs.Lists.{unchanged}
 use Rattle.ucl_live_board.proofs.SettledPasses.{through, settled, alone, of_both, strangers, differ, one_number}
 use Rattle.ucl_live_board.proofs.settling.settle.Goals as goal

@@ -1,8 +1,7 @@
-use Rattle.ucl_words.proofs.Common.{length, sym, ◌∙◌, arith, length-set, begins_length, begins_through}
+use Rattle.ucl_words.proofs.Common.{length, arith, length-set, begins_length, begins_through}
 use Rattle.ucl_words.proofs.KeptRule.{firsts}
 use Rattle.ucl_words.proofs.CollectFacts.{collected_none, collected_set}
 use Rattle.ucl_words.proofs.DoingFacts.{first_next, first_on, firsts_all}
-use Rattle.ucl_steps.specs.declared.step.Call.TheVariants as calls
 use Rattle.ucl_words.proofs.AlongFacts.{along_none, along_on, along_first}
 use Rattle.ucl_words.proofs.board.WordBoard.collect.Goals as goal
 

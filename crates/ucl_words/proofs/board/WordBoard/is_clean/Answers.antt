@@ -1,5 +1,4 @@
 use Rattle.std.proofs.Common.{arith}
-use Rattle.ucl_steps.specs.declared.step.Call.TheVariants as calls
 use Rattle.ucl_words.proofs.AlongFacts.{along_none, along_on, along_second}
 use Rattle.ucl_words.proofs.CollectFacts.{collected_none}
 use Rattle.ucl_words.proofs.DoingFacts.{seconds_none, second_next}

@@ -1,4 +1,4 @@
-use Rattle.ucl_words.proofs.Common.{◌≡◌, sym, ◌∙◌, subst, arith, rules, Result, Accepted, Refusal, Entry, begins_length, IsNextWord}
+use Rattle.ucl_words.proofs.Common.{◌≡◌, sym, subst, arith, rules, Result, Accepted, Refusal, begins_length}
 use Rattle.std.proofs.Common.{Err}
 use Rattle.ucl_words.proofs.StepRuns.{found_valid}
 use Rattle.ucl_words.proofs.ReportFacts.{next_after, me_in}

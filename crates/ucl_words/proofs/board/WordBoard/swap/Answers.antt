@@ -1,11 +1,9 @@
-use Rattle.ucl_words.proofs.Common.{ℕ, ◌==◌, ◌≤◌, sym, ◌∙◌, subst, arith, some, either, step, Allows, Entry, TableKeepsOneHistory, Stands, ExchangeStep}
+use Rattle.ucl_words.proofs.Common.{ℕ, ◌≤◌, sym, ◌∙◌, subst, arith, Entry, Stands}
 use Rattle.ucl_words.proofs.KeptRule.{swaps}
 use Rattle.ucl_words.proofs.board.WordBoard.swap.Goals as goal
 
 pub compare_exchange_with-requires : goal.compare_exchange_with-requires
 compare_exchange_with-requires g c =
-    let is = c.from-word.ensures in
-    let value = c.get.ensures.value in
     let range = c.get.ensures.within in let a = range.0 in let b = range.1 in
     let e : Entry = c.args.entry in
     let low : (1 ≤ e.game) × (e.game ≤ 12) = (omega arith, omega arith) in
