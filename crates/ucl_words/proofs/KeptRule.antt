@@ -279,7 +279,8 @@ swaps slots seat place m e old new is_seat acts is pos me next holds s r _ here 
     (λ x. (w : WordView) × (a : Rattle.atomic_table.specs.Table.Act Entry) × Valid s.homes m.1 a × TableKeepsOneHistory (stepped s e.game x seat m.1 w a)
     × ExchangeStep place (step slots e.game old new (some e)) m n (w, carried_after m.1 a))
     (λ hit. search (arith, swap_keeps s r seat v e old new here acts is pos me next hit holds m.1, swap_tells s r seat v e old new here acts is pos me next hit holds,
-        stands_after s e.game new seat m.1 v (after_won s r seat v e old new here acts is pos me next hit holds) here (swap_keeps s r seat v e old new here acts is pos me next hit holds m.1) place is_seat))
+        stands_after s e.game new seat m.1 v (after_won s r seat v e old new here acts is pos me next hit holds) here (swap_keeps s r seat v e old new here acts is pos me next hit holds m.1)
+            place is_seat))
     (λ miss. let w = after_load s r seat v here acts Swap e.game is v.pass.shown in let kept = load_runs s r seat v here acts Swap e.game is v.pass.shown (after_swap n (length w.seen) v.doing)
     (λ readers one now. (
       Reporter v.pass.number,

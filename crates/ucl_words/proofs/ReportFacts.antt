@@ -62,7 +62,8 @@ module _ (v u : View) (call : EventCall) (loaded : ℕ) (is : IsMatch call.game)
 
       pub miss_refuses : (refusal : Refusal) → refusal ≡ Stale (record_at found).number → RefusedReport (pass_view_of v) call refusal (pass_view_of z)
       miss_refuses refusal stale = search (arith, take-length z.seen,
-          report_whole z.seen (length v.seen) (length z.seen) (length z.seen) call (Err refusal) (look_access ∷ swap_access ∷ []) miss_walks.steady.sound.legal miss_walks.leaves.follows (miss_report refusal stale), miss_report refusal stale)
+          report_whole z.seen (length v.seen) (length z.seen) (length z.seen) call (Err refusal) (look_access ∷ swap_access ∷ [])
+              miss_walks.steady.sound.legal miss_walks.leaves.follows (miss_report refusal stale), miss_report refusal stale)
 
     -- that was won
     module _ (same : found ≡ loaded) (won : ExchangeWon (entry_of v.number call) u found z) where
