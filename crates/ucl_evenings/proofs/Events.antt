@@ -10,8 +10,8 @@ use Rattle.ucl_board.specs.declared.entry.Entry.{Entry}
 use Rattle.ucl_board.specs.declared.reading.Reading.{Reading}
 use Rattle.ucl_board.specs.History.{entry_of, sequential_reply}
 use Rattle.ucl_board.proofs.Beginnings.{at_beginning, begins_length, take_beginning}
-use Rattle.ucl_shared.specs.Passes.{PassView, IsSound, Continues, ReportsMore, AcceptedReport, RefusedReport, SharedReading}
-use Rattle.ucl_shared.proofs.Lists.{unchanged}
+use Rattle.ucl_live_board.specs.Passes.{PassView, IsSound, Continues, ReportsMore, AcceptedReport, RefusedReport, SharedReading}
+use Rattle.ucl_live_board.proofs.Lists.{unchanged}
 use Rattle.ucl_runs.proofs.EnteredRows.{goes_on}
 use Rattle.ucl_evenings.specs.declared.outcome.Outcome.{Outcome}
 use Rattle.ucl_evenings.specs.declared.outcome.Outcome.TheVariants.{Entered, Refused}

@@ -3,7 +3,7 @@ use Rattle.std.specs.Prelude.{◌≡◌, ℕ, ◌+◌, ◌-◌, ◌<◌, ◌≤�
 use Rattle.ucl_word.specs.declared.event.EventCall.{EventCall}
 use Rattle.ucl_board.specs.declared.entry.Entry.{Entry}
 use Rattle.ucl_board.specs.History.{entry_of, sequential_reply}
-use Rattle.ucl_shared.specs.Passes.{PassView, Continues, ReportsMore}
+use Rattle.ucl_live_board.specs.Passes.{PassView, Continues, ReportsMore}
 use Rattle.ucl_evenings.specs.declared.outcome.Outcome.{Outcome}
 use Rattle.ucl_evenings.specs.declared.outcome.Outcome.TheVariants.{Entered, Refused}
 

@@ -1,7 +1,7 @@
 //! A reporter of an evening, whose pass answers lines.
 
 ghost use Rattle.std.specs.Prelude.{◌≡◌, ◌∷◌, []};
-ghost use Rattle.ucl_shared.specs.Passes.{IsSound};
+ghost use Rattle.ucl_live_board.specs.Passes.{IsSound};
 ghost use Rattle.ucl_runs.specs.InputLines.{last_lines};
 ghost use Rattle.ucl_evenings.specs.Rows.{TurnsLines, reply_bytes};
 
@@ -12,7 +12,7 @@ use crate::ring::Ring;
 use std::sync::Wait;
 use ucl_runs::{LineReader, ReplyLine, RunFault, bad_line};
 use ucl_io::{LineMachine, Text};
-use ucl_shared::LiveBoard;
+use ucl_live_board::LiveBoard;
 
 /// What a reporter's line is answered.
 #[derive(Drop)]

@@ -18,7 +18,7 @@ use ucl_runs::{LineReader, RunFault};
 use ucl_evenings::{Reporter, take_rows};
 use ucl_io::Duplex;
 use ucl_screen::{Sink, Source};
-use ucl_shared::LiveBoard;
+use ucl_live_board::LiveBoard;
 
 /// What the thread of a reporter does: it takes the rows of its source, and answers them.
 fn report<B: LiveBoard, S: Source, W: Sink, R: Wait>(

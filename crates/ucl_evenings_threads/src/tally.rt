@@ -2,7 +2,7 @@
 
 ghost use Rattle.std.specs.Prelude.{◌≡◌, ◌++◌, ◌∷◌, [], List, All, IfErr, IfOk, IsFalse, IsTrue, length, map};
 ghost use mathlib.Core.List.{IsPrefix};
-ghost use Rattle.ucl_shared.specs.Passes.{Continues, IsSound, PassView, ReportsMore};
+ghost use Rattle.ucl_live_board.specs.Passes.{Continues, IsSound, PassView, ReportsMore};
 ghost use Rattle.std.specs.List.{AllZip};
 ghost use Rattle.ucl_evenings_threads.specs.Runs.{IsHandedBack, IsOfThreads, views_of};
 ghost use Rattle.ucl_evenings_threads.specs.Whole.{AreAllOf, AreTallied, IsSeenIn};
@@ -13,7 +13,7 @@ use crate::workers::ReporterEnd;
 use std::alloc::Global;
 use std::sync::Wait;
 use ucl_runs::RunFault;
-use ucl_shared::LiveBoard;
+use ucl_live_board::LiveBoard;
 
 /// Whether the numbers of some reporters rise, the last of them, and where they rise how many events were accepted.
 #[derive(Clone, Copy, Debug)]

@@ -5,7 +5,7 @@ use Rattle.ucl_screen.specs.declared.fault.InputFault.TheVariants as input
 use Rattle.ucl_screen.specs.Texts.{input_fault_text}
 use Rattle.ucl_runs.specs.declared.fault.RunFault.{RunFault}
 use Rattle.ucl_runs.specs.declared.fault.RunFault.TheVariants.{Input, OutOfMemory, WriteFailed, NotOnDuty, NoThread, TooManyReporters, Strangers}
-use Rattle.ucl_shared.specs.declared.live_board.LiveBoard as boards
+use Rattle.ucl_live_board.specs.declared.live_board.LiveBoard as boards
 
 -- the fault of a run whose input has a fault: want of memory is the run's own
 abbrev pub handed_on : InputFault → RunFault

@@ -2,9 +2,9 @@
 use Rattle.std.specs.Prelude.{⊤, ℕ, ◌≤◌, List, length, take, option_map, string_bytes}
 use mathlib.Core.List.{IsPrefix}
 use Rattle.ucl_screen.specs.declared.night.NightEvent.{NightEvent}
-use Rattle.ucl_shared.specs.declared.live_board.LiveBoard as boards
-use Rattle.ucl_shared.specs.Passes.{PassView, ReportsMore}
-use Rattle.ucl_shared.specs.Settling.{AreAlone}
+use Rattle.ucl_live_board.specs.declared.live_board.LiveBoard as boards
+use Rattle.ucl_live_board.specs.Passes.{PassView, ReportsMore}
+use Rattle.ucl_live_board.specs.Settling.{AreAlone}
 use Rattle.ucl_runs.specs.declared.fault.RunFault.{RunFault}
 use Rattle.ucl_runs.specs.declared.fault.RunFault.TheVariants.{Input, WriteFailed, TooManyReporters, Strangers}
 use Rattle.ucl_runs.specs.Faults.{HasNoNumberLeft}
