@@ -43,7 +43,8 @@ module _ (p z : PassView) (last : Reading) (on : Continues p z) (read : SharedRe
   whole_long = length-take-le last.version z.seen read.high
 
   -- those who entered events before had been heard then, and the reporters later
-  module _ (s early : List Entry) (views more : List PassView) (since : IsPrefix s early) (before : IsPrefix early p.seen) (heard : All (IsSeenIn s) views) (heard_more : All (IsSeenIn early) more) where
+  module _ (s early : List Entry) (views more : List PassView) (since : IsPrefix s early) (before : IsPrefix early p.seen)
+      (heard : All (IsSeenIn s) views) (heard_more : All (IsSeenIn early) more) where
     pub heard_at_end : All (IsSeenIn whole) (views ++ more)
     heard_at_end =
         let later = begins_through early p.seen whole before begins_whole in

@@ -48,7 +48,8 @@ returns-clause-held g c =
       since = begins_through first p.seen (whole p z last read.always read.reading) (begins_through first heard p.seen early before) on;
       kept = c.in_ok-entered.ensures.kept;
       theirs = theirs_at_end p z last read.always read.reading heard ran.early _ _ since ran.on c.in_ok-entered.ensures.heard ran.heard all;
-      reported = reported_at_end live board g.S.Source g.W.Sink first looked p.seen (whole p z last read.always read.reading) _ _ _ split on c.in_ok-all.ensures.enlisted ran.run (seen_on ran.early p.seen _ ran.on ran.heard);
+      reported = reported_at_end live board g.S.Source g.W.Sink first looked p.seen (whole p z last read.always read.reading) _ _ _ split on
+          c.in_ok-all.ensures.enlisted ran.run (seen_on ran.early p.seen _ ran.on ran.heard);
       shown = shown_at_end live board g.V.Sink c.args.roster.now first heard p.seen (whole p z last read.always read.reading) last.version _ _ _ _ early on
           (whole_long p z last read.always read.reading) (early_long p z last read.always read.reading heard ran.early _ _ since ran.on c.in_ok-entered.ensures.heard ran.heard all)
           c.in_ok-screens.ensures.looking ran.shown;
