@@ -14,7 +14,6 @@ use Rattle.ucl_io.specs.declared.stream.Sink as sinks
 use Rattle.ucl_live_board.specs.declared.live_board.LiveBoard as boards
 use Rattle.ucl_evenings_threads.specs.declared.workers.ScreenEnd.{ScreenEnd}
 use Rattle.ucl_evenings_threads.specs.declared.workers.Looking.{Looking}
-use Rattle.ucl_evenings_threads.specs.declared.workers.Looked.{Looked}
 use Rattle.ucl_evenings_threads.specs.Runs.{LastIsAtLeast, HasLookedOn, HasShownAbove, SinkServed}
 use Rattle.ucl_evenings_threads.proofs.Ended.{above_less, failed_end, screens_end, served_same, served_then, shown_on}
 
@@ -60,7 +59,7 @@ module _ {B R P N V : Type 0} (live : boards.Ghosts B R P N) (board : B) (sink :
   lent history least looking screen pass r same own seen served p =
       record { own = own; options = same; seen = seen; versions = p.versions; rise = p.rise; ends = p.ends; served = served }
 
-  pub closed_failed : (looking : Looking R (Screen B V)) (looked : Looked R (Screen B V)) (least : ℕ) (f : RunFault) → looked.result ≡ Err f → HasLookedOn live board sink clubs looking looked
+  pub closed_failed : (looking : Looking R (Screen B V)) (looked : ScreenEnd R (Screen B V)) (least : ℕ) (f : RunFault) → looked.result ≡ Err f → HasLookedOn live board sink clubs looking looked
       → HasShownAbove live board sink clubs (live.reader looked.pass).seen least looking (record { pass = looked.pass; screen = looked.screen; result = Err f })
   closed_failed looking looked least f is h =
       lent (live.reader looked.pass).seen least looking looked.screen looked.pass (Err f) h.same.options h.own (begins_same (live.reader looked.pass).seen)
@@ -68,7 +67,7 @@ module _ {B R P N V : Type 0} (live : boards.Ghosts B R P N) (board : B) (sink :
       (shown_failed looking.screen.options clubs (length (live.reader looking.pass).seen) (live.reader looking.pass) (live.reader looked.pass) (standing looked.screen)
       (sink.failed looked.screen.sink) (sink.taken looking.screen.sink) (sink.taken looked.screen.sink) least looked.result f is h.shows)
 
-  pub closed_further : (looking : Looking R (Screen B V)) (looked : Looked R (Screen B V)) (theirs : R) (screen : Screen B V) (news least : ℕ) (r : Result ⊤ RunFault) → looked.result ≡ Ok tt
+  pub closed_further : (looking : Looking R (Screen B V)) (looked : ScreenEnd R (Screen B V)) (theirs : R) (screen : Screen B V) (news least : ℕ) (r : Result ⊤ RunFault) → looked.result ≡ Ok tt
       → news ≡ least → live.is_reader board theirs → StaysScreen looked.screen screen → SinkServed sink looked.screen.sink screen.sink r → HasLookedOn live board sink clubs looking looked
       → ShowsFurther looked.screen.options clubs news (live.reader looked.pass) (live.reader theirs) (standing looked.screen) (standing screen)
       (sink.failed screen.sink) (sink.taken looked.screen.sink) (sink.taken screen.sink) r

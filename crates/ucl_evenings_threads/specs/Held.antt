@@ -48,7 +48,7 @@ pub record HasHeld {B R P N S W V : Type 0} (live : boards.Ghosts B R P N) (boar
 
 -- all reporters of an evening have run and were heard, and then a version was read that is not that of their events and of those who entered
 -- events before: the board has events of others, or the numbers do not rise in the order in which they were given
-pub record EveningFoundStrangers {B R P N S W : Type 0} (live : boards.Ghosts B R P N) (board : B) (source : sources.Ghosts S) (replies : sinks.Ghosts W)
+pub record FoundOthers {B R P N S W : Type 0} (live : boards.Ghosts B R P N) (board : B) (source : sources.Ghosts S) (replies : sinks.Ghosts W)
     (clubs : List NamedClub) (before : List Entry) (entered : List P) (reporters : List (Reporter S W)) (version : ℕ) : Type 0 where
   pub back : List P
   pub ends : List (ReporterEnd P S W)
@@ -61,7 +61,7 @@ pub record EveningFoundStrangers {B R P N S W : Type 0} (live : boards.Ghosts B 
   pub others : AreAllOf (map live.reporter back ++ views_of live ends) version → ⊥
 
 abbrev pub IsOfStrangers : {B R P N S W : Type 0} → boards.Ghosts B R P N → B → sources.Ghosts S → sinks.Ghosts W → List NamedClub → List Entry → List P → List (Reporter S W) → RunFault → Type 0
-IsOfStrangers live board source replies clubs before entered reporters (Strangers version) = EveningFoundStrangers live board source replies clubs before entered reporters version
+IsOfStrangers live board source replies clubs before entered reporters (Strangers version) = FoundOthers live board source replies clubs before entered reporters version
 IsOfStrangers live board source replies clubs before entered reporters _ = ⊥
 
 -- why an evening was not held: want of memory or of a thread, no number for a reporter, or strangers

@@ -24,7 +24,6 @@ use Rattle.ucl_evenings_threads.specs.declared.workers.Enlisted.{Enlisted}
 use Rattle.ucl_evenings.specs.declared.screen.Screen.{Screen}
 use Rattle.ucl_evenings_threads.specs.declared.workers.ScreenEnd.{ScreenEnd}
 use Rattle.ucl_evenings_threads.specs.declared.workers.Looking.{Looking}
-use Rattle.ucl_evenings_threads.specs.declared.workers.Looked.{Looked}
 use Rattle.ucl_evenings_threads.specs.declared.screens.Ran.{Ran}
 use Rattle.ucl_evenings_threads.specs.Whole.{IsSeenIn}
 
@@ -149,7 +148,7 @@ pub record IsLooking {B R P N X : Type 0} (live : boards.Ghosts B R P N) (board 
 
 -- a screen has shown boards, and its thread has ended
 pub record HasLookedOn {B R P N V : Type 0} (live : boards.Ghosts B R P N) (board : B) (sink : sinks.Ghosts V) (clubs : List NamedClub) (looking : Looking R (Screen B V))
-    (end : Looked R (Screen B V)) : Type 0 where
+    (end : ScreenEnd R (Screen B V)) : Type 0 where
   pub own : live.is_reader board end.pass
   pub of : IsScreenOn board clubs end.screen
   pub same : StaysScreen looking.screen end.screen

@@ -4,20 +4,31 @@ ghost use Rattle.std.specs.Prelude.{◌≡◌, None, IfErr, IfOk, vec_len};
 ghost use Rattle.ucl_evenings_threads.specs.Runs.{IsOfThreads};
 
 use crate::lists::put;
+use crate::workers::ReporterEnd;
 use std::alloc::Global;
 use std::snapshot::Snapshot;
-use std::sync::Wait;
-use std::sync::atomic::{AtomicBool, Ordering};
+use std::sync::{OnceLock, OnceToken, Wait};
 use std::thread::Parker;
 use ucl_evenings::{Bell, Ring, Screen};
 use ucl_runs::RunFault;
 use ucl_live_board::LiveBoard;
 
+/// What shows that no reporter of an evening runs any more.
+#[derive(Clone, Copy)]
+pub struct Over(());
+
+impl Over {
+    /// They have been run.
+    pub fn after<P, S, W>(_run: &Result<Vec<ReporterEnd<P, S, W>>, RunFault>) -> Over {
+        Over(())
+    }
+}
+
 /// What wakes one screen. A wake that comes while the screen is awake is kept for its next sleep, and several are one.
 #[derive(Drop)]
 pub struct Wake {
     sleep: Parker,
-    is_over: AtomicBool,
+    over: OnceLock<Over>,
 }
 
 impl Wake {
@@ -25,7 +36,7 @@ impl Wake {
     fn new() -> Wake {
         Wake {
             sleep: Parker::new(),
-            is_over: AtomicBool::new(false),
+            over: OnceLock::new(),
         }
     }
 
@@ -35,8 +46,8 @@ impl Wake {
     }
 
     /// The evening is over: the screen is woken for the last time.
-    fn end(&self) {
-        self.is_over.store(true, Ordering::SeqCst);
+    fn end(&self, over: Over) {
+        let _ = self.over.try_set(over);
         self.sleep.unpark();
     }
 }
@@ -54,9 +65,9 @@ pub fn hang_bells(alloc: Global, count: usize) -> Result<Vec<Wake>, RunFault>
 }
 
 /// Tells all screens that the evening is over.
-pub fn end_all(wakes: &[Wake]) {
+pub fn end_all(wakes: &[Wake], over: Over) {
     for wake in wakes {
-        wake.end();
+        wake.end(over);
     }
 }
 
@@ -85,12 +96,19 @@ impl Ring for Bells<'_> {
     }
 }
 
-/// The bell of one screen, at the ear of its thread. It tells the end once.
+/// What shows that the end was told to a pass, as it was then: its bell was ended.
+#[derive(Drop)]
+struct Told<'w, P> {
+    pass: Snapshot<P>,
+    over: OnceToken<'w, Over>,
+}
+
+/// The bell of one screen, at the ear of its thread. It tells the end once, after the bell was ended.
 #[derive(Drop)]
 pub struct Ear<'w, P> {
     wake: &'w Wake,
     waited: Option<Snapshot<P>>,
-    told: Option<Snapshot<P>>,
+    told: Option<Told<'w, P>>,
 }
 
 impl<'w, P> Ear<'w, P> {
@@ -112,15 +130,21 @@ impl<B: LiveBoard, V> Bell<B, V> for Ear<'_, B::ReaderPass> {
 
     ghost waited = { λ ear. option_map (λ pass. pass.value) ear.waited };
 
-    ghost ends = { λ ear. option_to_list (option_map (λ pass. pass.value) ear.told) };
+    ghost ends = { λ ear. option_to_list (option_map (λ told. told.pass.value) ear.told) };
 
     fn next<R: Wait>(&mut self, rt: &R, pass: &B::ReaderPass, _screen: &Screen<B, V>) -> bool {
         self.wake.sleep.park(rt);
         self.waited = Some(Snapshot::of(pass));
-        if self.told.is_none() && self.wake.is_over.load(Ordering::SeqCst) {
-            self.told = Some(Snapshot::of(pass));
-            return false;
+        if self.told.is_some() {
+            return true;
         }
-        true
+        let Some(over) = self.wake.over.witness() else {
+            return true;
+        };
+        self.told = Some(Told {
+            pass: Snapshot::of(pass),
+            over,
+        });
+        false
     }
 }

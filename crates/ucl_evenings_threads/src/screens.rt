@@ -6,10 +6,10 @@ ghost use mathlib.Core.List.{IsPrefix};
 ghost use Rattle.ucl_evenings.specs.Showing.{AreFew, GoesOnOrStays, IsScreenOn, standing};
 ghost use Rattle.ucl_evenings_threads.specs.Runs.{HasLookedOn, HasShownAbove, HaveRun, IsOfThreads, IsReadyToLook, IsReadyToRun};
 
-use crate::bells::{Ear, Wake, end_all};
+use crate::bells::{Ear, Over, Wake, end_all};
 use crate::lists::{put, take_last};
 use crate::reporters::run_reporters;
-use crate::workers::{Enlisted, Looked, Looking, ReporterEnd, ScreenEnd};
+use crate::workers::{Enlisted, Looking, ReporterEnd, ScreenEnd};
 use std::alloc::Global;
 use std::snapshot::Snapshot;
 use std::sync::Wait;
@@ -28,7 +28,7 @@ fn look<B: LiveBoard, V: Sink, R: Wait>(
     wake: &Wake,
     roster: &Roster,
     looking: Looking<B::ReaderPass, Screen<B, V>>,
-) -> Looked<B::ReaderPass, Screen<B, V>>
+) -> ScreenEnd<B::ReaderPass, Screen<B, V>>
     requires ready { IsReadyToLook B.LiveBoard board.now roster.now looking }
     ensures { HasLookedOn B.LiveBoard board.entry.now V.Sink roster.entry.now looking result }
 {
@@ -38,7 +38,7 @@ fn look<B: LiveBoard, V: Sink, R: Wait>(
     } = looking;
     let mut ear = Ear::at(wake);
     let result = show_boards(rt, alloc, board, &mut pass, &mut ear, roster, &mut screen);
-    Looked {
+    ScreenEnd {
         pass,
         screen,
         result,
@@ -53,7 +53,7 @@ pub struct LookingOn<B: LiveBoard, V> {
     looking: Snapshot<Looking<B::ReaderPass, Screen<B, V>>>,
 }
 
-impl<B: LiveBoard, V: Sink> Promise<Looked<B::ReaderPass, Screen<B, V>>> for LookingOn<B, V> {
+impl<B: LiveBoard, V: Sink> Promise<ScreenEnd<B::ReaderPass, Screen<B, V>>> for LookingOn<B, V> {
     ghost kept_by = { λ p end.
         HasLookedOn B.LiveBoard p.board.value V.Sink p.roster.value p.looking.value end };
 }
@@ -67,7 +67,7 @@ fn start_screen<'s, E, B: LiveBoard, V: Sink + Send + Drop + 's, R: Wait + Sync>
     wake: &'s Wake,
     roster: &'s Roster,
     looking: Looking<B::ReaderPass, Screen<B, V>>,
-) -> Result<PromisedHandle<Looked<B::ReaderPass, Screen<B, V>>, LookingOn<B, V>>, RunFault>
+) -> Result<PromisedHandle<ScreenEnd<B::ReaderPass, Screen<B, V>>, LookingOn<B, V>>, RunFault>
 where
     B::ReaderPass: 's,
     requires ready { IsReadyToLook B.LiveBoard board.now roster.now looking }
@@ -83,7 +83,7 @@ where
     };
     let started = scope.spawn_with(
         promise,
-        move || -> Looked<B::ReaderPass, Screen<B, V>>
+        move || -> ScreenEnd<B::ReaderPass, Screen<B, V>>
             requires { IsReadyToLook B.LiveBoard board.now roster.now looking }
             ensures { HasLookedOn B.LiveBoard board.entry.now V.Sink roster.entry.now looking
                 result }
@@ -99,7 +99,7 @@ fn finish<B: LiveBoard, V: Sink, R: Wait>(
     board: &B,
     pass: &mut B::ReaderPass,
     roster: &Roster,
-    looked: Looked<B::ReaderPass, Screen<B, V>>,
+    looked: ScreenEnd<B::ReaderPass, Screen<B, V>>,
 ) -> ScreenEnd<B::ReaderPass, Screen<B, V>>
     requires own { B.is_reader board.now pass.old × B.is_reader board.now looked.pass }
     requires screen { IsScreenOn board.now roster.now looked.screen }
@@ -112,7 +112,7 @@ fn finish<B: LiveBoard, V: Sink, R: Wait>(
         → HasShownAbove B.LiveBoard board.now V.Sink roster.now
         (B.reader result.pass).seen (length (B.reader pass.old).seen) looking result }
 {
-    let Looked {
+    let ScreenEnd {
         pass: mut theirs,
         mut screen,
         result,
@@ -175,7 +175,7 @@ where
 {
     let Some(looking) = take_last(&mut screens) else {
         let run = run_reporters(scope, rt, alloc, board, wakes, roster, pass, all);
-        end_all(wakes);
+        end_all(wakes, Over::after(&run));
         let reporters = run?;
         return Ok(Ran {
             screens: Vec::new(alloc),
@@ -186,7 +186,7 @@ where
     let worker = match start_screen(scope, rt, alloc, board, wake, roster, looking) {
         Ok(worker) => worker,
         Err(fault) => {
-            end_all(wakes);
+            end_all(wakes, Over::after::<B::ReporterPass, S, W>(&Err(fault)));
             return Err(fault);
         }
     };

@@ -53,11 +53,3 @@ pub struct Looking<P, X> {
     pub pass: P,
     pub screen: X,
 }
-
-/// A screen whose thread has ended.
-#[derive(Drop)]
-pub struct Looked<P, X> {
-    pub pass: P,
-    pub screen: X,
-    pub result: Result<(), RunFault>,
-}

@@ -24,28 +24,6 @@ pub struct Entering<'n, B: LiveBoard, G: Gate> {
     reporter: u8,
 }
 
-impl<'n, B: LiveBoard, G: Gate> Entering<'n, B, G> {
-    /// The promise of a reporter who enters its rows with this pass.
-    fn of(
-        board: &B,
-        plan: &Plan<'n, G>,
-        before: &B::ReporterPass,
-        reporter: u8,
-    ) -> Entering<'n, B, G>
-        ensures board { result.board.value ≡ board.now }
-        ensures plan { result.plan.value ≡ plan.now }
-        ensures before { result.before.value ≡ before.now }
-        ensures reporter { result.reporter ≡ reporter }
-    {
-        Entering {
-            board: Snapshot::of(board),
-            plan: Snapshot::of(plan),
-            before: Snapshot::of(before),
-            reporter,
-        }
-    }
-}
-
 impl<'n, B: LiveBoard, G: Gate> Promise<B::ReporterPass> for Entering<'n, B, G> {
     ghost kept_by = { λ p pass.
         HasEnteredOn B.LiveBoard p.board.value p.plan.value p.before.value p.reporter pass };
@@ -57,24 +35,6 @@ pub struct Showing<'n, B: LiveBoard, G: Gate> {
     board: Snapshot<B>,
     plan: Snapshot<Plan<'n, G>>,
     before: Snapshot<B::ReaderPass>,
-    worker: u8,
-}
-
-impl<'n, B: LiveBoard, G: Gate> Showing<'n, B, G> {
-    /// The promise of a reader who takes its readings with this pass.
-    fn of(board: &B, plan: &Plan<'n, G>, before: &B::ReaderPass, worker: u8) -> Showing<'n, B, G>
-        ensures board { result.board.value ≡ board.now }
-        ensures plan { result.plan.value ≡ plan.now }
-        ensures before { result.before.value ≡ before.now }
-        ensures worker { result.worker ≡ worker }
-    {
-        Showing {
-            board: Snapshot::of(board),
-            plan: Snapshot::of(plan),
-            before: Snapshot::of(before),
-            worker,
-        }
-    }
 }
 
 impl<'n, B: LiveBoard, G: Gate> Promise<Result<Shown<B::ReaderPass>, OutOfMemory>>
@@ -104,7 +64,12 @@ where
     ensures before { IfOk result (λ worker. worker.promise.before.value ≡ pass) }
     ensures reporter { IfOk result (λ worker. worker.promise.reporter ≡ reporter) }
 {
-    let promise = Entering::of(board, plan, &pass, reporter);
+    let promise = Entering {
+        board: Snapshot::of(board),
+        plan: Snapshot::of(plan),
+        before: Snapshot::of(&pass),
+        reporter,
+    };
     let started = scope.spawn_with(
         promise,
         move || -> B::ReporterPass
@@ -141,9 +106,12 @@ where
     ensures board { IfOk result (λ worker. worker.promise.board.value ≡ board.now) }
     ensures plan { IfOk result (λ worker. worker.promise.plan.value ≡ plan.now) }
     ensures before { IfOk result (λ worker. worker.promise.before.value ≡ pass) }
-    ensures worker { IfOk result (λ started. started.promise.worker ≡ worker) }
 {
-    let promise = Showing::of(board, plan, &pass, worker);
+    let promise = Showing {
+        board: Snapshot::of(board),
+        plan: Snapshot::of(plan),
+        before: Snapshot::of(&pass),
+    };
     let started = scope.spawn_with(
         promise,
         move || -> Result<Shown<B::ReaderPass>, OutOfMemory>

@@ -11,9 +11,10 @@ use Rattle.ucl_evenings_threads.proofs.screens.+run_screens.Goals as goal
 pub returns-in_default-clause-ran : goal.returns-in_default-clause-ran
 returns-in_default-clause-ran g t c =
     let known = g.B.LiveBoard.reader in
-    let run = c.in_ok-reporters.ensures in
+    let run = c.run_reporters-run.ensures in
     ran_first g.B.LiveBoard c.args.board.now g.S.Source g.W.Sink g.V.Sink c.args.roster.now (known c.args.pass.now).seen (known c.run_reporters-run.new.pass).seen
-    c.args.screens.items c.args.all.items _ c.in_default.ensures.none c.new.ensures.items (stays_prefix _ _ c.run_reporters-run.ensures.always) run.run run.heard
+    c.args.screens.items c.args.all.items _ c.in_default.ensures.none c.new.ensures.items (stays_prefix _ _ run.always)
+    (rw c.in_ok-reporters.was at run.run) (rw c.in_ok-reporters.was at run.heard)
 
 pub start_screen-requires-clause-ready : goal.start_screen-requires-clause-ready
 start_screen-requires-clause-ready g t c κs within =
