@@ -242,9 +242,11 @@ def test_json(run):
     clubs = [("Bravo", 1, 2, 1), ("Charlie", 2, 3, 1), ("Delta", 3, 4, 0), ('Al\\"p\\\\h/a', 4, 1, 0)]
     table = ",".join(place.format(name, at, slot, d=drawn) for name, at, slot, drawn in clubs)
     stands = '{"expulsions":[0,0],"match":1,"number":1,"reporter":1,"score":[0,0],"state":"IN PLAY","yellows":[0,0]}'
+    scheduled = [stands.replace('"match":1,"number":1,"reporter":1', f'"match":{game},"number":0,"reporter":0').replace("IN PLAY", "SCHEDULED") for game in range(2, 13)]
     wanted = [
         "{" + moment.replace(',"group"', ',"edition":0,"event":"kickoff","expected":0,"group"') + '"match":1,"number":1,"order":"uefa","reply":"ok","reporter":1,"row":5,"version":1,' + words + "}",
-        "{" + moment.replace(',"group"', ',"edition":0,"group"') + '"in_play":1,"order":"uefa","reply":"screen","row":5,"table":[' + table + '],"version":1,' + words + "}",
+        "{" + moment.replace(',"group"', ',"edition":0,"group"') + '"in_play":1,"matches":[' + ",".join([stands, *scheduled]) + '],"order":"uefa","reply":"screen","row":5,"table":['
+        + table + '],"version":1,' + words + "}",
         '{"code":1,"event":"kickoff","expected":0,"match":1,"name":"stale","number":1,"reply":"refused","reporter":1,"row":6,"stands":' + stands + "}",
         '{"code":20,"field":"fields","name":"bad-row","reply":"refused","row":7,"text":"x"}',
         '{"code":3,"event":"goal-home","expected":0,"match":2,"name":"not-started","reply":"refused","reporter":2,"row":8}',
