@@ -74,7 +74,7 @@ def calls_in(text):
 
 
 @pytest.mark.quick
-@pytest.mark.parametrize("crates, tests", [(["ucl_pass", "ucl_shared"], "cell_board"), (["ucl_words"], "word_board")], ids=str)
+@pytest.mark.parametrize("crates, tests", [(["ucl_pass", "ucl_live_board"], "cell_board"), (["ucl_words"], "word_board")], ids=str)
 def test_doc_comments(crates, tests):
     """Each public call has one example of 3 to 10 lines, which calls it, and is the body of one test; and each such test, and block, is an example."""
     text = text_of(TOP / f"crates/ucl_boards_tests/src/{tests}/examples.rt")

@@ -11,7 +11,8 @@ use Rattle.ucl_screen.specs.declared.fault.InputFault.TheVariants as input
 use Rattle.ucl_screen.specs.Script.{Script, night_of}
 use Rattle.ucl_screen.specs.WordsRead.{is_word, read_words}
 use Rattle.ucl_c.specs.declared.fault.Fault.{Fault}
-use Rattle.ucl_c.specs.declared.fault.Fault.TheVariants.{BadWord, BadRow, BadRoster, OutOfMemory, TooLong, FullBoard, NoReporter, NoKind, NoProfile, NoGroup, NotTwelve, NotFour, NoRoom, NotFourRows, NoStatus, InUse, NoPass, NotAReader, NoMatch, NotAReporter}
+use Rattle.ucl_c.specs.declared.fault.Fault.TheVariants.{BadWord, BadRow, BadRoster, OutOfMemory, TooLong, FullBoard, NoReporter, NoKind, NoProfile, NoGroup}
+use Rattle.ucl_c.specs.declared.fault.Fault.TheVariants.{NotTwelve, NotFour, NoRoom, NotFourRows, NoStatus, InUse, NoPass, NotAReader, NoMatch, NotAReporter}
 
 abbrev pub fault_code : Fault → ℕ
 fault_code (BadWord index) = 10

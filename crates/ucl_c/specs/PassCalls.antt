@@ -4,10 +4,10 @@ use Rattle.ucl_word.specs.declared.event.EventCall.{EventCall}
 use Rattle.ucl_word.specs.declared.event.Accepted.{Accepted}
 use Rattle.ucl_word.specs.declared.refusal.Refusal.{Refusal}
 use Rattle.ucl_word.specs.Names.{found_of, kind_with, refusal_code}
-use Rattle.ucl_c_boards.specs.declared.board_pass.AnyPass.{AnyPass}
-use Rattle.ucl_c_boards.specs.declared.board_pass.WhyNot.{WhyNot}
-use Rattle.ucl_c_boards.specs.declared.board_pass.WhyNot.TheVariants as cause
-use Rattle.ucl_c_boards.specs.BoardPasses.{IsReported, fault_of_report, fault_of_read}
+use Rattle.ucl_c_handles.specs.declared.board_pass.AnyPass.{AnyPass}
+use Rattle.ucl_c_handles.specs.declared.board_pass.WhyNot.{WhyNot}
+use Rattle.ucl_c_handles.specs.declared.board_pass.WhyNot.TheVariants as cause
+use Rattle.ucl_c_handles.specs.BoardPasses.{IsReported, fault_of_report, fault_of_read}
 use Rattle.ucl_c.specs.declared.fault.Fault.{Fault}
 use Rattle.ucl_c.specs.declared.fault.Fault.TheVariants.{OutOfMemory, FullBoard, InUse, NoPass, NotAReader, NoMatch, NotAReporter}
 use Rattle.ucl_c.specs.Faults.{first_fault, fault_of_kind, fault_of_twelve, fault_unless}

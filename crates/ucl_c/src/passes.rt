@@ -2,10 +2,10 @@
 
 ghost use Rattle.std.specs.Prelude.{◌≡◌, ◌≢◌, ◌↔◌, IsSome, IfSome, IfOk, IfErr, None, Some, length};
 ghost use Rattle.ucl_board.specs.Fixtures.{IsMatch};
-ghost use Rattle.ucl_c_boards.specs.declared.board_pass.AnyPass.TheVariants.{Nobody};
-ghost use Rattle.ucl_c_boards.specs.declared.board_pass.WhyNot.{WhyNot};
-ghost use Rattle.ucl_c_boards.specs.BoardPasses.{IsOpened, IsSplit, IsEnlisted, IsRead, IsNumberOf, cause_of, fault_of_split};
-ghost use Rattle.ucl_c_boards.specs.Handles.{pass_held, first_cause, fault_of_room, IsNotEnlistedIn};
+ghost use Rattle.ucl_c_handles.specs.declared.board_pass.AnyPass.TheVariants.{Nobody};
+ghost use Rattle.ucl_c_handles.specs.declared.board_pass.WhyNot.{WhyNot};
+ghost use Rattle.ucl_c_handles.specs.BoardPasses.{IsOpened, IsSplit, IsEnlisted, IsRead, IsNumberOf, cause_of, fault_of_split};
+ghost use Rattle.ucl_c_handles.specs.Handles.{pass_held, first_cause, fault_of_room, IsNotEnlistedIn};
 ghost use Rattle.ucl_c.specs.declared.fault.Fault.{Fault};
 ghost use Rattle.ucl_c.specs.Faults.{fault_code};
 ghost use Rattle.ucl_c.specs.PassCalls.{IsCallOf, IsReply, fault_because, fault_of_call, fault_of_event, fault_of_number, fault_of_reading, expected_told, number_after, status_of_reply};
@@ -13,7 +13,7 @@ ghost use Rattle.ucl_c.specs.PassCalls.{IsCallOf, IsReply, fault_because, fault_
 use crate::codes::tell_refusal;
 use crate::fault::{Fault, fault_code};
 use std::alloc::Global;
-use ucl_c_boards::{Handle, WhyNot};
+use ucl_c_handles::{Handle, WhyNot};
 use ucl_word::{Accepted, EventCall, Kind, MatchNo, Refusal};
 
 /// The fault that a cause is for C.

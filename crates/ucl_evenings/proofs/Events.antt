@@ -12,8 +12,8 @@ use Rattle.ucl_board.specs.declared.entry.Entry.{Entry}
 use Rattle.ucl_board.specs.declared.reading.Reading.{Reading}
 use Rattle.ucl_board.specs.History.{board_of, entry_of, sequential_reply}
 use Rattle.ucl_board.proofs.Beginnings.{at_beginning, begins_length, take_beginning, take_whole}
-use Rattle.ucl_shared.specs.Passes.{PassView, IsSound, Continues, ReportsMore, AcceptedReport, RefusedReport, SharedReading}
-use Rattle.ucl_shared.proofs.Lists.{unchanged}
+use Rattle.ucl_live_board.specs.Passes.{PassView, IsSound, Continues, ReportsMore, AcceptedReport, RefusedReport, SharedReading}
+use Rattle.ucl_live_board.proofs.Lists.{unchanged}
 use Rattle.ucl_runs.proofs.EnteredRows.{goes_on}
 use Rattle.ucl_evenings.specs.Reporting.{Entered, EventOutcome, IsAmong, IsNoOlder, IsReadingFrom, MomentsHaveTheirEvents, Refused}
 use Rattle.ucl_evenings.specs.Reporting.{IsOutcomeAt, past_point, GoThrough, entered_by, entered_in, accepted_in, HasReportedRows, RangFor}

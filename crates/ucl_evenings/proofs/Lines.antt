@@ -4,7 +4,7 @@ use Rattle.ucl_word.specs.declared.event.Accepted.{Accepted}
 use Rattle.ucl_word.specs.declared.event.EventCall.{EventCall}
 use Rattle.ucl_word.specs.declared.refusal.Refusal.{Refusal}
 use Rattle.ucl_board.specs.declared.reading.Reading.{Reading}
-use Rattle.ucl_shared.specs.Passes.{AcceptedReport, Continues, IsSound, PassView, RefusedReport, ReportsMore, SharedReading}
+use Rattle.ucl_live_board.specs.Passes.{AcceptedReport, Continues, IsSound, PassView, RefusedReport, ReportsMore, SharedReading}
 use Rattle.ucl_runs.specs.BadRows.{shown_text}
 use Rattle.ucl_evenings.specs.declared.input.Input.{Input}
 use Rattle.ucl_evenings.specs.declared.input.Input.TheVariants.{Event}

@@ -12,7 +12,7 @@ use Rattle.ucl_io.specs.Turns.{AreGiven, AreTurns, KeptBack, StopsNext, Turn, li
 use Rattle.ucl_io.specs.Pumping.{LineRules, HasClosed, HasMade, IsPromptAt, Pumped, Seen, StopsLast, is_source_failed, rules_of}
 use Rattle.ucl_io.proofs.Calls.{logs-as}
 use Rattle.ucl_io.proofs.Turns.{lines_count as turns_count}
-use Rattle.ucl_shared.specs.Passes.{PassView, IsSound}
+use Rattle.ucl_live_board.specs.Passes.{PassView, IsSound}
 use Rattle.ucl_runs.specs.declared.fault.RunFault.{RunFault}
 use Rattle.ucl_runs.specs.declared.fault.RunFault.TheVariants.{OutOfMemory}
 use Rattle.ucl_command.specs.declared.options.Format.TheVariants.{Json}

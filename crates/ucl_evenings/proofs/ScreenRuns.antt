@@ -7,7 +7,7 @@ use Rattle.ucl_board.specs.declared.reading.Reading.{Reading}
 use Rattle.ucl_order.specs.Roster.{NamedClub}
 use Rattle.ucl_runs.specs.declared.fault.RunFault.{RunFault}
 use Rattle.ucl_runs.specs.declared.fault.RunFault.TheVariants.{Input, OutOfMemory, WriteFailed, NotOnDuty, NoThread, TooManyReporters, Strangers}
-use Rattle.ucl_shared.specs.Passes.{PassView, Continues, SharedReading}
+use Rattle.ucl_live_board.specs.Passes.{PassView, Continues, SharedReading}
 use Rattle.ucl_evenings.specs.declared.shape.Shape.{Shape}
 use Rattle.ucl_evenings.specs.Showing.{AreFew, EndsWithLatest, HasReadSince, HasRisen, HasShownLast, FailsToShowReading, HasShownReading, Screening, screens_shown}
 use Rattle.ucl_evenings.specs.Showing.{ShowsSince, SoFar, ends_by}

@@ -14,7 +14,7 @@ use Rattle.ucl_runs.specs.declared.fault.RunFault.TheVariants.{WriteFailed}
 use Rattle.ucl_io.specs.Output.{StoppedShort}
 use Rattle.ucl_runs.proofs.EnteredRows.{goes_on}
 use Rattle.ucl_runs.proofs.NightParts.{stopped_second}
-use Rattle.ucl_shared.specs.Passes.{PassView, Continues, SharedReading}
+use Rattle.ucl_live_board.specs.Passes.{PassView, Continues, SharedReading}
 use Rattle.ucl_evenings.specs.declared.shape.Shape.{Shape}
 use Rattle.ucl_evenings.specs.Showing.{AreFew, EndsWithLatest, GoesOnOrStays, HasRisen, HasShownReading, IsLastBefore, RiseWithin, Screening, SoFar, no_screen, screen_in_shape, screens_shown}
 

@@ -5,7 +5,7 @@ use Rattle.ucl_word.specs.declared.refusal.Refusal.{Refusal}
 use Rattle.ucl_board.specs.declared.entry.Entry.{Entry}
 use Rattle.ucl_board.specs.declared.reading.Reading.{Reading}
 use Rattle.ucl_board.specs.History.{entry_of, sequential_reply, snapshot_at}
-use Rattle.ucl_shared.specs.Passes.{PassView, Continues, ReportsMore}
+use Rattle.ucl_live_board.specs.Passes.{PassView, Continues, ReportsMore}
 
 -- how an event went: it was accepted, and has this number, or it was refused; with a reading that was taken after it
 pub data EventOutcome : Type 0 where

@@ -6,7 +6,7 @@ use Rattle.ucl_screen.specs.declared.fault.InputFault.TheVariants.{ReadFailed, T
 use Rattle.ucl_runs.specs.declared.fault.RunFault.{RunFault}
 use Rattle.ucl_runs.specs.declared.fault.RunFault.TheVariants.{Input, OutOfMemory, WriteFailed}
 use Rattle.ucl_io.specs.Output.{StoppedShort}
-use Rattle.ucl_shared.specs.Passes.{PassView, ReportsMore}
+use Rattle.ucl_live_board.specs.Passes.{PassView, ReportsMore}
 use Rattle.ucl_command.specs.declared.options.Format.{Format}
 use Rattle.ucl_command.specs.declared.options.Format.TheVariants.{Json}
 use Rattle.ucl_io.specs.Lines.{ended_lines}

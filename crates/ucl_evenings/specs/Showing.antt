@@ -8,7 +8,7 @@ use Rattle.ucl_order.specs.Roster.{NamedClub}
 use Rattle.ucl_runs.specs.declared.fault.RunFault.{RunFault}
 use Rattle.ucl_runs.specs.declared.fault.RunFault.TheVariants.{OutOfMemory, WriteFailed}
 use Rattle.ucl_io.specs.Output.{StoppedShort}
-use Rattle.ucl_shared.specs.Passes.{PassView, Continues}
+use Rattle.ucl_live_board.specs.Passes.{PassView, Continues}
 use Rattle.ucl_evenings.specs.declared.shape.Shape.{Shape}
 use Rattle.ucl_runs.specs.LiveText.{screen_answer}
 use Rattle.ucl_evenings.specs.declared.screen.Screen.{Screen}

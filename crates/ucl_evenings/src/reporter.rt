@@ -1,7 +1,7 @@
 //! A reporter of an evening, whose pass answers lines.
 
 ghost use Rattle.std.specs.Prelude.{◌≡◌, ◌∷◌, []};
-ghost use Rattle.ucl_shared.specs.Passes.{IsSound};
+ghost use Rattle.ucl_live_board.specs.Passes.{IsSound};
 ghost use Rattle.ucl_runs.specs.InputLines.{last_lines};
 ghost use Rattle.ucl_evenings.specs.Answering.{reply_style};
 ghost use Rattle.ucl_evenings.specs.Rows.{HasNoMemory, TurnsLines};
@@ -16,7 +16,7 @@ use ucl_runs::{Answer, LineReader, RunFault};
 use ucl_io::LineMachine;
 use ucl_order::Roster;
 use ucl_screen::NightEvent;
-use ucl_shared::LiveBoard;
+use ucl_live_board::LiveBoard;
 
 /// A reporter: the board, its pass, what it rings, and how it is answered.
 pub struct Reporter<'a, B: LiveBoard, V: Ring, R: Wait> {

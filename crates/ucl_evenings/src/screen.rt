@@ -14,7 +14,7 @@ use ucl_json::edition_screen_json;
 use ucl_order::Roster;
 use ucl_runs::{RunFault, put_bytes};
 use ucl_screen::{Sink, screen};
-use ucl_shared::LiveBoard;
+use ucl_live_board::LiveBoard;
 
 /// The text of a screen, which has this number.
 fn screen_of(

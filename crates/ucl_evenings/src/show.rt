@@ -1,7 +1,7 @@
 //! A screen of an evening, in a thread of its own.
 
 ghost use Rattle.std.specs.Prelude.{◌≡◌, ◌+◌, ◌≤◌, IfErr, None, OnOk, length};
-ghost use Rattle.ucl_shared.specs.Passes.{Continues};
+ghost use Rattle.ucl_live_board.specs.Passes.{Continues};
 ghost use Rattle.ucl_runs.specs.Run.{SinkFails};
 ghost use Rattle.ucl_evenings.specs.Showing.{AreFew, EndWasTold, IsScreenOn, ShowsFurther, StaysScreen, standing};
 
@@ -11,7 +11,7 @@ use std::sync::Wait;
 use ucl_order::Roster;
 use ucl_runs::RunFault;
 use ucl_screen::Sink;
-use ucl_shared::LiveBoard;
+use ucl_live_board::LiveBoard;
 
 /// What a screen waits for between two readings.
 pub trait Bell<B: LiveBoard, V> {

@@ -1,7 +1,7 @@
 //! A reporter of an evening, in a thread of its own.
 
 ghost use Rattle.std.specs.Prelude.{◌≡◌, IfErr, OnOk};
-ghost use Rattle.ucl_shared.specs.Passes.{IsSound};
+ghost use Rattle.ucl_live_board.specs.Passes.{IsSound};
 ghost use Rattle.ucl_runs.specs.Run.{SinkFails, is_read_failed};
 ghost use Rattle.ucl_io.specs.Calls.{LogsCalls, device};
 ghost use Rattle.ucl_evenings.specs.Answering.{reply_style};
@@ -14,7 +14,7 @@ use std::sync::Wait;
 use ucl_io::{Duplex, pump};
 use ucl_runs::{MOST_LINE_BYTES, RunFault};
 use ucl_screen::{Sink, Source};
-use ucl_shared::LiveBoard;
+use ucl_live_board::LiveBoard;
 
 /// Each answer is written before the next row is entered.
 const PAGE: usize = 0;

@@ -7,11 +7,11 @@ use Rattle.ucl_board.proofs.Beginnings.{begins_same}
 use Rattle.ucl_order.specs.Roster.{NamedClub}
 use Rattle.ucl_runs.specs.declared.fault.RunFault.{RunFault}
 use Rattle.ucl_evenings.specs.declared.screen.Screen.{Screen}
-use Rattle.ucl_shared.specs.Passes.{Continues, PassView}
+use Rattle.ucl_live_board.specs.Passes.{Continues, PassView}
 use Rattle.ucl_evenings.specs.declared.shape.Shape.{Shape}
 use Rattle.ucl_evenings.specs.Showing.{EndsWithLatest, RiseWithin, ScreensEnd, Screening, ShowsFurther, ShowsSince, StaysScreen, screens_shown, standing}
 use Rattle.ucl_io.specs.declared.stream.Sink as sinks
-use Rattle.ucl_shared.specs.declared.live_board.LiveBoard as boards
+use Rattle.ucl_live_board.specs.declared.live_board.LiveBoard as boards
 use Rattle.ucl_evenings_threads.specs.declared.workers.ScreenEnd.{ScreenEnd}
 use Rattle.ucl_evenings_threads.specs.declared.workers.Looking.{Looking}
 use Rattle.ucl_evenings_threads.specs.declared.workers.Looked.{Looked}

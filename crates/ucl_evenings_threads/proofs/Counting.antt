@@ -10,8 +10,8 @@ use Rattle.std.proofs.lemmas.List.Filters.{length-filter_both}
 use mathlib.Core.List.{IsPrefix}
 use Rattle.ucl_board.specs.declared.entry.Entry.{Entry}
 use Rattle.ucl_board.proofs.Beginnings.{begins_through}
-use Rattle.ucl_shared.specs.Passes.{PassView, entries_by}
-use Rattle.ucl_shared.proofs.Lists.{by_more}
+use Rattle.ucl_live_board.specs.Passes.{PassView, entries_by}
+use Rattle.ucl_live_board.proofs.Lists.{by_more}
 use Rattle.ucl_evenings_threads.specs.Whole.{IsOneOf, IsSeenIn, IsTheirs, NumbersRise, AreTallied, accepted_by_all}
 use Rattle.ucl_evenings_threads.specs.declared.tally.Tally.{Tally}
 

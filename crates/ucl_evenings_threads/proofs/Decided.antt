@@ -13,8 +13,8 @@ use Rattle.ucl_board.proofs.Beginnings.{take_whole}
 use Rattle.ucl_order.specs.Roster.{NamedClub}
 use Rattle.ucl_io.specs.declared.stream.Source as sources
 use Rattle.ucl_io.specs.declared.stream.Sink as sinks
-use Rattle.ucl_shared.specs.declared.live_board.LiveBoard as boards
-use Rattle.ucl_shared.specs.Passes.{PassView, entries_by}
+use Rattle.ucl_live_board.specs.declared.live_board.LiveBoard as boards
+use Rattle.ucl_live_board.specs.Passes.{PassView, entries_by}
 use Rattle.ucl_runs.specs.declared.fault.RunFault.{RunFault}
 use Rattle.ucl_runs.specs.InputLines.{lines_of}
 use Rattle.ucl_io.specs.Calls.{Device}

@@ -6,7 +6,7 @@ use mathlib.Core.List.{IsPrefix}
 use Rattle.ucl_board.specs.declared.entry.Entry.{Entry}
 use Rattle.ucl_board.proofs.Beginnings.{begins_length, begins_through}
 use Rattle.ucl_order.specs.Roster.{NamedClub}
-use Rattle.ucl_shared.specs.Passes.{PassView, IsSound, ReportsMore}
+use Rattle.ucl_live_board.specs.Passes.{PassView, IsSound, ReportsMore}
 use Rattle.ucl_runs.specs.declared.fault.RunFault.{RunFault}
 use Rattle.ucl_runs.specs.declared.fault.RunFault.TheVariants.{Input, OutOfMemory, WriteFailed, NotOnDuty, NoThread, TooManyReporters, Strangers}
 use Rattle.ucl_evenings.specs.declared.shape.Shape.{Shape}
@@ -18,7 +18,7 @@ use Rattle.ucl_evenings.specs.Rows.{TookRows}
 use Rattle.ucl_evenings.specs.Showing.{RiseWithin, ScreensEnd, Screening, ShowsSince, SoFar, AreFew, GoesOnOrStays, screens_shown}
 use Rattle.ucl_evenings.proofs.ShownScreens.{goes_next, rise_count, rise_lower, rise_upper, screens_on}
 use Rattle.ucl_io.specs.declared.stream.Sink as sinks
-use Rattle.ucl_shared.specs.declared.live_board.LiveBoard as boards
+use Rattle.ucl_live_board.specs.declared.live_board.LiveBoard as boards
 use Rattle.ucl_evenings.specs.declared.screen.Screen.{Screen}
 use Rattle.ucl_evenings_threads.specs.declared.workers.ScreenEnd.{ScreenEnd}
 use Rattle.ucl_evenings_threads.specs.Runs.{LastIsAtLeast, LastIs, HasShownOf, SinkServed}

@@ -10,8 +10,8 @@ use mathlib.Core.List.{IsPrefix}
 use Rattle.ucl_board.specs.declared.entry.Entry.{Entry}
 use Rattle.ucl_board.specs.History.{entry_of, followed_by, sequential_reply}
 use Rattle.ucl_board.proofs.Beginnings.{begins_length, begins_more, begins_none, begins_same, begins_through, take_whole}
-use Rattle.ucl_shared.specs.Passes.{PassView, IsSound, AcceptedReport, Hearing, entries_by}
-use Rattle.ucl_shared.proofs.Lists.{by_more}
+use Rattle.ucl_live_board.specs.Passes.{PassView, IsSound, AcceptedReport, Hearing, entries_by}
+use Rattle.ucl_live_board.proofs.Lists.{by_more}
 use Rattle.ucl_screen.specs.declared.night.NightEvent.{NightEvent}
 use Rattle.ucl_evenings_threads.specs.Earlier.{HaveEntered, HasInOrder, HasJustItsOwn, WasEntered, entries_for, numbers_of}
 

@@ -12,8 +12,8 @@ use Rattle.ucl_board.proofs.Beginnings.{at_beginning, begins_length, begins_take
 use Rattle.ucl_order.specs.Roster.{NamedClub}
 use Rattle.ucl_io.specs.declared.stream.Source as sources
 use Rattle.ucl_io.specs.declared.stream.Sink as sinks
-use Rattle.ucl_shared.specs.declared.live_board.LiveBoard as boards
-use Rattle.ucl_shared.specs.Passes.{PassView, Continues, SharedReading}
+use Rattle.ucl_live_board.specs.declared.live_board.LiveBoard as boards
+use Rattle.ucl_live_board.specs.Passes.{PassView, Continues, SharedReading}
 use Rattle.ucl_evenings.specs.Answering.{calls_in}
 use Rattle.ucl_evenings.specs.Reporting.{GoThrough, HasReportedRows, EventOutcome, past_point}
 use Rattle.ucl_evenings.proofs.Events.{at_on}

@@ -21,8 +21,8 @@ use Rattle.ucl_board.specs.Fixtures.{match_numbers}
 use Rattle.ucl_board.specs.History.{Attempt, board_of, entries_of, followed_by, sequential_reply, entry_of, attempted, after_attempt}
 use Rattle.ucl_board.proofs.Beginnings.{begins_length, take_whole}
 use Rattle.ucl_board.proofs.Histories.{entries_same, entries_else}
-use Rattle.ucl_shared.specs.Passes.{entries_by}
-use Rattle.ucl_shared.proofs.Lists.{by_own, by_other}
+use Rattle.ucl_live_board.specs.Passes.{entries_by}
+use Rattle.ucl_live_board.proofs.Lists.{by_own, by_other}
 use Rattle.ucl_runs.proofs.Elements.{get_some, take_one}
 use Rattle.ucl_evenings.specs.Reporting.{Entered, GoThrough, EventOutcome, Refused, accepted_in, entered_in}
 use Rattle.ucl_evenings_threads.specs.OneReporter.{AddedBy, DifferInNumber, Entering, RowsDecideTheBoard, WentThrough, attempts_of_all}

@@ -10,8 +10,8 @@ use Rattle.ucl_order.specs.Roster.{NamedClub}
 use Rattle.ucl_io.specs.declared.stream.Source as sources
 use Rattle.ucl_io.specs.declared.stream.Sink as sinks
 use Rattle.ucl_evenings.specs.declared.screen.Screen.{Screen}
-use Rattle.ucl_shared.specs.declared.live_board.LiveBoard as boards
-use Rattle.ucl_shared.specs.Passes.{PassView}
+use Rattle.ucl_live_board.specs.declared.live_board.LiveBoard as boards
+use Rattle.ucl_live_board.specs.Passes.{PassView}
 use Rattle.ucl_evenings_threads.specs.declared.screens.Ran.{Ran}
 use Rattle.ucl_evenings_threads.specs.declared.tally.Tally.{Tally}
 use Rattle.ucl_evenings_threads.specs.declared.workers.Enlisted.{Enlisted}

@@ -1,8 +1,8 @@
 -- Shares that are split off, one after the other.
 use Rattle.std.proofs.Common.{◌≡◌, List, [], ◌∷◌, ◌++◌, ℕ, zero, suc, map, get_or, set, refl, sym, ap, ◌∙◌, subst}
 use Rattle.std.specs.List.{AllZip}
-use Rattle.ucl_shared.specs.Passes.{PassView}
-use Rattle.ucl_shared.specs.Shares.{Share, first_half, second_half}
+use Rattle.ucl_live_board.specs.Passes.{PassView}
+use Rattle.ucl_live_board.specs.Shares.{Share, first_half, second_half}
 use Rattle.ucl_evenings.specs.Showing.{GoesOnOrStays}
 use Rattle.ucl_evenings_threads.specs.Runs.{WereSplitOff}
 use Rattle.ucl_evenings_threads.proofs.Zips.{map_push}

@@ -4,8 +4,8 @@ use Rattle.std.specs.Result.{is_ok}
 use mathlib.Core.List.{IsPrefix}
 use Rattle.ucl_board.specs.declared.entry.Entry.{Entry}
 use Rattle.ucl_board.specs.History.{after_attempt, board_of, entry_of, followed_by, sequential_reply}
-use Rattle.ucl_shared.specs.declared.live_board.LiveBoard as boards
-use Rattle.ucl_shared.specs.Passes.{PassView, entries_by}
+use Rattle.ucl_live_board.specs.declared.live_board.LiveBoard as boards
+use Rattle.ucl_live_board.specs.Passes.{PassView, entries_by}
 use Rattle.ucl_screen.specs.declared.fault.InputFault.TheVariants.{BadRow}
 use Rattle.ucl_board.specs.Words.{greatest_version}
 use Rattle.ucl_board.specs.Ways.{IsFirstUnreached, words_under}

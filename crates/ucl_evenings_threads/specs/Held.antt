@@ -7,9 +7,9 @@ use Rattle.ucl_board.specs.History.{snapshot_at}
 use Rattle.ucl_order.specs.Roster.{NamedClub}
 use Rattle.ucl_io.specs.declared.stream.Source as sources
 use Rattle.ucl_io.specs.declared.stream.Sink as sinks
-use Rattle.ucl_shared.specs.declared.live_board.LiveBoard as boards
-use Rattle.ucl_shared.specs.Passes.{PassView, IsSound}
-use Rattle.ucl_shared.specs.Shares.{Share}
+use Rattle.ucl_live_board.specs.declared.live_board.LiveBoard as boards
+use Rattle.ucl_live_board.specs.Passes.{PassView, IsSound}
+use Rattle.ucl_live_board.specs.Shares.{Share}
 use Rattle.ucl_evenings_threads.specs.declared.workers.Reporter.{Reporter}
 use Rattle.ucl_evenings.specs.declared.screen.Screen.{Screen}
 use Rattle.ucl_evenings_threads.specs.declared.evening.EveningEnd.{EveningEnd}

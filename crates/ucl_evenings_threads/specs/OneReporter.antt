@@ -7,8 +7,8 @@ use Rattle.ucl_word.specs.declared.event.EventCall.{EventCall}
 use Rattle.ucl_board.specs.declared.entry.Entry.{Entry}
 use Rattle.ucl_board.specs.History.{Attempt, after_attempt, attempted, board_of}
 use Rattle.ucl_io.specs.declared.stream.Source as sources
-use Rattle.ucl_shared.specs.declared.live_board.LiveBoard as boards
-use Rattle.ucl_shared.specs.Passes.{PassView, entries_by}
+use Rattle.ucl_live_board.specs.declared.live_board.LiveBoard as boards
+use Rattle.ucl_live_board.specs.Passes.{PassView, entries_by}
 use Rattle.ucl_runs.specs.InputLines.{lines_of}
 use Rattle.ucl_evenings.specs.Answering.{calls_in}
 use Rattle.ucl_evenings.specs.Reporting.{GoThrough, EventOutcome, entered_in}

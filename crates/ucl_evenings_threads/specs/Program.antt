@@ -11,7 +11,7 @@ use Rattle.ucl_runs.specs.declared.fault.RunFault.{RunFault}
 use Rattle.ucl_runs.specs.Ending.{Ends, WritesText}
 use Rattle.ucl_runs.specs.Feed.{word_lines}
 use Rattle.ucl_screen.specs.declared.night.Night.{Night}
-use Rattle.ucl_shared.specs.declared.live_board.LiveBoard as boards
+use Rattle.ucl_live_board.specs.declared.live_board.LiveBoard as boards
 use Rattle.ucl_evenings_threads.specs.declared.earlier.Earlier.{Earlier}
 use Rattle.ucl_evenings_threads.specs.declared.evening.EveningEnd.{EveningEnd}
 use Rattle.ucl_evenings_threads.specs.declared.program.Place.{Place}

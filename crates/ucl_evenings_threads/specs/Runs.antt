@@ -6,9 +6,9 @@ use Rattle.ucl_board.specs.declared.entry.Entry.{Entry}
 use Rattle.ucl_order.specs.Roster.{NamedClub}
 use Rattle.ucl_io.specs.declared.stream.Source as sources
 use Rattle.ucl_io.specs.declared.stream.Sink as sinks
-use Rattle.ucl_shared.specs.declared.live_board.LiveBoard as boards
-use Rattle.ucl_shared.specs.Passes.{PassView, IsSound, ReportsMore}
-use Rattle.ucl_shared.specs.Shares.{Share, first_half, second_half}
+use Rattle.ucl_live_board.specs.declared.live_board.LiveBoard as boards
+use Rattle.ucl_live_board.specs.Passes.{PassView, IsSound, ReportsMore}
+use Rattle.ucl_live_board.specs.Shares.{Share, first_half, second_half}
 use Rattle.ucl_runs.specs.declared.fault.RunFault.{RunFault}
 use Rattle.ucl_runs.specs.declared.fault.RunFault.TheVariants.{OutOfMemory, NoThread, TooManyReporters, Strangers}
 use Rattle.ucl_runs.specs.Run.{SinkFails, is_read_failed}

@@ -2,7 +2,7 @@
 use Rattle.std.specs.Prelude.{◌≡◌, ◌⊎◌, ℕ, ◌+◌, ◌*◌, ◌<◌, ◌≤◌, List, [], ◌∷◌, All, length}
 use mathlib.Core.List.{IsPrefix}
 use Rattle.ucl_board.specs.declared.entry.Entry.{Entry}
-use Rattle.ucl_shared.specs.Passes.{PassView, entries_by, IsSound}
+use Rattle.ucl_live_board.specs.Passes.{PassView, entries_by, IsSound}
 use Rattle.ucl_evenings_threads.specs.declared.tally.Tally.{Tally}
 
 -- how many events of all were accepted

@@ -11,7 +11,7 @@ use std::sync::atomic::{AtomicBool, Ordering};
 use std::thread::Parker;
 use ucl_evenings::{Bell, Ring, Screen};
 use ucl_runs::RunFault;
-use ucl_shared::LiveBoard;
+use ucl_live_board::LiveBoard;
 
 /// What wakes one screen. A wake that comes while the screen is awake is kept for its next sleep, and several are one.
 #[derive(Drop)]

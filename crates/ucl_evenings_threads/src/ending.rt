@@ -17,7 +17,7 @@ use ucl_board::Board;
 use ucl_command::Format;
 use ucl_evenings::Screen;
 use ucl_screen::{Sink, give_all};
-use ucl_shared::LiveBoard;
+use ucl_live_board::LiveBoard;
 
 /// What a worker of an evening is.
 #[derive(Clone, Copy, Debug, PartialEq, Eq)]

@@ -22,7 +22,7 @@ use ucl_evenings::Screen;
 use ucl_order::Roster;
 use ucl_runs::RunFault;
 use ucl_screen::{Sink, Source};
-use ucl_shared::LiveBoard;
+use ucl_live_board::LiveBoard;
 
 /// How an evening ended: `Q` is a reader's pass, `P` a reporter's, and `X` a screen, all of the board that was lent.
 #[derive(Drop)]

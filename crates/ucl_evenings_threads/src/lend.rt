@@ -3,7 +3,7 @@
 ghost use Rattle.std.specs.Prelude.{◌≡◌, IfErr, IfOk};
 ghost use mathlib.Core.List.{IsPrefix};
 ghost use Rattle.std.specs.List.{AllZip};
-ghost use Rattle.ucl_shared.specs.Shares.{first_half, second_half};
+ghost use Rattle.ucl_live_board.specs.Shares.{first_half, second_half};
 ghost use Rattle.ucl_evenings_threads.specs.Runs.{WasEnlisted, WereSplitOff, IsLooking, IsOfThreads, IsReady, shares_enlisted, shares_looking};
 
 use crate::lists::{put, take_last};
@@ -11,7 +11,7 @@ use crate::workers::{Enlisted, Looking, Reporter};
 use std::alloc::Global;
 use std::sync::Wait;
 use ucl_runs::RunFault;
-use ucl_shared::LiveBoard;
+use ucl_live_board::LiveBoard;
 
 /// Splits a pass off for a reporter, and enlists it.
 fn enlist_one<B: LiveBoard, R: Wait>(

@@ -6,7 +6,7 @@ ghost use Rattle.ucl_runs.specs.declared.fault.RunFault.TheVariants as RunFault;
 ghost use Rattle.ucl_runs.specs.Ending.{Ends};
 ghost use Rattle.ucl_screen.specs.Screen.{IsGroup};
 ghost use Rattle.ucl_screen.specs.Input.{most_bytes};
-ghost use Rattle.ucl_shared.specs.Passes.{opening_pass};
+ghost use Rattle.ucl_live_board.specs.Passes.{opening_pass};
 ghost use Rattle.ucl_evenings_threads.specs.Program.{Concludes, EndsEvening, IsAskedFor, IsEveningOf, IsWhyNotHeld, status_of_two};
 
 use crate::earlier::enter_earlier;
@@ -23,7 +23,7 @@ use ucl_json::Title;
 use ucl_order::Roster;
 use ucl_runs::{RunFault, tell};
 use ucl_screen::{Night, Sink, Source};
-use ucl_shared::LiveBoard;
+use ucl_live_board::LiveBoard;
 
 /// Where a screen goes.
 #[derive(Drop)]

@@ -2,7 +2,7 @@
 
 ghost use Rattle.std.specs.Prelude.{◌≡◌, ◌++◌, List, All, IfErr, IfOk};
 ghost use Rattle.std.specs.List.{AllZip};
-ghost use Rattle.ucl_shared.specs.Passes.{PassView};
+ghost use Rattle.ucl_live_board.specs.Passes.{PassView};
 ghost use Rattle.ucl_evenings.specs.Showing.{GoesOnOrStays};
 ghost use Rattle.ucl_evenings_threads.specs.Runs.{HasRun, IsOfThreads, IsReadyToRun, views_of};
 ghost use Rattle.ucl_evenings_threads.specs.Whole.{AreTallied, IsSeenIn};
@@ -20,7 +20,7 @@ use ucl_evenings::{Reporter, take_rows};
 use ucl_io::Duplex;
 use ucl_order::Roster;
 use ucl_screen::{Sink, Source};
-use ucl_shared::LiveBoard;
+use ucl_live_board::LiveBoard;
 
 /// What the thread of a reporter does: it takes the rows of its source, and answers them.
 fn report<B: LiveBoard, S: Source, W: Sink, R: Wait>(

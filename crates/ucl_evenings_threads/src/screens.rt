@@ -20,7 +20,7 @@ use ucl_evenings::{Screen, show_boards, show_noted};
 use ucl_order::Roster;
 use ucl_runs::RunFault;
 use ucl_screen::{Sink, Source};
-use ucl_shared::LiveBoard;
+use ucl_live_board::LiveBoard;
 
 /// What the thread of a screen does: it shows the board until the evening is over.
 fn look<B: LiveBoard, V: Sink, R: Wait>(

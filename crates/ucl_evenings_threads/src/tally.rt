@@ -2,7 +2,7 @@
 
 ghost use Rattle.std.specs.Prelude.{◌≡◌, ◌++◌, ◌∷◌, [], List, All, IfErr, IfOk, IfSome, length, map};
 ghost use mathlib.Core.List.{IsPrefix};
-ghost use Rattle.ucl_shared.specs.Passes.{Continues, IsSound, PassView, ReportsMore};
+ghost use Rattle.ucl_live_board.specs.Passes.{Continues, IsSound, PassView, ReportsMore};
 ghost use Rattle.std.specs.List.{AllZip};
 ghost use Rattle.ucl_evenings_threads.specs.Runs.{IsHandedBack, IsOfThreads};
 ghost use Rattle.ucl_evenings_threads.specs.Whole.{AreTallied, IsSeenIn};
@@ -12,7 +12,7 @@ use crate::lists::{put, take_last};
 use std::alloc::Global;
 use std::sync::Wait;
 use ucl_runs::RunFault;
-use ucl_shared::LiveBoard;
+use ucl_live_board::LiveBoard;
 
 /// How many events of some reporters were accepted, whose numbers rise, and the last of these numbers.
 #[derive(Clone, Copy, Debug)]

@@ -23,10 +23,10 @@ use Rattle.ucl_board.specs.Log.{Look, Swap, Match, Enlisted, access, Taken, step
 use Rattle.ucl_board.proofs.Histories.{board_words, word_after}
 use Rattle.ucl_board.proofs.HistoryLaws.{versions}
 use Rattle.ucl_board.proofs.Beginnings.{begins_length, begins_through}
-use Rattle.ucl_shared.specs.declared.view.View.{View}
-use Rattle.ucl_shared.specs.Passes.{IsSound, Continues, AcceptedReport, RefusedReport, SharedReading, Enlistment, Hearing}
-use Rattle.ucl_shared.specs.Views.{pass_view_of, count_of, Takes, note_of, told_by}
-use Rattle.ucl_shared.specs.Steps.{Goes}
+use Rattle.ucl_live_board.specs.declared.view.View.{View}
+use Rattle.ucl_live_board.specs.Passes.{IsSound, Continues, AcceptedReport, RefusedReport, SharedReading, Enlistment, Hearing}
+use Rattle.ucl_live_board.specs.Views.{pass_view_of, count_of, Takes, note_of, told_by}
+use Rattle.ucl_live_board.specs.Steps.{Goes}
 use Rattle.ucl_steps.specs.declared.step.Call.TheVariants as calls
 use Rattle.ucl_steps.specs.declared.trace.Reply.TheVariants as replies
 use Rattle.ucl_steps.specs.Protocol.{Answer}
@@ -34,9 +34,9 @@ use Rattle.ucl_pass.specs.declared.view.CellView.{CellView}
 use Rattle.ucl_pass.specs.CellRule.{words_after}
 use Rattle.ucl_pass.specs.CellSteps.{IsNextBoard, word_looked_at, HasSeenAll, StoresEntry, StoresReporter, LooksOnly, LooksAtMatch, LooksAtEnlisted, LooksAndShows}
 use Rattle.ucl_pass.specs.CellSteps.{after_load, HasAccepted, AreAccepting, LookOfCell, ReadOfCell}
-use Rattle.ucl_shared.specs.CallSteps.{MeetingSteps}
+use Rattle.ucl_live_board.specs.CallSteps.{MeetingSteps}
 use Rattle.ucl_pass.specs.CellCalls.{CellMissed, no_event_between, WereLost, CellReport, CellEnlistMissed, CellReading, FinishesReport, FinishesReading}
-use Rattle.ucl_shared.proofs.CallsBySteps.{takes_none, takes_on, takes_count, Stays, stays_none, stays_more, all_more}
+use Rattle.ucl_live_board.proofs.CallsBySteps.{takes_none, takes_on, takes_count, Stays, stays_none, stays_more, all_more}
 use Rattle.ucl_pass.proofs.KeptRule.{match_words, match_word, last_word}
 
 -- an exchange that was won

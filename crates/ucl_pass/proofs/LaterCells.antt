@@ -15,12 +15,12 @@ use Rattle.ucl_steps.specs.Growing.{HasGoneOn}
 use Rattle.ucl_steps.specs.Protocol.{Answer}
 use Rattle.ucl_steps.proofs.GoneOn.{actors_through, PassesGoOn, passes_through, one_goes_on, one_comes, actors_go}
 use Rattle.ucl_steps.proofs.Seats.{map_at, map_there, map_set, map_more, place_below}
-use Rattle.ucl_shared.specs.declared.view.View.{View}
-use Rattle.ucl_shared.specs.OneHistory.{KeepsOneHistory}
-use Rattle.ucl_shared.specs.Views.{newcomer}
+use Rattle.ucl_live_board.specs.declared.view.View.{View}
+use Rattle.ucl_live_board.specs.OneHistory.{KeepsOneHistory}
+use Rattle.ucl_live_board.specs.Views.{newcomer}
 use Rattle.std.specs.Prelude.{slice_index}
-use Rattle.ucl_shared.proofs.LaterLogs.{says_found, log_after, one_log, given_after}
-use Rattle.ucl_shared.proofs.KeptRule.{second_added, second_same, note_added, note_same, note_joined, joined_same}
+use Rattle.ucl_live_board.proofs.LaterLogs.{says_found, log_after, one_log, given_after}
+use Rattle.ucl_live_board.proofs.KeptRule.{second_added, second_same, note_added, note_same, note_joined, joined_same}
 use Rattle.ucl_pass.specs.declared.view.CellView.{CellView}
 use Rattle.ucl_pass.specs.CellViews.{actor_of, views_known, left_cell_pass, second_cell_pass, note_cell_pass, told_cell_pass, new_cell_pass}
 use Rattle.ucl_pass.specs.CellRule.{words_after, CellState, CellMeetsItsRule}

@@ -6,10 +6,10 @@ use Rattle.ucl_word.specs.declared.event.EventCall.{EventCall}
 use Rattle.ucl_word.specs.declared.event.Accepted.{Accepted}
 use Rattle.ucl_word.specs.declared.refusal.Refusal.{Refusal}
 use Rattle.ucl_board.specs.Log.{Taken}
-use Rattle.ucl_shared.specs.declared.view.View.{View}
-use Rattle.ucl_shared.specs.Passes.{ReportsMore}
-use Rattle.ucl_shared.specs.Views.{Takes}
-use Rattle.ucl_shared.specs.CallSteps.{steps_with}
+use Rattle.ucl_live_board.specs.declared.view.View.{View}
+use Rattle.ucl_live_board.specs.Passes.{ReportsMore}
+use Rattle.ucl_live_board.specs.Views.{Takes}
+use Rattle.ucl_live_board.specs.CallSteps.{steps_with}
 use Rattle.ucl_pass.specs.CellCalls.{CellAnswered, CellEnlistAnswered, CellEnlistMissed, CellEnlistment, CellHasReported, CellMissed, CellReport}
 
 count_more : (p : Taken → Bool) (xs ys : List Taken) → length (filter p (xs ++ ys)) ≡ length (filter p xs) + length (filter p ys)

@@ -11,8 +11,8 @@ use Rattle.ucl_board.specs.Fixtures.{IsMatch}
 use Rattle.ucl_board.specs.Words.{word_at, game_at}
 use Rattle.ucl_board.specs.History.{board_of, IsLegal, entry_of, sequential_reply}
 use Rattle.ucl_board.specs.Log.{Swap}
-use Rattle.ucl_shared.specs.Passes.{Continues, AcceptedReport, RefusedReport}
-use Rattle.ucl_shared.specs.Views.{pass_view_of}
+use Rattle.ucl_live_board.specs.Passes.{Continues, AcceptedReport, RefusedReport}
+use Rattle.ucl_live_board.specs.Views.{pass_view_of}
 use Rattle.ucl_pass.specs.declared.view.CellView.{CellView}
 use Rattle.ucl_pass.specs.CellRule.{IsUpToDate}
 use Rattle.ucl_pass.specs.CellSteps.{word_looked_at, LooksOnly, StoresEntry, HasAccepted, AreAccepting, DecidesReport, LookOfCell}

@@ -5,7 +5,7 @@ use lib.ListN.{get_elem?}
 use Rattle.ucl_word.specs.declared.event.EventCall.{EventCall}
 use Rattle.crossbeam_utils.specs.Register.{Turns}
 use Rattle.ucl_steps.specs.Growing.{HasGoneOn}
-use Rattle.ucl_shared.specs.CallSteps.{CountsReporters}
+use Rattle.ucl_live_board.specs.CallSteps.{CountsReporters}
 use Rattle.ucl_pass.specs.declared.view.CellView.{CellView}
 use Rattle.ucl_pass.specs.CellViews.{actor_of, left_cell_pass, second_cell_pass, note_cell_pass, IsCellNote, told_cell_pass, new_cell_pass}
 use Rattle.ucl_pass.specs.CellRule.{CellKeepsOneHistory, CellState, CellMeetsItsRule}

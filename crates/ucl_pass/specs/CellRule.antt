@@ -3,9 +3,9 @@ use Rattle.std.specs.Prelude.{◌≡◌, ℕ, ◌≤◌, List, [], ◌∷◌, �
 use Rattle.ucl_board.specs.declared.entry.Entry.{Entry}
 use Rattle.ucl_board.specs.History.{board_of}
 use Rattle.ucl_board.specs.Log.{history_of}
-use Rattle.ucl_shared.specs.declared.view.View.{View}
-use Rattle.ucl_shared.specs.OneHistory.{KeepsOneHistory}
-use Rattle.ucl_shared.specs.Standing.{StandsIn, StandTogether}
+use Rattle.ucl_live_board.specs.declared.view.View.{View}
+use Rattle.ucl_live_board.specs.OneHistory.{KeepsOneHistory}
+use Rattle.ucl_live_board.specs.Standing.{StandsIn, StandTogether}
 use Rattle.ucl_pass.specs.declared.view.CellView.{CellView}
 use Rattle.atomic_table.specs.declared.shared.Seat.{Seat}
 use Rattle.crossbeam_utils.specs.declared.atomic.seq_cell.Doing as cell

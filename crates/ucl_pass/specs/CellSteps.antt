@@ -9,9 +9,9 @@ use Rattle.ucl_board.specs.declared.entry.Entry.{Entry}
 use Rattle.ucl_board.specs.Words.{word_at}
 use Rattle.ucl_board.specs.History.{IsLegal, entry_of, reading_of}
 use Rattle.ucl_board.specs.Log.{AccessKind, Look, Swap, Target, Match, Enlisted, Whole, Taken}
-use Rattle.ucl_shared.specs.declared.view.View.{View}
-use Rattle.ucl_shared.specs.Views.{Takes}
-use Rattle.ucl_shared.specs.Steps.{Sees, Adds, Enlists}
+use Rattle.ucl_live_board.specs.declared.view.View.{View}
+use Rattle.ucl_live_board.specs.Views.{Takes}
+use Rattle.ucl_live_board.specs.Steps.{Sees, Adds, Enlists}
 use Rattle.ucl_steps.specs.declared.step.Call.{Call}
 use Rattle.ucl_steps.specs.declared.step.Call.TheVariants.{Event, Reading}
 use Rattle.ucl_steps.specs.declared.trace.Reply.{Reply}

@@ -4,8 +4,8 @@ use Rattle.atomic_table.specs.Seated.{TableId}
 use Rattle.atomic_table.specs.declared.shared.Seat.{Seat}
 use Rattle.crossbeam_utils.specs.declared.atomic.seq_cell.Doing as cell
 use Rattle.crossbeam_utils.specs.Seq.{cell_view}
-use Rattle.ucl_shared.specs.declared.view.View.{View}
-use Rattle.ucl_shared.specs.Views.{newcomer, opener, kept_of, second_of, note_of, told_by}
+use Rattle.ucl_live_board.specs.declared.view.View.{View}
+use Rattle.ucl_live_board.specs.Views.{newcomer, opener, kept_of, second_of, note_of, told_by}
 use Rattle.ucl_steps.specs.Protocol.{Nothing, Answer, Doing}
 use Rattle.ucl_pass.specs.declared.view.CellView.{CellView}
 use Rattle.ucl_steps.specs.Actors.{Actor}

@@ -8,7 +8,7 @@ use Rattle.ucl_steps.specs.Linearizable.{IsLinearizable}
 use Rattle.ucl_steps.specs.PassRuns.{steps_of_moves}
 use Rattle.ucl_steps.specs.Actors.{IsRunOfActors}
 use Rattle.ucl_steps.specs.Growing.{HaveGoneOn, GoesOnFrom}
-use Rattle.ucl_shared.specs.Numbers.{IsGivenAfter}
+use Rattle.ucl_live_board.specs.Numbers.{IsGivenAfter}
 use Rattle.ucl_pass.specs.declared.view.CellView.{CellView}
 use Rattle.ucl_pass.specs.CellViews.{CellPass, actors_of, views_known}
 use Rattle.ucl_pass.specs.CellCalls.{CellHasReported}

@@ -5,13 +5,13 @@ ghost use Rattle.atomic_table.specs.Seated.{TableId};
 ghost use Rattle.crossbeam_utils.specs.Seq.{cell_view};
 ghost use Rattle.ucl_board.specs.Fixtures.{IsMatch};
 ghost use Rattle.ucl_board.specs.Words.{AreWords};
-ghost use Rattle.ucl_shared.specs.Passes.{Continues, AcceptedReport, RefusedReport, SharedReading, Enlistment, FullBoard, Hearing, Meeting, opening_pass};
-ghost use Rattle.ucl_shared.specs.Views.{pass_view_of, count_of};
-ghost use Rattle.ucl_shared.specs.OneHistory.{BoardsOpenFresh};
+ghost use Rattle.ucl_live_board.specs.Passes.{Continues, AcceptedReport, RefusedReport, SharedReading, Enlistment, FullBoard, Hearing, Meeting, opening_pass};
+ghost use Rattle.ucl_live_board.specs.Views.{pass_view_of, count_of};
+ghost use Rattle.ucl_live_board.specs.OneHistory.{BoardsOpenFresh};
 ghost use Rattle.ucl_pass.specs.CellRule.{words_after, IsTheRule, IsUpToDate, CellStands, CellStandAfterSplit, SeatStands};
 ghost use Rattle.ucl_pass.specs.CellViews.{HasDoneNothing, knows, known_of, calls_at, left_cell_pass, second_cell_pass, note_cell_pass, IsCellNote};
 ghost use Rattle.ucl_pass.specs.CellSteps.{ExchangesReporter, IsNextBoard, AreAccepting, entry_at, exchange, StoresOrLooks, DecidesReport, with_one_more, LooksAtMatch, LooksAtEnlisted, LooksAndShows, LookOfCell, ReadOfCell};
-ghost use Rattle.ucl_shared.specs.CallSteps.{MeetingSteps};
+ghost use Rattle.ucl_live_board.specs.CallSteps.{MeetingSteps};
 ghost use Rattle.ucl_pass.specs.CellCalls.{CellReport, CellEnlistment, CellReading, FinishesReport, FinishesReading};
 
 use crate::passes::CellReaderPass;
@@ -25,7 +25,7 @@ use std::alloc::Global;
 use std::marker::{Brand, Model};
 use std::sync::Wait;
 use ucl_board::{Board, Reading};
-use ucl_shared::MOST_REPORTERS;
+use ucl_live_board::MOST_REPORTERS;
 use ucl_word::{Accepted, EventCall, OutOfMemory, Refusal, ReporterNo};
 
 /// A board in one sequence cell of thirteen words: the twelve matches, and the number of enlisted reporters. Contracts see which

@@ -8,7 +8,7 @@ use crate::cell_board::CellBoard;
 use crate::rule::{Adds, Asking, Counts, Enlists, LooksAt, Reads};
 use crate::view::CellView;
 use crossbeam_utils::rule::Outcome;
-use ucl_shared::LiveBoard;
+use ucl_live_board::LiveBoard;
 
 /// Each kind of step on the cell, whatever it finds, is one step in the log, of the pass that took it: so what a call's clause says of the
 /// steps of its pass counts all its loads and exchanges of these kinds, and there are no others.

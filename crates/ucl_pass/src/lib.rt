@@ -1,4 +1,4 @@
-//! A board that threads share, in one cell. What every such board is, and settling, come from `ucl_shared` and are named here too.
+//! A board that threads share, in one cell. What every such board is, and settling, come from `ucl_live_board` and are named here too.
 #![tactic(auto)]
 
 mod cell_board;
@@ -15,7 +15,7 @@ pub use laws::{
     each_cell_step_leads_on, later_cells_go_on,
 };
 pub use passes::{CellNote, CellReaderPass, CellReporterPass};
-pub use ucl_shared::{
+pub use ucl_live_board::{
     LiveBoard, MOST_REPORTERS, Strangers, TooManyReporters, View, holders_did_all,
     last_steps_see_all, settle, steps_come_last, whole_is_alone,
 };

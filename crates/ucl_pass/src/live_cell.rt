@@ -1,18 +1,18 @@
 //! The board in one cell is a live board.
 
 ghost use Rattle.std.specs.Prelude.{◌≡◌, ◌+◌, ◌<◌, [], length, IfOk, IfErr, MatchResult, true, false};
-ghost use Rattle.ucl_shared.specs.Passes.{IsSound, Continues, ReportsMore, AcceptedReport, RefusedReport, SharedReading, split_pass, Enlistment, FullBoard, Hearing, Meeting, reporter_figures};
-ghost use Rattle.ucl_shared.specs.Views.{pass_view_of, count_of, kept_of};
+ghost use Rattle.ucl_live_board.specs.Passes.{IsSound, Continues, ReportsMore, AcceptedReport, RefusedReport, SharedReading, split_pass, Enlistment, FullBoard, Hearing, Meeting, reporter_figures};
+ghost use Rattle.ucl_live_board.specs.Views.{pass_view_of, count_of, kept_of};
 ghost use Rattle.ucl_pass.specs.CellRule.{IsUpToDate, PassStands, CellStandAfterSplit};
 ghost use Rattle.ucl_pass.specs.CellViews.{known_of, KeepsCalls};
-ghost use Rattle.ucl_shared.specs.CallSteps.{MeetingSteps, HasCopyOf};
+ghost use Rattle.ucl_live_board.specs.CallSteps.{MeetingSteps, HasCopyOf};
 ghost use Rattle.ucl_pass.specs.CellCalls.{CellHasReported, CellReport, CellEnlistment, CellReading, FinishesReport, FinishesReading};
 
 use crate::cell_board::CellBoard;
 use crate::passes::{CellNote, CellReaderPass, CellReporterPass};
 use std::sync::Wait;
 use ucl_board::Reading;
-use ucl_shared::{LiveBoard, TooManyReporters};
+use ucl_live_board::{LiveBoard, TooManyReporters};
 use ucl_word::{Accepted, EventCall, Refusal, ReporterNo};
 
 /// Beside what every live board says, the clause `steps` says which steps a call takes, each of them in the log of the board; `acts` counts

@@ -3,8 +3,8 @@
 ghost use Rattle.std.specs.Prelude.{◌≡◌, [], length};
 ghost use Rattle.crossbeam_utils.specs.Seq.{cell_view};
 ghost use Rattle.ucl_pass.specs.CellCalls.{CellHasReported};
-ghost use Rattle.ucl_shared.specs.Passes.{IsSound};
-ghost use Rattle.ucl_shared.specs.Views.{Noted, pass_view_of};
+ghost use Rattle.ucl_live_board.specs.Passes.{IsSound};
+ghost use Rattle.ucl_live_board.specs.Views.{Noted, pass_view_of};
 ghost use Rattle.ucl_pass.specs.CellViews.{CellPass, cell_pass_of, IsCellNote, knows};
 
 use crate::rule::Seat;

@@ -5,7 +5,7 @@ use atomic_table::{Join, Split};
 use crossbeam_utils::atomic::seq_cell::{Pass, RuledSeqCell};
 use crossbeam_utils::rule::{Outcome, Protocol};
 use std::marker::PhantomData;
-pub use ucl_shared::Asking;
+pub use ucl_live_board::Asking;
 
 /// One log of all steps, whose history has the twelve match words and whose reporters are as many as the thirteenth.
 pub struct OneHistory;

@@ -2,7 +2,7 @@
 
 ghost use Rattle.std.specs.Prelude.{List};
 ghost use Rattle.std.specs.Borrow.{ftrue};
-ghost use Rattle.ucl_shared.specs.declared.view.View.{View};
+ghost use Rattle.ucl_live_board.specs.declared.view.View.{View};
 ghost use Rattle.ucl_steps.specs.Protocol.{Answer};
 
 use std::marker::Model;

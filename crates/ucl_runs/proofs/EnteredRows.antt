@@ -14,8 +14,8 @@ use Rattle.ucl_board.specs.declared.entry.Entry.{Entry}
 use Rattle.ucl_board.specs.History.{followed_by, attempted, entry_of, sequential_reply}
 use Rattle.ucl_screen.specs.declared.night.NightEvent.{NightEvent}
 use Rattle.ucl_board.proofs.Beginnings.{at_within, begins_length, begins_through}
-use Rattle.ucl_shared.specs.Passes.{PassView, IsSound, Continues, AcceptedReport, RefusedReport, entries_by}
-use Rattle.ucl_shared.proofs.Lists.{by_own, unchanged}
+use Rattle.ucl_live_board.specs.Passes.{PassView, IsSound, Continues, AcceptedReport, RefusedReport, entries_by}
+use Rattle.ucl_live_board.proofs.Lists.{by_own, unchanged}
 use Rattle.ucl_runs.specs.Nights.{IsRefusedAt, IsEnteredAt, TakesPlace, ComesFirst, IsOwnRow, HasEntered}
 use Rattle.ucl_runs.proofs.Points.{entered_on, place_on, entered_before, first_on, entered_within, place_within, same_first, none_by, stands_before}
 

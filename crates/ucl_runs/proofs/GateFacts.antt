@@ -5,7 +5,7 @@ use Rattle.std.proofs.lemmas.List.{take_more}
 use Rattle.std.proofs.lemmas.List.Elements.{filter-append}
 use Rattle.ucl_board.specs.declared.reading.Reading.{Reading}
 use Rattle.ucl_screen.specs.declared.night.NightEvent.{NightEvent}
-use Rattle.ucl_shared.specs.Passes.{PassView, SharedReading, ReportsMore}
+use Rattle.ucl_live_board.specs.Passes.{PassView, SharedReading, ReportsMore}
 use Rattle.ucl_runs.specs.Gates.{IsReadingOf, rows_by}
 
 -- a row of the reporter is one row more

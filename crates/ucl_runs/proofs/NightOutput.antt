@@ -12,7 +12,7 @@ use Rattle.ucl_order.specs.Roster.{NamedClub}
 use Rattle.ucl_screen.specs.Script.{Script}
 use Rattle.ucl_screen.specs.Parsing.{MeansNight}
 use Rattle.ucl_screen.specs.Screen.{screen_text}
-use Rattle.ucl_shared.specs.Passes.{PassView}
+use Rattle.ucl_live_board.specs.Passes.{PassView}
 use Rattle.ucl_command.specs.declared.night.Line.TheVariants.{Night}
 use Rattle.ucl_runs.specs.declared.fault.RunFault.{RunFault}
 use Rattle.ucl_runs.specs.declared.fault.RunFault.TheVariants.{Input, OutOfMemory, WriteFailed, NotOnDuty, NoThread, TooManyReporters, Strangers}

@@ -11,8 +11,8 @@ use Rattle.ucl_word.proofs.Sequences.{at_below}
 use Rattle.ucl_board.specs.declared.entry.Entry.{Entry}
 use Rattle.ucl_board.specs.History.{Attempt, entry_of, sequential_reply}
 use Rattle.ucl_board.proofs.Beginnings.{at_beginning, begins_length, take_beginning}
-use Rattle.ucl_shared.specs.Passes.{entries_by}
-use Rattle.ucl_shared.proofs.Lists.{by_more}
+use Rattle.ucl_live_board.specs.Passes.{entries_by}
+use Rattle.ucl_live_board.proofs.Lists.{by_more}
 use Rattle.ucl_runs.specs.Nights.{IsRefusedAt, IsEnteredAt, TakesPlace, ComesFirst}
 
 -- the beginning of a history

@@ -8,8 +8,8 @@ use Rattle.ucl_board.specs.declared.entry.Entry.{Entry}
 use Rattle.ucl_board.specs.declared.reading.Reading.{Reading}
 use Rattle.ucl_board.specs.History.{board_of}
 use Rattle.ucl_board.proofs.Beginnings.{begins_length, begins_same, begins_take, begins_through, take_beginning}
-use Rattle.ucl_shared.specs.Passes.{PassView, Continues, SharedReading}
-use Rattle.ucl_shared.specs.Settling.{Settled}
+use Rattle.ucl_live_board.specs.Passes.{PassView, Continues, SharedReading}
+use Rattle.ucl_live_board.specs.Settling.{Settled}
 use Rattle.ucl_runs.specs.Nights.{HasShown, IsLastScreen}
 use Rattle.ucl_runs.specs.Styles.{Style, styled_screen}
 

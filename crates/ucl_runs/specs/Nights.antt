@@ -1,5 +1,6 @@
 -- A night: the rows of a script, entered by two reporters in threads of their own while readers look on.
-use Rattle.std.specs.Prelude.{◌≡◌, ◌⊎◌, ℕ, ◌+◌, ◌<◌, ◌≤◌, ◌==◌, true, false, List, [], ◌∷◌, ◌++◌, All, length, map, take, slice_get, slice_index_or, Option, Some, None, option_map, if◌then◌else◌, codes, String, string_bytes}
+use Rattle.std.specs.Prelude.{◌≡◌, ◌⊎◌, ℕ, ◌+◌, ◌<◌, ◌≤◌, ◌==◌, true, false, List, [], ◌∷◌, ◌++◌}
+use Rattle.std.specs.Prelude.{All, length, map, take, slice_get, slice_index_or, Option, Some, None, option_map, if◌then◌else◌, codes, String, string_bytes}
 use Rattle.std.specs.List.Sorted.{IsNonDecreasing}
 use Rattle.std.specs.Result.{is_ok}
 use mathlib.Core.List.{IsPrefix}
@@ -7,8 +8,8 @@ use Rattle.ucl_board.specs.declared.entry.Entry.{Entry}
 use Rattle.ucl_board.specs.History.{IsLegal, Attempt, attempted, entry_of, sequential_reply, accepted_of, board_of}
 use Rattle.ucl_screen.specs.declared.night.NightEvent.{NightEvent}
 use Rattle.ucl_screen.specs.Script.{first_event_row}
-use Rattle.ucl_shared.specs.Passes.{PassView, IsSound, SeesOn, Continues, kept_pass, split_pass}
-use Rattle.ucl_shared.specs.Shares.{first_half, second_half}
+use Rattle.ucl_live_board.specs.Passes.{PassView, IsSound, SeesOn, Continues, kept_pass, split_pass}
+use Rattle.ucl_live_board.specs.Shares.{first_half, second_half}
 use Rattle.ucl_runs.specs.declared.fault.RunFault.{RunFault}
 use Rattle.ucl_runs.specs.Run.{MatchDuty}
 use Rattle.ucl_runs.specs.Styles.{Style, styled_screen}

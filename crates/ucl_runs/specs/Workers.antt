@@ -1,8 +1,8 @@
 -- What is lent to the workers of a night, and what they hand back, on any live board.
 use Rattle.std.specs.Prelude.{ℕ, List, option_map, string_bytes}
 use Rattle.ucl_screen.specs.declared.night.NightEvent.{NightEvent}
-use Rattle.ucl_shared.specs.declared.live_board.LiveBoard as boards
-use Rattle.ucl_shared.specs.Passes.{ReportsMore}
+use Rattle.ucl_live_board.specs.declared.live_board.LiveBoard as boards
+use Rattle.ucl_live_board.specs.Passes.{ReportsMore}
 use Rattle.ucl_runs.specs.declared.plan.Plan.{Plan}
 use Rattle.ucl_runs.specs.declared.workers.Shown.{Shown}
 use Rattle.ucl_runs.specs.Gates.{rows_by}

@@ -113,18 +113,18 @@ impl From<crate::threads::NoThread> for RunFault {
 }
 
 /// The pass that came back is dropped.
-impl<P: Drop> From<ucl_shared::TooManyReporters<P>> for RunFault {
+impl<P: Drop> From<ucl_live_board::TooManyReporters<P>> for RunFault {
     ghost from_gives = { λ _ f. f ≡ TooManyReporters };
 
-    fn from(_error: ucl_shared::TooManyReporters<P>) -> RunFault {
+    fn from(_error: ucl_live_board::TooManyReporters<P>) -> RunFault {
         RunFault::TooManyReporters
     }
 }
 
-impl From<ucl_shared::Strangers> for RunFault {
+impl From<ucl_live_board::Strangers> for RunFault {
     ghost from_gives = { λ error f. f ≡ Strangers error.version };
 
-    fn from(error: ucl_shared::Strangers) -> RunFault {
+    fn from(error: ucl_live_board::Strangers) -> RunFault {
         RunFault::Strangers {
             version: error.version,
         }

@@ -1,7 +1,7 @@
 //! What the workers of a night have in common, and the gate that they tell.
 
 ghost use Rattle.std.specs.Prelude.{◌≡◌};
-ghost use Rattle.ucl_shared.specs.Passes.{IsSound};
+ghost use Rattle.ucl_live_board.specs.Passes.{IsSound};
 ghost use Rattle.ucl_runs.specs.Gates.{IsReadingOf};
 ghost use Rattle.ucl_runs.specs.Styles.{styled_screen};
 ghost use Rattle.ucl_runs.specs.Workers.{style_of};
@@ -10,7 +10,7 @@ use crate::gate::Gate;
 use ucl_board::Reading;
 use ucl_order::Profile;
 use ucl_screen::Night;
-use ucl_shared::LiveBoard;
+use ucl_live_board::LiveBoard;
 
 /// The gate of a night. No other file reaches it, so it is told what `come` and `Plan::shown` tell, and nothing else.
 #[derive(Drop)]

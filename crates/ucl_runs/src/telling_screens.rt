@@ -2,14 +2,14 @@
 
 ghost use Rattle.std.specs.Prelude.{◌≡◌, IfOk, IfErr};
 ghost use Rattle.ucl_board.specs.History.{entry_of, snapshot_at};
-ghost use Rattle.ucl_shared.specs.Passes.{Continues, ReportsMore, AcceptedReport, RefusedReport};
+ghost use Rattle.ucl_live_board.specs.Passes.{Continues, ReportsMore, AcceptedReport, RefusedReport};
 ghost use Rattle.ucl_runs.specs.TellingScreens.{IsAmongFirst, IsTold, ReadsOn};
 
 use std::sync::Wait;
 use std::thread;
 use std::thread::Threads;
 use ucl_board::Reading;
-use ucl_shared::LiveBoard;
+use ucl_live_board::LiveBoard;
 use ucl_word::{Accepted, EventCall, Refusal};
 
 /// What an event was answered, and what a screen that was told of it read.

@@ -12,7 +12,7 @@ use std::snapshot::Snapshot;
 use std::sync::Wait;
 use std::thread;
 use std::thread::{Promise, PromisedHandle, Scope, Threads};
-use ucl_shared::LiveBoard;
+use ucl_live_board::LiveBoard;
 use ucl_word::OutOfMemory;
 
 /// What a reporter's thread promises of the pass that it hands back.

@@ -2,7 +2,7 @@
 
 ghost use Rattle.std.specs.Prelude.{IfOk, option_map, string_bytes};
 ghost use Rattle.ucl_screen.specs.Screen.{IsGroup};
-ghost use Rattle.ucl_shared.specs.Passes.{ReportsMore};
+ghost use Rattle.ucl_live_board.specs.Passes.{ReportsMore};
 ghost use Rattle.ucl_runs.specs.Gates.{rows_by};
 ghost use Rattle.ucl_runs.specs.Nights.{IsFresh, IsNew, HasEntered, HasShown};
 ghost use Rattle.ucl_runs.specs.Workers.{style_of};
@@ -12,7 +12,7 @@ use crate::plan::{Onlooker, Plan};
 use std::alloc::Global;
 use std::sync::Wait;
 use ucl_screen::{NightEvent, screen};
-use ucl_shared::LiveBoard;
+use ucl_live_board::LiveBoard;
 use ucl_word::OutOfMemory;
 
 /// Enters the rows of one reporter of the script in their order, on a pass that has entered nothing yet. Replies are not

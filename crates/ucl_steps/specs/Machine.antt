@@ -1,6 +1,7 @@
 -- The protocol of the shared board as a machine of six kinds of step: which step is enabled when, and what it does.
 -- What comes of a step on a match word is said by the protocol; here are the board, all callers, and their calls.
-use Rattle.std.specs.Prelude.{ℕ, zero, suc, ◌-◌, ◌==◌, ◌&&◌, nat_le, Bool, true, false, if◌then◌else◌, List, [], ◌∷◌, ◌++◌, length, replicate, Option, Some, None, IsSome, slice_get, slice_set, slice_index}
+use Rattle.std.specs.Prelude.{ℕ, zero, suc, ◌-◌, ◌==◌, ◌&&◌, nat_le, Bool, true, false, if◌then◌else◌, List}
+use Rattle.std.specs.Prelude.{[], ◌∷◌, ◌++◌, length, replicate, Option, Some, None, IsSome, slice_get, slice_set, slice_index}
 use Rattle.std.specs.Option.{option_and_then}
 use Rattle.ucl_word.specs.declared.event.EventCall.{EventCall}
 use Rattle.ucl_word.specs.Record.{scheduled}

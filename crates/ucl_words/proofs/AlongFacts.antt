@@ -5,7 +5,7 @@ use Rattle.std.proofs.lemmas.List.{length_push}
 use Rattle.ucl_word.specs.declared.event.EventCall.{EventCall}
 use Rattle.ucl_board.specs.declared.entry.Entry.{Entry}
 use Rattle.ucl_board.specs.Log.{Look, First, Second, Taken}
-use Rattle.ucl_shared.proofs.CallsBySteps.{takes_none, takes_on}
+use Rattle.ucl_live_board.proofs.CallsBySteps.{takes_none, takes_on}
 use Rattle.ucl_steps.specs.declared.step.Call.{Call}
 use Rattle.ucl_steps.specs.declared.step.Call.TheVariants as calls
 use Rattle.ucl_steps.specs.Protocol.{Doing, after_look, after_swap, after_first, after_second, along}

@@ -16,9 +16,9 @@ use Rattle.ucl_board.specs.Log.{AccessKind, Second, Access, access}
 use Rattle.ucl_steps.specs.Trails.{Follows, most_loads, IsCollect, IsUnclean, IsClean, accesses_of, ReadingAccesses}
 use Rattle.ucl_steps.specs.Laws.{IsReadFrom}
 use Rattle.ucl_steps.proofs.Accesses.{collect_none, collect_more, collect_set, unclean_try, clean_shows, reading_whole}
-use Rattle.ucl_shared.specs.Passes.{Continues, SharedReading}
-use Rattle.ucl_shared.specs.declared.view.View.{View}
-use Rattle.ucl_shared.specs.Views.{pass_view_of, count_of}
+use Rattle.ucl_live_board.specs.Passes.{Continues, SharedReading}
+use Rattle.ucl_live_board.specs.declared.view.View.{View}
+use Rattle.ucl_live_board.specs.Views.{pass_view_of, count_of}
 use Rattle.ucl_words.specs.WordSteps.{LoadsMatch}
 use Rattle.ucl_words.specs.Code.{Walks, Collects, FindsAgain, FindsAnother}
 use Rattle.ucl_words.specs.WordCalls.{IsSteady, ReadingSteps}

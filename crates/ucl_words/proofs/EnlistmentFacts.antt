@@ -7,13 +7,13 @@ use mathlib.Core.List.{IsPrefix}
 use Rattle.ucl_board.specs.Log.{Access, Enlisted, Taken, step_taken, accesses_in}
 use Rattle.ucl_board.proofs.Beginnings.{begins_same, begins_through}
 use Rattle.ucl_steps.specs.Trails.{Follows}
-use Rattle.ucl_shared.specs.declared.view.View.{View}
-use Rattle.ucl_shared.specs.Passes.{SeesOn, Continues, Enlistment, Hearing}
-use Rattle.ucl_shared.specs.Views.{pass_view_of, steps_of, count_of, trail_of, Takes, kept_of, second_of, note_of, told_by}
-use Rattle.ucl_shared.specs.CallSteps.{FoundEnlisted, IsOnEnlisted, EnlistSteps, MeetingSteps}
-use Rattle.ucl_shared.proofs.Lists.{none_by_zero}
-use Rattle.ucl_shared.proofs.Halves.{half_acts, half_not_whole}
-use Rattle.ucl_shared.proofs.CallsBySteps.{all_more, takes_none, takes_on, takes_count, one_more, sound_kept}
+use Rattle.ucl_live_board.specs.declared.view.View.{View}
+use Rattle.ucl_live_board.specs.Passes.{SeesOn, Continues, Enlistment, Hearing}
+use Rattle.ucl_live_board.specs.Views.{pass_view_of, steps_of, count_of, trail_of, Takes, kept_of, second_of, note_of, told_by}
+use Rattle.ucl_live_board.specs.CallSteps.{FoundEnlisted, IsOnEnlisted, EnlistSteps, MeetingSteps}
+use Rattle.ucl_live_board.proofs.Lists.{none_by_zero}
+use Rattle.ucl_live_board.proofs.Halves.{half_acts, half_not_whole}
+use Rattle.ucl_live_board.proofs.CallsBySteps.{all_more, takes_none, takes_on, takes_count, one_more, sound_kept}
 use Rattle.ucl_words.specs.WordSteps.{LoadsEnlisted, EnlistWon}
 use Rattle.ucl_words.specs.WordCalls.{HasTrail, IsSteady, Enlisting, EnlistTries, KeepsTrail}
 use Rattle.ucl_words.proofs.StepRuns.{trail_longer, takes_trail}

@@ -17,14 +17,14 @@ use Rattle.ucl_board.specs.Words.{word_at}
 use Rattle.ucl_board.specs.History.{match_after, board_of, IsLegal, followed_by, entry_of}
 use Rattle.ucl_board.specs.Log.{AccessKind, Look, First, Second, Swap, Target, Match, Enlisted, history_of, Access, access, Taken, Log, IsThere}
 use Rattle.ucl_board.proofs.Histories.{word_after, board_with}
-use Rattle.ucl_shared.specs.declared.view.View.{View}
-use Rattle.ucl_shared.specs.Views.{opener}
-use Rattle.ucl_shared.specs.OneHistory.{KeepsOneHistory}
-use Rattle.ucl_shared.specs.Steps.{Enlists}
-use Rattle.ucl_shared.proofs.KeptRule.{logged, look, looked, same_history, look_keeps, look_same, look_tells, add, entered, longer_history, add_keeps, add_same, add_tells, count, enlisted_as}
-use Rattle.ucl_shared.proofs.KeptRule.{unchanged_history, enlist_keeps, enlist_same, enlist_tells, second_added, second_same, note_added, note_same, note_joined, joined_same}
-use Rattle.ucl_shared.proofs.KeptRule as moves
-use Rattle.ucl_shared.proofs.KeptBoards.{apart, low, Kept, kept, one_more, joined}
+use Rattle.ucl_live_board.specs.declared.view.View.{View}
+use Rattle.ucl_live_board.specs.Views.{opener}
+use Rattle.ucl_live_board.specs.OneHistory.{KeepsOneHistory}
+use Rattle.ucl_live_board.specs.Steps.{Enlists}
+use Rattle.ucl_live_board.proofs.KeptRule.{logged, look, looked, same_history, look_keeps, look_same, look_tells, add, entered, longer_history, add_keeps, add_same, add_tells, count, enlisted_as}
+use Rattle.ucl_live_board.proofs.KeptRule.{unchanged_history, enlist_keeps, enlist_same, enlist_tells, second_added, second_same, note_added, note_same, note_joined, joined_same}
+use Rattle.ucl_live_board.proofs.KeptRule as moves
+use Rattle.ucl_live_board.proofs.KeptBoards.{apart, low, Kept, kept, one_more, joined}
 use Rattle.ucl_steps.specs.declared.step.Caller.{Caller}
 use Rattle.ucl_steps.specs.declared.step.Caller.TheVariants.{Reporter, Reader}
 use Rattle.ucl_steps.specs.declared.step.Cast.{Cast}

@@ -25,11 +25,11 @@ use Rattle.ucl_steps.specs.Protocol.{Held, Nothing, Holding, Collecting, Checkin
 use Rattle.ucl_steps.specs.Protocol.{done_by, after_look, swaps_holding, firsts_holding, seconds_holding}
 use Rattle.ucl_steps.proofs.GoneOn.{actors_through, PassesGoOn, passes_through, one_goes_on, one_comes, actors_go}
 use Rattle.ucl_steps.proofs.Seats.{map_at, map_there, map_set, map_more, place_below}
-use Rattle.ucl_shared.specs.declared.view.View.{View}
-use Rattle.ucl_shared.specs.OneHistory.{KeepsOneHistory}
-use Rattle.ucl_shared.specs.Views.{Takes, newcomer}
-use Rattle.ucl_shared.proofs.LaterLogs.{says_found, log_after, one_log, given_after}
-use Rattle.ucl_shared.proofs.KeptRule.{second_added, second_same, note_added, note_same, note_joined, joined_same}
+use Rattle.ucl_live_board.specs.declared.view.View.{View}
+use Rattle.ucl_live_board.specs.OneHistory.{KeepsOneHistory}
+use Rattle.ucl_live_board.specs.Views.{Takes, newcomer}
+use Rattle.ucl_live_board.proofs.LaterLogs.{says_found, log_after, one_log, given_after}
+use Rattle.ucl_live_board.proofs.KeptRule.{second_added, second_same, note_added, note_same, note_joined, joined_same}
 use Rattle.ucl_words.specs.declared.view.WordView.{WordView}
 use Rattle.ucl_words.specs.WordViews.{left_pass, second_pass, note_pass, told_pass, new_pass}
 use Rattle.ucl_words.specs.WordRule.{words_after, known, word_actor, TableKeepsOneHistory}

@@ -25,13 +25,13 @@ use Rattle.ucl_board.specs.Log.{Look, Swap, Access, access, Match, Taken, step_t
 use Rattle.ucl_board.proofs.Beginnings.{begins_length, begins_more, begins_same, begins_through}
 use Rattle.ucl_steps.specs.Trails.{Follows, ReportAccesses}
 use Rattle.ucl_steps.proofs.Accesses.{follows_longer, follows_wider, follows_append, follows_one, report_whole}
-use Rattle.ucl_shared.specs.Passes.{Continues, AcceptedReport, RefusedReport}
-use Rattle.ucl_shared.specs.declared.view.View.{View}
-use Rattle.ucl_shared.specs.Views.{pass_view_of, trail_of, Takes}
-use Rattle.ucl_shared.proofs.CallsBySteps.{takes_on, takes_count}
+use Rattle.ucl_live_board.specs.Passes.{Continues, AcceptedReport, RefusedReport}
+use Rattle.ucl_live_board.specs.declared.view.View.{View}
+use Rattle.ucl_live_board.specs.Views.{pass_view_of, trail_of, Takes}
+use Rattle.ucl_live_board.proofs.CallsBySteps.{takes_on, takes_count}
 use Rattle.ucl_words.specs.WordSteps.{Loads, ExchangeMissed, ExchangeWon, IsNextWord}
 use Rattle.ucl_words.specs.Code.{Walks}
-use Rattle.ucl_shared.specs.CallSteps.{steps_with}
+use Rattle.ucl_live_board.specs.CallSteps.{steps_with}
 use Rattle.ucl_words.specs.WordCalls.{HasTrail, IsSteady, ReportSteps}
 use Rattle.ucl_words.proofs.StepRuns.{trail_on, takes_trail, walks_on, walks_load}
 

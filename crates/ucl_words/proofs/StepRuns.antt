@@ -12,13 +12,13 @@ use Rattle.ucl_board.proofs.Logs.{accesses_append}
 use Rattle.ucl_board.proofs.Beginnings.{begins_length, begins_same, begins_through}
 use Rattle.ucl_steps.specs.Trails.{Follows}
 use Rattle.ucl_steps.proofs.Accesses.{follows_longer, follows_wider, follows_append, follows_one}
-use Rattle.ucl_shared.specs.declared.view.View.{View}
-use Rattle.ucl_shared.specs.Passes.{Continues}
-use Rattle.ucl_shared.specs.Views.{pass_view_of, count_of, trail_of, Takes}
-use Rattle.ucl_shared.proofs.CallsBySteps.{takes_none, takes_on, takes_count}
+use Rattle.ucl_live_board.specs.declared.view.View.{View}
+use Rattle.ucl_live_board.specs.Passes.{Continues}
+use Rattle.ucl_live_board.specs.Views.{pass_view_of, count_of, trail_of, Takes}
+use Rattle.ucl_live_board.proofs.CallsBySteps.{takes_none, takes_on, takes_count}
 use Rattle.ucl_words.specs.WordSteps.{LoadsMatch}
 use Rattle.ucl_words.specs.Code.{Walks}
-use Rattle.ucl_shared.specs.CallSteps.{steps_with}
+use Rattle.ucl_live_board.specs.CallSteps.{steps_with}
 use Rattle.ucl_words.specs.WordCalls.{HasTrail, IsSteady}
 
 -- accesses that follow what a trail has, over a history that is longer

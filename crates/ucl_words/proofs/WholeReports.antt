@@ -14,8 +14,8 @@ use Rattle.ucl_board.specs.Log.{Look}
 use Rattle.ucl_board.proofs.Beginnings.{begins_length}
 use Rattle.ucl_steps.specs.declared.step.Call.TheVariants as calls
 use Rattle.ucl_steps.specs.Protocol.{after_look, after_swap, report_reply}
-use Rattle.ucl_shared.specs.Passes.{Continues, AcceptedReport, RefusedReport}
-use Rattle.ucl_shared.specs.Views.{pass_view_of}
+use Rattle.ucl_live_board.specs.Passes.{Continues, AcceptedReport, RefusedReport}
+use Rattle.ucl_live_board.specs.Views.{pass_view_of}
 use Rattle.ucl_words.specs.declared.view.WordView.{WordView}
 use Rattle.ucl_words.specs.WordSteps.{Loads, ExchangeMissed, ExchangeWon}
 use Rattle.ucl_words.specs.WordCalls.{IsSteady, ReportSteps}

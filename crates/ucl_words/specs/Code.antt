@@ -9,9 +9,9 @@ use Rattle.ucl_steps.specs.declared.step.Call.TheVariants.{Reading}
 use Rattle.ucl_steps.specs.declared.trace.Reply.TheVariants.{Copied}
 use Rattle.ucl_steps.specs.Protocol.{Held, Nothing, Holding, Collecting, Checking, Doing, goes, ends}
 use Rattle.ucl_steps.specs.Trails.{IsCollect, IsBroken}
-use Rattle.ucl_shared.specs.Passes.{SeesOn}
-use Rattle.ucl_shared.specs.declared.view.View.{View}
-use Rattle.ucl_shared.specs.Views.{pass_view_of}
+use Rattle.ucl_live_board.specs.Passes.{SeesOn}
+use Rattle.ucl_live_board.specs.declared.view.View.{View}
+use Rattle.ucl_live_board.specs.Views.{pass_view_of}
 use Rattle.ucl_words.specs.WordCalls.{IsSteady, LeavesAccesses}
 
 -- a report holds the word that it loaded, for this entry

@@ -6,7 +6,7 @@ use Rattle.atomic_table.specs.Table.{State, Step, Me, Allows}
 use Rattle.ucl_word.specs.declared.event.EventCall.{EventCall}
 use Rattle.ucl_board.specs.declared.entry.Entry.{Entry}
 use Rattle.ucl_steps.specs.Growing.{HasGoneOn}
-use Rattle.ucl_shared.specs.CallSteps.{CountsReporters}
+use Rattle.ucl_live_board.specs.CallSteps.{CountsReporters}
 use Rattle.ucl_words.specs.declared.view.WordView.{WordView}
 use Rattle.ucl_words.specs.WordViews.{left_pass, second_pass, IsNotePass, note_pass, told_pass, new_pass}
 use Rattle.ucl_words.specs.WordRule.{word_actor, TableKeepsOneHistory}

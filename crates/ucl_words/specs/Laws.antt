@@ -14,7 +14,7 @@ use Rattle.ucl_steps.specs.Actors.{IsRunOfLog}
 use Rattle.ucl_steps.specs.Growing.{HaveGoneOn}
 use Rattle.ucl_steps.specs.Progress.{most_between, finished_by}
 use Rattle.ucl_words.specs.declared.view.WordView.{WordView}
-use Rattle.ucl_shared.specs.Numbers.{IsGivenAfter}
+use Rattle.ucl_live_board.specs.Numbers.{IsGivenAfter}
 use Rattle.ucl_words.specs.WordViews.{WordPass}
 use Rattle.ucl_words.specs.WordDoings.{WordHasReported}
 use Rattle.ucl_words.specs.WordRule.{known, word_actors, TableKeepsOneHistory}

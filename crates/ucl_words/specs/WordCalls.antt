@@ -9,10 +9,10 @@ use Rattle.ucl_board.specs.Log.{Access, Taken}
 use Rattle.ucl_steps.specs.declared.step.Call.TheVariants as calls
 use Rattle.ucl_steps.specs.Protocol.{MayAsk}
 use Rattle.ucl_steps.specs.Trails.{Follows, ReportAccesses, most_tries, ReadingAccesses}
-use Rattle.ucl_shared.specs.declared.view.View.{View}
-use Rattle.ucl_shared.specs.Passes.{IsSound}
-use Rattle.ucl_shared.specs.Views.{pass_view_of, count_of, trail_of, Takes}
-use Rattle.ucl_shared.specs.CallSteps.{steps_with, entry_made, FoundEnlisted, EnlistSteps}
+use Rattle.ucl_live_board.specs.declared.view.View.{View}
+use Rattle.ucl_live_board.specs.Passes.{IsSound}
+use Rattle.ucl_live_board.specs.Views.{pass_view_of, count_of, trail_of, Takes}
+use Rattle.ucl_live_board.specs.CallSteps.{steps_with, entry_made, FoundEnlisted, EnlistSteps}
 
 -- along the whole trail the places never fall, and each word that was found is that of its match at its place
 abbrev pub HasTrail : View → Type 0

@@ -5,7 +5,7 @@ use Rattle.ucl_steps.specs.declared.step.Call.TheVariants.{Event, Reading}
 use Rattle.ucl_steps.specs.declared.trace.Reply.{Reply}
 use Rattle.ucl_steps.specs.Protocol.{Doing, ends, along}
 use Rattle.ucl_board.specs.Log.{Taken}
-use Rattle.ucl_shared.specs.Views.{Takes}
+use Rattle.ucl_live_board.specs.Views.{Takes}
 use Rattle.ucl_words.specs.declared.view.WordView.{WordView}
 
 -- a call was answered: it is the last of the finished ones, nothing is held, and it began when there were no fewer entries

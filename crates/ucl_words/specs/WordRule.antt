@@ -4,9 +4,9 @@ use Rattle.atomic_table.specs.Table.{State}
 use Rattle.ucl_board.specs.declared.entry.Entry.{Entry}
 use Rattle.ucl_board.specs.History.{board_of}
 use Rattle.ucl_steps.specs.Actors.{Actor, IsRunOfLog}
-use Rattle.ucl_shared.specs.declared.view.View.{View}
-use Rattle.ucl_shared.specs.OneHistory.{KeepsOneHistory}
-use Rattle.ucl_shared.specs.Standing.{StandsIn, StandTogether}
+use Rattle.ucl_live_board.specs.declared.view.View.{View}
+use Rattle.ucl_live_board.specs.OneHistory.{KeepsOneHistory}
+use Rattle.ucl_live_board.specs.Standing.{StandsIn, StandTogether}
 use Rattle.ucl_words.specs.declared.view.WordView.{WordView}
 
 -- the number of enlisted reporters as word 0, and the words of matches 1 to 12

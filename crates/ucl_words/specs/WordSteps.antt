@@ -7,9 +7,9 @@ use Rattle.ucl_board.specs.declared.entry.Entry.{Entry}
 use Rattle.ucl_board.specs.Words.{word_at}
 use Rattle.ucl_board.specs.History.{board_of, IsLegal}
 use Rattle.ucl_board.specs.Log.{AccessKind, Look, First, Second, Swap, Match, Enlisted, Taken}
-use Rattle.ucl_shared.specs.declared.view.View.{View}
-use Rattle.ucl_shared.specs.Views.{Takes}
-use Rattle.ucl_shared.specs.Steps.{Sees, Adds, Enlists}
+use Rattle.ucl_live_board.specs.declared.view.View.{View}
+use Rattle.ucl_live_board.specs.Views.{Takes}
+use Rattle.ucl_live_board.specs.Steps.{Sees, Adds, Enlists}
 use Rattle.ucl_steps.specs.Protocol.{Held, Nothing, Checking, after_look, after_swap, after_first, after_second}
 use Rattle.ucl_words.specs.declared.view.WordView.{WordView}
 use Rattle.ucl_words.specs.WordRule.{Stands}

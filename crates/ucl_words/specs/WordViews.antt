@@ -3,8 +3,8 @@
 use Rattle.std.specs.Prelude.{◌≡◌, ℕ}
 use Rattle.atomic_table.specs.Seated.{TableId}
 use Rattle.ucl_steps.specs.Protocol.{Doing, nothing_done}
-use Rattle.ucl_shared.specs.declared.view.View.{View}
-use Rattle.ucl_shared.specs.Views.{newcomer, opener, kept_of, second_of, note_of, told_by}
+use Rattle.ucl_live_board.specs.declared.view.View.{View}
+use Rattle.ucl_live_board.specs.Views.{newcomer, opener, kept_of, second_of, note_of, told_by}
 use Rattle.ucl_words.specs.declared.view.WordView.{WordView}
 
 -- the board that a pass is of, its seat there, what it knows, and what it has done

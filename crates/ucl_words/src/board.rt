@@ -5,10 +5,10 @@ ghost use Rattle.atomic_table.specs.Seated.{TableId};
 ghost use Rattle.ucl_board.specs.Fixtures.{IsMatch};
 ghost use Rattle.ucl_board.specs.Log as trails;
 ghost use Rattle.ucl_steps.specs.Trails.{most_loads};
-ghost use Rattle.ucl_shared.specs.Passes.{IsSound, Continues, AcceptedReport, RefusedReport, SharedReading, Enlistment, FullBoard, Hearing, Meeting, opening_pass, split_pass};
-ghost use Rattle.ucl_shared.specs.Views.{pass_view_of, count_of, trail_of, kept_of};
-ghost use Rattle.ucl_shared.specs.CallSteps.{MeetingSteps, HasCopyOf};
-ghost use Rattle.ucl_shared.specs.OneHistory.{BoardsOpenFresh};
+ghost use Rattle.ucl_live_board.specs.Passes.{IsSound, Continues, AcceptedReport, RefusedReport, SharedReading, Enlistment, FullBoard, Hearing, Meeting, opening_pass, split_pass};
+ghost use Rattle.ucl_live_board.specs.Views.{pass_view_of, count_of, trail_of, kept_of};
+ghost use Rattle.ucl_live_board.specs.CallSteps.{MeetingSteps, HasCopyOf};
+ghost use Rattle.ucl_live_board.specs.OneHistory.{BoardsOpenFresh};
 ghost use Rattle.ucl_words.specs.WordRule.{words_after, IsTheRule, Stands, StandAfterSplit};
 ghost use Rattle.ucl_words.specs.WordSteps.{Loads, LoadsMatch, LoadsEnlisted, point_shown, ExchangeWon, ExchangeMissed, IsNextWord, EnlistWon};
 ghost use Rattle.ucl_words.specs.Code.{Collects, FindsAgain, FindsAnother, IsHoldingFor, MayCollect, HasFirsts, has_copied, begins_anew};
@@ -30,7 +30,7 @@ use atomic_table::TableRule;
 use std::alloc::Global;
 use std::marker::{Brand, Model};
 use ucl_board::{Board, Entry, Reading};
-use ucl_shared::{MOST_REPORTERS, TooManyReporters};
+use ucl_live_board::{MOST_REPORTERS, TooManyReporters};
 use ucl_word::{Accepted, EventCall, OutOfMemory, Refusal, ReporterNo, next_word, number_of};
 
 /// Which word of the table is the number of enlisted reporters; words 1 to 12 are the matches.

@@ -9,7 +9,7 @@ use crate::rule::{Asking, CountEnlisted, Enlist, First, Look, Second, Swap};
 use crate::view::WordView;
 use atomic_table::Play;
 use ucl_board::Entry;
-use ucl_shared::LiveBoard;
+use ucl_live_board::LiveBoard;
 
 /// Which entry an exchange of a match word adds follows from the match, the word that it finds and the word that it puts there.
 pub fn words_tell_the_entry()

@@ -2,9 +2,9 @@
 
 ghost use Rattle.std.specs.Prelude.{◌≡◌, ◌+◌, ◌≤◌, length, IfOk, IfErr, MatchResult, Some, None};
 ghost use Rattle.ucl_steps.specs.Trails.{most_loads};
-ghost use Rattle.ucl_shared.specs.Passes.{IsSound, Continues, ReportsMore, AcceptedReport, RefusedReport, SharedReading, split_pass, Enlistment, FullBoard, Hearing, Meeting, reporter_figures};
-ghost use Rattle.ucl_shared.specs.Views.{pass_view_of, count_of, trail_of, kept_of};
-ghost use Rattle.ucl_shared.specs.CallSteps.{MeetingSteps, HasCopyOf};
+ghost use Rattle.ucl_live_board.specs.Passes.{IsSound, Continues, ReportsMore, AcceptedReport, RefusedReport, SharedReading, split_pass, Enlistment, FullBoard, Hearing, Meeting, reporter_figures};
+ghost use Rattle.ucl_live_board.specs.Views.{pass_view_of, count_of, trail_of, kept_of};
+ghost use Rattle.ucl_live_board.specs.CallSteps.{MeetingSteps, HasCopyOf};
 ghost use Rattle.ucl_words.specs.WordCalls.{ReportSteps, ReadingSteps, EnlistTries, KeepsTrail};
 ghost use Rattle.ucl_words.specs.WordDoings.{AnswersCall, GoesAlong, WordHasReported};
 ghost use Rattle.ucl_words.specs.WordRule.{Stands, StandAfterSplit};
@@ -17,7 +17,7 @@ use crate::board::WordBoard;
 use crate::passes::{WordNote, WordReaderPass, WordReporterPass};
 use std::sync::Wait;
 use ucl_board::Reading;
-use ucl_shared::{LiveBoard, TooManyReporters};
+use ucl_live_board::{LiveBoard, TooManyReporters};
 use ucl_word::{Accepted, EventCall, Refusal, ReporterNo};
 
 /// Each call passes on to the board's own, which takes no `rt` and cannot wait, and says of its steps what that one says.

@@ -5,7 +5,7 @@ ghost use Rattle.ucl_steps.specs.Protocol.{Nothing};
 ghost use Rattle.ucl_words.specs.WordCalls.{IsSteady};
 ghost use Rattle.ucl_words.specs.WordDoings.{WordHasReported};
 ghost use Rattle.ucl_words.specs.WordViews.{WordPass, IsNotePass, pass_of};
-ghost use Rattle.ucl_shared.specs.Views.{Noted};
+ghost use Rattle.ucl_live_board.specs.Views.{Noted};
 
 use crate::rule::Seat;
 use std::marker::Model;

@@ -9,7 +9,7 @@ use atomic_table::{Join, Play, Split, TableRule};
 use std::alloc::Global;
 use std::marker::PhantomData;
 use ucl_board::Entry;
-pub use ucl_shared::Asking;
+pub use ucl_live_board::Asking;
 
 /// One log of all steps, whose history has the twelve match words and whose reporters are as many as the enlist word says.
 #[derive(Clone, Copy)]

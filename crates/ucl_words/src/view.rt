@@ -1,7 +1,7 @@
 //! What a pass of the word board knows, and what it has done.
 
 ghost use Rattle.std.specs.Borrow.{ftrue};
-ghost use Rattle.ucl_shared.specs.declared.view.View.{View};
+ghost use Rattle.ucl_live_board.specs.declared.view.View.{View};
 ghost use Rattle.ucl_steps.specs.Protocol.{Doing};
 
 use std::marker::Model;

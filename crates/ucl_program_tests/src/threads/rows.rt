@@ -13,7 +13,7 @@ use ucl_evenings::{Reporter, Ring, take_rows};
 use ucl_io::Duplex;
 use ucl_order::Roster;
 use ucl_screen::{FromRead, InputFault, ToWrite};
-use ucl_shared::LiveBoard;
+use ucl_live_board::LiveBoard;
 use ucl_words::WordBoard;
 
 /// How a reporter's run ended, what it wrote, and how often it rang.

@@ -1,6 +1,6 @@
 use Rattle.std.proofs.Common.{◌≡◌, ◌+◌, ◌++◌, ◌∷◌, ◌≤◌, [], ℕ, List, Option, length}
 use Rattle.std.specs.Prelude.{cond, option_map}
-use Rattle.ucl_shared.specs.Passes.{PassView}
+use Rattle.ucl_live_board.specs.Passes.{PassView}
 use Rattle.ucl_evenings.specs.Showing.{AreFew, SoFar, StaysScreen, standing}
 use Rattle.ucl_evenings.proofs.ScreenRuns.{WaitedBefore}
 use Rattle.ucl_evenings.proofs.ShownScreens.{Stands}

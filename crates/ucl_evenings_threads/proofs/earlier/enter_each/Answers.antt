@@ -4,7 +4,7 @@ use Rattle.std.proofs.lemmas.List.{length-map, length-set, take_all}
 use Rattle.std.proofs.lemmas.List.Elements.{All-get_or, All-set}
 use mathlib.Core.List.{IsPrefix}
 use Rattle.ucl_board.specs.declared.entry.Entry.{Entry}
-use Rattle.ucl_shared.specs.Passes.{PassView}
+use Rattle.ucl_live_board.specs.Passes.{PassView}
 use Rattle.ucl_screen.specs.declared.night.NightEvent.{NightEvent}
 use Rattle.ucl_evenings_threads.specs.Earlier.{WereEntered, HasJustItsOwn}
 use Rattle.ucl_evenings_threads.proofs.Entering.{HaveSoFar, so_far_none, so_far_next, so_far_heard, told_next, written_back}

@@ -1,7 +1,7 @@
 use Rattle.std.proofs.Common.{refl, subst, sym, ap, ◌∙◌}
 use mathlib.Core.List.{IsPrefix}
 use Rattle.ucl_board.proofs.Beginnings.{begins_same}
-use Rattle.ucl_shared.specs.Passes.{PassView}
+use Rattle.ucl_live_board.specs.Passes.{PassView}
 use Rattle.ucl_evenings_threads.specs.Runs.{IsLooking}
 use Rattle.ucl_evenings_threads.proofs.Zips.{zip_none, zip_push}
 use Rattle.ucl_evenings_threads.proofs.Splits.{split_none, split_push}

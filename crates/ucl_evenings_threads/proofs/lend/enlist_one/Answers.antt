@@ -1,5 +1,5 @@
 use Rattle.std.proofs.Common.{ap, ◌∙◌}
-use Rattle.ucl_shared.specs.Passes.{PassView}
+use Rattle.ucl_live_board.specs.Passes.{PassView}
 use Rattle.ucl_evenings_threads.proofs.lend.enlist_one.Goals as goal
 
 pub returns-clause-ready : goal.returns-clause-ready

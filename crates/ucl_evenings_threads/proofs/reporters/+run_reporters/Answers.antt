@@ -1,6 +1,6 @@
 use Rattle.std.proofs.Common.{◌++◌, List, append_assoc, inl, subst, sym}
 use Rattle.std.specs.Prelude.{All}
-use Rattle.ucl_shared.specs.Passes.{PassView}
+use Rattle.ucl_live_board.specs.Passes.{PassView}
 use Rattle.ucl_evenings_threads.specs.Runs.{HasRun, IsReadyToRun}
 use Rattle.ucl_evenings_threads.specs.Whole.{AreTallied, IsSeenIn}
 use Rattle.ucl_evenings_threads.specs.declared.workers.ReporterEnd.{ReporterEnd}

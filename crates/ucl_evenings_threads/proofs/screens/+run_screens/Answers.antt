@@ -1,5 +1,5 @@
 use Rattle.std.proofs.Common.{refl, ap, ◌∙◌, inl, length, le_refl}
-use Rattle.ucl_shared.specs.Passes.{PassView}
+use Rattle.ucl_live_board.specs.Passes.{PassView}
 use Rattle.ucl_evenings.proofs.ShownScreens.{stays_prefix}
 use Rattle.ucl_evenings_threads.specs.Runs.{HasLookedOn, IsReadyToLook}
 use Rattle.ucl_evenings_threads.proofs.Closing.{closed_on, closed_told, heard_on}

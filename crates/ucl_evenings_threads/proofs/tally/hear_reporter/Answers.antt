@@ -1,7 +1,7 @@
 use Rattle.std.proofs.Common.{ap, length, sym, ◌∙◌}
 use Rattle.ucl_board.proofs.Beginnings.{begins_through}
 use Rattle.ucl_runs.proofs.EnteredRows.{goes_on}
-use Rattle.ucl_shared.specs.Passes.{PassView}
+use Rattle.ucl_live_board.specs.Passes.{PassView}
 use Rattle.ucl_evenings_threads.proofs.tally.hear_reporter.Goals as goal
 
 pub returns-in-Some-clause-heard : goal.returns-in-Some-clause-heard

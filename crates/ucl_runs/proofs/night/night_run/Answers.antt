@@ -2,7 +2,7 @@ use Rattle.std.proofs.Common.{ℕ, List, [], ◌∷◌, ◌++◌, refl, subst, s
 use Rattle.std.specs.Prelude.{option_map, string_bytes}
 use mathlib.Core.List.{IsPrefix}
 use Rattle.ucl_board.proofs.Beginnings.{begins_take, begins_through}
-use Rattle.ucl_shared.specs.Passes.{PassView, kept_pass, split_pass}
+use Rattle.ucl_live_board.specs.Passes.{PassView, kept_pass, split_pass}
 use Rattle.ucl_runs.specs.Nights.{IsOnDuty, night_history, number_of_two, pass_of_reader_1, pass_of_reader_2}
 use Rattle.ucl_runs.specs.Styles.{styled}
 use Rattle.ucl_runs.proofs.EnteredRows.{goes_on}

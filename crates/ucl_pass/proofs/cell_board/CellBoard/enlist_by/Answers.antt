@@ -1,7 +1,7 @@
 use Rattle.std.proofs.Common.{◌≡◌, ◌≢◌, sym, ◌∙◌}
 use Rattle.ucl_pass.specs.CellViews.{knows}
 use Rattle.ucl_pass.specs.CellSteps.{LooksAtEnlisted, StoresReporter}
-use Rattle.ucl_shared.proofs.CallsBySteps.{number_told}
+use Rattle.ucl_live_board.proofs.CallsBySteps.{number_told}
 use Rattle.ucl_pass.proofs.CallsBySteps.{won, lost, tried_again, enlisted_says, new_number}
 use Rattle.ucl_pass.proofs.cell_board.CellBoard.enlist_by.Goals as goal
 

@@ -1,7 +1,7 @@
 use Rattle.std.proofs.Common.{◌≡◌}
 use Rattle.std.specs.Prelude.{IsSome}
 use Rattle.ucl_pass.specs.CellViews.{knows, calls_at}
-use Rattle.ucl_shared.specs.Steps.{no_call}
+use Rattle.ucl_live_board.specs.Steps.{no_call}
 use Rattle.ucl_pass.proofs.CallsBySteps.{TriedEnlist}
 use Rattle.ucl_pass.proofs.cell_board.CellBoard.enlist_by.Given as goal
 

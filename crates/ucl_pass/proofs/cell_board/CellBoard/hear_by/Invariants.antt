@@ -1,4 +1,4 @@
-use Rattle.ucl_shared.specs.Steps.{no_call}
+use Rattle.ucl_live_board.specs.Steps.{no_call}
 use Rattle.ucl_pass.proofs.cell_board.CellBoard.hear_by.Given as goal
 
 abbrev pub ghosts-count : goal.ghosts-count

@@ -1,8 +1,8 @@
 use Rattle.std.proofs.Common.{ap, refl, sym, subst}
 use Rattle.std.specs.Prelude.{List}
 use Rattle.ucl_board.specs.declared.entry.Entry.{Entry}
-use Rattle.ucl_shared.specs.Passes.{Hearing}
-use Rattle.ucl_shared.specs.Views.{pass_view_of}
+use Rattle.ucl_live_board.specs.Passes.{Hearing}
+use Rattle.ucl_live_board.specs.Views.{pass_view_of}
 use Rattle.ucl_pass.specs.declared.view.CellView.{CellView}
 use Rattle.ucl_pass.specs.CellViews.{knows, IsCellNote}
 use Rattle.ucl_pass.proofs.cell_board.CellBoard.meet_by.Goals as goal

@@ -1,6 +1,6 @@
 use Rattle.std.proofs.Common.{rules, List, ℕ, ◌∷◌, ◌++◌, sym, subst, ap, ◌∙◌, []}
 use Rattle.ucl_pass.specs.CellRule.{words_after, CellStands}
-use Rattle.ucl_shared.proofs.LogFacts.{opens_fresh}
+use Rattle.ucl_live_board.proofs.LogFacts.{opens_fresh}
 use Rattle.ucl_pass.proofs.KeptRule.{begins, begins_stands}
 use Rattle.ucl_pass.proofs.cell_board.CellBoard.open.Goals as goal
 

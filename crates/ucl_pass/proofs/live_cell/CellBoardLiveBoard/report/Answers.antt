@@ -1,11 +1,11 @@
 use Rattle.std.proofs.Common.{subst, ◌+◌, ◌≤◌, sym, ◌∙◌, arith}
 use Rattle.ucl_pass.specs.CellViews.{knows}
 use Rattle.ucl_board.specs.Words.{greatest_version}
-use Rattle.ucl_shared.specs.Passes.{ReportsMore}
-use Rattle.ucl_shared.specs.Views.{pass_view_of}
+use Rattle.ucl_live_board.specs.Passes.{ReportsMore}
+use Rattle.ucl_live_board.specs.Views.{pass_view_of}
 use Rattle.ucl_pass.specs.CellViews.{CellPass}
 use Rattle.ucl_pass.specs.CellCalls.{CellHasReported}
-use Rattle.ucl_shared.proofs.CallsBySteps.{room}
+use Rattle.ucl_live_board.proofs.CallsBySteps.{room}
 use Rattle.ucl_pass.proofs.Reports.{report_counts}
 use Rattle.ucl_pass.proofs.live_cell.CellBoardLiveBoard.report.Goals as goal
 

@@ -3,11 +3,11 @@ use Rattle.crossbeam_utils.specs.Seq.{cell_view}
 use Rattle.ucl_pass.specs.declared.view.CellView.{CellView}
 use Rattle.ucl_pass.specs.CellRule.{CellStandAfterSplit}
 use Rattle.ucl_pass.specs.CellViews.{CellPass, known_of, knows}
-use Rattle.ucl_shared.specs.declared.view.View.{View}
-use Rattle.ucl_shared.specs.Passes.{IsSound}
-use Rattle.ucl_shared.specs.Views.{pass_view_of}
+use Rattle.ucl_live_board.specs.declared.view.View.{View}
+use Rattle.ucl_live_board.specs.Passes.{IsSound}
+use Rattle.ucl_live_board.specs.Views.{pass_view_of}
 use Rattle.ucl_pass.specs.CellCalls.{CellHasReported}
-use Rattle.ucl_shared.proofs.CallsBySteps.{sound_second, sound_kept}
+use Rattle.ucl_live_board.proofs.CallsBySteps.{sound_second, sound_kept}
 use Rattle.ucl_pass.proofs.live_cell.CellBoardLiveBoard.split.Goals as goal
 
 abbrev IsReader : View → Type 0

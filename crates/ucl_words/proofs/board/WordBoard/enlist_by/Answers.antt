@@ -1,5 +1,5 @@
 use Rattle.std.proofs.Common.{inl, inr, refl, ap, ◌∙◌, arith}
-use Rattle.ucl_shared.proofs.CallsBySteps.{number_told}
+use Rattle.ucl_live_board.proofs.CallsBySteps.{number_told}
 use Rattle.ucl_words.proofs.EnlistmentFacts.{missed_none, missed_higher, missed_more, won_steady, won_enlists, won_trail, won_number, won_tries, missed_tries, tries_told}
 use Rattle.ucl_steps.specs.Protocol.{Doing}
 use Rattle.ucl_words.proofs.board.WordBoard.enlist_by.Goals as goal

@@ -1,6 +1,6 @@
 use Rattle.std.proofs.Common.{◌≡◌, ◌-◌, ◌≤◌, ◌⊎◌}
 use Rattle.ucl_words.specs.WordRule.{Stands}
-use Rattle.ucl_shared.specs.Steps.{no_call}
+use Rattle.ucl_live_board.specs.Steps.{no_call}
 use Rattle.ucl_words.proofs.EnlistmentFacts.{Missed}
 use Rattle.ucl_words.proofs.board.WordBoard.enlist_by.Given as goal
 

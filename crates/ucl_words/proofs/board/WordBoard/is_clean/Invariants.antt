@@ -1,5 +1,5 @@
 use Rattle.std.proofs.Common.{◌≡◌, ◌<◌}
-use Rattle.ucl_shared.specs.Steps.{no_call}
+use Rattle.ucl_live_board.specs.Steps.{no_call}
 use Rattle.ucl_words.specs.WordRule.{Stands}
 use Rattle.ucl_steps.specs.declared.step.Call.TheVariants as calls
 use Rattle.ucl_words.specs.WordDoings.{GoesAlong}

@@ -1,8 +1,8 @@
 use Rattle.std.proofs.Common.{subst}
 use Rattle.std.specs.Prelude.{List}
 use Rattle.ucl_board.specs.declared.entry.Entry.{Entry}
-use Rattle.ucl_shared.specs.Passes.{Hearing}
-use Rattle.ucl_shared.specs.Views.{pass_view_of}
+use Rattle.ucl_live_board.specs.Passes.{Hearing}
+use Rattle.ucl_live_board.specs.Views.{pass_view_of}
 use Rattle.ucl_words.proofs.EnlistmentFacts.{note_is, note_seen}
 use Rattle.ucl_words.proofs.board.WordBoard.meet_by.Goals as goal
 

@@ -1,4 +1,4 @@
-use Rattle.ucl_shared.proofs.LogFacts.{opens_fresh}
+use Rattle.ucl_live_board.proofs.LogFacts.{opens_fresh}
 use Rattle.ucl_words.specs.WordRule.{words_after}
 use Rattle.std.proofs.Common.{ℕ, sym, subst}
 use Rattle.ucl_words.specs.WordRule.{Stands}

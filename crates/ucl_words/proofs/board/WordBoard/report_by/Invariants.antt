@@ -1,4 +1,4 @@
-use Rattle.ucl_shared.specs.Steps.{no_call}
+use Rattle.ucl_live_board.specs.Steps.{no_call}
 use Rattle.ucl_words.proofs.board.WordBoard.report_by.Given as goal
 
 abbrev pub ghosts-look : goal.ghosts-look

@@ -1,7 +1,7 @@
 use Rattle.std.proofs.Common.{◌+◌, ◌≤◌, sym, ◌∙◌, arith}
 use Rattle.ucl_board.specs.Words.{greatest_version}
-use Rattle.ucl_shared.proofs.CallsBySteps.{room}
-use Rattle.ucl_shared.specs.Views.{pass_view_of}
+use Rattle.ucl_live_board.proofs.CallsBySteps.{room}
+use Rattle.ucl_live_board.specs.Views.{pass_view_of}
 use Rattle.ucl_words.proofs.board.WordBoard.report_now.Goals as goal
 
 pub overflow_add-pass : goal.overflow_add-pass

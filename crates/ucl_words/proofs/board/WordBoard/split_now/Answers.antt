@@ -1,8 +1,8 @@
 use Rattle.std.proofs.Common.{◌≡◌, ap, refl, sym, subst}
-use Rattle.ucl_shared.specs.declared.view.View.{View}
+use Rattle.ucl_live_board.specs.declared.view.View.{View}
 use Rattle.ucl_steps.specs.Protocol.{Nothing}
 use Rattle.ucl_words.specs.declared.view.WordView.{WordView}
-use Rattle.ucl_shared.specs.Views.{count_of, trail_of}
+use Rattle.ucl_live_board.specs.Views.{count_of, trail_of}
 use Rattle.ucl_words.specs.WordCalls.{IsSteady}
 use Rattle.ucl_words.specs.WordDoings.{WordHasReported}
 use Rattle.ucl_words.specs.WordRule.{StandAfterSplit}

@@ -1,0 +1,205 @@
+//! A pass together with its board, so that no call can be given a pass of another board.
+
+ghost use Rattle.std.specs.Prelude.{◌≡◌, IfOk, IfErr, IfSome, IfNone, None, Some};
+ghost use Rattle.std.specs.Arc.{arc_value};
+ghost use Rattle.ucl_c_handles.specs.declared.board_pass.AnyPass.TheVariants.{Nobody};
+ghost use Rattle.ucl_c_handles.specs.BoardPasses.{FoundFull, IsPassOf, IsOpened, IsSplit, IsEnlisted, IsEnlistedFrom, IsNotEnlisted, IsReported, IsRead, IsNumberOf, cause_of, fault_of_split, fault_of_report, fault_of_read};
+
+use std::alloc::Global;
+use std::marker::Model;
+use std::sync::Arc;
+use ucl_board::Reading;
+use ucl_live_board::{LiveBoard, TooManyReporters};
+use ucl_word::{Accepted, EventCall, OutOfMemory, Refusal, ReporterNo};
+use ucl_words::{WordBoard, WordReaderPass, WordReporterPass};
+
+/// A pass of either kind, or none.
+#[derive(Drop)]
+pub enum AnyPass {
+    /// No pass.
+    Nobody,
+    /// A reader's.
+    Reader(WordReaderPass),
+    /// A reporter's.
+    Reporter(WordReporterPass),
+}
+
+/// Why a call was not done.
+#[derive(Clone, Copy, Debug, PartialEq, Eq)]
+pub enum WhyNot {
+    /// The handle that was to be given a pass is not null.
+    InUse,
+    /// The handle holds no pass.
+    NoPass,
+    /// Only a reader's pass is split or enlisted.
+    NotAReader,
+    /// Only a reporter's pass reports.
+    NotAReporter,
+    /// 30: as many reporters are enlisted as there are numbers, 255.
+    FullBoard,
+    /// An allocation was refused, or a board has more passes than can be counted.
+    OutOfMemory,
+}
+
+/// A share of a board, and a pass of it or none. Contracts see which table the board is, and the pass.
+#[derive(Drop)]
+pub struct BoardPass {
+    board: Arc<WordBoard, Global>,
+    pass: AnyPass,
+}
+
+impl Model for BoardPass {
+    ghost use Rattle.std.specs.Arc.{arc_value};
+    ghost use Rattle.ucl_c_handles.specs.BoardPasses.{PassHeld, IsPassOf};
+
+    ghost Value = { PassHeld };
+
+    ghost view = { λ s. record { board = arc_value s.board; pass = s.pass } };
+
+    ghost invariant = { λ s. IsPassOf (arc_value s.board) s.pass };
+}
+
+impl BoardPass {
+    /// A fresh board, and its first pass, a reader's.
+    pub fn open(alloc: Global) -> Result<BoardPass, OutOfMemory>
+        ensures { IfOk result (λ opened. IsOpened opened.pass) }
+    {
+        let (board, pass) = WordBoard::open(&(), alloc)?;
+        let board = Arc::new(alloc, board)?;
+        Ok(BoardPass {
+            board,
+            pass: AnyPass::Reader(pass),
+        })
+    }
+
+    /// Room for another pass of this board, which takes the memory that it needs.
+    fn room(board: &Arc<WordBoard, Global>, alloc: Global) -> Result<Box<BoardPass>, WhyNot>
+        ensures made { IfOk result (λ room.
+            room.value ≡ record { board = arc_value board.now; pass = Nobody }) }
+        ensures refused { IfErr result (λ why. why ≡ cause_of None) }
+    {
+        let Ok(board) = Arc::try_clone(board) else {
+            return Err(WhyNot::OutOfMemory);
+        };
+        match Box::new(
+            alloc,
+            BoardPass {
+                board,
+                pass: AnyPass::Nobody,
+            },
+        ) {
+            Ok(room) => Ok(room),
+            Err(_) => Err(WhyNot::OutOfMemory),
+        }
+    }
+
+    /// Puts a pass of the board into room for one.
+    fn hold(&mut self, pass: AnyPass)
+        requires { IsPassOf self.old.board pass }
+        ensures { self.new ≡ record { board = self.old.board; pass = pass } }
+    {
+        self.pass = pass;
+    }
+
+    /// A second reader's pass of the same board, which has seen as much. Without memory for it nothing is split.
+    pub fn split_off(&mut self, alloc: Global) -> Result<Box<BoardPass>, WhyNot>
+        ensures board { self.new.board ≡ self.old.board }
+        ensures given { IfOk result (λ second.
+            IsSplit self.old.pass self.new.pass second.value.pass) }
+        ensures refused { IfErr result (λ why. (self.new ≡ self.old)
+            × (why ≡ cause_of (fault_of_split self.old.pass))) }
+    {
+        match &mut self.pass {
+            AnyPass::Reader(pass) => {
+                let mut second = BoardPass::room(&self.board, alloc)?;
+                let split = self.board.split_now(pass);
+                second.hold(AnyPass::Reader(split));
+                Ok(second)
+            }
+            AnyPass::Reporter(_) => Err(WhyNot::NotAReader),
+            AnyPass::Nobody => Err(WhyNot::NoPass),
+        }
+    }
+
+    /// Makes a reader's pass a reporter's, and puts it into room for it. `None` where 255 reporters are enlisted.
+    fn enlist_into(
+        board: &Arc<WordBoard, Global>,
+        mut room: Box<BoardPass>,
+        pass: WordReaderPass,
+    ) -> Option<Box<BoardPass>>
+        requires { (pass.board ≡ arc_value board.now)
+            × (room.value.board ≡ arc_value board.now) }
+        ensures enlisted { IfSome result (λ second. IsEnlistedFrom pass second.value.pass) }
+        ensures full { IfNone result (FoundFull pass) }
+    {
+        match board.enlist_now(pass) {
+            Ok(reporter) => {
+                room.hold(AnyPass::Reporter(reporter));
+                Some(room)
+            }
+            Err(TooManyReporters(_)) => None,
+        }
+    }
+
+    /// A reporter's pass of the same board, under a number of its own. Without memory for it no number is spent.
+    pub fn enlist_another(&mut self, alloc: Global) -> Result<Box<BoardPass>, WhyNot>
+        ensures board { self.new.board ≡ self.old.board }
+        ensures given { IfOk result (λ second.
+            IsEnlisted self.old.pass self.new.pass second.value.pass) }
+        ensures refused { IfErr result (λ why. IsNotEnlisted why self.old.pass self.new.pass) }
+    {
+        match &mut self.pass {
+            AnyPass::Reader(pass) => {
+                let second = BoardPass::room(&self.board, alloc)?;
+                let split = self.board.split_now(pass);
+                match BoardPass::enlist_into(&self.board, second, split) {
+                    Some(second) => Ok(second),
+                    None => Err(WhyNot::FullBoard),
+                }
+            }
+            AnyPass::Reporter(_) => Err(WhyNot::NotAReader),
+            AnyPass::Nobody => Err(WhyNot::NoPass),
+        }
+    }
+
+    /// Enters an event under the number of a reporter's pass.
+    pub fn report(&mut self, call: &EventCall) -> Result<Result<Accepted, Refusal>, WhyNot>
+        ensures board { self.new.board ≡ self.old.board }
+        ensures judged { IfOk result (λ reply.
+            IsReported self.old.pass call.now reply self.new.pass) }
+        ensures refused { IfErr result (λ why. (self.new ≡ self.old)
+            × (fault_of_report self.old.pass ≡ Some why)) }
+    {
+        match &mut self.pass {
+            AnyPass::Reporter(pass) => Ok(self.board.report_now(pass, call)),
+            AnyPass::Reader(_) => Err(WhyNot::NotAReporter),
+            AnyPass::Nobody => Err(WhyNot::NoPass),
+        }
+    }
+
+    /// The number of a reporter's pass.
+    pub fn number(&self) -> Result<ReporterNo, WhyNot>
+        ensures number { IfOk result (IsNumberOf self.now.pass) }
+        ensures refused { IfErr result (λ why. fault_of_report self.now.pass ≡ Some why) }
+    {
+        match &self.pass {
+            AnyPass::Reporter(pass) => Ok(WordBoard::number_of(pass)),
+            AnyPass::Reader(_) => Err(WhyNot::NotAReporter),
+            AnyPass::Nobody => Err(WhyNot::NoPass),
+        }
+    }
+
+    /// The board as the pass reads it.
+    pub fn read(&mut self) -> Result<Reading, WhyNot>
+        ensures board { self.new.board ≡ self.old.board }
+        ensures reading { IfOk result (λ reading. IsRead self.old.pass reading self.new.pass) }
+        ensures refused { IfErr result (λ why. (self.new ≡ self.old)
+            × (fault_of_read self.old.pass ≡ Some why)) }
+    {
+        match &mut self.pass {
+            AnyPass::Reader(pass) => Ok(self.board.read_now(pass)),
+            AnyPass::Reporter(pass) => Ok(self.board.read_own_now(pass)),
+            AnyPass::Nobody => Err(WhyNot::NoPass),
+        }
+    }
+}

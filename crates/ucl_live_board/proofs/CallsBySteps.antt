@@ -1,0 +1,87 @@
+-- What a call leaves after its steps, on any shared board.
+use Rattle.std.proofs.Common.{◌≡◌, ℕ, ◌+◌, ◌≤◌, List, ◌∷◌, ◌++◌, length, refl, sym, ap, ◌∙◌, subst, arith, le_refl, true≢false, true, false, length-append, append-nil, append_assoc, []}
+use Rattle.std.specs.Prelude.{Result, Ok, Err, is_ok, Option, None, IfSome, IfOk}
+use Rattle.std.specs.List.{AllByRecursion}
+use Rattle.ucl_word.specs.declared.event.EventCall.{EventCall}
+use Rattle.ucl_word.specs.declared.event.Accepted.{Accepted}
+use Rattle.ucl_word.specs.declared.refusal.Refusal.{Refusal}
+use Rattle.ucl_board.specs.Words.{greatest_version}
+use Rattle.ucl_board.specs.History.{entry_of}
+use Rattle.ucl_board.specs.Log.{Enlisted, Taken, step_taken}
+use Rattle.ucl_board.proofs.Beginnings.{begins_same, begins_through}
+use Rattle.ucl_live_board.specs.declared.view.View.{View}
+use Rattle.ucl_live_board.specs.Passes.{PassView, IsSound, SeesOn, AcceptedReport, Enlistment}
+use Rattle.ucl_live_board.specs.Views.{pass_view_of, count_of, Takes, kept_of, second_of, note_of, IsNote}
+use Rattle.ucl_live_board.specs.Steps.{Goes}
+use Rattle.ucl_live_board.specs.CallSteps.{IsOnEnlisted, EnlistSteps}
+use Rattle.ucl_live_board.proofs.Lists.{none_by_zero, few_mine}
+use Rattle.ucl_live_board.proofs.Halves.{half_acts, half_not_whole}
+
+-- steps, one after another
+
+pub takes_none : (v : View) → Takes v [] v
+takes_none v = record { own = sym (append-nil v.own); copied = refl }
+
+pub takes_on : (u v w : View) (xs ys : List Taken) → Takes u xs v → Takes v ys w → Takes u (xs ++ ys) w
+takes_on u v w xs ys a b = record { own = b.own ∙ (ap (λ (l : List Taken). l ++ ys) a.own ∙ append_assoc u.own xs ys); copied = b.copied ∙ a.copied }
+
+pub takes_count : (v w : View) (xs : List Taken) → Takes v xs w → count_of w ≡ count_of v + length xs
+takes_count v w xs t = omega (
+  arith,
+  ap length t.copied,
+  ap length t.own,
+  length-append v.own xs,
+  length-append v.copied v.own,
+  length-append w.copied w.own,
+)
+
+-- a pass after any number of steps that changed nothing else
+pub record Stays (v w : View) : Type 0 where
+  pub on : SeesOn (pass_view_of v) (pass_view_of w)
+  pub mine : w.mine ≡ v.mine
+  pub number : w.number ≡ v.number
+  pub shown : w.shown ≡ v.shown
+
+pub stays_none : (v : View) → Stays v v
+stays_none v = record { on = record { seen = begins_same v.seen; listed = le_refl v.listed; share = refl }; mine = refl; number = refl; shown = refl }
+
+pub stays_more : (v w u : View) → Stays v w → Goes w u → w.listed ≤ u.listed → u.mine ≡ w.mine → u.number ≡ w.number → u.shown ≡ w.shown → Stays v u
+stays_more v w u t goes le mine number shown = search (arith, begins_through)
+
+pub all_more : {X : Type 0} (P : X → Type 0) (xs : List X) (x : X) → AllByRecursion P xs → P x → AllByRecursion P (xs ++ x ∷ [])
+all_more P [] x all one = (one, tt)
+all_more P (y ∷ xs) x all one = (all.0, all_more P xs x all.1 one)
+
+-- one step more on the number of the enlisted
+pub one_more : (v w u : View) (found at : ℕ) → EnlistSteps v w → Takes w (step_taken (Enlisted found) at None ∷ []) u → EnlistSteps v u
+one_more v w u found at s t = record {
+  steps = s.steps ++ step_taken (Enlisted found) at None ∷ [];
+  takes = takes_on v w u s.steps (step_taken (Enlisted found) at None ∷ []) s.takes t;
+  on_enlisted = all_more IsOnEnlisted s.steps (step_taken (Enlisted found) at None) s.on_enlisted (found, (refl, refl));
+}
+
+pub number_told : (u v : View) (r : Option ℕ) (n : ℕ) → Enlistment (pass_view_of u) (pass_view_of v) → v.number ≡ n → IfSome r (λ k. k ≡ n)
+    → IfSome r (λ k. Enlistment (pass_view_of u) (pass_view_of v) × (v.number ≡ k))
+number_told u v r n e is told = search arith
+
+-- what was split off as a note is one
+pub note_is : (a n : View) → n ≡ note_of a → IsNote n
+note_is a n is = subst IsNote (sym is) refl
+
+pub note_seen : (a n : View) → n ≡ note_of a → n.seen ≡ a.seen
+note_seen a n is = ap (λ (v : View). v.seen) is
+
+pub sound_second : (v : View) → IsSound (pass_view_of v) → IsSound (pass_view_of (second_of v))
+sound_second v s = record { legal = s.legal; own = sym (none_by_zero v.seen s.legal); few = s.few; acts = half_acts true v.share s.acts; alone = λ is. absurd (half_not_whole true v.share is) }
+
+pub sound_kept : (v : View) → IsSound (pass_view_of v) → IsSound (pass_view_of (kept_of v))
+sound_kept v s = record { legal = s.legal; own = s.own; few = s.few; acts = half_acts false v.share s.acts; alone = λ is. absurd (half_not_whole false v.share is) }
+
+-- the count of accepted events has room for one more
+pub room : (k m : PassView) (call : EventCall) (r : Result Accepted Refusal) (n : ℕ) → IfOk r (λ reply. AcceptedReport k call reply m) → is_ok r ≡ true → IsSound m → length k.mine ≡ n
+    → n + 1 ≤ greatest_version
+room k m call (Ok reply) n a is s len =
+    let l = ap length a.mine ∙ length-append k.mine (entry_of k.number call ∷ []) in
+    let f = few_mine m s in
+    omega arith
+room k m call (Err why) n a is s len = absurd (true≢false (sym is))

@@ -1,0 +1,40 @@
+-- The entries of one reporter.
+use Rattle.std.proofs.Common.{◌≡◌, ◌≢◌, ℕ, ◌≤◌, Bool, cond, ◌==◌, List, ◌∷◌, ◌++◌, length, refl, sym, ap, ◌∙◌, subst, arith, append-nil, eq-eqb, ne_eqb, le_refl, []}
+use Rattle.std.specs.Prelude.{not}
+use Rattle.std.proofs.lemmas.List.Elements.{filter-append}
+use Rattle.std.proofs.lemmas.List.Filters.{length-filter_both}
+use mathlib.Core.List.{IsPrefix}
+use Rattle.ucl_word.proofs.Sequences.{may_induction}
+use Rattle.ucl_board.specs.declared.entry.Entry.{Entry}
+use Rattle.ucl_board.specs.Words.{greatest_version}
+use Rattle.ucl_board.specs.History.{MayFollow, IsLegal, followed_by}
+use Rattle.ucl_board.proofs.HistoryLaws.{versions}
+use Rattle.ucl_board.proofs.Beginnings.{begins_same}
+use Rattle.ucl_live_board.specs.Passes.{PassView, IsSound, Continues, entries_by}
+
+-- what a longer history has of one reporter, and what it has more
+pub by_more : (n : ℕ) (s h : List Entry) (p : IsPrefix s h) → entries_by n h ≡ entries_by n s ++ entries_by n p.0
+by_more n s h p = ap (entries_by n) (sym p.1) ∙ filter-append (λ (e : Entry). e.reporter == n) s p.0
+
+pub by_own : (n : ℕ) (h : List Entry) (e : Entry) → e.reporter ≡ n → entries_by n (followed_by h e) ≡ followed_by (entries_by n h) e
+by_own n h e is = filter-append (λ (x : Entry). x.reporter == n) h (e ∷ []) ∙ ap (λ (b : Bool). entries_by n h ++ cond b (e ∷ []) []) (eq-eqb e.reporter n is)
+
+pub by_other : (n : ℕ) (h : List Entry) (e : Entry) → e.reporter ≢ n → entries_by n (followed_by h e) ≡ entries_by n h
+by_other n h e ne = filter-append (λ (x : Entry). x.reporter == n) h (e ∷ []) ∙ (ap (λ (b : Bool). entries_by n h ++ cond b (e ∷ []) []) (ne_eqb e.reporter n ne) ∙ append-nil (entries_by n h))
+
+-- no entry of a legal history has the number of a reader
+pub none_by_zero : (h : List Entry) → IsLegal h → entries_by 0 h ≡ []
+none_by_zero = may_induction MayFollow (λ h. entries_by 0 h ≡ []) refl (λ h e legal may was. by_other 0 h e (λ z. let r = may.accepted.reporter.0 in omega arith) ∙ was)
+
+-- a pass has no more entries than a history can have
+pub few_mine : (k : PassView) → IsSound k → length k.mine ≤ greatest_version
+few_mine k s =
+    let v = versions k.seen s.legal in
+    let l = v.1 in
+    let d = length-filter_both (λ (e : Entry). e.reporter == k.number) (λ (e : Entry). not (e.reporter == k.number)) (λ _. refl) k.seen in
+    let o = ap length s.own in
+    omega arith
+
+-- a pass that no call changed
+pub unchanged : (k m : PassView) → IsSound k → m ≡ k → Continues k m
+unchanged k m sound same = subst (Continues k) (sym same) (record { sound = sound; on = record { seen = begins_same k.seen; listed = le_refl k.listed; share = refl }; number = refl })

@@ -1,0 +1,292 @@
+//! What every shared board is.
+
+ghost use Rattle.std.specs.Prelude.{◌≡◌, ℕ, List, IfOk, IfErr, MatchResult};
+ghost use Rattle.ucl_board.specs.declared.entry.Entry.{Entry};
+ghost use Rattle.ucl_live_board.specs.Passes.{PassView, IsSound, Continues, ReportsMore, AcceptedReport, RefusedReport, SharedReading, kept_pass, split_pass, Enlistment, FullBoard, Hearing, Meeting, reporter_figures};
+
+use crate::errors::TooManyReporters;
+use std::sync::Wait;
+use ucl_board::Reading;
+use ucl_word::{Accepted, EventCall, Refusal, ReporterNo};
+
+/// How many reporters a board can have: as many as there are numbers of a `ReporterNo`.
+pub const MOST_REPORTERS: u64 = 255;
+
+/// A board that threads share. Each thread holds a pass, and what a call answers is said of what its pass has seen: a prefix
+/// of one history of accepted events, the same for all passes (Herlihy and Wing, Linearizability).
+///
+/// A condition of every call is that its passes are of this board: they came, by `split` or `enlist`, from the pass that its
+/// `open` gave. So is it of a note, which came from a pass of this board. The calls that take `rt` may wait, and what they promise holds where they return.
+pub trait LiveBoard: Sync {
+    /// What a reader holds: it reads, and can be split or enlisted.
+    type ReaderPass: Send + Drop;
+
+    /// What a reporter holds: it enters events under its own number, and reads.
+    type ReporterPass: Send + Drop;
+
+    /// What a pass has seen, to be sent to another thread, whose pass then hears it.
+    type Note: Send + Drop;
+
+    // The pass is one of this board.
+    ghost is_reader: { Self → Self.ReaderPass → Type 0 };
+
+    ghost is_reporter: { Self → Self.ReporterPass → Type 0 };
+
+    // The note is of a pass of this board.
+    ghost is_note: { Self → Self.Note → Type 0 };
+
+    // What is known of a pass.
+    ghost reader: { Self.ReaderPass → PassView };
+
+    ghost reporter: { Self.ReporterPass → PassView };
+
+    // The history that the pass of a note had seen.
+    ghost noted: { Self.Note → List Entry };
+
+    // How many events a reporter's pass has reported, whatever the replies: one more by each report, and by nothing else.
+    ghost has_reported: { Self.ReporterPass → ℕ → Type 0 };
+
+    /// Enters an event under the number of the pass. An accepted event is the last that the pass has seen; a refusal is the reply
+    /// of a board of one thread after all that the pass has then seen, enters nothing, and may leave the pass having seen more.
+    ///
+    /// ```rust
+    /// let (board, pass) = CellBoard::open(&rt, rt.alloc())?;
+    /// let mut reporter = board.enlist(&rt, pass).ok().ok_or("no number")?;
+    /// let kick_off = EventCall {
+    ///     game: MatchNo::new(1).ok_or("no match")?,
+    ///     expected: 0,
+    ///     kind: Kind::KickOff,
+    /// };
+    /// let reply = board.report(&rt, &mut reporter, &kick_off);
+    /// assert_eq!(rt; reply, Ok(Accepted { number: 1 }));
+    /// ```
+    fn report<R: Wait>(
+        &self,
+        rt: &R,
+        pass: &mut Self::ReporterPass,
+        call: &EventCall,
+    ) -> Result<Accepted, Refusal>
+        requires { is_reporter self.now pass.old }
+        ensures own { is_reporter self.now pass.new }
+        ensures always { Continues (reporter pass.old) (reporter pass.new) }
+        ensures accepted { IfOk result
+            (λ reply. AcceptedReport (reporter pass.old) call.now reply (reporter pass.new)) }
+        ensures refused { IfErr result
+            (λ refusal. RefusedReport (reporter pass.old) call.now refusal (reporter pass.new)) }
+        ensures reported { ReportsMore (has_reported pass.old) 1 (has_reported pass.new) };
+
+    /// The board after a prefix of the history that has all that the pass had seen, and its version.
+    ///
+    /// ```rust
+    /// let (board, mut reader) = CellBoard::open(&rt, rt.alloc())?;
+    /// let reading = board.read(&rt, &mut reader);
+    /// assert_eq!(rt; reading.version, 0);
+    /// assert_eq!(rt; reading.board.words(), [0x2000000000000000; 12]);
+    /// ```
+    fn read<R: Wait>(&self, rt: &R, pass: &mut Self::ReaderPass) -> Reading
+        requires { is_reader self.now pass.old }
+        ensures own { is_reader self.now pass.new }
+        ensures always { Continues (reader pass.old) (reader pass.new) }
+        ensures reading { SharedReading (reader pass.old) result (reader pass.new) };
+
+    /// The same for a reporter.
+    ///
+    /// ```rust
+    /// let (board, pass) = CellBoard::open(&rt, rt.alloc())?;
+    /// let mut reporter = board.enlist(&rt, pass).ok().ok_or("no number")?;
+    /// let kick_off = EventCall {
+    ///     game: MatchNo::new(1).ok_or("no match")?,
+    ///     expected: 0,
+    ///     kind: Kind::KickOff,
+    /// };
+    /// let accepted = board.report(&rt, &mut reporter, &kick_off).is_ok();
+    /// let reading = board.read_own(&rt, &mut reporter);
+    /// assert_eq!(rt; (accepted, reading.version), (true, 1));
+    /// ```
+    fn read_own<R: Wait>(&self, rt: &R, pass: &mut Self::ReporterPass) -> Reading
+        requires { is_reporter self.now pass.old }
+        ensures own { is_reporter self.now pass.new }
+        ensures always { Continues (reporter pass.old) (reporter pass.new) }
+        ensures reading { SharedReading (reporter pass.old) result (reporter pass.new) }
+        ensures reported { ReportsMore (has_reported pass.old) 0 (has_reported pass.new) };
+
+    /// A second pass, which has seen as much as the lent one, for another thread.
+    ///
+    /// ```rust
+    /// let (board, mut reader) = CellBoard::open(&rt, rt.alloc())?;
+    /// let mut other = board.split(&rt, &mut reader);
+    /// let reading = board.read(&rt, &mut reader);
+    /// assert_eq!(rt; board.read(&rt, &mut other), reading);
+    /// ```
+    fn split<R: Wait>(&self, rt: &R, pass: &mut Self::ReaderPass) -> Self::ReaderPass
+        requires { is_reader self.now pass.old }
+        ensures own { is_reader self.now pass.new × is_reader self.now result }
+        ensures sound { IsSound (reader pass.old) }
+        ensures kept { reader pass.new ≡ kept_pass (reader pass.old) }
+        ensures given { reader result ≡ split_pass (reader pass.old) };
+
+    /// Makes a reader a reporter, under a number of its own. Where 255 are enlisted the answer is 30 with the pass, which may have
+    /// seen more.
+    ///
+    /// ```rust
+    /// let (board, pass) = CellBoard::open(&rt, rt.alloc())?;
+    /// let version = match board.enlist(&rt, pass) {
+    ///     Ok(mut reporter) => board.read_own(&rt, &mut reporter).version,
+    ///     Err(TooManyReporters(mut reader)) => board.read(&rt, &mut reader).version,
+    /// };
+    /// assert_eq!(rt; version, 0);
+    /// ```
+    fn enlist<R: Wait>(
+        &self,
+        rt: &R,
+        pass: Self::ReaderPass,
+    ) -> Result<Self::ReporterPass, TooManyReporters<Self::ReaderPass>>
+        requires { is_reader self.now pass }
+        ensures own { MatchResult result (λ enlisted. is_reporter self.now enlisted)
+            (λ full. is_reader self.now full.0) }
+        ensures enlisted { IfOk result (λ enlisted. Enlistment (reader pass) (reporter enlisted)) }
+        ensures always { IfErr result (λ full. Continues (reader pass) (reader full.0)) }
+        ensures full { IfErr result (λ full. FullBoard (reader pass) (reader full.0)) }
+        ensures reported { IfOk result (λ enlisted. has_reported enlisted 0) };
+
+    /// Afterwards the second pass has seen all that either had seen. The first is as it was.
+    ///
+    /// ```rust
+    /// let (board, mut pass) = CellBoard::open(&rt, rt.alloc())?;
+    /// let other = board.split(&rt, &mut pass);
+    /// let mut first = board.enlist(&rt, pass).ok().ok_or("no number")?;
+    /// let mut second = board.enlist(&rt, other).ok().ok_or("no number")?;
+    /// board.meet(&rt, &mut first, &mut second);
+    /// assert_eq!(rt; board.read_own(&rt, &mut second).version, 0);
+    /// ```
+    fn meet<R: Wait>(&self, rt: &R, first: &mut Self::ReporterPass, second: &mut Self::ReporterPass)
+        requires { is_reporter self.now first.old × is_reporter self.now second.old }
+        ensures own { is_reporter self.now first.new × is_reporter self.now second.new }
+        ensures sound { IsSound (reporter first.old) }
+        ensures always { Continues (reporter second.old) (reporter second.new) }
+        ensures unchanged { reporter first.new ≡ reporter first.old }
+        ensures meeting { Meeting (reporter first.old) (reporter second.old) (reporter second.new) }
+        ensures reported { ReportsMore (has_reported first.old) 0 (has_reported first.new)
+            × ReportsMore (has_reported second.old) 0 (has_reported second.new) };
+
+    /// The same where the first is a reader: afterwards the reporter's pass has seen all that either had seen.
+    ///
+    /// ```rust
+    /// let (board, mut pass) = CellBoard::open(&rt, rt.alloc())?;
+    /// let mut reader = board.split(&rt, &mut pass);
+    /// let mut reporter = board.enlist(&rt, pass).ok().ok_or("no number")?;
+    /// board.meet_reader(&rt, &mut reader, &mut reporter);
+    /// assert_eq!(rt; board.read_own(&rt, &mut reporter).version, 0);
+    /// ```
+    fn meet_reader<R: Wait>(
+        &self,
+        rt: &R,
+        first: &mut Self::ReaderPass,
+        second: &mut Self::ReporterPass,
+    )
+        requires { is_reader self.now first.old × is_reporter self.now second.old }
+        ensures own { is_reader self.now first.new × is_reporter self.now second.new }
+        ensures sound { IsSound (reader first.old) }
+        ensures always { Continues (reporter second.old) (reporter second.new) }
+        ensures unchanged { reader first.new ≡ reader first.old }
+        ensures meeting { Meeting (reader first.old) (reporter second.old) (reporter second.new) }
+        ensures reported { ReportsMore (has_reported second.old) 0 (has_reported second.new) };
+
+    /// A note of all that a reader's pass has seen: whoever gets it, by a channel, a join or else, can `hear` it. The pass is as it was.
+    ///
+    /// ```rust
+    /// let (board, mut reader) = CellBoard::open(&rt, rt.alloc())?;
+    /// let mut screen = board.split(&rt, &mut reader);
+    /// let note = board.note(&rt, &mut reader);
+    /// board.hear(&rt, &mut screen, note);
+    /// assert_eq!(rt; board.read(&rt, &mut screen).version, 0);
+    /// ```
+    fn note<R: Wait>(&self, rt: &R, pass: &mut Self::ReaderPass) -> Self::Note
+        requires { is_reader self.now pass.old }
+        ensures own { is_reader self.now pass.new × is_note self.now result }
+        ensures sound { IsSound (reader pass.old) }
+        ensures unchanged { reader pass.new ≡ reader pass.old }
+        ensures seen { noted result ≡ (reader pass.old).seen };
+
+    /// The same of a reporter's pass: after an event was accepted, a note that has it.
+    ///
+    /// ```rust
+    /// let (board, mut pass) = CellBoard::open(&rt, rt.alloc())?;
+    /// let mut screen = board.split(&rt, &mut pass);
+    /// let mut reporter = board.enlist(&rt, pass).ok().ok_or("no number")?;
+    /// let note = board.note_own(&rt, &mut reporter);
+    /// board.hear(&rt, &mut screen, note);
+    /// assert_eq!(rt; board.read(&rt, &mut screen).version, 0);
+    /// ```
+    fn note_own<R: Wait>(&self, rt: &R, pass: &mut Self::ReporterPass) -> Self::Note
+        requires { is_reporter self.now pass.old }
+        ensures own { is_reporter self.now pass.new × is_note self.now result }
+        ensures sound { IsSound (reporter pass.old) }
+        ensures unchanged { reporter pass.new ≡ reporter pass.old }
+        ensures seen { noted result ≡ (reporter pass.old).seen }
+        ensures reported { ReportsMore (has_reported pass.old) 0 (has_reported pass.new) };
+
+    /// Afterwards the pass has seen all that the note tells, so its next reading has it.
+    ///
+    /// ```rust
+    /// let (board, mut pass) = CellBoard::open(&rt, rt.alloc())?;
+    /// let mut screen = board.split(&rt, &mut pass);
+    /// let mut reporter = board.enlist(&rt, pass).ok().ok_or("no number")?;
+    /// let note = board.note_own(&rt, &mut reporter);
+    /// board.hear(&rt, &mut screen, note);
+    /// let reading = board.read(&rt, &mut screen);
+    /// assert_eq!(rt; board.read_own(&rt, &mut reporter), reading);
+    /// ```
+    fn hear<R: Wait>(&self, rt: &R, pass: &mut Self::ReaderPass, note: Self::Note)
+        requires { is_reader self.now pass.old × is_note self.now note }
+        ensures own { is_reader self.now pass.new }
+        ensures always { Continues (reader pass.old) (reader pass.new) }
+        ensures heard { Hearing (noted note) (reader pass.old) (reader pass.new) };
+
+    /// The same for a reporter.
+    ///
+    /// ```rust
+    /// let (board, mut pass) = CellBoard::open(&rt, rt.alloc())?;
+    /// let mut reader = board.split(&rt, &mut pass);
+    /// let mut reporter = board.enlist(&rt, pass).ok().ok_or("no number")?;
+    /// let note = board.note(&rt, &mut reader);
+    /// board.hear_own(&rt, &mut reporter, note);
+    /// assert_eq!(rt; board.read_own(&rt, &mut reporter).version, 0);
+    /// ```
+    fn hear_own<R: Wait>(&self, rt: &R, pass: &mut Self::ReporterPass, note: Self::Note)
+        requires { is_reporter self.now pass.old × is_note self.now note }
+        ensures own { is_reporter self.now pass.new }
+        ensures always { Continues (reporter pass.old) (reporter pass.new) }
+        ensures heard { Hearing (noted note) (reporter pass.old) (reporter pass.new) }
+        ensures reported { ReportsMore (has_reported pass.old) 0 (has_reported pass.new) };
+
+    /// The number of a reporter's pass.
+    ///
+    /// ```rust
+    /// let (board, mut pass) = CellBoard::open(&rt, rt.alloc())?;
+    /// let other = board.split(&rt, &mut pass);
+    /// let first = board.enlist(&rt, pass).ok().ok_or("no number")?;
+    /// let second = board.enlist(&rt, other).ok().ok_or("no number")?;
+    /// assert_eq!(rt; CellBoard::number_of(&first).get(), 1);
+    /// assert_eq!(rt; CellBoard::number_of(&second).get(), 2);
+    /// ```
+    fn number_of(pass: &Self::ReporterPass) -> ReporterNo
+        ensures { result ≡ (reporter_figures (reporter pass.now)).number };
+
+    /// How many events of a reporter's pass were accepted.
+    ///
+    /// ```rust
+    /// let (board, pass) = CellBoard::open(&rt, rt.alloc())?;
+    /// let mut reporter = board.enlist(&rt, pass).ok().ok_or("no number")?;
+    /// let kick_off = EventCall {
+    ///     game: MatchNo::new(1).ok_or("no match")?,
+    ///     expected: 0,
+    ///     kind: Kind::KickOff,
+    /// };
+    /// assert!(rt; board.report(&rt, &mut reporter, &kick_off).is_ok());
+    /// assert!(rt; board.report(&rt, &mut reporter, &kick_off).is_err());
+    /// assert_eq!(rt; CellBoard::accepted_of(&reporter), 1);
+    /// ```
+    fn accepted_of(pass: &Self::ReporterPass) -> u16
+        ensures { result ≡ (reporter_figures (reporter pass.now)).accepted };
+}
