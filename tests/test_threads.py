@@ -6,6 +6,7 @@ import itertools
 import json
 import os
 import random
+import re
 import signal
 import time
 
@@ -607,3 +608,18 @@ def test_evenings_killed_a_thousand_times_lose_no_whole_answer(program, tmp_path
 
     with concurrent.futures.ThreadPoolExecutor() as evenings:
         assert sum(evenings.map(killed, range(80))) >= 1_000
+
+
+@pytest.mark.parametrize("form", ["text", "json"])
+def test_matches_as_they_stand(hall, form):
+    """A reporter asks for them on his own answers, which are those of `ucl_live`."""
+    rows = ["matches,,", "1,0,kickoff", "matches,,", "1,1,goal-home", "2,1,goal-away", '"matches","",', "matches,,\r", "matches,", "matches,,,", "Matches,,", "matches,0,", "", "matches,,"]
+    hall.write("north.rows", "\n".join(rows))
+    assert hall.held("--reporter", NORTH, "--format", form).status == 0
+    typed = {"matches,,": "matches,,,", '"matches","",': '"matches","",,', "matches,,\r": "matches,,,\r", "": ""}
+    lines = Evening(["--format", form] if form == "json" else []).of(CLUBS + "".join(typed.get(row, f"1,{row}") + "\n" for row in rows))[1].splitlines()
+    if form == "json":
+        assert [json.loads(line) for line in hall.read("north.replies").splitlines()] == [as_typed(line, rows) for line in lines]
+    else:
+        as_row = lambda line: line if line.startswith("match ") else re.sub(r"^\d+", lambda row: str(int(row[0]) - 4), line)
+        assert hall.read("north.replies").splitlines() == [as_row(line) for line in lines]

@@ -15,7 +15,7 @@ use Rattle.ucl_board.proofs.Beginnings.{at_beginning, begins_length, take_beginn
 use Rattle.ucl_live_board.specs.Passes.{PassView, IsSound, Continues, ReportsMore, AcceptedReport, RefusedReport, SharedReading}
 use Rattle.ucl_live_board.proofs.Lists.{unchanged}
 use Rattle.ucl_runs.proofs.EnteredRows.{goes_on}
-use Rattle.ucl_evenings.specs.Reporting.{Entered, EventOutcome, IsAmong, IsNoOlder, IsReadingFrom, MomentsHaveTheirEvents, Refused}
+use Rattle.ucl_evenings.specs.Reporting.{Ask, Entered, EventOutcome, IsAmong, IsNoOlder, IsReadingFrom, Look, Looked, MomentsHaveTheirEvents, Refused, Report}
 use Rattle.ucl_evenings.specs.Reporting.{IsOutcomeAt, past_point, GoThrough, entered_by, entered_in, accepted_in, HasReportedRows, RangFor}
 
 -- no event
@@ -25,7 +25,7 @@ rows_none k sound = record { always = unchanged k k sound refl; through = le_ref
 
 -- an event that was accepted, and a reading after it
 pub row_accepted : (k m z : PassView) (call : EventCall) (reply : Accepted) (reading : Reading) → Continues k m → AcceptedReport k call reply m → Continues m z → SharedReading m reading z
-    → HasReportedRows k z (call ∷ []) (Entered reply.number reading ∷ [])
+    → HasReportedRows k z (Report call ∷ []) (Entered reply.number reading ∷ [])
 unfolding GoThrough entered_in
 row_accepted k m z call reply reading first a then read =
     let p : ℕ = length a.before in
@@ -56,7 +56,7 @@ past_accepted k m z call reply reading a read =
 
 -- an event that was refused, and a reading after it
 pub row_refused : (k m z : PassView) (call : EventCall) (refusal : Refusal) (reading : Reading) → Continues k m → RefusedReport k call refusal m → Continues m z → SharedReading m reading z
-    → HasReportedRows k z (call ∷ []) (Refused refusal reading ∷ [])
+    → HasReportedRows k z (Report call ∷ []) (Refused refusal reading ∷ [])
 unfolding GoThrough entered_in
 row_refused k m z call refusal reading on r then read =
     let all : take (length m.seen) z.seen ≡ m.seen = take_whole m.seen z.seen then.on.seen in record {
@@ -70,6 +70,15 @@ row_refused k m z call refusal reading on r then read =
       mine = read.mine ∙ r.mine ∙ sym (append-nil k.mine);
     }
 
+-- a reading, by which the matches are shown
+pub row_looked : (k z : PassView) (reading : Reading) → Continues k z → SharedReading k reading z → HasReportedRows k z (Look ∷ []) (Looked reading ∷ [])
+unfolding GoThrough entered_in
+row_looked k z reading on read = record {
+  always = on;
+  through = (length k.seen, le_refl (length k.seen), record { low = read.low; high = read.high; snapshot = read.snapshot }, begins_length k.seen z.seen on.on.seen);
+  mine = read.mine ∙ sym (append-nil k.mine);
+}
+
 -- ---- events after events
 
 module _ (reporter : ℕ) (s h : List Entry) (on : IsPrefix s h) where
@@ -80,8 +89,8 @@ module _ (reporter : ℕ) (s h : List Entry) (on : IsPrefix s h) where
     snapshot = r.snapshot ∙ ap (λ (l : List Entry). record { board = board_of l; version = reading.version }) (sym (take_beginning s h reading.version on r.high));
   }
 
-  pub at_on : (point : ℕ) (call : EventCall) (w : EventOutcome) → IsOutcomeAt reporter s point call w → IsOutcomeAt reporter h point call w
-  at_on point call (Entered number reading) r =
+  pub at_on : (point : ℕ) (ask : Ask) (w : EventOutcome) → IsOutcomeAt reporter s point ask w → IsOutcomeAt reporter h point ask w
+  at_on point (Report call) (Entered number reading) r =
       let low = r.read.low in
       let high = r.read.high in
       record {
@@ -89,86 +98,95 @@ module _ (reporter : ℕ) (s h : List Entry) (on : IsPrefix s h) where
         entry = at_beginning s h point (entry_of reporter call) on r.entry;
         read = reading_on (point + 1) reading r.read;
       }
-  at_on point call (Refused refusal reading) r =
+  at_on point (Report call) (Refused refusal reading) r =
       let low = r.0.low in
       let high = r.0.high in
       (reading_on point reading r.0, ap (λ (l : List Entry). sequential_reply l call) (take_beginning s h point on (omega arith)) ∙ r.1)
+  at_on point Look (Looked reading) r = reading_on point reading r
+  at_on point (Report call) (Looked reading) r = absurd r
+  at_on point Look (Entered number reading) r = absurd r
+  at_on point Look (Refused refusal reading) r = absurd r
 
-  through_on : (low high : ℕ) (calls : List EventCall) (outcomes : List EventOutcome) → GoThrough reporter s low high calls outcomes → GoThrough reporter h low high calls outcomes
+  through_on : (low high : ℕ) (asks : List Ask) (outcomes : List EventOutcome) → GoThrough reporter s low high asks outcomes → GoThrough reporter h low high asks outcomes
   unfolding GoThrough
   through_on low high [] [] g = g
   through_on low high [] (w ∷ outcomes) g = absurd g
-  through_on low high (call ∷ calls) [] g = absurd g
-  through_on low high (call ∷ calls) (w ∷ outcomes) g = (g.0, g.1, at_on g.0 call w g.2, through_on (past_point g.0 w) high calls outcomes g.3)
+  through_on low high (ask ∷ asks) [] g = absurd g
+  through_on low high (ask ∷ asks) (w ∷ outcomes) g = (g.0, g.1, at_on g.0 ask w g.2, through_on (past_point g.0 w) high asks outcomes g.3)
 
 module _ (reporter : ℕ) (h : List Entry) where
-  through_lower : (low low2 high : ℕ) (calls : List EventCall) (outcomes : List EventOutcome) → low ≤ low2 → GoThrough reporter h low2 high calls outcomes
-      → GoThrough reporter h low high calls outcomes
+  through_lower : (low low2 high : ℕ) (asks : List Ask) (outcomes : List EventOutcome) → low ≤ low2 → GoThrough reporter h low2 high asks outcomes
+      → GoThrough reporter h low high asks outcomes
   unfolding GoThrough
   through_lower low low2 high [] [] le g = omega arith
   through_lower low low2 high [] (w ∷ outcomes) le g = absurd g
-  through_lower low low2 high (call ∷ calls) [] le g = absurd g
-  through_lower low low2 high (call ∷ calls) (w ∷ outcomes) le g = let x = g.1 in (g.0, omega arith, g.2, g.3)
+  through_lower low low2 high (ask ∷ asks) [] le g = absurd g
+  through_lower low low2 high (ask ∷ asks) (w ∷ outcomes) le g = let x = g.1 in (g.0, omega arith, g.2, g.3)
 
-  through_then : (low mid high : ℕ) (calls more : List EventCall) (outcomes later : List EventOutcome) → GoThrough reporter h low mid calls outcomes → GoThrough reporter h mid high more later
-      → GoThrough reporter h low high (calls ++ more) (outcomes ++ later)
+  through_then : (low mid high : ℕ) (asks more : List Ask) (outcomes later : List EventOutcome) → GoThrough reporter h low mid asks outcomes → GoThrough reporter h mid high more later
+      → GoThrough reporter h low high (asks ++ more) (outcomes ++ later)
   unfolding GoThrough
   through_then low mid high [] more [] later g k = through_lower low mid high more later g k
   through_then low mid high [] more (w ∷ outcomes) later g k = absurd g
-  through_then low mid high (call ∷ calls) more [] later g k = absurd g
-  through_then low mid high (call ∷ calls) more (w ∷ outcomes) later g k = (g.0, g.1, g.2, through_then (past_point g.0 w) mid high calls more outcomes later g.3 k)
+  through_then low mid high (ask ∷ asks) more [] later g k = absurd g
+  through_then low mid high (ask ∷ asks) more (w ∷ outcomes) later g k = (g.0, g.1, g.2, through_then (past_point g.0 w) mid high asks more outcomes later g.3 k)
 
-  through_count : (low high : ℕ) (calls : List EventCall) (outcomes : List EventOutcome) → GoThrough reporter h low high calls outcomes → length outcomes ≡ length calls
+  through_count : (low high : ℕ) (asks : List Ask) (outcomes : List EventOutcome) → GoThrough reporter h low high asks outcomes → length outcomes ≡ length asks
   unfolding GoThrough
   through_count low high [] [] g = refl
   through_count low high [] (w ∷ outcomes) g = absurd g
-  through_count low high (call ∷ calls) [] g = absurd g
-  through_count low high (call ∷ calls) (w ∷ outcomes) g = let n = through_count (past_point g.0 w) high calls outcomes g.3 in omega arith
+  through_count low high (ask ∷ asks) [] g = absurd g
+  through_count low high (ask ∷ asks) (w ∷ outcomes) g = let n = through_count (past_point g.0 w) high asks outcomes g.3 in omega arith
 
-entered_then : (reporter : ℕ) (calls more : List EventCall) (outcomes later : List EventOutcome) → length outcomes ≡ length calls
-    → entered_in reporter (calls ++ more) (outcomes ++ later) ≡ entered_in reporter calls outcomes ++ entered_in reporter more later
+entered_then : (reporter : ℕ) (asks more : List Ask) (outcomes later : List EventOutcome) → length outcomes ≡ length asks
+    → entered_in reporter (asks ++ more) (outcomes ++ later) ≡ entered_in reporter asks outcomes ++ entered_in reporter more later
 unfolding entered_in
 entered_then reporter [] more [] later same = refl
 entered_then reporter [] more (w ∷ outcomes) later same = absurd (omega arith)
-entered_then reporter (call ∷ calls) more [] later same = absurd (omega arith)
-entered_then reporter (call ∷ calls) more (w ∷ outcomes) later same =
-    ap (λ (l : List Entry). entered_by reporter call w ++ l) (entered_then reporter calls more outcomes later (omega arith))
-    ∙ sym (append_assoc (entered_by reporter call w) (entered_in reporter calls outcomes) (entered_in reporter more later))
+entered_then reporter (ask ∷ asks) more [] later same = absurd (omega arith)
+entered_then reporter (ask ∷ asks) more (w ∷ outcomes) later same =
+    ap (λ (l : List Entry). entered_by reporter ask w ++ l) (entered_then reporter asks more outcomes later (omega arith))
+    ∙ sym (append_assoc (entered_by reporter ask w) (entered_in reporter asks outcomes) (entered_in reporter more later))
 
-pub rows_count : (k m : PassView) (calls : List EventCall) (outcomes : List EventOutcome) → HasReportedRows k m calls outcomes → length outcomes ≡ length calls
-rows_count k m calls outcomes r = through_count k.number m.seen (length k.seen) (length m.seen) calls outcomes r.through
+pub rows_count : (k m : PassView) (asks : List Ask) (outcomes : List EventOutcome) → HasReportedRows k m asks outcomes → length outcomes ≡ length asks
+rows_count k m asks outcomes r = through_count k.number m.seen (length k.seen) (length m.seen) asks outcomes r.through
 
 -- what a pass did, and then did more
-pub rows_then : (k m z : PassView) (calls more : List EventCall) (outcomes later : List EventOutcome) → HasReportedRows k m calls outcomes → HasReportedRows m z more later
-    → HasReportedRows k z (calls ++ more) (outcomes ++ later)
-rows_then k m z calls more outcomes later a b =
+pub rows_then : (k m z : PassView) (asks more : List Ask) (outcomes later : List EventOutcome) → HasReportedRows k m asks outcomes → HasReportedRows m z more later
+    → HasReportedRows k z (asks ++ more) (outcomes ++ later)
+rows_then k m z asks more outcomes later a b =
     let same : m.number ≡ k.number = a.always.number in
     record {
       always = goes_on k m z a.always b.always;
-      through = through_then k.number z.seen (length k.seen) (length m.seen) (length z.seen) calls more outcomes later
-          (through_on k.number m.seen z.seen b.always.on.seen (length k.seen) (length m.seen) calls outcomes a.through)
+      through = through_then k.number z.seen (length k.seen) (length m.seen) (length z.seen) asks more outcomes later
+          (through_on k.number m.seen z.seen b.always.on.seen (length k.seen) (length m.seen) asks outcomes a.through)
           (subst (λ (n : ℕ). GoThrough n z.seen (length m.seen) (length z.seen) more later) same b.through);
       mine = b.mine ∙ ap (λ (l : List Entry). l ++ entered_in m.number more later) a.mine
-          ∙ ap (λ (n : ℕ). (k.mine ++ entered_in k.number calls outcomes) ++ entered_in n more later) same
-          ∙ append_assoc k.mine (entered_in k.number calls outcomes) (entered_in k.number more later)
-          ∙ ap (λ (l : List Entry). k.mine ++ l) (sym (entered_then k.number calls more outcomes later (rows_count k m calls outcomes a)));
+          ∙ ap (λ (n : ℕ). (k.mine ++ entered_in k.number asks outcomes) ++ entered_in n more later) same
+          ∙ append_assoc k.mine (entered_in k.number asks outcomes) (entered_in k.number more later)
+          ∙ ap (λ (l : List Entry). k.mine ++ l) (sym (entered_then k.number asks more outcomes later (rows_count k m asks outcomes a)));
     }
 
 -- ---- rings
 
-entered_count : (reporter : ℕ) (calls : List EventCall) (outcomes : List EventOutcome) → length outcomes ≡ length calls → length (entered_in reporter calls outcomes) ≡ accepted_in outcomes
-unfolding entered_in accepted_in
-entered_count reporter [] [] same = refl
-entered_count reporter [] (w ∷ outcomes) same = absurd (omega arith)
-entered_count reporter (call ∷ calls) [] same = absurd (omega arith)
-entered_count reporter (call ∷ calls) (Entered number reading ∷ outcomes) same = let rest = entered_count reporter calls outcomes (omega arith) in omega arith
-entered_count reporter (call ∷ calls) (Refused refusal reading ∷ outcomes) same = let rest = entered_count reporter calls outcomes (omega arith) in omega arith
+pub entered_count : (reporter : ℕ) (h : List Entry) (low high : ℕ) (asks : List Ask) (outcomes : List EventOutcome) → GoThrough reporter h low high asks outcomes
+    → length (entered_in reporter asks outcomes) ≡ accepted_in outcomes
+unfolding GoThrough entered_in accepted_in
+entered_count reporter h low high [] [] g = refl
+entered_count reporter h low high [] (w ∷ outcomes) g = absurd g
+entered_count reporter h low high (ask ∷ asks) [] g = absurd g
+entered_count reporter h low high (Report call ∷ asks) (Entered number reading ∷ outcomes) g = let rest = entered_count reporter h (g.0 + 1) high asks outcomes g.3 in omega arith
+entered_count reporter h low high (Report call ∷ asks) (Refused refusal reading ∷ outcomes) g = let rest = entered_count reporter h g.0 high asks outcomes g.3 in omega arith
+entered_count reporter h low high (Report call ∷ asks) (Looked reading ∷ outcomes) g = absurd g.2
+entered_count reporter h low high (Look ∷ asks) (Entered number reading ∷ outcomes) g = absurd g.2
+entered_count reporter h low high (Look ∷ asks) (Refused refusal reading ∷ outcomes) g = absurd g.2
+entered_count reporter h low high (Look ∷ asks) (Looked reading ∷ outcomes) g = let rest = entered_count reporter h g.0 high asks outcomes g.3 in omega arith
 
-pub rang_for : (k m : PassView) (calls : List EventCall) (outcomes : List EventOutcome) (rung rung2 : ℕ → Type 0) → HasReportedRows k m calls outcomes → RangFor k m rung rung2
+pub rang_for : (k m : PassView) (asks : List Ask) (outcomes : List EventOutcome) (rung rung2 : ℕ → Type 0) → HasReportedRows k m asks outcomes → RangFor k m rung rung2
     → ReportsMore rung (accepted_in outcomes) rung2
-rang_for k m calls outcomes rung rung2 p r n h =
-    let all = ap (length {A = Entry}) p.mine ∙ length-append k.mine (entered_in k.number calls outcomes) in
-    let count = entered_count k.number calls outcomes (rows_count k m calls outcomes p) in subst rung2 (omega arith) (r.rang n h)
+rang_for k m asks outcomes rung rung2 p r n h =
+    let all = ap (length {A = Entry}) p.mine ∙ length-append k.mine (entered_in k.number asks outcomes) in
+    let count = entered_count k.number m.seen (length k.seen) (length m.seen) asks outcomes p.through in subst rung2 (omega arith) (r.rang n h)
 
 pub rang_none : (k : PassView) (rung : ℕ → Type 0) → RangFor k k rung rung
 rang_none k rung = record { grows = le_refl (length k.mine); rang = λ n h. subst rung (omega arith) h }
@@ -182,6 +200,10 @@ rang_once k m z call reply reading rung rung2 a read once =
 pub rang_not : (k m z : PassView) (call : EventCall) (refusal : Refusal) (reading : Reading) (rung : ℕ → Type 0) → RefusedReport k call refusal m → SharedReading m reading z → RangFor k z rung rung
 rang_not k m z call refusal reading rung r read =
     let all = ap (length {A = Entry}) (read.mine ∙ r.mine) in record { grows = omega arith; rang = λ n h. subst rung (omega arith) h }
+
+pub rang_looked : (k z : PassView) (reading : Reading) (rung : ℕ → Type 0) → SharedReading k reading z → RangFor k z rung rung
+rang_looked k z reading rung read =
+    let all = ap (length {A = Entry}) read.mine in record { grows = omega arith; rang = λ n h. subst rung (omega arith) h }
 
 pub rang_then : (k m z : PassView) (a b c : ℕ → Type 0) → RangFor k m a b → RangFor m z b c → RangFor k z a c
 rang_then k m z a b c p q =
@@ -200,12 +222,17 @@ taken_at (x ∷ l) (suc p) (suc n) e less at = taken_at l p n e (omega arith) at
 pub moments_have : MomentsHaveTheirEvents
 unfolding GoThrough entered_in
 moments_have reporter h low high moment [] [] later g all = All-nil (IsAmong (take moment h))
-moments_have reporter h low high moment (call ∷ calls) [] later g all = All-nil (IsAmong (take moment h))
+moments_have reporter h low high moment (ask ∷ asks) [] later g all = All-nil (IsAmong (take moment h))
 moments_have reporter h low high moment [] (w ∷ first) later g all = absurd g
-moments_have reporter h low high moment (call ∷ calls) (Entered number reading ∷ first) later g all =
+moments_have reporter h low high moment (Report call ∷ asks) (Entered number reading ∷ first) later g all =
     let at = g.2.read.low in
     let told = All-head (IsNoOlder moment) (Entered number reading) first all in
-    All-cons (IsAmong (take moment h)) (entry_of reporter call) (entered_in reporter calls first) (g.0, taken_at h g.0 moment (entry_of reporter call) (omega arith) g.2.entry)
-    (moments_have reporter h (g.0 + 1) high moment calls first later g.3 (All-tail (IsNoOlder moment) (Entered number reading) first all))
-moments_have reporter h low high moment (call ∷ calls) (Refused refusal reading ∷ first) later g all =
-    moments_have reporter h g.0 high moment calls first later g.3 (All-tail (IsNoOlder moment) (Refused refusal reading) first all)
+    All-cons (IsAmong (take moment h)) (entry_of reporter call) (entered_in reporter asks first) (g.0, taken_at h g.0 moment (entry_of reporter call) (omega arith) g.2.entry)
+    (moments_have reporter h (g.0 + 1) high moment asks first later g.3 (All-tail (IsNoOlder moment) (Entered number reading) first all))
+moments_have reporter h low high moment (Report call ∷ asks) (Refused refusal reading ∷ first) later g all =
+    moments_have reporter h g.0 high moment asks first later g.3 (All-tail (IsNoOlder moment) (Refused refusal reading) first all)
+moments_have reporter h low high moment (Report call ∷ asks) (Looked reading ∷ first) later g all = absurd g.2
+moments_have reporter h low high moment (Look ∷ asks) (Entered number reading ∷ first) later g all = absurd g.2
+moments_have reporter h low high moment (Look ∷ asks) (Refused refusal reading ∷ first) later g all = absurd g.2
+moments_have reporter h low high moment (Look ∷ asks) (Looked reading ∷ first) later g all =
+    moments_have reporter h g.0 high moment asks first later g.3 (All-tail (IsNoOlder moment) (Looked reading) first all)

@@ -2,7 +2,6 @@
 use Rattle.std.proofs.Common.{◌≡◌, ℕ, ◌+◌, ◌-◌, ◌<◌, ◌≤◌, List, [], ◌∷◌, ◌++◌, length, refl, sym, ap, ap₂, ◌∙◌, append_assoc, append-nil, arith, length-append}
 use Rattle.std.specs.Prelude.{IfOk, Result, Ok, Err}
 use Rattle.ucl_word.specs.declared.event.Accepted.{Accepted}
-use Rattle.ucl_word.specs.declared.event.EventCall.{EventCall}
 use Rattle.ucl_word.specs.declared.refusal.Refusal.{Refusal}
 use Rattle.ucl_board.specs.declared.reading.Reading.{Reading}
 use Rattle.ucl_order.specs.Roster.{NamedClub}
@@ -14,27 +13,32 @@ use Rattle.ucl_runs.specs.Lines.{accepted_line}
 use Rattle.ucl_runs.specs.LiveText.{reply_answer}
 use Rattle.ucl_evenings.specs.declared.shape.Shape.{Shape}
 use Rattle.ucl_evenings.specs.declared.input.Input.{Input}
-use Rattle.ucl_evenings.specs.declared.input.Input.TheVariants.{Nothing, Bad, Event}
-use Rattle.ucl_evenings.specs.Reporting.{EventOutcome}
+use Rattle.ucl_evenings.specs.declared.input.Input.TheVariants.{Nothing, Bad, Event, Matches}
+use Rattle.ucl_evenings.specs.Reporting.{Ask, EventOutcome, Look, Report, reports_in}
 use Rattle.ucl_runs.specs.BadRows.{shown_text}
 use Rattle.ucl_evenings.specs.Inputs.{input_on}
-use Rattle.ucl_evenings.specs.Answering.{ReplyStyle, answers_in, calls_in, calls_of, entered_answer, input_answer, outcome_answer, event_outcome, outcomes_later, refused_answer}
+use Rattle.ucl_evenings.specs.Answering.{ReplyStyle, answers_in, asks_in, asks_of, entered_answer, input_answer, outcome_answer, event_outcome, outcomes_later, refused_answer}
 
-pub calls_none : (row : ℕ) → calls_in row [] ≡ []
-unfolding calls_in
-calls_none row = refl
+pub asks_none : (row : ℕ) → asks_in row [] ≡ []
+unfolding asks_in
+asks_none row = refl
 
-pub calls_one : (row : ℕ) (line : List ℕ) → calls_in row (line ∷ []) ≡ calls_of (input_on row line)
-unfolding calls_in
-calls_one row line = append-nil (calls_of (input_on row line))
+pub asks_one : (row : ℕ) (line : List ℕ) → asks_in row (line ∷ []) ≡ asks_of (input_on row line)
+unfolding asks_in
+asks_one row line = append-nil (asks_of (input_on row line))
 
-pub calls_then : (row : ℕ) (a b : List (List ℕ)) → calls_in row (a ++ b) ≡ calls_in row a ++ calls_in (row + length a) b
-unfolding calls_in
-calls_then row [] b = ap (λ (n : ℕ). calls_in n b) (omega arith)
-calls_then row (line ∷ a) b =
+pub asks_then : (row : ℕ) (a b : List (List ℕ)) → asks_in row (a ++ b) ≡ asks_in row a ++ asks_in (row + length a) b
+unfolding asks_in
+asks_then row [] b = ap (λ (n : ℕ). asks_in n b) (omega arith)
+asks_then row (line ∷ a) b =
     let next : row + 1 + length a ≡ row + length (line ∷ a) = omega arith in
-    ap (λ (l : List EventCall). calls_of (input_on row line) ++ l) (calls_then (row + 1) a b ∙ ap (λ (n : ℕ). calls_in (row + 1) a ++ calls_in n b) next)
-    ∙ sym (append_assoc (calls_of (input_on row line)) (calls_in (row + 1) a) (calls_in (row + length (line ∷ a)) b))
+    ap (λ (l : List Ask). asks_of (input_on row line) ++ l) (asks_then (row + 1) a b ∙ ap (λ (n : ℕ). asks_in (row + 1) a ++ asks_in n b) next)
+    ∙ sym (append_assoc (asks_of (input_on row line)) (asks_in (row + 1) a) (asks_in (row + length (line ∷ a)) b))
+
+pub reports_both : (a b : List Ask) → length (reports_in (a ++ b)) ≡ length (reports_in a) + length (reports_in b)
+reports_both [] b = omega arith
+reports_both (Report call ∷ a) b = let n = reports_both a b in omega arith
+reports_both (Look ∷ a) b = let n = reports_both a b in omega arith
 
 pub answers_none : (s : ReplyStyle) (row : ℕ) (outcomes : List EventOutcome) → answers_in s row [] outcomes ≡ []
 unfolding answers_in
@@ -46,35 +50,41 @@ answers_one s row line outcomes = append-nil (input_answer s row (shown_text lin
 
 -- a line whose event has gone some way
 
-one_answer : (s : ReplyStyle) (row : ℕ) (shown : List ℕ) (t : Input) (outcomes later : List EventOutcome) → length (calls_of t) ≤ length outcomes
+one_answer : (s : ReplyStyle) (row : ℕ) (shown : List ℕ) (t : Input) (outcomes later : List EventOutcome) → length (asks_of t) ≤ length outcomes
     → input_answer s row shown t (outcomes ++ later) ≡ input_answer s row shown t outcomes
 one_answer s row shown Nothing outcomes later h = refl
 one_answer s row shown (Bad field) outcomes later h = refl
 one_answer s row shown (Event call) [] later h = absurd (omega arith)
 one_answer s row shown (Event call) (w ∷ outcomes) later h = refl
+one_answer s row shown Matches [] later h = absurd (omega arith)
+one_answer s row shown Matches (w ∷ outcomes) later h = refl
 
-one_later : (t : Input) (outcomes later : List EventOutcome) → length (calls_of t) ≤ length outcomes → outcomes_later t (outcomes ++ later) ≡ outcomes_later t outcomes ++ later
+one_later : (t : Input) (outcomes later : List EventOutcome) → length (asks_of t) ≤ length outcomes → outcomes_later t (outcomes ++ later) ≡ outcomes_later t outcomes ++ later
 one_later Nothing outcomes later h = refl
 one_later (Bad field) outcomes later h = refl
 one_later (Event call) [] later h = absurd (omega arith)
 one_later (Event call) (w ∷ outcomes) later h = refl
+one_later Matches [] later h = absurd (omega arith)
+one_later Matches (w ∷ outcomes) later h = refl
 
-one_count : (t : Input) (outcomes : List EventOutcome) (n : ℕ) → length outcomes ≡ length (calls_of t) + n → length (outcomes_later t outcomes) ≡ n
+one_count : (t : Input) (outcomes : List EventOutcome) (n : ℕ) → length outcomes ≡ length (asks_of t) + n → length (outcomes_later t outcomes) ≡ n
 one_count Nothing outcomes n h = omega arith
 one_count (Bad field) outcomes n h = omega arith
 one_count (Event call) [] n h = absurd (omega arith)
 one_count (Event call) (w ∷ outcomes) n h = omega arith
+one_count Matches [] n h = absurd (omega arith)
+one_count Matches (w ∷ outcomes) n h = omega arith
 
 -- lines after lines, where each event of the first has gone some way
-pub answers_then : (s : ReplyStyle) (row : ℕ) (lines more : List (List ℕ)) (outcomes later : List EventOutcome) → length outcomes ≡ length (calls_in row lines)
+pub answers_then : (s : ReplyStyle) (row : ℕ) (lines more : List (List ℕ)) (outcomes later : List EventOutcome) → length outcomes ≡ length (asks_in row lines)
     → answers_in s row (lines ++ more) (outcomes ++ later) ≡ answers_in s row lines outcomes ++ answers_in s (row + length lines) more later
-unfolding answers_in calls_in
+unfolding answers_in asks_in
 answers_then s row [] more [] later same = ap (λ (n : ℕ). answers_in s n more later) (omega arith)
 answers_then s row [] more (w ∷ outcomes) later same = absurd (omega arith)
 answers_then s row (line ∷ lines) more outcomes later same =
     let t = input_on row line in
-    let count = same ∙ length-append (calls_of t) (calls_in (row + 1) lines) in
-    let rest : length (outcomes_later t outcomes) ≡ length (calls_in (row + 1) lines) = one_count t outcomes (length (calls_in (row + 1) lines)) count in
+    let count = same ∙ length-append (asks_of t) (asks_in (row + 1) lines) in
+    let rest : length (outcomes_later t outcomes) ≡ length (asks_in (row + 1) lines) = one_count t outcomes (length (asks_in (row + 1) lines)) count in
     let first = one_answer s row (shown_text line) t outcomes later (omega arith) in
     let second : answers_in s (row + 1) (lines ++ more) (outcomes_later t (outcomes ++ later))
     ≡ answers_in s (row + 1) lines (outcomes_later t outcomes) ++ answers_in s (row + 1 + length lines) more later =
@@ -99,6 +109,6 @@ refused_is Json title row clubs event refusal reading before = refl
 pub reply_is : (shape : Shape) (clubs : List NamedClub) (row : ℕ) (event : NightEvent) (reply : Result Accepted Refusal) (reading : Reading) (before : ℕ) → before ≡ reading.version - 1
     → IfOk reply (λ _. 0 < reading.version)
     → reply_answer shape.format shape.title row clubs event before reply reading.board
-    ≡ outcome_answer (record { shape = shape; clubs = clubs; reporter = event.reporter }) row event.call (event_outcome reply reading)
+    ≡ outcome_answer (record { shape = shape; clubs = clubs; reporter = event.reporter }) row (Report event.call) (event_outcome reply reading)
 reply_is shape clubs row event (Ok accepted) reading before is some = entered_is shape.format shape.title row clubs event accepted reading before is some
 reply_is shape clubs row event (Err refusal) reading before is some = refused_is shape.format shape.title row clubs event refusal reading before

@@ -1,15 +1,13 @@
 -- What a row asks for, whose fields are read one at a time.
 use Rattle.std.proofs.Common.{◌≡◌, ℕ, List, [], ◌∷◌, Option, Some, None, refl}
 use Rattle.csv.specs.Records.{field_at}
-use Rattle.ucl_screen.specs.Events.{call_in}
-use Rattle.ucl_runs.specs.BadRows.{bad_field_of_call}
 use Rattle.ucl_runs.specs.declared.bad_row.BadField.TheVariants.{Count}
 use Rattle.ucl_evenings.specs.declared.input.Input.{Input}
 use Rattle.ucl_evenings.specs.declared.input.Input.TheVariants.{Bad}
-use Rattle.ucl_evenings.specs.Inputs.{call_or_bad, input_of_row}
+use Rattle.ucl_evenings.specs.Inputs.{input_of_row, input_of_three}
 
 abbrev pub row_from : Option (List ℕ) → Option (List ℕ) → Option (List ℕ) → Option (List ℕ) → Input
-row_from (Some game) (Some expected) (Some kind) None = call_or_bad (bad_field_of_call game expected) (call_in game expected kind)
+row_from (Some game) (Some expected) (Some kind) None = input_of_three game expected kind
 row_from (Some game) (Some expected) (Some kind) (Some more) = Bad Count
 row_from (Some game) (Some expected) None d = Bad Count
 row_from (Some game) None c d = Bad Count

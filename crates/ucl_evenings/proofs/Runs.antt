@@ -15,14 +15,14 @@ use Rattle.ucl_io.proofs.Turns.{lines_count as turns_count}
 use Rattle.ucl_live_board.specs.Passes.{PassView, IsSound}
 use Rattle.ucl_runs.specs.declared.fault.RunFault.{RunFault}
 use Rattle.ucl_runs.specs.declared.fault.RunFault.TheVariants.{OutOfMemory}
-use Rattle.ucl_command.specs.declared.options.Format.TheVariants.{Json}
 use Rattle.ucl_runs.specs.Run.{SinkFails, fault_of, is_read_failed}
 use Rattle.ucl_runs.proofs.Driven.{IfMachine, IsOwn, reads, sinks}
 use Rattle.ucl_io.specs.Lines.{begun_line, ended_lines}
 use Rattle.ucl_runs.specs.InputLines.{last_lines, lines_of}
-use Rattle.ucl_evenings.specs.Answering.{ReplyStyle, calls_in, answers_in}
+use Rattle.ucl_evenings.specs.Inputs.{input_on}
+use Rattle.ucl_evenings.specs.Answering.{ReplyStyle, answers_in, asks_in}
 use Rattle.ucl_evenings.specs.Reporting.{EventOutcome, RangFor, accepted_in}
-use Rattle.ucl_evenings.specs.Rows.{HasNoMemory, IsAnsweredUpTo, RunEnds, StopsInLast, TookRows, TurnsBy, TurnsLines}
+use Rattle.ucl_evenings.specs.Rows.{HasNoMemory, IsAnsweredUpTo, RunEnds, StopsInLast, TookRows, TurnsBy, TurnsLines, WantsMemory}
 use Rattle.ucl_evenings.proofs.Events.{rang_for}
 use Rattle.ucl_evenings.proofs.LineAnswers.{answers_none, answers_then}
 use Rattle.ucl_evenings.proofs.Lines.{by_none, by_then, lines_count}
@@ -123,7 +123,7 @@ module _ (M K : Type 0) (board : M → K) (style : M → ReplyStyle) (view : M �
           consumed = u.consumed;
           answered = subst (Appends old.taken now.taken) by.text_is u.out;
           rang = subst (λ (k : M). (n : ℕ) → rung old.machine n → rung k (n + accepted_in outcomes)) (sym u.machine)
-              (rang_for (view old.machine) (view z) (calls_in 1 (ended_lines 258 [] u.bytes)) outcomes (rung old.machine) (rung z) by.reported.rows by.rang);
+              (rang_for (view old.machine) (view z) (asks_in 1 (ended_lines 258 [] u.bytes)) outcomes (rung old.machine) (rung z) by.reported.rows by.rang);
         }
 
     all_turns : (turns : List (Turn M)) (p : AreTurns A 1 old.machine turns) → new.machine ≡ state_after old.machine turns
@@ -219,8 +219,8 @@ module _ (M K : Type 0) (board : M → K) (style : M → ReplyStyle) (view : M �
         -- a fault of the machine is want of memory
         no_memory : (f : RunFault) (bytes : List ℕ) (turns : List (Turn M)) (rest : List (List ℕ))
             → (StopsNext S 1 old.machine new.machine turns rest f ⊎ StopsLast D 258 old new bytes turns rest f) → f ≡ OutOfMemory
-        no_memory f bytes turns rest (inl e) = (halts _ _ _ _ f e.stops).1.memory.fault_is
-        no_memory f bytes turns rest (inr e) = (halts_last _ _ _ _ f e.stops).2.memory.fault_is
+        no_memory f bytes turns rest (inl e) = (halts _ _ _ _ f e.stops).1.fault_is
+        no_memory f bytes turns rest (inr e) = (halts_last _ _ _ _ f e.stops).2.fault_is
 
         module _ (x y z : Bool) where
           abbrev before : Device
@@ -300,7 +300,7 @@ module _ (M K : Type 0) (board : M → K) (style : M → ReplyStyle) (view : M �
                 let last = h.turned in
                 let all = with_one turns p.turned (line ∷ []) h.text last.0 last.1 in
                 let on = same_board 1 old.machine turns p.turned in
-                subst (λ (x : RunFault). Came (Err x)) (sym h.memory.fault_is)
+                subst (λ (x : RunFault). Came (Err x)) (sym h.fault_is)
                 (record {
                   took = record {
                     bytes = bytes;
@@ -311,10 +311,11 @@ module _ (M K : Type 0) (board : M → K) (style : M → ReplyStyle) (view : M �
                     prompt = always turns p.turned last.0 logged;
                     ends = record {
                       some = some;
-                      json = sym (ap (λ (s : ReplyStyle). s.shape.format) on.1) ∙ h.memory.json;
                       before = lines_in turns;
                       last = line;
                       in_last = refl;
+                      wants = subst (λ (n : ℕ). WantsMemory s0.shape.format (input_on (1 + n) line)) (sym (turns_count M turns))
+                          (subst (λ (s : ReplyStyle). WantsMemory s.shape.format (input_on (1 + length turns) line)) on.1 h.wants);
                       answered = subst (Appends old.taken new.taken) (sym (first_text turns turns [] (sym (append-nil turns)) p.turned last.0)) out;
                     };
                   };

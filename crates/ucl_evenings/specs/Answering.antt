@@ -15,12 +15,12 @@ use Rattle.ucl_json.specs.Lines.{json_line}
 use Rattle.ucl_json.specs.Values.{accepted_value, refused_value}
 use Rattle.ucl_runs.specs.Lines.{accepted_line, refused_line}
 use Rattle.ucl_runs.specs.BadRows.{shown_text}
-use Rattle.ucl_runs.specs.LiveText.{bad_answer}
+use Rattle.ucl_runs.specs.LiveText.{bad_answer, matches_answer}
 use Rattle.ucl_evenings.specs.declared.input.Input.{Input}
-use Rattle.ucl_evenings.specs.declared.input.Input.TheVariants.{Nothing, Bad, Event}
+use Rattle.ucl_evenings.specs.declared.input.Input.TheVariants.{Nothing, Bad, Event, Matches}
 use Rattle.ucl_evenings.specs.declared.shape.Shape.{Shape}
 use Rattle.ucl_evenings.specs.Inputs.{input_on}
-use Rattle.ucl_evenings.specs.Reporting.{EventOutcome, Entered, Refused}
+use Rattle.ucl_evenings.specs.Reporting.{Ask, Report, Look, EventOutcome, Entered, Refused, Looked}
 
 -- how a reporter is answered: in which form and under what title, with which clubs, and under which number
 pub record ReplyStyle : Type 0 where
@@ -41,41 +41,48 @@ abbrev pub refused_answer : Format → ℕ → NightEvent → Refusal → Readin
 refused_answer Text row event refusal reading = refused_line row refusal
 refused_answer Json row event refusal reading = json_line (refused_value row event refusal (game_at reading.board event.call.game))
 
-abbrev pub outcome_answer : ReplyStyle → ℕ → EventCall → EventOutcome → List ℕ
-outcome_answer s row call (Entered number reading) =
+abbrev pub outcome_answer : ReplyStyle → ℕ → Ask → EventOutcome → List ℕ
+outcome_answer s row (Report call) (Entered number reading) =
     entered_answer s.shape.format s.shape.title row s.clubs (record { reporter = s.reporter; call = call }) number reading
-outcome_answer s row call (Refused refusal reading) = refused_answer s.shape.format row (record { reporter = s.reporter; call = call }) refusal reading
+outcome_answer s row (Report call) (Refused refusal reading) = refused_answer s.shape.format row (record { reporter = s.reporter; call = call }) refusal reading
+outcome_answer s row Look (Looked reading) = matches_answer s.shape.format row s.clubs reading.board
+outcome_answer _ _ _ _ = []
 
 -- how an event went, by its reply and a reading that was taken after it
 abbrev pub event_outcome : Result Accepted Refusal → Reading → EventOutcome
 event_outcome (Ok accepted) reading = Entered accepted.number reading
 event_outcome (Err refusal) reading = Refused refusal reading
 
--- the events that lines ask for, of which the first has this number
-abbrev pub calls_of : Input → List EventCall
-calls_of Nothing = []
-calls_of (Bad field) = []
-calls_of (Event call) = call ∷ []
+-- what lines ask for, of which the first has this number
+abbrev pub asks_of : Input → List Ask
+asks_of Nothing = []
+asks_of (Bad field) = []
+asks_of (Event call) = Report call ∷ []
+asks_of Matches = Look ∷ []
 
-unfoldable pub calls_in : ℕ → List (List ℕ) → List EventCall
-calls_in row [] = []
-calls_in row (line ∷ lines) = calls_of (input_on row line) ++ calls_in (row + 1) lines
+unfoldable pub asks_in : ℕ → List (List ℕ) → List Ask
+asks_in row [] = []
+asks_in row (line ∷ lines) = asks_of (input_on row line) ++ asks_in (row + 1) lines
 
--- the answer to what a line asks for that is shown so, where the next events went so
+-- the answer to what a line asks for that is shown so, where what is asked for next went so
 abbrev pub input_answer : ReplyStyle → ℕ → List ℕ → Input → List EventOutcome → List ℕ
 input_answer s row shown Nothing outcomes = []
 input_answer s row shown (Bad field) outcomes = bad_answer s.shape.format row field shown
 input_answer s row shown (Event call) [] = []
-input_answer s row shown (Event call) (o ∷ outcomes) = outcome_answer s row call o
+input_answer s row shown (Event call) (o ∷ outcomes) = outcome_answer s row (Report call) o
+input_answer s row shown Matches [] = []
+input_answer s row shown Matches (o ∷ outcomes) = outcome_answer s row Look o
 
--- how the events after those of a line went
+-- how it went with what lines after it ask for
 abbrev pub outcomes_later : Input → List EventOutcome → List EventOutcome
 outcomes_later (Event call) [] = []
 outcomes_later (Event call) (o ∷ outcomes) = outcomes
+outcomes_later Matches [] = []
+outcomes_later Matches (o ∷ outcomes) = outcomes
 outcomes_later Nothing outcomes = outcomes
 outcomes_later (Bad field) outcomes = outcomes
 
--- the answers to lines, of which the first has this number, where their events went so: one for each
+-- the answers to lines, of which the first has this number, where it went so with what they ask for: one for each
 unfoldable pub answers_in : ReplyStyle → ℕ → List (List ℕ) → List EventOutcome → List ℕ
 answers_in s row [] outcomes = []
 answers_in s row (line ∷ lines) outcomes =

@@ -7,10 +7,23 @@ use Rattle.ucl_board.specs.declared.reading.Reading.{Reading}
 use Rattle.ucl_board.specs.History.{entry_of, sequential_reply, snapshot_at}
 use Rattle.ucl_live_board.specs.Passes.{PassView, Continues, ReportsMore}
 
--- how an event went: it was accepted, and has this number, or it was refused; with a reading that was taken after it
+-- what a row asks for: that an event be entered, or to see the matches
+pub data Ask : Type 0 where
+  Report : (call : EventCall) → Ask
+  Look : Ask
+
+-- the events among these
+abbrev pub reports_in : List Ask → List EventCall
+reports_in [] = []
+reports_in (Report call ∷ asks) = call ∷ reports_in asks
+reports_in (Look ∷ asks) = reports_in asks
+
+-- how an event went: it was accepted, and has this number, or it was refused; with a reading that was taken after it; or the reading
+-- by which the matches were shown
 pub data EventOutcome : Type 0 where
   Entered : (number : ℕ) (reading : Reading) → EventOutcome
   Refused : (refusal : Refusal) (reading : Reading) → EventOutcome
+  Looked : (reading : Reading) → EventOutcome
 
 -- a reading of a history, with no fewer than so many of its entries
 pub record IsReadingFrom (least : ℕ) (history : List Entry) (reading : Reading) : Type 0 where
@@ -24,45 +37,49 @@ pub record IsNextAt (reporter : ℕ) (history : List Entry) (point : ℕ) (call 
   pub entry : slice_get history point ≡ Some (entry_of reporter call)
   pub read : IsReadingFrom (point + 1) history reading
 
--- an event went so at this point of a history: it is the next entry, or was refused there; the reading came after it
-abbrev pub IsOutcomeAt : ℕ → List Entry → ℕ → EventCall → EventOutcome → Type 0
-IsOutcomeAt reporter history point call (Entered number reading) = IsNextAt reporter history point call number reading
-IsOutcomeAt reporter history point call (Refused refusal reading) = IsReadingFrom point history reading × (sequential_reply (take point history) call ≡ Err refusal)
+-- what was asked for went so at this point of a history: the event is the next entry, or was refused there; the reading came after it
+abbrev pub IsOutcomeAt : ℕ → List Entry → ℕ → Ask → EventOutcome → Type 0
+IsOutcomeAt reporter history point (Report call) (Entered number reading) = IsNextAt reporter history point call number reading
+IsOutcomeAt reporter history point (Report call) (Refused refusal reading) = IsReadingFrom point history reading × (sequential_reply (take point history) call ≡ Err refusal)
+IsOutcomeAt reporter history point Look (Looked reading) = IsReadingFrom point history reading
+IsOutcomeAt _ _ _ _ _ = ⊥
 
 -- the least point of what comes after an event
 abbrev pub past_point : ℕ → EventOutcome → ℕ
 past_point point (Entered number reading) = point + 1
 past_point point (Refused refusal reading) = point
+past_point point (Looked reading) = point
 
--- the events of a reporter went so, one after the other, at points from one of a history to another: these never fall, and rise after an accepted one
-unfoldable pub GoThrough : ℕ → List Entry → ℕ → ℕ → List EventCall → List EventOutcome → Type 0
+-- what a reporter asked for went so, one after the other, at points from one of a history to another: these never fall, and rise after an accepted one
+unfoldable pub GoThrough : ℕ → List Entry → ℕ → ℕ → List Ask → List EventOutcome → Type 0
 GoThrough reporter history low high [] [] = low ≤ high
-GoThrough reporter history low high (call ∷ calls) (w ∷ outcomes) =
-    (point : ℕ) × (low ≤ point) × IsOutcomeAt reporter history point call w × GoThrough reporter history (past_point point w) high calls outcomes
+GoThrough reporter history low high (ask ∷ asks) (w ∷ outcomes) =
+    (point : ℕ) × (low ≤ point) × IsOutcomeAt reporter history point ask w × GoThrough reporter history (past_point point w) high asks outcomes
 GoThrough reporter history low high [] (w ∷ outcomes) = ⊥
-GoThrough reporter history low high (call ∷ calls) [] = ⊥
+GoThrough reporter history low high (ask ∷ asks) [] = ⊥
 
 -- the entries of the events that were accepted
-abbrev pub entered_by : ℕ → EventCall → EventOutcome → List Entry
-entered_by reporter call (Entered number reading) = entry_of reporter call ∷ []
-entered_by reporter call (Refused refusal reading) = []
+abbrev pub entered_by : ℕ → Ask → EventOutcome → List Entry
+entered_by reporter (Report call) (Entered number reading) = entry_of reporter call ∷ []
+entered_by _ _ _ = []
 
-unfoldable pub entered_in : ℕ → List EventCall → List EventOutcome → List Entry
+unfoldable pub entered_in : ℕ → List Ask → List EventOutcome → List Entry
 entered_in reporter [] outcomes = []
-entered_in reporter (call ∷ calls) [] = []
-entered_in reporter (call ∷ calls) (w ∷ outcomes) = entered_by reporter call w ++ entered_in reporter calls outcomes
+entered_in reporter (ask ∷ asks) [] = []
+entered_in reporter (ask ∷ asks) (w ∷ outcomes) = entered_by reporter ask w ++ entered_in reporter asks outcomes
 
--- a reporter's pass, k before and m after, has reported these events, each of which went so: every one in the history that it has then
+-- a reporter's pass, k before and m after, has done what was asked for, and each went so: every one in the history that it has then
 -- seen, after all that it had seen before; and of its own entries there just the accepted ones are new
-pub record HasReportedRows (k m : PassView) (calls : List EventCall) (outcomes : List EventOutcome) : Type 0 where
+pub record HasReportedRows (k m : PassView) (asks : List Ask) (outcomes : List EventOutcome) : Type 0 where
   pub always : Continues k m
-  pub through : GoThrough k.number m.seen (length k.seen) (length m.seen) calls outcomes
-  pub mine : m.mine ≡ k.mine ++ entered_in k.number calls outcomes
+  pub through : GoThrough k.number m.seen (length k.seen) (length m.seen) asks outcomes
+  pub mine : m.mine ≡ k.mine ++ entered_in k.number asks outcomes
 
 -- how many of the events were accepted
 abbrev pub accepted_by : EventOutcome → ℕ
 accepted_by (Entered number reading) = 1
 accepted_by (Refused refusal reading) = 0
+accepted_by (Looked reading) = 0
 
 unfoldable pub accepted_in : List EventOutcome → ℕ
 accepted_in [] = 0
@@ -83,9 +100,10 @@ IsAmong entries e = (p : ℕ) × (slice_get entries p ≡ Some e)
 abbrev pub IsNoOlder : ℕ → EventOutcome → Type 0
 IsNoOlder moment (Entered number reading) = reading.version ≤ moment
 IsNoOlder moment (Refused refusal reading) = ⊤
+IsNoOlder moment (Looked reading) = ⊤
 
--- of a reporter's events the first went so, as their answers tell that are whole: a moment that is no older than what these tell has each of
--- them that was accepted
+-- of what a reporter asked for the first went so, as their answers tell that are whole: a moment that is no older than what these tell has each of
+-- them that is an accepted event
 abbrev pub MomentsHaveTheirEvents : Type 0
-MomentsHaveTheirEvents = (reporter : ℕ) (history : List Entry) (low high moment : ℕ) (calls : List EventCall) (first later : List EventOutcome)
-    → GoThrough reporter history low high calls (first ++ later) → All (IsNoOlder moment) first → All (IsAmong (take moment history)) (entered_in reporter calls first)
+MomentsHaveTheirEvents = (reporter : ℕ) (history : List Entry) (low high moment : ℕ) (asks : List Ask) (first later : List EventOutcome)
+    → GoThrough reporter history low high asks (first ++ later) → All (IsNoOlder moment) first → All (IsAmong (take moment history)) (entered_in reporter asks first)

@@ -1,5 +1,5 @@
 -- What a reporter of an evening has done with the bytes of its source.
-use Rattle.std.specs.Prelude.{◌≡◌, ◌⊎◌, ⊤, ℕ, ◌^◌, ◌<◌, ◌≤◌, Bool, List, [], ◌∷◌, ◌++◌, length, Option, Result, Ok, Err}
+use Rattle.std.specs.Prelude.{◌≡◌, ◌⊎◌, ⊤, ℕ, ◌+◌, ◌^◌, ◌<◌, ◌≤◌, Bool, List, [], ◌∷◌, ◌++◌, length, Option, Result, Ok, Err}
 use Rattle.std.specs.Io.KnownBytes.{Appends, Consumes}
 use mathlib.Core.List.{IsPrefix}
 use Rattle.ucl_screen.specs.declared.fault.InputFault.TheVariants.{ReadFailed, TooLong}
@@ -12,13 +12,16 @@ use Rattle.ucl_command.specs.declared.options.Format.TheVariants.{Json}
 use Rattle.ucl_io.specs.Lines.{ended_lines}
 use Rattle.ucl_runs.specs.InputLines.{lines_of}
 use Rattle.ucl_io.specs.Calls.{Device, HasEnded}
-use Rattle.ucl_evenings.specs.Answering.{ReplyStyle, calls_in, answers_in}
-use Rattle.ucl_evenings.specs.Reporting.{HasReportedRows, EventOutcome, RangFor, accepted_in}
+use Rattle.ucl_evenings.specs.declared.input.Input.{Input as Asked}
+use Rattle.ucl_evenings.specs.declared.input.Input.TheVariants.{Matches}
+use Rattle.ucl_evenings.specs.Inputs.{input_on}
+use Rattle.ucl_evenings.specs.Answering.{ReplyStyle, answers_in, asks_in}
+use Rattle.ucl_evenings.specs.Reporting.{EventOutcome, HasReportedRows, RangFor, accepted_in, reports_in}
 
 -- a reporter's pass, k before and m after, has reported the events of lines, the first with this number, each once, and they went so
 pub record HasReportedLines (k m : PassView) (before after : ℕ → Type 0) (row : ℕ) (lines : List (List ℕ)) (outcomes : List EventOutcome) : Type 0 where
-  pub rows : HasReportedRows k m (calls_in row lines) outcomes
-  pub reports : ReportsMore before (length (calls_in row lines)) after
+  pub rows : HasReportedRows k m (asks_in row lines) outcomes
+  pub reports : ReportsMore before (length (reports_in (asks_in row lines))) after
 
 -- it was also rung for each that was accepted, and this is the text of the answers
 pub record TurnsBy (s : ReplyStyle) (k m : PassView) (before after rung rung2 : ℕ → Type 0) (row : ℕ) (lines : List (List ℕ)) (text : List ℕ) (outcomes : List EventOutcome) : Type 0 where
@@ -30,14 +33,14 @@ pub record TurnsBy (s : ReplyStyle) (k m : PassView) (before after rung rung2 : 
 abbrev pub TurnsLines : (s : ReplyStyle) (k m : PassView) (before after rung rung2 : ℕ → Type 0) (row : ℕ) (lines : List (List ℕ)) (text : List ℕ) → Type 0
 TurnsLines s k m before after rung rung2 row lines text = (outcomes : List EventOutcome) × TurnsBy s k m before after rung rung2 row lines text outcomes
 
--- there was no memory for an answer in this form, which asks for some
-pub record IsOutOfMemory (format : Format) (fault : RunFault) : Type 0 where
-  pub fault_is : fault ≡ OutOfMemory
-  pub json : format ≡ Json
+-- whether an answer asks for memory: in JSON each does, and as text the matches
+abbrev pub WantsMemory : Format → Asked → Type 0
+WantsMemory format input = (format ≡ Json) ⊎ (input ≡ Matches)
 
--- there was no memory for the answer to a line; its event, where it asks for one, was reported
+-- there was no memory for the answer to a line, which asks for some; its event, where it asks for one, was reported
 pub record HasNoMemory (s : ReplyStyle) (k m : PassView) (before after rung rung2 : ℕ → Type 0) (row : ℕ) (line : List ℕ) (fault : RunFault) : Type 0 where
-  pub memory : IsOutOfMemory s.shape.format fault
+  pub fault_is : fault ≡ OutOfMemory
+  pub wants : WantsMemory s.shape.format (input_on row line)
   pub text : List ℕ
   pub turned : TurnsLines s k m before after rung rung2 row (line ∷ []) text
 
@@ -55,7 +58,7 @@ pub record IsAnsweredUpTo (s : ReplyStyle) (outcomes : List EventOutcome) (left 
   pub bytes : List ℕ
   pub first : List EventOutcome
   pub among : IsPrefix first outcomes
-  pub each : length first ≡ length (calls_in 1 (ended_lines 258 [] bytes))
+  pub each : length first ≡ length (asks_in 1 (ended_lines 258 [] bytes))
   pub consumed : Consumes left left2 bytes
   pub answered : Appends taken taken2 (answers_in s 1 (ended_lines 258 [] bytes) first)
   pub rang : ReportsMore rung (accepted_in first) rung2
@@ -78,14 +81,14 @@ pub record EndsWell (s : ReplyStyle) (old new : Device) (bytes : List ℕ) (line
   pub all : lines ≡ lines_of bytes
   pub answered : Appends old.taken new.taken (answers_in s 1 lines outcomes)
 
--- there was no memory for the answer to the last of them, in JSON: those before it are out, whole, and the event of the last, where it asks for
--- one, was reported
+-- there was no memory for the answer to the last of them, which asks for some: those before it are out, whole, and the event of the last, where
+-- it asks for one, was reported
 pub record RunsOut (s : ReplyStyle) (old new : Device) (bytes : List ℕ) (lines : List (List ℕ)) (outcomes : List EventOutcome) : Type 0 where
   pub some : IsPrefix lines (ended_lines 258 [] bytes) ⊎ (HasEnded old.left new.left × (lines ≡ lines_of bytes))
-  pub json : s.shape.format ≡ Json
   pub before : List (List ℕ)
   pub last : List ℕ
   pub in_last : lines ≡ before ++ last ∷ []
+  pub wants : WantsMemory s.shape.format (input_on (1 + length before) last)
   pub answered : Appends old.taken new.taken (answers_in s 1 before outcomes)
 
 abbrev pub RunEnds : ReplyStyle → Device → Device → Result ⊤ RunFault → List ℕ → List (List ℕ) → List EventOutcome → Type 0

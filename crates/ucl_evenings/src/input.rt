@@ -17,10 +17,12 @@ pub enum Input {
     Bad(BadField),
     /// That this event be entered.
     Event(EventCall),
+    /// The twelve matches of the board as it stands.
+    Matches,
 }
 
 /// What the row asks for that was read last.
-#[tactic(auto, using(crate::proofs::RowFields::row_by))]
+#[tactic(auto, using(crate::proofs::RowFields::row_by), unfolding(crate::specs::Inputs::input_of_three))]
 fn input_of_row(lines: &LineReader) -> Input
     requires { HoldsRow lines.now }
     ensures { result ≡ input_of_row (fields_read lines.now) }
@@ -33,6 +35,9 @@ fn input_of_row(lines: &LineReader) -> Input
     ) else {
         return Input::Bad(BadField::Count);
     };
+    if expected.is_empty() && kind.is_empty() && game == b"matches".as_slice() {
+        return Input::Matches;
+    }
     match call_of_fields(game, expected, kind) {
         Some(call) => Input::Event(call),
         None => Input::Bad(bad_field_of_call(game, expected)),

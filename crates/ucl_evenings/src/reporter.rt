@@ -6,7 +6,7 @@ ghost use Rattle.ucl_runs.specs.InputLines.{last_lines};
 ghost use Rattle.ucl_evenings.specs.Answering.{reply_style};
 ghost use Rattle.ucl_evenings.specs.Rows.{HasNoMemory, TurnsLines};
 
-use crate::answer::{answer_bad, answer_event};
+use crate::answer::{answer_bad, answer_event, answer_matches};
 use crate::input::{Input, input_on};
 use crate::ring::Ring;
 use crate::shape::Shape;
@@ -85,6 +85,17 @@ impl<'a, B: LiveBoard, V: Ring, R: Wait> LineMachine for Reporter<'a, B, V, R> {
                 Ok(())
             }
             Input::Bad(field) => answer_bad(self.alloc, self.shape.format, row, field, line, text),
+            Input::Matches => {
+                let reading = self.board.read_own(self.rt, &mut self.pass);
+                answer_matches(
+                    self.alloc,
+                    self.shape.format,
+                    self.roster,
+                    row,
+                    &reading,
+                    text,
+                )
+            }
             Input::Event(call) => {
                 let reporter = B::number_of(&self.pass);
                 let event = NightEvent { reporter, call };

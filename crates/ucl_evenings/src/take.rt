@@ -24,14 +24,15 @@ const PAGE: usize = 0;
 ///
 /// A row is `MATCH,EXPECTED,EVENT`; its reporter is the pass. It is answered as text `ROW ok MATCH NUMBER VERSION` with the version of a
 /// reading that was taken after it, or `ROW refused CODE NAME`. In JSON the answer is a line as `ucl_live` writes it: of an accepted event
-/// with the words of that reading, and of a stale one with the match as it stands there. An empty line is passed over and counted, and a
-/// line that is no row is answered `ROW refused 20 bad-row`. The pass has to be sound, as one that was just enlisted is.
+/// with the words of that reading, and of a stale one with the match as it stands there. The row `matches,,` is answered by the twelve
+/// matches of a reading. An empty line is passed over and counted, and a line that is no row is answered `ROW refused 20 bad-row`. The
+/// pass has to be sound, as one that was just enlisted is.
 ///
 /// # Errors
 ///
-/// `ReadFailed` where the source failed; `WriteFailed` where the sink did; `OutOfMemory` where there was none for an answer in JSON, whose
-/// event is entered; `TooLong` after more than 2^62 bytes, which no evening has. What was entered by then stays entered, and the pass is
-/// as good as before.
+/// `ReadFailed` where the source failed; `WriteFailed` where the sink did; `OutOfMemory` where there was none for matches, or for an answer
+/// in JSON, whose event is entered; `TooLong` after more than 2^62 bytes, which no evening has. What was entered by then stays entered, and
+/// the pass is as good as before.
 pub fn take_rows<'a, B: LiveBoard, S: Source, W: Sink, V: Ring, R: Wait>(
     reporter: &mut Reporter<'a, B, V, R>,
     duplex: &mut Duplex<S, W, Reporter<'a, B, V, R>>,

@@ -18,7 +18,7 @@ use Rattle.ucl_live_board.specs.Passes.{PassView, entries_by}
 use Rattle.ucl_runs.specs.declared.fault.RunFault.{RunFault}
 use Rattle.ucl_runs.specs.InputLines.{lines_of}
 use Rattle.ucl_io.specs.Calls.{Device}
-use Rattle.ucl_evenings.specs.Answering.{ReplyStyle, calls_in}
+use Rattle.ucl_evenings.specs.Answering.{ReplyStyle, asks_in}
 use Rattle.ucl_evenings.specs.Reporting.{EventOutcome, entered_in}
 use Rattle.ucl_evenings.specs.Rows.{RunEnds}
 use Rattle.ucl_evenings_threads.specs.declared.evening.EveningEnd.{EveningEnd}
@@ -110,7 +110,7 @@ module _ {B R P N S W : Type 0} (live : boards.Ghosts B R P N) (board : B) (sour
 
   -- what a reporter entered
   abbrev entering : (reporter : Reporter S W) (end : ReporterEnd P S W) → Answered reporter end → Entering
-  entering reporter end a = record { number = (live.reporter end.pass).number; calls = calls_in 1 a.run.took.lines; outcomes = a.run.took.outcomes }
+  entering reporter end a = record { number = (live.reporter end.pass).number; asks = asks_in 1 a.run.took.lines; outcomes = a.run.took.outcomes }
 
   came : (reporter : Reporter S W) (end : ReporterEnd P S W) (a : Answered reporter end) → RanOn live source (reporter, end) (entering reporter end a)
   came reporter end a = record {
@@ -118,18 +118,18 @@ module _ {B R P N S W : Type 0} (live : boards.Ghosts B R P N) (board : B) (sour
     bytes = a.run.took.bytes;
     lines = a.run.took.lines;
     consumed = a.run.took.consumed;
-    calls = refl;
+    asks = refl;
     all = all_lines _ _ _ end.result a.run.took.bytes a.run.took.lines _ a.run.took.ends;
   }
 
   outcomes : (reporter : Reporter S W) (end : ReporterEnd P S W) (a : Answered reporter end) → Own h (live.reporter end.pass) → WentThrough before h (entering reporter end a)
   outcomes reporter end a own =
       let rows = a.run.took.reported.rows in
-      let calls = calls_in 1 a.run.took.lines in
+      let asks = asks_in 1 a.run.took.lines in
       record {
         through = a.through;
-        own = own ∙ (rows.mine ∙ (ap (λ (l : List Entry). l ++ entered_in (live.reporter a.pass).number calls a.run.took.outcomes) a.ready.nothing
-            ∙ ap (λ (n : ℕ). entered_in n calls a.run.took.outcomes) (sym rows.always.number)));
+        own = own ∙ (rows.mine ∙ (ap (λ (l : List Entry). l ++ entered_in (live.reporter a.pass).number asks a.run.took.outcomes) a.ready.nothing
+            ∙ ap (λ (n : ℕ). entered_in n asks a.run.took.outcomes) (sym rows.always.number)));
       }
 
   record Drawn (reporters : List (Reporter S W)) (ends : List (ReporterEnd P S W)) (low : ℕ) : Type 0 where

@@ -12,8 +12,8 @@ use Rattle.ucl_runs.specs.declared.fault.RunFault.TheVariants.{Input, OutOfMemor
 use Rattle.ucl_evenings.specs.declared.shape.Shape.{Shape}
 use Rattle.ucl_runs.specs.Run.{SinkFails}
 use Rattle.ucl_io.specs.Calls.{Device}
-use Rattle.ucl_evenings.specs.Answering.{ReplyStyle, calls_in}
-use Rattle.ucl_evenings.specs.Reporting.{HasReportedRows, EventOutcome}
+use Rattle.ucl_evenings.specs.Answering.{ReplyStyle, asks_in}
+use Rattle.ucl_evenings.specs.Reporting.{EventOutcome, HasReportedRows, reports_in}
 use Rattle.ucl_evenings.specs.Rows.{TookRows}
 use Rattle.ucl_evenings.specs.Showing.{RiseWithin, ScreensEnd, Screening, ShowsSince, SoFar, AreFew, GoesOnOrStays, screens_shown}
 use Rattle.ucl_evenings.proofs.ShownScreens.{goes_next, rise_count, rise_lower, rise_upper, screens_on}
@@ -35,8 +35,8 @@ took_later s k m m2 a b c old new r P Q f t same more = record {
   outcomes = t.outcomes;
   consumed = t.consumed;
   reported = record {
-    rows = subst (λ (x : PassView). HasReportedRows k x (calls_in 1 t.lines) t.outcomes) (sym same) t.reported.rows;
-    reports = λ n h. subst c (omega arith) (more (n + length (calls_in 1 t.lines)) (t.reported.reports n h));
+    rows = subst (λ (x : PassView). HasReportedRows k x (asks_in 1 t.lines) t.outcomes) (sym same) t.reported.rows;
+    reports = λ n h. subst c (omega arith) (more (n + length (reports_in (asks_in 1 t.lines))) (t.reported.reports n h));
   };
   prompt = f t.outcomes t.prompt;
   ends = t.ends;

@@ -4,7 +4,6 @@ use Rattle.std.specs.Prelude.{All}
 use Rattle.std.specs.List.{AllZip}
 use Rattle.std.proofs.lemmas.List.Elements.{All-append}
 use mathlib.Core.List.{IsPrefix}
-use Rattle.ucl_word.specs.declared.event.EventCall.{EventCall}
 use Rattle.ucl_board.specs.declared.entry.Entry.{Entry}
 use Rattle.ucl_board.specs.declared.reading.Reading.{Reading}
 use Rattle.ucl_board.specs.History.{entry_of, sequential_reply}
@@ -14,8 +13,8 @@ use Rattle.ucl_io.specs.declared.stream.Source as sources
 use Rattle.ucl_io.specs.declared.stream.Sink as sinks
 use Rattle.ucl_live_board.specs.declared.live_board.LiveBoard as boards
 use Rattle.ucl_live_board.specs.Passes.{PassView, Continues, SharedReading}
-use Rattle.ucl_evenings.specs.Answering.{calls_in}
-use Rattle.ucl_evenings.specs.Reporting.{GoThrough, HasReportedRows, EventOutcome, past_point}
+use Rattle.ucl_evenings.specs.Answering.{asks_in}
+use Rattle.ucl_evenings.specs.Reporting.{Ask, EventOutcome, GoThrough, HasReportedRows, past_point}
 use Rattle.ucl_evenings.proofs.Events.{at_on}
 use Rattle.ucl_evenings.specs.Showing.{RiseWithin, screens_shown}
 use Rattle.ucl_evenings_threads.specs.declared.workers.Reporter.{Reporter}
@@ -92,20 +91,20 @@ module _ {B R P N V : Type 0} (live : boards.Ghosts B R P N) (board : B) (sink :
 
 module _ (reporter : ℕ) (s h : List Entry) (on : IsPrefix s h) where
   -- events that went so in what a pass has seen went so in the history that this begins
-  through_in : (low low2 high high2 : ℕ) (calls : List EventCall) (outcomes : List EventOutcome) → low2 ≤ low → high ≤ high2 → GoThrough reporter s low high calls outcomes
-      → GoThrough reporter h low2 high2 calls outcomes
+  through_in : (low low2 high high2 : ℕ) (asks : List Ask) (outcomes : List EventOutcome) → low2 ≤ low → high ≤ high2 → GoThrough reporter s low high asks outcomes
+      → GoThrough reporter h low2 high2 asks outcomes
   unfolding GoThrough
   through_in low low2 high high2 [] [] le more g = omega arith
   through_in low low2 high high2 [] (w ∷ outcomes) le more g = absurd g
-  through_in low low2 high high2 (call ∷ calls) [] le more g = absurd g
-  through_in low low2 high high2 (call ∷ calls) (w ∷ outcomes) le more g =
-      let x = g.1 in (g.0, omega arith, at_on reporter s h on g.0 call w g.2, through_in (past_point g.0 w) (past_point g.0 w) high high2 calls outcomes (le_refl (past_point g.0 w)) more g.3)
+  through_in low low2 high high2 (ask ∷ asks) [] le more g = absurd g
+  through_in low low2 high high2 (ask ∷ asks) (w ∷ outcomes) le more g =
+      let x = g.1 in (g.0, omega arith, at_on reporter s h on g.0 ask w g.2, through_in (past_point g.0 w) (past_point g.0 w) high high2 asks outcomes (le_refl (past_point g.0 w)) more g.3)
 
-rows_in : (first h : List Entry) (k m : PassView) (calls : List EventCall) (outcomes : List EventOutcome) → IsPrefix first k.seen → IsPrefix m.seen h → HasReportedRows k m calls outcomes
-    → GoThrough m.number h (length first) (length h) calls outcomes
-rows_in first h k m calls outcomes early on r =
-    subst (λ (n : ℕ). GoThrough n h (length first) (length h) calls outcomes) (sym r.always.number)
-    (through_in k.number m.seen h on (length k.seen) (length first) (length m.seen) (length h) calls outcomes (begins_length first k.seen early) (begins_length m.seen h on) r.through)
+rows_in : (first h : List Entry) (k m : PassView) (asks : List Ask) (outcomes : List EventOutcome) → IsPrefix first k.seen → IsPrefix m.seen h → HasReportedRows k m asks outcomes
+    → GoThrough m.number h (length first) (length h) asks outcomes
+rows_in first h k m asks outcomes early on r =
+    subst (λ (n : ℕ). GoThrough n h (length first) (length h) asks outcomes) (sym r.always.number)
+    (through_in k.number m.seen h on (length k.seen) (length first) (length m.seen) (length h) asks outcomes (begins_length first k.seen early) (begins_length m.seen h on) r.through)
 
 module _ {B R P N S W : Type 0} (live : boards.Ghosts B R P N) (board : B) (source : sources.Ghosts S) (replies : sinks.Ghosts W) (clubs : List NamedClub) where
   pub reported_at_end : (first before s h : List Entry) (reporters : List (Reporter S W)) (all : List (Enlisted P S W)) (ends : List (ReporterEnd P S W)) → IsPrefix first before → IsPrefix s h
@@ -120,7 +119,7 @@ module _ {B R P N S W : Type 0} (live : boards.Ghosts B R P N) (board : B) (sour
         pass = enlisted.pass;
         ready = l.ready;
         run = q;
-        through = rows_in first h (live.reporter enlisted.pass) (live.reporter end.pass) (calls_in 1 q.took.lines) q.took.outcomes
+        through = rows_in first h (live.reporter enlisted.pass) (live.reporter end.pass) (asks_in 1 q.took.lines) q.took.outcomes
             (begins_through first before (live.reporter enlisted.pass).seen early l.since) (begins_through (live.reporter end.pass).seen s h seen.1 on) q.took.reported.rows;
       })
       reporters all ends enlisted run heard

@@ -24,7 +24,8 @@ use Rattle.ucl_board.proofs.Histories.{entries_same, entries_else}
 use Rattle.ucl_live_board.specs.Passes.{entries_by}
 use Rattle.ucl_live_board.proofs.Lists.{by_own, by_other}
 use Rattle.ucl_runs.proofs.Elements.{get_some, take_one}
-use Rattle.ucl_evenings.specs.Reporting.{Entered, GoThrough, EventOutcome, Refused, accepted_in, entered_in}
+use Rattle.ucl_evenings.specs.Reporting.{Ask, Entered, EventOutcome, GoThrough, Look, Looked, Refused, Report, accepted_in, entered_in, reports_in}
+use Rattle.ucl_evenings.proofs.Events.{entered_count}
 use Rattle.ucl_evenings_threads.specs.OneReporter.{AddedBy, DifferInNumber, Entering, RowsDecideTheBoard, WentThrough, attempts_of_all}
 
 -- ---- attempts, and the entries of one match
@@ -106,22 +107,29 @@ module _ (n : ℕ) (h : List Entry) where
       subst (λ (x : ℕ). own_at a ≤ own_at x) e (own_rises a (p - a) (omega arith))
 
   -- events that went through a history have left as many entries as were accepted
-  has_entered : (low : ℕ) (calls : List EventCall) (outcomes : List EventOutcome) → GoThrough n h low (length h) calls outcomes → own_at low + accepted_in outcomes ≤ own_at (length h)
+  has_entered : (low : ℕ) (asks : List Ask) (outcomes : List EventOutcome) → GoThrough n h low (length h) asks outcomes → own_at low + accepted_in outcomes ≤ own_at (length h)
   unfolding GoThrough accepted_in
   has_entered low [] [] g = let e = own_from low (length h) g (omega arith) in omega arith
   has_entered low [] (w ∷ outcomes) g = absurd g
-  has_entered low (call ∷ calls) [] g = absurd g
-  has_entered low (call ∷ calls) (Entered number reading ∷ outcomes) (p, above, w, rest) =
+  has_entered low (ask ∷ asks) [] g = absurd g
+  has_entered low (Report call ∷ asks) (Entered number reading ∷ outcomes) (p, above, w, rest) =
       let below = at_below h p (entry_of n call) w.entry in
       let more = own_from low p above (omega arith) in
       let next = own_next p (entry_of n call) w.entry refl in
-      let later = has_entered (p + 1) calls outcomes rest in
+      let later = has_entered (p + 1) asks outcomes rest in
       let one : p + 1 ≡ suc p = omega arith in
       let e = ap own_at one in omega arith
-  has_entered low (call ∷ calls) (Refused refusal reading ∷ outcomes) (p, above, w, rest) =
+  has_entered low (Report call ∷ asks) (Refused refusal reading ∷ outcomes) (p, above, w, rest) =
       let inside : p ≤ length h = omega (arith, w.0.low, w.0.high) in
       let more = own_from low p above inside in
-      let later = has_entered p calls outcomes rest in omega arith
+      let later = has_entered p asks outcomes rest in omega arith
+  has_entered low (Report call ∷ asks) (Looked reading ∷ outcomes) (p, above, w, rest) = absurd w
+  has_entered low (Look ∷ asks) (Entered number reading ∷ outcomes) (p, above, w, rest) = absurd w
+  has_entered low (Look ∷ asks) (Refused refusal reading ∷ outcomes) (p, above, w, rest) = absurd w
+  has_entered low (Look ∷ asks) (Looked reading ∷ outcomes) (p, above, w, rest) =
+      let inside : p ≤ length h = omega (arith, w.low, w.high) in
+      let more = own_from low p above inside in
+      let later = has_entered p asks outcomes rest in omega arith
 
   -- a match whose entries, from some place on, are this reporter's
   module _ (g start : ℕ) (only : (p : ℕ) (x : Entry) → start ≤ p → slice_get h p ≡ Some x → x.game ≡ g → x.reporter ≡ n) where
@@ -157,51 +165,56 @@ module _ (n : ℕ) (h : List Entry) where
     ]
 
     -- all its events, of which as many were accepted as it has entries from here on
-    rows_decide_match : (low : ℕ) (s : List Entry) (calls : List EventCall) (outcomes : List EventOutcome) → start ≤ low → GoThrough n h low (length h) calls outcomes
+    rows_decide_match : (low : ℕ) (s : List Entry) (asks : List Ask) (outcomes : List EventOutcome) → start ≤ low → GoThrough n h low (length h) asks outcomes
         → own_at (length h) ≤ own_at low + accepted_in outcomes → entries_of g s ≡ entries_at h g low
-        → entries_of g (fold after_attempt s (map (attempted n) calls)) ≡ entries_at h g (length h)
+        → entries_of g (fold after_attempt s (map (attempted n) (reports_in asks))) ≡ entries_at h g (length h)
     unfolding GoThrough accepted_in
     rows_decide_match low s [] [] from t few same = same ∙ sym (same_from low (length h) from t (omega arith) (omega arith))
     rows_decide_match low s [] (w ∷ outcomes) from t few same = absurd t
-    rows_decide_match low s (call ∷ calls) [] from t few same = absurd t
-    rows_decide_match low s (call ∷ calls) (Entered number reading ∷ outcomes) from (p, above, w, rest) few same =
+    rows_decide_match low s (ask ∷ asks) [] from t few same = absurd t
+    rows_decide_match low s (Report call ∷ asks) (Entered number reading ∷ outcomes) from (p, above, w, rest) few same =
         let below = at_below h p (entry_of n call) w.entry in
         let more = own_from low p above (omega arith) in
         let next = own_next p (entry_of n call) w.entry refl in
-        let later = has_entered (p + 1) calls outcomes rest in
+        let later = has_entered (p + 1) asks outcomes rest in
         let e : p + 1 ≡ suc p = omega arith in
         let f : own_at (p + 1) ≡ own_at (suc p) = ap own_at e in
         let here = same ∙ sym (same_from low p from above (omega arith) (omega arith)) in
-        rows_decide_match (p + 1) (after_attempt s (attempted n call)) calls outcomes (omega arith) rest (omega arith)
+        rows_decide_match (p + 1) (after_attempt s (attempted n call)) asks outcomes (omega arith) rest (omega arith)
         (entered_one s call p (record { number = number }) w.reply w.entry here ∙ ap (entries_at h g) (sym e))
-    rows_decide_match low s (call ∷ calls) (Refused refusal reading ∷ outcomes) from (p, above, w, rest) few same =
+    rows_decide_match low s (Report call ∷ asks) (Refused refusal reading ∷ outcomes) from (p, above, w, rest) few same =
         let inside : p ≤ length h = omega (arith, w.0.low, w.0.high) in
         let more = own_from low p above inside in
-        let later = has_entered p calls outcomes rest in
+        let later = has_entered p asks outcomes rest in
         let here = same ∙ sym (same_from low p from above inside (omega arith)) in
-        rows_decide_match p (after_attempt s (attempted n call)) calls outcomes (omega arith) rest (omega arith) (refused_one s call p (ap is_ok w.1) here)
+        rows_decide_match p (after_attempt s (attempted n call)) asks outcomes (omega arith) rest (omega arith) (refused_one s call p (ap is_ok w.1) here)
+    rows_decide_match low s (Report call ∷ asks) (Looked reading ∷ outcomes) from (p, above, w, rest) few same = absurd w
+    rows_decide_match low s (Look ∷ asks) (Entered number reading ∷ outcomes) from (p, above, w, rest) few same = absurd w
+    rows_decide_match low s (Look ∷ asks) (Refused refusal reading ∷ outcomes) from (p, above, w, rest) few same = absurd w
+    rows_decide_match low s (Look ∷ asks) (Looked reading ∷ outcomes) from (p, above, w, rest) few same =
+        let inside : p ≤ length h = omega (arith, w.low, w.high) in
+        let more = own_from low p above inside in
+        let later = has_entered p asks outcomes rest in
+        let here = same ∙ sym (same_from low p from above inside (omega arith)) in
+        rows_decide_match p s asks outcomes (omega arith) rest (omega arith) here
 
 -- ---- the entries of reporters are those of their events
 
 -- the entries that events came to are of their matches
-entered_games : (P : Entry → Type 0) (n : ℕ) (calls : List EventCall) (outcomes : List EventOutcome) → All (λ (call : EventCall). P (entry_of n call)) calls → All P (entered_in n calls outcomes)
-unfolding entered_in
-entered_games P n [] outcomes all = All-nil P
-entered_games P n (call ∷ calls) [] all = All-nil P
-entered_games P n (call ∷ calls) (Entered number reading ∷ outcomes) all =
-    All-cons P (entry_of n call) (entered_in n calls outcomes) (All-head (λ (c : EventCall). P (entry_of n c)) call calls all)
-    (entered_games P n calls outcomes (All-tail (λ (c : EventCall). P (entry_of n c)) call calls all))
-entered_games P n (call ∷ calls) (Refused refusal reading ∷ outcomes) all = entered_games P n calls outcomes (All-tail (λ (c : EventCall). P (entry_of n c)) call calls all)
-
--- how many of them there are
-entered_count : (n : ℕ) (calls : List EventCall) (outcomes : List EventOutcome) (h : List Entry) (low : ℕ) → GoThrough n h low (length h) calls outcomes
-    → length (entered_in n calls outcomes) ≡ accepted_in outcomes
-unfolding GoThrough accepted_in entered_in
-entered_count n [] [] h low t = refl
-entered_count n [] (w ∷ outcomes) h low t = absurd t
-entered_count n (call ∷ calls) [] h low t = absurd t
-entered_count n (call ∷ calls) (Entered number reading ∷ outcomes) h low (p, above, w, rest) = let e = entered_count n calls outcomes h (p + 1) rest in omega arith
-entered_count n (call ∷ calls) (Refused refusal reading ∷ outcomes) h low (p, above, w, rest) = let e = entered_count n calls outcomes h p rest in omega arith
+entered_games : (P : Entry → Type 0) (n : ℕ) (h : List Entry) (low high : ℕ) (asks : List Ask) (outcomes : List EventOutcome) → GoThrough n h low high asks outcomes
+    → All (λ (call : EventCall). P (entry_of n call)) (reports_in asks) → All P (entered_in n asks outcomes)
+unfolding GoThrough entered_in
+entered_games P n h low high [] outcomes t all = All-nil P
+entered_games P n h low high (ask ∷ asks) [] t all = absurd t
+entered_games P n h low high (Report call ∷ asks) (Entered number reading ∷ outcomes) (p, above, w, rest) all =
+    All-cons P (entry_of n call) (entered_in n asks outcomes) (All-head (λ (c : EventCall). P (entry_of n c)) call (reports_in asks) all)
+    (entered_games P n h (p + 1) high asks outcomes rest (All-tail (λ (c : EventCall). P (entry_of n c)) call (reports_in asks) all))
+entered_games P n h low high (Report call ∷ asks) (Refused refusal reading ∷ outcomes) (p, above, w, rest) all =
+    entered_games P n h p high asks outcomes rest (All-tail (λ (c : EventCall). P (entry_of n c)) call (reports_in asks) all)
+entered_games P n h low high (Report call ∷ asks) (Looked reading ∷ outcomes) (p, above, w, rest) all = absurd w
+entered_games P n h low high (Look ∷ asks) (Entered number reading ∷ outcomes) (p, above, w, rest) all = absurd w
+entered_games P n h low high (Look ∷ asks) (Refused refusal reading ∷ outcomes) (p, above, w, rest) all = absurd w
+entered_games P n h low high (Look ∷ asks) (Looked reading ∷ outcomes) (p, above, w, rest) all = entered_games P n h p high asks outcomes rest all
 
 tail_of : (P : Entry → Type 0) (b : Bool) (y : Entry) (l : List Entry) → All P (cond b (y ∷ l) l) → All P l
 tail_of P true y l all = All-tail P y l all
@@ -227,7 +240,7 @@ apart_rest e all pairs i j d less below = pairs (suc i) (suc j) d (omega arith) 
 
 module _ (before h : List Entry) (whose : ℕ → ℕ) where
   abbrev KeepsTo : Entering → Type 0
-  KeepsTo e = All (λ (call : EventCall). whose call.game ≡ e.number) e.calls
+  KeepsTo e = All (λ (call : EventCall). whose call.game ≡ e.number) (reports_in e.asks)
 
   abbrev GoesThrough : Entering → Type 0
   GoesThrough e = WentThrough before h e
@@ -242,7 +255,7 @@ module _ (before h : List Entry) (whose : ℕ → ℕ) where
       let e : Entering = o.1 in
       let w = subst GoesThrough o.3 (t.outcomes o.0 e o.2) in
       let k = subst KeepsTo o.3 (keeps o.0 e o.2) in
-      let games = entered_games (λ (y : Entry). whose y.game ≡ e.number) e.number e.calls e.outcomes k in
+      let games = entered_games (λ (y : Entry). whose y.game ≡ e.number) e.number h (length before) (length h) e.asks e.outcomes w.through k in
       of_own (λ (y : Entry). whose y.game ≡ e.number) e.number h (subst (All (λ (y : Entry). whose y.game ≡ e.number)) (sym w.own) games) p x at (sym o.4) ∙ o.4
 
   module _ (g : ℕ) where
@@ -250,18 +263,18 @@ module _ (before h : List Entry) (whose : ℕ → ℕ) where
     IsElse e = e.number ≢ whose g
 
     -- no event of others is of the match
-    calls_else : (e : Entering) → KeepsTo e → IsElse e → All (λ (call : EventCall). call.game ≢ g) e.calls
+    calls_else : (e : Entering) → KeepsTo e → IsElse e → All (λ (call : EventCall). call.game ≢ g) (reports_in e.asks)
     calls_else e keeps other k d below is = other (sym (keeps k d below) ∙ ap whose is)
 
     -- the events of one reporter, and then those of the others
     abbrev after_one : List Entry → Entering → List Entry
-    after_one s e = fold after_attempt s (map (attempted e.number) e.calls)
+    after_one s e = fold after_attempt s (map (attempted e.number) (reports_in e.asks))
 
     after_first : (s : List Entry) (e : Entering) (all : List Entering) → fold after_attempt s (attempts_of_all (e ∷ all)) ≡ fold after_attempt (after_one s e) (attempts_of_all all)
-    after_first s e all = fold-append after_attempt s (map (attempted e.number) e.calls) (attempts_of_all all)
+    after_first s e all = fold-append after_attempt s (map (attempted e.number) (reports_in e.asks)) (attempts_of_all all)
 
     one_passes : (s : List Entry) (e : Entering) → KeepsTo e → IsElse e → entries_of g (after_one s e) ≡ entries_of g s
-    one_passes s e keeps other = others_pass g e.number s e.calls (calls_else e keeps other)
+    one_passes s e keeps other = others_pass g e.number s (reports_in e.asks) (calls_else e keeps other)
 
     all_pass : (s : List Entry) (all : List Entering) → All KeepsTo all → All IsElse all → entries_of g (fold after_attempt s (attempts_of_all all)) ≡ entries_of g s
     all_pass s [] keeps other = refl
@@ -273,10 +286,10 @@ module _ (before h : List Entry) (whose : ℕ → ℕ) where
     own_decides : (s : List Entry) (e : Entering) → AreOfTheirMatches → GoesThrough e → e.number ≡ whose g → entries_of g s ≡ entries_at h g (length before)
         → entries_of g (after_one s e) ≡ entries_at h g (length h)
     own_decides s e theirs w is same =
-        let whole : own_at e.number h (length h) ≡ length (entered_in e.number e.calls e.outcomes) =
+        let whole : own_at e.number h (length h) ≡ length (entered_in e.number e.asks e.outcomes) =
         ap (λ (l : List Entry). length (entries_by e.number l)) (take-length h) ∙ ap (length {A = Entry}) w.own in
-        let count = entered_count e.number e.calls e.outcomes h (length before) w.through in
-        rows_decide_match e.number h g (length before) (λ p x from at here. sym (theirs p x from at) ∙ (ap whose here ∙ sym is)) (length before) s e.calls e.outcomes
+        let count = entered_count e.number h (length before) (length h) e.asks e.outcomes w.through in
+        rows_decide_match e.number h g (length before) (λ p x from at here. sym (theirs p x from at) ∙ (ap whose here ∙ sym is)) (length before) s e.asks e.outcomes
         (le_refl (length before)) w.through (omega arith) same
 
     -- the match is as in the history, or it is nobody's

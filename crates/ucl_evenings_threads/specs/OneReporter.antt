@@ -10,22 +10,22 @@ use Rattle.ucl_io.specs.declared.stream.Source as sources
 use Rattle.ucl_live_board.specs.declared.live_board.LiveBoard as boards
 use Rattle.ucl_live_board.specs.Passes.{PassView, entries_by}
 use Rattle.ucl_runs.specs.InputLines.{lines_of}
-use Rattle.ucl_evenings.specs.Answering.{calls_in}
-use Rattle.ucl_evenings.specs.Reporting.{GoThrough, EventOutcome, entered_in}
+use Rattle.ucl_evenings.specs.Answering.{asks_in}
+use Rattle.ucl_evenings.specs.Reporting.{Ask, EventOutcome, GoThrough, entered_in, reports_in}
 use Rattle.ucl_evenings_threads.specs.declared.evening.EveningEnd.{EveningEnd}
 use Rattle.ucl_evenings_threads.specs.declared.workers.Reporter.{Reporter}
 use Rattle.ucl_evenings_threads.specs.declared.workers.ReporterEnd.{ReporterEnd}
 
--- a reporter's number, its events, and how they went
+-- a reporter's number, what it asked for, and how it went
 pub record Entering : Type 0 where
   pub number : ℕ
-  pub calls : List EventCall
+  pub asks : List Ask
   pub outcomes : List EventOutcome
 
 -- so they went in a history, after a beginning of it, and those that were accepted are all the entries that the reporter has there
 pub record WentThrough (before history : List Entry) (e : Entering) : Type 0 where
-  pub through : GoThrough e.number history (length before) (length history) e.calls e.outcomes
-  pub own : entries_by e.number history ≡ entered_in e.number e.calls e.outcomes
+  pub through : GoThrough e.number history (length before) (length history) e.asks e.outcomes
+  pub own : entries_by e.number history ≡ entered_in e.number e.asks e.outcomes
 
 abbrev pub DifferInNumber : Entering → Entering → Type 0
 DifferInNumber e other = e.number ≡ other.number → ⊥
@@ -39,11 +39,11 @@ pub record AddedBy (all : List Entering) (before history : List Entry) : Type 0 
 
 -- each match has the reporter with this number: nobody else has an event of it
 abbrev pub HaveMatchesOfTheirOwn : (ℕ → ℕ) → List Entering → Type 0
-HaveMatchesOfTheirOwn whose all = All (λ (e : Entering). All (λ (call : EventCall). whose call.game ≡ e.number) e.calls) all
+HaveMatchesOfTheirOwn whose all = All (λ (e : Entering). All (λ (call : EventCall). whose call.game ≡ e.number) (reports_in e.asks)) all
 
 -- the events of all, those of one reporter after those of another
 abbrev pub attempts_of_all : List Entering → List Attempt
-attempts_of_all all = flat_map (λ (e : Entering). map (attempted e.number) e.calls) all
+attempts_of_all all = flat_map (λ (e : Entering). map (attempted e.number) (reports_in e.asks)) all
 
 -- where each match has one reporter, it does not matter how the rows of one met those of another: the board is that of the rows of the
 -- first, and then of those of the second, and so on
@@ -59,7 +59,7 @@ pub record RanOn {B R P N S W : Type 0} (live : boards.Ghosts B R P N) (source :
   pub bytes : List ℕ
   pub lines : List (List ℕ)
   pub consumed : Consumes (source.left run.0.rows) (source.left run.1.rows) bytes
-  pub calls : e.calls ≡ calls_in 1 lines
+  pub asks : e.asks ≡ asks_in 1 lines
   pub all : IfOk run.1.result (λ done. lines ≡ lines_of bytes)
 
 -- a pass had entered nothing but what had been seen by then

@@ -14,7 +14,7 @@ use Rattle.ucl_runs.specs.declared.fault.RunFault.TheVariants.{OutOfMemory, NoTh
 use Rattle.ucl_runs.specs.Faults.{HasNoNumberLeft}
 use Rattle.ucl_runs.specs.Run.{SinkFails, is_read_failed}
 use Rattle.ucl_io.specs.Calls.{Device}
-use Rattle.ucl_evenings.specs.Answering.{calls_in, reply_style}
+use Rattle.ucl_evenings.specs.Answering.{asks_in, reply_style}
 use Rattle.ucl_evenings.specs.Reporting.{GoThrough}
 use Rattle.ucl_evenings.specs.Rows.{TookRows}
 use Rattle.ucl_evenings.specs.Showing.{IsNewScreen, IsScreenOn, RiseWithin, ScreensEnd, ShowsSince, StaysScreen, screens_shown, standing}
@@ -131,7 +131,7 @@ pub record HasAnsweredRows {B R P N S W : Type 0} (live : boards.Ghosts B R P N)
   pub pass : P
   pub ready : IsReady live board pass
   pub run : HasTakenRows live board source sink clubs pass reporter end
-  pub through : GoThrough (live.reporter end.pass).number history (length before) (length history) (calls_in 1 run.took.lines) run.took.outcomes
+  pub through : GoThrough (live.reporter end.pass).number history (length before) (length history) (asks_in 1 run.took.lines) run.took.outcomes
 
 -- ---- screens
 

@@ -214,18 +214,23 @@ pub(crate) fn screen_answer(
 }
 
 /// The matches of a board.
-pub(crate) fn matches_answer(
+///
+/// # Errors
+///
+/// Where there is no memory.
+pub fn matches_answer(
     alloc: Global,
     format: Format,
     row: u64,
-    table: &Table,
+    board: &Board,
+    roster: &Roster,
 ) -> Result<Answer, OutOfMemory>
     ensures { IfOk result (λ answer.
-        bytes_of answer ≡ matches_answer format row table.now.roster table.now.board) }
+        bytes_of answer ≡ matches_answer format row roster.now board.now) }
 {
     let text = match format {
-        Format::Text => matches(alloc, &table.board, &table.roster)?,
-        Format::Json => matches_json(alloc, row, &table.board, &table.roster)?,
+        Format::Text => matches(alloc, board, roster)?,
+        Format::Json => matches_json(alloc, row, board, roster)?,
     };
     Ok(Answer::Long(text))
 }

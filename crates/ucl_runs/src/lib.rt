@@ -45,7 +45,7 @@ mod title;
 mod words;
 mod workers;
 
-pub use answer::{Answer, ReplyLine, bad_answer, reply_answer};
+pub use answer::{Answer, ReplyLine, bad_answer, matches_answer, reply_answer};
 pub use bad_row::{BadField, bad_field_of_call};
 pub use ending::{ended, ended_unasked, tell_refusal};
 pub use evening::Evening;

@@ -84,7 +84,13 @@ impl Table {
             Request::Screen => {
                 parts.put(screen_answer(alloc, options.format, title, row, self)?);
             }
-            Request::Matches => parts.put(matches_answer(alloc, options.format, row, self)?),
+            Request::Matches => parts.put(matches_answer(
+                alloc,
+                options.format,
+                row,
+                &self.board,
+                &self.roster,
+            )?),
             Request::Words => match options.format {
                 Format::Text => parts.put_words(&self.board),
                 Format::Json => parts.put(Answer::Long(words_json(alloc, row, &self.board)?)),

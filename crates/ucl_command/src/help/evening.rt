@@ -26,6 +26,7 @@ at most 256 bytes, and one with nothing on it is passed over and counted
   MATCH,EXPECTED,EVENT           the match, 1 to 12; the event number last seen of
                                  it; the event; as 1,0,kickoff where nothing was
                                  seen of match 1
+  matches,,                      asks for the twelve matches, a line each
 
   LINE ok MATCH NUMBER VERSION   the event of this line is accepted
   LINE refused CODE NAME         it is refused, for the reason of this name

@@ -1,10 +1,10 @@
-use Rattle.std.proofs.Common.{refl, sym, ap, ◌∙◌}
+use Rattle.std.proofs.Common.{inl, inr, refl, sym, ap, ◌∙◌}
 use Rattle.ucl_io.proofs.Bytes.{if_err, on_ok}
 use Rattle.ucl_evenings.specs.declared.input.Input.TheVariants.{Nothing, Bad}
-use Rattle.ucl_evenings.specs.Reporting.{Entered, Refused}
+use Rattle.ucl_evenings.specs.Reporting.{Entered, Refused, Report}
 use Rattle.ucl_evenings.specs.Answering.{outcome_answer, reply_style}
 use Rattle.ucl_evenings.proofs.Events.{past_accepted}
-use Rattle.ucl_evenings.proofs.Lines.{entered_turn, plain_turn, refused_turn, same_style}
+use Rattle.ucl_evenings.proofs.Lines.{entered_turn, looked_turn, plain_turn, refused_turn, same_style}
 use Rattle.ucl_evenings.proofs.reporter.ReporterLineMachine.answer.Goals as goal
 
 pub returns-in-Nothing-clause-answers : goal.returns-in-Nothing-clause-answers
@@ -28,14 +28,53 @@ returns-in-Bad-clause-stops g c =
     let k = g.B.LiveBoard.reporter me.pass in
     let is = sym c.input_on.ensures ∙ c.in-Bad.is in
     if_err c.answer_bad.result _ _
-    (λ fault memory. (refl, record {
-      memory = memory;
-      text = _;
-      turned = plain_turn (reply_style me.shape me.roster.now k) k _ _ c.args.row c.args.line.now (Bad c.in-Bad.field) is refl c.requires.1 _ refl;
-    })) c.answer_bad.ensures.memory
+    (λ fault memory. (
+      refl,
+      record {
+        fault_is = memory.0;
+        wants = inl memory.1;
+        text = _;
+        turned = plain_turn (reply_style me.shape me.roster.now k) k _ _ c.args.row c.args.line.now (Bad c.in-Bad.field) is refl c.requires.1 _ refl;
+      },
+    )) c.answer_bad.ensures.memory
+
+pub returns-in-Matches-clause-answers : goal.returns-in-Matches-clause-answers
+returns-in-Matches-clause-answers g c =
+    let me = c.args.self.now in
+    let live = g.B.LiveBoard in
+    let k = live.reporter me.pass in
+    let z = live.reporter c.read_own-reading.new.pass in
+    let read = c.read_own-reading.ensures in
+    on_ok c.answer_matches.result _ _
+    (λ text. (
+      refl,
+      same_style me.shape me.roster.now k z read.always.number,
+      looked_turn (reply_style me.shape me.roster.now k) k z (live.has_reported me.pass) (live.has_reported c.read_own-reading.new.pass) (g.V.Ring.rung me.bells) c.args.row c.args.line.now
+          (sym c.input_on.ensures ∙ c.in-Matches.is) c.read_own-reading.result read.always read.reading read.reported _ text,
+    )) c.answer_matches.ensures.text
+
+pub returns-in-Matches-clause-stops : goal.returns-in-Matches-clause-stops
+returns-in-Matches-clause-stops g c =
+    let me = c.args.self.now in
+    let live = g.B.LiveBoard in
+    let k = live.reporter me.pass in
+    let z = live.reporter c.read_own-reading.new.pass in
+    let read = c.read_own-reading.ensures in
+    let is = sym c.input_on.ensures ∙ c.in-Matches.is in
+    if_err c.answer_matches.result _ _
+    (λ fault memory. (
+      refl,
+      record {
+        fault_is = memory;
+        wants = inr is;
+        text = _;
+        turned = looked_turn (reply_style me.shape me.roster.now k) k z (live.has_reported me.pass) (live.has_reported c.read_own-reading.new.pass) (g.V.Ring.rung me.bells) c.args.row
+            c.args.line.now is c.read_own-reading.result read.always read.reading read.reported _ refl;
+      },
+    )) c.answer_matches.ensures.memory
 
 pub answer_event-requires : goal.answer_event-requires
-answer_event-requires g c = past_accepted _ _ _ _ _ _ c.in-Ok.ensures.accepted c.read_own-reading.ensures.reading
+answer_event-requires g c = past_accepted _ _ _ _ _ _ c.in-Ok.ensures.accepted c.read_own-reading-in-Ok.ensures.reading
 
 pub returns-in-Ok-clause-answers : goal.returns-in-Ok-clause-answers
 returns-in-Ok-clause-answers g c =
@@ -43,18 +82,21 @@ returns-in-Ok-clause-answers g c =
     let live = g.B.LiveBoard in
     let k = live.reporter me.pass in
     let m = live.reporter c.report.new.pass in
-    let z = live.reporter c.read_own-reading.new.pass in
+    let z = live.reporter c.read_own-reading-in-Ok.new.pass in
     let call = c.in-Event.call in
     let reply = c.in-Ok.accepted in
-    let reading = c.read_own-reading.result in
+    let reading = c.read_own-reading-in-Ok.result in
     let first = c.in-Ok.ensures in
-    let then = c.read_own-reading.ensures in
-    let number = ap (λ n. outcome_answer (record { shape = me.shape; clubs = me.roster.now; reporter = n }) c.args.row call (Entered reply.number reading)) c.number_of-reporter.ensures in
+    let then = c.read_own-reading-in-Ok.ensures in
+    let number = ap (λ n. outcome_answer (record { shape = me.shape; clubs = me.roster.now; reporter = n }) c.args.row (Report call) (Entered reply.number reading)) c.number_of-reporter.ensures in
     on_ok c.answer_event.result _ _
-    (λ text. (refl, same_style me.shape me.roster.now k z (then.always.number ∙ first.always.number),
-    entered_turn (reply_style me.shape me.roster.now k) k m z (live.has_reported me.pass) (live.has_reported c.report.new.pass) (live.has_reported c.read_own-reading.new.pass) _ _
-    c.args.row c.args.line.now call (sym c.input_on.ensures ∙ c.in-Event.is) reply reading
-    first.always first.accepted then.always then.reading first.reported then.reported c.ring.ensures _ (text ∙ number))) c.answer_event.ensures.text
+    (λ text. (
+      refl,
+      same_style me.shape me.roster.now k z (then.always.number ∙ first.always.number),
+      entered_turn (reply_style me.shape me.roster.now k) k m z (live.has_reported me.pass) (live.has_reported c.report.new.pass) (live.has_reported c.read_own-reading-in-Ok.new.pass) _ _
+          c.args.row c.args.line.now call (sym c.input_on.ensures ∙ c.in-Event.is) reply reading
+          first.always first.accepted then.always then.reading first.reported then.reported c.ring.ensures _ (text ∙ number),
+    )) c.answer_event.ensures.text
 
 pub returns-in-Ok-clause-stops : goal.returns-in-Ok-clause-stops
 returns-in-Ok-clause-stops g c =
@@ -62,17 +104,21 @@ returns-in-Ok-clause-stops g c =
     let live = g.B.LiveBoard in
     let k = live.reporter me.pass in
     let m = live.reporter c.report.new.pass in
-    let z = live.reporter c.read_own-reading.new.pass in
+    let z = live.reporter c.read_own-reading-in-Ok.new.pass in
     let first = c.in-Ok.ensures in
-    let then = c.read_own-reading.ensures in
+    let then = c.read_own-reading-in-Ok.ensures in
     if_err c.answer_event.result _ _
-    (λ fault memory. (refl, record {
-      memory = memory;
-      text = _;
-      turned = entered_turn (reply_style me.shape me.roster.now k) k m z (live.has_reported me.pass) (live.has_reported c.report.new.pass) (live.has_reported c.read_own-reading.new.pass) _ _
-          c.args.row c.args.line.now c.in-Event.call (sym c.input_on.ensures ∙ c.in-Event.is) c.in-Ok.accepted c.read_own-reading.result
-          first.always first.accepted then.always then.reading first.reported then.reported c.ring.ensures _ refl;
-    })) c.answer_event.ensures.memory
+    (λ fault memory. (
+      refl,
+      record {
+        fault_is = memory.0;
+        wants = inl memory.1;
+        text = _;
+        turned = entered_turn (reply_style me.shape me.roster.now k) k m z (live.has_reported me.pass) (live.has_reported c.report.new.pass) (live.has_reported c.read_own-reading-in-Ok.new.pass) _ _
+            c.args.row c.args.line.now c.in-Event.call (sym c.input_on.ensures ∙ c.in-Event.is) c.in-Ok.accepted c.read_own-reading-in-Ok.result
+            first.always first.accepted then.always then.reading first.reported then.reported c.ring.ensures _ refl;
+      },
+    )) c.answer_event.ensures.memory
 
 pub returns-in-Err-clause-answers : goal.returns-in-Err-clause-answers
 returns-in-Err-clause-answers g c =
@@ -86,12 +132,15 @@ returns-in-Err-clause-answers g c =
     let reading = c.read_own-reading-in-Err.result in
     let first = c.in-Err.ensures in
     let then = c.read_own-reading-in-Err.ensures in
-    let number = ap (λ n. outcome_answer (record { shape = me.shape; clubs = me.roster.now; reporter = n }) c.args.row call (Refused refusal reading)) c.number_of-reporter.ensures in
+    let number = ap (λ n. outcome_answer (record { shape = me.shape; clubs = me.roster.now; reporter = n }) c.args.row (Report call) (Refused refusal reading)) c.number_of-reporter.ensures in
     on_ok c.answer_event-in-Err.result _ _
-    (λ text. (refl, same_style me.shape me.roster.now k z (then.always.number ∙ first.always.number),
-    refused_turn (reply_style me.shape me.roster.now k) k m z (live.has_reported me.pass) (live.has_reported c.report.new.pass) (live.has_reported c.read_own-reading-in-Err.new.pass)
-    (g.V.Ring.rung me.bells) c.args.row c.args.line.now call (sym c.input_on.ensures ∙ c.in-Event.is) refusal reading
-    first.always first.refused then.always then.reading first.reported then.reported _ (text ∙ number))) c.answer_event-in-Err.ensures.text
+    (λ text. (
+      refl,
+      same_style me.shape me.roster.now k z (then.always.number ∙ first.always.number),
+      refused_turn (reply_style me.shape me.roster.now k) k m z (live.has_reported me.pass) (live.has_reported c.report.new.pass) (live.has_reported c.read_own-reading-in-Err.new.pass)
+          (g.V.Ring.rung me.bells) c.args.row c.args.line.now call (sym c.input_on.ensures ∙ c.in-Event.is) refusal reading
+          first.always first.refused then.always then.reading first.reported then.reported _ (text ∙ number),
+    )) c.answer_event-in-Err.ensures.text
 
 pub returns-in-Err-clause-stops : goal.returns-in-Err-clause-stops
 returns-in-Err-clause-stops g c =
@@ -103,10 +152,14 @@ returns-in-Err-clause-stops g c =
     let first = c.in-Err.ensures in
     let then = c.read_own-reading-in-Err.ensures in
     if_err c.answer_event-in-Err.result _ _
-    (λ fault memory. (refl, record {
-      memory = memory;
-      text = _;
-      turned = refused_turn (reply_style me.shape me.roster.now k) k m z (live.has_reported me.pass) (live.has_reported c.report.new.pass) (live.has_reported c.read_own-reading-in-Err.new.pass)
-          (g.V.Ring.rung me.bells) c.args.row c.args.line.now c.in-Event.call (sym c.input_on.ensures ∙ c.in-Event.is) c.in-Err.refusal c.read_own-reading-in-Err.result
-          first.always first.refused then.always then.reading first.reported then.reported _ refl;
-    })) c.answer_event-in-Err.ensures.memory
+    (λ fault memory. (
+      refl,
+      record {
+        fault_is = memory.0;
+        wants = inl memory.1;
+        text = _;
+        turned = refused_turn (reply_style me.shape me.roster.now k) k m z (live.has_reported me.pass) (live.has_reported c.report.new.pass) (live.has_reported c.read_own-reading-in-Err.new.pass)
+            (g.V.Ring.rung me.bells) c.args.row c.args.line.now c.in-Event.call (sym c.input_on.ensures ∙ c.in-Event.is) c.in-Err.refusal c.read_own-reading-in-Err.result
+            first.always first.refused then.always then.reading first.reported then.reported _ refl;
+      },
+    )) c.answer_event-in-Err.ensures.memory
