@@ -89,7 +89,7 @@ module _ (T : Type 0) where
           ap₂ (λ (a b : List ℕ). a ++ b) (all_text e.all)
           (e.last.2 ∙ ap₂ (λ (s : FollowShape) (f : Following). resuming_text s f.newest) ((turns_are 1 old.machine turns p.turned).0 ∙ same) (reaches e.all))
 
-      heard_first : (fault : OutOfMemory) → StopsNext RanOut 1 old.machine turns rest fault → Appends old.taken new.taken (text_in turns) → HeardFirst args bytes old.taken new.taken
+      heard_first : (fault : OutOfMemory) → StopsNext RanOut 1 old.machine new.machine turns rest fault → Appends old.taken new.taken (text_in turns) → HeardFirst args bytes old.taken new.taken
       heard_first fault s out =
           let at = cut_at 4097 [] bytes (lines_in turns) s.line s.later (p.lines_are ∙ ap (λ (l : List (List ℕ)). lines_in turns ++ l) s.next) in record {
             front = at.front;
@@ -98,7 +98,7 @@ module _ (T : Type 0) where
             out = subst (Appends old.taken new.taken) (shows turns p.turned ∙ ap (sights args.shape (unseen args)) (sym at.before)) out;
           }
 
-      runs_out : (fault : OutOfMemory) → (StopsNext RanOut 1 old.machine turns rest fault ⊎ StopsLast (rules_of Answers RanOut Ends RanOut) 4097 old new bytes turns rest fault)
+      runs_out : (fault : OutOfMemory) → (StopsNext RanOut 1 old.machine new.machine turns rest fault ⊎ StopsLast (rules_of Answers RanOut Ends RanOut) 4097 old new bytes turns rest fault)
           → Appends old.taken new.taken (text_in turns) → HeardFirst args bytes old.taken new.taken
       runs_out fault (inl s) out = heard_first fault s out
       runs_out fault (inr e) out = record { front = bytes; rest = []; parts = sym (append-nil bytes); out = subst (Appends old.taken new.taken) (all_text e.all) out }
