@@ -9,7 +9,7 @@ use std::io::{Read, Stderr, Write};
 use std::{io, mem};
 use ucl_runs::{Evening, MOST_LINE_BYTES, Parts};
 use ucl_command::{Format, LiveArgs, broken_rule};
-use ucl_io::{LineMachine, Text};
+use ucl_io::{LineMachine, Text, first_line};
 
 /// The most bytes that are taken at once.
 const PAGE: usize = 4096;
@@ -76,19 +76,29 @@ impl Explaining {
         self.line.clear();
     }
 
+    /// Keeps bytes of a line, as many as a line has at most.
+    fn keep(&mut self, bytes: &[u8]) {
+        for byte in bytes {
+            let _room = self.line.try_push(*byte);
+        }
+    }
+
     /// Explains the answers to the lines that have ended.
     fn explain_page(&mut self, errors: &mut Stderr) {
         let page = mem::replace(&mut self.page, ArrayVec::new());
-        for byte in page.iter() {
+        let mut rest = page.as_slice();
+        for _ in 0..page.len() {
+            let Some(end) = first_line(rest) else {
+                break;
+            };
             if self.is_over {
                 return;
             }
-            if *byte == b'\n' {
-                self.explain_line(errors);
-            } else {
-                let _room = self.line.try_push(*byte);
-            }
+            self.keep(end);
+            self.explain_line(errors);
+            rest = rest.get(end.len().saturating_add(1)..).unwrap_or(&[]);
         }
+        self.keep(rest);
     }
 }
 
