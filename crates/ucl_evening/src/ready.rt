@@ -9,13 +9,13 @@ use crate::outputs::{Befores, Stop, befores_of, stop_at};
 use std::alloc::Global;
 use std::fs::{File, Files};
 use std::io::Stderr;
-use ucl_runs::{OTHER_GROUP, RunFault, first_group, title_for};
 use ucl_board::Board;
 use ucl_command::EveningArgs;
 use ucl_evenings::Shape;
 use ucl_evenings_threads::{Place, Reporter, night_towards};
 use ucl_io::first_line;
 use ucl_json::Title;
+use ucl_runs::{OTHER_GROUP, RunFault, first_group, title_for};
 use ucl_screen::{
     FIRST_EVENT_ROW, FromRead, InputFault, Night, NightEvent, ToWrite, read_all, read_night,
     read_words,

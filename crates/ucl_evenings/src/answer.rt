@@ -11,10 +11,10 @@ ghost use Rattle.ucl_evenings.specs.Reporting.{Report};
 
 use crate::shape::Shape;
 use std::alloc::Global;
-use ucl_runs::{Answer, BadField, RunFault, bad_answer, matches_answer, reply_answer};
 use ucl_board::Reading;
 use ucl_command::Format;
 use ucl_order::Roster;
+use ucl_runs::{Answer, BadField, RunFault, bad_answer, matches_answer, reply_answer};
 use ucl_screen::NightEvent;
 use ucl_word::{Accepted, Refusal};
 

@@ -12,11 +12,11 @@ use crate::ring::Ring;
 use crate::shape::Shape;
 use std::alloc::Global;
 use std::sync::Wait;
-use ucl_runs::{Answer, LineReader, RunFault};
 use ucl_io::LineMachine;
-use ucl_order::Roster;
-use ucl_screen::NightEvent;
 use ucl_live_board::LiveBoard;
+use ucl_order::Roster;
+use ucl_runs::{Answer, LineReader, RunFault};
+use ucl_screen::NightEvent;
 
 /// A reporter: the board, its pass, what it rings, and how it is answered.
 pub struct Reporter<'a, B: LiveBoard, V: Ring, R: Wait> {

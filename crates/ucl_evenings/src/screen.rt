@@ -11,10 +11,10 @@ use std::snapshot::Snapshot;
 use ucl_board::{Board, Reading};
 use ucl_command::Format;
 use ucl_json::edition_screen_json;
+use ucl_live_board::LiveBoard;
 use ucl_order::Roster;
 use ucl_runs::{RunFault, put_bytes};
 use ucl_screen::{Sink, screen};
-use ucl_live_board::LiveBoard;
 
 /// The text of a screen, which has this number.
 fn screen_of(

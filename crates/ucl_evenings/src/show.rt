@@ -8,10 +8,10 @@ ghost use Rattle.ucl_evenings.specs.Showing.{AreFew, EndWasTold, IsScreenOn, Sho
 use crate::screen::Screen;
 use std::alloc::Global;
 use std::sync::Wait;
+use ucl_live_board::LiveBoard;
 use ucl_order::Roster;
 use ucl_runs::RunFault;
 use ucl_screen::Sink;
-use ucl_live_board::LiveBoard;
 
 /// What a screen waits for between two readings.
 pub trait Bell<B: LiveBoard, V> {

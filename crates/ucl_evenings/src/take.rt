@@ -12,9 +12,9 @@ use crate::reporter::Reporter;
 use crate::ring::Ring;
 use std::sync::Wait;
 use ucl_io::{Duplex, pump};
+use ucl_live_board::LiveBoard;
 use ucl_runs::{MOST_LINE_BYTES, RunFault};
 use ucl_screen::{Sink, Source};
-use ucl_live_board::LiveBoard;
 
 /// Each answer is written before the next row is entered.
 const PAGE: usize = 0;

@@ -10,8 +10,8 @@ use std::snapshot::Snapshot;
 use std::sync::{OnceLock, OnceToken, Wait};
 use std::thread::Parker;
 use ucl_evenings::{Bell, Ring, Screen};
-use ucl_runs::RunFault;
 use ucl_live_board::LiveBoard;
+use ucl_runs::RunFault;
 
 /// What shows that no reporter of an evening runs any more.
 #[derive(Clone, Copy)]

@@ -10,9 +10,9 @@ use crate::judging::judge;
 use crate::lists::put;
 use std::alloc::Global;
 use std::sync::Wait;
+use ucl_live_board::LiveBoard;
 use ucl_runs::RunFault;
 use ucl_screen::{FIRST_EVENT_ROW, InputFault, NightEvent};
-use ucl_live_board::LiveBoard;
 
 /// The passes of a board on which the events of an earlier evening were entered: `Q` is a reader's and `P` a reporter's.
 #[derive(Drop)]

@@ -12,12 +12,12 @@ ghost use Rattle.ucl_evenings_threads.specs.declared.ending.Part.{Part};
 use crate::evening::EveningEnd;
 use arrayvec::ArrayString;
 use itoa::Buffer;
-use ucl_runs::{RunFault, put_text, status_of, tell, word_lines};
 use ucl_board::Board;
 use ucl_command::Format;
 use ucl_evenings::Screen;
-use ucl_screen::{Sink, give_all};
 use ucl_live_board::LiveBoard;
+use ucl_runs::{RunFault, put_text, status_of, tell, word_lines};
+use ucl_screen::{Sink, give_all};
 
 /// What a worker of an evening is.
 #[derive(Clone, Copy, Debug, PartialEq, Eq)]

@@ -19,10 +19,10 @@ use std::thread;
 use std::thread::Threads;
 use ucl_board::Reading;
 use ucl_evenings::Screen;
+use ucl_live_board::LiveBoard;
 use ucl_order::Roster;
 use ucl_runs::RunFault;
 use ucl_screen::{Sink, Source};
-use ucl_live_board::LiveBoard;
 
 /// How an evening ended: `Q` is a reader's pass, `P` a reporter's, and `X` a screen, all of the board that was lent.
 #[derive(Drop)]

@@ -10,8 +10,8 @@ use crate::lists::{put, take_last};
 use crate::workers::{Enlisted, Looking, Reporter};
 use std::alloc::Global;
 use std::sync::Wait;
-use ucl_runs::RunFault;
 use ucl_live_board::LiveBoard;
+use ucl_runs::RunFault;
 
 /// Splits a pass off for a reporter, and enlists it.
 fn enlist_one<B: LiveBoard, R: Wait>(

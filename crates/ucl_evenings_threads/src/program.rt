@@ -20,10 +20,10 @@ use std::thread::Threads;
 use ucl_command::Format;
 use ucl_evenings::{Screen, Shape};
 use ucl_json::Title;
+use ucl_live_board::LiveBoard;
 use ucl_order::Roster;
 use ucl_runs::{RunFault, tell};
 use ucl_screen::{Night, Sink, Source};
-use ucl_live_board::LiveBoard;
 
 /// Where a screen goes.
 #[derive(Drop)]

@@ -14,12 +14,12 @@ use std::alloc::Global;
 use std::snapshot::Snapshot;
 use std::sync::Wait;
 use std::thread::{Promise, PromisedHandle, Scope, Threads};
-use ucl_runs::{LineReader, RunFault};
 use ucl_evenings::{Reporter, take_rows};
 use ucl_io::Duplex;
-use ucl_order::Roster;
-use ucl_screen::{Sink, Source};
 use ucl_live_board::LiveBoard;
+use ucl_order::Roster;
+use ucl_runs::{LineReader, RunFault};
+use ucl_screen::{Sink, Source};
 
 /// What the thread of a reporter does: it takes the rows of its source, and answers them.
 fn report<B: LiveBoard, S: Source, W: Sink, R: Wait>(

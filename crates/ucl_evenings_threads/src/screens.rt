@@ -15,10 +15,10 @@ use std::snapshot::Snapshot;
 use std::sync::Wait;
 use std::thread::{Promise, PromisedHandle, Scope, Threads};
 use ucl_evenings::{Screen, show_boards, show_noted};
+use ucl_live_board::LiveBoard;
 use ucl_order::Roster;
 use ucl_runs::RunFault;
 use ucl_screen::{Sink, Source};
-use ucl_live_board::LiveBoard;
 
 /// What the thread of a screen does: it shows the board until the evening is over.
 fn look<B: LiveBoard, V: Sink, R: Wait>(
@@ -190,9 +190,7 @@ where
             return Err(fault);
         }
     };
-    let mut ran = run_screens(
-        scope, rt, alloc, board, wakes, roster, pass, screens, all,
-    )?;
+    let mut ran = run_screens(scope, rt, alloc, board, wakes, roster, pass, screens, all)?;
     let looked = worker.join(rt);
     let mut end = finish(rt, alloc, board, pass, roster, looked);
     let note = board.note(rt, &mut end.pass);

@@ -12,8 +12,8 @@ use crate::lists::{put, take_last};
 use crate::workers::ReporterEnd;
 use std::alloc::Global;
 use std::sync::Wait;
-use ucl_runs::RunFault;
 use ucl_live_board::LiveBoard;
+use ucl_runs::RunFault;
 
 /// Whether the numbers of some reporters rise, the last of them, and where they rise how many events were accepted.
 #[derive(Clone, Copy, Debug)]

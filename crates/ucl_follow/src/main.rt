@@ -5,8 +5,8 @@
 use std::process::ExitCode;
 use ucl_command::words_of;
 pub use ucl_command::{LineFault, follow_args};
-pub use ucl_runs::run_following;
 use ucl_io::Duplex;
+pub use ucl_runs::run_following;
 use ucl_screen::{FromRead, ToWrite};
 
 /// Runs the program over the standard streams. Standard output has no buffer, so that nothing is left to flush.

@@ -181,12 +181,7 @@ fn put_games(
 }
 
 /// A value with the edition of a board and its twelve matches among its members.
-fn with_board(
-    alloc: Global,
-    value: Value,
-    edition: u16,
-    board: &Board,
-) -> Result<Value, AllocError>
+fn with_board(alloc: Global, value: Value, edition: u16, board: &Board) -> Result<Value, AllocError>
     ensures { IfOk result (λ with. view with ≡ with_board edition board.now (view value)) }
 {
     match value {

@@ -8,10 +8,10 @@ mod sentence;
 
 use heard::{Explaining, Heard};
 use std::process::ExitCode;
-pub use ucl_runs::run_evening;
 use ucl_command::{asks_explanations, words_of};
 pub use ucl_command::{LineFault, live_args};
 use ucl_io::Duplex;
+pub use ucl_runs::run_evening;
 use ucl_screen::{FromRead, ToWrite};
 
 /// Runs the program over the standard streams. Standard output has no buffer, so that nothing is left to flush.

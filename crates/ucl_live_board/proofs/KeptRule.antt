@@ -116,23 +116,27 @@ module _ (words_after : List Entry → ℕ → List ℕ) where
       → ((j : ℕ) (u : View) → j ≢ seat → get_elem? views j ≡ some u → Overlap w.share u.share → ⊥)
       → ((n : ℕ) → 1 ≤ n → n ≤ enlisted → (j : ℕ) × (u : View) × (get_elem? (set views seat w) j ≡ some u) × (u.number ≡ n))
       → RuleWith after (set views seat w) enlisted log
-  stepped words after views r seat w log enlisted are is_log legal few ranked seated others mine alone lone given = record { enlisted_is = refl; log_is = refl; rule = record {
-    log = log;
-    enlisted = enlisted;
-    words_are = are;
-    is_log = is_log;
-    legal = legal;
-    few = few;
-    ranked = ranked;
-    seated = subst (λ (n : ℕ). All (λ (x : Logged). x.seat < n) log) (sym (length-set views seat w)) seated;
-    fits = λ j u e. ⊎_elim
-        (λ (t : (j ≡ seat) × (w ≡ u)). subst (λ (k : ℕ). Fits log enlisted k u) (sym t.0) (subst (Fits log enlisted seat) t.1 mine))
-        (λ (t : (j ≢ seat) × (get_elem? views j ≡ some u)). others j u t.0 t.1)
-        (at_set views seat j w u e);
-    apart = search (arith, get_elem?, at_set);
-    shared = search (arith, get_elem?, at_set, overlap_swap);
-    given = given;
-  } }
+  stepped words after views r seat w log enlisted are is_log legal few ranked seated others mine alone lone given = record {
+    enlisted_is = refl;
+    log_is = refl;
+    rule = record {
+      log = log;
+      enlisted = enlisted;
+      words_are = are;
+      is_log = is_log;
+      legal = legal;
+      few = few;
+      ranked = ranked;
+      seated = subst (λ (n : ℕ). All (λ (x : Logged). x.seat < n) log) (sym (length-set views seat w)) seated;
+      fits = λ j u e. ⊎_elim
+          (λ (t : (j ≡ seat) × (w ≡ u)). subst (λ (k : ℕ). Fits log enlisted k u) (sym t.0) (subst (Fits log enlisted seat) t.1 mine))
+          (λ (t : (j ≢ seat) × (get_elem? views j ≡ some u)). others j u t.0 t.1)
+          (at_set views seat j w u e);
+      apart = search (arith, get_elem?, at_set);
+      shared = search (arith, get_elem?, at_set, overlap_swap);
+      given = given;
+    };
+  }
 
   -- a pass that has the whole board, and has seen the whole history
   alone_by : (after : List ℕ) (views : List View) (seat : ℕ) (w : View) (enlisted : ℕ) (log : Log) → RuleWith after (set views seat w) enlisted log → seat < length views → w.seen ≡ history_of log
@@ -371,21 +375,25 @@ module _ (words_after : List Entry → ℕ → List ℕ) where
       let r = m.rule in
       let back : (j : ℕ) (u : View) → get_elem? (views ++ w ∷ []) j ≡ some u → (get_elem? views j ≡ some u) ⊎ ((j ≡ length views) × (w ≡ u)) = (λ j u e. at_last views w u j e) in
       let fit : Fits r.log r.enlisted (length views) w = search (arith, All-nil, none_by_zero, taken_none, begins_none) in
-      record { enlisted_is = m.enlisted_is; log_is = m.log_is; rule = record {
-        log = r.log;
-        enlisted = r.enlisted;
-        words_are = r.words_are;
-        is_log = r.is_log;
-        legal = r.legal;
-        few = r.few;
-        ranked = r.ranked;
-        seated = λ k d lt. let b = r.seated k d lt in omega (arith, length-append views (w ∷ []));
-        fits = λ j u e. ⊎_elim (λ was. r.fits j u was)
-            (λ (new : (j ≡ length views) × (w ≡ u)). subst (λ (k : ℕ). Fits r.log r.enlisted k u) (sym new.0) (subst (Fits r.log r.enlisted (length views)) new.1 fit)) (back j u e);
-        apart = search arith;
-        shared = search (arith, overlap_swap);
-        given = λ n low high. let g = r.given n low high in (g.0, g.1, at_longer views (w ∷ []) g.0 g.1 g.2, g.3);
-      } }
+      record {
+        enlisted_is = m.enlisted_is;
+        log_is = m.log_is;
+        rule = record {
+          log = r.log;
+          enlisted = r.enlisted;
+          words_are = r.words_are;
+          is_log = r.is_log;
+          legal = r.legal;
+          few = r.few;
+          ranked = r.ranked;
+          seated = λ k d lt. let b = r.seated k d lt in omega (arith, length-append views (w ∷ []));
+          fits = λ j u e. ⊎_elim (λ was. r.fits j u was)
+              (λ (new : (j ≡ length views) × (w ≡ u)). subst (λ (k : ℕ). Fits r.log r.enlisted k u) (sym new.0) (subst (Fits r.log r.enlisted (length views)) new.1 fit)) (back j u e);
+          apart = search arith;
+          shared = search (arith, overlap_swap);
+          given = λ n low high. let g = r.given n low high in (g.0, g.1, at_longer views (w ∷ []) g.0 g.1 g.2, g.3);
+        };
+      }
 
   module _ (words : List ℕ) (views : List View) (r : Rule words views) (seat : ℕ) (v : View) (here : get_elem? views seat ≡ some v) where
     pub second_added : RuleWith words (set views seat (kept_of v) ++ second_of v ∷ []) r.enlisted r.log

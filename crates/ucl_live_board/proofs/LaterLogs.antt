@@ -59,11 +59,16 @@ module _ (words_after : List Entry → ℕ → List ℕ) {V A : Type 0} (pass : 
 
     -- by a step of one pass
     pub step_goes : (seat : ℕ) (v w : V) (x : Taken) → get_elem? views seat ≡ some v → Gone (actor v) (actor w) → Takes (pass v) (x ∷ []) (pass w) → later ≡ set views seat w → GoesOn
-    step_goes seat v w x here on takes is = search (arith,
-        log_after words_after before after (map pass views) (map pass later) r q seat (pass v) (pass w) (x ∷ [])
-            (at_map pass views seat v here) (ap (map pass) is ∙ map-set pass views seat w) takes.own,
-            at_map pass views seat v here, at_map actor views seat v here,
-            map-set pass views seat w, map-set actor views seat w, set_gone (map actor views) seat (actor v) (actor w) (at_map actor views seat v here) on)
+    step_goes seat v w x here on takes is = search (
+      arith,
+      log_after words_after before after (map pass views) (map pass later) r q seat (pass v) (pass w) (x ∷ [])
+          (at_map pass views seat v here) (ap (map pass) is ∙ map-set pass views seat w) takes.own,
+      at_map pass views seat v here,
+      at_map actor views seat v here,
+      map-set pass views seat w,
+      map-set actor views seat w,
+      set_gone (map actor views) seat (actor v) (actor w) (at_map actor views seat v here) on,
+    )
 
     -- by a split: one pass more, beside one that has gone on
     pub split_goes : (seat : ℕ) (v u w : V) → get_elem? views seat ≡ some v → Gone (actor v) (actor u)

@@ -46,8 +46,13 @@ no_others a b (x ∷ t) none = ⊎_elim
 -- the passes a and b met, after which they are a1 and b1, and the second read, after which it is d
 module _ (a b a1 b1 d : PassView) (reading : Reading) (same : a1 ≡ a) (met : Meeting a b b1) (on : Continues b b1) (later : Continues b1 d) (read : SharedReading b1 reading d) where
   pub settled : Settled a b a1 d reading.version
-  settled = search (arith, begins_through a.seen b1.seen d.seen met.met later.on.seen, begins_through b.seen b1.seen d.seen on.on.seen later.on.seen, begins_length a.seen b1.seen met.met,
-      begins_length b.seen b1.seen on.on.seen)
+  settled = search (
+    arith,
+    begins_through a.seen b1.seen d.seen met.met later.on.seen,
+    begins_through b.seen b1.seen d.seen on.on.seen later.on.seen,
+    begins_length a.seen b1.seen met.met,
+    begins_length b.seen b1.seen on.on.seen,
+  )
 
   pub through : Continues b d
   through = search (arith, begins_through)

@@ -3,8 +3,8 @@
 use crate::held::{has_refused, has_written, held};
 use crate::{CLUBS, joined};
 use std::test::Fail;
-use ucl_runs::BeginningFault;
 use ucl_command::Format;
+use ucl_runs::BeginningFault;
 
 /// Beginnings that are refused, and why.
 static REFUSED_CLUBS: [(&str, BeginningFault); 16] = [

@@ -2,10 +2,10 @@
 
 use std::alloc::Global;
 use std::io;
-use ucl_runs::{BeginningFault, LiveFault, live_run};
 use ucl_command::{Format, LiveArgs};
 use ucl_devices::{Cut, Full, Out};
 use ucl_io::{Duplex, PumpFault};
+use ucl_runs::{BeginningFault, LiveFault, live_run};
 use ucl_screen::{FromRead, ToWrite};
 
 /// How an evening ended, and what it wrote.

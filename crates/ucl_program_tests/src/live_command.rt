@@ -4,11 +4,11 @@ use crate::json::{KICKED_OFF, accepted};
 use crate::{CLUBS, joined};
 use std::alloc::Global;
 use std::test::Fail;
-use ucl_runs::run_evening;
 use ucl_command::{Format, LineFault, live_args};
 use ucl_devices::{Cut, Full, Out};
 use ucl_io::Duplex;
 use ucl_order::Profile;
+use ucl_runs::run_evening;
 use ucl_screen::{FromRead, ToWrite};
 
 fn words_of(alloc: Global, line: &str) -> Result<Vec<String>, Fail> {

@@ -58,7 +58,6 @@ module _ (T : Type 0) where
       )
 
   module _ (args : FollowArgs) (old new : Seen M) (fresh : old.machine.following ≡ unseen args) (same : old.machine.shape ≡ args.shape) where
-
     shows : (turns : List (Turn M)) → AreTurns Answers 1 old.machine turns → text_in turns ≡ sights args.shape (unseen args) (lines_in turns)
     shows turns p = (turns_are 1 old.machine turns p).2 ∙ ap₂ (λ (s : FollowShape) (f : Following). sights s f (lines_in turns)) same fresh
 

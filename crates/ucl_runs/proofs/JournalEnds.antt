@@ -127,11 +127,14 @@ module _ (args : FollowArgs) (e : Evening) (lines : Lines) (json : e.options.for
         elim b.2 [
           | inl same ↦
               inr (inl (sym (same-moment e first (after_lines e lines) m other (title-same first rest o.0 o.1 w.2 o.2) (last ∙ ap (Open o.0) (sym same) ∙ sym o.2) ends w.3)))
-          | inr less ↦ inr (inr (titled-so m other title, later-by-version m other title (let v : version_at other ≡ version_of o.1 = ap version_of o.3 in
-              let at : ◌≡◌ {A = Stage} (Open p.0 p.1) (Open o.0 b.0) = sym p.2 ∙ last in
-              let same : p.1 ≡ b.0 = cc in
-              let n : version_at m ≡ version_of b.0 = ap version_of (p.3 ∙ same) in
-              omega (arith, v, n, less))))
+          | inr less ↦ inr (inr (
+            titled-so m other title,
+            later-by-version m other title (let v : version_at other ≡ version_of o.1 = ap version_of o.3 in
+                let at : ◌≡◌ {A = Stage} (Open p.0 p.1) (Open o.0 b.0) = sym p.2 ∙ last in
+                let same : p.1 ≡ b.0 = cc in
+                let n : version_at m ≡ version_of b.0 = ap version_of (p.3 ∙ same) in
+                omega (arith, v, n, less)),
+          ))
         ]
 
     way-all : AllTold (IsOnTheWay e lines) Out

@@ -212,10 +212,16 @@ places-fit profile board roster is words =
     let within = rows_within profile board roster (words_valid board words) in
     let row = row_of profile board roster in
     let at = row-at profile board roster in record {
-      plain = (place-plain roster (row 1) is (within 0 (row 1) (omega arith)) (at 1 (omega arith)),
-          (place-plain roster (row 2) is (within 1 (row 1) (omega arith)) (at 2 (omega arith)),
-          (place-plain roster (row 3) is (within 2 (row 1) (omega arith)) (at 3 (omega arith)),
-          (place-plain roster (row 4) is (within 3 (row 1) (omega arith)) (at 4 (omega arith)), tt))));
+      plain = (
+        place-plain roster (row 1) is (within 0 (row 1) (omega arith)) (at 1 (omega arith)),
+        (
+          place-plain roster (row 2) is (within 1 (row 1) (omega arith)) (at 2 (omega arith)),
+          (
+            place-plain roster (row 3) is (within 2 (row 1) (omega arith)) (at 3 (omega arith)),
+            (place-plain roster (row 4) is (within 3 (row 1) (omega arith)) (at 4 (omega arith)), tt),
+          ),
+        ),
+      );
       short = with-item (place_value roster (row 1)) (place-short roster (row 1) is (within 0 (row 1) (omega arith)) (at 1 (omega arith)))
           (with-item (place_value roster (row 2)) (place-short roster (row 2) is (within 1 (row 1) (omega arith)) (at 2 (omega arith)))
           (with-item (place_value roster (row 3)) (place-short roster (row 3) is (within 2 (row 1) (omega arith)) (at 3 (omega arith)))

@@ -6,16 +6,14 @@ ghost use Rattle.ucl_runs.specs.Follow.{resuming_text, sight_text, told_text, un
 ghost use Rattle.ucl_runs.specs.Hearing.{IsHeard, following_of, shape_of, sight_bytes};
 ghost use Rattle.ucl_json.specs.Told.{moment_on};
 
-use crate::following::{Following, is_newer};
-use ucl_json::Moment;
 use crate::follow_program::other_line;
-use crate::rows::resuming_rows;
-use ucl_json::moment_on;
-use std::alloc::Global;
+use crate::following::{Following, is_newer};
 use crate::is_asked;
+use crate::rows::resuming_rows;
+use std::alloc::Global;
 use ucl_command::{FollowArgs, FollowShape};
 use ucl_io::{LineMachine, Text};
-use ucl_json::{Title, edition_screen_json};
+use ucl_json::{Moment, Title, edition_screen_json, moment_on};
 use ucl_order::Profile;
 use ucl_screen::{Sink, matches, screen};
 use ucl_word::OutOfMemory;

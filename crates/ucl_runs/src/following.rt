@@ -3,8 +3,8 @@
 ghost use Rattle.std.specs.Prelude.{◌≡◌};
 ghost use Rattle.ucl_runs.specs.Follow.{is_later, is_newer, unseen};
 
-use ucl_json::Moment;
 use ucl_command::FollowArgs;
+use ucl_json::Moment;
 use ucl_order::Profile;
 
 /// What was followed by some lines: the group and the order, where one was asked for or was told; the newest moment; how many lines there were,

@@ -20,9 +20,9 @@ use std::alloc::Global;
 use std::sync::Wait;
 use std::thread::Threads;
 use ucl_board::Reading;
+use ucl_live_board::{LiveBoard, settle};
 use ucl_order::Profile;
 use ucl_screen::{FIRST_EVENT_ROW, Night, NightEvent, Sink, screen};
-use ucl_live_board::{LiveBoard, settle};
 
 /// The reporters of a night are 1 and this one.
 const LAST_ON_DUTY: u8 = 2;

@@ -8,9 +8,9 @@ ghost use Rattle.ucl_runs.specs.Workers.{style_of};
 
 use crate::gate::Gate;
 use ucl_board::Reading;
+use ucl_live_board::LiveBoard;
 use ucl_order::Profile;
 use ucl_screen::Night;
-use ucl_live_board::LiveBoard;
 
 /// The gate of a night. No other file reaches it, so it is told what `come` and `Plan::shown` tell, and nothing else.
 #[derive(Drop)]

@@ -15,9 +15,9 @@ use std::alloc::Global;
 use std::sync::Wait;
 use std::thread::Threads;
 use ucl_command::{Line, LineFault};
+use ucl_live_board::LiveBoard;
 use ucl_order::Profile;
 use ucl_screen::{Sink, Source, read_night};
-use ucl_live_board::LiveBoard;
 use ucl_word::OutOfMemory;
 
 /// Reads a script from the source, runs its night on the board that was opened for it, and writes the output to the sink.

@@ -4,11 +4,10 @@ ghost use Rattle.std.specs.Prelude.{◌≡◌, ◌≤◌, ◌++◌, [], ◌∷�
 ghost use Rattle.ucl_board.specs.Fixtures.{IsSlot};
 ghost use Rattle.ucl_runs.specs.Follow.{club_row, group_row, in_quotes, is_plain_title, resuming_rows, title_rows};
 
-use ucl_json::Moment;
+use crate::word_lines;
 use itoa::Buffer;
 use std::alloc::{AllocError, Global};
-use crate::word_lines;
-use ucl_json::Title;
+use ucl_json::{Moment, Title};
 use ucl_order::{Profile, Roster};
 
 /// Writes a name for a field between quotes: a quote in it twice.

@@ -11,8 +11,8 @@ use crate::gate::Gate;
 use crate::plan::{Onlooker, Plan};
 use std::alloc::Global;
 use std::sync::Wait;
-use ucl_screen::{NightEvent, screen};
 use ucl_live_board::LiveBoard;
+use ucl_screen::{NightEvent, screen};
 use ucl_word::OutOfMemory;
 
 /// Enters the rows of one reporter of the script in their order, on a pass that has entered nothing yet. Replies are not

@@ -277,8 +277,15 @@ stays_open c done (s ∷ steps) w t x kept e few held opened idle = option_and_t
     let one = step_counted done w kept s (held_by w.callers (caller_of s)) v refl is in
     elim one.comes [
       | inl decided ↦ absurd (omega arith)
-      | inr g ↦ search (arith, same_caller c (caller_of s), held_here w.callers (caller_of s) one.was one.is one.held, stays_open c (done ++ s ∷ []) steps v t one.is later,
-          stays_open c (done ++ s ∷ []) steps v t x later, same_Some, held_else)
+      | inr g ↦ search (
+        arith,
+        same_caller c (caller_of s),
+        held_here w.callers (caller_of s) one.was one.is one.held,
+        stays_open c (done ++ s ∷ []) steps v t one.is later,
+        stays_open c (done ++ s ∷ []) steps v t x later,
+        same_Some,
+        held_else,
+      )
     ])
   where
     open_not : (x : Holds) → IsOpen x → NotAnswered x
@@ -297,8 +304,16 @@ takes_none c done (s ∷ steps) w t kept e few not idle = option_and_then_some (
     let one = step_counted done w kept s (held_by w.callers (caller_of s)) v refl is in
     elim one.comes [
       | inl decided ↦ absurd (omega arith)
-      | inr g ↦ search (arith, same_caller c (caller_of s), stays_open c (done ++ s ∷ []) steps v t one.is later, held_here w.callers (caller_of s) one.was one.is one.held,
-          takes_none c (done ++ s ∷ []) steps v t later, not_answered, held_else, not_caller)
+      | inr g ↦ search (
+        arith,
+        same_caller c (caller_of s),
+        stays_open c (done ++ s ∷ []) steps v t one.is later,
+        held_here w.callers (caller_of s) one.was one.is one.held,
+        takes_none c (done ++ s ∷ []) steps v t later,
+        not_answered,
+        held_else,
+        not_caller,
+      )
     ])
 
 -- all callers

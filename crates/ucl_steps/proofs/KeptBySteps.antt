@@ -267,7 +267,10 @@ module _ (steps : List Step) (w : MachineState) (kept : Keeps steps w) where
       subst (Keeps (steps ++ Swap (Reporter n) ∷ [])) (same_Some (state_after_swap n k e old new w) w' done) (swap_kept n k e old new holds (word_at w.words e.game == old) refl)
   step_kept (First c) (Some (Within k (Collecting loaded))) w' holds done =
       subst (Keeps (steps ++ First c ∷ [])) (same_Some (state_after_first c k loaded w) w' done) (first_kept c k loaded holds (length (loaded ++ slice_index w.words (length loaded) ∷ []) == 12) refl)
-  step_kept (Second c) (Some (Within k (Checking words checked point))) w' holds done = search (arith, same_Some (state_after_second c k words checked point w) w' done,
-      second_kept c k words checked point holds (slice_index w.words checked == slice_index words checked) (checked == 11) refl refl)
+  step_kept (Second c) (Some (Within k (Checking words checked point))) w' holds done = search (
+    arith,
+    same_Some (state_after_second c k words checked point w) w' done,
+    second_kept c k words checked point holds (slice_index w.words checked == slice_index words checked) (checked == 11) refl refl,
+  )
   step_kept (End c) (Some (Answered k)) w' holds done = search (arith, ended steps w kept c (Answered k) holds k refl (kept.knows c (Answered k) k holds refl).sees, same_Some)
   step_kept s o w' holds done = absurd (none-some w' done)

@@ -98,8 +98,12 @@ module _ (x u w : View) (words : List ℕ) (collects : Collects x words u) (anot
   is_unclean = search arith
 
   pub tried_longer : (length x.seen < length w.seen) × (length w.seen ≤ greatest_version)
-  tried_longer = search (arith, unclean_try w.seen (length x.seen) (length w.seen) (collects.accesses ++ another.accesses) both_walks.leaves.follows is_unclean,
-      versions w.seen both_walks.steady.sound.legal, is_unclean)
+  tried_longer = search (
+    arith,
+    unclean_try w.seen (length x.seen) (length w.seen) (collects.accesses ++ another.accesses) both_walks.leaves.follows is_unclean,
+    versions w.seen both_walks.steady.sound.legal,
+    is_unclean,
+  )
 
   pub tried_again : (v : View) → Tried v x → Tried v w
   tried_again v tried = record {

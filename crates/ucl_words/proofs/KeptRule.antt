@@ -201,7 +201,7 @@ counts slots seat place m is_seat acts s r _ here _ =
     let le : n ≤ r.shared.enlisted = omega arith in
     let w : WordView = record { pass = looked_at s r seat v here acts (Enlisted n) tt n v.pass.shown le; doing = v.doing } in
     let rule = count_runs s r seat v here acts n n v.pass.shown le m.1 in
-        search (arith, look_tells words_after s.words (known s.views) r.shared seat v.pass at acts (Enlisted n) tt n v.pass.shown le, stands_after s 0 n seat m.1 v w here rule place is_seat)
+    search (arith, look_tells words_after s.words (known s.views) r.shared seat v.pass at acts (Enlisted n) tt n v.pass.shown le, stands_after s 0 n seat m.1 v w here rule place is_seat)
 
 -- a pass with a number is a reporter's
 reporter_is : (s : Position) (r : TableKeepsOneHistory s) (seat : ℕ) (v : WordView) → get_elem? s.views seat ≡ some v → 0 < v.pass.number → IsReporter v.pass.number
@@ -278,9 +278,13 @@ swaps slots seat place m e old new is_seat acts is pos me next holds s r _ here 
     exchanged n old new
     (λ x. (w : WordView) × (a : Rattle.atomic_table.specs.Table.Act Entry) × Valid s.homes m.1 a × TableKeepsOneHistory (stepped s e.game x seat m.1 w a)
     × ExchangeStep place (step slots e.game old new (some e)) m n (w, carried_after m.1 a))
-    (λ hit. search (arith, swap_keeps s r seat v e old new here acts is pos me next hit holds m.1, swap_tells s r seat v e old new here acts is pos me next hit holds,
-        stands_after s e.game new seat m.1 v (after_won s r seat v e old new here acts is pos me next hit holds) here (swap_keeps s r seat v e old new here acts is pos me next hit holds m.1)
-            place is_seat))
+    (λ hit. search (
+      arith,
+      swap_keeps s r seat v e old new here acts is pos me next hit holds m.1,
+      swap_tells s r seat v e old new here acts is pos me next hit holds,
+      stands_after s e.game new seat m.1 v (after_won s r seat v e old new here acts is pos me next hit holds) here (swap_keeps s r seat v e old new here acts is pos me next hit holds m.1)
+          place is_seat,
+    ))
     (λ miss. let w = after_load s r seat v here acts Swap e.game is v.pass.shown in let kept = load_runs s r seat v here acts Swap e.game is v.pass.shown (after_swap n (length w.seen) v.doing)
     (λ readers one now. (
       Reporter v.pass.number,
@@ -367,10 +371,15 @@ pub split_stands : (v : WordView) → StandAfterSplit v (left_pass v) (second_pa
 split_stands v seat was =
     let left = set was.state.views seat (left_pass v) in
     let below = place_below left seat (left_pass v) (set_here was.state.views seat (left_pass v) (place_below was.state.views seat v was.here)) in
-    search (arith, seconds seat v was.state was.rule was.here,
-        at_longer left (second_pass v ∷ []) seat (left_pass v) (set_here was.state.views seat (left_pass v) (place_below was.state.views seat v was.here)),
-            set_here was.state.views seat (left_pass v) (place_below was.state.views seat v was.here), place_below was.state.views seat v was.here, at_last left (second_pass v) (length left) refl,
-                apart)
+    search (
+      arith,
+      seconds seat v was.state was.rule was.here,
+      at_longer left (second_pass v ∷ []) seat (left_pass v) (set_here was.state.views seat (left_pass v) (place_below was.state.views seat v was.here)),
+      set_here was.state.views seat (left_pass v) (place_below was.state.views seat v was.here),
+      place_below was.state.views seat v was.here,
+      at_last left (second_pass v) (length left) refl,
+      apart,
+    )
 
 pub notes : (seat : ℕ) (v : WordView) → Splits TableKeepsOneHistory seat v v (note_pass v)
 notes seat v s r here = split_keeps seat v s r here v (note_pass v) refl refl (note_added words_after s.words (known s.views) r.shared seat v.pass (known_at s.views seat v here))

@@ -38,8 +38,12 @@ module _ (v u : View) (call : EventCall) (loaded : ℕ) (is : IsMatch call.game)
     look_steps = record { may = (me, is); accesses = look_access ∷ []; leaves = look_walks.leaves; report = look_report }
 
     pub look_refuses : RefusedReport (pass_view_of v) call refusal (pass_view_of u)
-    look_refuses = search (arith, take-length u.seen,
-        report_whole u.seen (length v.seen) (length u.seen) (length u.seen) call (Err refusal) (look_access ∷ []) look_walks.steady.sound.legal look_walks.leaves.follows look_report, look_report)
+    look_refuses = search (
+      arith,
+      take-length u.seen,
+      report_whole u.seen (length v.seen) (length u.seen) (length u.seen) call (Err refusal) (look_access ∷ []) look_walks.steady.sound.legal look_walks.leaves.follows look_report,
+      look_report,
+    )
 
   -- on whose word they accept, and an exchange
   module _ (reply : Accepted) (accepts : reply_of (record_at loaded) call ≡ Ok reply) (z : View) (found : ℕ) where
@@ -61,9 +65,13 @@ module _ (v u : View) (call : EventCall) (loaded : ℕ) (is : IsMatch call.game)
       miss_steps refusal stale = record { may = (me, is); accesses = look_access ∷ swap_access ∷ []; leaves = miss_walks.leaves; report = miss_report refusal stale }
 
       pub miss_refuses : (refusal : Refusal) → refusal ≡ Stale (record_at found).number → RefusedReport (pass_view_of v) call refusal (pass_view_of z)
-      miss_refuses refusal stale = search (arith, take-length z.seen,
-          report_whole z.seen (length v.seen) (length z.seen) (length z.seen) call (Err refusal) (look_access ∷ swap_access ∷ [])
-              miss_walks.steady.sound.legal miss_walks.leaves.follows (miss_report refusal stale), miss_report refusal stale)
+      miss_refuses refusal stale = search (
+        arith,
+        take-length z.seen,
+        report_whole z.seen (length v.seen) (length z.seen) (length z.seen) call (Err refusal) (look_access ∷ swap_access ∷ [])
+            miss_walks.steady.sound.legal miss_walks.leaves.follows (miss_report refusal stale),
+        miss_report refusal stale,
+      )
 
     -- that was won
     module _ (same : found ≡ loaded) (won : ExchangeWon (entry_of v.number call) u found z) where

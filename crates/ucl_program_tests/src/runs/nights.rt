@@ -594,7 +594,10 @@ fn version_and_last_number<B: LiveBoard, R: Wait>(
 #[test]
 fn night_with_a_match_not_begun(rt: HostRuntime) -> Result<(), Fail> {
     let alloc = rt.alloc();
-    let script = joined(alloc, &[CLUBS, "1,1,0,kickoff\n2,2,0,kickoff\n1,1,1,goal-home\n"])?;
+    let script = joined(
+        alloc,
+        &[CLUBS, "1,1,0,kickoff\n2,2,0,kickoff\n1,1,1,goal-home\n"],
+    )?;
     let night = night_of(alloc, script.as_str())?;
     let (board, mut pass) = WordBoard::open(&rt, alloc)?;
     let watcher = board.split(&rt, &mut pass);

@@ -6,14 +6,14 @@ use crate::threads::screens::{roster, shape};
 use std::alloc::Global;
 use std::sync::Wait;
 use std::test::Fail;
-use ucl_runs::{LineReader, RunFault};
 use ucl_command::Format;
 use ucl_devices::{Cut, Full, Out};
 use ucl_evenings::{Reporter, Ring, take_rows};
 use ucl_io::Duplex;
-use ucl_order::Roster;
-use ucl_screen::{FromRead, InputFault, ToWrite};
 use ucl_live_board::LiveBoard;
+use ucl_order::Roster;
+use ucl_runs::{LineReader, RunFault};
+use ucl_screen::{FromRead, InputFault, ToWrite};
 use ucl_words::WordBoard;
 
 /// How a reporter's run ended, what it wrote, and how often it rang.

@@ -9,9 +9,12 @@ pub loop-i-init : goal.loop-i-init
 loop-i-init c = search (arith, collected_none, along_none)
 
 pub load-requires : goal.load-requires
-load-requires c = search (arith,
-    first_next (length c.args.seat.now.me.0.pass.seen) c.args.seat.now.me.0.doing c.loop-i.words c.loop-i.i _ c.loop-i.seat.me.0.doing (omega arith)
-        c.loop-i.invariant.long c.requires.next c.loop-i.invariant.does, firsts)
+load-requires c = search (
+  arith,
+  first_next (length c.args.seat.now.me.0.pass.seen) c.args.seat.now.me.0.doing c.loop-i.words c.loop-i.i _ c.loop-i.seat.me.0.doing (omega arith)
+      c.loop-i.invariant.long c.requires.next c.loop-i.invariant.does,
+  firsts,
+)
 
 pub loop-i-preserved : goal.loop-i-preserved
 loop-i-preserved c = search (arith, length-set, collected_set, first_on, begins_length, begins_through, along_on, along_first)

@@ -19,8 +19,10 @@ of_packed-requires c = are_words c.tries.seat.me.0.pass c.collect-words.new.seat
     c.collect-words.ensures.collects c.if-is_clean.ensures.compared
 
 pub tries-smaller : goal.tries-smaller
-tries-smaller c = search (arith,
-    tried_longer c.tries.seat.me.0.pass c.collect-words.new.seat.me.0.pass c.is_clean.new.seat.me.0.pass c.collect-words.result c.collect-words.ensures.collects c.if-is_clean.ensures.compared)
+tries-smaller c = search (
+  arith,
+  tried_longer c.tries.seat.me.0.pass c.collect-words.new.seat.me.0.pass c.is_clean.new.seat.me.0.pass c.collect-words.result c.collect-words.ensures.collects c.if-is_clean.ensures.compared,
+)
 
 pub tries-preserved : goal.tries-preserved
 tries-preserved c = record {

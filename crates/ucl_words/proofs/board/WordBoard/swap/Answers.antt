@@ -9,7 +9,7 @@ compare_exchange_with-requires g c =
     let low : (1 ≤ e.game) × (e.game ≤ 12) = (omega arith, omega arith) in
     let slots : ℕ = c.self.inside.table.shared.table_id.slots in
     let seat = c.args.seat.now in
-        search (arith, swaps slots seat.id _ seat.me e c.args.loaded c.args.next c.requires.place c.requires.acts low c.requires.me.0 c.requires.me.1 c.requires.word c.requires.next)
+    search (arith, swaps slots seat.id _ seat.me e c.args.loaded c.args.next c.requires.place c.requires.acts low c.requires.me.0 c.requires.me.1 c.requires.word c.requires.next)
 
 pub returns-clause-won : goal.returns-clause-won
 returns-clause-won g c hit = c.compare_exchange_with.ensures.2.won hit
