@@ -192,7 +192,7 @@ def hall(tmp_path, program):
 
 @pytest.mark.quick
 def test_each_line_of_the_page_is_tried():
-    assert TYPED.keys() == MEANT.keys() and LINES.keys() == {*AGAIN, "The table", "The same journal", "The journal of group A", "`ucl_evening`"}
+    assert TYPED.keys() == MEANT.keys() and LINES.keys() == {*AGAIN, "The table", "The same journal", "The journal of group A", "`ucl_evening --format json`"}
 
 
 @pytest.mark.parametrize("mistake", AGAIN)
@@ -211,8 +211,8 @@ def test_an_evening_of_threads_begun_again(hall, program, tmp_path):
     (tmp_path / "ucl_evening").symlink_to(program("ucl_evening"))
     for name, text in ("clubs.csv", CLUBS), ("north.typed", "".join(row[2:] for row in ROWS[:-1])), ("south.typed", ROWS[-1][2:]), ("more", "12,0,kickoff\n"):
         (tmp_path / name).write_text(text)
-    hall("./ucl_evening clubs.csv --reporter north.typed=north.replies --reporter south.typed=south.replies")
-    hall(LINES["`ucl_evening`"])
+    hall("./ucl_evening clubs.csv --reporter north.typed=north.replies --reporter south.typed=south.replies --format json")
+    hall(LINES["`ucl_evening --format json`"])
     without = after(*(row.replace("7,", "1,", 1) for row in AGAIN["A card in match 1"][3]))
     assert (tmp_path / "next.csv").read_text() == "group,A,uefa,1\n" + QUOTED + sheet(without)
     told = hall("./ucl_evening next.csv --reporter more=replies --json screens; tail -n 1 screens | ./ucl_follow --resume")

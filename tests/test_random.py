@@ -10,10 +10,10 @@ import random
 import tempfile
 
 import pytest
-from conftest import EXAMPLES, Started, command, decoded, encoded, faults_alone, text_of
+from conftest import Started, command, decoded, encoded, faults_alone, text_of
 from hypothesis import given, settings
 from hypothesis import strategies as st
-from model import CLUBS, FINISHED, IN_PLAY, ROSTER, SCHEDULED, WORDS, Evening, Match, entered, followed, fresh, night, sheet
+from model import CLUBS, FINISHED, IN_PLAY, ROSTER, SCHEDULED, WORDS, Evening, Match, followed, fresh, match_of, night, sheet
 from threads import History, faults_of, replies_of
 
 pytestmark = pytest.mark.limit(600)
@@ -184,7 +184,7 @@ def test_journals(program, data):
 
 
 def held(program, folder, script, texts, screens, group, order):
-    """Holds an evening of threads, each at a file, and compares it with one history. Gives the reporters' words."""
+    """Holds an evening of threads, each at a file, and compares it with one history. Gives the words of its board."""
     place = lambda name: os.path.join(folder, name)
     for name in set(os.listdir(folder)) - {"clubs.csv", "next.csv"}:
         os.remove(place(name))
@@ -196,13 +196,15 @@ def held(program, folder, script, texts, screens, group, order):
     status, output, errors = command([program("ucl_evening"), script, *words, "--group", group, "--order", order], cwd=folder)
     assert (status, faults_of(errors)) == (0, "")
     answers = [text_of(place(f"{who}.replies")) if os.path.exists(place(f"{who}.replies")) else "" for who in range(len(texts))]
-    events = [(int(who), int(game), int(number), word) for who, game, number, word in (row.split(",") for row in text_of(place(script)).splitlines()[4:])]
-    history = History([replies_of(*pair) for pair in zip(texts, answers)], entered(events)[0], max([who for who, *_ in events], default=0))
+    before = [match_of(row.split(",")[2]) for row in text_of(place(script)).splitlines()[4:]]
+    for match in before:
+        match.reporter = min(match.number, 1)
+    history = History([replies_of(*pair) for pair in zip(texts, answers)], before or None, min(len(before), 1))
     assert output == sheet(history.matches)
     for at, kind in enumerate(screens):
         seen = text_of(place(f"{at}.screen"))
         history.check_json(seen, group, order) if kind == "--json" else history.check_text(seen, ROSTER, group, order != "uefa")
-    return ways
+    return output
 
 
 REPORTERS = st.lists(PICKS, min_size=1, max_size=5)
@@ -224,11 +226,10 @@ def test_evenings_of_threads(program, data):
                 rows = [row.split(",", 1)[1] for row in event_rows(picks)]
                 odd = draw(st.lists(st.tuples(st.integers(0, len(rows)), st.sampled_from(BAD_LINES)), max_size=4))
                 texts.append("".join(row for _, row in sorted([*enumerate(rows), *odd], key=lambda it: it[0])))
-            ways = held(program, folder, script, texts, draw(SCREENS), draw(st.sampled_from("ABH")), draw(st.sampled_from(["uefa", "away-in-tie"])))
-            script_of_next = command([EXAMPLES / "next_evening", script, *ways], cwd=folder).output
+            words = held(program, folder, script, texts, draw(SCREENS), draw(st.sampled_from("ABH")), draw(st.sampled_from(["uefa", "away-in-tie"])))
             script = "next.csv"
             with open(os.path.join(folder, script), "w") as file:
-                file.write(script_of_next)
+                file.write(CLUBS + words)
 
 
 def test_nights_on_both_boards(program):

@@ -287,16 +287,13 @@ def test_sixteen_reporters_and_sixteen_screens(hall, start):
 
 
 def test_evening_that_goes_on(hall, run):
-    """By its rows and replies: the board is the same, and so are the words of `feed` on that script."""
+    """By its answers in JSON: the board is the same, but for who entered events."""
     hall.write("north.rows", "".join(up_and_down(1, 400) + up_and_down(3, 10)) + "1,400,fulltime\nbad\n")
     hall.write("south.rows", "".join(up_and_down(2, 300) + up_and_down(3, 400)))
-    status, words, errors = hall.held(*BOTH)
+    status, words, errors = hall.held(*BOTH, "--format", "json")
     assert (status, errors) == (0, "")
-    script = command([EXAMPLES / "next_evening", "clubs.csv", NORTH, SOUTH], cwd=hall.path).output
-    hall.write("next.csv", script)
-    fed = run("ucl_night", "feed", input=script).output
-    assert fed.endswith("".join(words)) and " refused " not in fed
-    assert hall.held("--reporter", "/dev/null=none", "--json", "desk", clubs="next.csv") == (0, words, "")
+    hall.write("next.csv", run("ucl_follow", "--resume", input=hall.read("north.replies") + hall.read("south.replies")).output)
+    assert hall.held("--reporter", "/dev/null=none", "--json", "desk", clubs="next.csv") == (0, words_under(1, words), "")
     before = sum(numbers_of(words))
     assert [json.loads(line)["version"] for line in hall.read("desk").splitlines()] == [before]
     hall.write("more.rows", "1,401,reopen\n1,401,reopen\n4,0,kickoff\n")
