@@ -47,6 +47,21 @@ const FIRST_PLACES: &str =
 const LAST_PLACES: &str =
     ",\"drawn\":0,\"goal_difference\":0,\"goals_against\":0,\"goals_for\":0,\"lost\":0,\"mark\":\"\",\"place\":3,\"played\":0,\"points\":0,\"slot\":1,\"won\":0},{\"club\":\"Charlie\",\"drawn\":0,\"goal_difference\":-1,\"goals_against\":1,\"goals_for\":0,\"lost\":1,\"mark\":\"\",\"place\":4,\"played\":1,\"points\":0,\"slot\":3,\"won\":0}";
 
+/// The twelve matches after them.
+const MATCHES: &str = "\
+{\"expulsions\":[0,0],\"match\":1,\"number\":2,\"reporter\":1,\"score\":[1,0],\"state\":\"IN PLAY\",\"yellows\":[0,0]}\
+,{\"expulsions\":[0,0],\"match\":2,\"number\":0,\"reporter\":0,\"score\":[0,0],\"state\":\"SCHEDULED\",\"yellows\":[0,0]}\
+,{\"expulsions\":[0,0],\"match\":3,\"number\":0,\"reporter\":0,\"score\":[0,0],\"state\":\"SCHEDULED\",\"yellows\":[0,0]}\
+,{\"expulsions\":[0,0],\"match\":4,\"number\":0,\"reporter\":0,\"score\":[0,0],\"state\":\"SCHEDULED\",\"yellows\":[0,0]}\
+,{\"expulsions\":[0,0],\"match\":5,\"number\":0,\"reporter\":0,\"score\":[0,0],\"state\":\"SCHEDULED\",\"yellows\":[0,0]}\
+,{\"expulsions\":[0,0],\"match\":6,\"number\":0,\"reporter\":0,\"score\":[0,0],\"state\":\"SCHEDULED\",\"yellows\":[0,0]}\
+,{\"expulsions\":[0,0],\"match\":7,\"number\":0,\"reporter\":0,\"score\":[0,0],\"state\":\"SCHEDULED\",\"yellows\":[0,0]}\
+,{\"expulsions\":[0,0],\"match\":8,\"number\":0,\"reporter\":0,\"score\":[0,0],\"state\":\"SCHEDULED\",\"yellows\":[0,0]}\
+,{\"expulsions\":[0,0],\"match\":9,\"number\":0,\"reporter\":0,\"score\":[0,0],\"state\":\"SCHEDULED\",\"yellows\":[0,0]}\
+,{\"expulsions\":[0,0],\"match\":10,\"number\":0,\"reporter\":0,\"score\":[0,0],\"state\":\"SCHEDULED\",\"yellows\":[0,0]}\
+,{\"expulsions\":[0,0],\"match\":11,\"number\":0,\"reporter\":0,\"score\":[0,0],\"state\":\"SCHEDULED\",\"yellows\":[0,0]}\
+,{\"expulsions\":[0,0],\"match\":12,\"number\":0,\"reporter\":0,\"score\":[0,0],\"state\":\"SCHEDULED\",\"yellows\":[0,0]}";
+
 /// The screen at a row, with the name of the club of slot 1 as it stands in JSON.
 pub(crate) fn screen_at(alloc: Global, row: &str, name: &str) -> Result<String, Fail> {
     let text = joined(
@@ -55,7 +70,9 @@ pub(crate) fn screen_at(alloc: Global, row: &str, name: &str) -> Result<String, 
             "{\"clubs\":[{\"club\":",
             name,
             OTHER_CLUBS,
-            ",\"edition\":0,\"group\":\"A\",\"in_play\":1,\"order\":\"uefa\",\"reply\":\"screen\",\"row\":",
+            ",\"edition\":0,\"group\":\"A\",\"in_play\":1,\"matches\":[",
+            MATCHES,
+            "],\"order\":\"uefa\",\"reply\":\"screen\",\"row\":",
             row,
             ",\"table\":[",
             FIRST_PLACES,

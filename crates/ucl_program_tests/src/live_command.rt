@@ -184,7 +184,8 @@ fn options_are_heeded(rt: HostRuntime) -> Result<(), Fail> {
     let (status, out, errors) = ran(alloc, line, input.as_str(), usize::MAX, usize::MAX)?;
     let text = std::str::from_utf8(out.as_slice())?;
     assert!(rt; status == 0 && errors.is_empty());
-    assert!(rt; text.contains("\"group\":\"A\",\"in_play\":1,\"order\":\"away-in-tie\","));
+    assert!(rt; text.contains("\"group\":\"A\",\"in_play\":1,"));
+    assert!(rt; text.contains("],\"order\":\"away-in-tie\",\"reply\":\"screen\","));
     Ok(())
 }
 
