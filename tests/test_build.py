@@ -48,8 +48,8 @@ def test_start_of_what_is_not_built(tmp_path, told, status, wanted):
 
 def test_proves_what_has_changed(tmp_path):
     """And no more; it counts that, and stops where a proof fails. Copies are given what is built below, and from them comes what is made there."""
-    rt = f"pwd >>{tmp_path}/proved\n[ ! -e fails ] || exit 1\n[ $1 = run ] || {{ mkdir -p out/rlib && exec touch out/rlib/low; }}\n"
-    small = Repository(tmp_path, rt + "[ -e ../low/out/rlib/low ] && echo 'echo built' >out/one && chmod +x out/one\n")
+    rt = f"pwd >>{tmp_path}/proved\n[ ! -e fails ] || exit 1\n[ $1 = run ] || {{ mkdir -p out/rlib && exec touch out/rlib/low.rlib; }}\n"
+    small = Repository(tmp_path, rt + "[ -e ../low/out/rlib/low.rlib ] && echo 'echo built' >out/one && chmod +x out/one\n")
     first, again = small.build("one"), small.build("one")
     assert (first.status, "proved: 2;" in first.errors, again.status, again.errors) == (0, True, 0, "")
     assert small.build("--start", "one") == (0, "built\n", "")
@@ -61,6 +61,8 @@ def test_proves_what_has_changed(tmp_path):
     assert small.build("--built", "low", "one")[:2] == (1, "one\n")
     second = small.build("one")
     assert (second.status, "proved: 1;" in second.errors) == (0, True)
+    (tmp_path / "crates/low/out/rlib/low.rlib").unlink()
+    assert small.build("--built", "low", "one")[:2] == (1, "low\n")
     small.change("crates/low/src/lib.rt", "changed")
     small.change("crates/low/fails", "")
     third = small.build("one")
