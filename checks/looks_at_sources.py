@@ -45,13 +45,13 @@ TRAITS = {
     "ucl_live_board": {"Brand": "| Asking", "Strangers": "Clone Copy Debug Eq Error PartialEq", "TooManyReporters": "Drop Error", "View": "| Model"},
     "ucl_pass": {
         **dict.fromkeys(["Adds<K>", "Counts<K>", "Enlists<K>", "LooksAt<K>", "Reads<K>"], "| Outcome<[u64; 13], CellView>"),
-        **dict.fromkeys(["CellNote", "CellReaderPass", "CellReporterPass"], "Drop | Model"), "CellBoard": "Drop | LiveBoard Model",
+        **dict.fromkeys(["CellNote", "CellReaderPass", "CellReporterPass"], "Drop | Model"), "CellBoard": "Drop | LiveBoard Model Notes",
         "CellView": "| Model", "Note": "| Join<CellView> Split<CellView>", "OneHistory": "| Protocol<[u64; 13], CellView>",
         "SecondPass": "| Split<CellView>",
     },
     "ucl_words": {
         **dict.fromkeys(["CountEnlisted<K>", "Enlist<K>", "First", "Look<K>", "Second<K>", "Swap<K>"], "| Play<Entry, WordView>"),
-        **dict.fromkeys(["WordNote", "WordReaderPass", "WordReporterPass"], "Drop | Model"), "WordBoard": "Drop | LiveBoard Model",
+        **dict.fromkeys(["WordNote", "WordReaderPass", "WordReporterPass"], "Drop | Model"), "WordBoard": "Drop | LiveBoard Model Notes",
         "WordView": "| Model", "Note": "| Join<WordView> Split<WordView>", "OneHistory": "Clone Copy | TableRule<Entry, WordView, ()>",
         "SecondPass": "| Split<WordView>",
     },

@@ -8,7 +8,7 @@ ghost use Rattle.ucl_evenings.specs.Showing.{AreFew, EndWasTold, IsScreenOn, Sho
 use crate::screen::Screen;
 use std::alloc::Global;
 use std::sync::Wait;
-use ucl_live_board::LiveBoard;
+use ucl_live_board::{LiveBoard, Notes};
 use ucl_order::Roster;
 use ucl_runs::RunFault;
 use ucl_screen::Sink;
@@ -91,7 +91,7 @@ pub fn show_boards<B: LiveBoard, Q: Bell<B, V>, V: Sink, R: Wait>(
 /// # Errors
 ///
 /// As `show_boards`.
-pub fn show_noted<B: LiveBoard, V: Sink, R: Wait>(
+pub fn show_noted<B: Notes, V: Sink, R: Wait>(
     rt: &R,
     alloc: Global,
     board: &B,

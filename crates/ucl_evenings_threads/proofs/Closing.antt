@@ -50,7 +50,7 @@ shown_further options clubs low k m z s t failed failed2 old mid new least (Err 
 pub heard_on : (k m z : PassView) → m ≡ k → Continues m z → Continues k z
 heard_on k m z same on = subst (λ (p : PassView). Continues p z) same on
 
-module _ {B R P N V : Type 0} (live : boards.Ghosts B R P N) (board : B) (sink : sinks.Ghosts V) (clubs : List NamedClub) where
+module _ {B R P V : Type 0} (live : boards.Ghosts B R P) (board : B) (sink : sinks.Ghosts V) (clubs : List NamedClub) where
   -- what was shown, with the options that were lent
   lent : (history : List Entry) (least : ℕ) (looking : Looking R (Screen B V)) (screen : Screen B V) (pass : R) (r : Result ⊤ RunFault) → screen.options ≡ looking.screen.options
       → live.is_reader board pass → IsPrefix (live.reader pass).seen history → SinkServed sink looking.screen.sink screen.sink r

@@ -104,7 +104,7 @@ all_lines : (s : ReplyStyle) (old new : Device) (r : Result ⊤ RunFault) (bytes
 all_lines s old new (Ok done) bytes lines outcomes e = e.all
 all_lines s old new (Err fault) bytes lines outcomes e = tt
 
-module _ {B R P N S W : Type 0} (live : boards.Ghosts B R P N) (board : B) (source : sources.Ghosts S) (replies : sinks.Ghosts W) (clubs : List NamedClub) (before h : List Entry) where
+module _ {B R P S W : Type 0} (live : boards.Ghosts B R P) (board : B) (source : sources.Ghosts S) (replies : sinks.Ghosts W) (clubs : List NamedClub) (before h : List Entry) where
   abbrev Answered : Reporter S W → ReporterEnd P S W → Type 0
   Answered reporter end = HasAnsweredRows live board source replies clubs before h reporter end
 
@@ -180,7 +180,7 @@ module _ {B R P N S W : Type 0} (live : boards.Ghosts B R P N) (board : B) (sour
 
 -- ---- an evening
 
-module _ {B R P N S W V : Type 0} (live : boards.Ghosts B R P N) (board : B) (source : sources.Ghosts S) (replies : sinks.Ghosts W) (sink : sinks.Ghosts V) (clubs : List NamedClub)
+module _ {B R P S W V : Type 0} (live : boards.Ghosts B R P) (board : B) (source : sources.Ghosts S) (replies : sinks.Ghosts W) (sink : sinks.Ghosts V) (clubs : List NamedClub)
     (before : List Entry) (entered : List P) (reporters : List (Reporter S W)) (screens : List (Screen B V)) (end : EveningEnd R P S W (Screen B V))
     (held : HasHeld live board source replies sink clubs before entered reporters screens end) where
   abbrev history : List Entry

@@ -66,7 +66,7 @@ failed_end failed old new text P Q TooManyReporters e = absurd e
 failed_end failed old new text P Q (Strangers version) e = absurd e
 
 -- what a screen has shown of a beginning it has shown of the whole
-module _ {B R P N V : Type 0} (live : boards.Ghosts B R P N) (board : B) (sink : sinks.Ghosts V) (clubs : List NamedClub) where
+module _ {B R P V : Type 0} (live : boards.Ghosts B R P) (board : B) (sink : sinks.Ghosts V) (clubs : List NamedClub) where
   pub shown_on : (before s h : List Entry) (Ends More : List ℕ → Type 0) (screen : Screen B V) (end : ScreenEnd R (Screen B V)) → IsPrefix s h
       → ((versions : List ℕ) → Ends versions → More versions)
       → HasShownOf live board sink clubs before s Ends screen end → HasShownOf live board sink clubs before h More screen end
@@ -85,7 +85,7 @@ module _ {B R P N V : Type 0} (live : boards.Ghosts B R P N) (board : B) (sink :
       }
 
 -- what was shown since more had been seen was shown since less had been
-pub shown_since : {B R P N V : Type 0} (live : boards.Ghosts B R P N) (board : B) (sink : sinks.Ghosts V) (clubs : List NamedClub) (first before h : List Entry) (Ends : List ℕ → Type 0)
+pub shown_since : {B R P V : Type 0} (live : boards.Ghosts B R P) (board : B) (sink : sinks.Ghosts V) (clubs : List NamedClub) (first before h : List Entry) (Ends : List ℕ → Type 0)
     (screen : Screen B V) (end : ScreenEnd R (Screen B V)) → IsPrefix first before → HasShownOf live board sink clubs before h Ends screen end
     → HasShownOf live board sink clubs first h Ends screen end
 shown_since live board sink clubs first before h Ends screen end on p =

@@ -59,7 +59,7 @@ module _ (p z : PassView) (last : Reading) (on : Continues p z) (read : SharedRe
         let long = whole_long in
         let same = all.1 in omega arith
 
-module _ {B R P N V : Type 0} (live : boards.Ghosts B R P N) (board : B) (sink : sinks.Ghosts V) (clubs : List NamedClub) where
+module _ {B R P V : Type 0} (live : boards.Ghosts B R P) (board : B) (sink : sinks.Ghosts V) (clubs : List NamedClub) where
   shown_whole : (before s h : List Entry) (version : ℕ) (screen : Screen B V) (end : ScreenEnd R (Screen B V)) → IsPrefix s h → length h ≡ version
       → HasShownOf live board sink clubs before s (LastIsAtLeast version) screen end → HasShownOf live board sink clubs before h (LastIs version) screen end
   shown_whole before s h version screen end on long p =
@@ -106,7 +106,7 @@ rows_in first h k m asks outcomes early on r =
     subst (λ (n : ℕ). GoThrough n h (length first) (length h) asks outcomes) (sym r.always.number)
     (through_in k.number m.seen h on (length k.seen) (length first) (length m.seen) (length h) asks outcomes (begins_length first k.seen early) (begins_length m.seen h on) r.through)
 
-module _ {B R P N S W : Type 0} (live : boards.Ghosts B R P N) (board : B) (source : sources.Ghosts S) (replies : sinks.Ghosts W) (clubs : List NamedClub) where
+module _ {B R P S W : Type 0} (live : boards.Ghosts B R P) (board : B) (source : sources.Ghosts S) (replies : sinks.Ghosts W) (clubs : List NamedClub) where
   pub reported_at_end : (first before s h : List Entry) (reporters : List (Reporter S W)) (all : List (Enlisted P S W)) (ends : List (ReporterEnd P S W)) → IsPrefix first before → IsPrefix s h
       → AllZip (WasEnlisted live board before) reporters all → AllZip (HasRun live board source replies clubs) all ends → All (IsSeenIn s) (views_of live ends)
       → AllZip (HasAnsweredRows live board source replies clubs first h) reporters ends

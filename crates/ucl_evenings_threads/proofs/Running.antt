@@ -19,7 +19,7 @@ use Rattle.ucl_evenings_threads.specs.Whole.{IsSeenIn}
 use Rattle.ucl_evenings_threads.proofs.Closing.{closed_on}
 use Rattle.ucl_evenings_threads.proofs.Zips.{zip_map, zip_push}
 
-module _ {B R P N S W V : Type 0} (live : boards.Ghosts B R P N) (board : B) (source : sources.Ghosts S) (replies : sinks.Ghosts W) (sink : sinks.Ghosts V) (clubs : List NamedClub) where
+module _ {B R P S W V : Type 0} (live : boards.Ghosts B R P) (board : B) (source : sources.Ghosts S) (replies : sinks.Ghosts W) (sink : sinks.Ghosts V) (clubs : List NamedClub) where
   -- no screen is left, and the reporters have run
   pub ran_first : (s h : List Entry) (screens : List (Looking R (Screen B V))) (all : List (Enlisted P S W)) (ran : Ran R P S W (Screen B V))
       → screens ≡ [] → ran.screens.items ≡ [] → IsPrefix s h → AllZip (HasRun live board source replies clubs) all ran.reporters.items → All (IsSeenIn h) (views_of live ran.reporters.items)

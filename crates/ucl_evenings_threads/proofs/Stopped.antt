@@ -36,7 +36,7 @@ order_begins numbers start (e ∷ events) h o =
     (begins_through o.0 (followed_by o.0 entry) h (begins_more o.0 o.0 entry (begins_same o.0)) (order_begins numbers (followed_by o.0 entry) events h o.3))
 
 -- where reporters were not enlisted, no event was entered
-pub enlisting_stops : {B R P N : Type 0} (live : boards.Ghosts B R P N) (board : B) (before : List Entry) (events : List NightEvent) (fault : RunFault) → 1 ≤ length events
+pub enlisting_stops : {B R P : Type 0} (live : boards.Ghosts B R P) (board : B) (before : List Entry) (events : List NightEvent) (fault : RunFault) → 1 ≤ length events
     → IsOfEnlisting live board fault → StopsEntering live board before events fault
 enlisting_stops live board before events OutOfMemory some h = some
 enlisting_stops live board before events TooManyReporters some h = (some, h)
@@ -47,7 +47,7 @@ enlisting_stops live board before events NoThread some h = absurd h
 enlisting_stops live board before events (Strangers version) some h = absurd h
 
 -- the event at a place was refused to the pass at the place of its reporter
-pub refused_there : {B R P N : Type 0} (live : boards.Ghosts B R P N) (board : B) (start : List Entry) (events : List NightEvent) (i row : ℕ) (e : NightEvent) (passes : List P) (at : ℕ)
+pub refused_there : {B R P : Type 0} (live : boards.Ghosts B R P) (board : B) (start : List Entry) (events : List NightEvent) (i row : ℕ) (e : NightEvent) (passes : List P) (at : ℕ)
     (old new : P) (p : PassView) → i < length events → row ≡ 5 + i → e ≡ get_or events i e → at < length passes → old ≡ get_or passes at old → e.reporter ≡ 1 + at
     → live.is_reporter board new → WasNotEntered p (live.reporter old) e (live.reporter new) → HaveSoFar start (take i events) (map live.reporter passes) p.seen
     → WasRefused live board start events row

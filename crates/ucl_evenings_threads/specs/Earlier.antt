@@ -86,7 +86,7 @@ HasJustItsOwn history k = entries_by k.number history ≡ k.mine
 
 -- the events of a script were entered on a live board, on which this had been seen before: each by the pass that stands for its reporter, and
 -- these passes have entered nothing else in all that the pass which is handed back has seen
-pub record WereEntered {B R P N : Type 0} (live : boards.Ghosts B R P N) (before : List Entry) (events : List NightEvent) (pass : R) (reporters : List P) : Type 0 where
+pub record WereEntered {B R P : Type 0} (live : boards.Ghosts B R P) (before : List Entry) (events : List NightEvent) (pass : R) (reporters : List P) : Type 0 where
   pub enough : All (λ event. event.reporter ≤ length reporters) events
   pub each : HaveEntered 1 events (map live.reporter reporters)
   pub in_order : HasInOrder (numbers_of (map live.reporter reporters)) before events (live.reader pass).seen
@@ -113,7 +113,7 @@ pub record WasNotEntered (p k : PassView) (event : NightEvent) (m : PassView) : 
 
 -- the event of a row was refused on a live board, on which this had been seen before: as the pass of its reporter has seen, which had
 -- entered those of its events that come before it, and nothing else
-pub record WasRefused {B R P N : Type 0} (live : boards.Ghosts B R P N) (board : B) (before : List Entry) (events : List NightEvent) (row : ℕ) : Type 0 where
+pub record WasRefused {B R P : Type 0} (live : boards.Ghosts B R P) (board : B) (before : List Entry) (events : List NightEvent) (row : ℕ) : Type 0 where
   pub earlier : List NightEvent
   pub event : NightEvent
   pub later : List NightEvent
@@ -126,13 +126,13 @@ pub record WasRefused {B R P N : Type 0} (live : boards.Ghosts B R P N) (board :
   pub refused : is_ok (sequential_reply (live.reporter pass).seen event.call) ≡ false
 
 -- a live board stops the entering of events: there is no memory, or no number for a reporter, or an event is refused
-abbrev pub StopsEntering : {B R P N : Type 0} → boards.Ghosts B R P N → B → List Entry → List NightEvent → RunFault → Type 0
+abbrev pub StopsEntering : {B R P : Type 0} → boards.Ghosts B R P → B → List Entry → List NightEvent → RunFault → Type 0
 StopsEntering live board before events OutOfMemory = 1 ≤ length events
 StopsEntering live board before events TooManyReporters = (1 ≤ length events) × HasNoNumberLeft live board
 StopsEntering live board before events (Input (BadRow row)) = WasRefused live board before events row
 StopsEntering live board before events _ = ⊥
 
 -- events were not entered: a board of one thread refuses one of them after those before it, or the live board stopped it
-abbrev pub IsWhyNotEntered : {B R P N : Type 0} → boards.Ghosts B R P N → B → List Entry → List NightEvent → RunFault → Type 0
+abbrev pub IsWhyNotEntered : {B R P : Type 0} → boards.Ghosts B R P → B → List Entry → List NightEvent → RunFault → Type 0
 IsWhyNotEntered live board before events fault =
     (entered_from first_event_row [] events ≡ Err fault) ⊎ StopsEntering live board before events fault

@@ -54,7 +54,7 @@ RowsDecideTheBoard = (before history : List Entry) (all : List Entering) (whose 
 -- ---- an evening
 
 -- a reporter's run took these bytes, and its events are those of lines of them: of all, where it ended well
-pub record RanOn {B R P N S W : Type 0} (live : boards.Ghosts B R P N) (source : sources.Ghosts S) (run : Reporter S W × ReporterEnd P S W) (e : Entering) : Type 0 where
+pub record RanOn {B R P S W : Type 0} (live : boards.Ghosts B R P) (source : sources.Ghosts S) (run : Reporter S W × ReporterEnd P S W) (e : Entering) : Type 0 where
   pub number : e.number ≡ (live.reporter run.1.pass).number
   pub bytes : List ℕ
   pub lines : List (List ℕ)
@@ -68,12 +68,12 @@ HadEntered before k = entries_by k.number before ≡ k.mine
 
 -- the reporters of an evening had these events, and where each match has one reporter, the board at its end goes by what was there before,
 -- and by these
-pub record IsDecidedByRows {B R P N S W V : Type 0} (live : boards.Ghosts B R P N) (source : sources.Ghosts S) (before : List Entry) (reporters : List (Reporter S W))
+pub record IsDecidedByRows {B R P S W V : Type 0} (live : boards.Ghosts B R P) (source : sources.Ghosts S) (before : List Entry) (reporters : List (Reporter S W))
     (end : EveningEnd R P S W V) : Type 0 where
   pub all : List Entering
   pub came : AllZip (RanOn live source) (zip reporters end.reporters.items) all
   pub board : (whose : ℕ → ℕ) → HaveMatchesOfTheirOwn whose all → end.last.board ≡ board_of (fold after_attempt before (attempts_of_all all))
 
 -- the same, where those who entered events before had entered nothing but what had been seen
-abbrev pub RowsDecide : {B R P N S W V : Type 0} → boards.Ghosts B R P N → sources.Ghosts S → List Entry → List P → List (Reporter S W) → EveningEnd R P S W V → Type 0
+abbrev pub RowsDecide : {B R P S W V : Type 0} → boards.Ghosts B R P → sources.Ghosts S → List Entry → List P → List (Reporter S W) → EveningEnd R P S W V → Type 0
 RowsDecide live source before entered reporters end = All (HadEntered before) (map live.reporter entered) → IsDecidedByRows live source before reporters end

@@ -33,7 +33,7 @@ pub record IsAskedFor {B V : Type 0} (board : B) (clubs : List NamedClub) (title
 
 -- the events of the script were entered on a board, on which this had been seen before, and then an evening was held there, with the
 -- script's clubs, of these reporters and of a screen at each place
-pub record IsEveningOf {B R P N S W V : Type 0} (live : boards.Ghosts B R P N) (board : B) (source : sources.Ghosts S) (replies : sinks.Ghosts W) (sink : sinks.Ghosts V)
+pub record IsEveningOf {B R P S W V : Type 0} (live : boards.Ghosts B R P) (board : B) (source : sources.Ghosts S) (replies : sinks.Ghosts W) (sink : sinks.Ghosts V)
     (title : Title) (night : Night) (before : List Entry) (reporters : List (Reporter S W)) (places : List (Place V)) (end : EveningEnd R P S W (Screen B V)) : Type 0 where
   pub earlier : Earlier R P
   pub entered : WereEntered live before night.events.items earlier.pass earlier.reporters.items
@@ -44,14 +44,14 @@ pub record IsEveningOf {B R P N S W V : Type 0} (live : boards.Ghosts B R P N) (
   pub shares : WereSplitOff (live.reader earlier.pass).share (shares_of_end live end) (live.reader end.pass).share
 
 -- the events of the script were entered, and then the evening was not held
-pub record FailsAfterEntering {B R P N S W : Type 0} (live : boards.Ghosts B R P N) (board : B) (source : sources.Ghosts S) (replies : sinks.Ghosts W)
+pub record FailsAfterEntering {B R P S W : Type 0} (live : boards.Ghosts B R P) (board : B) (source : sources.Ghosts S) (replies : sinks.Ghosts W)
     (night : Night) (before : List Entry) (reporters : List (Reporter S W)) (fault : RunFault) : Type 0 where
   pub earlier : Earlier R P
   pub entered : WereEntered live before night.events.items earlier.pass earlier.reporters.items
   pub why : IsWhyNoEvening live board source replies night.roster (live.reader earlier.pass).seen earlier.reporters.items reporters fault
 
 -- the evening was not held: there was no memory, or an event of the script was not entered, or the evening failed after that
-abbrev pub IsWhyNotHeld : {B R P N S W : Type 0} → boards.Ghosts B R P N → B → sources.Ghosts S → sinks.Ghosts W → Night → List Entry → List (Reporter S W) → RunFault → Type 0
+abbrev pub IsWhyNotHeld : {B R P S W : Type 0} → boards.Ghosts B R P → B → sources.Ghosts S → sinks.Ghosts W → Night → List Entry → List (Reporter S W) → RunFault → Type 0
 IsWhyNotHeld live board source replies night before reporters fault =
     (fault ≡ OutOfMemory) ⊎ (IsWhyNotEntered live board before night.events.items fault ⊎ FailsAfterEntering live board source replies night before reporters fault)
 

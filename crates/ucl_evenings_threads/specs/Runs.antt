@@ -34,7 +34,7 @@ IsOfThreads NoThread = ⊤
 IsOfThreads _ = ⊥
 
 -- reporters were not enlisted on a live board, for want of memory or of numbers
-abbrev pub IsOfEnlisting : {B R P N : Type 0} → boards.Ghosts B R P N → B → RunFault → Type 0
+abbrev pub IsOfEnlisting : {B R P : Type 0} → boards.Ghosts B R P → B → RunFault → Type 0
 IsOfEnlisting live board OutOfMemory = ⊤
 IsOfEnlisting live board TooManyReporters = HasNoNumberLeft live board
 IsOfEnlisting live board _ = ⊥
@@ -61,11 +61,11 @@ pub record LastIs (version : ℕ) (versions : List ℕ) : Type 0 where
   pub last : versions ≡ before ++ version ∷ []
 
 -- what is known of the passes of reporters
-abbrev pub views_of : {B R P N S W : Type 0} → boards.Ghosts B R P N → List (ReporterEnd P S W) → List PassView
-views_of {B} {R} {P} {N} {S} {W} live ends = map (λ (end : ReporterEnd P S W). live.reporter end.pass) ends
+abbrev pub views_of : {B R P S W : Type 0} → boards.Ghosts B R P → List (ReporterEnd P S W) → List PassView
+views_of {B} {R} {P} {S} {W} live ends = map (λ (end : ReporterEnd P S W). live.reporter end.pass) ends
 
 -- a pass that entered events before was handed back: it is of the board, and as it was
-pub record IsHandedBack {B R P N : Type 0} (live : boards.Ghosts B R P N) (board : B) (old new : P) : Type 0 where
+pub record IsHandedBack {B R P : Type 0} (live : boards.Ghosts B R P) (board : B) (old new : P) : Type 0 where
   pub own : live.is_reporter board new
   pub unchanged : live.reporter new ≡ live.reporter old
   pub reported : ReportsMore (live.has_reported old) 0 (live.has_reported new)
@@ -77,25 +77,25 @@ unfoldable pub WereSplitOff : Share → List Share → Share → Type 0
 WereSplitOff share [] left = left ≡ share
 WereSplitOff share (part ∷ parts) left = (part ≡ second_half share) × WereSplitOff (first_half share) parts left
 
-abbrev pub shares_of : {B R P N : Type 0} → boards.Ghosts B R P N → List P → List Share
-shares_of {B} {R} {P} {N} live passes = map (λ (pass : P). (live.reporter pass).share) passes
+abbrev pub shares_of : {B R P : Type 0} → boards.Ghosts B R P → List P → List Share
+shares_of {B} {R} {P} live passes = map (λ (pass : P). (live.reporter pass).share) passes
 
-abbrev pub shares_enlisted : {B R P N S W : Type 0} → boards.Ghosts B R P N → List (Enlisted P S W) → List Share
-shares_enlisted {B} {R} {P} {N} {S} {W} live all = map (λ (enlisted : Enlisted P S W). (live.reporter enlisted.pass).share) all
+abbrev pub shares_enlisted : {B R P S W : Type 0} → boards.Ghosts B R P → List (Enlisted P S W) → List Share
+shares_enlisted {B} {R} {P} {S} {W} live all = map (λ (enlisted : Enlisted P S W). (live.reporter enlisted.pass).share) all
 
-abbrev pub shares_looking : {B R P N X : Type 0} → boards.Ghosts B R P N → List (Looking R X) → List Share
-shares_looking {B} {R} {P} {N} {X} live all = map (λ (looking : Looking R X). (live.reader looking.pass).share) all
+abbrev pub shares_looking : {B R P X : Type 0} → boards.Ghosts B R P → List (Looking R X) → List Share
+shares_looking {B} {R} {P} {X} live all = map (λ (looking : Looking R X). (live.reader looking.pass).share) all
 
-abbrev pub shares_of_reporters : {B R P N S W : Type 0} → boards.Ghosts B R P N → List (ReporterEnd P S W) → List Share
-shares_of_reporters {B} {R} {P} {N} {S} {W} live ends = map (λ (end : ReporterEnd P S W). (live.reporter end.pass).share) ends
+abbrev pub shares_of_reporters : {B R P S W : Type 0} → boards.Ghosts B R P → List (ReporterEnd P S W) → List Share
+shares_of_reporters {B} {R} {P} {S} {W} live ends = map (λ (end : ReporterEnd P S W). (live.reporter end.pass).share) ends
 
-abbrev pub shares_of_screens : {B R P N X : Type 0} → boards.Ghosts B R P N → List (ScreenEnd R X) → List Share
-shares_of_screens {B} {R} {P} {N} {X} live ends = map (λ (end : ScreenEnd R X). (live.reader end.pass).share) ends
+abbrev pub shares_of_screens : {B R P X : Type 0} → boards.Ghosts B R P → List (ScreenEnd R X) → List Share
+shares_of_screens {B} {R} {P} {X} live ends = map (λ (end : ScreenEnd R X). (live.reader end.pass).share) ends
 
 -- ---- reporters
 
 -- a reporter's pass of the board that has reported nothing yet
-pub record IsReady {B R P N : Type 0} (live : boards.Ghosts B R P N) (board : B) (pass : P) : Type 0 where
+pub record IsReady {B R P : Type 0} (live : boards.Ghosts B R P) (board : B) (pass : P) : Type 0 where
   pub own : live.is_reporter board pass
   pub sound : IsSound (live.reporter pass)
   pub nothing : (live.reporter pass).mine ≡ []
@@ -104,17 +104,17 @@ pub record IsReady {B R P N : Type 0} (live : boards.Ghosts B R P N) (board : B)
 abbrev pub reporter_of : {P S W : Type 0} → Enlisted P S W → Reporter S W
 reporter_of enlisted = record { rows = enlisted.rows; replies = enlisted.replies; shape = enlisted.shape }
 
-abbrev pub IsReadyToRun : {B R P N S W : Type 0} → boards.Ghosts B R P N → B → Enlisted P S W → Type 0
+abbrev pub IsReadyToRun : {B R P S W : Type 0} → boards.Ghosts B R P → B → Enlisted P S W → Type 0
 IsReadyToRun live board enlisted = IsReady live board enlisted.pass
 
 -- a reporter was lent a pass, which has seen all that had been seen before
-pub record WasEnlisted {B R P N S W : Type 0} (live : boards.Ghosts B R P N) (board : B) (before : List Entry) (reporter : Reporter S W) (enlisted : Enlisted P S W) : Type 0 where
+pub record WasEnlisted {B R P S W : Type 0} (live : boards.Ghosts B R P) (board : B) (before : List Entry) (reporter : Reporter S W) (enlisted : Enlisted P S W) : Type 0 where
   pub same : reporter_of enlisted ≡ reporter
   pub ready : IsReady live board enlisted.pass
   pub since : IsPrefix before (live.reporter enlisted.pass).seen
 
 -- a reporter with this pass has taken rows from its source, and answered them in its shape: a failed read is told just where the source failed
-pub record HasTakenRows {B R P N S W : Type 0} (live : boards.Ghosts B R P N) (board : B) (source : sources.Ghosts S) (sink : sinks.Ghosts W) (clubs : List NamedClub) (pass : P)
+pub record HasTakenRows {B R P S W : Type 0} (live : boards.Ghosts B R P) (board : B) (source : sources.Ghosts S) (sink : sinks.Ghosts W) (clubs : List NamedClub) (pass : P)
     (reporter : Reporter S W) (end : ReporterEnd P S W) : Type 0 where
   pub own : live.is_reporter board end.pass
   pub took : TookRows (reply_style reporter.shape clubs (live.reporter pass)) (live.reporter pass) (live.reporter end.pass) (live.has_reported pass) (live.has_reported end.pass)
@@ -122,11 +122,11 @@ pub record HasTakenRows {B R P N S W : Type 0} (live : boards.Ghosts B R P N) (b
   pub read_failed : source.failed end.rows ≡ is_read_failed end.result
   pub served : SinkServed sink reporter.replies end.replies end.result
 
-abbrev pub HasRun : {B R P N S W : Type 0} → boards.Ghosts B R P N → B → sources.Ghosts S → sinks.Ghosts W → List NamedClub → Enlisted P S W → ReporterEnd P S W → Type 0
+abbrev pub HasRun : {B R P S W : Type 0} → boards.Ghosts B R P → B → sources.Ghosts S → sinks.Ghosts W → List NamedClub → Enlisted P S W → ReporterEnd P S W → Type 0
 HasRun live board source sink clubs enlisted end = HasTakenRows live board source sink clubs enlisted.pass (reporter_of enlisted) end
 
 -- the same of a pass that had reported nothing before: its events went so in a history, after what had been seen before
-pub record HasAnsweredRows {B R P N S W : Type 0} (live : boards.Ghosts B R P N) (board : B) (source : sources.Ghosts S) (sink : sinks.Ghosts W) (clubs : List NamedClub)
+pub record HasAnsweredRows {B R P S W : Type 0} (live : boards.Ghosts B R P) (board : B) (source : sources.Ghosts S) (sink : sinks.Ghosts W) (clubs : List NamedClub)
     (before history : List Entry) (reporter : Reporter S W) (end : ReporterEnd P S W) : Type 0 where
   pub pass : P
   pub ready : IsReady live board pass
@@ -136,18 +136,18 @@ pub record HasAnsweredRows {B R P N S W : Type 0} (live : boards.Ghosts B R P N)
 -- ---- screens
 
 -- a screen of the board that has shown nothing yet, with a pass of the board
-pub record IsReadyToLook {B R P N V : Type 0} (live : boards.Ghosts B R P N) (board : B) (clubs : List NamedClub) (looking : Looking R (Screen B V)) : Type 0 where
+pub record IsReadyToLook {B R P V : Type 0} (live : boards.Ghosts B R P) (board : B) (clubs : List NamedClub) (looking : Looking R (Screen B V)) : Type 0 where
   pub own : live.is_reader board looking.pass
   pub new : IsNewScreen board clubs looking.screen
 
 -- a screen was lent a pass, which has seen all that had been seen before
-pub record IsLooking {B R P N X : Type 0} (live : boards.Ghosts B R P N) (board : B) (before : List Entry) (screen : X) (looking : Looking R X) : Type 0 where
+pub record IsLooking {B R P X : Type 0} (live : boards.Ghosts B R P) (board : B) (before : List Entry) (screen : X) (looking : Looking R X) : Type 0 where
   pub same : looking.screen ≡ screen
   pub own : live.is_reader board looking.pass
   pub since : IsPrefix before (live.reader looking.pass).seen
 
 -- a screen has shown boards, and its thread has ended
-pub record HasLookedOn {B R P N V : Type 0} (live : boards.Ghosts B R P N) (board : B) (sink : sinks.Ghosts V) (clubs : List NamedClub) (looking : Looking R (Screen B V))
+pub record HasLookedOn {B R P V : Type 0} (live : boards.Ghosts B R P) (board : B) (sink : sinks.Ghosts V) (clubs : List NamedClub) (looking : Looking R (Screen B V))
     (end : ScreenEnd R (Screen B V)) : Type 0 where
   pub own : live.is_reader board end.pass
   pub of : IsScreenOn board clubs end.screen
@@ -157,7 +157,7 @@ pub record HasLookedOn {B R P N V : Type 0} (live : boards.Ghosts B R P N) (boar
   pub served : SinkServed sink looking.screen.sink end.screen.sink end.result
 
 -- a screen has shown boards of a history, of versions that rise, none below what had been seen before; they end so, where it ended well
-pub record HasShownOf {B R P N V : Type 0} (live : boards.Ghosts B R P N) (board : B) (sink : sinks.Ghosts V) (clubs : List NamedClub) (before history : List Entry)
+pub record HasShownOf {B R P V : Type 0} (live : boards.Ghosts B R P) (board : B) (sink : sinks.Ghosts V) (clubs : List NamedClub) (before history : List Entry)
     (Ends : List ℕ → Type 0) (screen : Screen B V) (end : ScreenEnd R (Screen B V)) : Type 0 where
   pub own : live.is_reader board end.pass
   pub options : end.screen.options ≡ screen.options
@@ -169,18 +169,18 @@ pub record HasShownOf {B R P N V : Type 0} (live : boards.Ghosts B R P N) (board
   pub served : SinkServed sink screen.sink end.screen.sink end.result
 
 -- a screen with a lent pass has shown boards of a history, and the last of them is no lower than this, where it ended well
-abbrev pub HasShownAbove : {B R P N V : Type 0} → boards.Ghosts B R P N → B → sinks.Ghosts V → List NamedClub → List Entry → ℕ → Looking R (Screen B V) → ScreenEnd R (Screen B V) → Type 0
+abbrev pub HasShownAbove : {B R P V : Type 0} → boards.Ghosts B R P → B → sinks.Ghosts V → List NamedClub → List Entry → ℕ → Looking R (Screen B V) → ScreenEnd R (Screen B V) → Type 0
 HasShownAbove live board sink clubs history least looking end =
     HasShownOf live board sink clubs (live.reader looking.pass).seen history (LastIsAtLeast least) looking.screen end
 
 -- a screen handed its share back
-abbrev pub KeepsShare : {B R P N X : Type 0} → boards.Ghosts B R P N → Looking R X → ScreenEnd R X → Type 0
+abbrev pub KeepsShare : {B R P X : Type 0} → boards.Ghosts B R P → Looking R X → ScreenEnd R X → Type 0
 KeepsShare live looking end = (live.reader end.pass).share ≡ (live.reader looking.pass).share
 
 -- ---- all of them
 
 -- what the threads begin with: main's pass, and what is lent
-pub record AreLent {B R P N S W V : Type 0} (live : boards.Ghosts B R P N) (board : B) (clubs : List NamedClub) (pass : R) (screens : List (Looking R (Screen B V)))
+pub record AreLent {B R P S W V : Type 0} (live : boards.Ghosts B R P) (board : B) (clubs : List NamedClub) (pass : R) (screens : List (Looking R (Screen B V)))
     (all : List (Enlisted P S W)) : Type 0 where
   pub own : live.is_reader board pass
   pub looking : All (IsReadyToLook live board clubs) screens
@@ -188,7 +188,7 @@ pub record AreLent {B R P N S W V : Type 0} (live : boards.Ghosts B R P N) (boar
 
 -- all threads have run: what the reporters have seen is in a history, which goes on from what had been seen before; and of a history that goes on
 -- from that one is what each screen has shown, up to no less
-pub record HaveRun {B R P N S W V : Type 0} (live : boards.Ghosts B R P N) (board : B) (source : sources.Ghosts S) (replies : sinks.Ghosts W) (sink : sinks.Ghosts V)
+pub record HaveRun {B R P S W V : Type 0} (live : boards.Ghosts B R P) (board : B) (source : sources.Ghosts S) (replies : sinks.Ghosts W) (sink : sinks.Ghosts V)
     (clubs : List NamedClub) (before history : List Entry) (screens : List (Looking R (Screen B V))) (all : List (Enlisted P S W)) (ran : Ran R P S W (Screen B V)) : Type 0 where
   pub early : List Entry
   pub since : IsPrefix before early

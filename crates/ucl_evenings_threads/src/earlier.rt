@@ -10,7 +10,7 @@ use crate::judging::judge;
 use crate::lists::put;
 use std::alloc::Global;
 use std::sync::Wait;
-use ucl_live_board::LiveBoard;
+use ucl_live_board::{LiveBoard, Notes};
 use ucl_runs::RunFault;
 use ucl_screen::{FIRST_EVENT_ROW, InputFault, NightEvent};
 
@@ -65,7 +65,7 @@ fn enlist_up_to<B: LiveBoard, R: Wait>(
 }
 
 /// Enters an event after all that a reader's pass has seen, which then has seen it, and says whether it was accepted.
-fn enter_one<B: LiveBoard, R: Wait>(
+fn enter_one<B: Notes, R: Wait>(
     rt: &R,
     board: &B,
     pass: &mut B::ReaderPass,
@@ -93,7 +93,7 @@ fn enter_one<B: LiveBoard, R: Wait>(
 
 /// Enters events in their order, each by the reporter at the place of its number, who has entered nothing before. A note goes from each
 /// event to the next, so that the order is one of the board; in the end all reporters have heard of all events.
-fn enter_each<B: LiveBoard, R: Wait>(
+fn enter_each<B: Notes, R: Wait>(
     rt: &R,
     board: &B,
     pass: &mut B::ReaderPass,
@@ -137,7 +137,7 @@ fn enter_each<B: LiveBoard, R: Wait>(
 ///
 /// `BadRow` with the first row whose event is refused, where the first event is row 5; `TooManyReporters` where the board has no number that
 /// is as high as one of these; `OutOfMemory`.
-pub fn enter_earlier<B: LiveBoard, R: Wait>(
+pub fn enter_earlier<B: Notes, R: Wait>(
     rt: &R,
     alloc: Global,
     board: &B,

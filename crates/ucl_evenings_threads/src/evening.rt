@@ -19,7 +19,7 @@ use std::thread;
 use std::thread::Threads;
 use ucl_board::Reading;
 use ucl_evenings::Screen;
-use ucl_live_board::LiveBoard;
+use ucl_live_board::Notes;
 use ucl_order::Roster;
 use ucl_runs::RunFault;
 use ucl_screen::{Sink, Source};
@@ -41,7 +41,7 @@ pub struct EveningEnd<Q, P, S, W, X> {
 
 /// Runs the threads, and hands the pass back that has heard them.
 fn run_threads<
-    B: LiveBoard,
+    B: Notes,
     S: Source + Send + Drop,
     W: Sink + Send + Drop,
     V: Sink + Send + Drop,
@@ -117,7 +117,7 @@ fn run_threads<
 /// that are of no reporter of the evening and of none of `entered`, or the numbers of these do not rise in their order. Threads that run go
 /// on to their end before any of these is told. What was entered stays entered, and no pass is handed back.
 pub fn hold_evening<
-    B: LiveBoard,
+    B: Notes,
     S: Source + Send + Drop,
     W: Sink + Send + Drop,
     V: Sink + Send + Drop,

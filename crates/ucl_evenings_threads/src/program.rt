@@ -20,7 +20,7 @@ use std::thread::Threads;
 use ucl_command::Format;
 use ucl_evenings::{Screen, Shape};
 use ucl_json::Title;
-use ucl_live_board::LiveBoard;
+use ucl_live_board::{LiveBoard, Notes};
 use ucl_order::Roster;
 use ucl_runs::{RunFault, tell};
 use ucl_screen::{Night, Sink, Source};
@@ -67,7 +67,7 @@ fn screens_at<B: LiveBoard, V: Sink + Drop>(
 
 /// Enters the events of the script on a board, and holds the evening there.
 fn held<
-    B: LiveBoard,
+    B: Notes,
     S: Source + Send + Drop,
     W: Sink + Send + Drop,
     V: Sink + Send + Drop,
@@ -142,7 +142,7 @@ fn conclude<Q, P, S, W, B: LiveBoard, V: Sink, O: Sink, E: Sink>(
 /// place; and writes the words of the last board. The exit status is that of the first fault, or 0. An evening that is not held has one
 /// fault, which is told by its line, and nothing is written.
 pub fn run_evening_of<
-    B: LiveBoard,
+    B: Notes,
     S: Source + Send + Drop,
     W: Sink + Send + Drop,
     V: Sink + Send + Drop,

@@ -16,7 +16,7 @@ use std::sync::Wait;
 use std::thread::{Promise, PromisedHandle, Scope, Threads};
 use ucl_evenings::{Reporter, take_rows};
 use ucl_io::Duplex;
-use ucl_live_board::LiveBoard;
+use ucl_live_board::{LiveBoard, Notes};
 use ucl_order::Roster;
 use ucl_runs::{LineReader, RunFault};
 use ucl_screen::{Sink, Source};
@@ -134,7 +134,7 @@ where
 pub fn run_reporters<
     's,
     E,
-    B: LiveBoard,
+    B: Notes,
     S: Source + Send + Drop + 's,
     W: Sink + Send + Drop + 's,
     R: Threads + Wait + Sync,

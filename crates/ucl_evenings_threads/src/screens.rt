@@ -15,7 +15,7 @@ use std::snapshot::Snapshot;
 use std::sync::Wait;
 use std::thread::{Promise, PromisedHandle, Scope, Threads};
 use ucl_evenings::{Screen, show_boards, show_noted};
-use ucl_live_board::LiveBoard;
+use ucl_live_board::{LiveBoard, Notes};
 use ucl_order::Roster;
 use ucl_runs::RunFault;
 use ucl_screen::{Sink, Source};
@@ -93,7 +93,7 @@ where
 }
 
 /// Shows the last board on a screen whose thread has ended well, should it not have been shown there.
-fn finish<B: LiveBoard, V: Sink, R: Wait>(
+fn finish<B: Notes, V: Sink, R: Wait>(
     rt: &R,
     alloc: Global,
     board: &B,
@@ -144,7 +144,7 @@ pub struct Ran<Q, P, S, W, X> {
 pub fn run_screens<
     's,
     E,
-    B: LiveBoard,
+    B: Notes,
     S: Source + Send + Drop + 's,
     W: Sink + Send + Drop + 's,
     V: Sink + Send + Drop + 's,

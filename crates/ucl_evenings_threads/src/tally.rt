@@ -12,7 +12,7 @@ use crate::lists::{put, take_last};
 use crate::workers::ReporterEnd;
 use std::alloc::Global;
 use std::sync::Wait;
-use ucl_live_board::LiveBoard;
+use ucl_live_board::{LiveBoard, Notes};
 use ucl_runs::RunFault;
 
 /// Whether the numbers of some reporters rise, the last of them, and where they rise how many events were accepted.
@@ -83,7 +83,7 @@ pub fn are_all_of<B: LiveBoard, S, W>(
 }
 
 /// The pass hears what a reporter's pass has seen.
-pub fn hear_reporter<B: LiveBoard, R: Wait>(
+pub fn hear_reporter<B: Notes, R: Wait>(
     rt: &R,
     board: &B,
     pass: &mut B::ReaderPass,
@@ -102,7 +102,7 @@ pub fn hear_reporter<B: LiveBoard, R: Wait>(
 }
 
 /// The pass hears what all these passes have seen.
-pub fn hear_all<B: LiveBoard, R: Wait>(
+pub fn hear_all<B: Notes, R: Wait>(
     rt: &R,
     alloc: Global,
     board: &B,

@@ -1,8 +1,7 @@
 //! What every shared board is.
 
-ghost use Rattle.std.specs.Prelude.{◌≡◌, ℕ, List, IfOk, IfErr, MatchResult};
-ghost use Rattle.ucl_board.specs.declared.entry.Entry.{Entry};
-ghost use Rattle.ucl_live_board.specs.Passes.{PassView, IsSound, Continues, ReportsMore, AcceptedReport, RefusedReport, SharedReading, kept_pass, split_pass, Enlistment, FullBoard, Hearing, Meeting, reporter_figures};
+ghost use Rattle.std.specs.Prelude.{◌≡◌, ℕ, IfOk, IfErr, MatchResult};
+ghost use Rattle.ucl_live_board.specs.Passes.{PassView, IsSound, Continues, ReportsMore, AcceptedReport, RefusedReport, SharedReading, kept_pass, split_pass, Enlistment, FullBoard, Meeting, reporter_figures};
 
 use crate::errors::TooManyReporters;
 use std::sync::Wait;
@@ -16,7 +15,7 @@ pub const MOST_REPORTERS: u64 = 255;
 /// of one history of accepted events, the same for all passes (Herlihy and Wing, Linearizability).
 ///
 /// A condition of every call is that its passes are of this board: they came, by `split` or `enlist`, from the pass that its
-/// `open` gave. So is it of a note, which came from a pass of this board. The calls that take `rt` may wait, and what they promise holds where they return.
+/// `open` gave. The calls that take `rt` may wait, and what they promise holds where they return.
 pub trait LiveBoard: Sync {
     /// What a reader holds: it reads, and can be split or enlisted.
     type ReaderPass: Send + Drop;
@@ -24,24 +23,15 @@ pub trait LiveBoard: Sync {
     /// What a reporter holds: it enters events under its own number, and reads.
     type ReporterPass: Send + Drop;
 
-    /// What a pass has seen, to be sent to another thread, whose pass then hears it.
-    type Note: Send + Drop;
-
     // The pass is one of this board.
     ghost is_reader: { Self → Self.ReaderPass → Type 0 };
 
     ghost is_reporter: { Self → Self.ReporterPass → Type 0 };
 
-    // The note is of a pass of this board.
-    ghost is_note: { Self → Self.Note → Type 0 };
-
     // What is known of a pass.
     ghost reader: { Self.ReaderPass → PassView };
 
     ghost reporter: { Self.ReporterPass → PassView };
-
-    // The history that the pass of a note had seen.
-    ghost noted: { Self.Note → List Entry };
 
     // How many events a reporter's pass has reported, whatever the replies: one more by each report, and by nothing else.
     ghost has_reported: { Self.ReporterPass → ℕ → Type 0 };
@@ -168,97 +158,6 @@ pub trait LiveBoard: Sync {
         ensures meeting { Meeting (reporter first.old) (reporter second.old) (reporter second.new) }
         ensures reported { ReportsMore (has_reported first.old) 0 (has_reported first.new)
             × ReportsMore (has_reported second.old) 0 (has_reported second.new) };
-
-    /// The same where the first is a reader: afterwards the reporter's pass has seen all that either had seen.
-    ///
-    /// ```rust
-    /// let (board, mut pass) = CellBoard::open(&rt, rt.alloc())?;
-    /// let mut reader = board.split(&rt, &mut pass);
-    /// let mut reporter = board.enlist(&rt, pass).ok().ok_or("no number")?;
-    /// board.meet_reader(&rt, &mut reader, &mut reporter);
-    /// assert_eq!(rt; board.read_own(&rt, &mut reporter).version, 0);
-    /// ```
-    fn meet_reader<R: Wait>(
-        &self,
-        rt: &R,
-        first: &mut Self::ReaderPass,
-        second: &mut Self::ReporterPass,
-    )
-        requires { is_reader self.now first.old × is_reporter self.now second.old }
-        ensures own { is_reader self.now first.new × is_reporter self.now second.new }
-        ensures sound { IsSound (reader first.old) }
-        ensures always { Continues (reporter second.old) (reporter second.new) }
-        ensures unchanged { reader first.new ≡ reader first.old }
-        ensures meeting { Meeting (reader first.old) (reporter second.old) (reporter second.new) }
-        ensures reported { ReportsMore (has_reported second.old) 0 (has_reported second.new) };
-
-    /// A note of all that a reader's pass has seen: whoever gets it, by a channel, a join or else, can `hear` it. The pass is as it was.
-    ///
-    /// ```rust
-    /// let (board, mut reader) = CellBoard::open(&rt, rt.alloc())?;
-    /// let mut screen = board.split(&rt, &mut reader);
-    /// let note = board.note(&rt, &mut reader);
-    /// board.hear(&rt, &mut screen, note);
-    /// assert_eq!(rt; board.read(&rt, &mut screen).version, 0);
-    /// ```
-    fn note<R: Wait>(&self, rt: &R, pass: &mut Self::ReaderPass) -> Self::Note
-        requires { is_reader self.now pass.old }
-        ensures own { is_reader self.now pass.new × is_note self.now result }
-        ensures sound { IsSound (reader pass.old) }
-        ensures unchanged { reader pass.new ≡ reader pass.old }
-        ensures seen { noted result ≡ (reader pass.old).seen };
-
-    /// The same of a reporter's pass: after an event was accepted, a note that has it.
-    ///
-    /// ```rust
-    /// let (board, mut pass) = CellBoard::open(&rt, rt.alloc())?;
-    /// let mut screen = board.split(&rt, &mut pass);
-    /// let mut reporter = board.enlist(&rt, pass).ok().ok_or("no number")?;
-    /// let note = board.note_own(&rt, &mut reporter);
-    /// board.hear(&rt, &mut screen, note);
-    /// assert_eq!(rt; board.read(&rt, &mut screen).version, 0);
-    /// ```
-    fn note_own<R: Wait>(&self, rt: &R, pass: &mut Self::ReporterPass) -> Self::Note
-        requires { is_reporter self.now pass.old }
-        ensures own { is_reporter self.now pass.new × is_note self.now result }
-        ensures sound { IsSound (reporter pass.old) }
-        ensures unchanged { reporter pass.new ≡ reporter pass.old }
-        ensures seen { noted result ≡ (reporter pass.old).seen }
-        ensures reported { ReportsMore (has_reported pass.old) 0 (has_reported pass.new) };
-
-    /// Afterwards the pass has seen all that the note tells, so its next reading has it.
-    ///
-    /// ```rust
-    /// let (board, mut pass) = CellBoard::open(&rt, rt.alloc())?;
-    /// let mut screen = board.split(&rt, &mut pass);
-    /// let mut reporter = board.enlist(&rt, pass).ok().ok_or("no number")?;
-    /// let note = board.note_own(&rt, &mut reporter);
-    /// board.hear(&rt, &mut screen, note);
-    /// let reading = board.read(&rt, &mut screen);
-    /// assert_eq!(rt; board.read_own(&rt, &mut reporter), reading);
-    /// ```
-    fn hear<R: Wait>(&self, rt: &R, pass: &mut Self::ReaderPass, note: Self::Note)
-        requires { is_reader self.now pass.old × is_note self.now note }
-        ensures own { is_reader self.now pass.new }
-        ensures always { Continues (reader pass.old) (reader pass.new) }
-        ensures heard { Hearing (noted note) (reader pass.old) (reader pass.new) };
-
-    /// The same for a reporter.
-    ///
-    /// ```rust
-    /// let (board, mut pass) = CellBoard::open(&rt, rt.alloc())?;
-    /// let mut reader = board.split(&rt, &mut pass);
-    /// let mut reporter = board.enlist(&rt, pass).ok().ok_or("no number")?;
-    /// let note = board.note(&rt, &mut reader);
-    /// board.hear_own(&rt, &mut reporter, note);
-    /// assert_eq!(rt; board.read_own(&rt, &mut reporter).version, 0);
-    /// ```
-    fn hear_own<R: Wait>(&self, rt: &R, pass: &mut Self::ReporterPass, note: Self::Note)
-        requires { is_reporter self.now pass.old × is_note self.now note }
-        ensures own { is_reporter self.now pass.new }
-        ensures always { Continues (reporter pass.old) (reporter pass.new) }
-        ensures heard { Hearing (noted note) (reporter pass.old) (reporter pass.new) }
-        ensures reported { ReportsMore (has_reported pass.old) 0 (has_reported pass.new) };
 
     /// The number of a reporter's pass.
     ///

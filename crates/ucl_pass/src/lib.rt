@@ -16,7 +16,7 @@ pub use laws::{
 };
 pub use passes::{CellNote, CellReaderPass, CellReporterPass};
 pub use ucl_live_board::{
-    LiveBoard, MOST_REPORTERS, Strangers, TooManyReporters, View, holders_did_all,
+    LiveBoard, MOST_REPORTERS, Notes, Strangers, TooManyReporters, View, holders_did_all,
     last_steps_see_all, settle, steps_come_last, whole_is_alone,
 };
 pub use view::CellView;

@@ -12,7 +12,7 @@ use crate::cell_board::CellBoard;
 use crate::passes::{CellNote, CellReaderPass, CellReporterPass};
 use std::sync::Wait;
 use ucl_board::Reading;
-use ucl_live_board::{LiveBoard, TooManyReporters};
+use ucl_live_board::{LiveBoard, Notes, TooManyReporters};
 use ucl_word::{Accepted, EventCall, Refusal, ReporterNo};
 
 /// Beside what every live board says, the clause `steps` says which steps a call takes, each of them in the log of the board; `acts` counts
@@ -24,19 +24,13 @@ impl LiveBoard for CellBoard {
 
     type ReporterPass = CellReporterPass;
 
-    type Note = CellNote;
-
     ghost is_reader = { λ board pass. pass.board ≡ board };
 
     ghost is_reporter = { λ board pass. pass.board ≡ board };
 
-    ghost is_note = { λ board note. note.board ≡ board };
-
     ghost reader = { λ pass. pass_view_of pass.view };
 
     ghost reporter = { λ pass. pass_view_of pass.view };
-
-    ghost noted = { λ note. note.seen };
 
     ghost has_reported = { λ pass. CellHasReported pass.view.own };
 
@@ -185,6 +179,27 @@ impl LiveBoard for CellBoard {
         self.meet_by(rt, &mut first.seat, &mut second.seat);
     }
 
+    fn number_of(pass: &CellReporterPass) -> ReporterNo
+        ensures { result ≡ (reporter_figures (pass_view_of pass.now.view)).number }
+    {
+        pass.number
+    }
+
+    fn accepted_of(pass: &CellReporterPass) -> u16
+        ensures { result ≡ (reporter_figures (pass_view_of pass.now.view)).accepted }
+    {
+        pass.accepted
+    }
+}
+
+/// The same of what passes tell one another: by `steps` a note that is heard, and a meeting, is one step; a note that is taken is none.
+impl Notes for CellBoard {
+    type Note = CellNote;
+
+    ghost is_note = { λ board note. note.board ≡ board };
+
+    ghost noted = { λ note. note.seen };
+
     fn meet_reader<R: Wait>(
         &self,
         rt: &R,
@@ -269,17 +284,5 @@ impl LiveBoard for CellBoard {
     {
         let reporter = &mut pass.seat;
         self.hear_by(rt, reporter, note.seat);
-    }
-
-    fn number_of(pass: &CellReporterPass) -> ReporterNo
-        ensures { result ≡ (reporter_figures (pass_view_of pass.now.view)).number }
-    {
-        pass.number
-    }
-
-    fn accepted_of(pass: &CellReporterPass) -> u16
-        ensures { result ≡ (reporter_figures (pass_view_of pass.now.view)).accepted }
-    {
-        pass.accepted
     }
 }

@@ -10,12 +10,11 @@ use Rattle.ucl_board.specs.declared.entry.Entry.{Entry}
 use Rattle.ucl_board.specs.History.{IsLegal, attempted, entry_of}
 use Rattle.ucl_board.proofs.HistoryLaws.{legal_take}
 use Rattle.ucl_screen.specs.declared.night.NightEvent.{NightEvent}
-use Rattle.ucl_board.proofs.Beginnings.{at_within, begins_length, begins_take, begins_through}
-use Rattle.ucl_live_board.specs.Passes.{PassView, Continues, entries_by}
+use Rattle.ucl_board.proofs.Beginnings.{at_within, begins_take}
+use Rattle.ucl_live_board.specs.Passes.{PassView, Continues}
 use Rattle.ucl_live_board.specs.Settling.{Settled, IsOfBoth}
 use Rattle.ucl_runs.proofs.Elements.{get_some}
 use Rattle.ucl_runs.specs.Nights.{number_of_two, attempt_by, IsOnDuty, IsEnteredAt, TakesPlace, ComesFirst, IsOfRow, IsMerge, HasEntered}
-use Rattle.ucl_runs.proofs.EnteredRows.{goes_on}
 use Rattle.ucl_runs.proofs.Points.{entered_on, place_on, first_on, same_first, stands_before}
 
 -- all rows of a script are of reporters 1 and 2
@@ -158,31 +157,3 @@ merged_by_settlers k l m n c d rows version first second on_c on_d apart duty s 
     subst (λ (x : ℕ). IsMerge (number_of_two x d.number) rows (take version d.seen)) (sym (on_c.number ∙ first.always.number))
     (subst (λ (x : ℕ). IsMerge (number_of_two k.number x) rows (take version d.seen)) (sym (on_d.number ∙ second.always.number))
     (merged_at_settling k l m n c d rows version first second apart duty s both))
-
--- a pass that met others before it settled: what settling says of it, said of it as it was before it met them
-module _ (b b1 : PassView) (on : Continues b b1) (mine : b1.mine ≡ b.mine) where
-  pub settled_before : (a c d : PassView) (version : ℕ) → Settled a b1 c d version → Settled a b c d version
-  settled_before a c d version s = record {
-    legal = s.legal;
-    first = s.first;
-    second = begins_through b.seen b1.seen d.seen on.on.seen s.second;
-    low_first = s.low_first;
-    low_second = (let longer = begins_length b.seen b1.seen on.on.seen in let low = s.low_second in omega arith);
-    high = s.high;
-    mine_first = s.mine_first;
-    mine_second = s.mine_second ∙ mine;
-  }
-
-  pub of_both_before : (a : PassView) (h : List Entry) → IsOfBoth a b1 h → IsOfBoth a b h
-  of_both_before a h both = record {
-    first = both.first;
-    second = ap (λ (n : ℕ). entries_by n h) (sym on.number) ∙ (both.second ∙ mine);
-    no_other = subst (λ (n : ℕ). All (λ (e : Entry). (e.reporter ≡ a.number) ⊎ (e.reporter ≡ n)) h) on.number both.no_other;
-  }
-
-  pub merged_after_meetings : (k l m c d : PassView) (rows : List NightEvent) (version : ℕ) → HasEntered k m 1 rows → HasEntered l b 2 rows → Continues m c
-      → Continues b1 d → m.number ≢ b1.number → AllOnDuty rows
-      → Settled m b1 c d version → IsOfBoth m b1 (take version d.seen) → IsMerge (number_of_two c.number d.number) rows (take version d.seen)
-  merged_after_meetings k l m c d rows version first second on_c on_d apart duty s both =
-      merged_by_settlers k l m b c d rows version first second on_c (goes_on b b1 d on on_d) (λ same. apart (same ∙ sym on.number)) duty (settled_before m c d version s)
-      (of_both_before m (take version d.seen) both)

@@ -6,7 +6,8 @@ use Rattle.std.specs.Io.KnownBytes.{Appends}
 use Rattle.ucl_board.specs.declared.entry.Entry.{Entry}
 use Rattle.ucl_board.specs.declared.reading.Reading.{Reading}
 use Rattle.ucl_board.specs.History.{board_of, snapshot_at}
-use Rattle.ucl_board.proofs.Beginnings.{begins_length}
+use mathlib.Core.List.{IsPrefix}
+use Rattle.ucl_board.proofs.Beginnings.{begins_length, take_beginning}
 use Rattle.ucl_order.specs.declared.profile.Profile.{Profile}
 use Rattle.ucl_order.specs.Roster.{NamedClub}
 use Rattle.ucl_screen.specs.Script.{Script}
@@ -26,17 +27,23 @@ use Rattle.ucl_runs.proofs.Unsigned.{screen_of_script}
 -- The output of a night. --
 
 pub looked : (profile : Profile) (history : List Entry) (k m : PassView) (readings : ℕ) (roster : List NamedClub) (group : ℕ) (last : Option (List ℕ))
-    → HasShown (styled profile roster group) history k m readings last
+    → IsPrefix m.seen history → HasShown (styled profile roster group) k m readings last
     → HasLooked profile history readings roster group last
-looked profile history k m readings roster group None h = sym h.many ∙ ap length h.last_is
-looked profile history k m readings roster group (Some text) h =
+looked profile history k m readings roster group None on h = sym h.many ∙ ap length h.last_is
+looked profile history k m readings roster group (Some text) on h =
     let is = h.last_is in
     let all = ap length is.last in
     let one = length-append is.before (is.version ∷ []) in
     let many = h.many in
     let high = (All-pop (λ version. version ≤ length m.seen) m.shown is.before (Some is.version) is.last h.high).1 in
-    let within = begins_length m.seen history h.seen in
-    (omega arith, record { version = is.version; within = omega arith; text_is = is.text_is })
+    let longer = begins_length m.seen history on in (
+      omega arith,
+      record {
+        version = is.version;
+        within = omega arith;
+        text_is = is.text_is ∙ ap (λ (entries : List Entry). screen_text profile (board_of entries) roster group) (sym (take_beginning m.seen history is.version on high));
+      },
+    )
 
 pub closing-of : (profile : Profile) (settled : Reading) (seen : List Entry) (roster : List NamedClub) (group : ℕ) (closing : List ℕ) → settled ≡ snapshot_at seen settled.version
     → closing ≡ screen_text profile settled.board roster group → closing ≡ screen_text profile (board_of (take settled.version seen)) roster group
@@ -118,3 +125,21 @@ module _ (profile : Profile) (group readings : ℕ) (old new taken : Option (Lis
   put text failed write_failed after (Err NoThread) reads is out part = absurd part
   put text failed write_failed after (Err TooManyReporters) reads is out part = absurd part
   put text failed write_failed after (Err (Strangers version)) reads is out part = absurd part
+
+  of_script : (known : Option (List ℕ)) (night : Script) → IfSome known (λ bytes. MeansNight bytes (Ok night)) → All IsOnDuty night.events → IsScriptOnDuty known
+  of_script None night means duty = tt
+  of_script (Some bytes) night means duty = (night, means, duty)
+
+  -- a reader has seen what is not of the settled history
+  pub unsettled : (night : Script) (failed : Bool) (version : ℕ) → failed ≡ false → IfSome old (λ bytes. MeansNight bytes (Ok night)) → All IsOnDuty night.events
+      → Obeys (Night group readings profile) (streams old reads_before taken writes_before) (streams new failed taken writes_before) (Err (Strangers version))
+  unsettled night failed version reads means duty = record {
+    text = tt;
+    kinds = of_script old night means duty;
+    memory = λ bad. absurd (cc);
+    input = tt;
+    unwritten = refl;
+    read_failed = reads;
+    write_failed = tt;
+    written = tt;
+  }

@@ -20,7 +20,7 @@ IsOfOneThread (WriteFailed written) = ⊤
 IsOfOneThread _ = ⊥
 
 -- all numbers of a live board are given, as a pass of it has seen
-pub record HasNoNumberLeft {B R P N : Type 0} (live : boards.Ghosts B R P N) (board : B) : Type 0 where
+pub record HasNoNumberLeft {B R P : Type 0} (live : boards.Ghosts B R P) (board : B) : Type 0 where
   pub pass : R
   pub own : live.is_reader board pass
   pub listed : (live.reader pass).listed ≡ 255

@@ -1,15 +1,15 @@
 -- A night: the rows of a script, entered by two reporters in threads of their own while readers look on.
 use Rattle.std.specs.Prelude.{◌≡◌, ◌⊎◌, ℕ, ◌+◌, ◌<◌, ◌≤◌, ◌==◌, true, false, List, [], ◌∷◌, ◌++◌}
-use Rattle.std.specs.Prelude.{All, length, map, take, slice_get, slice_index_or, Option, Some, None, option_map, if◌then◌else◌, codes, String, string_bytes}
+use Rattle.std.specs.Prelude.{⊤, Result, Ok, Err, All, length, map, take, slice_get, slice_index_or, Option, Some, None, option_map, if◌then◌else◌, codes, String, string_bytes}
 use Rattle.std.specs.List.Sorted.{IsNonDecreasing}
 use Rattle.std.specs.Result.{is_ok}
-use mathlib.Core.List.{IsPrefix}
 use Rattle.ucl_board.specs.declared.entry.Entry.{Entry}
 use Rattle.ucl_board.specs.History.{IsLegal, Attempt, attempted, entry_of, sequential_reply, accepted_of, board_of}
 use Rattle.ucl_screen.specs.declared.night.NightEvent.{NightEvent}
 use Rattle.ucl_screen.specs.Script.{first_event_row}
 use Rattle.ucl_live_board.specs.Passes.{PassView, IsSound, SeesOn, Continues, kept_pass, split_pass}
 use Rattle.ucl_live_board.specs.Shares.{first_half, second_half}
+use Rattle.ucl_live_board.specs.declared.errors.Strangers.{Strangers}
 use Rattle.ucl_runs.specs.declared.fault.RunFault.{RunFault}
 use Rattle.ucl_runs.specs.Run.{MatchDuty}
 use Rattle.ucl_runs.specs.Styles.{Style, styled_screen}
@@ -84,6 +84,11 @@ HaveEnteredAll first second version = (version ≤ length second.seen) × (lengt
 abbrev pub HaveRead : PassView → PassView → ℕ → Type 0
 HaveRead first second version = (first.shown ≡ []) × (second.shown ≡ version ∷ [])
 
+-- the version that was read once more, after that which was settled
+abbrev pub version_met : ℕ → Result ⊤ Strangers → ℕ
+version_met settled (Ok _) = settled
+version_met settled (Err strangers) = strangers.version
+
 -- rows of one match are all of one reporter
 abbrev pub EachMatchHasOneReporter : List NightEvent → Type 0
 EachMatchHasOneReporter rows = (i j : ℕ) (row other : NightEvent) → slice_get rows i ≡ Some row → slice_get rows j ≡ Some other → row.call.game ≡ other.call.game → row.reporter ≡ other.reporter
@@ -153,16 +158,15 @@ abbrev pub IsLastScreen : Style → List Entry → List ℕ → Option (List ℕ
 IsLastScreen style history versions None = versions ≡ []
 IsLastScreen style history versions (Some text) = IsScreenOfLast style history versions text
 
--- a reader's pass m, which came from k, has seen a beginning of a history and has shown so many of its versions, which never fall, none
--- below what k had seen and none above what m has, and this is its last screen
-pub record HasShown (style : Style) (history : List Entry) (k m : PassView) (readings : ℕ) (last : Option (List ℕ)) : Type 0 where
+-- a reader's pass m, which came from k, has shown so many versions of what it has seen, which never fall, none below what k had seen and
+-- none above what m has, and this is its last screen
+pub record HasShown (style : Style) (k m : PassView) (readings : ℕ) (last : Option (List ℕ)) : Type 0 where
   pub on : SeesOn k m
-  pub seen : IsPrefix m.seen history
   pub many : length m.shown ≡ readings
   pub rises : IsNonDecreasing m.shown
   pub low : All (λ version. length k.seen ≤ version) m.shown
   pub high : All (λ version. version ≤ length m.seen) m.shown
-  pub last_is : IsLastScreen style history m.shown last
+  pub last_is : IsLastScreen style m.seen m.shown last
 
 -- a row is the first whose reporter is not on duty: event i, counted from 1, is row i + 4
 pub record IsFirstOffDuty (rows : List NightEvent) (row : ℕ) : Type 0 where

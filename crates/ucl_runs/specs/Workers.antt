@@ -22,7 +22,7 @@ rows_of_plan plan = plan.night.now.events.items
 abbrev pub style_of : {G : Type 0} → Plan G → Style
 style_of plan = styled plan.profile plan.night.now.roster plan.group
 
-module _ {B R P N : Type 0} (live : boards.Ghosts B R P N) (board : B) where
+module _ {B R P : Type 0} (live : boards.Ghosts B R P) (board : B) where
   -- a reporter's pass of the board that has entered nothing yet
   abbrev pub IsFreshOn : P → Type 0
   IsFreshOn pass = live.is_reporter board pass × IsFresh (live.reporter pass)
@@ -36,10 +36,10 @@ module _ {B R P N : Type 0} (live : boards.Ghosts B R P N) (board : B) where
   HasEnteredOn plan before reporter after = live.is_reporter board after × HasEntered (live.reporter before) (live.reporter after) reporter (rows_of_plan plan)
       × ReportsMore (live.has_reported before) (rows_by reporter (rows_of_plan plan)) (live.has_reported after)
 
-  -- a reader's pass of the board has shown its readings, of the history that it has then seen
+  -- a reader's pass of the board has shown its readings
   abbrev pub HasShownOn : {G : Type 0} → Plan G → R → Shown R → Type 0
   HasShownOn plan before end = live.is_reader board end.pass
-      × HasShown (style_of plan) (live.reader end.pass).seen (live.reader before) (live.reader end.pass) plan.readings (option_map string_bytes end.last)
+      × HasShown (style_of plan) (live.reader before) (live.reader end.pass) plan.readings (option_map string_bytes end.last)
 
   -- a reporter's pass of the board has entered its rows of a night, and nothing else
   pub record EnteredRowsOf (rows : List NightEvent) (reporter : ℕ) (pass : P) : Type 0 where

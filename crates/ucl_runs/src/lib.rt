@@ -70,7 +70,7 @@ pub use live_laws::{
     refused_evenings_are_silent, replies_are_those_of_feed,
 };
 pub use live_program::{OTHER_GROUP, run_evening};
-pub use night::{NightEnd, night_run, put_night};
+pub use night::{NightEnd, meet_readers, night_run, put_night};
 pub use night_laws::schedule_does_not_matter;
 pub use output::{put_bytes, put_text};
 pub use parts::Parts;

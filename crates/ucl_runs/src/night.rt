@@ -1,12 +1,13 @@
 //! Nights: two reporters and two readers over one live board.
 
-ghost use Rattle.std.specs.Prelude.{◌≡◌, ◌≢◌, All, IfOk, IfErr, MatchResult, OnOk, string_bytes};
+ghost use Rattle.std.specs.Prelude.{◌≡◌, ◌≢◌, [], ◌∷◌, ◌++◌, All, IfOk, IfErr, MatchResult, OnOk, string_bytes};
 ghost use Rattle.std.specs.Io.KnownBytes.{Appends};
 ghost use mathlib.Core.List.{IsPrefix};
 ghost use Rattle.ucl_board.specs.History.{snapshot_at};
 ghost use Rattle.ucl_screen.specs.Screen.{IsGroup, screen_text};
+ghost use Rattle.ucl_live_board.specs.Passes.{Continues, ReportsMore};
 ghost use Rattle.ucl_runs.specs.Gates.{rows_by};
-ghost use Rattle.ucl_runs.specs.Nights.{HasShown, HaveEnteredAll, HaveMerged, HaveNightBoard, HaveRead, HaveShares, IsDutyTold, IsFirstOffDuty, IsOnDuty, last_shown, night_history, night_output, pass_of_reader_1, pass_of_reader_2};
+ghost use Rattle.ucl_runs.specs.Nights.{HasShown, HaveEnteredAll, HaveMerged, HaveNightBoard, HaveRead, HaveShares, IsDutyTold, IsFirstOffDuty, IsOnDuty, last_shown, night_history, night_output, pass_of_reader_1, pass_of_reader_2, version_met};
 ghost use Rattle.ucl_runs.specs.Run.{IsStopped, MatchDuty};
 ghost use Rattle.ucl_runs.specs.Styles.{styled};
 ghost use Rattle.ucl_runs.specs.Workers.{IsWhyNoNight};
@@ -20,7 +21,7 @@ use std::alloc::Global;
 use std::sync::Wait;
 use std::thread::Threads;
 use ucl_board::Reading;
-use ucl_live_board::{LiveBoard, settle};
+use ucl_live_board::{LiveBoard, Notes, Strangers, settle};
 use ucl_order::Profile;
 use ucl_screen::{FIRST_EVENT_ROW, Night, NightEvent, Sink, screen};
 
@@ -62,8 +63,8 @@ fn check_duty(rows: &[NightEvent]) -> Result<(), RunFault>
 }
 
 /// Runs a night on a live board: two reporters enter the rows of the script in threads of their own, each its rows in script
-/// order, while two readers take so many readings and render the screen of each; then reporter 2 meets both readers, and the
-/// reporters settle: so what was shown is of the history that is settled.
+/// order, while two readers take so many readings and render the screen of each; then the reporters settle. What a reader showed
+/// is of the history that its own pass has seen; on a board with notes `meet_readers` ties it to the settled one.
 ///
 /// `pass` is a reader's pass of the board. It is split three times, and it and one of the others are enlisted, before any
 /// thread starts. `group` has to be the letter of a group. All screens are in the order of the profile. The gate is told of each
@@ -73,8 +74,8 @@ fn check_duty(rows: &[NightEvent]) -> Result<(), RunFault>
 ///
 /// In this order: `NotOnDuty` with the first row of a reporter other than 1 and 2, and then nothing was entered;
 /// `TooManyReporters` where the board has no two numbers left; `NoThread` where a worker had no thread; `OutOfMemory` where a
-/// reader had no memory for a screen; `Strangers` where the board has events of a third reporter, which a reader alone may have
-/// seen; `OutOfMemory` where there was none for the closing screen. Workers that run go on to their end before the answer. The
+/// reader had no memory for a screen; `Strangers` where the board has events of a third reporter; `OutOfMemory` where there was
+/// none for the closing screen. Workers that run go on to their end before the answer. The
 /// board keeps the events that it accepted, and no pass is handed back.
 pub fn night_run<B: LiveBoard, G: Gate, R: Threads + Wait + Sync>(
     rt: &R,
@@ -128,6 +129,10 @@ pub fn night_run<B: LiveBoard, G: Gate, R: Threads + Wait + Sync>(
     ensures beginning { IfOk result (λ end. IsPrefix (B.reporter end.reporter_1).seen
         (night_history (B.reporter end.reporter_2) end.settled.version)) }
 
+    // So is what the pass that was lent had seen.
+    ensures since { IfOk result (λ end. IsPrefix (B.reader pass).seen
+        (night_history (B.reporter end.reporter_2) end.settled.version)) }
+
     // Of the reporters' passes, that of reporter 1 has shown nothing, and that of reporter 2 the settled version alone.
     ensures readings { IfOk result (λ end. HaveRead (B.reporter end.reporter_1)
         (B.reporter end.reporter_2) end.settled.version) }
@@ -140,13 +145,11 @@ pub fn night_run<B: LiveBoard, G: Gate, R: Threads + Wait + Sync>(
     ensures shares { IfOk result (λ end. HaveShares (B.reader pass) (B.reporter end.reporter_1)
         (B.reporter end.reporter_2) (B.reader end.reader_1) (B.reader end.reader_2)) }
 
-    // What the readers showed are versions of the history that was settled, which has all that they and the lent pass have seen.
+    // What a reader showed are versions of the history that it has seen, none before what the lent pass had seen.
     ensures shown_1 { IfOk result (λ end. HasShown (styled profile night.entry.now.roster group)
-        (night_history (B.reporter end.reporter_2) end.settled.version)
         (pass_of_reader_1 (B.reader pass)) (B.reader end.reader_1)
         readings (last_shown end.last 0)) }
     ensures shown_2 { IfOk result (λ end. HasShown (styled profile night.entry.now.roster group)
-        (night_history (B.reporter end.reporter_2) end.settled.version)
         (pass_of_reader_2 (B.reader pass)) (B.reader end.reader_2)
         readings (last_shown end.last 1)) }
 {
@@ -173,10 +176,8 @@ pub fn night_run<B: LiveBoard, G: Gate, R: Threads + Wait + Sync>(
         reader_1,
         reader_2,
     } = work(rt, alloc, board, lent, &plan)?;
-    let mut reader_1 = reader_1?;
-    let mut reader_2 = reader_2?;
-    board.meet_reader(rt, &mut reader_1.pass, &mut reporter_2);
-    board.meet_reader(rt, &mut reader_2.pass, &mut reporter_2);
+    let reader_1 = reader_1?;
+    let reader_2 = reader_2?;
     let settled = settle(board, rt, &mut reporter_1, &mut reporter_2)?;
     let closing = screen(alloc, &settled.board, &night.roster, group, profile)?;
     Ok(NightEnd {
@@ -188,6 +189,50 @@ pub fn night_run<B: LiveBoard, G: Gate, R: Threads + Wait + Sync>(
         reporter_1,
         reporter_2,
     })
+}
+
+/// Reporter 2 of a night meets both readers, and reads again. Where no version is newer than the settled one, all that the readers have
+/// seen, and so what they showed, is of the history that was settled. Nothing is entered, and all passes stay usable.
+///
+/// # Errors
+///
+/// `Strangers` with the version that was read, where it is another: then there are events of a third reporter.
+pub fn meet_readers<B: Notes, R: Wait>(
+    board: &B,
+    rt: &R,
+    reader_1: &mut B::ReaderPass,
+    reader_2: &mut B::ReaderPass,
+    reporter_2: &mut B::ReporterPass,
+    settled: u16,
+) -> Result<(), Strangers>
+    requires readers { B.is_reader board.now reader_1.old × B.is_reader board.now reader_2.old }
+    requires reporter { B.is_reporter board.now reporter_2.old }
+    ensures readers { B.is_reader board.now reader_1.new × B.is_reader board.now reader_2.new }
+    ensures reporter { B.is_reporter board.now reporter_2.new }
+    ensures unchanged { (B.reader reader_1.new ≡ B.reader reader_1.old)
+        × (B.reader reader_2.new ≡ B.reader reader_2.old) }
+    ensures always { Continues (B.reporter reporter_2.old) (B.reporter reporter_2.new) }
+    ensures reported { ReportsMore (B.has_reported reporter_2.old) 0
+        (B.has_reported reporter_2.new) }
+
+    // The readers have seen beginnings of the settled history.
+    ensures met { OnOk result (
+        IsPrefix (B.reader reader_1.old).seen (night_history (B.reporter reporter_2.new) settled)
+        × IsPrefix (B.reader reader_2.old).seen (night_history (B.reporter reporter_2.new) settled)) }
+
+    // The settled version was read again, or another.
+    ensures shown { (B.reporter reporter_2.new).shown
+        ≡ (B.reporter reporter_2.old).shown ++ version_met settled result ∷ [] }
+    ensures strangers { IfErr result (λ strangers. strangers.version ≢ settled) }
+{
+    board.meet_reader(rt, reader_1, reporter_2);
+    board.meet_reader(rt, reader_2, reporter_2);
+    let version = board.read_own(rt, reporter_2).version;
+    if version == settled {
+        Ok(())
+    } else {
+        Err(Strangers { version })
+    }
 }
 
 /// Writes the output of a night: where there are any, the last screens of both readers under the headings `READER 1` and

@@ -9,19 +9,20 @@ use crate::ending::{ended, ended_unasked};
 use crate::fault::RunFault;
 use crate::feed::feed_run;
 use crate::gate::OpenGate;
-use crate::night::{night_run, put_night};
+use crate::night::{meet_readers, night_run, put_night};
 use crate::show::show_run;
 use std::alloc::Global;
 use std::sync::Wait;
 use std::thread::Threads;
 use ucl_command::{Line, LineFault};
-use ucl_live_board::LiveBoard;
+use ucl_live_board::Notes;
 use ucl_order::Profile;
 use ucl_screen::{Sink, Source, read_night};
 use ucl_word::OutOfMemory;
 
-/// Reads a script from the source, runs its night on the board that was opened for it, and writes the output to the sink.
-fn play<B: LiveBoard + Drop, S: Source, W: Sink, R: Threads + Wait + Sync>(
+/// Reads a script from the source, runs its night on the board that was opened for it, makes sure that the readers showed the history
+/// that was settled, and writes the output to the sink.
+fn play<B: Notes + Drop, S: Source, W: Sink, R: Threads + Wait + Sync>(
     rt: &R,
     alloc: Global,
     opened: Result<(B, B::ReaderPass), OutOfMemory>,
@@ -40,8 +41,16 @@ fn play<B: LiveBoard + Drop, S: Source, W: Sink, R: Threads + Wait + Sync>(
     let night = read_night(alloc, source)?;
     let (board, pass) = opened?;
     let gate = &OpenGate;
-    let end = night_run(
+    let mut end = night_run(
         rt, alloc, &board, pass, &night, group, readings, gate, profile,
+    )?;
+    meet_readers(
+        &board,
+        rt,
+        &mut end.reader_1,
+        &mut end.reader_2,
+        &mut end.reporter_2,
+        end.settled.version,
     )?;
     put_night(&end, sink)
 }
@@ -51,9 +60,9 @@ fn play<B: LiveBoard + Drop, S: Source, W: Sink, R: Threads + Wait + Sync>(
 ///
 /// # Errors
 ///
-/// Those of `feed_run` and of `show_run`; for a night those of `read_night`, want of memory for the board, and those of `night_run` and of
-/// `put_night`. Where the source has failed, the input is refused or there is no memory, nothing is written.
-pub fn obey<B: LiveBoard + Drop, S: Source, W: Sink, R: Threads + Wait + Sync>(
+/// Those of `feed_run` and of `show_run`; for a night those of `read_night`, want of memory for the board, and those of `night_run`, of
+/// `meet_readers` and of `put_night`. Where the source has failed, the input is refused or there is no memory, nothing is written.
+pub fn obey<B: Notes + Drop, S: Source, W: Sink, R: Threads + Wait + Sync>(
     rt: &R,
     alloc: Global,
     line: Line,
@@ -80,7 +89,7 @@ pub fn obey<B: LiveBoard + Drop, S: Source, W: Sink, R: Threads + Wait + Sync>(
 /// Does what the arguments asked for, as `line_of` answered it, and gives the exit status: 0 where it was done, 2 where the arguments are
 /// refused, by the text of `clap`, and else that of the fault, which is told by its line. Help goes to the output. A night takes place on the
 /// board that was opened for it.
-pub fn run<B: LiveBoard + Drop, S: Source, W: Sink, E: Sink, R: Threads + Wait + Sync>(
+pub fn run<B: Notes + Drop, S: Source, W: Sink, E: Sink, R: Threads + Wait + Sync>(
     rt: &R,
     alloc: Global,
     asked: Result<Line, LineFault>,

@@ -9,7 +9,7 @@ use std::sync::Wait;
 use std::thread;
 use std::thread::Threads;
 use ucl_board::Reading;
-use ucl_live_board::LiveBoard;
+use ucl_live_board::Notes;
 use ucl_word::{Accepted, EventCall, Refusal};
 
 /// What an event was answered, and what a screen that was told of it read.
@@ -24,7 +24,7 @@ pub struct ToldScreen<P> {
 }
 
 /// Enters an event, and takes a note, which has the event where it was accepted.
-fn report_and_note<B: LiveBoard, R: Wait>(
+fn report_and_note<B: Notes, R: Wait>(
     board: &B,
     rt: &R,
     reporter: &mut B::ReporterPass,
@@ -47,7 +47,7 @@ fn report_and_note<B: LiveBoard, R: Wait>(
 }
 
 /// A screen hears a note, and reads.
-fn hear_and_read<B: LiveBoard, R: Wait>(
+fn hear_and_read<B: Notes, R: Wait>(
     board: &B,
     rt: &R,
     screen: &mut B::ReaderPass,
@@ -64,7 +64,7 @@ fn hear_and_read<B: LiveBoard, R: Wait>(
 
 /// Enters an event, and hands a note to a screen, which hears it in a thread of its own and reads: where the event was accepted, the
 /// reading has it. The reply is that of `report`.
-pub fn report_and_show<B: LiveBoard, R: Threads + Wait + Sync>(
+pub fn report_and_show<B: Notes, R: Threads + Wait + Sync>(
     board: &B,
     rt: &R,
     reporter: &mut B::ReporterPass,

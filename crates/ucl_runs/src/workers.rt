@@ -65,7 +65,7 @@ pub fn show_screens<B: LiveBoard, G: Gate, R: Wait>(
     requires group { IsGroup plan.now.group }
     ensures own { IfOk result (λ end. B.is_reader board.entry.now end.pass) }
     ensures shown { IfOk result (λ end. HasShown (style_of plan.entry.now)
-        (B.reader end.pass).seen (B.reader pass) (B.reader end.pass)
+        (B.reader pass) (B.reader end.pass)
         plan.entry.now.readings (option_map string_bytes end.last)) }
 {
     let Plan {

@@ -17,7 +17,7 @@ use crate::board::WordBoard;
 use crate::passes::{WordNote, WordReaderPass, WordReporterPass};
 use std::sync::Wait;
 use ucl_board::Reading;
-use ucl_live_board::{LiveBoard, TooManyReporters};
+use ucl_live_board::{LiveBoard, Notes, TooManyReporters};
 use ucl_word::{Accepted, EventCall, Refusal, ReporterNo};
 
 /// Each call passes on to the board's own, which takes no `rt` and cannot wait, and says of its steps what that one says.
@@ -26,19 +26,13 @@ impl LiveBoard for WordBoard {
 
     type ReporterPass = WordReporterPass;
 
-    type Note = WordNote;
-
     ghost is_reader = { λ board pass. pass.board ≡ board };
 
     ghost is_reporter = { λ board pass. pass.board ≡ board };
 
-    ghost is_note = { λ board note. note.board ≡ board };
-
     ghost reader = { λ pass. pass_view_of pass.view };
 
     ghost reporter = { λ pass. pass_view_of pass.view };
-
-    ghost noted = { λ note. note.seen };
 
     ghost has_reported = { λ pass. WordHasReported pass.doing };
 
@@ -179,6 +173,27 @@ impl LiveBoard for WordBoard {
         self.meet_now(first, second);
     }
 
+    fn number_of(pass: &WordReporterPass) -> ReporterNo
+        ensures { result ≡ (reporter_figures (pass_view_of pass.now.view)).number }
+    {
+        pass.number
+    }
+
+    fn accepted_of(pass: &WordReporterPass) -> u16
+        ensures { result ≡ (reporter_figures (pass_view_of pass.now.view)).accepted }
+    {
+        pass.accepted
+    }
+}
+
+/// Each call passes on to the board's own here too.
+impl Notes for WordBoard {
+    type Note = WordNote;
+
+    ghost is_note = { λ board note. note.board ≡ board };
+
+    ghost noted = { λ note. note.seen };
+
     fn meet_reader<R: Wait>(
         &self,
         _rt: &R,
@@ -258,17 +273,5 @@ impl LiveBoard for WordBoard {
         ensures stands { Stands pass.new.seat (view_of pass.new) }
     {
         self.hear_own_now(pass, note);
-    }
-
-    fn number_of(pass: &WordReporterPass) -> ReporterNo
-        ensures { result ≡ (reporter_figures (pass_view_of pass.now.view)).number }
-    {
-        pass.number
-    }
-
-    fn accepted_of(pass: &WordReporterPass) -> u16
-        ensures { result ≡ (reporter_figures (pass_view_of pass.now.view)).accepted }
-    {
-        pass.accepted
     }
 }

@@ -1,7 +1,7 @@
 //! The examples of the doc comments, each a test.
 
 use std::test::Fail;
-use ucl_pass::{CellBoard, LiveBoard, TooManyReporters, settle};
+use ucl_pass::{CellBoard, LiveBoard, Notes, TooManyReporters, settle};
 use ucl_word::{Accepted, EventCall, Kind, MatchNo};
 
 #[test]

@@ -4,7 +4,7 @@ use std::sync::Wait;
 use std::test::Fail;
 use std::thread::Threads;
 use ucl_board::Reading;
-use ucl_pass::{CellBoard, LiveBoard};
+use ucl_pass::{CellBoard, Notes};
 use ucl_runs::report_and_show;
 use ucl_word::{Accepted, EventCall, Kind, MatchNo, Refusal, Side};
 use ucl_words::WordBoard;
@@ -27,7 +27,7 @@ fn call_of(game: MatchNo, expected: u16, kind: Kind) -> EventCall {
 }
 
 /// A kick-off, the same again, and a goal, each shown on one screen by a thread of its own.
-fn told_on<B: LiveBoard, R: Threads + Wait + Sync>(
+fn told_on<B: Notes, R: Threads + Wait + Sync>(
     rt: &R,
     board: &B,
     mut pass: B::ReaderPass,

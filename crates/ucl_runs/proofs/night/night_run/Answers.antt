@@ -1,16 +1,14 @@
-use Rattle.std.proofs.Common.{ℕ, List, [], ◌∷◌, ◌++◌, refl, subst, sym, ap, arith, All, true≢false, ◌∙◌}
-use Rattle.std.specs.Prelude.{option_map, string_bytes}
+use Rattle.std.proofs.Common.{ℕ, List, [], ◌∷◌, ◌++◌, refl, subst, sym, ap, All, true≢false, ◌∙◌}
+use Rattle.std.specs.Prelude.{option_map, string_bytes, take}
 use Rattle.std.proofs.lemmas.Result.{err_from_is_err_and}
 use mathlib.Core.List.{IsPrefix}
-use Rattle.ucl_board.proofs.Beginnings.{begins_length, begins_take, begins_through}
+use Rattle.ucl_board.proofs.Beginnings.{begins_take, begins_through}
 use Rattle.ucl_live_board.specs.Passes.{PassView, kept_pass, split_pass}
-use Rattle.ucl_runs.specs.Nights.{IsOnDuty, night_history, number_of_two, pass_of_reader_1, pass_of_reader_2}
+use Rattle.ucl_runs.specs.Nights.{HasShown, IsOnDuty, night_history, number_of_two}
 use Rattle.ucl_runs.specs.Styles.{styled}
-use Rattle.ucl_runs.proofs.EnteredRows.{goes_on}
-use Rattle.ucl_runs.proofs.GateFacts.{none_twice, reported_in_all}
-use Rattle.ucl_runs.proofs.MergedRows.{each_on_duty, merged_after_meetings}
+use Rattle.ucl_runs.proofs.GateFacts.{reported_in_all}
+use Rattle.ucl_runs.proofs.MergedRows.{each_on_duty, merged_by_settlers}
 use Rattle.ucl_runs.proofs.Merges.{night_board_read}
-use Rattle.ucl_runs.proofs.ShownVersions.{met_before, shown_on}
 use Rattle.ucl_runs.proofs.night.night_run.Goals as goal
 
 pub returns-clause-merge : goal.returns-clause-merge
@@ -19,16 +17,10 @@ returns-clause-merge g c =
     let rows = c.args.night.now.events.items in
     let back = c.in_ok-reporter_1.field-0 in
     let worked = c.in_ok-reporter_1.ensures in
-    let n = known back.reporter_2 in
-    let met = known c.meet_reader.new.second in
-    let met_both = known c.meet_reader-2.new.second in
-    let one = c.meet_reader.ensures in
-    let two = c.meet_reader-2.ensures in
     let settling = c.in_ok-settled.ensures in
-    let alone = settling.exactly.0 refl in
-    merged_after_meetings n met_both (goes_on n met met_both one.always two.always) (two.meeting.mine ∙ one.meeting.mine)
-    (known c.in_ok-enlist.field-0) (known c.in_ok-enlist-2.field-0) (known back.reporter_1) (known c.settle.new.first) (known c.settle.new.second)
-    rows c.in_ok-settled.settled.version worked.reporter_1.1 worked.reporter_2.1 settling.always.0 settling.always.1 alone.0
+    merged_by_settlers (known c.in_ok-enlist.field-0) (known c.in_ok-enlist-2.field-0) (known back.reporter_1) (known back.reporter_2)
+    (known c.settle.new.first) (known c.settle.new.second) rows c.in_ok-settled.settled.version worked.reporter_1.1 worked.reporter_2.1
+    settling.always.0 settling.always.1 (settling.exactly.0 refl).0
     (each_on_duty rows (subst (All IsOnDuty) c.deref.ensures.value c.in_ok-check_duty.ensures)) settling.settled settling.of_both
 
 pub returns-clause-board : goal.returns-clause-board
@@ -53,36 +45,33 @@ returns-clause-beginning g c =
     subst (λ (k : PassView). IsPrefix k.seen (night_history d version)) (sym settling.unchanged)
     (begins_take a.seen d.seen version settling.settled.first settling.settled.low_first)
 
+pub returns-clause-since : goal.returns-clause-since
+returns-clause-since g c =
+    let lent = g.B.LiveBoard.reader c.args.pass in
+    let one = g.B.LiveBoard.reporter c.in_ok-enlist.field-0 in
+    let a = g.B.LiveBoard.reporter c.in_ok-reporter_1.field-0.reporter_1 in
+    let d = g.B.LiveBoard.reporter c.settle.new.second in
+    let settled = c.in_ok-settled.ensures.settled in
+    let version = c.in_ok-settled.settled.version in
+    let halved = c.split-reader_2.ensures.kept ∙ ap kept_pass (c.split-reader_1.ensures.kept ∙ ap kept_pass c.split-reporter_2.ensures.kept) in
+    let enlisted = subst (λ (k : PassView). IsPrefix k.seen one.seen) halved c.in_ok-enlist.ensures.enlisted.on.seen in
+    begins_through lent.seen one.seen (take version d.seen) enlisted (begins_through one.seen a.seen (take version d.seen)
+    c.in_ok-reporter_1.ensures.reporter_1.1.always.on.seen (begins_take a.seen d.seen version settled.first settled.low_first))
+
 pub returns-clause-shown_1 : goal.returns-clause-shown_1
 returns-clause-shown_1 g c =
-    let reader = g.B.LiveBoard.reader in
-    let known = g.B.LiveBoard.reporter in
-    let style = styled c.args.profile c.args.night.now.roster c.args.group in
-    let met = known c.meet_reader.new.second in
-    let met_both = known c.meet_reader-2.new.second in
     let back = c.in_ok-reader_1.reader_1 in
-    let seen = (reader back.pass).seen in
+    let style = styled c.args.profile c.args.night.now.roster c.args.group in
     let off = c.split-reader_1.ensures.given ∙ ap split_pass c.split-reporter_2.ensures.kept in
-    let on_both = begins_through seen met.seen met_both.seen c.meet_reader.ensures.meeting.met c.meet_reader-2.ensures.always.on.seen in
-    let on = met_before seen (known c.in_ok-reporter_1.field-0.reporter_1) met_both (known c.settle.new.first) (known c.settle.new.second)
-    c.in_ok-settled.settled.version on_both c.in_ok-settled.ensures.settled in
-    shown_on style _ (pass_of_reader_1 (reader c.args.pass)) (reader c.split-reader_1.result) (reader back.pass) (reader c.meet_reader.new.first)
-    c.args.readings (option_map string_bytes back.last) off c.meet_reader.ensures.unchanged on
+    subst (λ (k : PassView). HasShown style k (g.B.LiveBoard.reader back.pass) c.args.readings (option_map string_bytes back.last)) off
     (rw c.in_ok-reader_1.was at c.in_ok-reporter_1.ensures.reader_1).1
 
 pub returns-clause-shown_2 : goal.returns-clause-shown_2
 returns-clause-shown_2 g c =
-    let reader = g.B.LiveBoard.reader in
-    let known = g.B.LiveBoard.reporter in
-    let style = styled c.args.profile c.args.night.now.roster c.args.group in
-    let met_both = known c.meet_reader-2.new.second in
     let back = c.in_ok-reader_2.reader_2 in
-    let seen = (reader back.pass).seen in
+    let style = styled c.args.profile c.args.night.now.roster c.args.group in
     let off = c.split-reader_2.ensures.given ∙ ap split_pass (c.split-reader_1.ensures.kept ∙ ap kept_pass c.split-reporter_2.ensures.kept) in
-    let on = met_before seen (known c.in_ok-reporter_1.field-0.reporter_1) met_both (known c.settle.new.first) (known c.settle.new.second)
-    c.in_ok-settled.settled.version c.meet_reader-2.ensures.meeting.met c.in_ok-settled.ensures.settled in
-    shown_on style _ (pass_of_reader_2 (reader c.args.pass)) (reader c.split-reader_2.result) (reader back.pass) (reader c.meet_reader-2.new.first)
-    c.args.readings (option_map string_bytes back.last) off c.meet_reader-2.ensures.unchanged on
+    subst (λ (k : PassView). HasShown style k (g.B.LiveBoard.reader back.pass) c.args.readings (option_map string_bytes back.last)) off
     (rw c.in_ok-reader_2.was at c.in_ok-reporter_1.ensures.reader_2).1
 
 pub returns-clause-reports : goal.returns-clause-reports
@@ -92,15 +81,11 @@ returns-clause-reports g c =
     let worked = c.in_ok-reporter_1.ensures in
     let one = c.in_ok-enlist in
     let two = c.in_ok-enlist-2 in
-    let met = reports c.meet_reader.new.second in
-    let met_both = reports c.meet_reader-2.new.second in
     let first = reports c.settle.new.first in
     let second = reports c.settle.new.second in
-    let settled = c.in_ok-settled.ensures.reported in
-    let meetings = none_twice (reports back.reporter_2) met met_both c.meet_reader.ensures.reported c.meet_reader-2.ensures.reported in
-    let after = none_twice (reports back.reporter_2) met_both second meetings settled.1 in (
+    let settled = c.in_ok-settled.ensures.reported in (
       reported_in_all (reports one.field-0) (reports back.reporter_1) first _ one.ensures.reported worked.reporter_1.2 settled.0,
-      reported_in_all (reports two.field-0) (reports back.reporter_2) second _ two.ensures.reported worked.reporter_2.2 after,
+      reported_in_all (reports two.field-0) (reports back.reporter_2) second _ two.ensures.reported worked.reporter_2.2 settled.1,
     )
 
 pub returns-clause-shares : goal.returns-clause-shares
@@ -110,8 +95,7 @@ returns-clause-shares g c =
     let share = λ (k : PassView). k.share in
     let halved = c.split-reader_2.ensures.kept ∙ ap kept_pass (c.split-reader_1.ensures.kept ∙ ap kept_pass c.split-reporter_2.ensures.kept) in
     record {
-      reporter_2 = settling.always.1.on.share ∙ (c.meet_reader-2.ensures.always.on.share ∙ (c.meet_reader.ensures.always.on.share
-          ∙ (worked.reporter_2.1.always.on.share ∙ (c.in_ok-enlist-2.ensures.enlisted.on.share ∙ ap share c.split-reporter_2.ensures.given))));
+      reporter_2 = settling.always.1.on.share ∙ (worked.reporter_2.1.always.on.share ∙ (c.in_ok-enlist-2.ensures.enlisted.on.share ∙ ap share c.split-reporter_2.ensures.given));
       reader_1 = (returns-clause-shown_1 g c).on.share;
       reader_2 = (returns-clause-shown_2 g c).on.share;
       reporter_1 = settling.always.0.on.share ∙ (worked.reporter_1.1.always.on.share ∙ (c.in_ok-enlist.ensures.enlisted.on.share ∙ ap share halved));
@@ -123,7 +107,7 @@ returns-clause-readings g c =
     let settling = c.in_ok-settled.ensures in
     let one = c.in_ok-enlist.ensures.enlisted in
     let two = c.in_ok-enlist-2.ensures.enlisted in
-    let before = c.meet_reader-2.ensures.meeting.shown ∙ (c.meet_reader.ensures.meeting.shown ∙ (worked.reporter_2.1.shown ∙ two.shown)) in (
+    let before = worked.reporter_2.1.shown ∙ two.shown in (
       ap (λ (k : PassView). k.shown) settling.unchanged ∙ (worked.reporter_1.1.shown ∙ one.shown),
       settling.shown ∙ ap (λ (shown : List ℕ). shown ++ c.in_ok-settled.settled.version ∷ []) before,
     )
@@ -135,14 +119,9 @@ returns-in_err-settled-clause-kinds g c =
     let worked = c.in_ok-reporter_1.ensures in
     let first = known back.reporter_1 in
     let second = known back.reporter_2 in
-    let met_both = known c.meet_reader-2.new.second in
     let last = known c.settle.new.second in
-    let on = goes_on second (known c.meet_reader.new.second) met_both c.meet_reader.ensures.always c.meet_reader-2.ensures.always in
-    let mine = c.meet_reader-2.ensures.meeting.mine ∙ c.meet_reader.ensures.meeting.mine in
     let settling = c.in_err-settled.ensures in
     let settled = settling.settled in
-    let longer = begins_length second.seen met_both.seen on.on.seen in
-    let low = settled.low_second in
     let told = err_from_is_err_and c.from_residual-in_err-settled.result c.from_residual-in_err-settled.ensures.1 in
     rw (told.1, told.2) (record {
       first = back.reporter_1;
@@ -153,6 +132,6 @@ returns-in_err-settled-clause-kinds g c =
       own = settling.own.1;
       high = settled.high;
       met_1 = begins_take first.seen last.seen _ settled.first settled.low_first;
-      met_2 = begins_take second.seen last.seen _ (begins_through second.seen met_both.seen last.seen on.on.seen settled.second) (omega arith);
-      others = λ alone. true≢false (sym (settling.exactly.1 (rw (on.number, mine) alone)));
+      met_2 = begins_take second.seen last.seen _ settled.second settled.low_second;
+      others = λ alone. true≢false (sym (settling.exactly.1 alone));
     })

@@ -9,5 +9,5 @@ invariant-loop-call g l =
     let known = g.B.LiveBoard.reader l.pass in
     record {
       own : g.B.LiveBoard.is_reader l.board l.pass;
-      shown : HasShown style known.seen (g.B.LiveBoard.reader l.initial.pass) known l.call (option_map string_bytes l.last);
+      shown : HasShown style (g.B.LiveBoard.reader l.initial.pass) known l.call (option_map string_bytes l.last);
     }

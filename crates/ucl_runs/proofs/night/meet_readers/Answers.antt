@@ -1,0 +1,19 @@
+use Rattle.std.proofs.Common.{sym}
+use Rattle.ucl_board.proofs.Beginnings.{begins_through}
+use Rattle.ucl_runs.proofs.ShownVersions.{met_before}
+use Rattle.ucl_runs.proofs.night.meet_readers.Goals as goal
+
+pub returns-then-version-settled-clause-met : goal.returns-then-version-settled-clause-met
+returns-then-version-settled-clause-met g c =
+    let known = g.B.LiveBoard.reporter in
+    let left = (g.B.LiveBoard.reader c.args.reader_1.now).seen in
+    let right = (g.B.LiveBoard.reader c.args.reader_2.now).seen in
+    let m = known c.meet_reader-2.new.second in
+    let z = known c.read_own-version.new.pass in
+    let two = c.meet_reader-2.ensures in
+    let read = c.read_own-version.ensures in
+    let one = begins_through left (known c.meet_reader.new.second).seen m.seen c.meet_reader.ensures.meeting.met two.always.on.seen in
+    rw (sym c.if-version-settled.true) (
+      met_before left m z c.read_own-version.result one read.always read.reading,
+      met_before right m z c.read_own-version.result two.meeting.met read.always read.reading,
+    )
