@@ -10,8 +10,8 @@ use Rattle.ucl_board.specs.declared.entry.Entry.{Entry}
 use Rattle.ucl_board.specs.History.{IsLegal, attempted, entry_of}
 use Rattle.ucl_board.proofs.HistoryLaws.{legal_take}
 use Rattle.ucl_screen.specs.declared.night.NightEvent.{NightEvent}
-use Rattle.ucl_board.proofs.Beginnings.{at_within, begins_length, begins_take, begins_through}
-use Rattle.ucl_live_board.specs.Passes.{PassView, Continues, entries_by}
+use Rattle.ucl_board.proofs.Beginnings.{at_within, begins_take}
+use Rattle.ucl_live_board.specs.Passes.{PassView, Continues}
 use Rattle.ucl_live_board.specs.Settling.{Settled, IsOfBoth}
 use Rattle.ucl_runs.proofs.Elements.{get_some}
 use Rattle.ucl_runs.specs.Nights.{number_of_two, attempt_by, IsOnDuty, IsEnteredAt, TakesPlace, ComesFirst, IsOfRow, IsMerge, HasEntered}
