@@ -1,4 +1,7 @@
+pub mod Numerals
 pub mod Places
 pub mod OneLine
 pub mod Matches
 pub mod Members
+pub mod BracketsClose
+pub mod CutTexts

@@ -1,15 +1,15 @@
 -- The text of a value has no line feed, nor any other byte below the space.
-use Rattle.std.proofs.Common.{◌≡◌, ◌≢◌, ℕ, zero, suc, ◌/◌, ◌%◌, ◌<◌, ◌≤◌, ◌==◌, pos, negsuc, ℤ, Bool, true, false, cond, List, [], ◌∷◌, ◌++◌, refl, sym, ap, ◌∙◌}
+use Rattle.std.proofs.Common.{◌≡◌, ◌≢◌, ℕ, ◌/◌, ◌%◌, ◌<◌, ◌≤◌, ◌==◌, Bool, true, false, cond, List, [], ◌∷◌, ◌++◌, refl, sym, ap, ◌∙◌}
 use Rattle.std.proofs.Common.{subst, append_assoc, append-nil, inl, inr, arith}
 use Rattle.std.specs.Prelude.{⊤, All, flat_map, nat_lt, ◌||◌}
 use Rattle.std.specs.Char.{digit_char}
-use Rattle.std.specs.Fmt.{digit_glyph, digits, digits_onto, signed_decimal}
 use Rattle.std.proofs.lemmas.Bool.{cases_Bool}
 use Rattle.std.proofs.lemmas.Bool.Decides.{nat_tests}
 use Rattle.std.proofs.lemmas.List.Elements.{All-cons, All-nil}
 use Rattle.json.specs.Print.{escape, escape_byte, escape_letter, quoted}
-use Rattle.serde_json.specs.Data.{Num, unsigned, negative, float, Data, null, boolean, number, string, array, object, Items, no_items, item, Members, no_members, member}
+use Rattle.serde_json.specs.Data.{Data, null, boolean, number, string, array, object, Items, no_items, item, Members, no_members, member}
 use Rattle.serde_json.specs.Written.{comma_if, compact_text, items_text, members_text, number_text}
+use Rattle.ucl_json.proofs.Numerals.{IsNumeral, numeral}
 use Rattle.ucl_json.specs.Lines.{AreLinesOfValues, IsOneLine, json_line}
 
 -- each byte is the space or above it
@@ -23,34 +23,9 @@ both (x ∷ a) b h k = (h.0, both a b h.1 k)
 
 -- ---- numbers
 
-glyph : (d : ℕ) → 32 ≤ digit_glyph false d
-glyph d = elim (cases_Bool (nat_lt d 10)) [ inl y ↦ rw y (omega arith) | inr n ↦ rw n (omega arith) ]
-
-onto : (k n : ℕ) (rest : List ℕ) → ArePrinted rest → ArePrinted (digits_onto k 10 false n rest)
-onto zero n rest h = h
-onto (suc k) n rest h = elim (cases_Bool (n / 10 == 0)) [
-  | inl y ↦ rw y (glyph (n % 10), h)
-  | inr further ↦ rw further (onto k (n / 10) (digit_glyph false (n % 10) ∷ rest) (glyph (n % 10), h))
-]
-
-digits-at : (k n : ℕ) → k ≡ 64 → digits_onto k 10 false n [] ≡ digits 10 false n
-unfolding digits
-digits-at k n e = rw e refl
-
-counted-at : (k n : ℕ) → k ≡ 64 → ArePrinted (digits 10 false n)
-counted-at k n e = subst ArePrinted (digits-at k n e) (onto k n [] tt)
-
-counted : (n : ℕ) → ArePrinted (digits 10 false n)
-counted n = counted-at 64 n refl
-
-integer : (z : ℤ) → ArePrinted (signed_decimal z)
-integer (pos n) = counted n
-integer (negsuc n) = (omega arith, counted (suc n))
-
-numeral : (n : Num) → ArePrinted (number_text n)
-numeral (unsigned n) = counted n
-numeral (negative z) = integer z
-numeral (float x) = tt
+numeral-printed : (bytes : List ℕ) → IsNumeral bytes → ArePrinted bytes
+numeral-printed [] h = tt
+numeral-printed (b ∷ bytes) h = let first : 44 < b = h.0.0 in (omega arith, numeral-printed bytes h.1)
 
 -- ---- strings
 
@@ -115,7 +90,7 @@ mutual
   printed : (d : Data) → ArePrinted (compact_text d)
   printed null = (omega arith, (omega arith, (omega arith, (omega arith, tt))))
   printed (boolean b) = word b
-  printed (number n) = numeral n
+  printed (number n) = numeral-printed (number_text n) (numeral n)
   printed (string s) = in-quotes s
   printed (array ds) = (omega arith, printed-items false ds)
   printed (object ms) = (omega arith, printed-members false ms)

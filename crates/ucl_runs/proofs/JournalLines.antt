@@ -75,6 +75,11 @@ no-feed : (bytes : List ℕ) → All (λ b. b ≢ 10) bytes → HasNoFeed bytes
 no-feed [] h = tt
 no-feed (b ∷ bytes) h = (All-head (λ x. x ≢ 10) b bytes h, no-feed bytes (All-tail (λ x. x ≢ 10) b bytes h))
 
+pub text-clean : (v : Data) → HasNoFeed (compact_text v)
+text-clean v =
+    let whole = one_line v in
+    subst HasNoFeed (sym (append_cancel_right (compact_text v) whole.body (10 ∷ []) whole.ends)) (no-feed whole.body whole.unbroken)
+
 -- the line of a value
 pub record IsLineThat (o : Option Moment) (text : List ℕ) : Type 0 where
   pub line : List ℕ
@@ -83,16 +88,12 @@ pub record IsLineThat (o : Option Moment) (text : List ℕ) : Type 0 where
   pub told : moment_on line ≡ o
 
 pub value-line : (v : Data) (o : Option Moment) → moment_on (compact_text v) ≡ o → IsLineThat o (json_line v)
-value-line v o h =
-    let whole = one_line v in
-    let clean = no-feed whole.body whole.unbroken in
-    let ended = ended_line 4097 [] whole.body clean (omega arith) in
-    let same : whole.body ≡ compact_text v = sym (append_cancel_right (compact_text v) whole.body (10 ∷ []) whole.ends) in record {
-      line = take 4097 whole.body;
-      begun = ap (begun_line 4097 []) whole.ends ∙ begun_ended 4097 [] whole.body;
-      lines_are = ap lines_in whole.ends ∙ ended;
-      told = short-told whole.body ∙ ap moment_on same ∙ h;
-    }
+value-line v o h = record {
+  line = take 4097 (compact_text v);
+  begun = begun_ended 4097 [] (compact_text v);
+  lines_are = ended_line 4097 [] (compact_text v) (text-clean v) (omega arith);
+  told = short-told (compact_text v) ∙ h;
+}
 
 pub alone-as : (o told : Option Moment) (text : List ℕ) → IsLineThat told text → TellsAtMost o told → TellsAlone o text
 alone-as o told text l most = record {

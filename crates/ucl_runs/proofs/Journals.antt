@@ -34,11 +34,13 @@ use Rattle.ucl_json.specs.Told.{moment_on}
 use Rattle.ucl_runs.specs.Follow.{after_told, follow_text, followed, is_later, is_newer, is_plain_title, is_shown, passed_over, resuming_text}
 use Rattle.ucl_runs.specs.Follow.{shown_too, sights, told_text, unseen, version_at, whole_lines}
 use Rattle.ucl_runs.specs.Journals.{CutJournalsResume, TakesEvent, IsAnsweredIn, moment_at, moment_now, moment_with, resume}
-use Rattle.ucl_runs.specs.Journals.{AreStarts, GoesOnAgain, IsStart, IsTorn, JournalsGoOn, Start, gone_on, journal, newest_in}
+use Rattle.ucl_runs.specs.Journals.{AreStarts, GoesOnAgain, IsStart, JournalsGoOn, Start, gone_on, journal, newest_in}
 use Rattle.ucl_runs.specs.Latest.{IsToldIn}
 use Rattle.ucl_runs.specs.Resuming.{OpensTheBoard, opened_at, resumed_row}
 use Rattle.ucl_runs.proofs.JournalAnswers.{AllTold, AnswersFirst, IsGood, IsOnTheWay, IsSound, Lines, answers-first, begun-of, good-after-lines, on-the-way, stage-good, start-sound}
 use Rattle.ucl_runs.proofs.JournalLines.{lines-then, lines_in}
+use Rattle.ucl_runs.proofs.CutLines.{IsCut, cut-lines}
+use Rattle.ucl_runs.proofs.JsonLines.{json-lines}
 use Rattle.ucl_runs.proofs.Resumed.{resumed}
 use Rattle.ucl_runs.proofs.FollowShown.{alike, not-itself, titled-so}
 
@@ -562,7 +564,10 @@ module _ (before : List Start) (start : Start) (is : IsStart before start) (know
     stands : Stands (end_of (lines_in (journal (start ∷ before)))) (moment_now (after_lines e k.first))
     more : length (lines_in start.left) ≤ length (lines_in left)
 
-  made : (left : List ℕ) (k : GoesOn e input-lines left f) → Made left k → Known (start ∷ before) (newest_in (journal (start ∷ before))) × ((again : LiveArgs) → GoesOnAgain again before start)
+  abbrev AllMade : Type 0
+  AllMade = Known (start ∷ before) (newest_in (journal (start ∷ before))) × ((again : LiveArgs) → GoesOnAgain again before start)
+
+  made : (left : List ℕ) (k : GoesOn e input-lines left f) → Made left k → AllMade
   made left k is-made =
       let now = moment_now (after_lines e k.first) in
       let newest = stands-on (end_of (lines_in (journal (start ∷ before)))) now is-made.stands in
@@ -579,8 +584,8 @@ module _ (before : List Start) (start : Start) (is : IsStart before start) (know
         },
       )
 
-  torn-made : IsTorn start.left is.lost → Known (start ∷ before) (newest_in (journal (start ∷ before))) × ((again : LiveArgs) → GoesOnAgain again before start)
-  torn-made (inl none) =
+  cut-made : IsCut start.left is.lost → AllMade
+  cut-made (inl none) =
       let k = going start.left is.lost went in
       let now = moment_now (after_lines e k.first) in
       let g = followed f (lines_in start.left) in
@@ -588,13 +593,18 @@ module _ (before : List Start) (start : Start) (is : IsStart before start) (know
         stands = subst (λ (h : Following). Stands h now) (sym (journal-end start before ∙ torn-end f start.left none)) (stands-as g (passed_over g) now (refl, refl, refl) k.stands);
         more = omega arith;
       })
-  torn-made (inr (more, ends)) =
+  cut-made (inr (more, ends)) =
       let left = start.left ++ 10 ∷ [] in
       let k = going left more (went ∙ ap (λ (l : List ℕ). start.left ++ l) ends ∙ sym (append_assoc start.left (10 ∷ []) more)) in
       made left k (record {
         stands = subst (λ (h : Following). Stands h (moment_now (after_lines e k.first))) (sym (journal-end start before)) k.stands;
         more = let long = ap (λ (ls : Lines). length ls) (with-end start.left).1 ∙ length-append (lines_in start.left) (begun-of start.left ∷ []) in omega (arith, long);
       })
+
+  all-made : AllMade
+  all-made =
+      let lines = json-lines e input-lines (gone-json start.options o is.json) in
+      cut-made (cut-lines (live_text e start.input) start.left is.lost lines went)
 
 no-starts : end_of (lines_in (journal [])) ≡ unseen resume
 unfolding journal followed
@@ -607,8 +617,8 @@ known-of [] all =
       stands = subst (Stands (end_of (lines_in (journal [])))) (sym none) (subst (IsSame (unseen resume)) (sym no-starts) (refl, refl, refl));
       good = subst (λ (m : Option Moment). IfSome m IsMoment) (sym none) tt;
     }
-known-of (start ∷ before) all = (torn-made before start all.0 (known-of before all.1) all.0.torn).0
+known-of (start ∷ before) all = (all-made before start all.0 (known-of before all.1)).0
 
 pub journals-go-on : JournalsGoOn
 unfolding AreStarts
-journals-go-on again before start all = (torn-made before start all.0 (known-of before all.1) all.0.torn).1 again
+journals-go-on again before start all = (all-made before start all.0 (known-of before all.1)).1 again

@@ -39,6 +39,7 @@ pub mod Repeats
 pub mod RowTexts
 pub mod Resumed
 pub mod JournalLines
+pub mod CutLines
 pub mod Matches
 pub mod JournalAnswers
 pub mod Journals

@@ -1,5 +1,5 @@
 -- A journal: the output of an evening in JSON, of which a crash left so many bytes. What `--resume` makes of it.
-use Rattle.std.specs.Prelude.{◌≡◌, ◌⊎◌, ⊤, ◌<◌, ◌≤◌, ◌^◌, true, ℕ, List, [], ◌∷◌, ◌++◌, length, Option, Some, None, IfSome, ◌+◌}
+use Rattle.std.specs.Prelude.{◌≡◌, ⊤, ◌<◌, ◌≤◌, ◌^◌, true, ℕ, List, [], ◌∷◌, ◌++◌, length, Option, Some, None, IfSome, ◌+◌}
 use Rattle.std.specs.Result.{is_ok}
 use Rattle.ucl_word.specs.Rules.{reply_of}
 use Rattle.ucl_board.specs.declared.entry.Entry.{Entry}
@@ -19,8 +19,6 @@ use Rattle.ucl_json.specs.declared.title.Title.{Title}
 use Rattle.ucl_runs.specs.Titles.{is_as_asked, is_asked}
 use Rattle.ucl_json.specs.declared.moment.Moment.{Moment}
 use Rattle.ucl_runs.specs.Follow.{follow_end, follow_text, resuming_text, whole_lines}
-use Rattle.ucl_json.specs.Told.{moment_on}
-use Rattle.ucl_io.specs.Lines.{begun_line}
 use Rattle.ucl_runs.specs.Latest.{IsLatest, IsToldIn}
 use Rattle.ucl_runs.specs.Repeats.{HasRepeats}
 use Rattle.ucl_runs.specs.Resuming.{OpensTheBoard, opened_at, resumed_row}
@@ -109,10 +107,6 @@ abbrev pub gone_on : LiveArgs → Option Moment → Evening
 gone_on options None = start_of options
 gone_on options (Some m) = opened_at options m
 
--- what has begun of a last line tells no moment, unless it lacks its end alone
-abbrev pub IsTorn : (left lost : List ℕ) → Type 0
-IsTorn left lost = (moment_on (begun_line 4097 [] left) ≡ None) ⊎ ((more : List ℕ) × (lost ≡ 10 ∷ more))
-
 -- a start in JSON that read the rows which `--resume` wrote of the journal before, and then its input, and was asked for no other group or order.
 -- Its output was cut
 pub record IsStart (before : List Start) (start : Start) : Type 0 where
@@ -121,7 +115,6 @@ pub record IsStart (before : List Start) (start : Start) : Type 0 where
   pub asked : IfSome (newest_in (journal before)) (λ m. is_as_asked start.options m.title ≡ true)
   pub lost : List ℕ
   pub cut : live_text (start_of start.options) (follow_text resume (journal before) ++ start.input) ≡ start.left ++ lost
-  pub torn : IsTorn start.left lost
 
 unfoldable pub AreStarts : List Start → Type 0
 AreStarts [] = ⊤
