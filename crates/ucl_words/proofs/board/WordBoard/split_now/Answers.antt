@@ -1,4 +1,4 @@
-use Rattle.ucl_words.proofs.Common.{rules, ◌≡◌, ap, refl, sym, subst, View, Nothing, WordView, count_of, trail_of, IsSteady, WordHasReported, StandAfterSplit, WordPass, view_of}
+use Rattle.ucl_words.proofs.Common.{arith, rules, ◌≡◌, ap, refl, sym, subst, View, Nothing, WordView, count_of, trail_of, IsSteady, WordHasReported, StandAfterSplit, WordPass, view_of}
 use Rattle.ucl_words.proofs.EnlistmentFacts.{kept_steady, second_steady, second_steps}
 use Rattle.ucl_words.proofs.board.WordBoard.split_now.Goals as goal
 
@@ -16,18 +16,7 @@ returns c =
     (second_steps c.pass.inside.seat.me.0.pass)) in
     let stands =
     subst (λ (p : WordPass). StandAfterSplit (view_of p) c.split_by-seat.new.seat.me.0 c.split_by-seat.result.me.0) c.pass.view_is c.split_by-seat.ensures.stands in
-    record {
-      own = search rules;
-      seat = search rules;
-      sound = search rules;
-      kept = search rules;
-      does = search rules;
-      given = search rules;
-      steps = steps;
-      copy = search rules;
-      nothing = search rules;
-      stands = stands;
-    }
+    search (arith, rules, steps, stands)
 
 pub invariant_of-pass : goal.invariant_of-pass
 invariant_of-pass c = subst IsReader (sym c.split_by-seat.ensures.kept) (kept_steady c.pass.inside.seat.me.0.pass c.pass.invariant.0, c.pass.invariant.1, c.pass.invariant.2, c.pass.invariant.3)
