@@ -1,11 +1,12 @@
 -- What each call of the board in one cell leaves of its passes. The pass was k and is m.
-use Rattle.std.specs.Prelude.{◌≡◌, ℕ, ◌+◌, ◌<◌, List, [], length, true, false, Result, IfOk, IfErr}
+use Rattle.std.specs.Prelude.{◌≡◌, ℕ, ◌+◌, ◌<◌, List, [], length, true, false, Result}
 use Rattle.ucl_word.specs.declared.event.EventCall.{EventCall}
 use Rattle.ucl_word.specs.declared.event.Accepted.{Accepted}
 use Rattle.ucl_word.specs.declared.refusal.Refusal.{Refusal}
 use Rattle.ucl_board.specs.declared.entry.Entry.{Entry}
 use Rattle.ucl_board.specs.declared.reading.Reading.{Reading}
-use Rattle.ucl_live_board.specs.Passes.{IsSound, Continues, AcceptedReport, RefusedReport, SharedReading, Enlistment, FullBoard, Hearing, Meeting, ReportsMore, opening_pass, split_pass}
+use Rattle.ucl_live_board.specs.LiveRecords.{LiveReported, LiveRead, LiveSplit, LiveFull, LiveHeard, LiveMet, LiveNoted}
+use Rattle.ucl_live_board.specs.Passes.{Enlistment, ReportsMore, opening_pass}
 use Rattle.ucl_live_board.specs.Views.{Noted, count_of, kept_of, pass_view_of}
 use Rattle.ucl_live_board.specs.CallSteps.{HasCopyOf, MeetingSteps}
 use Rattle.ucl_pass.specs.CellCalls.{CellHasReported, CellReport, CellEnlistment, CellReading, FinishesReport, FinishesReading}
@@ -22,9 +23,7 @@ pub record CellOpened (m : CellPass) : Type 0 where
 pub record CellReported (k : CellPass) (call : EventCall) (reply : Result Accepted Refusal) (m : CellPass) : Type 0 where
   pub own : m.board ≡ k.board
   pub seat : m.seat ≡ k.seat
-  pub always : Continues (pass_view_of k.view) (pass_view_of m.view)
-  pub accepted : IfOk reply (λ a. AcceptedReport (pass_view_of k.view) call a (pass_view_of m.view))
-  pub refused : IfErr reply (λ r. RefusedReport (pass_view_of k.view) call r (pass_view_of m.view))
+  pub says : LiveReported (pass_view_of k.view) call reply (pass_view_of m.view)
   pub reported : ReportsMore (CellHasReported k.view.own) 1 (CellHasReported m.view.own)
   pub acts : count_of k.view < count_of m.view
   pub steps : CellReport k.view call reply m.view
@@ -36,8 +35,7 @@ pub record CellReported (k : CellPass) (call : EventCall) (reply : Result Accept
 pub record CellRead (k : CellPass) (read : Reading) (m : CellPass) : Type 0 where
   pub own : m.board ≡ k.board
   pub seat : m.seat ≡ k.seat
-  pub always : Continues (pass_view_of k.view) (pass_view_of m.view)
-  pub reading : SharedReading (pass_view_of k.view) read (pass_view_of m.view)
+  pub says : LiveRead (pass_view_of k.view) read (pass_view_of m.view)
   pub reported : ReportsMore (CellHasReported k.view.own) 0 (CellHasReported m.view.own)
   pub version : read.version ≡ length m.view.seen
   pub acts : count_of m.view ≡ count_of k.view + 1
@@ -50,9 +48,8 @@ pub record CellRead (k : CellPass) (read : Reading) (m : CellPass) : Type 0 wher
 pub record CellSplit (k m n : CellPass) : Type 0 where
   pub own : (m.board ≡ k.board) × (n.board ≡ k.board)
   pub seat : m.seat ≡ k.seat
-  pub sound : IsSound (pass_view_of k.view)
+  pub says : LiveSplit (pass_view_of k.view) (pass_view_of m.view) (pass_view_of n.view)
   pub kept : m.view ≡ kept_of k.view
-  pub given : pass_view_of n.view ≡ split_pass (pass_view_of k.view)
   pub acts : count_of n.view ≡ count_of k.view
   pub steps : HasCopyOf n.view k.view
   pub does : KeepsCalls k m
@@ -75,8 +72,7 @@ pub record CellEnlisted (k m : CellPass) : Type 0 where
 pub record CellFull (k m : CellPass) : Type 0 where
   pub own : m.board ≡ k.board
   pub seat : m.seat ≡ k.seat
-  pub always : Continues (pass_view_of k.view) (pass_view_of m.view)
-  pub full : FullBoard (pass_view_of k.view) (pass_view_of m.view)
+  pub says : LiveFull (pass_view_of k.view) (pass_view_of m.view)
   pub acts : count_of k.view < count_of m.view
   pub steps : CellEnlistment k.view false m.view
   pub does : KeepsCalls k m
@@ -87,8 +83,7 @@ pub record CellFull (k m : CellPass) : Type 0 where
 pub record CellHeard (noted : List Entry) (k m : CellPass) : Type 0 where
   pub own : m.board ≡ k.board
   pub seat : m.seat ≡ k.seat
-  pub always : Continues (pass_view_of k.view) (pass_view_of m.view)
-  pub heard : Hearing noted (pass_view_of k.view) (pass_view_of m.view)
+  pub says : LiveHeard noted (pass_view_of k.view) (pass_view_of m.view)
   pub reported : ReportsMore (CellHasReported k.view.own) 0 (CellHasReported m.view.own)
   pub acts : count_of m.view ≡ count_of k.view + 1
   pub steps : MeetingSteps k.view m.view
@@ -100,10 +95,8 @@ pub record CellHeard (noted : List Entry) (k m : CellPass) : Type 0 where
 pub record CellMet (a b k m : CellPass) : Type 0 where
   pub own : (b.board ≡ a.board) × (m.board ≡ k.board)
   pub seat : m.seat ≡ k.seat
-  pub sound : IsSound (pass_view_of a.view)
-  pub always : Continues (pass_view_of k.view) (pass_view_of m.view)
+  pub says : LiveMet (pass_view_of a.view) (pass_view_of b.view) (pass_view_of k.view) (pass_view_of m.view)
   pub unchanged : b ≡ a
-  pub meeting : Meeting (pass_view_of a.view) (pass_view_of k.view) (pass_view_of m.view)
   pub reported : ReportsMore (CellHasReported a.view.own) 0 (CellHasReported b.view.own) × ReportsMore (CellHasReported k.view.own) 0 (CellHasReported m.view.own)
   pub acts : count_of m.view ≡ count_of k.view + 1
   pub steps : MeetingSteps k.view m.view
@@ -114,7 +107,6 @@ pub record CellMet (a b k m : CellPass) : Type 0 where
 -- the pass gave this note of all that it has seen
 pub record CellNoted (k m : CellPass) (note : Noted) : Type 0 where
   pub own : (m.board ≡ k.board) × (note.board ≡ k.board)
-  pub sound : IsSound (pass_view_of k.view)
+  pub says : LiveNoted (pass_view_of k.view) (pass_view_of m.view) note.seen
   pub unchanged : m ≡ k
-  pub seen : note.seen ≡ k.view.seen
   pub reported : ReportsMore (CellHasReported k.view.own) 0 (CellHasReported m.view.own)

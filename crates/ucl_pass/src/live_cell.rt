@@ -1,6 +1,6 @@
 //! The board in one cell is a live board.
 
-ghost use Rattle.std.specs.Prelude.{◌≡◌, ◌+◌, ◌<◌, MatchResult};
+ghost use Rattle.std.specs.Prelude.{◌≡◌, MatchResult};
 ghost use Rattle.ucl_live_board.specs.Passes.{reporter_figures};
 ghost use Rattle.ucl_live_board.specs.Views.{pass_view_of};
 ghost use Rattle.ucl_pass.specs.CellRecords.{CellReported, CellRead, CellSplit, CellEnlisted, CellFull, CellMet, CellNoted, CellHeard};

@@ -1,5 +1,5 @@
 -- What each call of the word board leaves of its passes. The pass was k and is m.
-use Rattle.std.specs.Prelude.{◌≡◌, ◌+◌, ◌≤◌, List, [], None, Some, Result, IfOk, IfErr}
+use Rattle.std.specs.Prelude.{◌≡◌, ◌+◌, ◌≤◌, List, [], None, Some, Result}
 use Rattle.ucl_word.specs.declared.event.EventCall.{EventCall}
 use Rattle.ucl_word.specs.declared.event.Accepted.{Accepted}
 use Rattle.ucl_word.specs.declared.refusal.Refusal.{Refusal}
@@ -9,7 +9,8 @@ use Rattle.ucl_steps.specs.declared.step.Call.TheVariants as calls
 use Rattle.ucl_steps.specs.declared.trace.Reply.TheVariants as replies
 use Rattle.ucl_steps.specs.Protocol.{nothing_done, report_reply}
 use Rattle.ucl_steps.specs.Trails.{most_loads}
-use Rattle.ucl_live_board.specs.Passes.{IsSound, Continues, AcceptedReport, RefusedReport, SharedReading, Enlistment, FullBoard, Hearing, Meeting, ReportsMore, opening_pass, split_pass}
+use Rattle.ucl_live_board.specs.LiveRecords.{LiveReported, LiveRead, LiveSplit, LiveFull, LiveHeard, LiveMet, LiveNoted}
+use Rattle.ucl_live_board.specs.Passes.{Enlistment, ReportsMore, opening_pass}
 use Rattle.ucl_live_board.specs.Views.{Noted, count_of, kept_of, pass_view_of, trail_of}
 use Rattle.ucl_live_board.specs.CallSteps.{HasCopyOf, MeetingSteps}
 use Rattle.ucl_words.specs.WordCalls.{EnlistTries, KeepsTrail, ReportSteps, ReadingSteps}
@@ -27,9 +28,7 @@ pub record WordOpened (m : WordPass) : Type 0 where
 pub record WordReported (k : WordPass) (call : EventCall) (reply : Result Accepted Refusal) (m : WordPass) : Type 0 where
   pub own : m.board ≡ k.board
   pub seat : m.seat ≡ k.seat
-  pub always : Continues (pass_view_of k.view) (pass_view_of m.view)
-  pub accepted : IfOk reply (λ a. AcceptedReport (pass_view_of k.view) call a (pass_view_of m.view))
-  pub refused : IfErr reply (λ r. RefusedReport (pass_view_of k.view) call r (pass_view_of m.view))
+  pub says : LiveReported (pass_view_of k.view) call reply (pass_view_of m.view)
   pub reported : ReportsMore (WordHasReported k.doing) 1 (WordHasReported m.doing)
   pub steps : ReportSteps k.view call reply m.view
   pub answers : AnswersCall (view_of k) (calls.Event call) (report_reply reply) (view_of m)
@@ -41,8 +40,7 @@ pub record WordReported (k : WordPass) (call : EventCall) (reply : Result Accept
 pub record WordRead (k : WordPass) (read : Reading) (m : WordPass) : Type 0 where
   pub own : m.board ≡ k.board
   pub seat : m.seat ≡ k.seat
-  pub always : Continues (pass_view_of k.view) (pass_view_of m.view)
-  pub reading : SharedReading (pass_view_of k.view) read (pass_view_of m.view)
+  pub says : LiveRead (pass_view_of k.view) read (pass_view_of m.view)
   pub reported : ReportsMore (WordHasReported k.doing) 0 (WordHasReported m.doing)
   pub steps : ReadingSteps k.view read m.view
   pub answers : AnswersCall (view_of k) calls.Reading (replies.Copied read) (view_of m)
@@ -55,10 +53,9 @@ pub record WordRead (k : WordPass) (read : Reading) (m : WordPass) : Type 0 wher
 pub record WordSplit (k m n : WordPass) : Type 0 where
   pub own : (m.board ≡ k.board) × (n.board ≡ k.board)
   pub seat : m.seat ≡ k.seat
-  pub sound : IsSound (pass_view_of k.view)
+  pub says : LiveSplit (pass_view_of k.view) (pass_view_of m.view) (pass_view_of n.view)
   pub kept : m.view ≡ kept_of k.view
   pub does : m.doing ≡ k.doing
-  pub given : pass_view_of n.view ≡ split_pass (pass_view_of k.view)
   pub steps : (count_of n.view ≡ count_of k.view) × (trail_of n.view ≡ trail_of k.view)
   pub copy : HasCopyOf n.view k.view
   pub nothing : n.doing ≡ nothing_done
@@ -80,8 +77,7 @@ pub record WordEnlisted (k m : WordPass) : Type 0 where
 pub record WordFull (k m : WordPass) : Type 0 where
   pub own : m.board ≡ k.board
   pub seat : m.seat ≡ k.seat
-  pub always : Continues (pass_view_of k.view) (pass_view_of m.view)
-  pub full : FullBoard (pass_view_of k.view) (pass_view_of m.view)
+  pub says : LiveFull (pass_view_of k.view) (pass_view_of m.view)
   pub trail : KeepsTrail k.view m.view
   pub tries : EnlistTries k.view None m.view
   pub does : m.doing ≡ k.doing
@@ -92,8 +88,7 @@ pub record WordFull (k m : WordPass) : Type 0 where
 pub record WordHeard (noted : List Entry) (k m : WordPass) : Type 0 where
   pub own : m.board ≡ k.board
   pub seat : m.seat ≡ k.seat
-  pub always : Continues (pass_view_of k.view) (pass_view_of m.view)
-  pub heard : Hearing noted (pass_view_of k.view) (pass_view_of m.view)
+  pub says : LiveHeard noted (pass_view_of k.view) (pass_view_of m.view)
   pub reported : ReportsMore (WordHasReported k.doing) 0 (WordHasReported m.doing)
   pub trail : KeepsTrail k.view m.view
   pub does : m.doing ≡ k.doing
@@ -105,10 +100,8 @@ pub record WordHeard (noted : List Entry) (k m : WordPass) : Type 0 where
 pub record WordMet (a b k m : WordPass) : Type 0 where
   pub own : (b.board ≡ a.board) × (m.board ≡ k.board)
   pub seat : m.seat ≡ k.seat
-  pub sound : IsSound (pass_view_of a.view)
-  pub always : Continues (pass_view_of k.view) (pass_view_of m.view)
+  pub says : LiveMet (pass_view_of a.view) (pass_view_of b.view) (pass_view_of k.view) (pass_view_of m.view)
   pub unchanged : b ≡ a
-  pub meeting : Meeting (pass_view_of a.view) (pass_view_of k.view) (pass_view_of m.view)
   pub reported : ReportsMore (WordHasReported a.doing) 0 (WordHasReported b.doing) × ReportsMore (WordHasReported k.doing) 0 (WordHasReported m.doing)
   pub trail : KeepsTrail k.view m.view
   pub does : m.doing ≡ k.doing
@@ -119,7 +112,6 @@ pub record WordMet (a b k m : WordPass) : Type 0 where
 -- the pass gave this note of all that it has seen
 pub record WordNoted (k m : WordPass) (note : Noted) : Type 0 where
   pub own : (m.board ≡ k.board) × (note.board ≡ k.board)
-  pub sound : IsSound (pass_view_of k.view)
+  pub says : LiveNoted (pass_view_of k.view) (pass_view_of m.view) note.seen
   pub unchanged : m ≡ k
-  pub seen : note.seen ≡ k.view.seen
   pub reported : ReportsMore (WordHasReported k.doing) 0 (WordHasReported m.doing)

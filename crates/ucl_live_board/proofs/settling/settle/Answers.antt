@@ -13,8 +13,8 @@ returns-else-ne-clause-always g c = search (arith, unchanged, through)
 pub returns-then-from-accepted-clause-of_both : goal.returns-then-from-accepted-clause-of_both
 returns-then-from-accepted-clause-of_both g c =
     let k = g.B.LiveBoard.reporter in
-    let m = c.meet.ensures in
-    let r = c.read_own-reading.ensures in
+    let m = c.meet.ensures.says in
+    let r = c.read_own-reading.ensures.says in
     of_both (k c.args.first.now) (k c.args.second.now) (k c.meet.new.first) (k c.meet.new.second) (k c.read_own-reading.new.pass) c.read_own-reading.result
     m.unchanged m.meeting m.always r.always r.reading m.sound c.number_of.result c.number_of-2.result c.accepted_of.result c.accepted_of-2.result c.number_of.ensures c.number_of-2.ensures
     c.accepted_of.ensures c.accepted_of-2.ensures
@@ -28,10 +28,10 @@ pub returns-else-ne-clause-strangers : goal.returns-else-ne-clause-strangers
 returns-else-ne-clause-strangers g c ne = search (arith, else-ne-via-then-ne+else-from-accepted, else-ne-via-else-ne, one_number, strangers)
 
 pub returns-then-from-accepted-clause-shown : goal.returns-then-from-accepted-clause-shown
-returns-then-from-accepted-clause-shown g c = let r = c.read_own-reading in r.ensures.reading.shown ∙ ap (λ (shown : List ℕ). shown ++ r.result.version ∷ []) c.meet.ensures.meeting.shown
+returns-then-from-accepted-clause-shown g c = let r = c.read_own-reading in r.ensures.says.reading.shown ∙ ap (λ (shown : List ℕ). shown ++ r.result.version ∷ []) c.meet.ensures.says.meeting.shown
 
 pub returns-else-ne-clause-shown : goal.returns-else-ne-clause-shown
-returns-else-ne-clause-shown g c = let r = c.read_own-reading in r.ensures.reading.shown ∙ ap (λ (shown : List ℕ). shown ++ r.result.version ∷ []) c.meet.ensures.meeting.shown
+returns-else-ne-clause-shown g c = let r = c.read_own-reading in r.ensures.says.reading.shown ∙ ap (λ (shown : List ℕ). shown ++ r.result.version ∷ []) c.meet.ensures.says.meeting.shown
 
 pub returns-then-from-accepted-clause-settled : goal.returns-then-from-accepted-clause-settled
 returns-then-from-accepted-clause-settled g c = search (arith, settled)

@@ -53,8 +53,8 @@ returns-clause-since g c =
     let d = g.B.LiveBoard.reporter c.settle.new.second in
     let settled = c.in_ok-settled.ensures.settled in
     let version = c.in_ok-settled.settled.version in
-    let halved = c.split-reader_2.ensures.kept ∙ ap kept_pass (c.split-reader_1.ensures.kept ∙ ap kept_pass c.split-reporter_2.ensures.kept) in
-    let enlisted = subst (λ (k : PassView). IsPrefix k.seen one.seen) halved c.in_ok-enlist.ensures.enlisted.on.seen in
+    let halved = c.split-reader_2.ensures.says.kept ∙ ap kept_pass (c.split-reader_1.ensures.says.kept ∙ ap kept_pass c.split-reporter_2.ensures.says.kept) in
+    let enlisted = subst (λ (k : PassView). IsPrefix k.seen one.seen) halved c.in_ok-enlist.ensures.says.on.seen in
     begins_through lent.seen one.seen (take version d.seen) enlisted (begins_through one.seen a.seen (take version d.seen)
     c.in_ok-reporter_1.ensures.reporter_1.1.always.on.seen (begins_take a.seen d.seen version settled.first settled.low_first))
 
@@ -62,7 +62,7 @@ pub returns-clause-shown_1 : goal.returns-clause-shown_1
 returns-clause-shown_1 g c =
     let back = c.in_ok-reader_1.reader_1 in
     let style = styled c.args.profile c.args.night.now.roster c.args.group in
-    let off = c.split-reader_1.ensures.given ∙ ap split_pass c.split-reporter_2.ensures.kept in
+    let off = c.split-reader_1.ensures.says.given ∙ ap split_pass c.split-reporter_2.ensures.says.kept in
     subst (λ (k : PassView). HasShown style k (g.B.LiveBoard.reader back.pass) c.args.readings (option_map string_bytes back.last)) off
     (rw c.in_ok-reader_1.was at c.in_ok-reporter_1.ensures.reader_1).1
 
@@ -70,7 +70,7 @@ pub returns-clause-shown_2 : goal.returns-clause-shown_2
 returns-clause-shown_2 g c =
     let back = c.in_ok-reader_2.reader_2 in
     let style = styled c.args.profile c.args.night.now.roster c.args.group in
-    let off = c.split-reader_2.ensures.given ∙ ap split_pass (c.split-reader_1.ensures.kept ∙ ap kept_pass c.split-reporter_2.ensures.kept) in
+    let off = c.split-reader_2.ensures.says.given ∙ ap split_pass (c.split-reader_1.ensures.says.kept ∙ ap kept_pass c.split-reporter_2.ensures.says.kept) in
     subst (λ (k : PassView). HasShown style k (g.B.LiveBoard.reader back.pass) c.args.readings (option_map string_bytes back.last)) off
     (rw c.in_ok-reader_2.was at c.in_ok-reporter_1.ensures.reader_2).1
 
@@ -93,20 +93,20 @@ returns-clause-shares g c =
     let worked = c.in_ok-reporter_1.ensures in
     let settling = c.in_ok-settled.ensures in
     let share = λ (k : PassView). k.share in
-    let halved = c.split-reader_2.ensures.kept ∙ ap kept_pass (c.split-reader_1.ensures.kept ∙ ap kept_pass c.split-reporter_2.ensures.kept) in
+    let halved = c.split-reader_2.ensures.says.kept ∙ ap kept_pass (c.split-reader_1.ensures.says.kept ∙ ap kept_pass c.split-reporter_2.ensures.says.kept) in
     record {
-      reporter_2 = settling.always.1.on.share ∙ (worked.reporter_2.1.always.on.share ∙ (c.in_ok-enlist-2.ensures.enlisted.on.share ∙ ap share c.split-reporter_2.ensures.given));
+      reporter_2 = settling.always.1.on.share ∙ (worked.reporter_2.1.always.on.share ∙ (c.in_ok-enlist-2.ensures.says.on.share ∙ ap share c.split-reporter_2.ensures.says.given));
       reader_1 = (returns-clause-shown_1 g c).on.share;
       reader_2 = (returns-clause-shown_2 g c).on.share;
-      reporter_1 = settling.always.0.on.share ∙ (worked.reporter_1.1.always.on.share ∙ (c.in_ok-enlist.ensures.enlisted.on.share ∙ ap share halved));
+      reporter_1 = settling.always.0.on.share ∙ (worked.reporter_1.1.always.on.share ∙ (c.in_ok-enlist.ensures.says.on.share ∙ ap share halved));
     }
 
 pub returns-clause-readings : goal.returns-clause-readings
 returns-clause-readings g c =
     let worked = c.in_ok-reporter_1.ensures in
     let settling = c.in_ok-settled.ensures in
-    let one = c.in_ok-enlist.ensures.enlisted in
-    let two = c.in_ok-enlist-2.ensures.enlisted in
+    let one = c.in_ok-enlist.ensures.says in
+    let two = c.in_ok-enlist-2.ensures.says in
     let before = worked.reporter_2.1.shown ∙ two.shown in (
       ap (λ (k : PassView). k.shown) settling.unchanged ∙ (worked.reporter_1.1.shown ∙ one.shown),
       settling.shown ∙ ap (λ (shown : List ℕ). shown ++ c.in_ok-settled.settled.version ∷ []) before,
@@ -127,8 +127,8 @@ returns-in_err-settled-clause-kinds g c =
       first = back.reporter_1;
       second = back.reporter_2;
       last = c.settle.new.second;
-      entered_1 = record { own = worked.reporter_1.0; before = _; fresh = (c.in_ok-enlist.ensures.enlisted.sound, c.in_ok-enlist.ensures.enlisted.mine); entered = worked.reporter_1.1 };
-      entered_2 = record { own = worked.reporter_2.0; before = _; fresh = (c.in_ok-enlist-2.ensures.enlisted.sound, c.in_ok-enlist-2.ensures.enlisted.mine); entered = worked.reporter_2.1 };
+      entered_1 = record { own = worked.reporter_1.0; before = _; fresh = (c.in_ok-enlist.ensures.says.sound, c.in_ok-enlist.ensures.says.mine); entered = worked.reporter_1.1 };
+      entered_2 = record { own = worked.reporter_2.0; before = _; fresh = (c.in_ok-enlist-2.ensures.says.sound, c.in_ok-enlist-2.ensures.says.mine); entered = worked.reporter_2.1 };
       own = settling.own.1;
       high = settled.high;
       met_1 = begins_take first.seen last.seen _ settled.first settled.low_first;
