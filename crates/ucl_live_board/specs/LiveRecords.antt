@@ -1,4 +1,5 @@
--- What each call on any shared board says of its passes. The pass was k and is m.
+-- What each call on any shared board says of its passes, in one record.
+-- The pass was k and is m.
 use Rattle.std.specs.Prelude.{◌≡◌, List, Result, IfOk, IfErr}
 use Rattle.ucl_word.specs.declared.event.EventCall.{EventCall}
 use Rattle.ucl_word.specs.declared.event.Accepted.{Accepted}

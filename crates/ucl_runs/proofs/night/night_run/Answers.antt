@@ -17,7 +17,7 @@ returns-clause-merge g c =
     let rows = c.args.night.now.events.items in
     let back = c.in_ok-reporter_1.field-0 in
     let worked = c.in_ok-reporter_1.ensures in
-    let settling = c.in_ok-settled.ensures in
+    let settling = c.in_ok-settled.ensures.says in
     merged_by_settlers (known c.in_ok-enlist.field-0) (known c.in_ok-enlist-2.field-0) (known back.reporter_1) (known back.reporter_2)
     (known c.settle.new.first) (known c.settle.new.second) rows c.in_ok-settled.settled.version worked.reporter_1.1 worked.reporter_2.1
     settling.always.0 settling.always.1 (settling.exactly.0 refl).0
@@ -28,11 +28,11 @@ returns-clause-board g c one =
     let known = g.B.LiveBoard.reporter in
     let d = known c.settle.new.second in
     night_board_read (number_of_two (known c.settle.new.first).number d.number) c.args.night.now.events.items d.seen
-    c.in_ok-settled.settled.version c.in_ok-settled.settled (returns-clause-merge g c) one c.in_ok-settled.ensures.reading
+    c.in_ok-settled.settled.version c.in_ok-settled.settled (returns-clause-merge g c) one c.in_ok-settled.ensures.says.reading
 
 pub returns-clause-count : goal.returns-clause-count
 returns-clause-count g c =
-    let settling = c.in_ok-settled.ensures in
+    let settling = c.in_ok-settled.ensures.says in
     (settling.settled.high, rw (settling.settled.mine_first, settling.settled.mine_second) (sym (settling.exactly.0 refl).1))
 
 pub returns-clause-beginning : goal.returns-clause-beginning
@@ -40,7 +40,7 @@ returns-clause-beginning g c =
     let known = g.B.LiveBoard.reporter in
     let a = known c.in_ok-reporter_1.field-0.reporter_1 in
     let d = known c.settle.new.second in
-    let settling = c.in_ok-settled.ensures in
+    let settling = c.in_ok-settled.ensures.says in
     let version = c.in_ok-settled.settled.version in
     subst (λ (k : PassView). IsPrefix k.seen (night_history d version)) (sym settling.unchanged)
     (begins_take a.seen d.seen version settling.settled.first settling.settled.low_first)
@@ -51,7 +51,7 @@ returns-clause-since g c =
     let one = g.B.LiveBoard.reporter c.in_ok-enlist.field-0 in
     let a = g.B.LiveBoard.reporter c.in_ok-reporter_1.field-0.reporter_1 in
     let d = g.B.LiveBoard.reporter c.settle.new.second in
-    let settled = c.in_ok-settled.ensures.settled in
+    let settled = c.in_ok-settled.ensures.says.settled in
     let version = c.in_ok-settled.settled.version in
     let halved = c.split-reader_2.ensures.says.kept ∙ ap kept_pass (c.split-reader_1.ensures.says.kept ∙ ap kept_pass c.split-reporter_2.ensures.says.kept) in
     let enlisted = subst (λ (k : PassView). IsPrefix k.seen one.seen) halved c.in_ok-enlist.ensures.says.on.seen in
@@ -91,7 +91,7 @@ returns-clause-reports g c =
 pub returns-clause-shares : goal.returns-clause-shares
 returns-clause-shares g c =
     let worked = c.in_ok-reporter_1.ensures in
-    let settling = c.in_ok-settled.ensures in
+    let settling = c.in_ok-settled.ensures.says in
     let share = λ (k : PassView). k.share in
     let halved = c.split-reader_2.ensures.says.kept ∙ ap kept_pass (c.split-reader_1.ensures.says.kept ∙ ap kept_pass c.split-reporter_2.ensures.says.kept) in
     record {
@@ -104,7 +104,7 @@ returns-clause-shares g c =
 pub returns-clause-readings : goal.returns-clause-readings
 returns-clause-readings g c =
     let worked = c.in_ok-reporter_1.ensures in
-    let settling = c.in_ok-settled.ensures in
+    let settling = c.in_ok-settled.ensures.says in
     let one = c.in_ok-enlist.ensures.says in
     let two = c.in_ok-enlist-2.ensures.says in
     let before = worked.reporter_2.1.shown ∙ two.shown in (
@@ -120,7 +120,7 @@ returns-in_err-settled-clause-kinds g c =
     let first = known back.reporter_1 in
     let second = known back.reporter_2 in
     let last = known c.settle.new.second in
-    let settling = c.in_err-settled.ensures in
+    let settling = c.in_err-settled.ensures.says in
     let settled = settling.settled in
     let told = err_from_is_err_and c.from_residual-in_err-settled.result c.from_residual-in_err-settled.ensures.1 in
     rw (told.1, told.2) (record {
@@ -129,7 +129,7 @@ returns-in_err-settled-clause-kinds g c =
       last = c.settle.new.second;
       entered_1 = record { own = worked.reporter_1.0; before = _; fresh = (c.in_ok-enlist.ensures.says.sound, c.in_ok-enlist.ensures.says.mine); entered = worked.reporter_1.1 };
       entered_2 = record { own = worked.reporter_2.0; before = _; fresh = (c.in_ok-enlist-2.ensures.says.sound, c.in_ok-enlist-2.ensures.says.mine); entered = worked.reporter_2.1 };
-      own = settling.own.1;
+      own = c.in_err-settled.ensures.own.1;
       high = settled.high;
       met_1 = begins_take first.seen last.seen _ settled.first settled.low_first;
       met_2 = begins_take second.seen last.seen _ settled.second settled.low_second;
