@@ -62,7 +62,7 @@ pub record LastIs (version : ℕ) (versions : List ℕ) : Type 0 where
 
 -- what is known of the passes of reporters
 abbrev pub views_of : {B R P S W : Type 0} → boards.Ghosts B R P → List (ReporterEnd P S W) → List PassView
-views_of {B} {R} {P} {N} {S} {W} live ends = map (λ (end : ReporterEnd P S W). live.reporter end.pass) ends
+views_of {B} {R} {P} {S} {W} live ends = map (λ (end : ReporterEnd P S W). live.reporter end.pass) ends
 
 -- a pass that entered events before was handed back: it is of the board, and as it was
 pub record IsHandedBack {B R P : Type 0} (live : boards.Ghosts B R P) (board : B) (old new : P) : Type 0 where
@@ -78,19 +78,19 @@ WereSplitOff share [] left = left ≡ share
 WereSplitOff share (part ∷ parts) left = (part ≡ second_half share) × WereSplitOff (first_half share) parts left
 
 abbrev pub shares_of : {B R P : Type 0} → boards.Ghosts B R P → List P → List Share
-shares_of {B} {R} {P} {N} live passes = map (λ (pass : P). (live.reporter pass).share) passes
+shares_of {B} {R} {P} live passes = map (λ (pass : P). (live.reporter pass).share) passes
 
 abbrev pub shares_enlisted : {B R P S W : Type 0} → boards.Ghosts B R P → List (Enlisted P S W) → List Share
-shares_enlisted {B} {R} {P} {N} {S} {W} live all = map (λ (enlisted : Enlisted P S W). (live.reporter enlisted.pass).share) all
+shares_enlisted {B} {R} {P} {S} {W} live all = map (λ (enlisted : Enlisted P S W). (live.reporter enlisted.pass).share) all
 
 abbrev pub shares_looking : {B R P X : Type 0} → boards.Ghosts B R P → List (Looking R X) → List Share
-shares_looking {B} {R} {P} {N} {X} live all = map (λ (looking : Looking R X). (live.reader looking.pass).share) all
+shares_looking {B} {R} {P} {X} live all = map (λ (looking : Looking R X). (live.reader looking.pass).share) all
 
 abbrev pub shares_of_reporters : {B R P S W : Type 0} → boards.Ghosts B R P → List (ReporterEnd P S W) → List Share
-shares_of_reporters {B} {R} {P} {N} {S} {W} live ends = map (λ (end : ReporterEnd P S W). (live.reporter end.pass).share) ends
+shares_of_reporters {B} {R} {P} {S} {W} live ends = map (λ (end : ReporterEnd P S W). (live.reporter end.pass).share) ends
 
 abbrev pub shares_of_screens : {B R P X : Type 0} → boards.Ghosts B R P → List (ScreenEnd R X) → List Share
-shares_of_screens {B} {R} {P} {N} {X} live ends = map (λ (end : ScreenEnd R X). (live.reader end.pass).share) ends
+shares_of_screens {B} {R} {P} {X} live ends = map (λ (end : ScreenEnd R X). (live.reader end.pass).share) ends
 
 -- ---- reporters
 

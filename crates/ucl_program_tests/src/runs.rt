@@ -1,5 +1,6 @@
 //! Texts, statuses, and runs over memory in place of the standard streams.
 
+mod bare;
 mod devices;
 mod nights;
 mod told;

@@ -55,12 +55,6 @@ reported_in_all A B C more none first second = subst C (all more) (second (0 + m
     all : (more : ℕ) → 0 + more + 0 ≡ more
     all more = omega arith
 
-pub none_twice : (A B C : ℕ → Type 0) → ReportsMore A 0 B → ReportsMore B 0 C → ReportsMore A 0 C
-none_twice A B C first second n before = subst C (nothing n) (second (n + 0) (first n before))
-  where
-    nothing : (n : ℕ) → n + 0 + 0 ≡ n + 0
-    nothing n = omega arith
-
 -- a reading that was just taken is the last of its pass
 pub just_read : (m z : PassView) (reading : Reading) → SharedReading m reading z → IsReadingOf z reading
 just_read m z reading is = record { before = _; last = is.shown; high = is.high; snapshot = is.snapshot }
