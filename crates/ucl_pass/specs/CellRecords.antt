@@ -98,7 +98,8 @@ pub record CellMet (a b k m : CellPass) : Type 0 where
   pub seat : m.seat ≡ k.seat
   pub says : LiveMet (pass_view_of a.view) (pass_view_of b.view) (pass_view_of k.view) (pass_view_of m.view)
   pub unchanged : b ≡ a
-  pub reported : ReportsMore (CellHasReported a.view.own) 0 (CellHasReported b.view.own) × ReportsMore (CellHasReported k.view.own) 0 (CellHasReported m.view.own)
+  pub reported : ReportsMore (CellHasReported a.view.own) 0 (CellHasReported b.view.own)
+      × ReportsMore (CellHasReported k.view.own) 0 (CellHasReported m.view.own)
   pub acts : count_of m.view ≡ count_of k.view + 1
   pub steps : MeetingSteps k.view m.view
   pub does : KeepsCalls k m

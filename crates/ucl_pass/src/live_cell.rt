@@ -13,10 +13,10 @@ use ucl_board::Reading;
 use ucl_live_board::{LiveBoard, Notes, TooManyReporters};
 use ucl_word::{Accepted, EventCall, Refusal, ReporterNo};
 
-/// What a call leaves of its pass is one record (`CellReported` and others): what every live board says; in `steps`, which steps the call takes,
-/// each of them in the log of the board; in `acts`, how many; and by `up_to_date` the pass has then seen the whole history, up to its last
-/// step. The version that is read is the length of what the pass has then seen. The calls may wait inside the cell; an event or an enlistment
-/// is tried again, without a bound, but only where another pass changed a word of the cell between the load and the exchange.
+/// What a call says is one record (`CellReported` and others): in `says`, what every live board says; in `steps`, which steps the call
+/// takes, each of them in the log of the board; in `acts`, how many; and by `up_to_date` the pass has then seen the whole history, up to
+/// its last step. The version that is read is the length of what the pass has then seen. The calls may wait inside the cell; an event or
+/// an enlistment is tried again, without a bound, but only where another pass changed a word of the cell between the load and the exchange.
 impl LiveBoard for CellBoard {
     type ReaderPass = CellReaderPass;
 

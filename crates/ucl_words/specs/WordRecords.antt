@@ -103,7 +103,8 @@ pub record WordMet (a b k m : WordPass) : Type 0 where
   pub seat : m.seat ≡ k.seat
   pub says : LiveMet (pass_view_of a.view) (pass_view_of b.view) (pass_view_of k.view) (pass_view_of m.view)
   pub unchanged : b ≡ a
-  pub reported : ReportsMore (WordHasReported a.doing) 0 (WordHasReported b.doing) × ReportsMore (WordHasReported k.doing) 0 (WordHasReported m.doing)
+  pub reported : ReportsMore (WordHasReported a.doing) 0 (WordHasReported b.doing)
+      × ReportsMore (WordHasReported k.doing) 0 (WordHasReported m.doing)
   pub trail : KeepsTrail k.view m.view
   pub does : m.doing ≡ k.doing
   pub steps : MeetingSteps k.view m.view

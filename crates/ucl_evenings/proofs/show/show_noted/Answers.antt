@@ -18,7 +18,8 @@ show-requires-clause-few g c κs within = let a = c.requires.few.0 in let b = c.
 pub returns-clause-always : goal.returns-clause-always
 returns-clause-always g c =
     let known = g.B.LiveBoard.reader in
-    goes_on (known c.args.pass.now) (known c.hear.new.pass) (known c.read-reading.new.pass) c.hear.ensures.says.always c.read-reading.ensures.says.always
+    goes_on (known c.args.pass.now) (known c.hear.new.pass) (known c.read-reading.new.pass)
+    c.hear.ensures.says.always c.read-reading.ensures.says.always
 
 pub returns-clause-shows : goal.returns-clause-shows
 returns-clause-shows g c k old versions p =
@@ -27,6 +28,7 @@ returns-clause-shows g c k old versions p =
     let read = c.read-reading.ensures.says in
     let m = known c.hear.new.pass in
     shown_noted c.args.screen.now.options c.args.roster.now _ k (known c.args.pass.now) m (known c.read-reading.new.pass)
-    (standing c.args.screen.now) old (taken c.args.screen.now.sink) versions c.hear.ensures.says.always read.always c.read-reading.result read.reading
+    (standing c.args.screen.now) old (taken c.args.screen.now.sink) versions
+    c.hear.ensures.says.always read.always c.read-reading.result read.reading
     (begins_length _ m.seen c.hear.ensures.says.heard.met) p
     (standing c.show.new.self) (taken c.show.new.self.sink) (g.V.Sink.failed c.show.new.self.sink) c.show.result c.show.ensures.shown c.show.ensures.kept c.show.ensures.rises c.show.ensures.fails

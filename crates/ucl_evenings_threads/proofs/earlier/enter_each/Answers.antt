@@ -114,7 +114,8 @@ loop-reporter-preserved g c =
       so_far = subst (λ (p : PassView). HaveSoFar start events (map view (set passes at new)) p.seen) same
           (so_far_heard view start events passes history at old new long there number mine known.so_far);
       told = subst (λ (p : PassView). All (HasJustItsOwn p.seen) (take (at + 1) (map view (set passes at new)))) same
-          (told_next view start events passes history at old new long there c.hear_own.ensures.says.always.sound number mine met known.so_far known.told);
+          (told_next view start events passes history at old new long there
+          c.hear_own.ensures.says.always.sound number mine met known.so_far known.told);
     }
 
 pub returns-clause-shares : goal.returns-clause-shares

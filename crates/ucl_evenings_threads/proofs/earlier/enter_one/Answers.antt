@@ -7,14 +7,18 @@ pub returns-clause-entered : goal.returns-clause-entered
 returns-clause-entered g c accepted =
     let reader = g.B.LiveBoard.reader in
     let reporter = g.B.LiveBoard.reporter in
+    let told = c.hear_own.ensures.says in
+    let said = c.in-Ok.ensures.says in
+    let noted = c.note_own-after.ensures.says in
     entered_by_calls (reader c.args.pass.now) (reporter c.args.reporter.now) (reporter c.hear_own.new.pass) (reporter c.report.new.pass) (reporter c.note_own-after.new.pass)
-    (reader c.hear.new.pass) _ _ c.args.event.now _ c.note-before.ensures.says.seen c.hear_own.ensures.says.heard c.hear_own.ensures.says.always.number c.in-Ok.ensures.says.accepted
-    c.in-Ok.ensures.says.always.number c.in-Ok.ensures.says.always.sound c.note_own-after.ensures.says.unchanged c.note_own-after.ensures.says.seen c.hear.ensures.says.heard.met
+    (reader c.hear.new.pass) _ _ c.args.event.now _ c.note-before.ensures.says.seen told.heard told.always.number said.accepted
+    said.always.number said.always.sound noted.unchanged noted.seen c.hear.ensures.says.heard.met
 
 pub returns-clause-shares : goal.returns-clause-shares
 returns-clause-shares g c = (
   c.hear.ensures.says.always.on.share ∙ ap (λ (k : PassView). k.share) c.note-before.ensures.says.unchanged,
-  ap (λ (k : PassView). k.share) c.note_own-after.ensures.says.unchanged ∙ (c.report.ensures.says.always.on.share ∙ c.hear_own.ensures.says.always.on.share),
+  ap (λ (k : PassView). k.share) c.note_own-after.ensures.says.unchanged
+      ∙ (c.report.ensures.says.always.on.share ∙ c.hear_own.ensures.says.always.on.share),
 )
 
 pub returns-in_default-clause-shares : goal.returns-in_default-clause-shares

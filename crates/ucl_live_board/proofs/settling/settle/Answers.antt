@@ -18,10 +18,12 @@ returns-then-from-accepted-clause-says g c =
       exactly = search (arith, alone, differ);
       strangers = search rules;
       reading = search rules;
-      of_both = of_both (k c.args.first.now) (k c.args.second.now) (k c.meet.new.first) (k c.meet.new.second) (k c.read_own-reading.new.pass) c.read_own-reading.result
-          m.unchanged m.meeting m.always r.always r.reading m.sound c.number_of.result c.number_of-2.result c.accepted_of.result c.accepted_of-2.result
+      of_both = of_both (k c.args.first.now) (k c.args.second.now) (k c.meet.new.first) (k c.meet.new.second) (k c.read_own-reading.new.pass)
+          c.read_own-reading.result m.unchanged m.meeting m.always r.always r.reading m.sound c.number_of.result c.number_of-2.result
+          c.accepted_of.result c.accepted_of-2.result
           c.number_of.ensures c.number_of-2.ensures c.accepted_of.ensures c.accepted_of-2.ensures other
-          (let f1 = c.from.ensures in let f2 = c.from-2.ensures in let f3 = c.from-then-ne.ensures in let t = c.if-from-accepted.true in omega arith);
+          (let f1 = c.from.ensures in let f2 = c.from-2.ensures in let f3 = c.from-then-ne.ensures in
+          let t = c.if-from-accepted.true in omega arith);
     }
 
 pub returns-else-ne-clause-says : goal.returns-else-ne-clause-says

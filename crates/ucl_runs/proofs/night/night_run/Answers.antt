@@ -53,7 +53,8 @@ returns-clause-since g c =
     let d = g.B.LiveBoard.reporter c.settle.new.second in
     let settled = c.in_ok-settled.ensures.says.settled in
     let version = c.in_ok-settled.settled.version in
-    let halved = c.split-reader_2.ensures.says.kept ∙ ap kept_pass (c.split-reader_1.ensures.says.kept ∙ ap kept_pass c.split-reporter_2.ensures.says.kept) in
+    let halved = c.split-reader_2.ensures.says.kept
+    ∙ ap kept_pass (c.split-reader_1.ensures.says.kept ∙ ap kept_pass c.split-reporter_2.ensures.says.kept) in
     let enlisted = subst (λ (k : PassView). IsPrefix k.seen one.seen) halved c.in_ok-enlist.ensures.says.on.seen in
     begins_through lent.seen one.seen (take version d.seen) enlisted (begins_through one.seen a.seen (take version d.seen)
     c.in_ok-reporter_1.ensures.reporter_1.1.always.on.seen (begins_take a.seen d.seen version settled.first settled.low_first))
@@ -70,7 +71,8 @@ pub returns-clause-shown_2 : goal.returns-clause-shown_2
 returns-clause-shown_2 g c =
     let back = c.in_ok-reader_2.reader_2 in
     let style = styled c.args.profile c.args.night.now.roster c.args.group in
-    let off = c.split-reader_2.ensures.says.given ∙ ap split_pass (c.split-reader_1.ensures.says.kept ∙ ap kept_pass c.split-reporter_2.ensures.says.kept) in
+    let off = c.split-reader_2.ensures.says.given
+    ∙ ap split_pass (c.split-reader_1.ensures.says.kept ∙ ap kept_pass c.split-reporter_2.ensures.says.kept) in
     subst (λ (k : PassView). HasShown style k (g.B.LiveBoard.reader back.pass) c.args.readings (option_map string_bytes back.last)) off
     (rw c.in_ok-reader_2.was at c.in_ok-reporter_1.ensures.reader_2).1
 
@@ -93,12 +95,15 @@ returns-clause-shares g c =
     let worked = c.in_ok-reporter_1.ensures in
     let settling = c.in_ok-settled.ensures.says in
     let share = λ (k : PassView). k.share in
-    let halved = c.split-reader_2.ensures.says.kept ∙ ap kept_pass (c.split-reader_1.ensures.says.kept ∙ ap kept_pass c.split-reporter_2.ensures.says.kept) in
+    let one = c.in_ok-enlist.ensures.says in
+    let two = c.in_ok-enlist-2.ensures.says in
+    let halved = c.split-reader_2.ensures.says.kept
+    ∙ ap kept_pass (c.split-reader_1.ensures.says.kept ∙ ap kept_pass c.split-reporter_2.ensures.says.kept) in
     record {
-      reporter_2 = settling.always.1.on.share ∙ (worked.reporter_2.1.always.on.share ∙ (c.in_ok-enlist-2.ensures.says.on.share ∙ ap share c.split-reporter_2.ensures.says.given));
+      reporter_2 = settling.always.1.on.share ∙ (worked.reporter_2.1.always.on.share ∙ (two.on.share ∙ ap share c.split-reporter_2.ensures.says.given));
       reader_1 = (returns-clause-shown_1 g c).on.share;
       reader_2 = (returns-clause-shown_2 g c).on.share;
-      reporter_1 = settling.always.0.on.share ∙ (worked.reporter_1.1.always.on.share ∙ (c.in_ok-enlist.ensures.says.on.share ∙ ap share halved));
+      reporter_1 = settling.always.0.on.share ∙ (worked.reporter_1.1.always.on.share ∙ (one.on.share ∙ ap share halved));
     }
 
 pub returns-clause-readings : goal.returns-clause-readings
@@ -122,13 +127,15 @@ returns-in_err-settled-clause-kinds g c =
     let last = known c.settle.new.second in
     let settling = c.in_err-settled.ensures.says in
     let settled = settling.settled in
+    let one = c.in_ok-enlist.ensures.says in
+    let two = c.in_ok-enlist-2.ensures.says in
     let told = err_from_is_err_and c.from_residual-in_err-settled.result c.from_residual-in_err-settled.ensures.1 in
     rw (told.1, told.2) (record {
       first = back.reporter_1;
       second = back.reporter_2;
       last = c.settle.new.second;
-      entered_1 = record { own = worked.reporter_1.0; before = _; fresh = (c.in_ok-enlist.ensures.says.sound, c.in_ok-enlist.ensures.says.mine); entered = worked.reporter_1.1 };
-      entered_2 = record { own = worked.reporter_2.0; before = _; fresh = (c.in_ok-enlist-2.ensures.says.sound, c.in_ok-enlist-2.ensures.says.mine); entered = worked.reporter_2.1 };
+      entered_1 = record { own = worked.reporter_1.0; before = _; fresh = (one.sound, one.mine); entered = worked.reporter_1.1 };
+      entered_2 = record { own = worked.reporter_2.0; before = _; fresh = (two.sound, two.mine); entered = worked.reporter_2.1 };
       own = c.in_err-settled.ensures.own.1;
       high = settled.high;
       met_1 = begins_take first.seen last.seen _ settled.first settled.low_first;

@@ -50,7 +50,8 @@ returns-in-Matches-clause-answers g c =
       refl,
       same_style me.shape me.roster.now k z read.always.number,
       looked_turn (reply_style me.shape me.roster.now k) k z (live.has_reported me.pass) (live.has_reported c.read_own-reading.new.pass) (g.V.Ring.rung me.bells) c.args.row c.args.line.now
-          (sym c.input_on.ensures ∙ c.in-Matches.is) c.read_own-reading.result read.always read.reading c.read_own-reading.ensures.reported _ text,
+          (sym c.input_on.ensures ∙ c.in-Matches.is) c.read_own-reading.result read.always read.reading
+          c.read_own-reading.ensures.reported _ text,
     )) c.answer_matches.ensures.text
 
 pub returns-in-Matches-clause-stops : goal.returns-in-Matches-clause-stops
@@ -95,7 +96,8 @@ returns-in-Ok-clause-answers g c =
       same_style me.shape me.roster.now k z (then.says.always.number ∙ first.says.always.number),
       entered_turn (reply_style me.shape me.roster.now k) k m z (live.has_reported me.pass) (live.has_reported c.report.new.pass) (live.has_reported c.read_own-reading-in-Ok.new.pass) _ _
           c.args.row c.args.line.now call (sym c.input_on.ensures ∙ c.in-Event.is) reply reading
-          first.says.always first.says.accepted then.says.always then.says.reading first.reported then.reported c.ring.ensures _ (text ∙ number),
+          first.says.always first.says.accepted then.says.always then.says.reading
+          first.reported then.reported c.ring.ensures _ (text ∙ number),
     )) c.answer_event.ensures.text
 
 pub returns-in-Ok-clause-stops : goal.returns-in-Ok-clause-stops

@@ -9,5 +9,6 @@ invariant_of-result-in-None g c =
 
 pub returns-in-Some : goal.returns-in-Some
 returns-in-Some g c =
-    let reported = enlistment_counts (knows c.pass.inside.seat) (knows c.enlist_by.new.seat) true c.in-Some.ensures.given 0 c.pass.invariant.2 in
+    let reported =
+    enlistment_counts (knows c.pass.inside.seat) (knows c.enlist_by.new.seat) true c.in-Some.ensures.given 0 c.pass.invariant.2 in
     search (arith, rules, reported)

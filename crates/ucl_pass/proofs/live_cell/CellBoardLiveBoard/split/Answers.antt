@@ -15,5 +15,6 @@ invariant_of-pass g c = subst IsReader (sym (ap (λ (z : CellView). z.pass) c.sp
 pub returns : goal.returns
 returns g c =
     let stands =
-    subst (λ (p : CellPass). CellStandAfterSplit (known_of p) (cell_view c.split_seat-seat.new.seat) (cell_view c.split_seat-seat.result)) c.pass.view_is c.split_seat-seat.ensures.stands in
+    subst (λ (p : CellPass). CellStandAfterSplit (known_of p) (cell_view c.split_seat-seat.new.seat) (cell_view c.split_seat-seat.result))
+    c.pass.view_is c.split_seat-seat.ensures.stands in
     search (arith, rules, stands)

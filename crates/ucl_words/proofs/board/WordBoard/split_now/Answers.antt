@@ -15,7 +15,8 @@ returns c =
     (subst (λ (v : WordView). (count_of v.pass ≡ count_of c.pass.inside.seat.me.0.pass) × (trail_of v.pass ≡ trail_of c.pass.inside.seat.me.0.pass)) (sym c.split_by-seat.ensures.given)
     (second_steps c.pass.inside.seat.me.0.pass)) in
     let stands =
-    subst (λ (p : WordPass). StandAfterSplit (view_of p) c.split_by-seat.new.seat.me.0 c.split_by-seat.result.me.0) c.pass.view_is c.split_by-seat.ensures.stands in
+    subst (λ (p : WordPass). StandAfterSplit (view_of p) c.split_by-seat.new.seat.me.0 c.split_by-seat.result.me.0)
+    c.pass.view_is c.split_by-seat.ensures.stands in
     search (arith, rules, steps, stands)
 
 pub invariant_of-pass : goal.invariant_of-pass
