@@ -1,5 +1,6 @@
 pub mod Shares
 pub mod Passes
+pub mod LiveRecords
 pub mod Settling
 pub mod Views
 pub mod OneHistory

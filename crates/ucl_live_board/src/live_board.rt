@@ -1,7 +1,8 @@
 //! What every shared board is.
 
-ghost use Rattle.std.specs.Prelude.{◌≡◌, ℕ, IfOk, IfErr, MatchResult};
-ghost use Rattle.ucl_live_board.specs.Passes.{PassView, IsSound, Continues, ReportsMore, AcceptedReport, RefusedReport, SharedReading, kept_pass, split_pass, Enlistment, FullBoard, Meeting, reporter_figures};
+ghost use Rattle.std.specs.Prelude.{◌≡◌, ℕ, IfOk, MatchResult};
+ghost use Rattle.ucl_live_board.specs.LiveRecords.{LiveReported, LiveRead, LiveSplit, LiveFull, LiveMet};
+ghost use Rattle.ucl_live_board.specs.Passes.{PassView, ReportsMore, Enlistment, reporter_figures};
 
 use crate::errors::TooManyReporters;
 use std::sync::Wait;
@@ -58,11 +59,7 @@ pub trait LiveBoard: Sync {
     ) -> Result<Accepted, Refusal>
         requires { is_reporter self.now pass.old }
         ensures own { is_reporter self.now pass.new }
-        ensures always { Continues (reporter pass.old) (reporter pass.new) }
-        ensures accepted { IfOk result
-            (λ reply. AcceptedReport (reporter pass.old) call.now reply (reporter pass.new)) }
-        ensures refused { IfErr result
-            (λ refusal. RefusedReport (reporter pass.old) call.now refusal (reporter pass.new)) }
+        ensures says { LiveReported (reporter pass.old) call.now result (reporter pass.new) }
         ensures reported { ReportsMore (has_reported pass.old) 1 (has_reported pass.new) };
 
     /// The board after a prefix of the history that has all that the pass had seen, and its version.
@@ -76,8 +73,7 @@ pub trait LiveBoard: Sync {
     fn read<R: Wait>(&self, rt: &R, pass: &mut Self::ReaderPass) -> Reading
         requires { is_reader self.now pass.old }
         ensures own { is_reader self.now pass.new }
-        ensures always { Continues (reader pass.old) (reader pass.new) }
-        ensures reading { SharedReading (reader pass.old) result (reader pass.new) };
+        ensures says { LiveRead (reader pass.old) result (reader pass.new) };
 
     /// The same for a reporter.
     ///
@@ -96,8 +92,7 @@ pub trait LiveBoard: Sync {
     fn read_own<R: Wait>(&self, rt: &R, pass: &mut Self::ReporterPass) -> Reading
         requires { is_reporter self.now pass.old }
         ensures own { is_reporter self.now pass.new }
-        ensures always { Continues (reporter pass.old) (reporter pass.new) }
-        ensures reading { SharedReading (reporter pass.old) result (reporter pass.new) }
+        ensures says { LiveRead (reporter pass.old) result (reporter pass.new) }
         ensures reported { ReportsMore (has_reported pass.old) 0 (has_reported pass.new) };
 
     /// A second pass, which has seen as much as the lent one, for another thread.
@@ -111,9 +106,7 @@ pub trait LiveBoard: Sync {
     fn split<R: Wait>(&self, rt: &R, pass: &mut Self::ReaderPass) -> Self::ReaderPass
         requires { is_reader self.now pass.old }
         ensures own { is_reader self.now pass.new × is_reader self.now result }
-        ensures sound { IsSound (reader pass.old) }
-        ensures kept { reader pass.new ≡ kept_pass (reader pass.old) }
-        ensures given { reader result ≡ split_pass (reader pass.old) };
+        ensures says { LiveSplit (reader pass.old) (reader pass.new) (reader result) };
 
     /// Makes a reader a reporter, under a number of its own. Where 255 are enlisted the answer is 30 with the pass, which may have
     /// seen more.
@@ -134,9 +127,9 @@ pub trait LiveBoard: Sync {
         requires { is_reader self.now pass }
         ensures own { MatchResult result (λ enlisted. is_reporter self.now enlisted)
             (λ full. is_reader self.now full.0) }
-        ensures enlisted { IfOk result (λ enlisted. Enlistment (reader pass) (reporter enlisted)) }
-        ensures always { IfErr result (λ full. Continues (reader pass) (reader full.0)) }
-        ensures full { IfErr result (λ full. FullBoard (reader pass) (reader full.0)) }
+        ensures says { MatchResult result
+            (λ enlisted. Enlistment (reader pass) (reporter enlisted))
+            (λ full. LiveFull (reader pass) (reader full.0)) }
         ensures reported { IfOk result (λ enlisted. has_reported enlisted 0) };
 
     /// Afterwards the second pass has seen all that either had seen. The first is as it was.
@@ -152,10 +145,8 @@ pub trait LiveBoard: Sync {
     fn meet<R: Wait>(&self, rt: &R, first: &mut Self::ReporterPass, second: &mut Self::ReporterPass)
         requires { is_reporter self.now first.old × is_reporter self.now second.old }
         ensures own { is_reporter self.now first.new × is_reporter self.now second.new }
-        ensures sound { IsSound (reporter first.old) }
-        ensures always { Continues (reporter second.old) (reporter second.new) }
-        ensures unchanged { reporter first.new ≡ reporter first.old }
-        ensures meeting { Meeting (reporter first.old) (reporter second.old) (reporter second.new) }
+        ensures says { LiveMet (reporter first.old) (reporter first.new) (reporter second.old)
+            (reporter second.new) }
         ensures reported { ReportsMore (has_reported first.old) 0 (has_reported first.new)
             × ReportsMore (has_reported second.old) 0 (has_reported second.new) };
 

@@ -1,8 +1,9 @@
 //! What the passes of a live board tell one another, also from thread to thread.
 
-ghost use Rattle.std.specs.Prelude.{◌≡◌, List};
+ghost use Rattle.std.specs.Prelude.{List};
 ghost use Rattle.ucl_board.specs.declared.entry.Entry.{Entry};
-ghost use Rattle.ucl_live_board.specs.Passes.{IsSound, Continues, ReportsMore, Hearing, Meeting};
+ghost use Rattle.ucl_live_board.specs.LiveRecords.{LiveMet, LiveNoted, LiveHeard};
+ghost use Rattle.ucl_live_board.specs.Passes.{ReportsMore};
 
 use crate::live_board::LiveBoard;
 use std::sync::Wait;
@@ -38,11 +39,8 @@ pub trait Notes: LiveBoard {
     )
         requires { Self.is_reader self.now first.old × Self.is_reporter self.now second.old }
         ensures own { Self.is_reader self.now first.new × Self.is_reporter self.now second.new }
-        ensures sound { IsSound (Self.reader first.old) }
-        ensures always { Continues (Self.reporter second.old) (Self.reporter second.new) }
-        ensures unchanged { Self.reader first.new ≡ Self.reader first.old }
-        ensures meeting { Meeting (Self.reader first.old) (Self.reporter second.old)
-            (Self.reporter second.new) }
+        ensures says { LiveMet (Self.reader first.old) (Self.reader first.new)
+            (Self.reporter second.old) (Self.reporter second.new) }
         ensures reported { ReportsMore (Self.has_reported second.old) 0
             (Self.has_reported second.new) };
 
@@ -58,9 +56,7 @@ pub trait Notes: LiveBoard {
     fn note<R: Wait>(&self, rt: &R, pass: &mut Self::ReaderPass) -> Self::Note
         requires { Self.is_reader self.now pass.old }
         ensures own { Self.is_reader self.now pass.new × is_note self.now result }
-        ensures sound { IsSound (Self.reader pass.old) }
-        ensures unchanged { Self.reader pass.new ≡ Self.reader pass.old }
-        ensures seen { noted result ≡ (Self.reader pass.old).seen };
+        ensures says { LiveNoted (Self.reader pass.old) (Self.reader pass.new) (noted result) };
 
     /// The same of a reporter's pass: after an event was accepted, a note that has it.
     ///
@@ -75,9 +71,7 @@ pub trait Notes: LiveBoard {
     fn note_own<R: Wait>(&self, rt: &R, pass: &mut Self::ReporterPass) -> Self::Note
         requires { Self.is_reporter self.now pass.old }
         ensures own { Self.is_reporter self.now pass.new × is_note self.now result }
-        ensures sound { IsSound (Self.reporter pass.old) }
-        ensures unchanged { Self.reporter pass.new ≡ Self.reporter pass.old }
-        ensures seen { noted result ≡ (Self.reporter pass.old).seen }
+        ensures says { LiveNoted (Self.reporter pass.old) (Self.reporter pass.new) (noted result) }
         ensures reported { ReportsMore (Self.has_reported pass.old) 0
             (Self.has_reported pass.new) };
 
@@ -95,8 +89,7 @@ pub trait Notes: LiveBoard {
     fn hear<R: Wait>(&self, rt: &R, pass: &mut Self::ReaderPass, note: Self::Note)
         requires { Self.is_reader self.now pass.old × is_note self.now note }
         ensures own { Self.is_reader self.now pass.new }
-        ensures always { Continues (Self.reader pass.old) (Self.reader pass.new) }
-        ensures heard { Hearing (noted note) (Self.reader pass.old) (Self.reader pass.new) };
+        ensures says { LiveHeard (noted note) (Self.reader pass.old) (Self.reader pass.new) };
 
     /// The same for a reporter.
     ///
@@ -111,8 +104,7 @@ pub trait Notes: LiveBoard {
     fn hear_own<R: Wait>(&self, rt: &R, pass: &mut Self::ReporterPass, note: Self::Note)
         requires { Self.is_reporter self.now pass.old × is_note self.now note }
         ensures own { Self.is_reporter self.now pass.new }
-        ensures always { Continues (Self.reporter pass.old) (Self.reporter pass.new) }
-        ensures heard { Hearing (noted note) (Self.reporter pass.old) (Self.reporter pass.new) }
+        ensures says { LiveHeard (noted note) (Self.reporter pass.old) (Self.reporter pass.new) }
         ensures reported { ReportsMore (Self.has_reported pass.old) 0
             (Self.has_reported pass.new) };
 }

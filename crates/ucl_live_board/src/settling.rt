@@ -1,9 +1,7 @@
 //! Two reporters who make sure that they are alone.
 
-ghost use Rattle.std.specs.Prelude.{◌≡◌, ◌≢◌, ◌<◌, ◌↔◌, [], ◌∷◌, ◌++◌, take, IsOk, IfOk, IfErr};
-ghost use Rattle.ucl_board.specs.History.{snapshot_at};
-ghost use Rattle.ucl_live_board.specs.Passes.{Continues, ReportsMore};
-ghost use Rattle.ucl_live_board.specs.Settling.{version_answered, both_accepted, Settled, AreAlone, IsOfBoth};
+ghost use Rattle.ucl_live_board.specs.Passes.{ReportsMore};
+ghost use Rattle.ucl_live_board.specs.Settling.{LiveSettled};
 
 use crate::errors::Strangers;
 use crate::live_board::LiveBoard;
@@ -31,25 +29,10 @@ pub fn settle<B: LiveBoard, R: Wait>(
 ) -> Result<Reading, Strangers>
     requires { B.is_reporter board.now first.old × B.is_reporter board.now second.old }
     ensures own { B.is_reporter board.now first.new × B.is_reporter board.now second.new }
-    ensures always { Continues (B.reporter first.old) (B.reporter first.new)
-        × Continues (B.reporter second.old) (B.reporter second.new) }
-    ensures unchanged { B.reporter first.new ≡ B.reporter first.old }
     ensures reported { ReportsMore (B.has_reported first.old) 0 (B.has_reported first.new)
         × ReportsMore (B.has_reported second.old) 0 (B.has_reported second.new) }
-    ensures shown { (B.reporter second.new).shown
-        ≡ (B.reporter second.old).shown ++ version_answered result ∷ [] }
-    ensures settled { Settled (B.reporter first.old) (B.reporter second.old) (B.reporter first.new)
-        (B.reporter second.new) (version_answered result) }
-    ensures exactly { IsOk result ↔ AreAlone (B.reporter first.old) (B.reporter second.old)
-        (version_answered result) }
-    ensures strangers { IfErr result
-        (λ strangers. (B.reporter first.old).number ≢ (B.reporter second.old).number
-        → both_accepted (B.reporter first.old) (B.reporter second.old) < strangers.version) }
-    ensures reading { IfOk result
-        (λ reading. reading ≡ snapshot_at (B.reporter second.new).seen reading.version) }
-    ensures of_both { IfOk result
-        (λ reading. IsOfBoth (B.reporter first.old) (B.reporter second.old)
-        (take reading.version (B.reporter second.new).seen)) }
+    ensures says { LiveSettled (B.reporter first.old) (B.reporter second.old)
+        (B.reporter first.new) (B.reporter second.new) result }
 {
     board.meet(rt, first, second);
     let reading = board.read_own(rt, second);

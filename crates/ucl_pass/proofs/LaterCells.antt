@@ -6,9 +6,9 @@ use Rattle.ucl_pass.proofs.Common.{after_load, LookOfCell, AddOfCell, ReadOfCell
 use Rattle.ucl_pass.proofs.Common.{HaveGoneOn, RuleWith, at_map}
 use Rattle.ucl_steps.proofs.GoneOn.{gone_same, gone_through}
 use Rattle.ucl_live_board.proofs.LaterLogs.{says_found, go_through, step_goes, split_goes, hearing_goes, number_rises}
-use Rattle.ucl_pass.specs.CellLater.{CellKind, LetsPassGoOn, CellStepped, CellSplit, CellHeard, CellStepsTo, CellLeadsTo, CellStepsLeadOn, CellFindsEnlisted}
+use Rattle.ucl_pass.specs.CellLater.{CellKind, LetsPassGoOn, CellStepped, CellPassSplits, CellPassHears, CellStepsTo, CellLeadsTo, CellStepsLeadOn, CellFindsEnlisted}
 use Rattle.ucl_pass.proofs.KeptRule.{found_last}
-use Rattle.ucl_pass.specs.CellLater.{CellLook, CellAdd, CellRead, CellCount, CellEnlist, CellSecond, CellNoted, CellHears}
+use Rattle.ucl_pass.specs.CellLater.{CellLook, CellAdd, CellReads, CellCount, CellEnlist, CellSecond, CellNotes, CellHears}
 use Rattle.ucl_pass.proofs.CellRuns.{cells_go_on}
 
 -- passes as actors
@@ -72,12 +72,12 @@ module _ (s t : CellState) (r : CellMeetsItsRule s) (q : CellMeetsItsRule t) whe
       (step_goes words_after pass_of actor_of HasGoneOn gone_same gone_through s.words t.words s.views t.views r.shared q.shared p.seat p.was p.is x.0 p.here (on p.was p.found p.left p.is p.told) x.1
       p.views)
 
-  by_split : (left right : CellView → CellView) (p : CellSplit left right s t) → HasGoneOn (actor_of p.was) (actor_of (left p.was))
+  by_split : (left right : CellView → CellView) (p : CellPassSplits left right s t) → HasGoneOn (actor_of p.was) (actor_of (left p.was))
       → RuleWith words_after s.words (set (views_known s.views) p.seat (left p.was).pass ++ (right p.was).pass ∷ []) r.shared.enlisted r.shared.log → CellGoesOnWith s t r q
   by_split left right p on m = both
       (split_goes words_after pass_of actor_of HasGoneOn gone_same gone_through s.words t.words s.views t.views r.shared q.shared p.seat p.was (left p.was) (right p.was) p.here on m p.views)
 
-  by_hearing : CellHeard s t → CellGoesOnWith s t r q
+  by_hearing : CellPassHears s t → CellGoesOnWith s t r q
   by_hearing p =
       let told = told_cell_pass p.was p.note in
       let number : p.note.pass.number ≡ 0 = ap (λ (z : CellView). z.pass.number) p.is_note in
@@ -92,13 +92,13 @@ module _ (s t : CellState) (r : CellMeetsItsRule s) (q : CellMeetsItsRule t) whe
   one_step : CellStepsTo s t → CellGoesOnWith s t r q
   one_step (CellLook place e p) = by_kind (TellsAndStands place (LookOfCell e)) (looks_on place e) (λ v x y w l. (_, l.told.looks.sees.takes)) p
   one_step (CellAdd place e p) = by_kind (TellsAndStands place (AddOfCell e)) (adds_on place e) (λ v x y w l. ⊎_elim (λ missed. (_, missed.1.sees.takes)) (λ won. (_, won.1.adds.takes)) l.told.adds) p
-  one_step (CellRead place p) = by_kind (TellsAndStands place ReadOfCell) (reads_on place) (λ v x y w l. (_, l.told.shows.sees.takes)) p
+  one_step (CellReads place p) = by_kind (TellsAndStands place ReadOfCell) (reads_on place) (λ v x y w l. (_, l.told.shows.sees.takes)) p
   one_step (CellCount place p) = by_kind (TellsAndStands place CountOfCell) (counts_on place) (λ v x y w l. (_, l.told.counts.sees.takes)) p
   one_step (CellEnlist place p) = by_kind (TellsAndStands place EnlistOfCell) (enlists_on place)
       (λ v x y w l. ⊎_elim (λ missed. (_, missed.1.sees.takes)) (λ won. (_, won.1.enlists.takes)) l.told.enlists) p
   one_step (CellSecond p) = by_split left_cell_pass second_cell_pass p (gone_still p.was (left_cell_pass p.was) refl refl)
       (second_added words_after s.words (views_known s.views) r.shared p.seat p.was.pass (at_map pass_of s.views p.seat p.was p.here))
-  one_step (CellNoted p) = by_split (λ v. v) note_cell_pass p (gone_still p.was p.was refl refl)
+  one_step (CellNotes p) = by_split (λ v. v) note_cell_pass p (gone_still p.was p.was refl refl)
       (note_added words_after s.words (views_known s.views) r.shared p.seat p.was.pass (at_map pass_of s.views p.seat p.was p.here))
   one_step (CellHears p) = by_hearing p
 

@@ -32,14 +32,14 @@ pub record CellStepped (kind : CellKind) (s t : CellState) : Type 0 where
   pub views : t.views ≡ slice_set s.views seat is
 
 -- the pass of one seat became this pass, and a further one has the last seat
-pub record CellSplit (left right : CellView → CellView) (s t : CellState) : Type 0 where
+pub record CellPassSplits (left right : CellView → CellView) (s t : CellState) : Type 0 where
   pub seat : ℕ
   pub was : CellView
   pub here : get_elem? s.views seat ≡ some was
   pub views : t.views ≡ slice_set s.views seat (left was) ++ right was ∷ []
 
 -- the pass of one seat took in the note of another, which is spent
-pub record CellHeard (s t : CellState) : Type 0 where
+pub record CellPassHears (s t : CellState) : Type 0 where
   pub seat : ℕ
   pub was : CellView
   pub here : get_elem? s.views seat ≡ some was
@@ -54,12 +54,12 @@ pub record CellHeard (s t : CellState) : Type 0 where
 pub data CellStepsTo (s t : CellState) : Type 0 where
   CellLook : (place : ℕ) (e : EventCall) → CellStepped (TellsAndStands place (LookOfCell e)) s t → CellStepsTo s t
   CellAdd : (place : ℕ) (e : EventCall) → CellStepped (TellsAndStands place (AddOfCell e)) s t → CellStepsTo s t
-  CellRead : (place : ℕ) → CellStepped (TellsAndStands place ReadOfCell) s t → CellStepsTo s t
+  CellReads : (place : ℕ) → CellStepped (TellsAndStands place ReadOfCell) s t → CellStepsTo s t
   CellCount : (place : ℕ) → CellStepped (TellsAndStands place CountOfCell) s t → CellStepsTo s t
   CellEnlist : (place : ℕ) → CellStepped (TellsAndStands place EnlistOfCell) s t → CellStepsTo s t
-  CellSecond : CellSplit left_cell_pass second_cell_pass s t → CellStepsTo s t
-  CellNoted : CellSplit (λ v. v) note_cell_pass s t → CellStepsTo s t
-  CellHears : CellHeard s t → CellStepsTo s t
+  CellSecond : CellPassSplits left_cell_pass second_cell_pass s t → CellStepsTo s t
+  CellNotes : CellPassSplits (λ v. v) note_cell_pass s t → CellStepsTo s t
+  CellHears : CellPassHears s t → CellStepsTo s t
 
 -- one step after another, through these states, each of which meets the rule, as the cell does between any two steps
 abbrev pub CellLeadsTo : CellState → List CellState → CellState → Type 0

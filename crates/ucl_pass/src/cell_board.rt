@@ -1,17 +1,18 @@
 //! The board in one cell, and its calls by a seat.
 
-ghost use Rattle.std.specs.Prelude.{◌≡◌, ℕ, ◌+◌, ◌<◌, ◌++◌, ◌∷◌, [], take, length, slice_index, IfOk, IfErr, IfSome, IfNone, IsSome, true, false};
+ghost use Rattle.std.specs.Prelude.{◌≡◌, ◌+◌, ◌<◌, ◌++◌, ◌∷◌, [], take, length, slice_index, IfOk, IfErr, IfSome, IfNone, IsSome, true, false};
 ghost use Rattle.atomic_table.specs.Seated.{TableId};
 ghost use Rattle.crossbeam_utils.specs.Seq.{cell_view};
 ghost use Rattle.ucl_board.specs.Fixtures.{IsMatch};
 ghost use Rattle.ucl_board.specs.Words.{AreWords};
-ghost use Rattle.ucl_live_board.specs.Passes.{Continues, AcceptedReport, RefusedReport, SharedReading, Enlistment, FullBoard, Hearing, Meeting, opening_pass};
+ghost use Rattle.ucl_live_board.specs.Passes.{Continues, AcceptedReport, RefusedReport, SharedReading, Enlistment, FullBoard, Hearing, Meeting};
 ghost use Rattle.ucl_live_board.specs.Views.{pass_view_of, count_of};
 ghost use Rattle.ucl_live_board.specs.OneHistory.{BoardsOpenFresh};
-ghost use Rattle.ucl_pass.specs.CellRule.{words_after, IsTheRule, IsUpToDate, CellStands, CellStandAfterSplit, SeatStands};
-ghost use Rattle.ucl_pass.specs.CellViews.{HasDoneNothing, knows, known_of, calls_at, left_cell_pass, second_cell_pass, note_cell_pass, IsCellNote};
+ghost use Rattle.ucl_pass.specs.CellRule.{words_after, IsTheRule, IsUpToDate, CellStandAfterSplit, SeatStands};
+ghost use Rattle.ucl_pass.specs.CellViews.{knows, calls_at, left_cell_pass, second_cell_pass, note_cell_pass, IsCellNote};
 ghost use Rattle.ucl_pass.specs.CellSteps.{ExchangesReporter, IsNextBoard, AreAccepting, entry_at, exchange, StoresOrLooks, DecidesReport, with_one_more, LooksAtMatch, LooksAtEnlisted, LooksAndShows, LookOfCell, ReadOfCell};
 ghost use Rattle.ucl_live_board.specs.CallSteps.{MeetingSteps};
+ghost use Rattle.ucl_pass.specs.CellRecords.{CellOpened};
 ghost use Rattle.ucl_pass.specs.CellCalls.{CellReport, CellEnlistment, CellReading, FinishesReport, FinishesReading};
 
 use crate::passes::CellReaderPass;
@@ -81,11 +82,9 @@ impl CellBoard {
     /// ```
     pub fn open<R>(_rt: &R, alloc: Global) -> Result<(CellBoard, CellReaderPass), OutOfMemory>
         ensures own { IfOk result (λ opened. opened.1.board ≡ opened.0) }
-        ensures fresh { IfOk result (λ opened. pass_view_of opened.1.view ≡ opening_pass) }
-        ensures untaken { IfOk result (λ opened. HasDoneNothing opened.1) }
+        ensures opened { IfOk result (λ opened. CellOpened opened.1) }
         ensures rule { BoardsOpenFresh words_after }
         ensures tied { IsTheRule ⟦<OneHistory as Protocol<[u64; 13], CellView>>⟧.holds }
-        ensures stands { IfOk result (λ opened. (seat : ℕ) × CellStands seat (known_of opened.1)) }
     {
         let (cell, seat) = Cell::ruled(alloc, words_with(&Board::fresh(), 0))?;
         Ok((CellBoard { cell }, CellReaderPass { seat }))

@@ -1,5 +1,5 @@
 -- What an evening answers is plain, and short: so each of its lines tells what its value tells.
-use Rattle.std.proofs.Common.{◌≡◌, ◌∙◌, ℕ, zero, suc, ◌+◌, ◌-◌, ◌*◌, ◌/◌, ◌%◌, ◌^◌, ◌<◌, ◌≤◌, ◌&&◌, pos, negsuc, ℤ, ◌-ℤ◌, true}
+use Rattle.std.proofs.Common.{◌≡◌, ℕ, zero, suc, ◌+◌, ◌-◌, ◌*◌, ◌/◌, ◌%◌, ◌^◌, ◌<◌, ◌≤◌, ◌&&◌, true}
 use Rattle.std.proofs.Common.{false, refl, arith, List, [], ◌∷◌, length, le-leb, inl, inr}
 use Rattle.std.specs.Prelude.{All, nat_le, nat_lt, slice_index_or}
 use Rattle.std.specs.Fmt.{digit_glyph}
@@ -7,39 +7,30 @@ use Rattle.std.specs.List.{list_all}
 use Rattle.std.proofs.lemmas.Bool.{and_from, and_parts, cases_Bool}
 use Rattle.std.proofs.lemmas.Bool.Decides.{nat_tests}
 use Rattle.std.proofs.lemmas.List.Elements.{All-head, All-tail}
-use Rattle.std.proofs.lemmas.Int.{ints}
-use Rattle.std.proofs.lemmas.List.Sums.{count_by-le-length, sum_by-le}
-use Rattle.serde_json.specs.Find.{of_integer}
+use Rattle.std.proofs.lemmas.List.Sums.{sum_by-le}
 use Rattle.serde_json.proofs.OnLiterals.{serde_json_on_literals}
 use Rattle.ucl_word.specs.declared.event.Kind.{Kind}
 use Rattle.ucl_word.specs.declared.event.Kind.TheVariants.{KickOff, Goal, Disallow, Yellow, SecondYellow, Red, FullTime, Reopen}
 use Rattle.ucl_word.specs.declared.event.Side.TheVariants.{Home, Away}
 use Rattle.ucl_word.specs.Layout.{record_at}
 use Rattle.ucl_word.specs.Names.{kind_name}
-use Rattle.ucl_word.specs.Rules.{is_in_play}
 use Rattle.ucl_word.proofs.ValidRecords.{number_valid}
 use Rattle.ucl_word.proofs.Words.{word_valid}
 use Rattle.ucl_board.specs.Fixtures.{IsSlot}
 use Rattle.ucl_board.specs.Words.{AreWords, version_of}
 use Rattle.ucl_order.specs.declared.profile.Profile.{Profile}
 use Rattle.ucl_order.specs.declared.profile.Profile.TheVariants.{Uefa, AwayInTie}
-use Rattle.ucl_order.specs.declared.mark.Mark.{Mark}
-use Rattle.ucl_order.specs.declared.mark.Mark.TheVariants.{Plus, Minus, Blank}
-use Rattle.ucl_order.specs.declared.table.Row.{Row}
-use Rattle.ucl_order.specs.Rows.{IsWithinTable, row_of, rows_of}
-use Rattle.ucl_order.proofs.KeysFit.{words_valid}
-use Rattle.ucl_order.proofs.Limits.{rows_within}
 use Rattle.ucl_order.specs.Names.{profile_name}
 use Rattle.ucl_order.specs.Roster.{IsClub, IsRoster, NamedClub, club_in, is_club, is_name, is_printed, named}
 use Rattle.ucl_screen.specs.declared.night.NightEvent.{NightEvent}
 use Rattle.ucl_screen.specs.Numbers.{hex_digits}
-use Rattle.ucl_screen.specs.Screen.{IsGroup, in_play}
-use Rattle.ucl_json.specs.Values.{accepted_value, club_items, club_value, edition_screen_value, mark_name, place_items, place_value, screen_value, word_items}
+use Rattle.ucl_screen.specs.Screen.{IsGroup}
+use Rattle.ucl_json.specs.Values.{accepted_value, club_items, club_value, word_items}
 use Rattle.ucl_runs.proofs.WordDigits.{low, word-digits}
 use Rattle.ucl_json.specs.declared.moment.Moment.{Moment}
-use Rattle.ucl_runs.specs.Answered.{HasNumbers, IsMoment, LinesTellTheirMoment}
-use Rattle.ucl_runs.proofs.Answered.{answered, both, long}
-use Rattle.ucl_runs.proofs.ReadBack.{ArePlain, IsPlain, IsPlainNumber, IsText, items_size, size, told-by-line}
+use Rattle.ucl_runs.specs.Answered.{HasNumbers, IsMoment}
+use Rattle.ucl_runs.proofs.Answered.{both, long}
+use Rattle.ucl_runs.proofs.ReadBack.{ArePlain, IsPlain, IsText, items_size, size}
 
 -- ---- words
 

@@ -1,8 +1,9 @@
 //! A reporter whose event was accepted tells a screen in another thread, whose next reading has the event.
 
-ghost use Rattle.std.specs.Prelude.{◌≡◌, IfOk, IfErr};
+ghost use Rattle.std.specs.Prelude.{◌≡◌, IfOk};
 ghost use Rattle.ucl_board.specs.History.{entry_of, snapshot_at};
-ghost use Rattle.ucl_live_board.specs.Passes.{Continues, ReportsMore, AcceptedReport, RefusedReport};
+ghost use Rattle.ucl_live_board.specs.LiveRecords.{LiveReported};
+ghost use Rattle.ucl_live_board.specs.Passes.{Continues, ReportsMore};
 ghost use Rattle.ucl_runs.specs.TellingScreens.{IsAmongFirst, IsTold, ReadsOn};
 
 use std::sync::Wait;
@@ -32,11 +33,8 @@ fn report_and_note<B: Notes, R: Wait>(
 ) -> (Result<Accepted, Refusal>, B::Note)
     requires { B.is_reporter board.now reporter.old }
     ensures own { B.is_reporter board.now reporter.new × B.is_note board.now result.1 }
-    ensures always { Continues (B.reporter reporter.old) (B.reporter reporter.new) }
-    ensures accepted { IfOk result.0 (λ reply. AcceptedReport (B.reporter reporter.old)
-        call.now reply (B.reporter reporter.new)) }
-    ensures refused { IfErr result.0 (λ refusal. RefusedReport (B.reporter reporter.old)
-        call.now refusal (B.reporter reporter.new)) }
+    ensures says { LiveReported (B.reporter reporter.old) call.now result.0
+        (B.reporter reporter.new) }
     ensures reported { ReportsMore (B.has_reported reporter.old) 1 (B.has_reported reporter.new) }
     ensures told { IfOk result.0 (λ _. IsTold (B.noted result.1)
         (entry_of (B.reporter reporter.old).number call.now)) }
@@ -73,12 +71,9 @@ pub fn report_and_show<B: Notes, R: Threads + Wait + Sync>(
 ) -> ToldScreen<B::ReaderPass>
     requires { B.is_reporter board.now reporter.old × B.is_reader board.now screen }
     ensures own { B.is_reporter board.now reporter.new × B.is_reader board.now result.screen }
-    ensures always { Continues (B.reporter reporter.old) (B.reporter reporter.new)
-        × Continues (B.reader screen) (B.reader result.screen) }
-    ensures accepted { IfOk result.reply (λ reply. AcceptedReport (B.reporter reporter.old)
-        call.now reply (B.reporter reporter.new)) }
-    ensures refused { IfErr result.reply (λ refusal. RefusedReport (B.reporter reporter.old)
-        call.now refusal (B.reporter reporter.new)) }
+    ensures says { LiveReported (B.reporter reporter.old) call.now result.reply
+        (B.reporter reporter.new) }
+    ensures always { Continues (B.reader screen) (B.reader result.screen) }
     ensures reported { ReportsMore (B.has_reported reporter.old) 1 (B.has_reported reporter.new) }
     ensures snapshot { result.reading
         ≡ snapshot_at (B.reader result.screen).seen result.reading.version }

@@ -2,6 +2,7 @@ pub mod WordRule
 pub mod WordSteps
 pub mod Laws
 pub mod WordCalls
+pub mod WordRecords
 pub mod Code
 pub mod WordViews
 pub mod WordDoings

@@ -5,18 +5,19 @@ ghost use Rattle.atomic_table.specs.Seated.{TableId};
 ghost use Rattle.ucl_board.specs.Fixtures.{IsMatch};
 ghost use Rattle.ucl_board.specs.Log as trails;
 ghost use Rattle.ucl_steps.specs.Trails.{most_loads};
-ghost use Rattle.ucl_live_board.specs.Passes.{IsSound, Continues, AcceptedReport, RefusedReport, SharedReading, Enlistment, FullBoard, Hearing, Meeting, opening_pass, split_pass};
-ghost use Rattle.ucl_live_board.specs.Views.{pass_view_of, count_of, trail_of, kept_of};
-ghost use Rattle.ucl_live_board.specs.CallSteps.{MeetingSteps, HasCopyOf};
+ghost use Rattle.ucl_live_board.specs.Passes.{Continues, AcceptedReport, RefusedReport, SharedReading, Enlistment, FullBoard, Hearing, Meeting};
+ghost use Rattle.ucl_live_board.specs.Views.{pass_view_of, count_of};
+ghost use Rattle.ucl_live_board.specs.CallSteps.{MeetingSteps};
 ghost use Rattle.ucl_live_board.specs.OneHistory.{BoardsOpenFresh};
 ghost use Rattle.ucl_words.specs.WordRule.{words_after, IsTheRule, Stands, StandAfterSplit};
 ghost use Rattle.ucl_words.specs.WordSteps.{Loads, LoadsMatch, LoadsEnlisted, point_shown, ExchangeWon, ExchangeMissed, IsNextWord, EnlistWon};
 ghost use Rattle.ucl_words.specs.Code.{Collects, FindsAgain, FindsAnother, IsHoldingFor, MayCollect, HasFirsts, has_copied, begins_anew};
 ghost use Rattle.ucl_words.specs.WordCalls.{IsSteady, ReportSteps, ReadingSteps, EnlistTries, KeepsTrail};
-ghost use Rattle.ucl_words.specs.WordViews.{left_pass, second_pass, note_pass, IsNotePass, view_of};
-ghost use Rattle.ucl_words.specs.WordDoings.{AnswersCall, GoesAlong, WordHasReported};
+ghost use Rattle.ucl_words.specs.WordRecords.{WordOpened, WordReported, WordRead, WordSplit, WordEnlisted, WordFull, WordMet, WordNoted, WordHeard};
+ghost use Rattle.ucl_words.specs.WordViews.{left_pass, second_pass, note_pass, IsNotePass};
+ghost use Rattle.ucl_words.specs.WordDoings.{AnswersCall, GoesAlong};
 ghost use Rattle.ucl_word.specs.Record.{IsReporter};
-ghost use Rattle.ucl_steps.specs.Protocol.{Nothing, Checking, IsNext, nothing_done, after_look, after_swap, after_second, report_reply};
+ghost use Rattle.ucl_steps.specs.Protocol.{Nothing, Checking, IsNext, after_look, after_swap, after_second, report_reply};
 ghost use Rattle.ucl_steps.specs.declared.step.Call.TheVariants as calls;
 ghost use Rattle.ucl_steps.specs.declared.trace.Reply.TheVariants as replies;
 
@@ -78,12 +79,9 @@ impl WordBoard {
     /// ```
     pub fn open<R>(_rt: &R, alloc: Global) -> Result<(WordBoard, WordReaderPass), OutOfMemory>
         ensures own { IfOk result (λ opened. opened.1.board ≡ opened.0) }
-        ensures fresh { IfOk result (λ opened. pass_view_of opened.1.view ≡ opening_pass) }
-        ensures untaken { IfOk result (λ opened. (opened.1.view.copied ≡ [])
-            × (opened.1.view.own ≡ []) × (opened.1.doing ≡ nothing_done)) }
+        ensures opened { IfOk result (λ opened. WordOpened opened.1) }
         ensures rule { BoardsOpenFresh words_after }
         ensures tied { IsTheRule (⟦<OneHistory as TableRule<Entry, WordView, ()>>⟧.holds tt) }
-        ensures stands { IfOk result (λ opened. Stands opened.1.seat (view_of opened.1)) }
     {
         let (table, seat) = Table::of_words(alloc, &fresh_words(), &())?;
         Ok((WordBoard { table }, WordReaderPass { seat }))
@@ -442,21 +440,7 @@ impl WordBoard {
         call: &EventCall,
     ) -> Result<Accepted, Refusal>
         requires { pass.old.board ≡ self.now }
-        ensures own { pass.new.board ≡ self.now }
-        ensures seat { pass.new.seat ≡ pass.old.seat }
-        ensures always { Continues (pass_view_of pass.old.view) (pass_view_of pass.new.view) }
-        ensures accepted { IfOk result
-            (λ reply. AcceptedReport (pass_view_of pass.old.view) call.now reply
-            (pass_view_of pass.new.view)) }
-        ensures refused { IfErr result
-            (λ refusal. RefusedReport (pass_view_of pass.old.view) call.now refusal
-            (pass_view_of pass.new.view)) }
-        ensures steps { ReportSteps pass.old.view call.now result pass.new.view }
-        ensures answers { AnswersCall (view_of pass.old) (calls.Event call.now)
-            (report_reply result) (view_of pass.new) }
-        ensures along { GoesAlong (view_of pass.old) (calls.Event call.now) (view_of pass.new) }
-        ensures most { count_of pass.new.view ≤ count_of pass.old.view + 2 }
-        ensures stands { Stands pass.new.seat (view_of pass.new) }
+        ensures { WordReported pass.old call.now result pass.new }
     {
         let reporter = pass.number;
         let result = self.report_by(&mut pass.seat, reporter, call);
@@ -477,18 +461,7 @@ impl WordBoard {
     /// ```
     pub fn read_now(&self, pass: &mut WordReaderPass) -> Reading
         requires { pass.old.board ≡ self.now }
-        ensures own { pass.new.board ≡ self.now }
-        ensures seat { pass.new.seat ≡ pass.old.seat }
-        ensures always { Continues (pass_view_of pass.old.view) (pass_view_of pass.new.view) }
-        ensures reading { SharedReading (pass_view_of pass.old.view) result
-            (pass_view_of pass.new.view) }
-        ensures steps { ReadingSteps pass.old.view result pass.new.view }
-        ensures answers { AnswersCall (view_of pass.old) calls.Reading (replies.Copied result)
-            (view_of pass.new) }
-        ensures along { GoesAlong (view_of pass.old) calls.Reading (view_of pass.new) }
-        ensures least { count_of pass.old.view + 24 ≤ count_of pass.new.view }
-        ensures most { count_of pass.new.view ≤ count_of pass.old.view + most_loads }
-        ensures stands { Stands pass.new.seat (view_of pass.new) }
+        ensures { WordRead pass.old result pass.new }
     {
         self.read_by(&mut pass.seat)
     }
@@ -509,18 +482,7 @@ impl WordBoard {
     /// ```
     pub fn read_own_now(&self, pass: &mut WordReporterPass) -> Reading
         requires { pass.old.board ≡ self.now }
-        ensures own { pass.new.board ≡ self.now }
-        ensures seat { pass.new.seat ≡ pass.old.seat }
-        ensures always { Continues (pass_view_of pass.old.view) (pass_view_of pass.new.view) }
-        ensures reading { SharedReading (pass_view_of pass.old.view) result
-            (pass_view_of pass.new.view) }
-        ensures steps { ReadingSteps pass.old.view result pass.new.view }
-        ensures answers { AnswersCall (view_of pass.old) calls.Reading (replies.Copied result)
-            (view_of pass.new) }
-        ensures along { GoesAlong (view_of pass.old) calls.Reading (view_of pass.new) }
-        ensures least { count_of pass.old.view + 24 ≤ count_of pass.new.view }
-        ensures most { count_of pass.new.view ≤ count_of pass.old.view + most_loads }
-        ensures stands { Stands pass.new.seat (view_of pass.new) }
+        ensures { WordRead pass.old result pass.new }
     {
         let seat = &mut pass.seat;
         self.read_by(seat)
@@ -536,17 +498,7 @@ impl WordBoard {
     /// ```
     pub fn split_now(&self, pass: &mut WordReaderPass) -> WordReaderPass
         requires { pass.old.board ≡ self.now }
-        ensures own { (pass.new.board ≡ self.now) × (result.board ≡ self.now) }
-        ensures seat { pass.new.seat ≡ pass.old.seat }
-        ensures sound { IsSound (pass_view_of pass.old.view) }
-        ensures kept { pass.new.view ≡ kept_of pass.old.view }
-        ensures does { pass.new.doing ≡ pass.old.doing }
-        ensures given { pass_view_of result.view ≡ split_pass (pass_view_of pass.old.view) }
-        ensures steps { (count_of result.view ≡ count_of pass.old.view)
-            × (trail_of result.view ≡ trail_of pass.old.view) }
-        ensures copy { HasCopyOf result.view pass.old.view }
-        ensures nothing { result.doing ≡ nothing_done }
-        ensures stands { StandAfterSplit (view_of pass.old) (view_of pass.new) (view_of result) }
+        ensures { WordSplit pass.old pass.new result }
     {
         let seat = self.split_by(&mut pass.seat);
         WordReaderPass { seat }
@@ -568,29 +520,7 @@ impl WordBoard {
         pass: WordReaderPass,
     ) -> Result<WordReporterPass, TooManyReporters<WordReaderPass>>
         requires { pass.board ≡ self.now }
-        ensures own { MatchResult result (λ enlisted. enlisted.board ≡ self.now)
-            (λ full. full.0.board ≡ self.now) }
-        ensures seat { MatchResult result (λ enlisted. enlisted.seat ≡ pass.seat)
-            (λ full. full.0.seat ≡ pass.seat) }
-        ensures enlisted { IfOk result
-            (λ enlisted. Enlistment (pass_view_of pass.view) (pass_view_of enlisted.view)) }
-        ensures always { IfErr result
-            (λ full. Continues (pass_view_of pass.view) (pass_view_of full.0.view)) }
-        ensures full { IfErr result
-            (λ full. FullBoard (pass_view_of pass.view) (pass_view_of full.0.view)) }
-        ensures trail { MatchResult result (λ enlisted. KeepsTrail pass.view enlisted.view)
-            (λ full. KeepsTrail pass.view full.0.view) }
-        ensures tries { MatchResult result
-            (λ enlisted. EnlistTries pass.view (Some enlisted.view.number) enlisted.view)
-            (λ full. EnlistTries pass.view None full.0.view) }
-        ensures does { MatchResult result (λ enlisted. enlisted.doing ≡ pass.doing)
-            (λ full. full.0.doing ≡ pass.doing) }
-        ensures reported { IfOk result (λ enlisted. WordHasReported enlisted.doing 0) }
-        ensures most { MatchResult result
-            (λ enlisted. count_of enlisted.view ≤ count_of pass.view + 255)
-            (λ full. count_of full.0.view ≤ count_of pass.view + 255) }
-        ensures stands { MatchResult result (λ enlisted. Stands enlisted.seat (view_of enlisted))
-            (λ full. Stands full.0.seat (view_of full.0)) }
+        ensures { MatchResult result (WordEnlisted pass) (λ full. WordFull pass full.0) }
     {
         let WordReaderPass { mut seat } = pass;
         match self.enlist_by(&mut seat) {
@@ -615,18 +545,7 @@ impl WordBoard {
     /// ```
     pub fn meet_now(&self, first: &mut WordReporterPass, second: &mut WordReporterPass)
         requires { (first.old.board ≡ self.now) × (second.old.board ≡ self.now) }
-        ensures own { (first.new.board ≡ self.now) × (second.new.board ≡ self.now) }
-        ensures seat { second.new.seat ≡ second.old.seat }
-        ensures sound { IsSound (pass_view_of first.old.view) }
-        ensures always { Continues (pass_view_of second.old.view) (pass_view_of second.new.view) }
-        ensures unchanged { first.new ≡ first.old }
-        ensures meeting { Meeting (pass_view_of first.old.view) (pass_view_of second.old.view)
-            (pass_view_of second.new.view) }
-        ensures trail { KeepsTrail second.old.view second.new.view }
-        ensures does { second.new.doing ≡ second.old.doing }
-        ensures steps { MeetingSteps second.old.view second.new.view }
-        ensures taken { count_of second.new.view ≡ count_of second.old.view + 1 }
-        ensures stands { Stands second.new.seat (view_of second.new) }
+        ensures { WordMet first.old first.new second.old second.new }
     {
         self.meet_by(&mut first.seat, &mut second.seat);
     }
@@ -642,18 +561,7 @@ impl WordBoard {
     /// ```
     pub fn meet_reader_now(&self, first: &mut WordReaderPass, second: &mut WordReporterPass)
         requires { (first.old.board ≡ self.now) × (second.old.board ≡ self.now) }
-        ensures own { (first.new.board ≡ self.now) × (second.new.board ≡ self.now) }
-        ensures seat { second.new.seat ≡ second.old.seat }
-        ensures sound { IsSound (pass_view_of first.old.view) }
-        ensures always { Continues (pass_view_of second.old.view) (pass_view_of second.new.view) }
-        ensures unchanged { first.new ≡ first.old }
-        ensures meeting { Meeting (pass_view_of first.old.view) (pass_view_of second.old.view)
-            (pass_view_of second.new.view) }
-        ensures trail { KeepsTrail second.old.view second.new.view }
-        ensures does { second.new.doing ≡ second.old.doing }
-        ensures steps { MeetingSteps second.old.view second.new.view }
-        ensures taken { count_of second.new.view ≡ count_of second.old.view + 1 }
-        ensures stands { Stands second.new.seat (view_of second.new) }
+        ensures { WordMet first.old first.new second.old second.new }
     {
         let reader = &mut first.seat;
         self.meet_by(reader, &mut second.seat);
@@ -670,10 +578,7 @@ impl WordBoard {
     /// ```
     pub fn note_now(&self, pass: &mut WordReaderPass) -> WordNote
         requires { pass.old.board ≡ self.now }
-        ensures own { (pass.new.board ≡ self.now) × (result.board ≡ self.now) }
-        ensures sound { IsSound (pass_view_of pass.old.view) }
-        ensures unchanged { pass.new ≡ pass.old }
-        ensures seen { result.seen ≡ pass.old.view.seen }
+        ensures { WordNoted pass.old pass.new result }
     {
         let seat = self.note_by(&mut pass.seat);
         WordNote { seat }
@@ -691,10 +596,7 @@ impl WordBoard {
     /// ```
     pub fn note_own_now(&self, pass: &mut WordReporterPass) -> WordNote
         requires { pass.old.board ≡ self.now }
-        ensures own { (pass.new.board ≡ self.now) × (result.board ≡ self.now) }
-        ensures sound { IsSound (pass_view_of pass.old.view) }
-        ensures unchanged { pass.new ≡ pass.old }
-        ensures seen { result.seen ≡ pass.old.view.seen }
+        ensures { WordNoted pass.old pass.new result }
     {
         let noted = &mut pass.seat;
         let seat = self.note_by(noted);
@@ -714,16 +616,7 @@ impl WordBoard {
     /// ```
     pub fn hear_now(&self, pass: &mut WordReaderPass, note: WordNote)
         requires { (pass.old.board ≡ self.now) × (note.board ≡ self.now) }
-        ensures own { pass.new.board ≡ self.now }
-        ensures seat { pass.new.seat ≡ pass.old.seat }
-        ensures always { Continues (pass_view_of pass.old.view) (pass_view_of pass.new.view) }
-        ensures heard { Hearing note.seen (pass_view_of pass.old.view)
-            (pass_view_of pass.new.view) }
-        ensures trail { KeepsTrail pass.old.view pass.new.view }
-        ensures does { pass.new.doing ≡ pass.old.doing }
-        ensures steps { MeetingSteps pass.old.view pass.new.view }
-        ensures taken { count_of pass.new.view ≡ count_of pass.old.view + 1 }
-        ensures stands { Stands pass.new.seat (view_of pass.new) }
+        ensures { WordHeard note.seen pass.old pass.new }
     {
         self.hear_by(&mut pass.seat, note.seat);
     }
@@ -740,16 +633,7 @@ impl WordBoard {
     /// ```
     pub fn hear_own_now(&self, pass: &mut WordReporterPass, note: WordNote)
         requires { (pass.old.board ≡ self.now) × (note.board ≡ self.now) }
-        ensures own { pass.new.board ≡ self.now }
-        ensures seat { pass.new.seat ≡ pass.old.seat }
-        ensures always { Continues (pass_view_of pass.old.view) (pass_view_of pass.new.view) }
-        ensures heard { Hearing note.seen (pass_view_of pass.old.view)
-            (pass_view_of pass.new.view) }
-        ensures trail { KeepsTrail pass.old.view pass.new.view }
-        ensures does { pass.new.doing ≡ pass.old.doing }
-        ensures steps { MeetingSteps pass.old.view pass.new.view }
-        ensures taken { count_of pass.new.view ≡ count_of pass.old.view + 1 }
-        ensures stands { Stands pass.new.seat (view_of pass.new) }
+        ensures { WordHeard note.seen pass.old pass.new }
     {
         let reporter = &mut pass.seat;
         self.hear_by(reporter, note.seat);

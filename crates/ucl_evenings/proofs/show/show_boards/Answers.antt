@@ -26,7 +26,7 @@ show-requires-clause-roster g c κs within = ap (λ r. r.value) c.loop.invariant
 
 pub show-requires-clause-read : goal.show-requires-clause-read
 show-requires-clause-read g c κs within =
-    let read = c.read-reading.ensures.reading in record { before = _; last = read.shown; high = read.high; snapshot = read.snapshot }
+    let read = c.read-reading.ensures.says.reading in record { before = _; last = read.shown; high = read.high; snapshot = read.snapshot }
 
 pub show-requires-clause-few : goal.show-requires-clause-few
 show-requires-clause-few g c κs within = let few = c.loop.invariant.few in let a = few.0 in let b = few.1 in omega arith
@@ -36,7 +36,7 @@ returns-then-is_over-clause-shows g c k old versions p =
     let known = g.B.LiveBoard.reader in
     let taken = g.V.Sink.taken in
     let so_far = c.loop.invariant.so_far k old versions p in
-    let read = c.read-reading.ensures in
+    let read = c.read-reading.ensures.says in
     run_over c.args.screen.now.options c.args.roster.now (length (known c.args.pass.now).seen) k (known c.loop.pass) (known c.read-reading.new.pass) (standing c.loop.screen) old
     (taken c.loop.screen.sink) so_far.versions so_far.so_far read.always c.read-reading.result read.reading c.loop.invariant.long
     (standing c.show.new.self) (taken c.show.new.self.sink) _
@@ -50,7 +50,7 @@ returns-in_err-show-clause-shows g c k old versions p =
     let known = g.B.LiveBoard.reader in
     let taken = g.V.Sink.taken in
     let so_far = c.loop.invariant.so_far k old versions p in
-    let read = c.read-reading.ensures in
+    let read = c.read-reading.ensures.says in
     rw (e.1, e.2) (run_failed c.args.screen.now.options c.args.roster.now (length (known c.args.pass.now).seen) k (known c.loop.pass) (known c.read-reading.new.pass)
     (standing c.loop.screen) old (taken c.loop.screen.sink) so_far.versions so_far.so_far read.always c.read-reading.result read.reading c.loop.invariant.long
     (standing c.show.new.self) (taken c.show.new.self.sink) (g.V.Sink.failed c.show.new.self.sink) _ c.in_err-show.ensures.rises
@@ -67,12 +67,12 @@ loop-preserved g c =
     let t = standing c.show.new.self in
     let new = taken c.loop.screen.sink in
     let new2 = taken c.show.new.self.sink in
-    let read = c.read-reading.ensures in
+    let read = c.read-reading.ensures.says in
     let least = length (known c.args.pass.now).seen in
     let options = c.args.screen.now.options in
     let show = c.in_ok-show.ensures in
     record {
-      own = read.own;
+      own = c.read-reading.ensures.own;
       same = record { board = show.same.board ∙ inv.same.board; roster = show.same.roster ∙ inv.same.roster; options = show.same.options ∙ inv.same.options };
       few = few_after c.loop.screen.options c.args.roster.now m z s new read.always c.read-reading.result read.reading t new2 inv.few show.shown show.kept;
       low = low_after m z s t c.read-reading.result read.reading inv.low (λ le. (show.shown le).next_is) (λ less. (show.kept less).0);

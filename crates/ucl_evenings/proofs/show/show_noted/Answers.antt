@@ -10,7 +10,7 @@ show-requires-clause-own g c κs within = rw c.requires.screen.board_is c.read-r
 
 pub show-requires-clause-read : goal.show-requires-clause-read
 show-requires-clause-read g c κs within =
-    let read = c.read-reading.ensures.reading in record { before = _; last = read.shown; high = read.high; snapshot = read.snapshot }
+    let read = c.read-reading.ensures.says.reading in record { before = _; last = read.shown; high = read.high; snapshot = read.snapshot }
 
 pub show-requires-clause-few : goal.show-requires-clause-few
 show-requires-clause-few g c κs within = let a = c.requires.few.0 in let b = c.requires.few.1 in omega arith
@@ -18,15 +18,17 @@ show-requires-clause-few g c κs within = let a = c.requires.few.0 in let b = c.
 pub returns-clause-always : goal.returns-clause-always
 returns-clause-always g c =
     let known = g.B.LiveBoard.reader in
-    goes_on (known c.args.pass.now) (known c.hear.new.pass) (known c.read-reading.new.pass) c.hear.ensures.always c.read-reading.ensures.always
+    goes_on (known c.args.pass.now) (known c.hear.new.pass) (known c.read-reading.new.pass)
+    c.hear.ensures.says.always c.read-reading.ensures.says.always
 
 pub returns-clause-shows : goal.returns-clause-shows
 returns-clause-shows g c k old versions p =
     let known = g.B.LiveBoard.reader in
     let taken = g.V.Sink.taken in
-    let read = c.read-reading.ensures in
+    let read = c.read-reading.ensures.says in
     let m = known c.hear.new.pass in
     shown_noted c.args.screen.now.options c.args.roster.now _ k (known c.args.pass.now) m (known c.read-reading.new.pass)
-    (standing c.args.screen.now) old (taken c.args.screen.now.sink) versions c.hear.ensures.always read.always c.read-reading.result read.reading
-    (begins_length _ m.seen c.hear.ensures.heard.met) p
+    (standing c.args.screen.now) old (taken c.args.screen.now.sink) versions
+    c.hear.ensures.says.always read.always c.read-reading.result read.reading
+    (begins_length _ m.seen c.hear.ensures.says.heard.met) p
     (standing c.show.new.self) (taken c.show.new.self.sink) (g.V.Sink.failed c.show.new.self.sink) c.show.result c.show.ensures.shown c.show.ensures.kept c.show.ensures.rises c.show.ensures.fails

@@ -21,9 +21,9 @@ enlisted-preserved g c =
     let one = c.in_ok-enlisted.ensures in
     record {
       own = c.split-part.ensures.own.0;
-      seen = ap (λ (k : PassView). k.seen) c.split-part.ensures.kept ∙ known.seen;
+      seen = ap (λ (k : PassView). k.seen) c.split-part.ensures.says.kept ∙ known.seen;
       reporters = rw more (All-push (g.B.LiveBoard.is_reporter c.args.board.now) _ _ known.reporters one.own);
-      split = split_push _ _ _ _ _ _ _ more known.split (one.enlisted.on.share ∙ ap (λ (k : PassView). k.share) c.split-part.ensures.given)
-          (ap (λ (k : PassView). k.share) c.split-part.ensures.kept);
-      nothing = rw (more, map_push g.B.LiveBoard.reporter _ _) (All-push (λ (k : PassView). k.mine ≡ []) _ _ known.nothing one.enlisted.mine);
+      split = split_push _ _ _ _ _ _ _ more known.split (one.says.on.share ∙ ap (λ (k : PassView). k.share) c.split-part.ensures.says.given)
+          (ap (λ (k : PassView). k.share) c.split-part.ensures.says.kept);
+      nothing = rw (more, map_push g.B.LiveBoard.reporter _ _) (All-push (λ (k : PassView). k.mine ≡ []) _ _ known.nothing one.says.mine);
     }

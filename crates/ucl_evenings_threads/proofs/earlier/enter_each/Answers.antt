@@ -100,21 +100,22 @@ loop-reporter-preserved g c =
     let new = c.hear_own.new.pass in
     let there = ap (get_or passes at) c.reporter-item.is in
     let long : at < length passes = omega arith in
-    let same = sym c.note-all.ensures.unchanged in
-    let number = c.hear_own.ensures.always.number in
-    let mine = c.hear_own.ensures.heard.mine in
-    let met = subst (λ (h : List Entry). IsPrefix h (view new).seen) c.note-all.ensures.seen c.hear_own.ensures.heard.met in
+    let same = sym c.note-all.ensures.says.unchanged in
+    let number = c.hear_own.ensures.says.always.number in
+    let mine = c.hear_own.ensures.says.heard.mine in
+    let met = subst (λ (h : List Entry). IsPrefix h (view new).seen) c.note-all.ensures.says.seen c.hear_own.ensures.says.heard.met in
     record {
-      kept = ap (λ (k : PassView). k.share) c.note-all.ensures.unchanged ∙ known.kept;
+      kept = ap (λ (k : PassView). k.share) c.note-all.ensures.says.unchanged ∙ known.kept;
       shares = map_set_same (λ pass. (view pass).share) passes at c.reporter-item.result new
-          c.hear_own.ensures.always.on.share ∙ known.shares;
+          c.hear_own.ensures.says.always.on.share ∙ known.shares;
       own = c.note-all.ensures.own.0;
       reporters = All-set (g.B.LiveBoard.is_reporter c.args.board.now) passes at new c.hear_own.ensures.own known.reporters;
       as_many = length-set passes at new ∙ known.as_many;
       so_far = subst (λ (p : PassView). HaveSoFar start events (map view (set passes at new)) p.seen) same
           (so_far_heard view start events passes history at old new long there number mine known.so_far);
       told = subst (λ (p : PassView). All (HasJustItsOwn p.seen) (take (at + 1) (map view (set passes at new)))) same
-          (told_next view start events passes history at old new long there c.hear_own.ensures.always.sound number mine met known.so_far known.told);
+          (told_next view start events passes history at old new long there
+          c.hear_own.ensures.says.always.sound number mine met known.so_far known.told);
     }
 
 pub returns-clause-shares : goal.returns-clause-shares

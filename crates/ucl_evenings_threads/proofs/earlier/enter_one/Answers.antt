@@ -7,18 +7,22 @@ pub returns-clause-entered : goal.returns-clause-entered
 returns-clause-entered g c accepted =
     let reader = g.B.LiveBoard.reader in
     let reporter = g.B.LiveBoard.reporter in
+    let told = c.hear_own.ensures.says in
+    let said = c.in-Ok.ensures.says in
+    let noted = c.note_own-after.ensures.says in
     entered_by_calls (reader c.args.pass.now) (reporter c.args.reporter.now) (reporter c.hear_own.new.pass) (reporter c.report.new.pass) (reporter c.note_own-after.new.pass)
-    (reader c.hear.new.pass) _ _ c.args.event.now _ c.note-before.ensures.seen c.hear_own.ensures.heard c.hear_own.ensures.always.number c.in-Ok.ensures.accepted
-    c.in-Ok.ensures.always.number c.in-Ok.ensures.always.sound c.note_own-after.ensures.unchanged c.note_own-after.ensures.seen c.hear.ensures.heard.met
+    (reader c.hear.new.pass) _ _ c.args.event.now _ c.note-before.ensures.says.seen told.heard told.always.number said.accepted
+    said.always.number said.always.sound noted.unchanged noted.seen c.hear.ensures.says.heard.met
 
 pub returns-clause-shares : goal.returns-clause-shares
 returns-clause-shares g c = (
-  c.hear.ensures.always.on.share ∙ ap (λ (k : PassView). k.share) c.note-before.ensures.unchanged,
-  ap (λ (k : PassView). k.share) c.note_own-after.ensures.unchanged ∙ (c.report.ensures.always.on.share ∙ c.hear_own.ensures.always.on.share),
+  c.hear.ensures.says.always.on.share ∙ ap (λ (k : PassView). k.share) c.note-before.ensures.says.unchanged,
+  ap (λ (k : PassView). k.share) c.note_own-after.ensures.says.unchanged
+      ∙ (c.report.ensures.says.always.on.share ∙ c.hear_own.ensures.says.always.on.share),
 )
 
 pub returns-in_default-clause-shares : goal.returns-in_default-clause-shares
 returns-in_default-clause-shares g c = (
-  ap (λ (k : PassView). k.share) c.note-before.ensures.unchanged,
-  c.report.ensures.always.on.share ∙ c.hear_own.ensures.always.on.share,
+  ap (λ (k : PassView). k.share) c.note-before.ensures.says.unchanged,
+  c.report.ensures.says.always.on.share ∙ c.hear_own.ensures.says.always.on.share,
 )

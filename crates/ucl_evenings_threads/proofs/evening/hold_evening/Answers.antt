@@ -31,7 +31,7 @@ returns-clause-held g c =
     let p = known c.in_ok-pass.pass in
     let z = known c.read-last.new.pass in
     let last = c.read-last.result in
-    let read = c.read-last.ensures in
+    let read = c.read-last.ensures.says in
     let ran = c.in_ok-pass.ensures.ran in
     let early : IsPrefix first heard = stays_prefix _ _ c.hear_all.ensures.always in
     let split : IsPrefix first looked = subst (IsPrefix first) (sym c.look_all.ensures.seen) early in
@@ -41,7 +41,7 @@ returns-clause-held g c =
     let all = rw (c.deref-2.ensures.value, c.deref-3.ensures.value) at (c.are_all_of-is_theirs.ensures.all c.if-not-is_theirs.false) in
     let on = begins_whole p z last read.always read.reading in
     record {
-      own = read.own;
+      own = c.read-last.ensures.own;
       sound = read.always.sound;
       high = read.reading.high;
       last = read.reading.snapshot;
@@ -67,7 +67,7 @@ returns-clause-shares g c =
     (stays_share _ _ c.hear_all.ensures.always) c.in_ok-screens.ensures.split c.in_ok-all.ensures.split
     (maps_same (KeepsShare g.B.LiveBoard) _ _ (λ looking end same. same) _ _ ran.kept)
     (maps_same (HasRun g.B.LiveBoard c.args.board.now g.S.Source g.W.Sink c.args.roster.now) _ _ (λ enlisted end h. h.took.reported.rows.always.on.share) _ _ ran.run)
-    (c.read-last.ensures.always.on.share ∙ stays_share _ _ c.in_ok-pass.ensures.always)
+    (c.read-last.ensures.says.always.on.share ∙ stays_share _ _ c.in_ok-pass.ensures.always)
 
 pub returns-then-not-is_theirs-clause-kinds : goal.returns-then-not-is_theirs-clause-kinds
 returns-then-not-is_theirs-clause-kinds g c =
@@ -78,7 +78,7 @@ returns-then-not-is_theirs-clause-kinds g c =
     let looked : List Entry = (known c.look_all.new.pass).seen in
     let p = known c.in_ok-pass.pass in
     let z = known c.read-last.new.pass in
-    let read = c.read-last.ensures in
+    let read = c.read-last.ensures.says in
     let ran = c.in_ok-pass.ensures.ran in
     let early : IsPrefix first heard = stays_prefix _ _ c.hear_all.ensures.always in
     let same : (known c.enlist_all.new.pass).seen ≡ heard = c.enlist_all.ensures.seen ∙ c.look_all.ensures.seen in
@@ -87,7 +87,7 @@ returns-then-not-is_theirs-clause-kinds g c =
       back = _;
       ends = _;
       pass = c.read-last.new.pass;
-      own = read.own;
+      own = c.read-last.ensures.own;
       high = read.reading.high;
       kept = c.in_ok-entered.ensures.kept;
       reported = reported_at_end live c.args.board.now g.S.Source g.W.Sink c.args.roster.now first looked p.seen _ _ _ _ (subst (IsPrefix first) (sym c.look_all.ensures.seen) early)

@@ -15,8 +15,9 @@ returns-in_default-clause-split g t c = split_none _ _ _ _ c.new.ensures.items r
 
 pub returns-clause-split : goal.returns-clause-split
 returns-clause-split g t c =
-    split_push _ _ _ _ _ _ _ c.in_ok-put.ensures.items c.in_ok-all.ensures.split (ap (λ (k : PassView). k.share) c.split-second.ensures.given)
-    (ap (λ (k : PassView). k.share) c.split-second.ensures.kept)
+    split_push _ _ _ _ _ _ _ c.in_ok-put.ensures.items c.in_ok-all.ensures.split
+    (ap (λ (k : PassView). k.share) c.split-second.ensures.says.given)
+    (ap (λ (k : PassView). k.share) c.split-second.ensures.says.kept)
 
 pub returns-clause-looking : goal.returns-clause-looking
 returns-clause-looking g t c =
@@ -25,6 +26,7 @@ returns-clause-looking g t c =
     (record {
       same = refl;
       own = c.split-second.ensures.own.1;
-      since = subst (IsPrefix (g.B.LiveBoard.reader c.args.pass.now).seen) (sym (ap (λ (k : PassView). k.seen) c.split-second.ensures.given ∙ c.look_all.ensures.seen))
+      since = subst (IsPrefix (g.B.LiveBoard.reader c.args.pass.now).seen)
+          (sym (ap (λ (k : PassView). k.seen) c.split-second.ensures.says.given ∙ c.look_all.ensures.seen))
           (begins_same (g.B.LiveBoard.reader c.args.pass.now).seen);
     }))

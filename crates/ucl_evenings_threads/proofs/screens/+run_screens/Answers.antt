@@ -38,11 +38,11 @@ finish-end-requires-clause-screen g t c κs within =
 
 pub returns-in_err-put-clause-always : goal.returns-in_err-put-clause-always
 returns-in_err-put-clause-always g t c =
-    goes_then _ _ _ c.run_screens.ensures.always (inl (heard_on _ _ _ c.finish-end.ensures.unchanged c.hear.ensures.always))
+    goes_then _ _ _ c.run_screens.ensures.always (inl (heard_on _ _ _ c.finish-end.ensures.unchanged c.hear.ensures.says.always))
 
 pub returns-clause-always : goal.returns-clause-always
 returns-clause-always g t c =
-    goes_then _ _ _ c.run_screens.ensures.always (inl (heard_on _ _ _ c.finish-end.ensures.unchanged c.hear.ensures.always))
+    goes_then _ _ _ c.run_screens.ensures.always (inl (heard_on _ _ _ c.finish-end.ensures.unchanged c.hear.ensures.says.always))
 
 pub returns-clause-ran : goal.returns-clause-ran
 returns-clause-ran g t c =
@@ -52,9 +52,10 @@ returns-clause-ran g t c =
     rw (c.in-Ok.ensures.board, c.in-Ok.ensures.roster, c.in-Ok.ensures.looking) at c.join-looked.ensures in
     ran_more g.B.LiveBoard c.args.board.now g.S.Source g.W.Sink g.V.Sink c.args.roster.now (known c.args.pass.now).seen (known c.run_screens.new.pass).seen (known c.hear.new.pass).seen
     _ c.args.screens.items c.in-Some.looking c.args.all.items c.in_ok-ran.ran _ _
-    c.in-Some.ensures.some c.in_ok-put.ensures.items refl (heard_on _ _ _ c.finish-end.ensures.unchanged c.hear.ensures.always).on.seen c.in_ok-ran.ensures.ran
+    c.in-Some.ensures.some c.in_ok-put.ensures.items refl
+    (heard_on _ _ _ c.finish-end.ensures.unchanged c.hear.ensures.says.always).on.seen c.in_ok-ran.ensures.ran
     (closed_on g.B.LiveBoard c.args.board.now g.V.Sink c.args.roster.now (known c.finish-end.result.pass).seen (known c.hear.new.pass).seen least least c.in-Some.looking _
-    (rw c.note-note.ensures.seen at c.hear.ensures.heard.met) (le_refl least)
+    (rw c.note-note.ensures.says.seen at c.hear.ensures.says.heard.met) (le_refl least)
     (closed_told g.B.LiveBoard c.args.board.now g.V.Sink c.args.roster.now (known c.finish-end.result.pass).seen least c.in-Some.looking c.finish-end.result _
-    c.note-note.ensures.own.0 c.note-note.ensures.unchanged (c.finish-end.ensures.shown c.in-Some.looking looked)))
-    (ap (λ (k : PassView). k.share) c.note-note.ensures.unchanged ∙ (c.finish-end.ensures.share ∙ looked.shows.risen.always.on.share))
+    c.note-note.ensures.own.0 c.note-note.ensures.says.unchanged (c.finish-end.ensures.shown c.in-Some.looking looked)))
+    (ap (λ (k : PassView). k.share) c.note-note.ensures.says.unchanged ∙ (c.finish-end.ensures.share ∙ looked.shows.risen.always.on.share))

@@ -10,9 +10,9 @@ returns-then-version-settled-clause-met g c =
     let right = (g.B.LiveBoard.reader c.args.reader_2.now).seen in
     let m = known c.meet_reader-2.new.second in
     let z = known c.read_own-version.new.pass in
-    let two = c.meet_reader-2.ensures in
-    let read = c.read_own-version.ensures in
-    let one = begins_through left (known c.meet_reader.new.second).seen m.seen c.meet_reader.ensures.meeting.met two.always.on.seen in
+    let two = c.meet_reader-2.ensures.says in
+    let read = c.read_own-version.ensures.says in
+    let one = begins_through left (known c.meet_reader.new.second).seen m.seen c.meet_reader.ensures.says.meeting.met two.always.on.seen in
     rw (sym c.if-version-settled.true) (
       met_before left m z c.read_own-version.result one read.always read.reading,
       met_before right m z c.read_own-version.result two.meeting.met read.always read.reading,

@@ -17,7 +17,7 @@ returns-clause-merge g c =
     let rows = c.args.night.now.events.items in
     let back = c.in_ok-reporter_1.field-0 in
     let worked = c.in_ok-reporter_1.ensures in
-    let settling = c.in_ok-settled.ensures in
+    let settling = c.in_ok-settled.ensures.says in
     merged_by_settlers (known c.in_ok-enlist.field-0) (known c.in_ok-enlist-2.field-0) (known back.reporter_1) (known back.reporter_2)
     (known c.settle.new.first) (known c.settle.new.second) rows c.in_ok-settled.settled.version worked.reporter_1.1 worked.reporter_2.1
     settling.always.0 settling.always.1 (settling.exactly.0 refl).0
@@ -28,11 +28,11 @@ returns-clause-board g c one =
     let known = g.B.LiveBoard.reporter in
     let d = known c.settle.new.second in
     night_board_read (number_of_two (known c.settle.new.first).number d.number) c.args.night.now.events.items d.seen
-    c.in_ok-settled.settled.version c.in_ok-settled.settled (returns-clause-merge g c) one c.in_ok-settled.ensures.reading
+    c.in_ok-settled.settled.version c.in_ok-settled.settled (returns-clause-merge g c) one c.in_ok-settled.ensures.says.reading
 
 pub returns-clause-count : goal.returns-clause-count
 returns-clause-count g c =
-    let settling = c.in_ok-settled.ensures in
+    let settling = c.in_ok-settled.ensures.says in
     (settling.settled.high, rw (settling.settled.mine_first, settling.settled.mine_second) (sym (settling.exactly.0 refl).1))
 
 pub returns-clause-beginning : goal.returns-clause-beginning
@@ -40,7 +40,7 @@ returns-clause-beginning g c =
     let known = g.B.LiveBoard.reporter in
     let a = known c.in_ok-reporter_1.field-0.reporter_1 in
     let d = known c.settle.new.second in
-    let settling = c.in_ok-settled.ensures in
+    let settling = c.in_ok-settled.ensures.says in
     let version = c.in_ok-settled.settled.version in
     subst (λ (k : PassView). IsPrefix k.seen (night_history d version)) (sym settling.unchanged)
     (begins_take a.seen d.seen version settling.settled.first settling.settled.low_first)
@@ -51,10 +51,11 @@ returns-clause-since g c =
     let one = g.B.LiveBoard.reporter c.in_ok-enlist.field-0 in
     let a = g.B.LiveBoard.reporter c.in_ok-reporter_1.field-0.reporter_1 in
     let d = g.B.LiveBoard.reporter c.settle.new.second in
-    let settled = c.in_ok-settled.ensures.settled in
+    let settled = c.in_ok-settled.ensures.says.settled in
     let version = c.in_ok-settled.settled.version in
-    let halved = c.split-reader_2.ensures.kept ∙ ap kept_pass (c.split-reader_1.ensures.kept ∙ ap kept_pass c.split-reporter_2.ensures.kept) in
-    let enlisted = subst (λ (k : PassView). IsPrefix k.seen one.seen) halved c.in_ok-enlist.ensures.enlisted.on.seen in
+    let halved = c.split-reader_2.ensures.says.kept
+    ∙ ap kept_pass (c.split-reader_1.ensures.says.kept ∙ ap kept_pass c.split-reporter_2.ensures.says.kept) in
+    let enlisted = subst (λ (k : PassView). IsPrefix k.seen one.seen) halved c.in_ok-enlist.ensures.says.on.seen in
     begins_through lent.seen one.seen (take version d.seen) enlisted (begins_through one.seen a.seen (take version d.seen)
     c.in_ok-reporter_1.ensures.reporter_1.1.always.on.seen (begins_take a.seen d.seen version settled.first settled.low_first))
 
@@ -62,7 +63,7 @@ pub returns-clause-shown_1 : goal.returns-clause-shown_1
 returns-clause-shown_1 g c =
     let back = c.in_ok-reader_1.reader_1 in
     let style = styled c.args.profile c.args.night.now.roster c.args.group in
-    let off = c.split-reader_1.ensures.given ∙ ap split_pass c.split-reporter_2.ensures.kept in
+    let off = c.split-reader_1.ensures.says.given ∙ ap split_pass c.split-reporter_2.ensures.says.kept in
     subst (λ (k : PassView). HasShown style k (g.B.LiveBoard.reader back.pass) c.args.readings (option_map string_bytes back.last)) off
     (rw c.in_ok-reader_1.was at c.in_ok-reporter_1.ensures.reader_1).1
 
@@ -70,7 +71,8 @@ pub returns-clause-shown_2 : goal.returns-clause-shown_2
 returns-clause-shown_2 g c =
     let back = c.in_ok-reader_2.reader_2 in
     let style = styled c.args.profile c.args.night.now.roster c.args.group in
-    let off = c.split-reader_2.ensures.given ∙ ap split_pass (c.split-reader_1.ensures.kept ∙ ap kept_pass c.split-reporter_2.ensures.kept) in
+    let off = c.split-reader_2.ensures.says.given
+    ∙ ap split_pass (c.split-reader_1.ensures.says.kept ∙ ap kept_pass c.split-reporter_2.ensures.says.kept) in
     subst (λ (k : PassView). HasShown style k (g.B.LiveBoard.reader back.pass) c.args.readings (option_map string_bytes back.last)) off
     (rw c.in_ok-reader_2.was at c.in_ok-reporter_1.ensures.reader_2).1
 
@@ -91,22 +93,25 @@ returns-clause-reports g c =
 pub returns-clause-shares : goal.returns-clause-shares
 returns-clause-shares g c =
     let worked = c.in_ok-reporter_1.ensures in
-    let settling = c.in_ok-settled.ensures in
+    let settling = c.in_ok-settled.ensures.says in
     let share = λ (k : PassView). k.share in
-    let halved = c.split-reader_2.ensures.kept ∙ ap kept_pass (c.split-reader_1.ensures.kept ∙ ap kept_pass c.split-reporter_2.ensures.kept) in
+    let one = c.in_ok-enlist.ensures.says in
+    let two = c.in_ok-enlist-2.ensures.says in
+    let halved = c.split-reader_2.ensures.says.kept
+    ∙ ap kept_pass (c.split-reader_1.ensures.says.kept ∙ ap kept_pass c.split-reporter_2.ensures.says.kept) in
     record {
-      reporter_2 = settling.always.1.on.share ∙ (worked.reporter_2.1.always.on.share ∙ (c.in_ok-enlist-2.ensures.enlisted.on.share ∙ ap share c.split-reporter_2.ensures.given));
+      reporter_2 = settling.always.1.on.share ∙ (worked.reporter_2.1.always.on.share ∙ (two.on.share ∙ ap share c.split-reporter_2.ensures.says.given));
       reader_1 = (returns-clause-shown_1 g c).on.share;
       reader_2 = (returns-clause-shown_2 g c).on.share;
-      reporter_1 = settling.always.0.on.share ∙ (worked.reporter_1.1.always.on.share ∙ (c.in_ok-enlist.ensures.enlisted.on.share ∙ ap share halved));
+      reporter_1 = settling.always.0.on.share ∙ (worked.reporter_1.1.always.on.share ∙ (one.on.share ∙ ap share halved));
     }
 
 pub returns-clause-readings : goal.returns-clause-readings
 returns-clause-readings g c =
     let worked = c.in_ok-reporter_1.ensures in
-    let settling = c.in_ok-settled.ensures in
-    let one = c.in_ok-enlist.ensures.enlisted in
-    let two = c.in_ok-enlist-2.ensures.enlisted in
+    let settling = c.in_ok-settled.ensures.says in
+    let one = c.in_ok-enlist.ensures.says in
+    let two = c.in_ok-enlist-2.ensures.says in
     let before = worked.reporter_2.1.shown ∙ two.shown in (
       ap (λ (k : PassView). k.shown) settling.unchanged ∙ (worked.reporter_1.1.shown ∙ one.shown),
       settling.shown ∙ ap (λ (shown : List ℕ). shown ++ c.in_ok-settled.settled.version ∷ []) before,
@@ -120,16 +125,18 @@ returns-in_err-settled-clause-kinds g c =
     let first = known back.reporter_1 in
     let second = known back.reporter_2 in
     let last = known c.settle.new.second in
-    let settling = c.in_err-settled.ensures in
+    let settling = c.in_err-settled.ensures.says in
     let settled = settling.settled in
+    let one = c.in_ok-enlist.ensures.says in
+    let two = c.in_ok-enlist-2.ensures.says in
     let told = err_from_is_err_and c.from_residual-in_err-settled.result c.from_residual-in_err-settled.ensures.1 in
     rw (told.1, told.2) (record {
       first = back.reporter_1;
       second = back.reporter_2;
       last = c.settle.new.second;
-      entered_1 = record { own = worked.reporter_1.0; before = _; fresh = (c.in_ok-enlist.ensures.enlisted.sound, c.in_ok-enlist.ensures.enlisted.mine); entered = worked.reporter_1.1 };
-      entered_2 = record { own = worked.reporter_2.0; before = _; fresh = (c.in_ok-enlist-2.ensures.enlisted.sound, c.in_ok-enlist-2.ensures.enlisted.mine); entered = worked.reporter_2.1 };
-      own = settling.own.1;
+      entered_1 = record { own = worked.reporter_1.0; before = _; fresh = (one.sound, one.mine); entered = worked.reporter_1.1 };
+      entered_2 = record { own = worked.reporter_2.0; before = _; fresh = (two.sound, two.mine); entered = worked.reporter_2.1 };
+      own = c.in_err-settled.ensures.own.1;
       high = settled.high;
       met_1 = begins_take first.seen last.seen _ settled.first settled.low_first;
       met_2 = begins_take second.seen last.seen _ settled.second settled.low_second;

@@ -29,7 +29,8 @@ loop-row-preserved g c =
       | then-get-reporter w ↦
           let z = known w.report.new.pass in
           let own = sym c.get.ensures.value ∙ w.if-get-reporter.true in
-          let e = next_entered k m z c.args.reporter (take i rows) row w.report.result so_far.entered own w.report.ensures.always w.report.ensures.accepted w.report.ensures.refused in
+          let said = w.report.ensures.says in
+          let e = next_entered k m z c.args.reporter (take i rows) row w.report.result so_far.entered own said.always said.accepted said.refused in
           let more = rows_own_next c.args.reporter i rows row c.loop-row-test.true c.row-item.is own in
           record {
             own = subst (λ p. g.B.LiveBoard.is_reporter c.args.board.now p) (sym w.pass-is) w.report.ensures.own;

@@ -9,12 +9,12 @@ pub shown-requires-clause-own : goal.shown-requires-clause-own
 shown-requires-clause-own g c κs within = c.read-reading.ensures.own
 
 pub shown-requires-clause-sound : goal.shown-requires-clause-sound
-shown-requires-clause-sound g c κs within = c.read-reading.ensures.always.sound
+shown-requires-clause-sound g c κs within = c.read-reading.ensures.says.always.sound
 
 pub shown-requires-clause-read : goal.shown-requires-clause-read
 shown-requires-clause-read g c κs within =
     let k = g.B.LiveBoard.reader in
-    just_read (k c.loop-call.pass) (k c.read-reading.new.pass) c.read-reading.result c.read-reading.ensures.reading
+    just_read (k c.loop-call.pass) (k c.read-reading.new.pass) c.read-reading.result c.read-reading.ensures.says.reading
 
 pub shown-requires-clause-text : goal.shown-requires-clause-text
 shown-requires-clause-text g c κs within = c.as_str.ensures.value ∙ c.in_ok-text.ensures
@@ -23,10 +23,10 @@ pub loop-call-preserved : goal.loop-call-preserved
 loop-call-preserved g c =
     let k = g.B.LiveBoard.reader in
     let plan = c.args.plan.now in
-    let read = c.read-reading.ensures in
+    let read = c.read-reading.ensures.says in
     let so_far = c.loop-call.invariant in
     record {
-      own = read.own;
+      own = c.read-reading.ensures.own;
       shown = shown_more (style_of plan) (k c.args.pass) (k c.loop-call.pass) (k c.read-reading.new.pass) c.read-reading.result c.loop-call.call _
           (string_bytes c.in_ok-text.text) so_far.shown read.always read.reading c.in_ok-text.ensures;
     }

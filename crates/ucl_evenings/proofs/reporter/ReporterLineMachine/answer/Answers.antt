@@ -44,13 +44,14 @@ returns-in-Matches-clause-answers g c =
     let live = g.B.LiveBoard in
     let k = live.reporter me.pass in
     let z = live.reporter c.read_own-reading.new.pass in
-    let read = c.read_own-reading.ensures in
+    let read = c.read_own-reading.ensures.says in
     on_ok c.answer_matches.result _ _
     (λ text. (
       refl,
       same_style me.shape me.roster.now k z read.always.number,
       looked_turn (reply_style me.shape me.roster.now k) k z (live.has_reported me.pass) (live.has_reported c.read_own-reading.new.pass) (g.V.Ring.rung me.bells) c.args.row c.args.line.now
-          (sym c.input_on.ensures ∙ c.in-Matches.is) c.read_own-reading.result read.always read.reading read.reported _ text,
+          (sym c.input_on.ensures ∙ c.in-Matches.is) c.read_own-reading.result read.always read.reading
+          c.read_own-reading.ensures.reported _ text,
     )) c.answer_matches.ensures.text
 
 pub returns-in-Matches-clause-stops : goal.returns-in-Matches-clause-stops
@@ -59,7 +60,7 @@ returns-in-Matches-clause-stops g c =
     let live = g.B.LiveBoard in
     let k = live.reporter me.pass in
     let z = live.reporter c.read_own-reading.new.pass in
-    let read = c.read_own-reading.ensures in
+    let read = c.read_own-reading.ensures.says in
     let is = sym c.input_on.ensures ∙ c.in-Matches.is in
     if_err c.answer_matches.result _ _
     (λ fault memory. (
@@ -69,12 +70,12 @@ returns-in-Matches-clause-stops g c =
         wants = inr is;
         text = _;
         turned = looked_turn (reply_style me.shape me.roster.now k) k z (live.has_reported me.pass) (live.has_reported c.read_own-reading.new.pass) (g.V.Ring.rung me.bells) c.args.row
-            c.args.line.now is c.read_own-reading.result read.always read.reading read.reported _ refl;
+            c.args.line.now is c.read_own-reading.result read.always read.reading c.read_own-reading.ensures.reported _ refl;
       },
     )) c.answer_matches.ensures.memory
 
 pub answer_event-requires : goal.answer_event-requires
-answer_event-requires g c = past_accepted _ _ _ _ _ _ c.in-Ok.ensures.accepted c.read_own-reading-in-Ok.ensures.reading
+answer_event-requires g c = past_accepted _ _ _ _ _ _ c.in-Ok.ensures.says.accepted c.read_own-reading-in-Ok.ensures.says.reading
 
 pub returns-in-Ok-clause-answers : goal.returns-in-Ok-clause-answers
 returns-in-Ok-clause-answers g c =
@@ -92,10 +93,11 @@ returns-in-Ok-clause-answers g c =
     on_ok c.answer_event.result _ _
     (λ text. (
       refl,
-      same_style me.shape me.roster.now k z (then.always.number ∙ first.always.number),
+      same_style me.shape me.roster.now k z (then.says.always.number ∙ first.says.always.number),
       entered_turn (reply_style me.shape me.roster.now k) k m z (live.has_reported me.pass) (live.has_reported c.report.new.pass) (live.has_reported c.read_own-reading-in-Ok.new.pass) _ _
           c.args.row c.args.line.now call (sym c.input_on.ensures ∙ c.in-Event.is) reply reading
-          first.always first.accepted then.always then.reading first.reported then.reported c.ring.ensures _ (text ∙ number),
+          first.says.always first.says.accepted then.says.always then.says.reading
+          first.reported then.reported c.ring.ensures _ (text ∙ number),
     )) c.answer_event.ensures.text
 
 pub returns-in-Ok-clause-stops : goal.returns-in-Ok-clause-stops
@@ -116,7 +118,7 @@ returns-in-Ok-clause-stops g c =
         text = _;
         turned = entered_turn (reply_style me.shape me.roster.now k) k m z (live.has_reported me.pass) (live.has_reported c.report.new.pass) (live.has_reported c.read_own-reading-in-Ok.new.pass) _ _
             c.args.row c.args.line.now c.in-Event.call (sym c.input_on.ensures ∙ c.in-Event.is) c.in-Ok.accepted c.read_own-reading-in-Ok.result
-            first.always first.accepted then.always then.reading first.reported then.reported c.ring.ensures _ refl;
+            first.says.always first.says.accepted then.says.always then.says.reading first.reported then.reported c.ring.ensures _ refl;
       },
     )) c.answer_event.ensures.memory
 
@@ -136,10 +138,10 @@ returns-in-Err-clause-answers g c =
     on_ok c.answer_event-in-Err.result _ _
     (λ text. (
       refl,
-      same_style me.shape me.roster.now k z (then.always.number ∙ first.always.number),
+      same_style me.shape me.roster.now k z (then.says.always.number ∙ first.says.always.number),
       refused_turn (reply_style me.shape me.roster.now k) k m z (live.has_reported me.pass) (live.has_reported c.report.new.pass) (live.has_reported c.read_own-reading-in-Err.new.pass)
           (g.V.Ring.rung me.bells) c.args.row c.args.line.now call (sym c.input_on.ensures ∙ c.in-Event.is) refusal reading
-          first.always first.refused then.always then.reading first.reported then.reported _ (text ∙ number),
+          first.says.always first.says.refused then.says.always then.says.reading first.reported then.reported _ (text ∙ number),
     )) c.answer_event-in-Err.ensures.text
 
 pub returns-in-Err-clause-stops : goal.returns-in-Err-clause-stops
@@ -160,6 +162,6 @@ returns-in-Err-clause-stops g c =
         text = _;
         turned = refused_turn (reply_style me.shape me.roster.now k) k m z (live.has_reported me.pass) (live.has_reported c.report.new.pass) (live.has_reported c.read_own-reading-in-Err.new.pass)
             (g.V.Ring.rung me.bells) c.args.row c.args.line.now c.in-Event.call (sym c.input_on.ensures ∙ c.in-Event.is) c.in-Err.refusal c.read_own-reading-in-Err.result
-            first.always first.refused then.always then.reading first.reported then.reported _ refl;
+            first.says.always first.says.refused then.says.always then.says.reading first.reported then.reported _ refl;
       },
     )) c.answer_event-in-Err.ensures.memory

@@ -12,5 +12,7 @@ returns-clause-rule g c = opens_fresh words_after
 pub returns-in_err-cell-clause-rule : goal.returns-in_err-cell-clause-rule
 returns-in_err-cell-clause-rule g c = opens_fresh words_after
 
-pub returns-clause-stands : goal.returns-clause-stands
-returns-clause-stands g c = (0, subst (CellStands 0) (sym c.in_ok-cell.ensures.1) begins_stands)
+pub returns-clause-opened : goal.returns-clause-opened
+returns-clause-opened g c =
+    let stands = subst (CellStands 0) (sym c.in_ok-cell.ensures.1) begins_stands in
+    record { fresh = search rules; untaken = search rules; stands = (0, stands) }

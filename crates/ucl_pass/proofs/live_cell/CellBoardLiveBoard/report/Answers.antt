@@ -1,4 +1,5 @@
 use Rattle.ucl_pass.proofs.Common.{subst, ◌+◌, ◌≤◌, sym, ◌∙◌, arith, knows, greatest_version, ReportsMore, pass_view_of, CellPass, CellHasReported, room}
+use Rattle.std.proofs.lemmas.Grind.{common_steps}
 use Rattle.ucl_pass.proofs.Reports.{report_counts}
 use Rattle.ucl_pass.proofs.live_cell.CellBoardLiveBoard.report.Goals as goal
 
@@ -11,14 +12,18 @@ overflow_add-pass g c =
     (sym c.is_ok.ensures.value ∙ c.if-is_ok.true) said.always.sound c.pass.invariant.2 in
     omega arith
 
-pub returns-then-is_ok-clause-reported : goal.returns-then-is_ok-clause-reported
-returns-then-is_ok-clause-reported g c =
+pub returns-then-is_ok : goal.returns-then-is_ok
+returns-then-is_ok g c =
     let w = knows c.report_by-result.new.seat in
+    let reported =
     subst (λ (p : CellPass). ReportsMore (CellHasReported p.view.own) 1 (CellHasReported w.own)) c.pass.view_is
-    (report_counts (knows c.pass.inside.seat) w c.args.call.now c.report_by-result.result c.report_by-result.ensures.steps)
+    (report_counts (knows c.pass.inside.seat) w c.args.call.now c.report_by-result.result c.report_by-result.ensures.steps) in
+    grind (arith, common_steps, reported)
 
-pub returns-else-is_ok-clause-reported : goal.returns-else-is_ok-clause-reported
-returns-else-is_ok-clause-reported g c =
+pub returns-else-is_ok : goal.returns-else-is_ok
+returns-else-is_ok g c =
     let w = knows c.report_by-result.new.seat in
+    let reported =
     subst (λ (p : CellPass). ReportsMore (CellHasReported p.view.own) 1 (CellHasReported w.own)) c.pass.view_is
-    (report_counts (knows c.pass.inside.seat) w c.args.call.now c.report_by-result.result c.report_by-result.ensures.steps)
+    (report_counts (knows c.pass.inside.seat) w c.args.call.now c.report_by-result.result c.report_by-result.ensures.steps) in
+    grind (arith, common_steps, reported)
