@@ -35,9 +35,8 @@ follows_one h low m le at is = (omega arith, is ∙ ap (λ (z : List Entry). wor
 
 -- each access, by its place
 pub follows_at : (h : List Entry) (low high : ℕ) (ms : List Access) (k : ℕ) (m : Access) → Follows h low ms high → slice_get ms k ≡ Some m → (low ≤ m.at) × (m.at ≤ high) × IsFoundIn h m
-follows_at h low high [] k m f e = absurd (none-some m e)
-follows_at h low high (n ∷ ms) zero m f e = subst (λ (x : Access). (low ≤ x.at) × (x.at ≤ high) × IsFoundIn h x) (same_Some n m e) (f.0, follows_ends h n.at high ms f.2, f.1)
 follows_at h low high (n ∷ ms) (suc k) m f e = let t = follows_at h n.at high ms k m f.2 e in let a = f.0 in let b = t.0 in (omega arith, t.1, t.2)
+follows_at h low high ms k m f e = search (arith, none-some, same_Some, follows_ends)
 
 -- two parts, the first of which ends at the place of its last access
 pub record Parts (h : List Entry) (low high : ℕ) (ms ns : List Access) : Type 0 where
@@ -47,9 +46,8 @@ pub record Parts (h : List Entry) (low high : ℕ) (ms ns : List Access) : Type 
   pub ends : (k : ℕ) (m : Access) → slice_get ms k ≡ Some m → k + 1 ≡ length ms → m.at ≡ middle
 
 pub follows_parts : (h : List Entry) (low high : ℕ) (ms ns : List Access) → Follows h low (ms ++ ns) high → Parts h low high ms ns
-follows_parts h low high [] ns f = record { middle = low; former = le_refl low; latter = f; ends = λ k m e last. absurd (none-some m e) }
-follows_parts h low high (m ∷ []) ns f = search (arith, le_refl, same_Some)
 follows_parts h low high (m ∷ n ∷ ms) ns f = search (arith, follows_parts h m.at high (n ∷ ms) ns f.2)
+follows_parts h low high ms ns f = search (arith, le_refl, none-some, same_Some)
 
 -- collects
 
@@ -100,12 +98,7 @@ unclean_try h low high ms f try =
 pub tries_bound : (h : List Entry) (low high : ℕ) (tries : List (List Access)) → Follows h low (accesses_of tries) high → AllByRecursion IsUnclean tries
     → (low + length tries ≤ high) × (length (accesses_of tries) ≤ 24 * length tries)
 tries_bound h low high [] f all = (omega arith, omega arith)
-tries_bound h low high (ms ∷ tries) f all =
-    let parts = follows_parts h low high ms (accesses_of tries) f in
-    let one = unclean_try h low parts.middle ms parts.former all.0 in
-    let rest = tries_bound h parts.middle high tries parts.latter all.1 in
-    let a = one.0 in let b = one.1 in let c = rest.0 in let d = rest.1 in
-    (omega arith, omega (arith, length-append ms (accesses_of tries)))
+tries_bound h low high (ms ∷ tries) f all = search (arith, follows_parts, unclean_try, length-append, tries_bound h (follows_parts h low high ms (accesses_of tries) f).middle high tries (follows_parts h low high ms (accesses_of tries) f).latter all.1)
 
 pub tries_few : UncleanTriesAreFew
 tries_few h low high tries f all = (tries_bound h low high tries f all).0

@@ -39,9 +39,7 @@ all_then P Q f xs h k d lt = f _ (h k d lt)
 
 filter_same : (p q : Told → Bool) (cs : List Told) → All (λ c. p c ≡ q c) cs → filter p cs ≡ filter q cs
 filter_same p q [] same = refl
-filter_same p q (c ∷ cs) same =
-    ap (λ (b : Bool). cond b (c ∷ filter p cs) (filter p cs)) (All-head (λ d. p d ≡ q d) c cs same)
-    ∙ ap (λ (l : List Told). cond (q c) (c ∷ l) l) (filter_same p q cs (All-tail (λ d. p d ≡ q d) c cs same))
+filter_same p q (c ∷ cs) same = search (arith, All-head, All-tail, filter_same p q cs (All-tail (λ d. p d ≡ q d) c cs same))
 
 filter_none : (p : Told → Bool) (cs : List Told) → All (λ c. p c ≡ false) cs → filter p cs ≡ []
 filter_none p [] not = refl
@@ -157,10 +155,7 @@ module _ (readers enlisted : ℕ) (history : List Entry) (actors : List Actor) (
   newcomer_idle d is = search (arith, le_refl)
 
   newcomer_none : All (λ (x : Told). is_of (length actors) 0 x.0 ≡ false) (calls_told r.state)
-  newcomer_none k d lt =
-      let t = r.only k d lt in
-      let below = place_below actors t.0 t.1 t.2 in
-      not_of (length actors) 0 _ (λ c of. apart_callers (length actors) t.0 0 t.1.number _ c (λ is. omega arith) (λ pos. absurd (omega arith)) of t.3)
+  newcomer_none k d lt = search (arith, r.only k d lt, place_below actors (r.only k d lt).0 (r.only k d lt).1 (r.only k d lt).2, place_below, not_of, apart_callers)
 
   pub run_more : IsRunOfActors readers enlisted history (actors ++ record { number = 0; doing = nothing_done } ∷ [])
   run_more =
@@ -205,16 +200,8 @@ run_begins readers all = record {
 
 -- of a history that is the same
 same_run : (readers enlisted : ℕ) (h h' : List Entry) (actors : List Actor) → IsRunOfActors readers enlisted h actors → h ≡ h' → IsRunOfActors readers enlisted h' actors
-same_run readers enlisted h h' actors r same = record {
-  moves = r.moves;
-  state = r.state;
-  run = r.run;
-  history_is = r.history_is ∙ same;
-  each = r.each;
-  only = r.only;
-  unseated = r.unseated;
-  unnumbered = r.unnumbered;
-}
+same_run readers enlisted h h' actors r same =
+    record { moves = r.moves; state = r.state; run = r.run; history_is = r.history_is ∙ same; each = r.each; only = r.only; unseated = r.unseated; unnumbered = r.unnumbered }
 
 -- steps that are no accesses
 pub log_kept : (readers enlisted : ℕ) (log log' : Log) (actors : List Actor) → IsRunOfLog readers enlisted log actors → history_of log' ≡ history_of log → accesses_of_log log' ≡ accesses_of_log log
@@ -232,18 +219,14 @@ logged_accesses log seat t = search (arith, flat_map-append, append-nil)
 steps_still : (actors later : List Actor)
     → ((j : ℕ) (a : Actor) (kind : AccessKind) (c : Caller) → get_elem? actors j ≡ some a → IsTakenBy j a.number kind c → (b : Actor) × (get_elem? later j ≡ some b) × IsTakenBy j b.number kind c)
     → (xs : List (Caller × Access)) (ys : List (ℕ × Access)) → AreStepsOf actors xs ys → AreStepsOf later xs ys
-steps_still actors later kept [] [] a = tt
-steps_still actors later kept [] (y ∷ ys) a = absurd a
-steps_still actors later kept (x ∷ xs) [] a = absurd a
 steps_still actors later kept (x ∷ xs) (y ∷ ys) a = (a.0, kept y.0 a.1.0 y.1.kind x.0 a.1.1 a.1.2, steps_still actors later kept xs ys a.2)
+steps_still actors later kept xs ys a = search arith
 
 steps_more : (actors : List Actor) (seat : ℕ) (a : Actor) (c : Caller) (m : Access) → get_elem? actors seat ≡ some a → IsTakenBy seat a.number m.kind c
     → (xs : List (Caller × Access)) (ys : List (ℕ × Access)) → AreStepsOf actors xs ys
     → AreStepsOf actors (xs ++ (c, m) ∷ []) (ys ++ (seat, m) ∷ [])
-steps_more actors seat a c m here by [] [] is = (refl, (a, here, by), tt)
-steps_more actors seat a c m here by [] (y ∷ ys) is = absurd is
-steps_more actors seat a c m here by (x ∷ xs) [] is = absurd is
 steps_more actors seat a c m here by (x ∷ xs) (y ∷ ys) is = (is.0, is.1, steps_more actors seat a c m here by xs ys is.2)
+steps_more actors seat a c m here by xs ys is = search arith
 
 module _ (readers enlisted : ℕ) (log : Log) (actors : List Actor) (r : IsRunOfLog readers enlisted log actors) (seat : ℕ) (a : Actor) (here : get_elem? actors seat ≡ some a) where
   abbrev moves_left : List Move → List (Caller × Access)
@@ -286,14 +269,8 @@ module _ (readers enlisted : ℕ) (log : Log) (actors : List Actor) (r : IsRunOf
       log_kept readers (enlisted + 1) log log' (set actors seat b)
       (record { of_actors = run_enlisted readers enlisted (history_of log) actors r.of_actors seat a here reader room none low; accesses = left_still b still }) is trace
     where
-      still_by : (kind : AccessKind) (c : Caller) → IsTakenBy seat 0 kind c → IsTakenBy seat (enlisted + 1) kind c
-      still_by Look c by = let low = by.1.0 in absurd (omega arith)
-      still_by Swap c by = let low = by.1.0 in absurd (omega arith)
-      still_by First c by = by
-      still_by Second c by = by
-
       still : (kind : AccessKind) (c : Caller) → IsTakenBy seat a.number kind c → IsTakenBy seat (enlisted + 1) kind c
-      still kind c by = still_by kind c (subst (λ (n : ℕ). IsTakenBy seat n kind c) reader by)
+      still kind c by = search arith
 
 -- an actor more, without a number, that has done nothing
 pub log_more : (readers enlisted : ℕ) (log : Log) (actors : List Actor) → IsRunOfLog readers enlisted log actors → length actors < readers

@@ -22,9 +22,8 @@ abbrev accesses_by : Caller → List (Caller × Access) → ℕ
 accesses_by c xs = length (filter (λ (x : Caller × Access). is_caller c x.0) xs)
 
 accesses_few : (c : Caller) (steps : List Step) (o : Option MachineState) → accesses_by c (left_by steps o) ≤ length (steps_by c steps)
-accesses_few c [] o = omega arith
-accesses_few c (s ∷ steps) None = omega arith
 accesses_few c (s ∷ steps) (Some w) = search (arith, accesses_one, filter-append, length-append, accesses_few c steps (after_step w s))
+accesses_few c steps o = search arith
 
 -- the accesses of a seat are those of its two callers
 
@@ -53,10 +52,8 @@ module _ (actors : List Actor) (seat : ℕ) (b : Actor) (there : get_elem? actor
   by_takers : (f : Caller → ℕ) (count : List (Caller × Access) → ℕ) → ((x : Caller × Access) (xs : List (Caller × Access)) → count (x ∷ xs) ≡ f x.0 + count xs)
       → ((kind : AccessKind) (c : Caller) → IsTakenBy seat b.number kind c → 1 ≤ f c) → (xs : List (Caller × Access)) (ys : List (ℕ × Access)) → AreStepsOf actors xs ys
       → accesses_at seat ys ≤ count xs
-  by_takers f count cons each [] [] are = omega arith
-  by_takers f count cons each [] (y ∷ ys) are = absurd are
-  by_takers f count cons each (x ∷ xs) [] are = absurd are
   by_takers f count cons each (x ∷ xs) (y ∷ ys) are = search (arith, longer_by, eqb-true, some-injective, get_elem?, by_takers f count cons each xs ys are.2)
+  by_takers f count cons each xs ys are = search arith
 
 -- of the two callers of a pass only one takes steps
 module _ (done : List Step) (w t : MachineState) (kept : Keeps done w) (steps : List Step) (e : after_steps steps w ≡ Some t) (same : decided_in t.calls ≡ decided_in w.calls)
@@ -92,10 +89,8 @@ module _ (done : List Step) (w t : MachineState) (kept : Keeps done w) (steps : 
 -- what follows the accesses of an earlier run are the accesses since
 later_ones : (actors later : List Actor) (xs more : List (Caller × Access)) (ys since : List (ℕ × Access)) → AreStepsOf actors xs ys → AreStepsOf later (xs ++ more) (ys ++ since)
     → AreStepsOf later more since
-later_ones actors later [] more [] since are now = now
-later_ones actors later [] more (y ∷ ys) since are now = absurd are
-later_ones actors later (x ∷ xs) more [] since are now = absurd are
 later_ones actors later (x ∷ xs) more (y ∷ ys) since are now = later_ones actors later xs more ys since are.2 now.2
+later_ones actors later xs more ys since are now = search arith
 
 -- while no actor finishes a call, each takes few accesses
 pub few_accesses : (readers enlisted enlisted' : ℕ) (log since : Log) (actors later : List Actor) (r : IsRunOfLog readers enlisted log actors) (q : IsRunOfLog readers enlisted' (log ++ since) later)

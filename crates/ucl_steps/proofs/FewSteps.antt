@@ -25,12 +25,7 @@ stale_push at k (x ∷ xs) words is = ap (λ (o : Option ℕ). cond (slice_index
 
 stale_within : (at : ℕ) (xs words : List ℕ) (j : ℕ) → stale_from at xs words ≡ Some j → (at ≤ j) × (j < at + length xs)
 stale_within at [] words j e = absurd (none-some j e)
-stale_within at (x ∷ xs) words j e =
-    by_test (slice_index words at == x) (stale_from (at + 1) xs words) (λ e. let t = stale_within (at + 1) xs words j e in let low = t.0 in let high = t.1 in (omega arith, omega arith)) e
-  where
-    by_test : (b : Bool) (o : Option ℕ) → (o ≡ Some j → (at ≤ j) × (j < at + suc (length xs))) → cond b o (Some at) ≡ Some j → (at ≤ j) × (j < at + suc (length xs))
-    by_test true o rest e = rest e
-    by_test false o rest e = let is = same_Some at j e in (omega arith, omega arith)
+stale_within at (x ∷ xs) words j e = search (arith, stale_within (at + 1) xs words j, same_Some)
 
 -- the most steps that a reading may still take, with so many words collected or found again
 abbrev collecting_left : ℕ → Option ℕ → ℕ
@@ -200,20 +195,8 @@ module _ (steps : List Step) (w : MachineState) (kept : Keeps steps w) where
 
   -- what a caller holds leaves it few steps
   few_left : (c : Caller) (x : Holds) → held_by w.callers c ≡ Some x → left_in w.words x ≤ most_between
-  few_left c Idle held = omega arith
-  few_left c (Wanting k e) held = omega arith
-  few_left c (Within k Nothing) held = omega arith
-  few_left c (Within k (Holding e old new)) held = omega arith
-  few_left c (Within k (Collecting xs)) held = search (arith, stale_within, most_between)
-  few_left c (Within k (Checking xs n point)) held =
-      let t = (kept.knows c (Within k (Checking xs n point)) k held refl).sees in
-      let long = length-drop n xs in
-      by_place (stale_from n (drop n xs) w.words) (λ j at. let l = (stale_within n (drop n xs) w.words j at).1 in omega arith)
-    where
-      by_place : (o : Option ℕ) → ((j : ℕ) → o ≡ Some j → j < 12) → checking_left n o ≤ most_between
-      by_place None within = omega arith
-      by_place (Some j) within = let l = within j refl in omega arith
-  few_left c (Answered k) held = omega arith
+  few_left c (Within k (Checking xs n point)) held = search (arith, length-drop n xs, stale_within, most_between, kept.knows c (Within k (Checking xs n point)) k held refl)
+  few_left c x held = search (arith, stale_within, most_between)
 
 -- one caller
 
@@ -227,38 +210,34 @@ not_caller c d not = search (arith, ne_eqb)
 one_more : {X : Type 0} (b : Bool) (x : X) (xs : List X) → length (cond b (x ∷ xs) xs) ≤ suc (length xs)
 one_more b x xs = search arith
 
+-- what holds at the end of steps, and before a step where it holds after it, holds before them all
+along : (t : MachineState) (P : List Step → MachineState → Type 0) → P [] t
+    → ((s : Step) (steps : List Step) (w v : MachineState) → Stepped (caller_of s) w v → P steps v → P (s ∷ steps) w)
+    → (done steps : List Step) (w : MachineState) → Keeps done w → after_steps steps w ≡ Some t → P steps w
+along t P none one done [] w kept e = subst (P []) (sym (same_Some w t e)) none
+along t P none one done (s ∷ steps) w kept e = option_and_then_some (after_steps steps) (after_step w s) t e (λ v is then.
+    let later = step_kept done w kept s (held_by w.callers (caller_of s)) v refl is in
+    one s steps w v (step_counted done w kept s (held_by w.callers (caller_of s)) v refl is) (along t P none one (done ++ s ∷ []) steps v later then))
+
 -- the number of decided calls never falls
 pub decided_more : (done steps : List Step) (w t : MachineState) → Keeps done w → after_steps steps w ≡ Some t → decided_in w.calls ≤ decided_in t.calls
-decided_more done [] w t kept e = let same = ap (λ (z : MachineState). decided_in z.calls) (same_Some w t e) in omega arith
-decided_more done (s ∷ steps) w t kept e = option_and_then_some (after_steps steps) (after_step w s) t e (λ v is then.
-    let rest = decided_more (done ++ s ∷ []) steps v t (step_kept done w kept s (held_by w.callers (caller_of s)) v refl is) then in
-    elim (step_counted done w kept s (held_by w.callers (caller_of s)) v refl is).comes [ inl one ↦ omega arith | inr g ↦ let same = g.decided in omega arith ])
+decided_more done steps w t = along t (λ _ v. decided_in v.calls ≤ decided_in t.calls) (omega arith) (λ s rest v u one l. search (arith, one.comes)) done steps w
+
+-- the same of steps that decide no call
+quiet : (t : MachineState) (P : List Step → MachineState → Type 0) → P [] t
+    → ((s : Step) (steps : List Step) (w v : MachineState) (one : Stepped (caller_of s) w v) → Stays w one.was v one.is → P steps v → P (s ∷ steps) w)
+    → (done steps : List Step) (w : MachineState) → Keeps done w → after_steps steps w ≡ Some t → decided_in t.calls ≤ decided_in w.calls → P steps w
+quiet t P none one done steps w kept e few =
+    (along t (λ steps w. (decided_in w.calls ≤ decided_in t.calls) × (decided_in t.calls ≤ decided_in w.calls → P steps w)) (omega arith, λ _. none)
+    (λ s steps w v x rest. search (arith, x.comes, one s steps w v x, rest.0, rest.1)) done steps w kept e).1 few
 
 few_by : (c : Caller) (done steps : List Step) (w t : MachineState) → Keeps done w → after_steps steps w ≡ Some t → decided_in t.calls ≤ decided_in w.calls
     → length (steps_by c steps) ≤ left_of w.words (held_by w.callers c)
-few_by c done [] w t kept e few = omega arith
-few_by c done (s ∷ steps) w t kept e few = option_and_then_some (after_steps steps) (after_step w s) t e (λ v is then.
-    let later = step_kept done w kept s (held_by w.callers (caller_of s)) v refl is in
-    let more = decided_more (done ++ s ∷ []) steps v t later then in
-    let one = step_counted done w kept s (held_by w.callers (caller_of s)) v refl is in
-    elim one.comes [
-      | inl decided ↦ absurd (omega arith)
-      | inr g ↦
-          let rest = few_by c (done ++ s ∷ []) steps v t later then (omega arith) in
-          elim (same_caller c (caller_of s)) [
-            | inl own ↦
-                let now : left_of v.words (held_by v.callers c) ≡ left_in w.words one.is = search (arith, held_here) in
-                let was : left_of w.words (held_by w.callers c) ≡ left_in w.words one.was = ap (λ (z : Caller). left_of w.words (held_by w.callers z)) own ∙ ap (left_of w.words) one.held in
-                let count = one_more (is_caller c (caller_of s)) s (steps_by c steps) in
-                omega arith
-            | inr other ↦
-                let now : left_of v.words (held_by v.callers c) ≡ left_of w.words (held_by w.callers c) =
-                ap (λ (z : Callers). left_of v.words (held_by z c)) one.callers
-                ∙ (ap (left_of v.words) (held_else w.callers (caller_of s) c one.is one.was one.held other) ∙ ap (λ (z : List ℕ). left_of z (held_by w.callers c)) g.words) in
-                let count : length (steps_by c (s ∷ steps)) ≡ length (steps_by c steps) = search (arith, not_caller) in
-                omega arith
-          ]
-    ])
+few_by c done steps w t = quiet t (λ steps w. length (steps_by c steps) ≤ left_of w.words (held_by w.callers c)) (omega arith) each done steps w
+  where
+    each : (s : Step) (steps : List Step) (w v : MachineState) (one : Stepped (caller_of s) w v) → Stays w one.was v one.is
+        → length (steps_by c steps) ≤ left_of v.words (held_by v.callers c) → length (steps_by c (s ∷ steps)) ≤ left_of w.words (held_by w.callers c)
+    each s steps w v one g rest = search (arith, same_caller c (caller_of s), held_here, held_else, one_more {X = Step}, not_caller)
 
 few_of : (c : Caller) (done : List Step) (w : MachineState) → Keeps done w → (o : Option Holds) → held_by w.callers c ≡ o → left_of w.words o ≤ most_between
 few_of c done w kept o held = search (arith, few_left)
@@ -267,54 +246,16 @@ pub each_few : (c : Caller) (done steps : List Step) (w t : MachineState) → Ke
     → length (steps_by c steps) ≤ most_between
 each_few c done steps w t kept e same = search (arith, few_by c done steps w t kept e (omega arith), few_of, w.callers)
 
--- a call under way stays so
-stays_open : (c : Caller) (done steps : List Step) (w t : MachineState) (x : Holds) → Keeps done w → after_steps steps w ≡ Some t → decided_in t.calls ≤ decided_in w.calls
-    → held_by w.callers c ≡ Some x → IsOpen x → held_by t.callers c ≡ Some Idle → ⊥
-stays_open c done [] w t x kept e few held opened idle = search (arith, same_Some, held_by)
-stays_open c done (s ∷ steps) w t x kept e few held opened idle = option_and_then_some (after_steps steps) (after_step w s) t e (λ v is then.
-    let later = step_kept done w kept s (held_by w.callers (caller_of s)) v refl is in
-    let more = decided_more (done ++ s ∷ []) steps v t later then in
-    let one = step_counted done w kept s (held_by w.callers (caller_of s)) v refl is in
-    elim one.comes [
-      | inl decided ↦ absurd (omega arith)
-      | inr g ↦ search (
-        arith,
-        same_caller c (caller_of s),
-        held_here w.callers (caller_of s) one.was one.is one.held,
-        stays_open c (done ++ s ∷ []) steps v t one.is later,
-        stays_open c (done ++ s ∷ []) steps v t x later,
-        same_Some,
-        held_else,
-      )
-    ])
-  where
-    open_not : (x : Holds) → IsOpen x → NotAnswered x
-    open_not Idle opened = tt
-    open_not (Wanting k e) opened = tt
-    open_not (Within k held) opened = tt
-    open_not (Answered k) opened = opened
-
--- so a caller that is idle in the end has taken no step
+-- a caller whose call has no reply, and that is idle in the end, has taken no step: its step leaves its call under way
 pub takes_none : (c : Caller) (done steps : List Step) (w t : MachineState) → Keeps done w → after_steps steps w ≡ Some t → decided_in t.calls ≤ decided_in w.calls
     → ((k : ℕ) → held_by w.callers c ≢ Some (Answered k)) → held_by t.callers c ≡ Some Idle → length (steps_by c steps) ≤ 0
-takes_none c done [] w t kept e few not idle = omega arith
-takes_none c done (s ∷ steps) w t kept e few not idle = option_and_then_some (after_steps steps) (after_step w s) t e (λ v is then.
-    let later = step_kept done w kept s (held_by w.callers (caller_of s)) v refl is in
-    let more = decided_more (done ++ s ∷ []) steps v t later then in
-    let one = step_counted done w kept s (held_by w.callers (caller_of s)) v refl is in
-    elim one.comes [
-      | inl decided ↦ absurd (omega arith)
-      | inr g ↦ search (
-        arith,
-        same_caller c (caller_of s),
-        stays_open c (done ++ s ∷ []) steps v t one.is later,
-        held_here w.callers (caller_of s) one.was one.is one.held,
-        takes_none c (done ++ s ∷ []) steps v t later,
-        not_answered,
-        held_else,
-        not_caller,
-      )
-    ])
+takes_none c done steps w t kept e few not idle = (quiet t P (λ _. (idle, omega arith)) each done steps w kept e few not).1
+  where
+    P : List Step → MachineState → Type 0
+    P steps w = ((k : ℕ) → held_by w.callers c ≢ Some (Answered k)) → (held_by w.callers c ≡ Some Idle) × (length (steps_by c steps) ≤ 0)
+
+    each : (s : Step) (steps : List Step) (w v : MachineState) (one : Stepped (caller_of s) w v) → Stays w one.was v one.is → P steps v → P (s ∷ steps) w
+    each s steps w v one g rest not = search (arith, same_caller c (caller_of s), held_here, held_else, not_answered, not_caller, same_Some, rest, not)
 
 -- all callers
 
@@ -336,15 +277,11 @@ all_less : (words : List ℕ) (cs : Callers) (c : Caller) (x y : Holds) → held
 all_less words cs c x y held less = search (arith, none-some, sum_less, before_it)
 
 few_in_all : (done steps : List Step) (w t : MachineState) → Keeps done w → after_steps steps w ≡ Some t → decided_in t.calls ≤ decided_in w.calls → length steps ≤ all_left w.words w.callers
-few_in_all done [] w t kept e few = omega arith
-few_in_all done (s ∷ steps) w t kept e few = option_and_then_some (after_steps steps) (after_step w s) t e (λ v is then.
-    let later = step_kept done w kept s (held_by w.callers (caller_of s)) v refl is in
-    let more = decided_more (done ++ s ∷ []) steps v t later then in
-    let one = step_counted done w kept s (held_by w.callers (caller_of s)) v refl is in
-    elim one.comes [
-      | inl decided ↦ absurd (omega arith)
-      | inr g ↦ search (arith, all_less, few_in_all (done ++ s ∷ []) steps v t later)
-    ])
+few_in_all done steps w t =
+    quiet t (λ steps w. length steps ≤ all_left w.words w.callers) (omega arith) (λ s steps w v one g rest.
+    let less = all_less w.words w.callers (caller_of s) one.was one.is one.held g.less in
+    let same : all_left v.words v.callers ≡ all_left w.words (set_held one.is (caller_of s) w.callers) = cc (one.callers, g.words) in
+    omega arith) done steps w
 
 -- so many reporters and readers as the cast has
 record AsCast (cast : Cast) (cs : Callers) : Type 0 where
@@ -354,12 +291,9 @@ record AsCast (cast : Cast) (cs : Callers) : Type 0 where
 as_cast_set : (cast : Cast) (cs : Callers) (c : Caller) (y : Holds) → AsCast cast cs → AsCast cast (set_held y c cs)
 as_cast_set cast cs c y sizes = search (arith, length-set)
 
-as_cast_run : (cast : Cast) (done steps : List Step) (w t : MachineState) → Keeps done w → AsCast cast w.callers → after_steps steps w ≡ Some t → AsCast cast t.callers
-as_cast_run cast done [] w t kept sizes e = subst (λ (z : MachineState). AsCast cast z.callers) (same_Some w t e) sizes
-as_cast_run cast done (s ∷ steps) w t kept sizes e = option_and_then_some (after_steps steps) (after_step w s) t e (λ v is then.
-    let one = step_counted done w kept s (held_by w.callers (caller_of s)) v refl is in
-    as_cast_run cast (done ++ s ∷ []) steps v t (step_kept done w kept s (held_by w.callers (caller_of s)) v refl is)
-    (subst (AsCast cast) (sym one.callers) (as_cast_set cast w.callers (caller_of s) one.is sizes)) then)
+as_cast_run : (cast : Cast) (done steps : List Step) (w t : MachineState) → Keeps done w → after_steps steps w ≡ Some t → AsCast cast w.callers → AsCast cast t.callers
+as_cast_run cast done steps w t =
+    along t (λ _ w. AsCast cast w.callers → AsCast cast t.callers) (λ sizes. sizes) (λ s steps w v one rest sizes. search (arith, rest, as_cast_set, one.callers)) done steps w
 
 all_few : (cast : Cast) (done : List Step) (w : MachineState) → Keeps done w → AsCast cast w.callers → all_left w.words w.callers ≤ (cast.reporters + cast.readers) * most_between
 all_few cast done w kept sizes =
@@ -371,5 +305,5 @@ all_few cast done w kept sizes =
 pub some_decided : SomeCallIsDecided
 some_decided cast before steps s t e f same =
     let kept = run_kept before [] (initial_state cast) s (kept_at_start cast) e in
-    let sizes = as_cast_run cast [] before (initial_state cast) s (kept_at_start cast) (record { reporters = length-replicate cast.reporters Idle; readers = length-replicate cast.readers Idle }) e in
+    let sizes = as_cast_run cast [] before (initial_state cast) s (kept_at_start cast) e (record { reporters = length-replicate cast.reporters Idle; readers = length-replicate cast.readers Idle }) in
     search (arith, few_in_all before steps s t kept f (omega arith), all_few cast before s kept sizes, each_few)

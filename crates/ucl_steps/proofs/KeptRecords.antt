@@ -6,11 +6,9 @@ use Rattle.std.proofs.lemmas.List.{nil_from_length}
 
 -- what stands before a place, and at it
 drop_split : {X : Type 0} (xs : List X) (low k : ℕ) (x : X) → low ≤ k → slice_get xs k ≡ Some x → (front : List X) × (drop low xs ≡ front ++ x ∷ drop (suc k) xs)
-drop_split [] low k x le at = absurd (none-some x at)
-drop_split {X} (y ∷ xs) zero zero x le at = ([], ap (λ (z : X). z ∷ xs) (same_Some y x at))
 drop_split {X} (y ∷ xs) zero (suc k) x le at = let t = drop_split xs 0 k x (omega arith) at in (y ∷ t.0, ap (λ (l : List X). y ∷ l) t.1)
-drop_split (y ∷ xs) (suc low) zero x le at = absurd (omega arith)
 drop_split (y ∷ xs) (suc low) (suc k) x le at = drop_split xs low k x (omega arith) at
+drop_split xs low k x le at = search (arith, none-some, same_Some)
 
 module _ (seat number : ℕ) where
   abbrev pub own : CallRecord → Bool

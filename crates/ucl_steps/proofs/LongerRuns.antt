@@ -95,9 +95,8 @@ step_holds : (s : Step) (a a' : MachineState) → after_step a s ≡ Some a' →
 step_holds s a a' e = let p = stepped s a a' e in (p.then, ap (λ (cs : Callers). held_by cs (caller_of s)) p.callers ∙ held_here a.callers (caller_of s) p.holds p.then p.held)
 
 idle_only : (n k : ℕ) (x : Holds) → slice_get (replicate n Idle) k ≡ Some x → x ≡ Idle
-idle_only zero k x e = absurd (none-some x e)
-idle_only (suc n) zero x e = sym (same_Some Idle x e)
 idle_only (suc n) (suc k) x e = idle_only n k x e
+idle_only n k x e = search (arith, none-some, same_Some)
 
 held_at_start : (cast : Cast) (c : Caller) (x : Holds) → held_by (initial_state cast).callers c ≡ Some x → x ≡ Idle
 held_at_start cast c x e = search (arith, none-some, idle_only)
@@ -378,9 +377,6 @@ module _ (actors later : List Actor) (on : HaveGoneOn actors later) (last last' 
   grows : (ms ns : List Move) (a b : MachineState) (told : List (Caller × Call)) → Alike a b → after_steps (steps_of_moves ms) a ≡ Some last → after_steps (steps_of_moves ns) b ≡ Some last'
       → told ++ begun_in (steps_of_moves ms) ≡ calls_told last → told ++ begun_in (steps_of_moves ns) ≡ calls_told last'
       → (xs ys : List (ℕ × Access)) → AreStepsOf actors (left_by (steps_of_moves ms) (Some a)) xs → AreStepsOf later (left_by (steps_of_moves ns) (Some b)) (xs ++ ys) → IsPrefix ms ns
-  grows [] ns a b told alike run run' told_is told_is' xs ys is is' = (ns, refl)
-  grows (m ∷ ms) ns a b told alike run run' told_is told_is' [] ys is is' = absurd (subst (λ (l : List (Caller × Access)). AreStepsOf actors l []) (moving m (steps_of_moves ms) a last run).left is)
-  grows (m ∷ ms) [] a b told alike run run' told_is told_is' (x ∷ xs) ys is is' = absurd is'
   grows (m ∷ ms) (n ∷ ns) a b told alike run run' told_is told_is' (x ∷ xs) ys is is' =
       let p = moving m (steps_of_moves ms) a last run in
       let q = moving n (steps_of_moves ns) b last' run' in
@@ -419,6 +415,7 @@ module _ (actors later : List Actor) (on : HaveGoneOn actors later) (last last' 
       (append_assoc told (begun_by c m.begins) (begun_in (steps_of_moves ns))
       ∙ subst (λ (o : Option Call). told ++ (begun_by c o ++ begun_in (steps_of_moves ns)) ≡ calls_told last') (sym begins) told_n) xs ys s.2 t.2 in
       (rest.0, λ i. move i ∷ rest.1 i)
+  grows ms ns a b told alike run run' told_is told_is' xs ys is is' = search (arith, moving)
 
 -- the accesses of a longer log
 pub accesses_more : (log more : Log) → accesses_of_log (log ++ more) ≡ accesses_of_log log ++ accesses_of_log more

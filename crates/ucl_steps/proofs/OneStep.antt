@@ -23,9 +23,8 @@ steps_append (s ∷ xs) ys w v e = option_and_then_some (after_steps xs) (after_
 -- before any step all callers are idle
 
 idle_in : (n k : ℕ) → k < n → slice_get (replicate n Idle) k ≡ Some Idle
-idle_in zero k l = absurd (omega arith)
-idle_in (suc n) zero l = refl
 idle_in (suc n) (suc k) l = idle_in n k (omega arith)
+idle_in n k l = search arith
 
 pub idle_at_start : (cast : Cast) (c : Caller) → IsInCast cast c → held_by (initial_state cast).callers c ≡ Some Idle
 idle_at_start cast c inside = search (arith, idle_in)

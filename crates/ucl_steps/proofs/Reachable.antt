@@ -129,7 +129,6 @@ taken_step old new s taken t is = search (arith, false≢true)
 -- one step more of a list
 pub steps_more : (steps : List Step) (at : ℕ) (s : Step) (w v u : MachineState) → slice_get steps at ≡ Some s → after_steps (take at steps) w ≡ Some v → after_step v s ≡ Some u
     → after_steps (take (suc at) steps) w ≡ Some u
-steps_more [] at s w v u here before then = absurd (none-some s here)
-steps_more (x ∷ steps) zero s w v u here before then = search arith
 steps_more (x ∷ steps) (suc at) s w v u here before then =
     option_and_then_some (after_steps (take at steps)) (after_step w x) v before (λ y is rest. ap (option_and_then (after_steps (take (suc at) steps))) is ∙ steps_more steps at s y v u here rest then)
+steps_more steps at s w v u here before then = search (arith, none-some)

@@ -17,9 +17,8 @@ use Rattle.ucl_steps.proofs.Invariant.{time_of, Keeps}
 use Rattle.ucl_steps.proofs.KeptBySteps.{step_kept}
 
 idle_all : (n k : ℕ) (x : Holds) → slice_get (replicate n Idle) k ≡ Some x → x ≡ Idle
-idle_all zero k x e = absurd (none-some x e)
-idle_all (suc n) zero x e = same_Some x Idle (sym e)
 idle_all (suc n) (suc k) x e = idle_all n k x e
+idle_all n k x e = search (arith, none-some, same_Some)
 
 idle_at_start : (cast : Cast) (c : Caller) (x : Holds) → held_by (initial_state cast).callers c ≡ Some x → x ≡ Idle
 idle_at_start cast c x e = search (arith, none-some, idle_all)

@@ -5,39 +5,19 @@ use Rattle.ucl_steps.proofs.machine.Machine.first.Goals.{then-loaded-eq11, else-
 use Rattle.ucl_steps.proofs.machine.Machine.first.Goals as goal
 
 pub offset_bounds-self-loaded : goal.offset_bounds-self-loaded
-offset_bounds-self-loaded c = search (
-  arith,
-  loaded_few (state_of c.args.self.now) c.requires c.args.caller c.held-held.result c.held-held.ensures
-      c.in-Some-Collecting.call c.in-Some-Collecting.words c.in-Some-Collecting.loaded (search rules) (search rules),
-)
+offset_bounds-self-loaded c = search (arith, rules, loaded_few (state_of c.args.self.now) c.requires c.args.caller c.held-held.result c.held-held.ensures)
 
 pub bounds-self-loaded : goal.bounds-self-loaded
-bounds-self-loaded c = search (
-  arith,
-  loaded_few (state_of c.args.self.now) c.requires c.args.caller c.held-held.result c.held-held.ensures
-      c.in-Some-Collecting.call c.in-Some-Collecting.words c.in-Some-Collecting.loaded (search rules) (search rules),
-)
+bounds-self-loaded c = search (arith, rules, loaded_few (state_of c.args.self.now) c.requires c.args.caller c.held-held.result c.held-held.ensures)
 
 pub offset_bounds-words-loaded : goal.offset_bounds-words-loaded
-offset_bounds-words-loaded c = search (
-  arith,
-  loaded_few (state_of c.args.self.now) c.requires c.args.caller c.held-held.result c.held-held.ensures
-      c.in-Some-Collecting.call c.in-Some-Collecting.words c.in-Some-Collecting.loaded (search rules) (search rules),
-)
+offset_bounds-words-loaded c = search (arith, rules, loaded_few (state_of c.args.self.now) c.requires c.args.caller c.held-held.result c.held-held.ensures)
 
 pub bounds-words-loaded : goal.bounds-words-loaded
-bounds-words-loaded c = search (
-  arith,
-  loaded_few (state_of c.args.self.now) c.requires c.args.caller c.held-held.result c.held-held.ensures
-      c.in-Some-Collecting.call c.in-Some-Collecting.words c.in-Some-Collecting.loaded (search rules) (search rules),
-)
+bounds-words-loaded c = search (arith, rules, loaded_few (state_of c.args.self.now) c.requires c.args.caller c.held-held.result c.held-held.ensures)
 
 pub overflow_add-next : goal.overflow_add-next
-overflow_add-next c = search (
-  arith,
-  loaded_few (state_of c.args.self.now) c.requires c.args.caller c.held-held.result c.held-held.ensures
-      c.in-Some-Collecting.call c.in-Some-Collecting.words c.in-Some-Collecting.loaded (search rules) (search rules),
-)
+overflow_add-next c = search (arith, rules, loaded_few (state_of c.args.self.now) c.requires c.args.caller c.held-held.result c.held-held.ensures)
 
 pub returns : goal.returns
 returns c =

@@ -4,32 +4,16 @@ use Rattle.ucl_steps.proofs.Reachable.{call_below, checked_few, collected_words,
 use Rattle.ucl_steps.proofs.machine.Machine.second.Goals as goal
 
 pub offset_bounds-self-checked : goal.offset_bounds-self-checked
-offset_bounds-self-checked c = search (
-  arith,
-  checked_few (state_of c.args.self.now) c.requires c.args.caller c.held-held.result c.held-held.ensures
-      c.in-Some-Checking.call c.in-Some-Checking.words c.in-Some-Checking.checked c.in-Some-Checking.point (search rules),
-)
+offset_bounds-self-checked c = search (arith, rules, checked_few (state_of c.args.self.now) c.requires c.args.caller c.held-held.result c.held-held.ensures)
 
 pub bounds-self-checked : goal.bounds-self-checked
-bounds-self-checked c = search (
-  arith,
-  checked_few (state_of c.args.self.now) c.requires c.args.caller c.held-held.result c.held-held.ensures
-      c.in-Some-Checking.call c.in-Some-Checking.words c.in-Some-Checking.checked c.in-Some-Checking.point (search rules),
-)
+bounds-self-checked c = search (arith, rules, checked_few (state_of c.args.self.now) c.requires c.args.caller c.held-held.result c.held-held.ensures)
 
 pub offset_bounds-words-checked : goal.offset_bounds-words-checked
-offset_bounds-words-checked c = search (
-  arith,
-  checked_few (state_of c.args.self.now) c.requires c.args.caller c.held-held.result c.held-held.ensures
-      c.in-Some-Checking.call c.in-Some-Checking.words c.in-Some-Checking.checked c.in-Some-Checking.point (search rules),
-)
+offset_bounds-words-checked c = search (arith, rules, checked_few (state_of c.args.self.now) c.requires c.args.caller c.held-held.result c.held-held.ensures)
 
 pub bounds-words-checked : goal.bounds-words-checked
-bounds-words-checked c = search (
-  arith,
-  checked_few (state_of c.args.self.now) c.requires c.args.caller c.held-held.result c.held-held.ensures
-      c.in-Some-Checking.call c.in-Some-Checking.words c.in-Some-Checking.checked c.in-Some-Checking.point (search rules),
-)
+bounds-words-checked c = search (arith, rules, checked_few (state_of c.args.self.now) c.requires c.args.caller c.held-held.result c.held-held.ensures)
 
 pub reply-requires-clause-call : goal.reply-requires-clause-call
 reply-requires-clause-call c =
@@ -38,11 +22,7 @@ reply-requires-clause-call c =
     (has.Checking c.in-Some-Checking.call c.in-Some-Checking.words c.in-Some-Checking.checked c.in-Some-Checking.point) c.in-Some-Checking.call is refl
 
 pub overflow_add-next : goal.overflow_add-next
-overflow_add-next c = search (
-  arith,
-  checked_few (state_of c.args.self.now) c.requires c.args.caller c.held-held.result c.held-held.ensures
-      c.in-Some-Checking.call c.in-Some-Checking.words c.in-Some-Checking.checked c.in-Some-Checking.point (search rules),
-)
+overflow_add-next c = search (arith, rules, checked_few (state_of c.args.self.now) c.requires c.args.caller c.held-held.result c.held-held.ensures)
 
 pub of_packed-requires : goal.of_packed-requires
 of_packed-requires c =
