@@ -3,7 +3,7 @@ use Rattle.ucl_steps.proofs.Common.{◌≡◌, ◌≢◌, ℕ, zero, suc, List, 
 
 get_set_here : {X : Type 0} (xs : List X) (k : ℕ) (x y : X) → slice_get xs k ≡ Some x → slice_get (slice_set xs k y) k ≡ Some y
 get_set_here (z ∷ xs) (suc k) x y e = get_set_here xs k x y e
-get_set_here xs k x y e = search (arith, none-some)
+get_set_here xs k x y e = search arith
 
 get_set_else : {X : Type 0} (xs : List X) (k i : ℕ) (y : X) → i ≢ k → slice_get (slice_set xs k y) i ≡ slice_get xs i
 get_set_else (z ∷ xs) (suc k) (suc i) y not = get_set_else xs k i y (λ is. not (ap suc is))

@@ -76,8 +76,7 @@ decided_counted actors [] only = omega arith
 decided_counted actors (c ∷ calls) only =
     let t = All-head (IsOfActor actors) (caller_and_call c) (map caller_and_call calls) only in
     let rest = decided_counted actors calls (All-tail (IsOfActor actors) (caller_and_call c) (map caller_and_call calls) only) in
-    let hit = hits_one 0 t.0 t.0 actors t.1 c.caller (omega arith) t.2 (own_of t.0 t.1.number c.caller t.3) in
-    search (arith, hit, count_cons 0 actors c calls, rest)
+    search (arith, count_cons, rest, hits_one 0 t.0 t.0 actors t.1 c.caller (omega arith) t.2 (own_of t.0 t.1.number c.caller t.3))
 
 -- and of just one
 

@@ -51,9 +51,7 @@ module _ (steps : List Step) (w : MachineState) (kept : Keeps steps w) where
       let h = w.history in
       let f = with_reply now (Refused refusal) in
       let base : sequential_reply (take now h) e ≡ Err refusal = ap (λ (z : List Entry). sequential_reply z e) (take-length h) ∙ ap (answer (match_after h e.game).number) refuses in
-      let is : IsSequential h now m.call.caller m.call.call (Refused refusal) =
-      subst (λ (z : Caller). IsSequential h now z m.call.call (Refused refusal)) (sym asks.caller)
-      (subst (λ (z : Call). IsSequential h now (Reporter asks.reporter) z (Refused refusal)) (sym asks.call) base) in
+      let is : IsSequential h now m.call.caller m.call.call (Refused refusal) = search arith in
       let told : IsExplained h (f m.call) (Some now) (Some (Refused refusal)) = ((begun_before k m.call m.at, le_refl now, unended_none m.call.ended (λ z. now ≤ z) m.unended), is) in
       moved steps w kept c x holds k within s (Answered k) h w.words f inner (begins_same h) kept.legal kept.words (λ a. refl)
       (once_refused w.calls k f m.call m.at asks.reply h refl kept.once) (told, refl) refl
@@ -129,11 +127,8 @@ module _ (steps : List Step) (w : MachineState) (kept : Keeps steps w) where
           ap (λ (z : List ℕ). slice_set z (g - 1) new) kept.words ∙ (ap (slice_set (board_of h) (g - 1)) new_is ∙ sym (board_next h (entered e n) kept.legal may_follow)) in
           let reply = Accepted (record { number = (record_at new).number }) in
           let f = with_reply now reply in
-          let base : IsSequential h' now (Reporter n) (Event e) reply = (
-            ap (λ (z : List Entry). sequential_reply z e) (take-append_seam h (entered e n ∷ []))
-                ∙ (ap (answer (match_after h g).number) accepted_now ∙ ap (λ (z : ℕ). Ok (record { number = z })) (sym new_number)),
-            at_end h (entered e n),
-          ) in
+          let base : IsSequential h' now (Reporter n) (Event e) reply =
+          search (arith, take-append_seam, accepted_now, new_number, at_end) in
           let is : IsSequential h' now m.call.caller m.call.call reply =
           subst (λ (z : Caller). IsSequential h' now z m.call.call reply) (sym m.caller) (subst (λ (z : Call). IsSequential h' now (Reporter n) z reply) (sym o.asks.call) base) in
           let long = length_push h (entered e n) in

@@ -130,14 +130,13 @@ module _ (seat number : ℕ) (call : Call) (w : MachineState) (may : MayAsk numb
 
     begins_under : Under seat number after_it fs call (length w.history) (held_at_begin call)
     begins_under =
-        let passes = begins_passes idle_now in
         search (
           arith,
-          records_kept w.calls after_it.calls seat number 0 fs high passes.ended recorded,
-          at_end w.calls (began mine call (length w.history)),
-          began mine call (length w.history),
-          held_here w.callers mine Idle (held_at_begin call (length w.calls)) idle_now,
+          begins_passes idle_now,
           idle_now,
+          records_kept w.calls after_it.calls seat number 0 fs high (begins_passes idle_now).ended recorded,
+          at_end w.calls (began mine call (length w.history)),
+          held_here w.callers mine Idle (held_at_begin call (length w.calls)) idle_now,
           map-append,
           calls_one,
           own_caller,

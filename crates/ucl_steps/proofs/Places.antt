@@ -15,13 +15,15 @@ begun_in-append (End c ∷ xs) ys = begun_in-append xs ys
 
 pub begins_call : (steps : List Step) (p i : ℕ) (c : Caller) (b : BeginsAt steps p i c) → slice_get (begun_in steps) i ≡ Some (c, b.call)
 begins_call steps p i c b =
-    let front = begun_in (take p steps) in
-    let rest = begun_in (drop (suc p) steps) in
-    let whole : begun_in steps ≡ (front ++ (c, b.call) ∷ []) ++ rest =
-    ap begun_in (sym (take-append-drop (suc p) steps)) ∙ (begun_in-append (take (suc p) steps) (drop (suc p) steps)
-    ∙ ap (λ (z : List (Caller × Call)). z ++ rest) (ap begun_in (take_one steps p (Begin c b.call) b.begins) ∙ begun_in-append (take p steps) (Begin c b.call ∷ []))) in
-    let there : slice_get (front ++ (c, b.call) ∷ []) i ≡ Some (c, b.call) = ap (slice_get (front ++ (c, b.call) ∷ [])) (sym b.number) ∙ at_end front (c, b.call) in
-    ap (λ (z : List (Caller × Call)). slice_get z i) whole ∙ at_longer (front ++ (c, b.call) ∷ []) rest i (c, b.call) there
+    search (
+      arith,
+      take-append-drop (suc p) steps,
+      begun_in-append (take (suc p) steps) (drop (suc p) steps),
+      take_one steps p (Begin c b.call) b.begins,
+      begun_in-append (take p steps) (Begin c b.call ∷ []),
+      at_end (begun_in (take p steps)) (c, b.call),
+      at_longer,
+    )
 
 later : (s : Step) (steps : List Step) (p i : ℕ) (c : Caller) → begun_in (s ∷ []) ≡ [] → BeginsAt steps p i c → BeginsAt (s ∷ steps) (suc p) i c
 later s steps p i c none b = search (arith, begun_in-append)

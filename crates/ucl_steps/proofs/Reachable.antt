@@ -131,4 +131,4 @@ pub steps_more : (steps : List Step) (at : ℕ) (s : Step) (w v u : MachineState
     → after_steps (take (suc at) steps) w ≡ Some u
 steps_more (x ∷ steps) (suc at) s w v u here before then =
     option_and_then_some (after_steps (take at steps)) (after_step w x) v before (λ y is rest. ap (option_and_then (after_steps (take (suc at) steps))) is ∙ steps_more steps at s y v u here rest then)
-steps_more steps at s w v u here before then = search (arith, none-some)
+steps_more steps at s w v u here before then = search arith

@@ -24,4 +24,4 @@ module _ {A : Type 0} where
 
   pub at_longer : (l m : List A) (i : ℕ) (a : A) → get_elem? l i ≡ some a → get_elem? (l ++ m) i ≡ some a
   at_longer (x ∷ xs) m (suc i) a e = at_longer xs m i a e
-  at_longer l m i a e = search (arith, some-ne-none)
+  at_longer l m i a e = search arith

@@ -191,9 +191,7 @@ module _ (steps : List Step) (n : ℕ) (ts : List Time) (c : Caller) (k : ℕ) (
                 | inr none ↦ absurd (not_some w.time.ended none some)
               ]
               | inr t ↦
-                  let caller = caller_is c d t.1 in
-                  let is = ends_held p i t.0 (subst (EndsAt (steps ++ s ∷ []) p i) (sym caller) e) in
-                  elim w.which [ inl u ↦ subst (λ (z : Option ℕ). IsSome z) (sym u.1) refl | inr u ↦ absurd (u.0 is) ]
+                  search (arith, ends_held p i t.0 (subst (EndsAt (steps ++ s ∷ []) p i) (sym (caller_is c d t.1)) e))
             ];
         closed = λ i a at some.
             let w = time_before i a at in

@@ -5,13 +5,15 @@ use Rattle.ucl_steps.proofs.machine.Machine.end.Goals as goal
 
 pub index-record-requires : goal.index-record-requires
 index-record-requires c =
-    let is : c.held-held.result ≡ Some (has.Answered c.in-Some-Answered.call) = search rules in
-    let l = call_below (state_of c.args.self.now) c.requires c.args.caller c.held-held.result c.held-held.ensures (has.Answered c.in-Some-Answered.call) c.in-Some-Answered.call is refl in omega arith
+    let l = call_below (state_of c.args.self.now) c.requires c.args.caller c.held-held.result c.held-held.ensures
+    (has.Answered c.in-Some-Answered.call) c.in-Some-Answered.call (search rules) refl in
+    omega arith
 
 pub index_mut-requires : goal.index_mut-requires
 index_mut-requires c =
-    let is : c.held-held.result ≡ Some (has.Answered c.in-Some-Answered.call) = search rules in
-    let l = call_below (state_of c.args.self.now) c.requires c.args.caller c.held-held.result c.held-held.ensures (has.Answered c.in-Some-Answered.call) c.in-Some-Answered.call is refl in omega arith
+    let l = call_below (state_of c.args.self.now) c.requires c.args.caller c.held-held.result c.held-held.ensures
+    (has.Answered c.in-Some-Answered.call) c.in-Some-Answered.call (search rules) refl in
+    omega arith
 
 pub returns : goal.returns
 returns c =

@@ -17,17 +17,14 @@ bounds-words-checked c = search (arith, rules, checked_few (state_of c.args.self
 
 pub reply-requires-clause-call : goal.reply-requires-clause-call
 reply-requires-clause-call c =
-    let is : c.held-held.result ≡ Some (has.Checking c.in-Some-Checking.call c.in-Some-Checking.words c.in-Some-Checking.checked c.in-Some-Checking.point) = search rules in
     call_below (state_of c.args.self.now) c.requires c.args.caller c.held-held.result c.held-held.ensures
-    (has.Checking c.in-Some-Checking.call c.in-Some-Checking.words c.in-Some-Checking.checked c.in-Some-Checking.point) c.in-Some-Checking.call is refl
+    (has.Checking c.in-Some-Checking.call c.in-Some-Checking.words c.in-Some-Checking.checked c.in-Some-Checking.point) c.in-Some-Checking.call (search rules) refl
 
 pub overflow_add-next : goal.overflow_add-next
 overflow_add-next c = search (arith, rules, checked_few (state_of c.args.self.now) c.requires c.args.caller c.held-held.result c.held-held.ensures)
 
 pub of_packed-requires : goal.of_packed-requires
-of_packed-requires c =
-    collected_words (state_of c.args.self.now) c.requires c.args.caller c.held-held.result c.held-held.ensures c.in-Some-Checking.call c.in-Some-Checking.words c.in-Some-Checking.checked
-    c.in-Some-Checking.point (search rules)
+of_packed-requires c = search (arith, rules, collected_words (state_of c.args.self.now) c.requires c.args.caller c.held-held.result c.held-held.ensures)
 
 pub returns-then-checked-eq11 : goal.returns-then-checked-eq11
 returns-then-checked-eq11 c = search (arith, rules, clean_step)

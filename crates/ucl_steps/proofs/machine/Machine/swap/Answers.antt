@@ -5,15 +5,13 @@ use Rattle.ucl_steps.proofs.machine.Machine.swap.Goals as goal
 
 pub reply-requires-clause-call : goal.reply-requires-clause-call
 reply-requires-clause-call c =
-    let is : c.held-held.result ≡ Some (has.Holding c.in-Some-Holding.call c.in-Some-Holding.event c.in-Some-Holding.old c.in-Some-Holding.new) = search rules in
     call_below (state_of c.args.self.now) c.requires c.args.caller c.held-held.result c.held-held.ensures
-    (has.Holding c.in-Some-Holding.call c.in-Some-Holding.event c.in-Some-Holding.old c.in-Some-Holding.new) c.in-Some-Holding.call is refl
+    (has.Holding c.in-Some-Holding.call c.in-Some-Holding.event c.in-Some-Holding.old c.in-Some-Holding.new) c.in-Some-Holding.call (search rules) refl
 
 pub reply-requires-else-self-at-clause-call : goal.reply-requires-else-self-at-clause-call
 reply-requires-else-self-at-clause-call c =
-    let is : c.held-held.result ≡ Some (has.Holding c.in-Some-Holding.call c.in-Some-Holding.event c.in-Some-Holding.old c.in-Some-Holding.new) = search rules in
     call_below (state_of c.args.self.now) c.requires c.args.caller c.held-held.result c.held-held.ensures
-    (has.Holding c.in-Some-Holding.call c.in-Some-Holding.event c.in-Some-Holding.old c.in-Some-Holding.new) c.in-Some-Holding.call is refl
+    (has.Holding c.in-Some-Holding.call c.in-Some-Holding.event c.in-Some-Holding.old c.in-Some-Holding.new) c.in-Some-Holding.call (search rules) refl
 
 pub returns-in_ok-push : goal.returns-in_ok-push
 returns-in_ok-push c =
