@@ -145,50 +145,22 @@ module _ (steps : List Step) (w : MachineState) (kept : Keeps steps w) where
 
   firsts : (c : Caller) (k : ℕ) (xs : List ℕ) → held_by w.callers c ≡ Some (Within k (Collecting xs)) → Stepped c w (state_after_first c k xs w)
   firsts c k xs held =
-      by_test (length longer_by_one == 12) refl
-    where
-      longer_by_one : List ℕ
-      longer_by_one = xs ++ slice_index w.words (length xs) ∷ []
-
-      same : stale_from 0 longer_by_one w.words ≡ stale_from 0 xs w.words
-      same = stale_push 0 (length xs) xs w.words (omega arith)
-
-      few : length xs < 12
-      few = (kept.knows c (Within k (Collecting xs)) k held refl).sees.few
-
-      by_test : (b : Bool) → (length longer_by_one == 12) ≡ b
-          → Stepped c w (with_held (Within k (cond b (Checking longer_by_one 0 (length w.history)) (Collecting longer_by_one))) c w)
-      by_test b is = search (arith, eqb-true, longer_by_one, length_push, stays, same, collects_last, collects_more, few)
+      let few = (kept.knows c (Within k (Collecting xs)) k held refl).sees.few in
+      let same = stale_push 0 (length xs) xs w.words (omega arith) in
+      let long = length_push xs (slice_index w.words (length xs)) in
+      search (arith, few, same, long, eqb-true, stays, collects_last, collects_more)
 
   seconds : (c : Caller) (k : ℕ) (xs : List ℕ) (n point : ℕ) → held_by w.callers c ≡ Some (Within k (Checking xs n point)) → Stepped c w (state_after_second c k xs n point w)
   seconds c k xs n point held =
-      by_test (slice_index w.words n == slice_index xs n) (n == 11) refl refl
+      let m = kept.knows c (Within k (Checking xs n point)) k held refl in
+      let t : Checks w.history m.call xs n point = m.sees in
+      let rest : drop n xs ≡ get_or xs n 0 ∷ drop (n + 1) xs = let twelve = t.twelve in let few = t.few in drop_more xs n 0 (omega arith) in
+      by_test m.call m.at t rest (slice_index w.words n == slice_index xs n) (n == 11) refl refl
     where
-      t : Checks w.history (kept.knows c (Within k (Checking xs n point)) k held refl).call xs n point
-      t = (kept.knows c (Within k (Checking xs n point)) k held refl).sees
-
-      here : slice_get w.calls k ≡ Some (kept.knows c (Within k (Checking xs n point)) k held refl).call
-      here = (kept.knows c (Within k (Checking xs n point)) k held refl).at
-
-      rest : drop n xs ≡ get_or xs n 0 ∷ drop (n + 1) xs
-      rest = let twelve = t.twelve in let few = t.few in drop_more xs n 0 (omega arith)
-
-      -- the word that is compared is the first of those from here on
-      now : (b : Bool) → (slice_index w.words n == slice_index xs n) ≡ b → stale_from n (drop n xs) w.words ≡ cond b (stale_from (n + 1) (drop (n + 1) xs) w.words) (Some n)
-      now b is = ap (λ (z : List ℕ). stale_from n z w.words) rest ∙ ap (λ (z : Bool). cond z (stale_from (n + 1) (drop (n + 1) xs) w.words) (Some n)) is
-
-      by_test : (b last : Bool) → (slice_index w.words n == slice_index xs n) ≡ b → (n == 11) ≡ last
+      by_test : (a : CallRecord) → slice_get w.calls k ≡ Some a → Checks w.history a xs n point → drop n xs ≡ get_or xs n 0 ∷ drop (n + 1) xs
+          → (b last : Bool) → (slice_index w.words n == slice_index xs n) ≡ b → (n == 11) ≡ last
           → Stepped c w (after_outcome c k point (cond b (cond last (Answers (Copied (reading_of xs))) (GoesOn (Checking xs (n + 1) point))) (GoesOn (Collecting []))) w)
-      by_test true true is last_is = search (arith, replied, here, t)
-      by_test true false is last_is =
-          let not_last = eqb-false n 11 last_is in
-          let few = t.few in
-          stays c (Within k (Checking xs n point)) (Within k (Checking xs (n + 1) point)) held tt
-          (subst (λ (o : Option ℕ). checking_left (n + 1) (stale_from (n + 1) (drop (n + 1) xs) w.words) + 1 ≤ checking_left n o) (sym (now true is))
-          (checks_more n (stale_from (n + 1) (drop (n + 1) xs) w.words) (below n not_last few)))
-      by_test false last is last_is =
-          stays c (Within k (Checking xs n point)) (Within k (Collecting [])) held tt
-          (subst (λ (o : Option ℕ). 24 ≤ checking_left n o) (sym (now false is)) (omega arith))
+      by_test a here t rest b last is last_is = search (arith, replied, stays, checks_more, eqb-false n 11, below)
 
   step_counted : (s : Step) (o : Option Holds) (w' : MachineState) → held_by w.callers (caller_of s) ≡ o → after_step_holding s o w ≡ Some w' → Stepped (caller_of s) w w'
   step_counted s o w' holds done = search (arith, cond_some, begins, same_Some, looks, swaps, firsts, seconds, ends, none-some)

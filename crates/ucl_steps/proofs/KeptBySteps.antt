@@ -10,7 +10,7 @@ use Rattle.ucl_steps.proofs.Common.{state_after_first, state_after_second, after
 use Rattle.ucl_steps.proofs.Histories.{number_expected, is_stale, legal_snoc, legal_beginning, read_back, number_next, squeezed, board_at, board_get, board_next, board_from, version_is}
 use Rattle.ucl_steps.proofs.Explanations.{IsExplained, IsSequential}
 use Rattle.ucl_steps.proofs.Turns.{IsInner}
-use Rattle.ucl_steps.proofs.CallFacts.{Asks, Offers, Loaded, AreAt, Collects, Checks, in_call}
+use Rattle.ucl_steps.proofs.CallFacts.{Asks, Offers, Loaded, AreAt, Collects, Checks, Sees, in_call}
 use Rattle.ucl_steps.proofs.EntryMakers.{once_refused, once_accepted, made_within}
 use Rattle.ucl_steps.proofs.Invariant.{time_of, Keeps, moved, stayed, ended, begun}
 
@@ -67,14 +67,8 @@ module _ (steps : List Step) (w : MachineState) (kept : Keeps steps w) where
       let word = word_at w.words e.game in
       let new = word_of (after (record_at word) n e.kind) in
       let r_is : m.sees.reporter ≡ n = same_reporter m.sees.reporter n (sym m.sees.caller ∙ m.caller) in
-      let offers : Offers w.history m.call e word new = record {
-        asks = m.sees;
-        place = now;
-        within = le_refl now;
-        found = word_now e.game m.sees.game ∙ ap (λ (z : List Entry). word_of (match_after z e.game)) (sym (take-length w.history));
-        accepted = is;
-        next = ap (λ (z : ℕ). word_of (after (record_at word) z e.kind)) (sym r_is);
-      } in
+      let offers : Offers w.history m.call e word new =
+      record { asks = m.sees; place = now; within = le_refl now; found = search (arith, word_now e.game m.sees.game, take-length); accepted = is; next = search (arith, r_is) } in
       stayed steps w kept (Reporter n) (Wanting k e) holds k refl (Look (Reporter n)) (Within k (Holding e word new)) tt offers refl
 
   module _ (n k : ℕ) (e : EventCall) (old new : ℕ) (holds : held_by w.callers (Reporter n) ≡ Some (Within k (Holding e old new))) where
@@ -156,31 +150,20 @@ module _ (steps : List Step) (w : MachineState) (kept : Keeps steps w) where
       → (length (loaded ++ slice_index w.words (length loaded) ∷ []) == 12) ≡ b
       → Keeps (steps ++ First c ∷ []) (with_held
       (Within k (cond b (Checking (loaded ++ slice_index w.words (length loaded) ∷ []) 0 now) (Collecting (loaded ++ slice_index w.words (length loaded) ∷ [])))) c w)
-  first_kept c k loaded holds true is =
+  first_kept c k loaded holds b is =
       let m = kept.knows c (Within k (Collecting loaded)) k holds refl in
-      let o = m.sees in
-      let more = loaded ++ slice_index w.words (length loaded) ∷ [] in
-      let checks : Checks w.history m.call more 0 now = search (arith, eqb-true, begun_before, le_refl, loaded_more) in
-      stayed steps w kept c (Within k (Collecting loaded)) holds k refl (First c) (Within k (Checking more 0 now)) tt checks refl
-  first_kept c k loaded holds false is =
-      let m = kept.knows c (Within k (Collecting loaded)) k holds refl in
-      let o = m.sees in
       let more = loaded ++ slice_index w.words (length loaded) ∷ [] in
       let long = length_push loaded (slice_index w.words (length loaded)) in
-      let few = o.few in
-      let not-all = eqb-false (length more) 12 is in
-      let collects : Collects w.history m.call more = record { reads = o.reads; few = below (length loaded) (length more) few long not-all; loaded = loaded_more loaded o.few o.loaded } in
-      stayed steps w kept c (Within k (Collecting loaded)) holds k refl (First c) (Within k (Collecting more)) tt collects refl
-    where
-      below : (n m : ℕ) → n < 12 → m ≡ n + 1 → (m ≡ 12 → ⊥) → m < 12
-      below n m few is not = omega arith
+      let all = loaded_more loaded m.sees.few m.sees.loaded in
+      let early = begun_before k m.call m.at in
+      let sees : Sees w.history m.call (Within k (cond b (Checking more 0 now) (Collecting more))) = search (arith, eqb-true, eqb-false, m.sees, long, all, early) in
+      stayed steps w kept c (Within k (Collecting loaded)) holds k refl (First c) (Within k (cond b (Checking more 0 now) (Collecting more))) tt sees refl
 
   module _ (c : Caller) (k : ℕ) (words : List ℕ) (checked point : ℕ) (holds : held_by w.callers c ≡ Some (Within k (Checking words checked point))) where
     start_again : Keeps (steps ++ Second c ∷ []) (with_held (Within k (Collecting [])) c w)
     start_again =
         let m = kept.knows c (Within k (Checking words checked point)) k holds refl in
-        let collects : Collects w.history m.call [] = record { reads = m.sees.reads; few = omega arith; loaded = λ i none. absurd (omega arith) } in
-        stayed steps w kept c (Within k (Checking words checked point)) holds k refl (Second c) (Within k (Collecting [])) tt collects refl
+        stayed steps w kept c (Within k (Checking words checked point)) holds k refl (Second c) (Within k (Collecting [])) tt (search (arith, m.sees)) refl
 
     pub one_more : (slice_index w.words checked == slice_index words checked) ≡ true → AreAt w.history words (checked + 1) point
     one_more same i less =
@@ -197,14 +180,8 @@ module _ (steps : List Step) (w : MachineState) (kept : Keeps steps w) where
         → Keeps (steps ++ Second c ∷ []) (with_held (Within k (Checking words (checked + 1) point)) c w)
     goes_on same other =
         let m = kept.knows c (Within k (Checking words checked point)) k holds refl in
-        let o = m.sees in
-        let few = o.few in
-        let not-last = eqb-false checked 11 other in
-        let checks : Checks w.history m.call words (checked + 1) point = search (arith, below, one_more) in
+        let checks : Checks w.history m.call words (checked + 1) point = search (arith, eqb-false checked 11 other, m.sees, one_more same) in
         stayed steps w kept c (Within k (Checking words checked point)) holds k refl (Second c) (Within k (Checking words (checked + 1) point)) tt checks refl
-      where
-        below : (n : ℕ) → n < 12 → (n ≡ 11 → ⊥) → n + 1 < 12
-        below n few not = omega arith
 
     module _ (same : (slice_index w.words checked == slice_index words checked) ≡ true) (last : (checked == 11) ≡ true) where
       copied_board : words ≡ board_of (take point w.history)
@@ -237,35 +214,17 @@ module _ (steps : List Step) (w : MachineState) (kept : Keeps steps w) where
     second_kept a b same last = search (arith, copied, goes_on, start_again)
 
   begin_kept : (c : Caller) (call : Call) → held_by w.callers c ≡ Some Idle → may_begin c call ≡ true → Keeps (steps ++ Begin c call ∷ []) (after_begin c call w)
-  begin_kept (Reporter zero) (Event e) holds may = absurd (none-some Idle holds)
   begin_kept (Reporter (suc n)) (Event e) holds may =
-      let a = and_parts (nat_le 1 e.game) (nat_le e.game 12 && nat_le (suc n) 255) may in
-      let b = and_parts (nat_le e.game 12) (nat_le (suc n) 255) a.1 in
-      begun steps w kept (Reporter (suc n)) Idle holds refl (Event e) (Wanting (length w.calls) e)
-      (record { call = refl; reporter = suc n; caller = refl; low = omega arith; high = leb-true (suc n) 255 b.1; game = (leb-true 1 e.game a.0, leb-true e.game 12 b.0); point = refl; reply = refl })
-      refl
-  begin_kept (Reader n) (Event e) holds may = absurd (false≢true may)
-  begin_kept (Reporter n) Reading holds may =
-      begun steps w kept (Reporter n) Idle holds refl Reading (Within (length w.calls) (Collecting []))
-      (record { reads = record { call = refl; point = refl; reply = refl }; few = omega arith; loaded = λ i none. absurd (omega arith) }) refl
-  begin_kept (Reader n) Reading holds may =
-      begun steps w kept (Reader n) Idle holds refl Reading (Within (length w.calls) (Collecting []))
-      (record { reads = record { call = refl; point = refl; reply = refl }; few = omega arith; loaded = λ i none. absurd (omega arith) }) refl
+      begun steps w kept (Reporter (suc n)) Idle holds refl (Event e) (Wanting (length w.calls) e) (search (arith, and_parts, leb-true)) refl
+  begin_kept c (Event e) holds may = search (arith, none-some, false≢true)
+  begin_kept c Reading holds may = begun steps w kept c Idle holds refl Reading (Within (length w.calls) (Collecting [])) (search arith) refl
 
   pub step_kept : (s : Step) (o : Option Holds) (w' : MachineState) → held_by w.callers (caller_of s) ≡ o → after_step_holding s o w ≡ Some w' → Keeps (steps ++ s ∷ []) w'
-  step_kept (Begin c call) (Some Idle) w' holds done =
-      let t = cond_some (may_begin c call) (after_begin c call w) w' done in
-      subst (Keeps (steps ++ Begin c call ∷ [])) t.1 (begin_kept c call holds t.0)
-  step_kept (Look (Reporter n)) (Some (Wanting k e)) w' holds done =
-      subst (Keeps (steps ++ Look (Reporter n) ∷ [])) (same_Some (state_after_look n k e w) w' done) (look_kept n k e holds (refusal_of (record_at (word_at w.words e.game)) e.expected e.kind) refl)
-  step_kept (Swap (Reporter n)) (Some (Within k (Holding e old new))) w' holds done =
-      subst (Keeps (steps ++ Swap (Reporter n) ∷ [])) (same_Some (state_after_swap n k e old new w) w' done) (swap_kept n k e old new holds (word_at w.words e.game == old) refl)
+  step_kept (Begin c call) (Some Idle) w' holds done = search (arith, cond_some (may_begin c call) (after_begin c call w) w' done, begin_kept c call holds)
+  step_kept (Look (Reporter n)) (Some (Wanting k e)) w' holds done = search (arith, same_Some, look_kept n k e holds)
+  step_kept (Swap (Reporter n)) (Some (Within k (Holding e old new))) w' holds done = search (arith, same_Some, swap_kept n k e old new holds)
   step_kept (First c) (Some (Within k (Collecting loaded))) w' holds done =
       subst (Keeps (steps ++ First c ∷ [])) (same_Some (state_after_first c k loaded w) w' done) (first_kept c k loaded holds (length (loaded ++ slice_index w.words (length loaded) ∷ []) == 12) refl)
-  step_kept (Second c) (Some (Within k (Checking words checked point))) w' holds done = search (
-    arith,
-    same_Some (state_after_second c k words checked point w) w' done,
-    second_kept c k words checked point holds (slice_index w.words checked == slice_index words checked) (checked == 11) refl refl,
-  )
+  step_kept (Second c) (Some (Within k (Checking words checked point))) w' holds done = search (arith, same_Some, second_kept c k words checked point holds)
   step_kept (End c) (Some (Answered k)) w' holds done = search (arith, ended steps w kept c (Answered k) holds k refl (kept.knows c (Answered k) k holds refl).sees, same_Some)
   step_kept s o w' holds done = absurd (none-some w' done)
