@@ -50,9 +50,9 @@ module _ (steps : List Step) (w : MachineState) (kept : Keeps steps w) where
       let m = kept.knows c x k holds within in
       let h = w.history in
       let f = with_reply now (Refused refusal) in
-      let base : sequential_reply (take now h) e ≡ Err refusal = ap (λ (z : List Entry). sequential_reply z e) (take-length h) ∙ ap (answer (match_after h e.game).number) refuses in
-      let is : IsSequential h now m.call.caller m.call.call (Refused refusal) = search arith in
-      let told : IsExplained h (f m.call) (Some now) (Some (Refused refusal)) = ((begun_before k m.call m.at, le_refl now, unended_none m.call.ended (λ z. now ≤ z) m.unended), is) in
+      let base : sequential_reply (take now h) e ≡ Err refusal = search (arith, take-length, refuses) in
+      let early = begun_before k m.call m.at in
+      let told : IsExplained h (f m.call) (Some now) (Some (Refused refusal)) = search (arith, early, le_refl, base, m.unended, asks) in
       moved steps w kept c x holds k within s (Answered k) h w.words f inner (begins_same h) kept.legal kept.words (λ a. refl)
       (once_refused w.calls k f m.call m.at asks.reply h refl kept.once) (told, refl) refl
 
@@ -79,12 +79,10 @@ module _ (steps : List Step) (w : MachineState) (kept : Keeps steps w) where
         let h = w.history in
         let g = e.game in
         let game = o.asks.game in
-        let stale : e.expected ≡ (match_after h g).number → ⊥ = λ is.
-        let then : record_at old ≡ match_after (take o.place h) g = ap record_at o.found ∙ read_back (take o.place h) g (legal_beginning h o.place kept.legal) in
-        let number : e.expected ≡ (match_after (take o.place h) g).number = number_expected (record_at old) e.expected e.kind o.accepted ∙ ap (λ (z : MatchRecord). z.number) then in
-        let at_now : (match_after (take now h) g).number ≡ (match_after h g).number = ap (λ (z : List Entry). (match_after z g).number) (take-length h) in
-        let same = (same_number h o.place now g (sym number ∙ (is ∙ sym at_now))).1 in
-        eqb-false (word_at w.words g) old differs (word_now g game ∙ (ap (λ (z : List Entry). word_of (match_after z g)) (sym (take-length h)) ∙ (sym same ∙ sym o.found))) in
+        let then = read_back (take o.place h) g (legal_beginning h o.place kept.legal) in
+        let number = number_expected (record_at old) e.expected e.kind o.accepted in
+        let other = eqb-false (word_at w.words g) old differs in
+        let stale : e.expected ≡ (match_after h g).number → ⊥ = λ is. search (arith, then, number, other, take-length, same_number h o.place now g, word_now g game, o.found) in
         search (arith, refused_kept, is_stale, record_now, o.asks)
 
     module _ (same : (word_at w.words e.game == old) ≡ true) where
@@ -123,10 +121,9 @@ module _ (steps : List Step) (w : MachineState) (kept : Keeps steps w) where
           let f = with_reply now reply in
           let base : IsSequential h' now (Reporter n) (Event e) reply =
           search (arith, take-append_seam, accepted_now, new_number, at_end) in
-          let is : IsSequential h' now m.call.caller m.call.call reply =
-          subst (λ (z : Caller). IsSequential h' now z m.call.call reply) (sym m.caller) (subst (λ (z : Call). IsSequential h' now (Reporter n) z reply) (sym o.asks.call) base) in
           let long = length_push h (entered e n) in
-          let told : IsExplained h' (f m.call) (Some now) (Some reply) = ((begun_before k m.call m.at, omega arith, unended_none m.call.ended (λ z. now < z) m.unended), is) in
+          let early = begun_before k m.call m.at in
+          let told : IsExplained h' (f m.call) (Some now) (Some reply) = search (arith, early, long, base, m.unended, m.caller, o.asks) in
           moved steps w kept (Reporter n) (Within k (Holding e old new)) holds k refl (Swap (Reporter n)) (Answered k) h' (slice_set w.words (g - 1) new) f tt (entered e n ∷ [], refl) legal words
           (λ a. refl)
           (once_accepted w.calls k f m.call m.at o.asks.reply h (entered e n) refl refl (made_within h w.calls kept.explained) kept.once) (told, refl) refl
@@ -204,8 +201,7 @@ module _ (steps : List Step) (w : MachineState) (kept : Keeps steps w) where
           let h = w.history in
           let r = Copied (reading_of words) in
           let f = with_reply point r in
-          let is : IsSequential h point m.call.caller m.call.call r = search (arith, sequential_reading, copied_board, copied_version) in
-          let told : IsExplained h (f m.call) (Some point) (Some r) = ((o.early, o.late, unended_none m.call.ended (λ z. point ≤ z) m.unended), is) in
+          let told : IsExplained h (f m.call) (Some point) (Some r) = search (arith, o.early, o.late, m.unended, sequential_reading, copied_board, copied_version) in
           moved steps w kept c (Within k (Checking words checked point)) holds k refl (Second c) (Answered k) h w.words f tt (begins_same h) kept.legal kept.words (λ a. refl)
           (once_refused w.calls k f m.call m.at o.reads.reply h refl kept.once) (told, refl) refl
 
