@@ -64,36 +64,26 @@ collect_set kind words ms i n le c k m e = let t = c k m e in let l = at_below m
 
 -- tries
 
-pub broken_later : UncleanTriesSeeMore
-broken_later h low high ms f try first at =
+-- the last Second of an unclean try was overtaken by an entry since the First of its match
+overtaken : (h : List Entry) (low high : ℕ) (ms : List Access) → Follows h low ms high → (try : IsUnclean ms) (first : Access) → slice_get try.firsts (length try.broken.equal) ≡ Some first
+    → (low ≤ first.at) × (first.at < try.broken.last.at) × (try.broken.last.at ≤ high)
+overtaken h low high ms f try first at =
     let parts = follows_parts h low high try.firsts try.seconds (subst (λ (z : List Access). Follows h low z high) try.accesses f) in
     let k = length try.broken.equal in
-    let last = try.broken.last in
-    let at_last : slice_get try.seconds k ≡ Some last = ap (λ (z : List Access). slice_get z k) try.broken.accesses ∙ at_end try.broken.equal last in
+    let at_last : slice_get try.seconds k ≡ Some try.broken.last = search (arith, try.broken.accesses, at_end) in
     let x = follows_at h low parts.middle try.firsts k first parts.former at in
-    let y = follows_at h parts.middle high try.seconds k last parts.latter at_last in
+    let y = follows_at h parts.middle high try.seconds k try.broken.last parts.latter at_last in
     let c = try.collected k first at in
-    let x1 = x.1 in let y0 = y.0 in
-    let apart : first.at ≢ last.at = search arith in
-    omega arith
+    search (arith, x, y, c, try.broken.kind, try.broken.differs)
+
+pub broken_later : UncleanTriesSeeMore
+broken_later h low high ms f try first at = (overtaken h low high ms f try first at).1
 
 -- an unclean try has at most 24 accesses, and was overtaken by an entry
 pub unclean_try : (h : List Entry) (low high : ℕ) (ms : List Access) → Follows h low ms high → IsUnclean ms → (low < high) × (length ms ≤ 24)
 unclean_try h low high ms f try =
     let first = get_some try.firsts (length try.broken.equal) (omega arith) in
-    let later = broken_later h low high ms f try first.0 first.1 in
-    let place : slice_get ms (length try.firsts + length try.broken.equal) ≡ Some try.broken.last =
-    ap (λ (z : List Access). slice_get z (length try.firsts + length try.broken.equal)) try.accesses ∙ at_second try.firsts try.seconds (length try.broken.equal) try.broken.last
-    (ap (λ (z : List Access). slice_get z (length try.broken.equal)) try.broken.accesses ∙ at_end try.broken.equal try.broken.last) in
-    let y = follows_at h low high ms (length try.firsts + length try.broken.equal) try.broken.last f place in
-    let x = follows_at h low high ms (length try.broken.equal) first.0 f
-    (ap (λ (z : List Access). slice_get z (length try.broken.equal)) try.accesses ∙ at_longer try.firsts try.seconds (length try.broken.equal) first.0 first.1) in
-    let x0 = x.0 in let y1 = y.1 in
-    (omega arith, omega (arith, ap length try.accesses, length-append try.firsts try.seconds, ap length try.broken.accesses, length-append try.broken.equal (try.broken.last ∷ [])))
-  where
-    at_second : (xs ys : List Access) (k : ℕ) (m : Access) → slice_get ys k ≡ Some m → slice_get (xs ++ ys) (length xs + k) ≡ Some m
-    at_second [] ys k m e = let none : 0 + k ≡ k = omega arith in ap (slice_get ys) none ∙ e
-    at_second (x ∷ xs) ys k m e = let one : suc (length xs) + k ≡ suc (length xs + k) = omega arith in ap (slice_get (x ∷ (xs ++ ys))) one ∙ at_second xs ys k m e
+    search (arith, overtaken h low high ms f try first.0 first.1, try.accesses, try.broken.accesses, length-append)
 
 pub tries_bound : (h : List Entry) (low high : ℕ) (tries : List (List Access)) → Follows h low (accesses_of tries) high → AllByRecursion IsUnclean tries
     → (low + length tries ≤ high) × (length (accesses_of tries) ≤ 24 * length tries)

@@ -106,7 +106,7 @@ module _ (steps : List Step) (w : MachineState) (kept : Keeps steps w) (c : Call
           legal = kept.legal;
           words = kept.words;
           explained = search (arith, get-change_at, same_Some, explained_closed);
-          once = once_kept w.calls k f w.history (λ a i made. made) (λ a i made. made) kept.once;
+          once = once_kept w.calls k f w.history (λ a. refl) kept.once;
           turns = search (arith, ended_at n, turns_end steps n (map time_of w.calls) c k (time_of m.call) here m.caller m.unended kept.turns, map-change_at);
           knows = knows_all w.history calls' Idle (begins_same w.history) (λ e j a other there own. change_at_else k f w.calls j a (other_call e j a other there own) there)
               (λ j at. absurd (none-some j at));

@@ -18,9 +18,6 @@ use Rattle.ucl_steps.proofs.Invariant.{time_of, Keeps, moved, stayed, ended, beg
 abbrev entered : EventCall → ℕ → Entry
 entered e r = record { game = e.game; reporter = r; kind = e.kind }
 
-unended_none : (o : Option ℕ) (P : ℕ → Type 0) → o ≡ None → IfSome o P
-unended_none o P none = subst (λ (z : Option ℕ). IfSome z P) (sym none) tt
-
 same_reporter : (n m : ℕ) → Reporter n ≡ Reporter m → n ≡ m
 same_reporter n m e = cc
 

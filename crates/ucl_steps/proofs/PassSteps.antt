@@ -268,19 +268,22 @@ module _ (cast : Cast) (seat number : ℕ) (steps : List Step) (w : MachineState
     is_begun : IsNow (after_begin (caller_for seat number call) call w) m
     is_begun = record { place = now.place; found = now.found }
 
+    turn_new : (point : ℕ) (o : Outcome) → CanGo number call o
+        → Made (caller_for seat number call) (after_begin (caller_for seat number call) call w) m
+        (after_outcome (caller_for seat number call) under_now.place point o (after_begin (caller_for seat number call) call w))
+        → Turn seat number w (caller_for seat number call) m (done_by call (length w.history) (length w.history) o d) []
+    turn_new point o can made = begins_turn seat number call w may m (done_by call (length w.history) (length w.history) o d) [] free_now
+        (turn_kept seat number (after_begin (caller_for seat number call) call w) d call (length w.history) (held_at_begin call) under_now m point o can made)
+
   -- Look
   can_look : (e : EventCall) → MayAsk number (Event e) → (o : Option Refusal) → refusal_of (record_at m.found) e.expected e.kind ≡ o → CanGo number (Event e) (by_rules number e m.found o)
   can_look e may o is = search arith
 
   pub turn_look : (e : EventCall) → MayAsk number (Event e) → d.held ≡ Nothing → Does log.Look e.game m → Turn seat number w (Reporter number) m (after_look number e m.found m.at d) []
   turn_look e may none does =
-      let v = after_begin (Reporter number) (Event e) w in
-      let u = under_now (Event e) may none in
       subst (λ (p : ℕ). Turn seat number w (Reporter number) m (after_look number e m.found p d) []) (sym now.place)
-      (begins_turn seat number (Event e) w may m (after_look number e m.found (length w.history) d) [] (free_now (Event e) may none)
-      (turn_kept seat number v d (Event e) (length w.history) (λ k. Wanting k e) u m (length w.history) (looked number e m.found)
-      (can_look e may (refusal_of (record_at m.found) e.expected e.kind) refl)
-      (made_look v m words_now (is_begun (Event e) may none) number u.place e u.held may.1 does)))
+      (turn_new (Event e) may none (length w.history) (looked number e m.found) (can_look e may (refusal_of (record_at m.found) e.expected e.kind) refl)
+      (made_look (after_begin (Reporter number) (Event e) w) m words_now (is_begun (Event e) may none) number (under_now (Event e) may none).place e (under_now (Event e) may none).held may.1 does))
 
   -- Swap
   module _ (e : EventCall) (old new : ℕ) (is_held : d.held ≡ Holding e old new) (does : Does log.Swap e.game m) where
@@ -321,10 +324,8 @@ module _ (cast : Cast) (seat number : ℕ) (steps : List Step) (w : MachineState
       let v = after_begin reader Reading w in
       let u = under_now Reading tt none in
       subst (λ (p : ℕ). Turn seat number w reader m (goes p (collected (m.found ∷ []) p) d) []) (sym now.place)
-      (begins_turn seat number Reading w tt m (goes (length w.history) (collected (m.found ∷ []) (length w.history)) d) [] (free_now Reading tt none)
-      (turn_kept seat number v d Reading (length w.history) (λ k. Within k (Collecting [])) u m (length w.history) (loaded [] m.found (length w.history))
-      (can_load [] (length w.history) (omega arith) (length (m.found ∷ []) == 12) refl)
-      (made_first v m words_now (is_begun Reading tt none) reader u.place [] u.held (omega arith) does)))
+      (turn_new Reading tt none (length w.history) (loaded [] m.found (length w.history)) (can_load [] (length w.history) (omega arith) (length (m.found ∷ []) == 12) refl)
+      (made_first v m words_now (is_begun Reading tt none) reader u.place [] u.held (omega arith) does))
 
   module _ (words : List ℕ) (is_held : d.held ≡ Collecting words) (does : Does log.First (length words + 1) m) where
     collecting : IsUnderWay w seat number d.begun (Collecting words) f.high
