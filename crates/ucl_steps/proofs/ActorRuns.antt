@@ -67,15 +67,9 @@ pub run_on : (xs ys : List Move) (w v u : MachineState) → after_steps (steps_o
 run_on xs ys w v u first then = ap (λ (l : List Step). after_steps l w) (flat_map-append steps_of_move xs ys) ∙ (steps_append (steps_of_moves xs) (steps_of_moves ys) w v first ∙ then)
 
 pub one_turn : (seat number : ℕ) (w : MachineState) (c : Caller) (m : Access) (d : Doing) (entries : List Entry) → Turn seat number w c m d entries → Burst seat number w c d entries
-one_turn seat number w c m d entries t = record {
-  moves = t.move ∷ [];
-  last = t.last;
-  run = ap (λ (l : List Step). after_steps l w) (append-nil (steps_of_move t.move)) ∙ t.run;
-  history = t.history;
-  of = t.of;
-  passes = t.passes;
-  fits = t.fits;
-}
+one_turn seat number w c m d entries t =
+    let run = ap (λ (l : List Step). after_steps l w) (append-nil (steps_of_move t.move)) ∙ t.run in
+    record { moves = t.move ∷ []; last = t.last; run = run; history = t.history; of = t.of; passes = t.passes; fits = t.fits }
 
 module _ (readers enlisted : ℕ) (history : List Entry) (actors : List Actor) (r : IsRunOfActors readers enlisted history actors) (seat : ℕ) (a : Actor) (here : get_elem? actors seat ≡ some a) where
   -- callers stay those of their actors
@@ -97,11 +91,7 @@ module _ (readers enlisted : ℕ) (history : List Entry) (actors : List Actor) (
         state = t.last;
         run = run_on r.moves t.moves (initial_state (cast_for readers)) r.state t.last r.run t.run;
         history_is = t.history ∙ (ap (λ (h : List Entry). h ++ entries) r.history_is ∙ sym more);
-        each = λ j u at. ⊎_elim
-            (λ (k : (j ≡ seat) × (b ≡ u)). subst (λ (i : ℕ). FitsRun t.last i u.number u.doing) (sym k.0) (subst (λ (x : Actor). FitsRun t.last seat x.number x.doing) k.1 t.fits))
-            (λ (k : (j ≢ seat) × (get_elem? actors j ≡ some u)). fits_else j u.number c r.state t.last
-            (λ d of. apart_callers j seat u.number a.number c d k.0 (λ pos eq. apart j seat u a k.1 here pos eq) of t.of) t.passes u.doing (r.each j u k.1))
-            (at_set actors seat j b u at);
+        each = λ j u at. search (arith, at_set actors seat j b u at, t, fits_else j u.number c r.state t.last, apart_callers j seat u.number a.number c, apart j seat u a, r.each j u, here);
         only =
             let mine : (call : Call) → IsOfActor (set actors seat b) (c, call) = λ call. (seat, b, set_here actors seat b (place_below actors seat a here), t.of) in
             subst (All (IsOfActor (set actors seat b))) (sym t.passes.told)
@@ -138,16 +128,8 @@ module _ (readers enlisted : ℕ) (history : List Entry) (actors : List Actor) (
       } in
       search (arith, get_elem?, at_set, all_then, some_still, length-set)
     where
-      of_reader : (d : Caller) → IsOf seat 0 d → IsOf seat (enlisted + 1) d
-      of_reader d (inl k) = inl k
-      of_reader d (inr k) = let low = k.1.0 in absurd (omega arith)
-
-      reader_still : (d : Caller) → IsOf seat a.number d → IsOf seat (enlisted + 1) d
-      reader_still d of = of_reader d (subst (λ (n : ℕ). IsOf seat n d) reader of)
-
       by_caller : (f : FitsRun r.state seat 0 a.doing) → FitsHeld r.state seat 0 a.doing.begun Nothing f.high → (d : Caller) → IsOf seat (enlisted + 1) d → held_by r.state.callers d ≡ Some Idle
-      by_caller f idle d (inl k) = idle.1 d (inl k)
-      by_caller f idle d (inr k) = ap (held_by r.state.callers) k.0 ∙ r.unnumbered (enlisted + 1) (omega arith) (omega arith)
+      by_caller f idle d is = search (arith, idle.1, r.unnumbered (enlisted + 1))
 
 -- an actor more, without a number, that has done nothing
 module _ (readers enlisted : ℕ) (history : List Entry) (actors : List Actor) (r : IsRunOfActors readers enlisted history actors) (more : length actors < readers) where
@@ -188,12 +170,8 @@ run_begins readers all = record {
     first : Actor
     first = record { number = 0; doing = nothing_done }
 
-    callers : (d : Caller) → IsOf 0 0 d → held_by (initial_state (cast_for readers)).callers d ≡ Some Idle
-    callers d (inl k) = subst (λ (c : Caller). held_by (initial_state (cast_for readers)).callers c ≡ Some Idle) (sym k) (idle_at_start (cast_for readers) (Reader 1) (omega arith, omega arith))
-    callers d (inr k) = let low = k.1.0 in absurd (omega arith)
-
-    each : (seat : ℕ) (a : Actor) → get_elem? (record { number = 0; doing = nothing_done } ∷ []) seat ≡ some a → FitsRun (initial_state (cast_for readers)) seat a.number a.doing
-    each zero a e = search (arith, some-injective, le_refl, callers)
+    each : (seat : ℕ) (a : Actor) → get_elem? (first ∷ []) seat ≡ some a → FitsRun (initial_state (cast_for readers)) seat a.number a.doing
+    each zero a e = search (arith, some-injective, le_refl, idle_at_start (cast_for readers) (Reader 1))
     each (suc seat) a e = absurd (some-ne-none a (sym e))
 
 -- the run of a log

@@ -305,7 +305,7 @@ begun_move c o kind ends rest = search (arith, begun_after)
 is_reporter : (seat number : ℕ) → IsReporter number → is_of seat number (Reporter number) ≡ true
 is_reporter seat number is = search (arith, and_true, eq-eqb, le-leb)
 
-taken_of : (seat number : ℕ) (kind : AccessKind) (c : Caller) → IsTakenBy seat number kind c → IsOf seat number c
+pub taken_of : (seat number : ℕ) (kind : AccessKind) (c : Caller) → IsTakenBy seat number kind c → IsOf seat number c
 taken_of seat number kind c by = search arith
 
 -- an actor that has gone on takes its steps by the same callers
