@@ -1,7 +1,7 @@
 -- Accesses along a history, and what clean and unclean tries show.
-use Rattle.ucl_steps.proofs.Common.{◌≡◌, ◌≢◌, ℕ, zero, suc, ◌+◌, ◌-◌, ◌*◌, ◌<◌, ◌≤◌, List, ◌∷◌, ◌++◌, take, length, Option, Some, None, Ok, Err, inl, inr, refl, sym, ap, ◌∙◌, subst, arith, []}
+use Rattle.ucl_steps.proofs.Common.{◌≡◌, ℕ, suc, ◌+◌, ◌-◌, ◌*◌, ◌<◌, ◌≤◌, List, ◌∷◌, ◌++◌, take, length, Option, Some, None, Ok, Err, inl, inr, refl, sym, ap, ◌∙◌, subst, arith, []}
 use Rattle.ucl_steps.proofs.Common.{length-append, le_refl, get_or, get_or-set_other, slice_get, slice_index, slice_set, IsOk, AllByRecursion, none-some, same_Some, false≢true, take-length}
-use Rattle.ucl_steps.proofs.Common.{IsPrefix, MatchRecord, Refusal, answer, reply_of, word_of, record_at, at_below, at_longer, at_end, at_either, Entry, match_after, board_of, IsLegal}
+use Rattle.ucl_steps.proofs.Common.{IsPrefix, MatchRecord, Refusal, answer, reply_of, word_of, record_at, at_below, at_end, at_either, Entry, match_after, board_of, IsLegal}
 use Rattle.ucl_steps.proofs.Common.{versions, same_number, take_beginning, AccessKind, Access, access, Does, IsFoundIn, Follows, IsCollect, IsUnclean, IsClean, accesses_of, UncleanTriesSeeMore}
 use Rattle.ucl_steps.proofs.Common.{UncleanTriesAreFew, ReadingsAreSnapshots, ReportsAreSequential}
 use Rattle.ucl_board.specs.declared.reading.Reading.{Reading}

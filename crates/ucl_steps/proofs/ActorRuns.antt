@@ -1,11 +1,10 @@
 -- What bursts of actors, splits and enlistments do to the run of the machine that a board's rule says there is.
-use Rattle.ucl_steps.proofs.Common.{◌≡◌, ◌≢◌, inl, inr, ⊎_elim, ℕ, zero, suc, ◌+◌, ◌<◌, ◌≤◌, Bool, false, cond, List, ◌∷◌, ◌++◌, length, set, map, Option, Some, refl, sym, ap, ◌∙◌, subst, arith, []}
+use Rattle.ucl_steps.proofs.Common.{◌≡◌, ◌≢◌, ℕ, zero, suc, ◌+◌, ◌<◌, ◌≤◌, Bool, false, cond, List, ◌∷◌, ◌++◌, length, set, map, Option, Some, refl, sym, ap, ◌∙◌, subst, arith, []}
 use Rattle.ucl_steps.proofs.Common.{le_refl, append-nil, length-append, ne_eqb, All, filter, dite, some, some-ne-none, some-injective, get_elem?, flat_map-append, All-append, All-cons}
 use Rattle.ucl_steps.proofs.Common.{All-nil, All-head, All-tail, Entry, AccessKind, Access, Taken, logged_by, Log, history_of, access_list, Caller, Reporter, Reader, Call, Step, CallRecord, Idle}
 use Rattle.ucl_steps.proofs.Common.{MachineState, initial_state, held_by, after_steps, Held, Nothing, Answer, Doing, nothing_done, cast_for, IsOf, IsRecordOf, AreRecordsOf, FitsHeld, is_of}
 use Rattle.ucl_steps.proofs.Common.{calls_told, left_by, FitsRun, Move, steps_of_move, steps_of_moves, Actor, IsOfActor, IsRunOfActors, IsTakenBy, accesses_of_log, AreStepsOf, IsRunOfLog}
 use Rattle.std.proofs.Common.{length-set}
-use Rattle.ucl_board.specs.Log.{Look, Swap, First, Second}
 use Rattle.ucl_steps.proofs.OneStep.{idle_at_start, steps_append, not_of, Passes, all_by}
 use Rattle.ucl_steps.proofs.PassSteps.{fits_else, Turn, left_append}
 use Rattle.ucl_steps.proofs.Seats.{place_below, at_last, at_set, set_here, set_else, at_longer}

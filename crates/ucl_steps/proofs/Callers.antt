@@ -1,5 +1,5 @@
 -- What each caller holds, when one of them takes a step.
-use Rattle.ucl_steps.proofs.Common.{◌≡◌, ◌≢◌, ℕ, zero, suc, List, ◌∷◌, Some, ◌⊎◌, refl, ap, arith, [], slice_get, slice_set, none-some, cases_eq, Caller, Holds, Callers, held_by, set_held}
+use Rattle.ucl_steps.proofs.Common.{◌≡◌, ◌≢◌, ℕ, suc, List, ◌∷◌, Some, ◌⊎◌, ap, arith, slice_get, slice_set, none-some, cases_eq, Caller, Holds, Callers, held_by, set_held}
 
 get_set_here : {X : Type 0} (xs : List X) (k : ℕ) (x y : X) → slice_get xs k ≡ Some x → slice_get (slice_set xs k y) k ≡ Some y
 get_set_here (z ∷ xs) (suc k) x y e = get_set_here xs k x y e

@@ -1,10 +1,8 @@
 -- The accesses of one pass while no pass finishes a call.
-use Rattle.ucl_steps.proofs.Common.{caller_for, call_of, ◌≡◌, ◌≢◌, ℕ, zero, suc, ◌+◌, ◌≤◌, ◌==◌, Bool, true, cond, List, ◌∷◌, ◌++◌, length, Option, Some, None, inl, inr, refl, sym, ap, [], ◌∙◌, subst, arith}
-use Rattle.ucl_steps.proofs.Common.{length-append, eq-eqb, filter, eqb-true, filter-append, flat_map-append, some, some-injective, get_elem?, IsReporter, AccessKind, Access, Log, Caller, Reporter}
-use Rattle.ucl_steps.proofs.Common.{Reader, Step, Held, Nothing, Holding, Collecting, Checking, Doing, Holds, Idle, Answered, MachineState, initial_state, held_by, after_step, after_steps}
-use Rattle.ucl_steps.proofs.Common.{accesses_holding, cast_for, IsOf, FitsHeld, FitsRun, left_by, Move, steps_of_move, steps_of_moves, Actor, IsTakenBy, accesses_of_log, AreStepsOf, IsRunOfLog}
-use Rattle.ucl_steps.proofs.Common.{HaveGoneOn, most_between, decided_in, is_caller, steps_by, finished_by}
-use Rattle.ucl_steps.proofs.Invariant.{Keeps}
+use Rattle.ucl_steps.proofs.Common.{caller_for, call_of, ◌≡◌, ◌≢◌, ℕ, ◌+◌, ◌≤◌, ◌==◌, Bool, true, cond, List, ◌∷◌, ◌++◌, length, Option, Some, refl, sym, ap, [], ◌∙◌, arith, length-append, eq-eqb}
+use Rattle.ucl_steps.proofs.Common.{filter, eqb-true, filter-append, flat_map-append, some, some-injective, get_elem?, Access, Log, Caller, Step, Held, Holds, Idle, MachineState, initial_state}
+use Rattle.ucl_steps.proofs.Common.{held_by, after_step, after_steps, accesses_holding, cast_for, IsOf, FitsHeld, left_by, Move, steps_of_move, steps_of_moves, Actor, accesses_of_log, AreStepsOf}
+use Rattle.ucl_steps.proofs.Common.{IsRunOfLog, HaveGoneOn, most_between, is_caller, steps_by, finished_by}
 use Rattle.ucl_steps.proofs.Runs.{kept_at_start, run_kept}
 use Rattle.ucl_steps.proofs.OneStep.{steps_append}
 use Rattle.ucl_steps.proofs.PassSteps.{left_append}

@@ -1,12 +1,11 @@
 -- While no call is decided the words stay as they are, and each step of a caller leaves it fewer steps to take.
-use Rattle.ucl_steps.proofs.Common.{◌≡◌, ◌≢◌, ℕ, zero, suc, ◌+◌, ◌-◌, ◌*◌, ◌<◌, ◌≤◌, ◌==◌, Bool, true, false, cond, List, ◌∷◌, ◌++◌, drop, length, Option, Some, None, ◌⊎◌, inl, [], inr, refl, sym}
-use Rattle.ucl_steps.proofs.Common.{ap, ◌∙◌, subst, arith, append-nil, get_or, eq-eqb, ne_eqb, slice_get, slice_index, slice_set, is_some, filter, sum_by, none-some, same_Some, slice_get-get_or}
+use Rattle.ucl_steps.proofs.Common.{◌≡◌, ◌≢◌, ℕ, zero, suc, ◌+◌, ◌-◌, ◌*◌, ◌<◌, ◌≤◌, ◌==◌, Bool, true, false, cond, List, ◌∷◌, ◌++◌, drop, length, Option, Some, None, ◌⊎◌, [], inr, refl, sym, ap}
+use Rattle.ucl_steps.proofs.Common.{subst, arith, append-nil, get_or, eq-eqb, ne_eqb, slice_get, slice_index, slice_set, is_some, filter, sum_by, none-some, same_Some, slice_get-get_or}
 use Rattle.ucl_steps.proofs.Common.{option_and_then_some, cond_some, eqb-true, eqb-false, length_push, length-drop, length-set, length-replicate, drop_more, filter-append, sum_by-cons, sum_by-le}
-use Rattle.ucl_steps.proofs.Common.{EventCall, Refusal, Stale, after, word_of, record_at, word_at, reading_of, Cast, Caller, Reporter, Reader, Call, Step, Reply, Accepted, Refused, Copied}
-use Rattle.ucl_steps.proofs.Common.{CallRecord, Nothing, Holding, Collecting, Checking, GoesOn, Answers, by_rules, Holds, Idle, Wanting, Within, Answered, Callers, MachineState, initial_state}
-use Rattle.ucl_steps.proofs.Common.{held_by, set_held, with_held, after_reply, change_at, with_reply, with_end, held_at_begin, after_begin, after_outcome, stored, state_after_swap}
-use Rattle.ucl_steps.proofs.Common.{state_after_first, state_after_second, after_end, after_step_holding, caller_of, after_step, after_steps, most_between, decided_in, is_caller, steps_by}
-use Rattle.ucl_steps.proofs.Common.{SomeCallIsDecided}
+use Rattle.ucl_steps.proofs.Common.{EventCall, Refusal, Stale, after, word_of, record_at, word_at, reading_of, Cast, Caller, Reporter, Reader, Call, Step, Reply, Accepted, Refused, Copied, CallRecord}
+use Rattle.ucl_steps.proofs.Common.{Nothing, Holding, Collecting, Checking, GoesOn, Answers, by_rules, Holds, Idle, Wanting, Within, Answered, Callers, MachineState, initial_state, held_by, set_held}
+use Rattle.ucl_steps.proofs.Common.{with_held, after_reply, change_at, with_reply, with_end, held_at_begin, after_begin, after_outcome, stored, state_after_swap, state_after_first, state_after_second}
+use Rattle.ucl_steps.proofs.Common.{after_end, after_step_holding, caller_of, after_step, after_steps, most_between, decided_in, is_caller, steps_by, SomeCallIsDecided}
 use Rattle.ucl_steps.proofs.CallFacts.{Checks}
 use Rattle.ucl_steps.proofs.Callers.{same_caller, held_here, held_else}
 use Rattle.ucl_steps.proofs.Invariant.{Keeps}

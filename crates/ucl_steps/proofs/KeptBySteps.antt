@@ -1,16 +1,15 @@
 -- Each step of the machine keeps what every step keeps.
-use Rattle.ucl_steps.proofs.Common.{◌≡◌, ℕ, zero, suc, ◌+◌, ◌-◌, ◌<◌, ◌≤◌, ◌==◌, ◌&&◌, nat_le, Bool, true, false, cond, List, ◌∷◌, ◌++◌, take, length, Option, Some, None, Ok, Err, inl, inr, refl}
-use Rattle.ucl_steps.proofs.Common.{sym, [], ap, ◌∙◌, subst, arith, le_refl, get_or, slice_get, slice_index, slice_set, IfSome, option_map, none-some, same_Some, slice_get-map, cond_some, cases_lt}
-use Rattle.ucl_steps.proofs.Common.{false≢true, eqb-true, eqb-false, and_parts, leb-true, length_push, get_or_append_left, get_or_push, length-take-le, take-append_seam, take-length, MatchRecord}
-use Rattle.ucl_steps.proofs.Common.{EventCall, Refusal, Stale, refusal_of, after, word_of, record_at, Entry, word_at, version_of, answer, match_after, board_of, MayFollow, sequential_reply}
-use Rattle.ucl_steps.proofs.Common.{attempted, reading_of, at_end, same_number, may_attempt, begins_same, Caller, Reporter, Reader, Call, Event, Reading, Step, Begin, Look, Swap, First, Second, End}
-use Rattle.ucl_steps.proofs.Common.{CallRecord, Accepted, Refused, Copied, Holding, Collecting, Checking, GoesOn, Answers, by_rules, may_begin, after_begin, after_step_holding, caller_of, Holds}
-use Rattle.ucl_steps.proofs.Common.{Idle, Wanting, Within, Answered, MachineState, held_by, with_held, with_reply, after_outcome, stored, state_after_look, state_after_swap}
-use Rattle.ucl_steps.proofs.Common.{state_after_first, state_after_second, after_reply}
+use Rattle.ucl_steps.proofs.Common.{◌≡◌, ℕ, suc, ◌+◌, ◌-◌, ◌<◌, ◌≤◌, ◌==◌, Bool, true, false, cond, List, ◌∷◌, ◌++◌, take, length, Option, Some, None, Err, inl, inr, refl, sym, [], ap, ◌∙◌, subst}
+use Rattle.ucl_steps.proofs.Common.{arith, le_refl, get_or, slice_get, slice_index, slice_set, option_map, none-some, same_Some, slice_get-map, cond_some, cases_lt, false≢true, eqb-true, eqb-false}
+use Rattle.ucl_steps.proofs.Common.{and_parts, leb-true, length_push, get_or_append_left, get_or_push, length-take-le, take-append_seam, take-length, MatchRecord, EventCall, Refusal, Stale}
+use Rattle.ucl_steps.proofs.Common.{refusal_of, after, word_of, record_at, Entry, word_at, version_of, match_after, board_of, MayFollow, sequential_reply, attempted, reading_of, at_end, same_number}
+use Rattle.ucl_steps.proofs.Common.{may_attempt, begins_same, Caller, Reporter, Call, Event, Reading, Step, Begin, Look, Swap, First, Second, End, CallRecord, Accepted, Refused, Copied, Holding}
+use Rattle.ucl_steps.proofs.Common.{Collecting, Checking, GoesOn, Answers, by_rules, may_begin, after_begin, after_step_holding, caller_of, Holds, Idle, Wanting, Within, Answered, MachineState}
+use Rattle.ucl_steps.proofs.Common.{held_by, with_held, with_reply, after_outcome, stored, state_after_first, after_reply}
 use Rattle.ucl_steps.proofs.Histories.{number_expected, is_stale, legal_snoc, legal_beginning, read_back, number_next, squeezed, board_at, board_get, board_next, board_from, version_is}
 use Rattle.ucl_steps.proofs.Explanations.{IsExplained, IsSequential}
 use Rattle.ucl_steps.proofs.Turns.{IsInner}
-use Rattle.ucl_steps.proofs.CallFacts.{Asks, Offers, Loaded, AreAt, Collects, Checks, Sees, in_call}
+use Rattle.ucl_steps.proofs.CallFacts.{Asks, Offers, Loaded, AreAt, Checks, Sees, in_call}
 use Rattle.ucl_steps.proofs.EntryMakers.{once_refused, once_accepted, made_within}
 use Rattle.ucl_steps.proofs.Invariant.{time_of, Keeps, moved, stayed, ended, begun}
 

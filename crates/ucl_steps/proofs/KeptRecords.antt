@@ -1,6 +1,6 @@
 -- The calls of a pass that has no call under way are just its finished calls: so a later run keeps what an earlier one has of it.
-use Rattle.ucl_steps.proofs.Common.{◌≡◌, ℕ, zero, suc, ◌+◌, ◌≤◌, Bool, List, ◌∷◌, ◌++◌, length, drop, map, Some, None, refl, sym, ap, ◌∙◌, subst, arith, append-nil, length-append, [], slice_get}
-use Rattle.ucl_steps.proofs.Common.{filter, none-some, same_Some, map-append, length-map, filter-append, some, some-injective, IsPrefix, get_elem?, CallRecord, caller_and_call, MachineState}
+use Rattle.ucl_steps.proofs.Common.{◌≡◌, ℕ, zero, suc, ◌+◌, ◌≤◌, Bool, List, ◌∷◌, ◌++◌, length, drop, map, Some, None, refl, sym, ap, ◌∙◌, arith, append-nil, length-append, [], slice_get}
+use Rattle.ucl_steps.proofs.Common.{filter, none-some, map-append, length-map, filter-append, some, some-injective, IsPrefix, get_elem?, CallRecord, caller_and_call, MachineState}
 use Rattle.ucl_steps.proofs.Common.{Nothing, Answer, caller_for, is_of, calls_by, AreRecordsOf, FitsRun, Actor, HasGoneOn, HaveGoneOn, records_by}
 use Rattle.std.proofs.lemmas.List.{nil_from_length}
 

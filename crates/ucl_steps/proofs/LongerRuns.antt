@@ -1,5 +1,5 @@
 -- A run is told by the log and by what the actors have asked: so runs of later states are longer runs.
-use Rattle.ucl_steps.proofs.Common.{◌≡◌, ◌≢◌, ◌⊎◌, inl, inr, ℕ, zero, suc, ◌+◌, Bool, true, false, cond, List, ◌∷◌, ◌++◌, length, map, Option, Some, None, refl, sym, ap, [], ◌∙◌, subst, arith}
+use Rattle.ucl_steps.proofs.Common.{◌≡◌, ◌≢◌, ◌⊎◌, inl, inr, ℕ, suc, ◌+◌, Bool, true, false, cond, List, ◌∷◌, ◌++◌, length, map, Option, Some, None, refl, sym, ap, [], ◌∙◌, subst, arith}
 use Rattle.ucl_steps.proofs.Common.{append_assoc, eq-eqb, slice_get, none-some, same_Some, option_and_then_some, le-leb, flat_map-append, some, some-injective, IsPrefix, get_elem?, EventCall}
 use Rattle.ucl_steps.proofs.Common.{IsReporter, word_at, AccessKind, Access, Logged, Log, access_list, slice_index, Cast, Caller, Reporter, Call, Reading, Step, Begin, Look, Swap, First, Second}
 use Rattle.ucl_steps.proofs.Common.{End, Held, Holding, Collecting, Checking, Outcome, GoesOn, Answers, looked, swapped, loaded, compared, Holds, Idle, Wanting, Within, Answered, Callers}

@@ -1,5 +1,5 @@
 -- One step of the machine on a match word: the word that it finds, what comes of it, the access that it leaves, and what it leaves as it was.
-use Rattle.ucl_steps.proofs.Common.{◌≡◌, ◌≢◌, ℕ, zero, suc, ◌+◌, ◌-◌, ◌<◌, ◌≤◌, ◌==◌, ◌&&◌, nat_le, Bool, true, false, cond, List, ◌∷◌, ◌++◌, length, map, Option, Some, None, Ok, [], refl, ap, ◌∙◌}
+use Rattle.ucl_steps.proofs.Common.{◌≡◌, ◌≢◌, ℕ, suc, ◌+◌, ◌-◌, ◌<◌, ◌≤◌, ◌==◌, ◌&&◌, nat_le, Bool, true, false, cond, List, ◌∷◌, ◌++◌, length, map, Option, Some, None, Ok, [], refl, ap, ◌∙◌}
 use Rattle.ucl_steps.proofs.Common.{arith, append_assoc, append-nil, eq-eqb, ne_eqb, slice_get, slice_index, IsSome, option_and_then, same_Some, option_and_then_some, false≢true, cases_eq, le-leb}
 use Rattle.ucl_steps.proofs.Common.{leb-true, map-append, filter-append, EventCall, Refusal, answer, word_of, IsMatch, word_at, match_after, board_of, word_after, AccessKind, Access, access, Cast}
 use Rattle.ucl_steps.proofs.Common.{Caller, Reporter, Call, Step, CallRecord, Holding, Collecting, Checking, Outcome, looked, swapped, loaded, compared, MayAsk, Holds, Idle, Wanting, Within}

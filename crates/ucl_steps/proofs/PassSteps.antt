@@ -1,13 +1,12 @@
 -- One step of a pass on a match word, as steps of the machine: what the pass has done and holds stays what its callers have done and hold.
 use Rattle.ucl_steps.proofs.Common.{◌≡◌, ◌≢◌, ℕ, ◌+◌, ◌<◌, ◌≤◌, ◌==◌, Bool, true, false, cond, List, ◌∷◌, ◌++◌, length, map, Option, Some, None, refl, sym, ap, ◌∙◌, subst, arith, append_assoc, []}
 use Rattle.ucl_steps.proofs.Common.{append-nil, le_refl, eq-eqb, ne_eqb, slice_get, slice_index, IsSome, is_some, same_Some, option_and_then_some, false≢true, cases_eq, length_push, map-append}
-use Rattle.ucl_steps.proofs.Common.{EventCall, Refusal, refusal_of, after, record_at, at_below, at_longer, at_end, Entry, board_of, reading_of, entry_of, Access, Cast, Caller, Reporter, Reader}
-use Rattle.ucl_steps.proofs.Common.{Call, Event, Reading, Step, Begin, End, CallRecord, Reply, Copied, Holds, Idle, Wanting, Within, Answered, MachineState, initial_state, held_by, with_held}
-use Rattle.ucl_steps.proofs.Common.{with_reply, with_end, may_begin, held_at_begin, after_begin, after_reply, after_end, after_outcome, stored, after_step_holding, caller_of, after_step}
-use Rattle.ucl_steps.proofs.Common.{after_steps, caller_and_call, step_of, accesses_of_step, Does, Held, Nothing, Holding, Collecting, Checking, Outcome, GoesOn, Answers, by_rules, looked, swapped}
-use Rattle.ucl_steps.proofs.Common.{loaded, compared, Answer, Doing, goes, ends, done_by, IsNext, after_look, swaps_holding, after_swap, collected, firsts_holding, after_first, seconds_holding}
-use Rattle.ucl_steps.proofs.Common.{after_second, MayAsk, caller_for, IsOf, call_of, CanHold, IsRecordOf, AreRecordsOf, IsUnderWay, FitsHeld, call_under_way, calls_told, calls_by, left_by, FitsRun}
-use Rattle.ucl_steps.proofs.Common.{Move, end_by, steps_of_move}
+use Rattle.ucl_steps.proofs.Common.{EventCall, Refusal, refusal_of, after, record_at, at_below, at_longer, at_end, Entry, board_of, reading_of, entry_of, Access, Cast, Caller, Reporter, Reader, Call}
+use Rattle.ucl_steps.proofs.Common.{Event, Reading, Step, Begin, End, CallRecord, Reply, Copied, Holds, Idle, Within, Answered, MachineState, initial_state, held_by, with_held, with_reply, with_end}
+use Rattle.ucl_steps.proofs.Common.{may_begin, held_at_begin, after_begin, after_reply, after_end, after_outcome, stored, after_step_holding, caller_of, after_step, after_steps, caller_and_call}
+use Rattle.ucl_steps.proofs.Common.{step_of, accesses_of_step, Does, Held, Nothing, Holding, Collecting, Checking, Outcome, GoesOn, Answers, by_rules, looked, swapped, loaded, compared, Answer, Doing}
+use Rattle.ucl_steps.proofs.Common.{goes, ends, done_by, IsNext, after_look, swaps_holding, after_swap, collected, firsts_holding, after_first, seconds_holding, after_second, MayAsk, caller_for, IsOf}
+use Rattle.ucl_steps.proofs.Common.{call_of, CanHold, IsRecordOf, AreRecordsOf, IsUnderWay, FitsHeld, call_under_way, calls_told, calls_by, left_by, FitsRun, Move, end_by, steps_of_move}
 use Rattle.ucl_board.specs.Log as log
 use Rattle.ucl_steps.proofs.ChangedLists.{change_at_here, change_at_else, length-change_at, map_unseen}
 use Rattle.ucl_steps.proofs.Callers.{same_caller, held_here, held_else}

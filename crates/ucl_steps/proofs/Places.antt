@@ -1,5 +1,5 @@
 -- Where calls begin and end in a list of steps, and in one step more.
-use Rattle.ucl_steps.proofs.Common.{◌≡◌, ℕ, zero, suc, ◌<◌, ◌≤◌, List, ◌∷◌, ◌++◌, take, drop, length, Some, ◌⊎◌, inl, inr, refl, sym, ap, ◌∙◌, arith, length-append, [], slice_get, none-some}
+use Rattle.ucl_steps.proofs.Common.{◌≡◌, ℕ, zero, suc, ◌<◌, ◌≤◌, List, ◌∷◌, ◌++◌, take, drop, length, Some, ◌⊎◌, inl, inr, refl, ap, arith, length-append, [], slice_get, none-some}
 use Rattle.ucl_steps.proofs.Common.{same_Some, cases_lt, take-append-le, take-append-drop, take-length, at_longer, at_below, at_end, at_either, get_back, Caller, Call, Step, Begin, Look, Swap}
 use Rattle.ucl_steps.proofs.Common.{First, Second, End, begun_in, BeginsAt, EndsAt}
 use Rattle.ucl_steps.proofs.Lists.{take_one, take_split}

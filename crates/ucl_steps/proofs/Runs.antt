@@ -1,5 +1,5 @@
 -- Every run keeps what every step keeps, and so its history explains its calls.
-use Rattle.ucl_steps.proofs.Common.{◌≡◌, ℕ, zero, suc, ◌<◌, ◌≤◌, false, List, ◌∷◌, ◌++◌, map, Option, Some, ◌⊎◌, inl, inr, refl, sym, ap, ◌∙◌, subst, arith, append_assoc, append-nil, get_or, []}
+use Rattle.ucl_steps.proofs.Common.{◌≡◌, ℕ, suc, ◌<◌, ◌≤◌, false, List, ◌∷◌, ◌++◌, map, Option, Some, ◌⊎◌, inl, inr, refl, sym, ap, ◌∙◌, subst, arith, append_assoc, append-nil, get_or, []}
 use Rattle.ucl_steps.proofs.Common.{◌↔◌, All, slice_get, IfSome, IsSome, replicate, option_map, none-some, same_Some, slice_get-map, slice_get-get_or, option_and_then_some, cases_lt, Entry}
 use Rattle.ucl_steps.proofs.Common.{board_of, Cast, Caller, Call, Step, CallRecord, Reply, Holds, Idle, MachineState, initial_state, held_by, caller_of, after_step, after_steps, EndsAt}
 use Rattle.ucl_steps.proofs.Common.{EndedBySteps, PointWithinCall, AcceptedIsEntry, is_accepted, RefusedAtPoint, ReadingIsSnapshot, Precedes, caller_and_call, RealTimeOrder, version_read}
