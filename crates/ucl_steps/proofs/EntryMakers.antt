@@ -50,20 +50,12 @@ module _ (xs : List CallRecord) (k : ℕ) (f : CallRecord → CallRecord) where
     pub once_accepted : (h : List Entry) (e : Entry) → is_accepted (f a).reply ≡ true → (f a).point ≡ Some (length h) → ((i m : ℕ) → Makes xs i m → m < length h) → EntryHasOneCall h xs
         → EntryHasOneCall (h ++ e ∷ []) (change_at k f xs)
     once_accepted h e made_it point below once m l = let long = length_push h e in elim (cases_eq m (length h)) [
-      | inl is ↦ (
-        k,
-        some_and (slice_get (change_at k f xs) k) (IsMaker m) (f a) (change_at_here k f xs a here) (made_it, point ∙ ap Some (sym is)),
-        λ j made. elim (cases_eq j k) [ inl same ↦ same | inr not ↦ let low = below j m (made_else j m not made) in absurd (omega arith) ],
-      )
+      | inl is ↦
+          let made = some_and (slice_get (change_at k f xs) k) (IsMaker m) (f a) (change_at_here k f xs a here) (made_it, point ∙ ap Some (sym is)) in
+          (k, made, λ j other. search (arith, cases_eq j k, below j m, made_else j m))
       | inr not-last ↦
-          let t = once m (omega arith) in (
-            t.0,
-            else_made t.0 m (not_made t.0 m t.1) t.1,
-            λ j made. elim (cases_eq j k) [
-              | inl same ↦ search (arith, and_some, change_at_here, same_Some)
-              | inr not ↦ t.2 j (made_else j m not made)
-            ],
-          )
+          let t = once m (omega arith) in
+          (t.0, else_made t.0 m (not_made t.0 m t.1) t.1, λ j made. search (arith, cases_eq j k, t.2 j, made_else j m, and_some, change_at_here, same_Some))
     ]
 
 -- a call that begins

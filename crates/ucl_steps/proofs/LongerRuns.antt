@@ -1,5 +1,5 @@
 -- A run is told by the log and by what the actors have asked: so runs of later states are longer runs.
-use Rattle.ucl_steps.proofs.Common.{◌≡◌, ◌≢◌, ◌⊎◌, inl, inr, ℕ, suc, ◌+◌, Bool, true, false, cond, List, ◌∷◌, ◌++◌, length, map, Option, Some, None, refl, sym, ap, [], ◌∙◌, subst, arith}
+use Rattle.ucl_steps.proofs.Common.{calls_asked, ◌≡◌, ◌≢◌, ◌⊎◌, inl, inr, ℕ, suc, ◌+◌, Bool, true, false, cond, List, ◌∷◌, ◌++◌, length, map, Option, Some, None, refl, sym, ap, [], ◌∙◌, subst, arith}
 use Rattle.ucl_steps.proofs.Common.{append_assoc, eq-eqb, slice_get, none-some, same_Some, option_and_then_some, le-leb, flat_map-append, some, some-injective, IsPrefix, get_elem?, EventCall}
 use Rattle.ucl_steps.proofs.Common.{IsReporter, word_at, AccessKind, Access, Logged, Log, access_list, slice_index, Cast, Caller, Reporter, Call, Reading, Step, Begin, Look, Swap, First, Second}
 use Rattle.ucl_steps.proofs.Common.{End, Held, Holding, Collecting, Checking, Outcome, GoesOn, Answers, looked, swapped, loaded, compared, Holds, Idle, Wanting, Within, Answered, Callers}
@@ -11,6 +11,7 @@ use Rattle.std.proofs.Common.{replicate}
 use Rattle.ucl_board.specs.Log as kinds
 use Rattle.ucl_steps.proofs.Callers.{same_caller, held_here, held_else}
 use Rattle.ucl_steps.proofs.Runs.{linearizable_run}
+use Rattle.ucl_steps.proofs.PassSteps.{move_of}
 use Rattle.ucl_steps.proofs.OneStep.{and_true, caller_of_kind, calls_append, calls_next}
 
 -- one step of two machines, which may differ in how many readers they have
@@ -111,9 +112,6 @@ abbrev AfterEnd : Caller → Bool → MachineState → MachineState → Type 0
 AfterEnd c false v z = v ≡ z
 AfterEnd c true v z = after_step v (End c) ≡ Some z
 
-abbrev move_of : Caller → Option Call → AccessKind → Bool → Move
-move_of c begins kind ends = record { caller = c; begins = begins; kind = kind; ends = ends }
-
 record Moved (m : Move) (a z : MachineState) : Type 0 where
   begun : MachineState
   made : MachineState
@@ -159,14 +157,9 @@ moving m rest a last e =
     option_and_then_some (after_steps (end_by c m.ends ++ rest)) (after_step b.0 s) last b.2 (λ v is then.
     let t = ending c m.ends rest v last then in
     let l = step_left c m.kind b.0 v is in
-    record {
-      after = t.0;
-      moved = record { begun = b.0; made = v; begins = b.1; makes = is; ends = t.1 };
-      then = t.2;
-      access = l.0;
-      kind = l.2;
-      left = ap (λ (l : List Step). left_by l (Some a)) one ∙ (b.3 ∙ search (arith, caller_of_kind));
-    })
+    let moved : Moved m a t.0 = record { begun = b.0; made = v; begins = b.1; makes = is; ends = t.1 } in
+    let left : left_by (steps_of_move m ++ rest) (Some a) ≡ (c, l.0) ∷ left_by rest (Some t.0) = ap (λ (l : List Step). left_by l (Some a)) one ∙ (b.3 ∙ search (arith, caller_of_kind)) in
+    record { after = t.0; moved = moved; then = t.2; access = l.0; kind = l.2; left = left })
 
 -- who can take no step
 
@@ -181,13 +174,9 @@ answered_takes : (c : Caller) (kind : AccessKind) (k : ℕ) (a : MachineState) �
 answered_takes c kind k a = search arith
 
 -- a call begins where its caller is idle, and then it holds what its call begins with
-begin_holds : (c : Caller) (call : Call) (a w : MachineState) (o : Option Holds) → held_by a.callers c ≡ o → after_step_holding (Begin c call) o a ≡ Some w
-    → (o ≡ Some Idle) × (held_by w.callers c ≡ Some (held_at_begin call (length a.calls)))
-begin_holds c call a w o held e = search (arith, none-some, same_Some, held_here)
-
 begin_made : (c : Caller) (call : Call) (a w : MachineState) → after_step a (Begin c call) ≡ Some w
     → (held_by a.callers c ≡ Some Idle) × (held_by w.callers c ≡ Some (held_at_begin call (length a.calls)))
-begin_made c call a w e = begin_holds c call a w (held_by a.callers c) refl e
+begin_made c call a w e = search (arith, none-some, same_Some, held_here)
 
 end_holds : (c : Caller) (v z : MachineState) (o : Option Holds) → after_step_holding (End c) o v ≡ Some z → (k : ℕ) × (o ≡ Some (Answered k))
 end_holds c v z o e = search (arith, none-some)
@@ -215,10 +204,13 @@ pub answered_stays : (ms : List Move) (a last : MachineState) (c : Caller) (k : 
 answered_stays [] a last c k held e = cc
 answered_stays (m ∷ ms) a last c k held e =
     let t = moving m (steps_of_moves ms) a last e in
-    elim (same_caller c m.caller) [
-      | inl is ↦ absurd (none_answered m.caller m.begins m.kind a t.moved.begun t.moved.made k t.moved.begins t.moved.makes (ap (held_by a.callers) (sym is) ∙ held))
-      | inr not ↦ answered_stays ms t.after last c k (moved_keeps m a t.after c t.moved not ∙ held) t.then
-    ]
+    search (
+      arith,
+      same_caller c m.caller,
+      none_answered m.caller m.begins m.kind a t.moved.begun t.moved.made k t.moved.begins t.moved.makes,
+      moved_keeps m a t.after c t.moved,
+      answered_stays ms t.after last c k,
+    )
 
 -- and no actor's call stays so
 pub answered_ends : (state : MachineState) (seat number begun : ℕ) (held : Held) (high : ℕ) (c : Caller) (k : ℕ) → IsOf seat number c → FitsHeld state seat number begun held high
@@ -325,16 +317,10 @@ module _ (actors later : List Actor) (on : HaveGoneOn actors later) (last last' 
     where
       asked : (number : IsReporter was.number) → c ≡ Reporter was.number → f ≡ g
       asked number reporter =
-          let same : is.number ≡ was.number = gone.number (omega arith) in
-          let p : IsPrefix (calls_by seat was.number (calls_told last)) (calls_by seat was.number (calls_told last')) = (
-            gone.asked.0,
-            ap (λ (l : List Call). l ++ gone.asked.0) (each seat was at).whole
-                ∙ (gone.asked.1 ∙ (sym (each' seat is bt).whole ∙ ap (λ (n : ℕ). calls_by seat n (calls_told last')) same)),
-          ) in
-          next_asked seat was.number c f g told xs ys (ap (is_of seat was.number) reporter ∙ is_reporter seat was.number number) (
-            p.0,
-            ap (λ (l : List (Caller × Call)). calls_by seat was.number l ++ p.0) told_is ∙ (p.1 ∙ ap (calls_by seat was.number) (sym told_is')),
-          )
+          let own : is_of seat was.number c ≡ true = search (arith, is_reporter) in
+          let same = gone.number (omega arith) in
+          let whole : calls_by seat was.number (calls_told last') ≡ calls_asked is.doing = rw (← same) (each' seat is bt).whole in
+          next_asked seat was.number c f g told xs ys own (gone.asked.0, cc (told_is, told_is', (each seat was at).whole, gone.asked.1, whole))
 
   -- one move after another
   grows : (ms ns : List Move) (a b : MachineState) (told : List (Caller × Call)) → Alike a b → after_steps (steps_of_moves ms) a ≡ Some last → after_steps (steps_of_moves ns) b ≡ Some last'

@@ -1,5 +1,5 @@
 -- One step of a pass on a match word, as steps of the machine: what the pass has done and holds stays what its callers have done and hold.
-use Rattle.ucl_steps.proofs.Common.{◌≡◌, ◌≢◌, ℕ, ◌+◌, ◌<◌, ◌≤◌, ◌==◌, Bool, true, false, cond, List, ◌∷◌, ◌++◌, length, map, Option, Some, None, refl, sym, ap, ◌∙◌, subst, arith, append_assoc, []}
+use Rattle.ucl_steps.proofs.Common.{calls_asked, AccessKind, ◌≡◌, ◌≢◌, ℕ, ◌+◌, ◌<◌, ◌≤◌, ◌==◌, Bool, true, false, cond, List, ◌∷◌, ◌++◌, length, map, Option, Some, None, refl, sym, ap, ◌∙◌, subst, arith, append_assoc, []}
 use Rattle.ucl_steps.proofs.Common.{append-nil, le_refl, eq-eqb, ne_eqb, slice_get, slice_index, IsSome, is_some, same_Some, option_and_then_some, false≢true, cases_eq, length_push, map-append}
 use Rattle.ucl_steps.proofs.Common.{EventCall, Refusal, refusal_of, after, record_at, at_below, at_longer, at_end, Entry, board_of, reading_of, entry_of, Access, Cast, Caller, Reporter, Reader, Call}
 use Rattle.ucl_steps.proofs.Common.{Event, Reading, Step, Begin, End, CallRecord, Reply, Copied, Holds, Idle, Within, Answered, MachineState, initial_state, held_by, with_held, with_reply, with_end}
@@ -59,6 +59,9 @@ record TurnOn (seat number : ℕ) (w : MachineState) (c : Caller) (m : Access) (
   turn : Turn seat number w c m d entries
   ends : Bool
   move_is : turn.move ≡ record { caller = c; begins = None; kind = m.kind; ends = ends }
+
+abbrev pub move_of : Caller → Option Call → AccessKind → Bool → Move
+move_of c begins kind ends = record { caller = c; begins = begins; kind = kind; ends = ends }
 
 abbrev with_caller : Step → List Access → List (Caller × Access)
 with_caller step ms = map (λ m. (caller_of step, m)) ms
@@ -166,17 +169,12 @@ module _ (seat number : ℕ) (w : MachineState) (d : Doing) (call : Call) (begun
       let last = with_held (Within u.place held) by v in
       let passes : Passes by w last = passes_step (GoesOn held) in
       let after : Under seat number last d.calls call begun (λ k. Within k held) = search (arith, records_kept, held_here, held_v) in
-      let turn : Turn seat number w by m (goes begun held d) entries = record {
-        move = record { caller = by; begins = None; kind = m.kind; ends = false };
-        last = last;
-        run = steps_on (step_of by m.kind) [] w last last made.done refl;
-        left = append-nil (with_caller (step_of by m.kind) (accesses_of_step (step_of by m.kind) w)) ∙ one_left by m w made.left;
-        history = history;
-        of = of_call seat number call u.may;
-        passes = passes;
-        fits = search (arith, fits_under);
-      } in
-      record { turn = turn; ends = false; move_is = refl }
+      let move = move_of by None m.kind false in
+      let run = steps_on (step_of by m.kind) [] w last last made.done refl in
+      let left = append-nil (with_caller (step_of by m.kind) (accesses_of_step (step_of by m.kind) w)) ∙ one_left by m w made.left in
+      let fits : FitsRun last seat number (goes begun held d) = search (arith, fits_under) in
+      let of = of_call seat number call u.may in
+      record { turn = record { move = move; last = last; run = run; left = left; history = history; of = of; passes = passes; fits = fits }; ends = false; move_is = refl }
 
   -- it is the call's last
   answered : (reply : Reply) → Made by w m (after_reply by u.place point reply v) → TurnOn seat number w by m (ends call reply begun now d) entries
@@ -196,23 +194,18 @@ module _ (seat number : ℕ) (w : MachineState) (d : Doing) (call : Call) (begun
       let at_last : slice_get last.calls k ≡ Some (with_end n replied) = change_at_here k (with_end n) z.calls replied at_z in
       let count = at_below last.calls k (with_end n replied) at_last in
       let told : calls_told last ≡ calls_told w = frame.told ∙ (frame_outcome by k (hold k) w v point (Answers reply) u.held same.0 same.1).told in
-      let turn : Turn seat number w by m (ends call reply begun now d) entries = record {
-        move = record { caller = by; begins = None; kind = m.kind; ends = true };
-        last = last;
-        run = steps_on (step_of by m.kind) (End by ∷ []) w z last made.done (steps_on (End by) [] z last last one refl);
-        left = search (arith, append-nil, one_left);
-        history = history;
-        of = of_call seat number call u.may;
-        passes = passes;
-        fits = record {
-          high = k + 1;
-          recorded = records_more last.calls seat number 0 d.calls u.high k f (with_end n replied) (records_kept w.calls last.calls seat number 0 d.calls u.high passes.ended u.recorded) u.low at_last
-              (record { may = u.may; caller = refl; call = refl; begun = refl; reply = refl; ended = ap Some (ap length history ∙ place) });
-          held = search (arith, same_caller, held_here);
-          whole = ap (calls_by seat number) told ∙ (u.whole ∙ (sym (map-append (λ (f : Answer). f.call) d.calls (f ∷ [])) ∙ sym (append-nil (map (λ (f : Answer). f.call) (d.calls ++ f ∷ [])))));
-        };
-      } in
-      record { turn = turn; ends = true; move_is = refl }
+      let move = move_of by None m.kind true in
+      let run = steps_on (step_of by m.kind) (End by ∷ []) w z last made.done (steps_on (End by) [] z last last one refl) in
+      let left : left_by (steps_of_move move) (Some w) ≡ (by, m) ∷ [] = search (arith, append-nil, one_left) in
+      let of = of_call seat number call u.may in
+      let ended = ap Some (ap length history ∙ place) in
+      let own : IsRecordOf seat number f (with_end n replied) = record { may = u.may; caller = refl; call = refl; begun = refl; reply = refl; ended = ended } in
+      let old = records_kept w.calls last.calls seat number 0 d.calls u.high passes.ended u.recorded in
+      let recorded = records_more last.calls seat number 0 d.calls u.high k f (with_end n replied) old u.low at_last own in
+      let held : FitsHeld last seat number begun Nothing (k + 1) = search (arith, same_caller, held_here) in
+      let whole : calls_by seat number (calls_told last) ≡ calls_asked (ends call reply begun now d) = search (arith, told, map-append, append-nil, u.whole) in
+      let fits : FitsRun last seat number (ends call reply begun now d) = record { high = k + 1; recorded = recorded; held = held; whole = whole } in
+      record { turn = record { move = move; last = last; run = run; left = left; history = history; of = of; passes = passes; fits = fits }; ends = true; move_is = refl }
 
   turn_by : (o : Outcome) → CanGo number call o → Made by w m (after_outcome by u.place point o v) → TurnOn seat number w by m (done_by call begun now o d) entries
   turn_by o can made = search (arith, going_on, answered)
@@ -233,17 +226,12 @@ begins_turn seat number call w may m d entries idle on =
     let t = on.turn in
     let c = caller_for seat number call in
     let v = after_begin c call w in
+    let one = begins_step seat number call w may idle in
     let steps : List Step = step_of c m.kind ∷ end_by c on.ends in
-    record {
-      move = record { caller = c; begins = Some call; kind = m.kind; ends = on.ends };
-      last = t.last;
-      run = steps_on (Begin c call) steps w v t.last (begins_step seat number call w may idle) (ap (λ (z : Move). after_steps (steps_of_move z) v) (sym on.move_is) ∙ t.run);
-      left = ap (left_by steps) (begins_step seat number call w may idle) ∙ (ap (λ (z : Move). left_by (steps_of_move z) (Some v)) (sym on.move_is) ∙ t.left);
-      history = t.history;
-      of = t.of;
-      passes = passes_on c w v t.last (begins_passes seat number call w may idle) t.passes;
-      fits = t.fits;
-    }
+    let run = steps_on (Begin c call) steps w v t.last one (ap (λ (z : Move). after_steps (steps_of_move z) v) (sym on.move_is) ∙ t.run) in
+    let left = ap (left_by steps) one ∙ (ap (λ (z : Move). left_by (steps_of_move z) (Some v)) (sym on.move_is) ∙ t.left) in
+    let passes = passes_on c w v t.last (begins_passes seat number call w may idle) t.passes in
+    record { move = move_of c (Some call) m.kind on.ends; last = t.last; run = run; left = left; history = t.history; of = t.of; passes = passes; fits = t.fits }
 
 module _ (cast : Cast) (seat number : ℕ) (steps : List Step) (w : MachineState) (run : after_steps steps (initial_state cast) ≡ Some w) (d : Doing) (f : FitsRun w seat number d) (m : Access)
     (now : IsNow w m) where
