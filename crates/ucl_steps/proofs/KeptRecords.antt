@@ -65,13 +65,8 @@ pub kept_records : (actors later : List Actor) (last last' : MachineState) → H
     → ((seat : ℕ) (a : Actor) → get_elem? later seat ≡ some a → FitsRun last' seat a.number a.doing × (a.doing.held ≡ Nothing))
     → (seat : ℕ) (a b : Actor) → get_elem? actors seat ≡ some a → get_elem? later seat ≡ some b → IsPrefix (records_by seat a.number last) (records_by seat b.number last')
 kept_records actors later last last' on each each' seat a b at bt =
-    search (
-      arith,
-      some-injective (on seat a at).0 b (sym (on seat a at).1 ∙ bt),
-      records_are seat a.number last a (each seat a at).0 (each seat a at).1,
-      same_callers,
-      records_are seat b.number last' b (each' seat b bt).0 (each' seat b bt).1,
-      some-injective,
-      records_are,
-      map-append,
-    )
+    let f = each seat a at in
+    let g = each' seat b bt in
+    let was = records_are seat a.number last a f.0 f.1 in
+    let is = records_are seat b.number last' b g.0 g.1 in
+    search (arith, some-injective (on seat a at).0 b (sym (on seat a at).1 ∙ bt), was, is, same_callers, map-append)

@@ -204,13 +204,8 @@ pub answered_stays : (ms : List Move) (a last : MachineState) (c : Caller) (k : 
 answered_stays [] a last c k held e = cc
 answered_stays (m ∷ ms) a last c k held e =
     let t = moving m (steps_of_moves ms) a last e in
-    search (
-      arith,
-      same_caller c m.caller,
-      none_answered m.caller m.begins m.kind a t.moved.begun t.moved.made k t.moved.begins t.moved.makes,
-      moved_keeps m a t.after c t.moved,
-      answered_stays ms t.after last c k,
-    )
+    let none = none_answered m.caller m.begins m.kind a t.moved.begun t.moved.made k t.moved.begins t.moved.makes in
+    search (arith, same_caller c m.caller, none, moved_keeps m a t.after c t.moved, answered_stays ms t.after last c k)
 
 -- and no actor's call stays so
 pub answered_ends : (state : MachineState) (seat number begun : ℕ) (held : Held) (high : ℕ) (c : Caller) (k : ℕ) → IsOf seat number c → FitsHeld state seat number begun held high
@@ -343,12 +338,9 @@ module _ (actors later : List Actor) (on : HaveGoneOn actors later) (last last' 
       let c : Caller = m.caller in
       let told_m : told ++ (begun_by c m.begins ++ begun_in (steps_of_moves ms)) ≡ calls_told last = search (arith, begun_move) in
       let told_n : told ++ (begun_by c n.begins ++ begun_in (steps_of_moves ns)) ≡ calls_told last' = search (arith, begun_move) in
-      let calls : (f g : Call) → m.begins ≡ Some f → n.begins ≡ Some g → f ≡ g =
-      λ f g is_f is_g. search (
-        arith,
-        same_call x.0 was now m.kind c f g told (begun_in (steps_of_moves ms)) (begun_in (steps_of_moves ns)) a b p.moved.begun p.moved.made
-            moved'.begun moved'.made s.1.1 t.1.1 gone taken,
-      ) in
+      let one = same_call x.0 was now m.kind c in
+      let calls : (f g : Call) → m.begins ≡ Some f → n.begins ≡ Some g → f ≡ g = λ f g is_f is_g. search (arith, one f g told (begun_in (steps_of_moves ms)) (begun_in (steps_of_moves ns))
+      a b p.moved.begun p.moved.made moved'.begun moved'.made s.1.1 t.1.1 gone taken) in
       let f = each x.0 was s.1.1 in
       let f' = each' x.0 now t.1.1 in
       let ends : (k : ℕ) → held_by p.after.callers c ≢ Some (Answered k) =

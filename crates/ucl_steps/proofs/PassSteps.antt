@@ -132,18 +132,11 @@ module _ (seat number : ℕ) (call : Call) (w : MachineState) (may : MayAsk numb
 
     begins_under : Under seat number after_it fs call (length w.history) (held_at_begin call)
     begins_under =
-        search (
-          arith,
-          begins_passes idle_now,
-          idle_now,
-          records_kept w.calls after_it.calls seat number 0 fs high (begins_passes idle_now).ended recorded,
-          at_end w.calls (began mine call (length w.history)),
-          held_here w.callers mine Idle (held_at_begin call (length w.calls)) idle_now,
-          map-append,
-          calls_one,
-          own_caller,
-          append-nil,
-        )
+        let passes = begins_passes idle_now in
+        let old = records_kept w.calls after_it.calls seat number 0 fs high passes.ended recorded in
+        let last = at_end w.calls (began mine call (length w.history)) in
+        let held = held_here w.callers mine Idle (held_at_begin call (length w.calls)) idle_now in
+        search (arith, passes, old, last, held, idle_now, map-append, calls_one, own_caller, append-nil)
 
 -- what comes of a step can be held, by a pass that makes this call
 abbrev CanGo : ℕ → Call → Outcome → Type 0

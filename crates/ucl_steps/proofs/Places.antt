@@ -15,15 +15,10 @@ begun_in-append (End c ∷ xs) ys = begun_in-append xs ys
 
 pub begins_call : (steps : List Step) (p i : ℕ) (c : Caller) (b : BeginsAt steps p i c) → slice_get (begun_in steps) i ≡ Some (c, b.call)
 begins_call steps p i c b =
-    search (
-      arith,
-      take-append-drop (suc p) steps,
-      begun_in-append (take (suc p) steps) (drop (suc p) steps),
-      take_one steps p (Begin c b.call) b.begins,
-      begun_in-append (take p steps) (Begin c b.call ∷ []),
-      at_end (begun_in (take p steps)) (c, b.call),
-      at_longer,
-    )
+    let cut = take-append-drop (suc p) steps in
+    let one = take_one steps p (Begin c b.call) b.begins in
+    let here = at_end (begun_in (take p steps)) (c, b.call) in
+    search (arith, cut, one, here, begun_in-append, at_longer)
 
 later : (s : Step) (steps : List Step) (p i : ℕ) (c : Caller) → begun_in (s ∷ []) ≡ [] → BeginsAt steps p i c → BeginsAt (s ∷ steps) (suc p) i c
 later s steps p i c none b = search (arith, begun_in-append)
