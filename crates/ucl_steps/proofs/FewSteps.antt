@@ -125,9 +125,7 @@ module _ (steps : List Step) (w : MachineState) (kept : Keeps steps w) where
 
   looks : (r k : ℕ) (e : EventCall) → held_by w.callers (Reporter r) ≡ Some (Wanting k e) → (o : Option Refusal)
       → Stepped (Reporter r) w (after_outcome (Reporter r) k (length w.history) (by_rules r e (word_at w.words e.game) o) w)
-  looks r k e held (Some refusal) =
-      let t = kept.knows (Reporter r) (Wanting k e) k held refl in
-      replied (Reporter r) (Wanting k e) k (length w.history) (Refused refusal) w.words w t.call held refl refl t.at t.sees.reply
+  looks r k e held (Some refusal) = search (arith, replied, kept.knows (Reporter r) (Wanting k e) k held refl)
   looks r k e held None = stays (Reporter r) (Wanting k e) (Within k (Holding e (word_at w.words e.game) (word_of (after (record_at (word_at w.words e.game)) r e.kind)))) held tt (omega arith)
 
   swaps : (r k : ℕ) (e : EventCall) (old new : ℕ) → held_by w.callers (Reporter r) ≡ Some (Within k (Holding e old new)) → Stepped (Reporter r) w (state_after_swap r k e old new w)

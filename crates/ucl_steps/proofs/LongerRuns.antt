@@ -338,9 +338,8 @@ module _ (actors later : List Actor) (on : HaveGoneOn actors later) (last last' 
       let c : Caller = m.caller in
       let told_m : told ++ (begun_by c m.begins ++ begun_in (steps_of_moves ms)) ≡ calls_told last = search (arith, begun_move) in
       let told_n : told ++ (begun_by c n.begins ++ begun_in (steps_of_moves ns)) ≡ calls_told last' = search (arith, begun_move) in
-      let one = same_call x.0 was now m.kind c in
-      let calls : (f g : Call) → m.begins ≡ Some f → n.begins ≡ Some g → f ≡ g = λ f g is_f is_g. search (arith, one f g told (begun_in (steps_of_moves ms)) (begun_in (steps_of_moves ns))
-      a b p.moved.begun p.moved.made moved'.begun moved'.made s.1.1 t.1.1 gone taken) in
+      let one = λ (f g : Call). same_call x.0 was now m.kind c f g told (begun_in (steps_of_moves ms)) (begun_in (steps_of_moves ns)) a b p.moved.begun p.moved.made in
+      let calls : (f g : Call) → m.begins ≡ Some f → n.begins ≡ Some g → f ≡ g = λ f g is_f is_g. search (arith, one f g moved'.begun moved'.made s.1.1 t.1.1 gone taken) in
       let f = each x.0 was s.1.1 in
       let f' = each' x.0 now t.1.1 in
       let ends : (k : ℕ) → held_by p.after.callers c ≢ Some (Answered k) =
