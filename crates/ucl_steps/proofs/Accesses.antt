@@ -1,7 +1,7 @@
 -- Accesses along a history, and what clean and unclean tries show.
-use Rattle.ucl_steps.proofs.Common.{◌≡◌, ◌≢◌, ℕ, zero, suc, ◌+◌, ◌-◌, ◌*◌, ◌<◌, ◌≤◌, List, ◌∷◌, ◌++◌, take, length, Option, Some, None, Ok, Err, inl, inr, refl, sym, ap, ◌∙◌, subst, arith, []}
+use Rattle.ucl_steps.proofs.Common.{◌≡◌, ℕ, suc, ◌+◌, ◌-◌, ◌*◌, ◌<◌, ◌≤◌, List, ◌∷◌, ◌++◌, take, length, Option, Some, None, Ok, Err, inl, inr, refl, sym, ap, ◌∙◌, subst, arith, []}
 use Rattle.ucl_steps.proofs.Common.{length-append, le_refl, get_or, get_or-set_other, slice_get, slice_index, slice_set, IsOk, AllByRecursion, none-some, same_Some, false≢true, take-length}
-use Rattle.ucl_steps.proofs.Common.{IsPrefix, MatchRecord, Refusal, answer, reply_of, word_of, record_at, at_below, at_longer, at_end, at_either, Entry, match_after, board_of, IsLegal}
+use Rattle.ucl_steps.proofs.Common.{IsPrefix, MatchRecord, Refusal, answer, reply_of, word_of, record_at, at_below, at_end, at_either, Entry, match_after, board_of, IsLegal}
 use Rattle.ucl_steps.proofs.Common.{versions, same_number, take_beginning, AccessKind, Access, access, Does, IsFoundIn, Follows, IsCollect, IsUnclean, IsClean, accesses_of, UncleanTriesSeeMore}
 use Rattle.ucl_steps.proofs.Common.{UncleanTriesAreFew, ReadingsAreSnapshots, ReportsAreSequential}
 use Rattle.ucl_board.specs.declared.reading.Reading.{Reading}
@@ -35,9 +35,8 @@ follows_one h low m le at is = (omega arith, is ∙ ap (λ (z : List Entry). wor
 
 -- each access, by its place
 pub follows_at : (h : List Entry) (low high : ℕ) (ms : List Access) (k : ℕ) (m : Access) → Follows h low ms high → slice_get ms k ≡ Some m → (low ≤ m.at) × (m.at ≤ high) × IsFoundIn h m
-follows_at h low high [] k m f e = absurd (none-some m e)
-follows_at h low high (n ∷ ms) zero m f e = subst (λ (x : Access). (low ≤ x.at) × (x.at ≤ high) × IsFoundIn h x) (same_Some n m e) (f.0, follows_ends h n.at high ms f.2, f.1)
 follows_at h low high (n ∷ ms) (suc k) m f e = let t = follows_at h n.at high ms k m f.2 e in let a = f.0 in let b = t.0 in (omega arith, t.1, t.2)
+follows_at h low high ms k m f e = search (arith, none-some, same_Some, follows_ends)
 
 -- two parts, the first of which ends at the place of its last access
 pub record Parts (h : List Entry) (low high : ℕ) (ms ns : List Access) : Type 0 where
@@ -47,9 +46,8 @@ pub record Parts (h : List Entry) (low high : ℕ) (ms ns : List Access) : Type 
   pub ends : (k : ℕ) (m : Access) → slice_get ms k ≡ Some m → k + 1 ≡ length ms → m.at ≡ middle
 
 pub follows_parts : (h : List Entry) (low high : ℕ) (ms ns : List Access) → Follows h low (ms ++ ns) high → Parts h low high ms ns
-follows_parts h low high [] ns f = record { middle = low; former = le_refl low; latter = f; ends = λ k m e last. absurd (none-some m e) }
-follows_parts h low high (m ∷ []) ns f = search (arith, le_refl, same_Some)
 follows_parts h low high (m ∷ n ∷ ms) ns f = search (arith, follows_parts h m.at high (n ∷ ms) ns f.2)
+follows_parts h low high ms ns f = search (arith, le_refl, none-some, same_Some)
 
 -- collects
 
@@ -66,46 +64,31 @@ collect_set kind words ms i n le c k m e = let t = c k m e in let l = at_below m
 
 -- tries
 
-pub broken_later : UncleanTriesSeeMore
-broken_later h low high ms f try first at =
+-- the last Second of an unclean try was overtaken by an entry since the First of its match
+overtaken : (h : List Entry) (low high : ℕ) (ms : List Access) → Follows h low ms high → (try : IsUnclean ms) (first : Access) → slice_get try.firsts (length try.broken.equal) ≡ Some first
+    → (low ≤ first.at) × (first.at < try.broken.last.at) × (try.broken.last.at ≤ high)
+overtaken h low high ms f try first at =
     let parts = follows_parts h low high try.firsts try.seconds (subst (λ (z : List Access). Follows h low z high) try.accesses f) in
     let k = length try.broken.equal in
-    let last = try.broken.last in
-    let at_last : slice_get try.seconds k ≡ Some last = ap (λ (z : List Access). slice_get z k) try.broken.accesses ∙ at_end try.broken.equal last in
+    let at_last : slice_get try.seconds k ≡ Some try.broken.last = search (arith, try.broken.accesses, at_end) in
     let x = follows_at h low parts.middle try.firsts k first parts.former at in
-    let y = follows_at h parts.middle high try.seconds k last parts.latter at_last in
+    let y = follows_at h parts.middle high try.seconds k try.broken.last parts.latter at_last in
     let c = try.collected k first at in
-    let x1 = x.1 in let y0 = y.0 in
-    let apart : first.at ≢ last.at = search arith in
-    omega arith
+    search (arith, x, y, c, try.broken.kind, try.broken.differs)
+
+pub broken_later : UncleanTriesSeeMore
+broken_later h low high ms f try first at = (overtaken h low high ms f try first at).1
 
 -- an unclean try has at most 24 accesses, and was overtaken by an entry
 pub unclean_try : (h : List Entry) (low high : ℕ) (ms : List Access) → Follows h low ms high → IsUnclean ms → (low < high) × (length ms ≤ 24)
 unclean_try h low high ms f try =
     let first = get_some try.firsts (length try.broken.equal) (omega arith) in
-    let later = broken_later h low high ms f try first.0 first.1 in
-    let place : slice_get ms (length try.firsts + length try.broken.equal) ≡ Some try.broken.last =
-    ap (λ (z : List Access). slice_get z (length try.firsts + length try.broken.equal)) try.accesses ∙ at_second try.firsts try.seconds (length try.broken.equal) try.broken.last
-    (ap (λ (z : List Access). slice_get z (length try.broken.equal)) try.broken.accesses ∙ at_end try.broken.equal try.broken.last) in
-    let y = follows_at h low high ms (length try.firsts + length try.broken.equal) try.broken.last f place in
-    let x = follows_at h low high ms (length try.broken.equal) first.0 f
-    (ap (λ (z : List Access). slice_get z (length try.broken.equal)) try.accesses ∙ at_longer try.firsts try.seconds (length try.broken.equal) first.0 first.1) in
-    let x0 = x.0 in let y1 = y.1 in
-    (omega arith, omega (arith, ap length try.accesses, length-append try.firsts try.seconds, ap length try.broken.accesses, length-append try.broken.equal (try.broken.last ∷ [])))
-  where
-    at_second : (xs ys : List Access) (k : ℕ) (m : Access) → slice_get ys k ≡ Some m → slice_get (xs ++ ys) (length xs + k) ≡ Some m
-    at_second [] ys k m e = let none : 0 + k ≡ k = omega arith in ap (slice_get ys) none ∙ e
-    at_second (x ∷ xs) ys k m e = let one : suc (length xs) + k ≡ suc (length xs + k) = omega arith in ap (slice_get (x ∷ (xs ++ ys))) one ∙ at_second xs ys k m e
+    search (arith, overtaken h low high ms f try first.0 first.1, try.accesses, try.broken.accesses, length-append)
 
 pub tries_bound : (h : List Entry) (low high : ℕ) (tries : List (List Access)) → Follows h low (accesses_of tries) high → AllByRecursion IsUnclean tries
     → (low + length tries ≤ high) × (length (accesses_of tries) ≤ 24 * length tries)
 tries_bound h low high [] f all = (omega arith, omega arith)
-tries_bound h low high (ms ∷ tries) f all =
-    let parts = follows_parts h low high ms (accesses_of tries) f in
-    let one = unclean_try h low parts.middle ms parts.former all.0 in
-    let rest = tries_bound h parts.middle high tries parts.latter all.1 in
-    let a = one.0 in let b = one.1 in let c = rest.0 in let d = rest.1 in
-    (omega arith, omega (arith, length-append ms (accesses_of tries)))
+tries_bound h low high (ms ∷ tries) f all = search (arith, follows_parts, unclean_try, length-append, tries_bound h (follows_parts h low high ms (accesses_of tries) f).middle high tries (follows_parts h low high ms (accesses_of tries) f).latter all.1)
 
 pub tries_few : UncleanTriesAreFew
 tries_few h low high tries f all = (tries_bound h low high tries f all).0

@@ -1,11 +1,10 @@
 -- What bursts of actors, splits and enlistments do to the run of the machine that a board's rule says there is.
-use Rattle.ucl_steps.proofs.Common.{◌≡◌, ◌≢◌, inl, inr, ⊎_elim, ℕ, zero, suc, ◌+◌, ◌<◌, ◌≤◌, Bool, false, cond, List, ◌∷◌, ◌++◌, length, set, map, Option, Some, refl, sym, ap, ◌∙◌, subst, arith, []}
+use Rattle.ucl_steps.proofs.Common.{◌≡◌, ◌≢◌, ℕ, zero, suc, ◌+◌, ◌<◌, ◌≤◌, Bool, false, cond, List, ◌∷◌, ◌++◌, length, set, map, Option, Some, refl, sym, ap, ◌∙◌, subst, arith, []}
 use Rattle.ucl_steps.proofs.Common.{le_refl, append-nil, length-append, ne_eqb, All, filter, dite, some, some-ne-none, some-injective, get_elem?, flat_map-append, All-append, All-cons}
 use Rattle.ucl_steps.proofs.Common.{All-nil, All-head, All-tail, Entry, AccessKind, Access, Taken, logged_by, Log, history_of, access_list, Caller, Reporter, Reader, Call, Step, CallRecord, Idle}
 use Rattle.ucl_steps.proofs.Common.{MachineState, initial_state, held_by, after_steps, Held, Nothing, Answer, Doing, nothing_done, cast_for, IsOf, IsRecordOf, AreRecordsOf, FitsHeld, is_of}
 use Rattle.ucl_steps.proofs.Common.{calls_told, left_by, FitsRun, Move, steps_of_move, steps_of_moves, Actor, IsOfActor, IsRunOfActors, IsTakenBy, accesses_of_log, AreStepsOf, IsRunOfLog}
 use Rattle.std.proofs.Common.{length-set}
-use Rattle.ucl_board.specs.Log.{Look, Swap, First, Second}
 use Rattle.ucl_steps.proofs.OneStep.{idle_at_start, steps_append, not_of, Passes, all_by}
 use Rattle.ucl_steps.proofs.PassSteps.{fits_else, Turn, left_append}
 use Rattle.ucl_steps.proofs.Seats.{place_below, at_last, at_set, set_here, set_else, at_longer}
@@ -39,9 +38,7 @@ all_then P Q f xs h k d lt = f _ (h k d lt)
 
 filter_same : (p q : Told → Bool) (cs : List Told) → All (λ c. p c ≡ q c) cs → filter p cs ≡ filter q cs
 filter_same p q [] same = refl
-filter_same p q (c ∷ cs) same =
-    ap (λ (b : Bool). cond b (c ∷ filter p cs) (filter p cs)) (All-head (λ d. p d ≡ q d) c cs same)
-    ∙ ap (λ (l : List Told). cond (q c) (c ∷ l) l) (filter_same p q cs (All-tail (λ d. p d ≡ q d) c cs same))
+filter_same p q (c ∷ cs) same = search (arith, All-head, All-tail, filter_same p q cs (All-tail (λ d. p d ≡ q d) c cs same))
 
 filter_none : (p : Told → Bool) (cs : List Told) → All (λ c. p c ≡ false) cs → filter p cs ≡ []
 filter_none p [] not = refl
@@ -69,15 +66,9 @@ pub run_on : (xs ys : List Move) (w v u : MachineState) → after_steps (steps_o
 run_on xs ys w v u first then = ap (λ (l : List Step). after_steps l w) (flat_map-append steps_of_move xs ys) ∙ (steps_append (steps_of_moves xs) (steps_of_moves ys) w v first ∙ then)
 
 pub one_turn : (seat number : ℕ) (w : MachineState) (c : Caller) (m : Access) (d : Doing) (entries : List Entry) → Turn seat number w c m d entries → Burst seat number w c d entries
-one_turn seat number w c m d entries t = record {
-  moves = t.move ∷ [];
-  last = t.last;
-  run = ap (λ (l : List Step). after_steps l w) (append-nil (steps_of_move t.move)) ∙ t.run;
-  history = t.history;
-  of = t.of;
-  passes = t.passes;
-  fits = t.fits;
-}
+one_turn seat number w c m d entries t =
+    let run = ap (λ (l : List Step). after_steps l w) (append-nil (steps_of_move t.move)) ∙ t.run in
+    record { moves = t.move ∷ []; last = t.last; run = run; history = t.history; of = t.of; passes = t.passes; fits = t.fits }
 
 module _ (readers enlisted : ℕ) (history : List Entry) (actors : List Actor) (r : IsRunOfActors readers enlisted history actors) (seat : ℕ) (a : Actor) (here : get_elem? actors seat ≡ some a) where
   -- callers stay those of their actors
@@ -99,11 +90,7 @@ module _ (readers enlisted : ℕ) (history : List Entry) (actors : List Actor) (
         state = t.last;
         run = run_on r.moves t.moves (initial_state (cast_for readers)) r.state t.last r.run t.run;
         history_is = t.history ∙ (ap (λ (h : List Entry). h ++ entries) r.history_is ∙ sym more);
-        each = λ j u at. ⊎_elim
-            (λ (k : (j ≡ seat) × (b ≡ u)). subst (λ (i : ℕ). FitsRun t.last i u.number u.doing) (sym k.0) (subst (λ (x : Actor). FitsRun t.last seat x.number x.doing) k.1 t.fits))
-            (λ (k : (j ≢ seat) × (get_elem? actors j ≡ some u)). fits_else j u.number c r.state t.last
-            (λ d of. apart_callers j seat u.number a.number c d k.0 (λ pos eq. apart j seat u a k.1 here pos eq) of t.of) t.passes u.doing (r.each j u k.1))
-            (at_set actors seat j b u at);
+        each = λ j u at. search (arith, at_set actors seat j b u at, t, fits_else j u.number c r.state t.last, apart_callers j seat u.number a.number c, apart j seat u a, r.each j u, here);
         only =
             let mine : (call : Call) → IsOfActor (set actors seat b) (c, call) = λ call. (seat, b, set_here actors seat b (place_below actors seat a here), t.of) in
             subst (All (IsOfActor (set actors seat b))) (sym t.passes.told)
@@ -140,16 +127,8 @@ module _ (readers enlisted : ℕ) (history : List Entry) (actors : List Actor) (
       } in
       search (arith, get_elem?, at_set, all_then, some_still, length-set)
     where
-      of_reader : (d : Caller) → IsOf seat 0 d → IsOf seat (enlisted + 1) d
-      of_reader d (inl k) = inl k
-      of_reader d (inr k) = let low = k.1.0 in absurd (omega arith)
-
-      reader_still : (d : Caller) → IsOf seat a.number d → IsOf seat (enlisted + 1) d
-      reader_still d of = of_reader d (subst (λ (n : ℕ). IsOf seat n d) reader of)
-
       by_caller : (f : FitsRun r.state seat 0 a.doing) → FitsHeld r.state seat 0 a.doing.begun Nothing f.high → (d : Caller) → IsOf seat (enlisted + 1) d → held_by r.state.callers d ≡ Some Idle
-      by_caller f idle d (inl k) = idle.1 d (inl k)
-      by_caller f idle d (inr k) = ap (held_by r.state.callers) k.0 ∙ r.unnumbered (enlisted + 1) (omega arith) (omega arith)
+      by_caller f idle d is = search (arith, idle.1, r.unnumbered (enlisted + 1))
 
 -- an actor more, without a number, that has done nothing
 module _ (readers enlisted : ℕ) (history : List Entry) (actors : List Actor) (r : IsRunOfActors readers enlisted history actors) (more : length actors < readers) where
@@ -157,10 +136,7 @@ module _ (readers enlisted : ℕ) (history : List Entry) (actors : List Actor) (
   newcomer_idle d is = search (arith, le_refl)
 
   newcomer_none : All (λ (x : Told). is_of (length actors) 0 x.0 ≡ false) (calls_told r.state)
-  newcomer_none k d lt =
-      let t = r.only k d lt in
-      let below = place_below actors t.0 t.1 t.2 in
-      not_of (length actors) 0 _ (λ c of. apart_callers (length actors) t.0 0 t.1.number _ c (λ is. omega arith) (λ pos. absurd (omega arith)) of t.3)
+  newcomer_none k d lt = search (arith, r.only k d lt, place_below actors (r.only k d lt).0 (r.only k d lt).1 (r.only k d lt).2, place_below, not_of, apart_callers)
 
   pub run_more : IsRunOfActors readers enlisted history (actors ++ record { number = 0; doing = nothing_done } ∷ [])
   run_more =
@@ -193,28 +169,16 @@ run_begins readers all = record {
     first : Actor
     first = record { number = 0; doing = nothing_done }
 
-    callers : (d : Caller) → IsOf 0 0 d → held_by (initial_state (cast_for readers)).callers d ≡ Some Idle
-    callers d (inl k) = subst (λ (c : Caller). held_by (initial_state (cast_for readers)).callers c ≡ Some Idle) (sym k) (idle_at_start (cast_for readers) (Reader 1) (omega arith, omega arith))
-    callers d (inr k) = let low = k.1.0 in absurd (omega arith)
-
-    each : (seat : ℕ) (a : Actor) → get_elem? (record { number = 0; doing = nothing_done } ∷ []) seat ≡ some a → FitsRun (initial_state (cast_for readers)) seat a.number a.doing
-    each zero a e = search (arith, some-injective, le_refl, callers)
+    each : (seat : ℕ) (a : Actor) → get_elem? (first ∷ []) seat ≡ some a → FitsRun (initial_state (cast_for readers)) seat a.number a.doing
+    each zero a e = search (arith, some-injective, le_refl, idle_at_start (cast_for readers) (Reader 1))
     each (suc seat) a e = absurd (some-ne-none a (sym e))
 
 -- the run of a log
 
 -- of a history that is the same
 same_run : (readers enlisted : ℕ) (h h' : List Entry) (actors : List Actor) → IsRunOfActors readers enlisted h actors → h ≡ h' → IsRunOfActors readers enlisted h' actors
-same_run readers enlisted h h' actors r same = record {
-  moves = r.moves;
-  state = r.state;
-  run = r.run;
-  history_is = r.history_is ∙ same;
-  each = r.each;
-  only = r.only;
-  unseated = r.unseated;
-  unnumbered = r.unnumbered;
-}
+same_run readers enlisted h h' actors r same =
+    record { moves = r.moves; state = r.state; run = r.run; history_is = r.history_is ∙ same; each = r.each; only = r.only; unseated = r.unseated; unnumbered = r.unnumbered }
 
 -- steps that are no accesses
 pub log_kept : (readers enlisted : ℕ) (log log' : Log) (actors : List Actor) → IsRunOfLog readers enlisted log actors → history_of log' ≡ history_of log → accesses_of_log log' ≡ accesses_of_log log
@@ -232,18 +196,14 @@ logged_accesses log seat t = search (arith, flat_map-append, append-nil)
 steps_still : (actors later : List Actor)
     → ((j : ℕ) (a : Actor) (kind : AccessKind) (c : Caller) → get_elem? actors j ≡ some a → IsTakenBy j a.number kind c → (b : Actor) × (get_elem? later j ≡ some b) × IsTakenBy j b.number kind c)
     → (xs : List (Caller × Access)) (ys : List (ℕ × Access)) → AreStepsOf actors xs ys → AreStepsOf later xs ys
-steps_still actors later kept [] [] a = tt
-steps_still actors later kept [] (y ∷ ys) a = absurd a
-steps_still actors later kept (x ∷ xs) [] a = absurd a
 steps_still actors later kept (x ∷ xs) (y ∷ ys) a = (a.0, kept y.0 a.1.0 y.1.kind x.0 a.1.1 a.1.2, steps_still actors later kept xs ys a.2)
+steps_still actors later kept xs ys a = search arith
 
 steps_more : (actors : List Actor) (seat : ℕ) (a : Actor) (c : Caller) (m : Access) → get_elem? actors seat ≡ some a → IsTakenBy seat a.number m.kind c
     → (xs : List (Caller × Access)) (ys : List (ℕ × Access)) → AreStepsOf actors xs ys
     → AreStepsOf actors (xs ++ (c, m) ∷ []) (ys ++ (seat, m) ∷ [])
-steps_more actors seat a c m here by [] [] is = (refl, (a, here, by), tt)
-steps_more actors seat a c m here by [] (y ∷ ys) is = absurd is
-steps_more actors seat a c m here by (x ∷ xs) [] is = absurd is
 steps_more actors seat a c m here by (x ∷ xs) (y ∷ ys) is = (is.0, is.1, steps_more actors seat a c m here by xs ys is.2)
+steps_more actors seat a c m here by xs ys is = search arith
 
 module _ (readers enlisted : ℕ) (log : Log) (actors : List Actor) (r : IsRunOfLog readers enlisted log actors) (seat : ℕ) (a : Actor) (here : get_elem? actors seat ≡ some a) where
   abbrev moves_left : List Move → List (Caller × Access)
@@ -286,14 +246,8 @@ module _ (readers enlisted : ℕ) (log : Log) (actors : List Actor) (r : IsRunOf
       log_kept readers (enlisted + 1) log log' (set actors seat b)
       (record { of_actors = run_enlisted readers enlisted (history_of log) actors r.of_actors seat a here reader room none low; accesses = left_still b still }) is trace
     where
-      still_by : (kind : AccessKind) (c : Caller) → IsTakenBy seat 0 kind c → IsTakenBy seat (enlisted + 1) kind c
-      still_by Look c by = let low = by.1.0 in absurd (omega arith)
-      still_by Swap c by = let low = by.1.0 in absurd (omega arith)
-      still_by First c by = by
-      still_by Second c by = by
-
       still : (kind : AccessKind) (c : Caller) → IsTakenBy seat a.number kind c → IsTakenBy seat (enlisted + 1) kind c
-      still kind c by = still_by kind c (subst (λ (n : ℕ). IsTakenBy seat n kind c) reader by)
+      still kind c by = search arith
 
 -- an actor more, without a number, that has done nothing
 pub log_more : (readers enlisted : ℕ) (log : Log) (actors : List Actor) → IsRunOfLog readers enlisted log actors → length actors < readers

@@ -82,20 +82,14 @@ module _ (h h' : List Entry) (b : IsPrefix h h') where
   loaded_later words n m l le f i few = let t = f i few in let p = t.1 in (t.0, omega arith, moved_word words i t.0 (omega arith) t.2)
 
   pub sees_later : (a : CallRecord) (x : Holds) → Sees h a x → Sees h' a x
-  sees_later a Idle s = tt
-  sees_later a (Wanting k e) s = s
-  sees_later a (Within k Nothing) s = absurd s
-  sees_later a (Within k (Holding e old new)) s = let long = begins_length h h' b in let w = s.within in record {
-    asks = s.asks;
-    place = s.place;
-    within = omega arith;
-    found = s.found ∙ ap (λ (z : List Entry). word_of (match_after z e.game)) (sym (take_beginning h h' s.place b s.within));
-    accepted = s.accepted;
-    next = s.next;
-  }
+  sees_later a (Within k (Holding e old new)) s =
+      let long = begins_length h h' b in
+      let low = s.within in
+      let found = s.found ∙ ap (λ (z : List Entry). word_of (match_after z e.game)) (sym (take_beginning h h' s.place b s.within)) in
+      record { asks = s.asks; place = s.place; within = omega arith; found = found; accepted = s.accepted; next = s.next }
   sees_later a (Within k (Collecting words)) s = record { reads = s.reads; few = s.few; loaded = loaded_later words (length h) (length h') (le_refl (length h)) (begins_length h h' b) s.loaded }
   sees_later a (Within k (Checking words checked point)) s = search (arith, begins_length h h' b, loaded_later, le_refl, moved_word, s.late, s.reads, s.twelve, s.few, s.early, s.loaded, s.same)
-  sees_later a (Answered k) s = s
+  sees_later a x s = search arith
 
   sequential_later : (k : ℕ) (c : Caller) (call : Call) (r : Reply) → k ≤ length h → IsSequential h k c call r → IsSequential h' k c call r
   sequential_later k c call r l s = search (arith, take_beginning, at_beginning)

@@ -1,17 +1,13 @@
 -- What each caller holds, when one of them takes a step.
-use Rattle.ucl_steps.proofs.Common.{◌≡◌, ◌≢◌, ℕ, zero, suc, List, ◌∷◌, Some, ◌⊎◌, refl, ap, arith, [], slice_get, slice_set, none-some, cases_eq, Caller, Holds, Callers, held_by, set_held}
+use Rattle.ucl_steps.proofs.Common.{◌≡◌, ◌≢◌, ℕ, suc, List, ◌∷◌, Some, ◌⊎◌, ap, arith, slice_get, slice_set, none-some, cases_eq, Caller, Holds, Callers, held_by, set_held}
 
 get_set_here : {X : Type 0} (xs : List X) (k : ℕ) (x y : X) → slice_get xs k ≡ Some x → slice_get (slice_set xs k y) k ≡ Some y
-get_set_here [] k x y e = absurd (none-some x e)
-get_set_here (z ∷ xs) zero x y e = refl
 get_set_here (z ∷ xs) (suc k) x y e = get_set_here xs k x y e
+get_set_here xs k x y e = search arith
 
 get_set_else : {X : Type 0} (xs : List X) (k i : ℕ) (y : X) → i ≢ k → slice_get (slice_set xs k y) i ≡ slice_get xs i
-get_set_else [] k i y not = refl
-get_set_else (z ∷ xs) zero zero y not = absurd (not refl)
-get_set_else (z ∷ xs) zero (suc i) y not = refl
-get_set_else (z ∷ xs) (suc k) zero y not = refl
 get_set_else (z ∷ xs) (suc k) (suc i) y not = get_set_else xs k i y (λ is. not (ap suc is))
+get_set_else xs k i y not = search arith
 
 pub same_caller : (c d : Caller) → (c ≡ d) ⊎ (c ≢ d)
 same_caller c d = search (arith, cases_eq)

@@ -27,10 +27,10 @@ pub use Rattle.ucl_steps.specs.Growing.{HasGoneOn, HaveGoneOn, records_by}
 pub use Rattle.ucl_steps.specs.Laws.{ReadingsAreSnapshots, ReportsAreSequential, RunsAreLinearizable, UncleanTriesAreFew, UncleanTriesSeeMore, WordsAreOfTheHistory}
 pub use Rattle.ucl_steps.specs.Linearizable.{AcceptedIsEntry, BeginsAt, EndedBySteps, EndsAt, EntryHasOneCall, IsDecided, IsEntry, IsLinearizable, IsRefused, Makes, PointWithinCall, Precedes}
 pub use Rattle.ucl_steps.specs.Linearizable.{ReadingIsSnapshot, RealTimeOrder, RefusedAtPoint, VersionsRise, begun_in, caller_and_call, is_accepted, version_read}
-pub use Rattle.ucl_steps.specs.Machine.{Answered, Callers, Holds, Idle, MachineState, Wanting, Within, after_begin, after_end, after_outcome, after_reply, after_step, after_step_holding}
-pub use Rattle.ucl_steps.specs.Machine.{after_steps, caller_of, change_at, held_at_begin, held_by, initial_state, may_begin, set_held, state_after_first, state_after_look, state_after_second}
-pub use Rattle.ucl_steps.specs.Machine.{state_after_swap, stored, with_end, with_held, with_reply}
-pub use Rattle.ucl_steps.specs.PassRuns.{AreRecordsOf, CanHold, FitsHeld, FitsRun, IsOf, IsRecordOf, IsUnderWay, Move, call_of, call_under_way, caller_for, calls_asked, calls_by, calls_told}
+pub use Rattle.ucl_steps.specs.Machine.{Answered, Callers, Holds, Idle, MachineState, Wanting, Within, after_begin, after_end, after_outcome, after_reply, after_step, after_step_holding, after_steps}
+pub use Rattle.ucl_steps.specs.Machine.{caller_of, change_at, held_at_begin, held_by, initial_state, may_begin, set_held, state_after_first, state_after_look, state_after_second, state_after_swap}
+pub use Rattle.ucl_steps.specs.Machine.{stored, with_end, with_held, with_reply}
+pub use Rattle.ucl_steps.specs.PassRuns.{AreRecordsOf, CanHold, FitsHeld, FitsRun, IsOf, IsRecordOf, IsUnderWay, Move, call_of, call_under_way, caller_for, calls_asked, calls_by, calls_told, begin_by}
 pub use Rattle.ucl_steps.specs.PassRuns.{cast_for, end_by, is_of, left_by, steps_of_move, steps_of_moves}
 pub use Rattle.ucl_steps.specs.Progress.{SomeCallIsDecided, decided_in, finished_by, is_caller, most_between, steps_by}
 pub use Rattle.ucl_steps.specs.Protocol.{Answer, Answers, Checking, Collecting, Doing, GoesOn, Held, Holding, IsNext, MayAsk, Nothing, Outcome, after_first, after_look, after_second, after_swap}

@@ -1,8 +1,8 @@
 -- Each entry is made by one call, when one call changes or begins.
 use Rattle.ucl_steps.proofs.Common.{◌≡◌, ◌≢◌, ℕ, ◌<◌, true, false, List, ◌∷◌, ◌++◌, length, Option, Some, None, inl, inr, sym, ap, ◌∙◌, subst, arith, [], slice_get, IsSomeAnd, none-some, same_Some}
-use Rattle.ucl_steps.proofs.Common.{cases_eq, false≢true, length_push, Entry, at_longer, at_either, Reply, CallRecord, change_at, is_accepted, Makes, EntryHasOneCall}
+use Rattle.ucl_steps.proofs.Common.{map, slice_get-map, cases_eq, false≢true, length_push, Entry, at_longer, at_either, Reply, CallRecord, change_at, is_accepted, Makes, EntryHasOneCall}
 use Rattle.ucl_steps.proofs.Explanations.{IsExplained}
-use Rattle.ucl_steps.proofs.ChangedLists.{get-change_at, change_at_here, change_at_else}
+use Rattle.ucl_steps.proofs.ChangedLists.{get-change_at, change_at_here, change_at_else, map_unseen}
 
 pub and_some : {A : Type 0} (o : Option A) (P : A → Type 0) → IsSomeAnd o P → (x : A) × (o ≡ Some x) × P x
 and_some o P p = search arith
@@ -12,6 +12,12 @@ some_and {A = A} o P x e p = subst (λ (z : Option A). IsSomeAnd z P) (sym e) p
 
 abbrev IsMaker : ℕ → CallRecord → Type 0
 IsMaker m c = (is_accepted c.reply ≡ true) × (c.point ≡ Some m)
+
+abbrev pub decision : CallRecord → Option Reply × Option ℕ
+decision c = (c.reply, c.point)
+
+made_alike : (xs ys : List CallRecord) (i m : ℕ) → map decision xs ≡ map decision ys → Makes xs i m → Makes ys i m
+made_alike xs ys i m same made = search (arith, and_some, slice_get-map decision xs i, slice_get-map decision ys i, some_and)
 
 once_same : (h : List Entry) (xs ys : List CallRecord) → ((i m : ℕ) → Makes xs i m → Makes ys i m) → ((i m : ℕ) → Makes ys i m → Makes xs i m) → EntryHasOneCall h xs → EntryHasOneCall h ys
 once_same h xs ys to from once m l = let t = once m l in (t.0, to t.0 m t.1, λ j made. t.2 j (from j m made))
@@ -27,22 +33,9 @@ module _ (xs : List CallRecord) (k : ℕ) (f : CallRecord → CallRecord) where
   else_made i m not made = search (arith, and_some, some_and, change_at_else)
 
   -- a call that keeps its reply and its point
-  pub once_kept : (h : List Entry) → ((c : CallRecord) (m : ℕ) → IsMaker m c → IsMaker m (f c)) → ((c : CallRecord) (m : ℕ) → IsMaker m (f c) → IsMaker m c) → EntryHasOneCall h xs
-      → EntryHasOneCall h (change_at k f xs)
-  once_kept h to from = once_same h xs (change_at k f xs)
-      (λ i m made. elim (cases_eq i k) [
-        | inl is ↦ let t = and_some (slice_get xs i) (IsMaker m) made in
-            some_and (slice_get (change_at k f xs) i) (IsMaker m) (f t.0) (ap (slice_get (change_at k f xs)) is ∙ change_at_here k f xs t.0 (ap (slice_get xs) (sym is) ∙ t.1)) (to t.0 m t.2)
-        | inr not ↦ else_made i m not made
-      ])
-      (λ i m made. elim (cases_eq i k) [
-        | inl is ↦ let t = and_some (slice_get (change_at k f xs) i) (IsMaker m) made in
-            elim (get-change_at k f xs i t.0 t.1) [
-              | inl u ↦ some_and (slice_get xs i) (IsMaker m) u.1 (ap (slice_get xs) is ∙ u.2) (from u.1 m (subst (IsMaker m) (sym u.3) t.2))
-              | inr u ↦ absurd (u.0 is)
-            ]
-        | inr not ↦ made_else i m not made
-      ])
+  pub once_kept : (h : List Entry) → ((c : CallRecord) → decision (f c) ≡ decision c) → EntryHasOneCall h xs → EntryHasOneCall h (change_at k f xs)
+  once_kept h same = let all = map_unseen decision k f same xs in
+      once_same h xs (change_at k f xs) (λ i m. made_alike xs (change_at k f xs) i m (sym all)) (λ i m. made_alike (change_at k f xs) xs i m all)
 
   module _ (a : CallRecord) (here : slice_get xs k ≡ Some a) (none : a.reply ≡ None) where
     not_made : (i m : ℕ) → Makes xs i m → i ≢ k
@@ -57,20 +50,12 @@ module _ (xs : List CallRecord) (k : ℕ) (f : CallRecord → CallRecord) where
     pub once_accepted : (h : List Entry) (e : Entry) → is_accepted (f a).reply ≡ true → (f a).point ≡ Some (length h) → ((i m : ℕ) → Makes xs i m → m < length h) → EntryHasOneCall h xs
         → EntryHasOneCall (h ++ e ∷ []) (change_at k f xs)
     once_accepted h e made_it point below once m l = let long = length_push h e in elim (cases_eq m (length h)) [
-      | inl is ↦ (
-        k,
-        some_and (slice_get (change_at k f xs) k) (IsMaker m) (f a) (change_at_here k f xs a here) (made_it, point ∙ ap Some (sym is)),
-        λ j made. elim (cases_eq j k) [ inl same ↦ same | inr not ↦ let low = below j m (made_else j m not made) in absurd (omega arith) ],
-      )
+      | inl is ↦
+          let made = some_and (slice_get (change_at k f xs) k) (IsMaker m) (f a) (change_at_here k f xs a here) (made_it, point ∙ ap Some (sym is)) in
+          (k, made, λ j other. search (arith, cases_eq j k, below j m, made_else j m))
       | inr not-last ↦
-          let t = once m (omega arith) in (
-            t.0,
-            else_made t.0 m (not_made t.0 m t.1) t.1,
-            λ j made. elim (cases_eq j k) [
-              | inl same ↦ search (arith, and_some, change_at_here, same_Some)
-              | inr not ↦ t.2 j (made_else j m not made)
-            ],
-          )
+          let t = once m (omega arith) in
+          (t.0, else_made t.0 m (not_made t.0 m t.1) t.1, λ j made. search (arith, cases_eq j k, t.2 j, made_else j m, and_some, change_at_here, same_Some))
     ]
 
 -- a call that begins

@@ -1,15 +1,14 @@
 -- The accesses of one pass while no pass finishes a call.
-use Rattle.ucl_steps.proofs.Common.{◌≡◌, ◌≢◌, ℕ, zero, suc, ◌+◌, ◌≤◌, ◌==◌, Bool, true, cond, List, ◌∷◌, ◌++◌, length, Option, Some, None, inl, inr, refl, sym, ap, [], ◌∙◌, subst, arith}
-use Rattle.ucl_steps.proofs.Common.{length-append, eq-eqb, filter, eqb-true, filter-append, flat_map-append, some, some-injective, get_elem?, IsReporter, AccessKind, Access, Log, Caller, Reporter}
-use Rattle.ucl_steps.proofs.Common.{Reader, Step, Held, Nothing, Holding, Collecting, Checking, Doing, Holds, Idle, Answered, MachineState, initial_state, held_by, after_step, after_steps}
-use Rattle.ucl_steps.proofs.Common.{accesses_holding, cast_for, IsOf, FitsHeld, FitsRun, left_by, Move, steps_of_move, steps_of_moves, Actor, IsTakenBy, accesses_of_log, AreStepsOf, IsRunOfLog}
-use Rattle.ucl_steps.proofs.Common.{HaveGoneOn, most_between, decided_in, is_caller, steps_by, finished_by}
-use Rattle.ucl_steps.proofs.Invariant.{Keeps}
+use Rattle.ucl_steps.proofs.Common.{caller_for, call_of, ◌≡◌, ◌≢◌, ℕ, ◌+◌, ◌≤◌, ◌==◌, Bool, true, cond, List, ◌∷◌, ◌++◌, length, Option, Some, refl, sym, ap, [], ◌∙◌, arith, length-append, eq-eqb}
+use Rattle.ucl_steps.proofs.Common.{filter, eqb-true, filter-append, flat_map-append, some, some-injective, get_elem?, Access, Log, Caller, Step, Held, Holds, Idle, MachineState, initial_state}
+use Rattle.ucl_steps.proofs.Common.{held_by, after_step, after_steps, accesses_holding, cast_for, IsOf, FitsHeld, left_by, Move, steps_of_move, steps_of_moves, Actor, accesses_of_log, AreStepsOf}
+use Rattle.ucl_steps.proofs.Common.{IsRunOfLog, HaveGoneOn, most_between, is_caller, steps_by, finished_by}
 use Rattle.ucl_steps.proofs.Runs.{kept_at_start, run_kept}
 use Rattle.ucl_steps.proofs.OneStep.{steps_append}
 use Rattle.ucl_steps.proofs.PassSteps.{left_append}
 use Rattle.ucl_steps.proofs.ActorRuns.{Apart}
-use Rattle.ucl_steps.proofs.LongerRuns.{answered_stays, answered_ends, accesses_more, longer_runs}
+use Rattle.ucl_steps.proofs.Callers.{same_caller}
+use Rattle.ucl_steps.proofs.LongerRuns.{taken_of, answered_stays, answered_ends, accesses_more, longer_runs}
 use Rattle.ucl_steps.proofs.FewSteps.{decided_more, each_few, takes_none}
 use Rattle.ucl_steps.proofs.FinishedCalls.{finished_decided, decided_finished}
 
@@ -22,9 +21,8 @@ abbrev accesses_by : Caller → List (Caller × Access) → ℕ
 accesses_by c xs = length (filter (λ (x : Caller × Access). is_caller c x.0) xs)
 
 accesses_few : (c : Caller) (steps : List Step) (o : Option MachineState) → accesses_by c (left_by steps o) ≤ length (steps_by c steps)
-accesses_few c [] o = omega arith
-accesses_few c (s ∷ steps) None = omega arith
 accesses_few c (s ∷ steps) (Some w) = search (arith, accesses_one, filter-append, length-append, accesses_few c steps (after_step w s))
+accesses_few c steps o = search arith
 
 -- the accesses of a seat are those of its two callers
 
@@ -40,62 +38,25 @@ one_if b = cond b 1 0
 longer_by : {X : Type 0} (p : X → Bool) (x : X) (xs : List X) → length (filter p (x ∷ xs)) ≡ one_if (p x) + length (filter p xs)
 longer_by {X} p x xs = search arith
 
--- who takes an access of a seat is one of its callers
-taker : (seat number : ℕ) (kind : AccessKind) (c : Caller) → IsTakenBy seat number kind c → 1 ≤ one_if (is_caller (Reader (seat + 1)) c) + one_if (is_caller (Reporter number) c)
-taker seat number kind c taken = search (arith, own_caller_is)
+-- where only one of the callers of a seat takes steps, the accesses of the seat are those of this one
+module _ (actors : List Actor) (seat : ℕ) (b : Actor) (there : get_elem? actors seat ≡ some b) (own : Caller) where
+  by_own : (xs : List (Caller × Access)) (ys : List (ℕ × Access)) → ((c : Caller) → IsOf seat b.number c → c ≢ own → accesses_by c xs ≤ 0) → AreStepsOf actors xs ys
+      → accesses_at seat ys ≤ accesses_by own xs
+  by_own (x ∷ xs) (y ∷ ys) none are =
+      let rest = by_own xs ys (λ c of not. let all = none c of not in let one = longer_by (λ (z : Caller × Access). is_caller c z.0) x xs in omega arith) are.2 in
+      search (arith, rest, longer_by, eqb-true, some-injective, get_elem?, taken_of, same_caller x.0 own, own_caller_is, none x.0)
+  by_own xs ys none are = search arith
 
--- of a pass with no number it is the reader
-taker_none : (seat : ℕ) (kind : AccessKind) (c : Caller) → IsTakenBy seat 0 kind c → 1 ≤ one_if (is_caller (Reader (seat + 1)) c)
-taker_none seat kind c taken = search (arith, own_caller_is)
-
-module _ (actors : List Actor) (seat : ℕ) (b : Actor) (there : get_elem? actors seat ≡ some b) where
-  -- counted by any measure of callers that each of its takers has
-  by_takers : (f : Caller → ℕ) (count : List (Caller × Access) → ℕ) → ((x : Caller × Access) (xs : List (Caller × Access)) → count (x ∷ xs) ≡ f x.0 + count xs)
-      → ((kind : AccessKind) (c : Caller) → IsTakenBy seat b.number kind c → 1 ≤ f c) → (xs : List (Caller × Access)) (ys : List (ℕ × Access)) → AreStepsOf actors xs ys
-      → accesses_at seat ys ≤ count xs
-  by_takers f count cons each [] [] are = omega arith
-  by_takers f count cons each [] (y ∷ ys) are = absurd are
-  by_takers f count cons each (x ∷ xs) [] are = absurd are
-  by_takers f count cons each (x ∷ xs) (y ∷ ys) are = search (arith, longer_by, eqb-true, some-injective, get_elem?, by_takers f count cons each xs ys are.2)
-
--- of the two callers of a pass only one takes steps
-module _ (done : List Step) (w t : MachineState) (kept : Keeps done w) (steps : List Step) (e : after_steps steps w ≡ Some t) (same : decided_in t.calls ≡ decided_in w.calls)
-    (seat number : ℕ) (is_reporter : IsReporter number) (d : Doing) (f : FitsRun t seat number d)
-    (open_calls : (c : Caller) → IsOf seat number c → (k : ℕ) → held_by w.callers c ≢ Some (Answered k)) where
-  none_by : (c : Caller) → IsOf seat number c → held_by t.callers c ≡ Some Idle → length (steps_by c steps) ≤ 0
-  none_by c of idle = takes_none c done steps w t kept e (omega arith) (open_calls c of) idle
-
-  one_takes : length (steps_by (Reader (seat + 1)) steps) + length (steps_by (Reporter number) steps) ≤ most_between
-  one_takes = by_held d.held f.held
-    where
-      reader_few : length (steps_by (Reader (seat + 1)) steps) ≤ most_between
-      reader_few = each_few (Reader (seat + 1)) done steps w t kept e same
-
-      reporter_few : length (steps_by (Reporter number) steps) ≤ most_between
-      reporter_few = each_few (Reporter number) done steps w t kept e same
-
-      reads : IsOf seat number (Reader (seat + 1))
-      reads = inl refl
-
-      reports : IsOf seat number (Reporter number)
-      reports = inr (refl, is_reporter)
-
-      by_reader : held_by t.callers (Reporter number) ≡ Some Idle → length (steps_by (Reader (seat + 1)) steps) + length (steps_by (Reporter number) steps) ≤ most_between
-      by_reader idle = let none = none_by (Reporter number) reports idle in let few = reader_few in omega arith
-
-      by_held : (held : Held) → FitsHeld t seat number d.begun held f.high → length (steps_by (Reader (seat + 1)) steps) + length (steps_by (Reporter number) steps) ≤ most_between
-      by_held Nothing fits = by_reader (fits.1 (Reporter number) reports)
-      by_held (Holding call old new) u = let none = none_by (Reader (seat + 1)) reads (u.others (Reader (seat + 1)) reads (λ is. cc)) in let few = reporter_few in omega arith
-      by_held (Collecting words) u = by_reader (u.others (Reporter number) reports (λ is. cc))
-      by_held (Checking words checked point) u = by_reader (u.others (Reporter number) reports (λ is. cc))
+-- all callers of a pass but that of its call are idle
+idle_else : (t : MachineState) (seat number begun : ℕ) (held : Held) (high : ℕ) → FitsHeld t seat number begun held high
+    → (c : Caller) → IsOf seat number c → c ≢ caller_for seat number (call_of held) → held_by t.callers c ≡ Some Idle
+idle_else t seat number begun held high fits c of not = search (arith, call_of, caller_for)
 
 -- what follows the accesses of an earlier run are the accesses since
 later_ones : (actors later : List Actor) (xs more : List (Caller × Access)) (ys since : List (ℕ × Access)) → AreStepsOf actors xs ys → AreStepsOf later (xs ++ more) (ys ++ since)
     → AreStepsOf later more since
-later_ones actors later [] more [] since are now = now
-later_ones actors later [] more (y ∷ ys) since are now = absurd are
-later_ones actors later (x ∷ xs) more [] since are now = absurd are
 later_ones actors later (x ∷ xs) more (y ∷ ys) since are now = later_ones actors later xs more ys since are.2 now.2
+later_ones actors later xs more ys since are now = search arith
 
 -- while no actor finishes a call, each takes few accesses
 pub few_accesses : (readers enlisted enlisted' : ℕ) (log since : Log) (actors later : List Actor) (r : IsRunOfLog readers enlisted log actors) (q : IsRunOfLog readers enlisted' (log ++ since) later)
@@ -116,30 +77,16 @@ few_accesses readers enlisted enlisted' log since actors later r q on apart fini
     let kept = run_kept (steps_of_moves one.moves) [] init one.state (kept_at_start (cast_for readers)) one.run in
     let low = finished_decided one.state actors one.each apart in
     let high = decided_finished other.state later other.each other.only in
-    by_number b.number refl few (steps_of_moves one.moves) one.state other.state kept (steps_of_moves more) run (omega arith) (other.each seat b there)
-    (λ c of k answered. answered_ends other.state seat b.number b.doing.begun b.doing.held (other.each seat b there).high c k of (other.each seat b there).held
-    (answered_stays more one.state other.state c k answered run))
-    (accesses_of_log since) are
-  where
-    by_number : (n : ℕ) → b.number ≡ n → b.number ≤ 255 → (done : List Step) (w t : MachineState) (kept : Keeps done w) (steps : List Step) → after_steps steps w ≡ Some t
-        → decided_in t.calls ≤ decided_in w.calls
-        → FitsRun t seat b.number b.doing → ((c : Caller) → IsOf seat b.number c → (k : ℕ) → held_by w.callers c ≢ Some (Answered k)) → (ys : List (ℕ × Access))
-        → AreStepsOf later (left_by steps (Some w)) ys → accesses_at seat ys ≤ most_between
-    by_number zero is few done w t kept steps e less f open_calls ys are =
-        let all = by_takers later seat b there (λ c. one_if (is_caller (Reader (seat + 1)) c)) (accesses_by (Reader (seat + 1)))
-        (longer_by (λ (x : Caller × Access). is_caller (Reader (seat + 1)) x.0))
-        (λ kind c taken. taker_none seat kind c (subst (λ (n : ℕ). IsTakenBy seat n kind c) is taken)) (left_by steps (Some w)) ys are in
-        let reads = accesses_few (Reader (seat + 1)) steps (Some w) in
-        let more = decided_more done steps w t kept e in
-        let few = each_few (Reader (seat + 1)) done steps w t kept e (omega arith) in
-        omega arith
-    by_number (suc n) is few done w t kept steps e less f open_calls ys are =
-        let all = by_takers later seat b there (λ c. one_if (is_caller (Reader (seat + 1)) c) + one_if (is_caller (Reporter b.number) c))
-        (λ xs. accesses_by (Reader (seat + 1)) xs + accesses_by (Reporter b.number) xs)
-        (search (arith, longer_by))
-        (taker seat b.number) (left_by steps (Some w)) ys are in
-        let reads = accesses_few (Reader (seat + 1)) steps (Some w) in
-        let reports = accesses_few (Reporter b.number) steps (Some w) in
-        let more = decided_more done steps w t kept e in
-        let few = one_takes done w t kept steps e (omega arith) seat b.number (omega arith, few) b.doing f open_calls in
-        omega arith
+    let fall = decided_more (steps_of_moves one.moves) (steps_of_moves more) one.state other.state kept run in
+    let own = caller_for seat b.number (call_of b.doing.held) in
+    let f = other.each seat b there in
+    let none : (c : Caller) → IsOf seat b.number c → c ≢ own → accesses_by c (left_by (steps_of_moves more) (Some one.state)) ≤ 0 = λ c of not.
+    let taken = accesses_few c (steps_of_moves more) (Some one.state) in
+    let idle = idle_else other.state seat b.number b.doing.begun b.doing.held f.high f.held c of not in
+    let zero = takes_none c (steps_of_moves one.moves) (steps_of_moves more) one.state other.state kept run (omega arith)
+    (λ k answered. answered_ends other.state seat b.number b.doing.begun b.doing.held f.high c k of f.held (answered_stays more one.state other.state c k answered run)) idle in
+    omega arith in
+    let all = by_own later seat b there own (left_by (steps_of_moves more) (Some one.state)) (accesses_of_log since) none are in
+    let taken = accesses_few own (steps_of_moves more) (Some one.state) in
+    let most = each_few own (steps_of_moves one.moves) (steps_of_moves more) one.state other.state kept run (omega arith) in
+    omega arith

@@ -1,12 +1,11 @@
 -- While no call is decided the words stay as they are, and each step of a caller leaves it fewer steps to take.
-use Rattle.ucl_steps.proofs.Common.{◌≡◌, ◌≢◌, ℕ, zero, suc, ◌+◌, ◌-◌, ◌*◌, ◌<◌, ◌≤◌, ◌==◌, Bool, true, false, cond, List, ◌∷◌, ◌++◌, drop, length, Option, Some, None, ◌⊎◌, inl, [], inr, refl, sym}
-use Rattle.ucl_steps.proofs.Common.{ap, ◌∙◌, subst, arith, append-nil, get_or, eq-eqb, ne_eqb, slice_get, slice_index, slice_set, is_some, filter, sum_by, none-some, same_Some, slice_get-get_or}
+use Rattle.ucl_steps.proofs.Common.{◌≡◌, ◌≢◌, ℕ, zero, suc, ◌+◌, ◌-◌, ◌*◌, ◌<◌, ◌≤◌, ◌==◌, Bool, true, false, cond, List, ◌∷◌, ◌++◌, drop, length, Option, Some, None, ◌⊎◌, [], inr, refl, sym, ap}
+use Rattle.ucl_steps.proofs.Common.{subst, arith, append-nil, get_or, eq-eqb, ne_eqb, slice_get, slice_index, slice_set, is_some, filter, sum_by, none-some, same_Some, slice_get-get_or}
 use Rattle.ucl_steps.proofs.Common.{option_and_then_some, cond_some, eqb-true, eqb-false, length_push, length-drop, length-set, length-replicate, drop_more, filter-append, sum_by-cons, sum_by-le}
-use Rattle.ucl_steps.proofs.Common.{EventCall, Refusal, Stale, after, word_of, record_at, word_at, reading_of, Cast, Caller, Reporter, Reader, Call, Step, Reply, Accepted, Refused, Copied}
-use Rattle.ucl_steps.proofs.Common.{CallRecord, Nothing, Holding, Collecting, Checking, GoesOn, Answers, by_rules, Holds, Idle, Wanting, Within, Answered, Callers, MachineState, initial_state}
-use Rattle.ucl_steps.proofs.Common.{held_by, set_held, with_held, after_reply, change_at, with_reply, with_end, held_at_begin, after_begin, after_outcome, stored, state_after_swap}
-use Rattle.ucl_steps.proofs.Common.{state_after_first, state_after_second, after_end, after_step_holding, caller_of, after_step, after_steps, most_between, decided_in, is_caller, steps_by}
-use Rattle.ucl_steps.proofs.Common.{SomeCallIsDecided}
+use Rattle.ucl_steps.proofs.Common.{EventCall, Refusal, Stale, after, word_of, record_at, word_at, reading_of, Cast, Caller, Reporter, Reader, Call, Step, Reply, Accepted, Refused, Copied, CallRecord}
+use Rattle.ucl_steps.proofs.Common.{Nothing, Holding, Collecting, Checking, GoesOn, Answers, by_rules, Holds, Idle, Wanting, Within, Answered, Callers, MachineState, initial_state, held_by, set_held}
+use Rattle.ucl_steps.proofs.Common.{with_held, after_reply, change_at, with_reply, with_end, held_at_begin, after_begin, after_outcome, stored, state_after_swap, state_after_first, state_after_second}
+use Rattle.ucl_steps.proofs.Common.{after_end, after_step_holding, caller_of, after_step, after_steps, most_between, decided_in, is_caller, steps_by, SomeCallIsDecided}
 use Rattle.ucl_steps.proofs.CallFacts.{Checks}
 use Rattle.ucl_steps.proofs.Callers.{same_caller, held_here, held_else}
 use Rattle.ucl_steps.proofs.Invariant.{Keeps}
@@ -25,12 +24,7 @@ stale_push at k (x ∷ xs) words is = ap (λ (o : Option ℕ). cond (slice_index
 
 stale_within : (at : ℕ) (xs words : List ℕ) (j : ℕ) → stale_from at xs words ≡ Some j → (at ≤ j) × (j < at + length xs)
 stale_within at [] words j e = absurd (none-some j e)
-stale_within at (x ∷ xs) words j e =
-    by_test (slice_index words at == x) (stale_from (at + 1) xs words) (λ e. let t = stale_within (at + 1) xs words j e in let low = t.0 in let high = t.1 in (omega arith, omega arith)) e
-  where
-    by_test : (b : Bool) (o : Option ℕ) → (o ≡ Some j → (at ≤ j) × (j < at + suc (length xs))) → cond b o (Some at) ≡ Some j → (at ≤ j) × (j < at + suc (length xs))
-    by_test true o rest e = rest e
-    by_test false o rest e = let is = same_Some at j e in (omega arith, omega arith)
+stale_within at (x ∷ xs) words j e = search (arith, stale_within (at + 1) xs words j, same_Some)
 
 -- the most steps that a reading may still take, with so many words collected or found again
 abbrev collecting_left : ℕ → Option ℕ → ℕ
@@ -131,9 +125,7 @@ module _ (steps : List Step) (w : MachineState) (kept : Keeps steps w) where
 
   looks : (r k : ℕ) (e : EventCall) → held_by w.callers (Reporter r) ≡ Some (Wanting k e) → (o : Option Refusal)
       → Stepped (Reporter r) w (after_outcome (Reporter r) k (length w.history) (by_rules r e (word_at w.words e.game) o) w)
-  looks r k e held (Some refusal) =
-      let t = kept.knows (Reporter r) (Wanting k e) k held refl in
-      replied (Reporter r) (Wanting k e) k (length w.history) (Refused refusal) w.words w t.call held refl refl t.at t.sees.reply
+  looks r k e held (Some refusal) = search (arith, replied, kept.knows (Reporter r) (Wanting k e) k held refl)
   looks r k e held None = stays (Reporter r) (Wanting k e) (Within k (Holding e (word_at w.words e.game) (word_of (after (record_at (word_at w.words e.game)) r e.kind)))) held tt (omega arith)
 
   swaps : (r k : ℕ) (e : EventCall) (old new : ℕ) → held_by w.callers (Reporter r) ≡ Some (Within k (Holding e old new)) → Stepped (Reporter r) w (state_after_swap r k e old new w)
@@ -150,70 +142,30 @@ module _ (steps : List Step) (w : MachineState) (kept : Keeps steps w) where
 
   firsts : (c : Caller) (k : ℕ) (xs : List ℕ) → held_by w.callers c ≡ Some (Within k (Collecting xs)) → Stepped c w (state_after_first c k xs w)
   firsts c k xs held =
-      by_test (length longer_by_one == 12) refl
-    where
-      longer_by_one : List ℕ
-      longer_by_one = xs ++ slice_index w.words (length xs) ∷ []
-
-      same : stale_from 0 longer_by_one w.words ≡ stale_from 0 xs w.words
-      same = stale_push 0 (length xs) xs w.words (omega arith)
-
-      few : length xs < 12
-      few = (kept.knows c (Within k (Collecting xs)) k held refl).sees.few
-
-      by_test : (b : Bool) → (length longer_by_one == 12) ≡ b
-          → Stepped c w (with_held (Within k (cond b (Checking longer_by_one 0 (length w.history)) (Collecting longer_by_one))) c w)
-      by_test b is = search (arith, eqb-true, longer_by_one, length_push, stays, same, collects_last, collects_more, few)
+      let few = (kept.knows c (Within k (Collecting xs)) k held refl).sees.few in
+      let same = stale_push 0 (length xs) xs w.words (omega arith) in
+      let long = length_push xs (slice_index w.words (length xs)) in
+      search (arith, few, same, long, eqb-true, stays, collects_last, collects_more)
 
   seconds : (c : Caller) (k : ℕ) (xs : List ℕ) (n point : ℕ) → held_by w.callers c ≡ Some (Within k (Checking xs n point)) → Stepped c w (state_after_second c k xs n point w)
   seconds c k xs n point held =
-      by_test (slice_index w.words n == slice_index xs n) (n == 11) refl refl
+      let m = kept.knows c (Within k (Checking xs n point)) k held refl in
+      let t : Checks w.history m.call xs n point = m.sees in
+      let rest : drop n xs ≡ get_or xs n 0 ∷ drop (n + 1) xs = let twelve = t.twelve in let few = t.few in drop_more xs n 0 (omega arith) in
+      by_test m.call m.at t rest (slice_index w.words n == slice_index xs n) (n == 11) refl refl
     where
-      t : Checks w.history (kept.knows c (Within k (Checking xs n point)) k held refl).call xs n point
-      t = (kept.knows c (Within k (Checking xs n point)) k held refl).sees
-
-      here : slice_get w.calls k ≡ Some (kept.knows c (Within k (Checking xs n point)) k held refl).call
-      here = (kept.knows c (Within k (Checking xs n point)) k held refl).at
-
-      rest : drop n xs ≡ get_or xs n 0 ∷ drop (n + 1) xs
-      rest = let twelve = t.twelve in let few = t.few in drop_more xs n 0 (omega arith)
-
-      -- the word that is compared is the first of those from here on
-      now : (b : Bool) → (slice_index w.words n == slice_index xs n) ≡ b → stale_from n (drop n xs) w.words ≡ cond b (stale_from (n + 1) (drop (n + 1) xs) w.words) (Some n)
-      now b is = ap (λ (z : List ℕ). stale_from n z w.words) rest ∙ ap (λ (z : Bool). cond z (stale_from (n + 1) (drop (n + 1) xs) w.words) (Some n)) is
-
-      by_test : (b last : Bool) → (slice_index w.words n == slice_index xs n) ≡ b → (n == 11) ≡ last
+      by_test : (a : CallRecord) → slice_get w.calls k ≡ Some a → Checks w.history a xs n point → drop n xs ≡ get_or xs n 0 ∷ drop (n + 1) xs
+          → (b last : Bool) → (slice_index w.words n == slice_index xs n) ≡ b → (n == 11) ≡ last
           → Stepped c w (after_outcome c k point (cond b (cond last (Answers (Copied (reading_of xs))) (GoesOn (Checking xs (n + 1) point))) (GoesOn (Collecting []))) w)
-      by_test true true is last_is = search (arith, replied, here, t)
-      by_test true false is last_is =
-          let not_last = eqb-false n 11 last_is in
-          let few = t.few in
-          stays c (Within k (Checking xs n point)) (Within k (Checking xs (n + 1) point)) held tt
-          (subst (λ (o : Option ℕ). checking_left (n + 1) (stale_from (n + 1) (drop (n + 1) xs) w.words) + 1 ≤ checking_left n o) (sym (now true is))
-          (checks_more n (stale_from (n + 1) (drop (n + 1) xs) w.words) (below n not_last few)))
-      by_test false last is last_is =
-          stays c (Within k (Checking xs n point)) (Within k (Collecting [])) held tt
-          (subst (λ (o : Option ℕ). 24 ≤ checking_left n o) (sym (now false is)) (omega arith))
+      by_test a here t rest b last is last_is = search (arith, replied, stays, checks_more, eqb-false n 11, below)
 
   step_counted : (s : Step) (o : Option Holds) (w' : MachineState) → held_by w.callers (caller_of s) ≡ o → after_step_holding s o w ≡ Some w' → Stepped (caller_of s) w w'
   step_counted s o w' holds done = search (arith, cond_some, begins, same_Some, looks, swaps, firsts, seconds, ends, none-some)
 
   -- what a caller holds leaves it few steps
   few_left : (c : Caller) (x : Holds) → held_by w.callers c ≡ Some x → left_in w.words x ≤ most_between
-  few_left c Idle held = omega arith
-  few_left c (Wanting k e) held = omega arith
-  few_left c (Within k Nothing) held = omega arith
-  few_left c (Within k (Holding e old new)) held = omega arith
-  few_left c (Within k (Collecting xs)) held = search (arith, stale_within, most_between)
-  few_left c (Within k (Checking xs n point)) held =
-      let t = (kept.knows c (Within k (Checking xs n point)) k held refl).sees in
-      let long = length-drop n xs in
-      by_place (stale_from n (drop n xs) w.words) (λ j at. let l = (stale_within n (drop n xs) w.words j at).1 in omega arith)
-    where
-      by_place : (o : Option ℕ) → ((j : ℕ) → o ≡ Some j → j < 12) → checking_left n o ≤ most_between
-      by_place None within = omega arith
-      by_place (Some j) within = let l = within j refl in omega arith
-  few_left c (Answered k) held = omega arith
+  few_left c (Within k (Checking xs n point)) held = search (arith, length-drop n xs, stale_within, most_between, kept.knows c (Within k (Checking xs n point)) k held refl)
+  few_left c x held = search (arith, stale_within, most_between)
 
 -- one caller
 
@@ -227,38 +179,34 @@ not_caller c d not = search (arith, ne_eqb)
 one_more : {X : Type 0} (b : Bool) (x : X) (xs : List X) → length (cond b (x ∷ xs) xs) ≤ suc (length xs)
 one_more b x xs = search arith
 
+-- what holds at the end of steps, and before a step where it holds after it, holds before them all
+along : (t : MachineState) (P : List Step → MachineState → Type 0) → P [] t
+    → ((s : Step) (steps : List Step) (w v : MachineState) → Stepped (caller_of s) w v → P steps v → P (s ∷ steps) w)
+    → (done steps : List Step) (w : MachineState) → Keeps done w → after_steps steps w ≡ Some t → P steps w
+along t P none one done [] w kept e = subst (P []) (sym (same_Some w t e)) none
+along t P none one done (s ∷ steps) w kept e = option_and_then_some (after_steps steps) (after_step w s) t e (λ v is then.
+    let later = step_kept done w kept s (held_by w.callers (caller_of s)) v refl is in
+    one s steps w v (step_counted done w kept s (held_by w.callers (caller_of s)) v refl is) (along t P none one (done ++ s ∷ []) steps v later then))
+
 -- the number of decided calls never falls
 pub decided_more : (done steps : List Step) (w t : MachineState) → Keeps done w → after_steps steps w ≡ Some t → decided_in w.calls ≤ decided_in t.calls
-decided_more done [] w t kept e = let same = ap (λ (z : MachineState). decided_in z.calls) (same_Some w t e) in omega arith
-decided_more done (s ∷ steps) w t kept e = option_and_then_some (after_steps steps) (after_step w s) t e (λ v is then.
-    let rest = decided_more (done ++ s ∷ []) steps v t (step_kept done w kept s (held_by w.callers (caller_of s)) v refl is) then in
-    elim (step_counted done w kept s (held_by w.callers (caller_of s)) v refl is).comes [ inl one ↦ omega arith | inr g ↦ let same = g.decided in omega arith ])
+decided_more done steps w t = along t (λ _ v. decided_in v.calls ≤ decided_in t.calls) (omega arith) (λ s rest v u one l. search (arith, one.comes)) done steps w
+
+-- the same of steps that decide no call
+quiet : (t : MachineState) (P : List Step → MachineState → Type 0) → P [] t
+    → ((s : Step) (steps : List Step) (w v : MachineState) (one : Stepped (caller_of s) w v) → Stays w one.was v one.is → P steps v → P (s ∷ steps) w)
+    → (done steps : List Step) (w : MachineState) → Keeps done w → after_steps steps w ≡ Some t → decided_in t.calls ≤ decided_in w.calls → P steps w
+quiet t P none one done steps w kept e few =
+    (along t (λ steps w. (decided_in w.calls ≤ decided_in t.calls) × (decided_in t.calls ≤ decided_in w.calls → P steps w)) (omega arith, λ _. none)
+    (λ s steps w v x rest. search (arith, x.comes, one s steps w v x, rest.0, rest.1)) done steps w kept e).1 few
 
 few_by : (c : Caller) (done steps : List Step) (w t : MachineState) → Keeps done w → after_steps steps w ≡ Some t → decided_in t.calls ≤ decided_in w.calls
     → length (steps_by c steps) ≤ left_of w.words (held_by w.callers c)
-few_by c done [] w t kept e few = omega arith
-few_by c done (s ∷ steps) w t kept e few = option_and_then_some (after_steps steps) (after_step w s) t e (λ v is then.
-    let later = step_kept done w kept s (held_by w.callers (caller_of s)) v refl is in
-    let more = decided_more (done ++ s ∷ []) steps v t later then in
-    let one = step_counted done w kept s (held_by w.callers (caller_of s)) v refl is in
-    elim one.comes [
-      | inl decided ↦ absurd (omega arith)
-      | inr g ↦
-          let rest = few_by c (done ++ s ∷ []) steps v t later then (omega arith) in
-          elim (same_caller c (caller_of s)) [
-            | inl own ↦
-                let now : left_of v.words (held_by v.callers c) ≡ left_in w.words one.is = search (arith, held_here) in
-                let was : left_of w.words (held_by w.callers c) ≡ left_in w.words one.was = ap (λ (z : Caller). left_of w.words (held_by w.callers z)) own ∙ ap (left_of w.words) one.held in
-                let count = one_more (is_caller c (caller_of s)) s (steps_by c steps) in
-                omega arith
-            | inr other ↦
-                let now : left_of v.words (held_by v.callers c) ≡ left_of w.words (held_by w.callers c) =
-                ap (λ (z : Callers). left_of v.words (held_by z c)) one.callers
-                ∙ (ap (left_of v.words) (held_else w.callers (caller_of s) c one.is one.was one.held other) ∙ ap (λ (z : List ℕ). left_of z (held_by w.callers c)) g.words) in
-                let count : length (steps_by c (s ∷ steps)) ≡ length (steps_by c steps) = search (arith, not_caller) in
-                omega arith
-          ]
-    ])
+few_by c done steps w t = quiet t (λ steps w. length (steps_by c steps) ≤ left_of w.words (held_by w.callers c)) (omega arith) each done steps w
+  where
+    each : (s : Step) (steps : List Step) (w v : MachineState) (one : Stepped (caller_of s) w v) → Stays w one.was v one.is
+        → length (steps_by c steps) ≤ left_of v.words (held_by v.callers c) → length (steps_by c (s ∷ steps)) ≤ left_of w.words (held_by w.callers c)
+    each s steps w v one g rest = search (arith, same_caller c (caller_of s), held_here, held_else, one_more {X = Step}, not_caller)
 
 few_of : (c : Caller) (done : List Step) (w : MachineState) → Keeps done w → (o : Option Holds) → held_by w.callers c ≡ o → left_of w.words o ≤ most_between
 few_of c done w kept o held = search (arith, few_left)
@@ -267,54 +215,16 @@ pub each_few : (c : Caller) (done steps : List Step) (w t : MachineState) → Ke
     → length (steps_by c steps) ≤ most_between
 each_few c done steps w t kept e same = search (arith, few_by c done steps w t kept e (omega arith), few_of, w.callers)
 
--- a call under way stays so
-stays_open : (c : Caller) (done steps : List Step) (w t : MachineState) (x : Holds) → Keeps done w → after_steps steps w ≡ Some t → decided_in t.calls ≤ decided_in w.calls
-    → held_by w.callers c ≡ Some x → IsOpen x → held_by t.callers c ≡ Some Idle → ⊥
-stays_open c done [] w t x kept e few held opened idle = search (arith, same_Some, held_by)
-stays_open c done (s ∷ steps) w t x kept e few held opened idle = option_and_then_some (after_steps steps) (after_step w s) t e (λ v is then.
-    let later = step_kept done w kept s (held_by w.callers (caller_of s)) v refl is in
-    let more = decided_more (done ++ s ∷ []) steps v t later then in
-    let one = step_counted done w kept s (held_by w.callers (caller_of s)) v refl is in
-    elim one.comes [
-      | inl decided ↦ absurd (omega arith)
-      | inr g ↦ search (
-        arith,
-        same_caller c (caller_of s),
-        held_here w.callers (caller_of s) one.was one.is one.held,
-        stays_open c (done ++ s ∷ []) steps v t one.is later,
-        stays_open c (done ++ s ∷ []) steps v t x later,
-        same_Some,
-        held_else,
-      )
-    ])
-  where
-    open_not : (x : Holds) → IsOpen x → NotAnswered x
-    open_not Idle opened = tt
-    open_not (Wanting k e) opened = tt
-    open_not (Within k held) opened = tt
-    open_not (Answered k) opened = opened
-
--- so a caller that is idle in the end has taken no step
+-- a caller whose call has no reply, and that is idle in the end, has taken no step: its step leaves its call under way
 pub takes_none : (c : Caller) (done steps : List Step) (w t : MachineState) → Keeps done w → after_steps steps w ≡ Some t → decided_in t.calls ≤ decided_in w.calls
     → ((k : ℕ) → held_by w.callers c ≢ Some (Answered k)) → held_by t.callers c ≡ Some Idle → length (steps_by c steps) ≤ 0
-takes_none c done [] w t kept e few not idle = omega arith
-takes_none c done (s ∷ steps) w t kept e few not idle = option_and_then_some (after_steps steps) (after_step w s) t e (λ v is then.
-    let later = step_kept done w kept s (held_by w.callers (caller_of s)) v refl is in
-    let more = decided_more (done ++ s ∷ []) steps v t later then in
-    let one = step_counted done w kept s (held_by w.callers (caller_of s)) v refl is in
-    elim one.comes [
-      | inl decided ↦ absurd (omega arith)
-      | inr g ↦ search (
-        arith,
-        same_caller c (caller_of s),
-        stays_open c (done ++ s ∷ []) steps v t one.is later,
-        held_here w.callers (caller_of s) one.was one.is one.held,
-        takes_none c (done ++ s ∷ []) steps v t later,
-        not_answered,
-        held_else,
-        not_caller,
-      )
-    ])
+takes_none c done steps w t kept e few not idle = (quiet t P (λ _. (idle, omega arith)) each done steps w kept e few not).1
+  where
+    P : List Step → MachineState → Type 0
+    P steps w = ((k : ℕ) → held_by w.callers c ≢ Some (Answered k)) → (held_by w.callers c ≡ Some Idle) × (length (steps_by c steps) ≤ 0)
+
+    each : (s : Step) (steps : List Step) (w v : MachineState) (one : Stepped (caller_of s) w v) → Stays w one.was v one.is → P steps v → P (s ∷ steps) w
+    each s steps w v one g rest not = search (arith, same_caller c (caller_of s), held_here, held_else, not_answered, not_caller, same_Some, rest, not)
 
 -- all callers
 
@@ -336,15 +246,11 @@ all_less : (words : List ℕ) (cs : Callers) (c : Caller) (x y : Holds) → held
 all_less words cs c x y held less = search (arith, none-some, sum_less, before_it)
 
 few_in_all : (done steps : List Step) (w t : MachineState) → Keeps done w → after_steps steps w ≡ Some t → decided_in t.calls ≤ decided_in w.calls → length steps ≤ all_left w.words w.callers
-few_in_all done [] w t kept e few = omega arith
-few_in_all done (s ∷ steps) w t kept e few = option_and_then_some (after_steps steps) (after_step w s) t e (λ v is then.
-    let later = step_kept done w kept s (held_by w.callers (caller_of s)) v refl is in
-    let more = decided_more (done ++ s ∷ []) steps v t later then in
-    let one = step_counted done w kept s (held_by w.callers (caller_of s)) v refl is in
-    elim one.comes [
-      | inl decided ↦ absurd (omega arith)
-      | inr g ↦ search (arith, all_less, few_in_all (done ++ s ∷ []) steps v t later)
-    ])
+few_in_all done steps w t =
+    quiet t (λ steps w. length steps ≤ all_left w.words w.callers) (omega arith) (λ s steps w v one g rest.
+    let less = all_less w.words w.callers (caller_of s) one.was one.is one.held g.less in
+    let same : all_left v.words v.callers ≡ all_left w.words (set_held one.is (caller_of s) w.callers) = cc (one.callers, g.words) in
+    omega arith) done steps w
 
 -- so many reporters and readers as the cast has
 record AsCast (cast : Cast) (cs : Callers) : Type 0 where
@@ -354,12 +260,9 @@ record AsCast (cast : Cast) (cs : Callers) : Type 0 where
 as_cast_set : (cast : Cast) (cs : Callers) (c : Caller) (y : Holds) → AsCast cast cs → AsCast cast (set_held y c cs)
 as_cast_set cast cs c y sizes = search (arith, length-set)
 
-as_cast_run : (cast : Cast) (done steps : List Step) (w t : MachineState) → Keeps done w → AsCast cast w.callers → after_steps steps w ≡ Some t → AsCast cast t.callers
-as_cast_run cast done [] w t kept sizes e = subst (λ (z : MachineState). AsCast cast z.callers) (same_Some w t e) sizes
-as_cast_run cast done (s ∷ steps) w t kept sizes e = option_and_then_some (after_steps steps) (after_step w s) t e (λ v is then.
-    let one = step_counted done w kept s (held_by w.callers (caller_of s)) v refl is in
-    as_cast_run cast (done ++ s ∷ []) steps v t (step_kept done w kept s (held_by w.callers (caller_of s)) v refl is)
-    (subst (AsCast cast) (sym one.callers) (as_cast_set cast w.callers (caller_of s) one.is sizes)) then)
+as_cast_run : (cast : Cast) (done steps : List Step) (w t : MachineState) → Keeps done w → after_steps steps w ≡ Some t → AsCast cast w.callers → AsCast cast t.callers
+as_cast_run cast done steps w t =
+    along t (λ _ w. AsCast cast w.callers → AsCast cast t.callers) (λ sizes. sizes) (λ s steps w v one rest sizes. search (arith, rest, as_cast_set, one.callers)) done steps w
 
 all_few : (cast : Cast) (done : List Step) (w : MachineState) → Keeps done w → AsCast cast w.callers → all_left w.words w.callers ≤ (cast.reporters + cast.readers) * most_between
 all_few cast done w kept sizes =
@@ -371,5 +274,5 @@ all_few cast done w kept sizes =
 pub some_decided : SomeCallIsDecided
 some_decided cast before steps s t e f same =
     let kept = run_kept before [] (initial_state cast) s (kept_at_start cast) e in
-    let sizes = as_cast_run cast [] before (initial_state cast) s (kept_at_start cast) (record { reporters = length-replicate cast.reporters Idle; readers = length-replicate cast.readers Idle }) e in
+    let sizes = as_cast_run cast [] before (initial_state cast) s (kept_at_start cast) e (record { reporters = length-replicate cast.reporters Idle; readers = length-replicate cast.readers Idle }) in
     search (arith, few_in_all before steps s t kept f (omega arith), all_few cast before s kept sizes, each_few)

@@ -1,6 +1,6 @@
 -- The decided calls of a run of actors are as many as the finished calls of its actors.
-use Rattle.ucl_steps.proofs.Common.{◌≡◌, ◌≢◌, ℕ, zero, suc, ◌+◌, ◌≤◌, ◌==◌, ◌&&◌, nat_le, Bool, true, false, cond, List, ◌∷◌, drop, length, map, Some, refl, [], sym, ap, ◌∙◌, subst, arith}
-use Rattle.ucl_steps.proofs.Common.{length-append, eq-eqb, ne_eqb, All, slice_get, is_some, filter, none-some, same_Some, le-leb, eqb-true, and_parts, leb-true, length-map, filter-append, All-head}
+use Rattle.ucl_steps.proofs.Common.{◌≡◌, ◌≢◌, ℕ, zero, suc, ◌+◌, ◌≤◌, nat_le, Bool, true, false, cond, List, ◌∷◌, drop, length, map, Some, refl, [], sym, ◌∙◌, subst, arith}
+use Rattle.ucl_steps.proofs.Common.{length-append, eq-eqb, ne_eqb, All, slice_get, is_some, filter, none-some, same_Some, le-leb, eqb-true, leb-true, length-map, filter-append, All-head}
 use Rattle.ucl_steps.proofs.Common.{All-tail, sum_by-cons, some, some-ne-none, some-injective, get_elem?, Caller, Reporter, Reader, CallRecord, caller_and_call, Held, Answer, Doing, MayAsk}
 use Rattle.ucl_steps.proofs.Common.{MachineState, IsOf, is_of, call_of, CanHold, AreRecordsOf, FitsRun, calls_told, Actor, IsOfActor, decided_in, finished_by}
 use Rattle.ucl_steps.proofs.OneStep.{and_true, own_caller}
@@ -66,28 +66,17 @@ count_none i (a ∷ actors) = let rest = count_none (i + 1) actors in omega arit
 own_of : (seat number : ℕ) (c : Caller) → IsOf seat number c → is_of seat number c ≡ true
 own_of seat number c is = search (arith, eq-eqb, and_true, nat_le, le-leb)
 
-hits_one : (i j : ℕ) (actors : List Actor) (a : Actor) (c : Caller) → get_elem? actors j ≡ some a → is_of (i + j) a.number c ≡ true → 1 ≤ hits i actors c
-hits_one i j [] a c at is_own = absurd (some-ne-none a (sym at))
-hits_one i zero (b ∷ actors) a c at is_own = search (arith, some-injective)
-hits_one i (suc j) (b ∷ actors) a c at is_own =
-    let next : i + 1 + j ≡ i + suc j = omega arith in
-    let rest = hits_one (i + 1) j actors a c at (ap (λ (n : ℕ). is_of n a.number c) next ∙ is_own) in
-    omega arith
+hits_one : (i j k : ℕ) (actors : List Actor) (a : Actor) (c : Caller) → i + j ≡ k → get_elem? actors j ≡ some a → is_of k a.number c ≡ true → 1 ≤ hits i actors c
+hits_one i j k [] a c sum at is_own = absurd (some-ne-none a (sym at))
+hits_one i zero k (b ∷ actors) a c sum at is_own = search (arith, some-injective)
+hits_one i (suc j) k (b ∷ actors) a c sum at is_own = let rest = hits_one (i + 1) j k actors a c (omega arith) at is_own in omega arith
 
 decided_counted : (actors : List Actor) (calls : List CallRecord) → All (IsOfActor actors) (map caller_and_call calls) → decided_in calls ≤ count_own 0 actors calls
 decided_counted actors [] only = omega arith
 decided_counted actors (c ∷ calls) only =
     let t = All-head (IsOfActor actors) (caller_and_call c) (map caller_and_call calls) only in
     let rest = decided_counted actors calls (All-tail (IsOfActor actors) (caller_and_call c) (map caller_and_call calls) only) in
-    let here : 0 + t.0 ≡ t.0 = omega arith in
-    let hit = hits_one 0 t.0 actors t.1 c.caller t.2 (ap (λ (n : ℕ). is_of n t.1.number c.caller) here ∙ own_of t.0 t.1.number c.caller t.3) in
-    let count = count_cons 0 actors c calls in
-    by_test (is_decided c) hit count rest
-  where
-    by_test : (d : Bool) → 1 ≤ hits 0 actors c.caller → count_own 0 actors (c ∷ calls) ≡ cond d (hits 0 actors c.caller) 0 + count_own 0 actors calls → decided_in calls ≤ count_own 0 actors calls
-        → length (cond d (c ∷ filter is_decided calls) (filter is_decided calls)) ≤ count_own 0 actors (c ∷ calls)
-    by_test true hit count rest = omega arith
-    by_test false hit count rest = omega arith
+    search (arith, count_cons, rest, hits_one 0 t.0 t.0 actors t.1 c.caller (omega arith) t.2 (own_of t.0 t.1.number c.caller t.3))
 
 -- and of just one
 
@@ -101,26 +90,14 @@ hits_reader i (a ∷ actors) k = search (arith, eqb-true, hits_reader_none, hits
 
 hits_reporter_none : (i : ℕ) (actors : List Actor) (k : ℕ) → ((j : ℕ) (b : Actor) → get_elem? actors j ≡ some b → k ≢ b.number) → hits i actors (Reporter k) ≡ 0
 hits_reporter_none i [] k none = refl
-hits_reporter_none i (a ∷ actors) k none =
-    let rest = hits_reporter_none (i + 1) actors k (λ j b at. none (suc j) b at) in
-    let not : one_if ((k == a.number) && (nat_le 1 a.number && nat_le a.number 255)) ≡ 0 =
-    ap (λ (b : Bool). one_if (b && (nat_le 1 a.number && nat_le a.number 255))) (ne_eqb k a.number (none 0 a refl)) in
-    omega arith
+hits_reporter_none i (a ∷ actors) k none = search (arith, hits_reporter_none (i + 1) actors k (λ j b at. none (suc j) b at), ne_eqb, none 0 a refl)
 
 hits_reporter : (i : ℕ) (actors : List Actor) (k : ℕ) → Apart actors → hits i actors (Reporter k) ≤ 1
 hits_reporter i [] k apart = omega arith
 hits_reporter i (a ∷ actors) k apart =
-    by_test (is_of i a.number (Reporter k)) refl (hits_reporter (i + 1) actors k (λ m n b c at bt pos same. let e = apart (suc m) (suc n) b c at bt pos same in omega arith))
-  where
-    by_test : (b : Bool) → is_of i a.number (Reporter k) ≡ b → hits (i + 1) actors (Reporter k) ≤ 1 → one_if (is_of i a.number (Reporter k)) + hits (i + 1) actors (Reporter k) ≤ 1
-    by_test true is rest =
-        let t = and_parts (k == a.number) (nat_le 1 a.number && nat_le a.number 255) is in
-        let same = eqb-true k a.number t.0 in
-        let low = leb-true 1 a.number (and_parts (nat_le 1 a.number) (nat_le a.number 255) t.1).0 in
-        let none = hits_reporter_none (i + 1) actors k (λ j b at equal. let e = apart 0 (suc j) a b refl at (omega arith) (sym same ∙ equal) in omega arith) in
-        let one : one_if (is_of i a.number (Reporter k)) ≡ 1 = ap (λ (b : Bool). one_if b) is in
-        omega arith
-    by_test false is rest = let none : one_if (is_of i a.number (Reporter k)) ≡ 0 = ap (λ (b : Bool). one_if b) is in omega arith
+    let none : k ≡ a.number → 1 ≤ k → hits (i + 1) actors (Reporter k) ≡ 0 =
+    λ same low. hits_reporter_none (i + 1) actors k (λ j b at equal. let e = apart 0 (suc j) a b refl at (omega arith) (sym same ∙ equal) in omega arith) in
+    search (arith, none, eqb-true, leb-true, hits_reporter (i + 1) actors k (λ m n b c at bt pos same. let e = apart (suc m) (suc n) b c at bt pos same in omega arith))
 
 hits_few : (actors : List Actor) (c : Caller) → Apart actors → hits 0 actors c ≤ 1
 hits_few actors (Reader k) apart = hits_reader 0 actors k
@@ -133,33 +110,23 @@ counted_decided actors (c ∷ calls) apart = search (arith, hits_few, count_cons
 -- the finished calls of actors
 
 module _ (state : MachineState) where
-  finished_low : (i : ℕ) (actors : List Actor) → ((j : ℕ) (a : Actor) → get_elem? actors j ≡ some a → FitsRun state (i + j) a.number a.doing) → finished_by actors ≤ count_own i actors state.calls
-  finished_low i [] each = omega arith
-  finished_low i (a ∷ actors) each =
-      let here : i + 0 ≡ i = omega arith in
-      let f = subst (λ (n : ℕ). FitsRun state n a.number a.doing) here (each 0 a refl) in
-      let one = at_least i a.number state.calls 0 f.high a.doing.calls f.recorded in
-      let rest = finished_low (i + 1) actors (λ j b at. let next : i + suc j ≡ i + 1 + j = omega arith in subst (λ (n : ℕ). FitsRun state n b.number b.doing) next (each (suc j) b at)) in
+  finished_count : (i : ℕ) (actors : List Actor) → ((j k : ℕ) (a : Actor) → i + j ≡ k → get_elem? actors j ≡ some a → FitsRun state k a.number a.doing)
+      → finished_by actors ≡ count_own i actors state.calls
+  finished_count i [] each = refl
+  finished_count i (a ∷ actors) each =
+      let f = each 0 i a (omega arith) refl in
+      let low = at_least i a.number state.calls 0 f.high a.doing.calls f.recorded in
+      let high = at_most state i a.number a.doing f in
+      let rest = finished_count (i + 1) actors (λ j k b sum at. each (suc j) k b (omega arith) at) in
       let sum = sum_by-cons (λ (a : Actor). length a.doing.calls) a actors in
       omega arith
 
-  finished_high : (i : ℕ) (actors : List Actor) → ((j : ℕ) (a : Actor) → get_elem? actors j ≡ some a → FitsRun state (i + j) a.number a.doing) → count_own i actors state.calls ≤ finished_by actors
-  finished_high i [] each = omega arith
-  finished_high i (a ∷ actors) each =
-      let here : i + 0 ≡ i = omega arith in
-      let f = subst (λ (n : ℕ). FitsRun state n a.number a.doing) here (each 0 a refl) in
-      let one = at_most state i a.number a.doing f in
-      let rest = finished_high (i + 1) actors (λ j b at. let next : i + suc j ≡ i + 1 + j = omega arith in subst (λ (n : ℕ). FitsRun state n b.number b.doing) next (each (suc j) b at)) in
-      let sum = sum_by-cons (λ (a : Actor). length a.doing.calls) a actors in
-      omega arith
-
-  from_none : (actors : List Actor) → ((j : ℕ) (a : Actor) → get_elem? actors j ≡ some a → FitsRun state j a.number a.doing) → (j : ℕ) (a : Actor) → get_elem? actors j ≡ some a
-      → FitsRun state (0 + j) a.number a.doing
-  from_none actors each j a at = let here : j ≡ 0 + j = omega arith in subst (λ (n : ℕ). FitsRun state n a.number a.doing) here (each j a at)
+  finished_all : (actors : List Actor) → ((j : ℕ) (a : Actor) → get_elem? actors j ≡ some a → FitsRun state j a.number a.doing) → finished_by actors ≡ count_own 0 actors state.calls
+  finished_all actors each = finished_count 0 actors (λ j k a sum at. let here : j ≡ k = omega arith in subst (λ (n : ℕ). FitsRun state n a.number a.doing) here (each j a at))
 
   pub finished_decided : (actors : List Actor) → ((j : ℕ) (a : Actor) → get_elem? actors j ≡ some a → FitsRun state j a.number a.doing) → Apart actors → finished_by actors ≤ decided_in state.calls
-  finished_decided actors each apart = let a = finished_low 0 actors (from_none actors each) in let b = counted_decided actors state.calls apart in omega arith
+  finished_decided actors each apart = let a = finished_all actors each in let b = counted_decided actors state.calls apart in omega arith
 
   pub decided_finished : (actors : List Actor) → ((j : ℕ) (a : Actor) → get_elem? actors j ≡ some a → FitsRun state j a.number a.doing) → All (IsOfActor actors) (calls_told state)
       → decided_in state.calls ≤ finished_by actors
-  decided_finished actors each only = let a = finished_high 0 actors (from_none actors each) in let b = decided_counted actors state.calls only in omega arith
+  decided_finished actors each only = let a = finished_all actors each in let b = decided_counted actors state.calls only in omega arith

@@ -76,10 +76,7 @@ module _ (steps : List Step) (w : MachineState) (kept : Keeps steps w) (c : Call
         record {
           legal = legal;
           words = words;
-          explained = λ i a at. elim (get-change_at k f w.calls i a at) [
-            | inl u ↦ subst (λ (z : CallRecord). IsExplained h' z z.point z.reply) (ap f (same_Some m.call u.1 (sym m.at ∙ u.2)) ∙ u.3) told.0
-            | inr u ↦ explained_later w.history h' b a (kept.explained i a u.1)
-          ];
+          explained = λ i a at. search (arith, get-change_at k f w.calls i a at, same_Some, told.0, explained_later w.history h' b, kept.explained i);
           once = once;
           turns = search (arith, map_unseen, turns_inner, begins_length);
           knows = knows_all h' calls' y b (λ e j a other there own. change_at_else k f w.calls j a (other_call e j a other there own) there) (search (arith, same_Some, change_at_here));
@@ -106,7 +103,7 @@ module _ (steps : List Step) (w : MachineState) (kept : Keeps steps w) (c : Call
           legal = kept.legal;
           words = kept.words;
           explained = search (arith, get-change_at, same_Some, explained_closed);
-          once = once_kept w.calls k f w.history (λ a i made. made) (λ a i made. made) kept.once;
+          once = once_kept w.calls k f w.history (λ a. refl) kept.once;
           turns = search (arith, ended_at n, turns_end steps n (map time_of w.calls) c k (time_of m.call) here m.caller m.unended kept.turns, map-change_at);
           knows = knows_all w.history calls' Idle (begins_same w.history) (λ e j a other there own. change_at_else k f w.calls j a (other_call e j a other there own) there)
               (λ j at. absurd (none-some j at));
@@ -122,9 +119,7 @@ module _ (steps : List Step) (w : MachineState) (kept : Keeps steps w) (c : Call
       let new : CallRecord = record { caller = c; call = call; begun = n; point = None; reply = None; ended = None } in
       let calls' = w.calls ++ new ∷ [] in
       let closed_all : (i : ℕ) (a : CallRecord) → slice_get w.calls i ≡ Some a → a.caller ≡ c → a.ended ≡ None → ⊥ = λ i a at own none.
-      let o = kept.unended i a at none in
-      let o_is : o.holds ≡ Idle = same_Some o.holds x (sym o.held_is ∙ (ap (held_by w.callers) own ∙ holds)) ∙ idle in
-      none-some i (sym (ap in_call o_is) ∙ o.in_it) in
+      search (arith, kept.unended i a at none, own, none-some, same_Some) in
       record {
         legal = kept.legal;
         words = kept.words;
@@ -142,8 +137,4 @@ module _ (steps : List Step) (w : MachineState) (kept : Keeps steps w) (c : Call
           let below = at_below (map time_of w.calls) i t at in
           let count = length-map w.calls time_of in
           let a = get_some w.calls i (omega arith) in
-          let is : time_of a.0 ≡ t = same_Some (time_of a.0) t (ap (option_map time_of) (sym a.1) ∙ (sym (slice_get-map time_of w.calls i) ∙ at)) in
-          elim (some_or_none t.ended) [
-            | inl some ↦ some
-            | inr none ↦ absurd (closed_all i a.0 a.1 (ap (λ (z : Time). z.caller) is ∙ own) (ap (λ (z : Time). z.ended) is ∙ none))
-          ]
+          search (arith, slice_get-map time_of w.calls i, a, at, own, closed_all i a.0 a.1, some_or_none t.ended, same_Some)

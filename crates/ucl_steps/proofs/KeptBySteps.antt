@@ -1,25 +1,21 @@
 -- Each step of the machine keeps what every step keeps.
-use Rattle.ucl_steps.proofs.Common.{◌≡◌, ℕ, zero, suc, ◌+◌, ◌-◌, ◌<◌, ◌≤◌, ◌==◌, ◌&&◌, nat_le, Bool, true, false, cond, List, ◌∷◌, ◌++◌, take, length, Option, Some, None, Ok, Err, inl, inr, refl}
-use Rattle.ucl_steps.proofs.Common.{sym, [], ap, ◌∙◌, subst, arith, le_refl, get_or, slice_get, slice_index, slice_set, IfSome, option_map, none-some, same_Some, slice_get-map, cond_some, cases_lt}
-use Rattle.ucl_steps.proofs.Common.{false≢true, eqb-true, eqb-false, and_parts, leb-true, length_push, get_or_append_left, get_or_push, length-take-le, take-append_seam, take-length, MatchRecord}
-use Rattle.ucl_steps.proofs.Common.{EventCall, Refusal, Stale, refusal_of, after, word_of, record_at, Entry, word_at, version_of, answer, match_after, board_of, MayFollow, sequential_reply}
-use Rattle.ucl_steps.proofs.Common.{attempted, reading_of, at_end, same_number, may_attempt, begins_same, Caller, Reporter, Reader, Call, Event, Reading, Step, Begin, Look, Swap, First, Second, End}
-use Rattle.ucl_steps.proofs.Common.{CallRecord, Accepted, Refused, Copied, Holding, Collecting, Checking, GoesOn, Answers, by_rules, may_begin, after_begin, after_step_holding, caller_of, Holds}
-use Rattle.ucl_steps.proofs.Common.{Idle, Wanting, Within, Answered, MachineState, held_by, with_held, with_reply, after_outcome, stored, state_after_look, state_after_swap}
-use Rattle.ucl_steps.proofs.Common.{state_after_first, state_after_second, after_reply}
+use Rattle.ucl_steps.proofs.Common.{◌≡◌, ℕ, suc, ◌+◌, ◌-◌, ◌<◌, ◌≤◌, ◌==◌, Bool, true, false, cond, List, ◌∷◌, ◌++◌, take, length, Option, Some, None, Err, inl, inr, refl, sym, [], ap, ◌∙◌, subst}
+use Rattle.ucl_steps.proofs.Common.{arith, le_refl, get_or, slice_get, slice_index, slice_set, option_map, none-some, same_Some, slice_get-map, cond_some, cases_lt, false≢true, eqb-true, eqb-false}
+use Rattle.ucl_steps.proofs.Common.{and_parts, leb-true, length_push, get_or_append_left, get_or_push, length-take-le, take-append_seam, take-length, MatchRecord, EventCall, Refusal, Stale}
+use Rattle.ucl_steps.proofs.Common.{refusal_of, after, word_of, record_at, Entry, word_at, version_of, match_after, board_of, MayFollow, sequential_reply, attempted, reading_of, at_end, same_number}
+use Rattle.ucl_steps.proofs.Common.{may_attempt, begins_same, Caller, Reporter, Call, Event, Reading, Step, Begin, Look, Swap, First, Second, End, CallRecord, Accepted, Refused, Copied, Holding}
+use Rattle.ucl_steps.proofs.Common.{Collecting, Checking, GoesOn, Answers, by_rules, may_begin, after_begin, after_step_holding, caller_of, Holds, Idle, Wanting, Within, Answered, MachineState}
+use Rattle.ucl_steps.proofs.Common.{held_by, with_held, with_reply, after_outcome, stored, state_after_first, after_reply}
 use Rattle.ucl_steps.proofs.Histories.{number_expected, is_stale, legal_snoc, legal_beginning, read_back, number_next, squeezed, board_at, board_get, board_next, board_from, version_is}
 use Rattle.ucl_steps.proofs.Explanations.{IsExplained, IsSequential}
 use Rattle.ucl_steps.proofs.Turns.{IsInner}
-use Rattle.ucl_steps.proofs.CallFacts.{Asks, Offers, Loaded, AreAt, Collects, Checks, in_call}
+use Rattle.ucl_steps.proofs.CallFacts.{Asks, Offers, Loaded, AreAt, Checks, Sees, in_call}
 use Rattle.ucl_steps.proofs.EntryMakers.{once_refused, once_accepted, made_within}
 use Rattle.ucl_steps.proofs.Invariant.{time_of, Keeps, moved, stayed, ended, begun}
 
 -- an entry of this event
 abbrev entered : EventCall → ℕ → Entry
 entered e r = record { game = e.game; reporter = r; kind = e.kind }
-
-unended_none : (o : Option ℕ) (P : ℕ → Type 0) → o ≡ None → IfSome o P
-unended_none o P none = subst (λ (z : Option ℕ). IfSome z P) (sym none) tt
 
 same_reporter : (n m : ℕ) → Reporter n ≡ Reporter m → n ≡ m
 same_reporter n m e = cc
@@ -50,11 +46,9 @@ module _ (steps : List Step) (w : MachineState) (kept : Keeps steps w) where
       let m = kept.knows c x k holds within in
       let h = w.history in
       let f = with_reply now (Refused refusal) in
-      let base : sequential_reply (take now h) e ≡ Err refusal = ap (λ (z : List Entry). sequential_reply z e) (take-length h) ∙ ap (answer (match_after h e.game).number) refuses in
-      let is : IsSequential h now m.call.caller m.call.call (Refused refusal) =
-      subst (λ (z : Caller). IsSequential h now z m.call.call (Refused refusal)) (sym asks.caller)
-      (subst (λ (z : Call). IsSequential h now (Reporter asks.reporter) z (Refused refusal)) (sym asks.call) base) in
-      let told : IsExplained h (f m.call) (Some now) (Some (Refused refusal)) = ((begun_before k m.call m.at, le_refl now, unended_none m.call.ended (λ z. now ≤ z) m.unended), is) in
+      let base : sequential_reply (take now h) e ≡ Err refusal = search (arith, take-length, refuses) in
+      let early = begun_before k m.call m.at in
+      let told : IsExplained h (f m.call) (Some now) (Some (Refused refusal)) = search (arith, early, le_refl, base, m.unended, asks) in
       moved steps w kept c x holds k within s (Answered k) h w.words f inner (begins_same h) kept.legal kept.words (λ a. refl)
       (once_refused w.calls k f m.call m.at asks.reply h refl kept.once) (told, refl) refl
 
@@ -69,14 +63,8 @@ module _ (steps : List Step) (w : MachineState) (kept : Keeps steps w) where
       let word = word_at w.words e.game in
       let new = word_of (after (record_at word) n e.kind) in
       let r_is : m.sees.reporter ≡ n = same_reporter m.sees.reporter n (sym m.sees.caller ∙ m.caller) in
-      let offers : Offers w.history m.call e word new = record {
-        asks = m.sees;
-        place = now;
-        within = le_refl now;
-        found = word_now e.game m.sees.game ∙ ap (λ (z : List Entry). word_of (match_after z e.game)) (sym (take-length w.history));
-        accepted = is;
-        next = ap (λ (z : ℕ). word_of (after (record_at word) z e.kind)) (sym r_is);
-      } in
+      let offers : Offers w.history m.call e word new =
+      record { asks = m.sees; place = now; within = le_refl now; found = search (arith, word_now e.game m.sees.game, take-length); accepted = is; next = search (arith, r_is) } in
       stayed steps w kept (Reporter n) (Wanting k e) holds k refl (Look (Reporter n)) (Within k (Holding e word new)) tt offers refl
 
   module _ (n k : ℕ) (e : EventCall) (old new : ℕ) (holds : held_by w.callers (Reporter n) ≡ Some (Within k (Holding e old new))) where
@@ -87,12 +75,10 @@ module _ (steps : List Step) (w : MachineState) (kept : Keeps steps w) where
         let h = w.history in
         let g = e.game in
         let game = o.asks.game in
-        let stale : e.expected ≡ (match_after h g).number → ⊥ = λ is.
-        let then : record_at old ≡ match_after (take o.place h) g = ap record_at o.found ∙ read_back (take o.place h) g (legal_beginning h o.place kept.legal) in
-        let number : e.expected ≡ (match_after (take o.place h) g).number = number_expected (record_at old) e.expected e.kind o.accepted ∙ ap (λ (z : MatchRecord). z.number) then in
-        let at_now : (match_after (take now h) g).number ≡ (match_after h g).number = ap (λ (z : List Entry). (match_after z g).number) (take-length h) in
-        let same = (same_number h o.place now g (sym number ∙ (is ∙ sym at_now))).1 in
-        eqb-false (word_at w.words g) old differs (word_now g game ∙ (ap (λ (z : List Entry). word_of (match_after z g)) (sym (take-length h)) ∙ (sym same ∙ sym o.found))) in
+        let then = read_back (take o.place h) g (legal_beginning h o.place kept.legal) in
+        let number = number_expected (record_at old) e.expected e.kind o.accepted in
+        let other = eqb-false (word_at w.words g) old differs in
+        let stale : e.expected ≡ (match_after h g).number → ⊥ = λ is. search (arith, then, number, other, take-length, same_number h o.place now g, word_now g game, o.found) in
         search (arith, refused_kept, is_stale, record_now, o.asks)
 
     module _ (same : (word_at w.words e.game == old) ≡ true) where
@@ -129,15 +115,11 @@ module _ (steps : List Step) (w : MachineState) (kept : Keeps steps w) where
           ap (λ (z : List ℕ). slice_set z (g - 1) new) kept.words ∙ (ap (slice_set (board_of h) (g - 1)) new_is ∙ sym (board_next h (entered e n) kept.legal may_follow)) in
           let reply = Accepted (record { number = (record_at new).number }) in
           let f = with_reply now reply in
-          let base : IsSequential h' now (Reporter n) (Event e) reply = (
-            ap (λ (z : List Entry). sequential_reply z e) (take-append_seam h (entered e n ∷ []))
-                ∙ (ap (answer (match_after h g).number) accepted_now ∙ ap (λ (z : ℕ). Ok (record { number = z })) (sym new_number)),
-            at_end h (entered e n),
-          ) in
-          let is : IsSequential h' now m.call.caller m.call.call reply =
-          subst (λ (z : Caller). IsSequential h' now z m.call.call reply) (sym m.caller) (subst (λ (z : Call). IsSequential h' now (Reporter n) z reply) (sym o.asks.call) base) in
+          let base : IsSequential h' now (Reporter n) (Event e) reply =
+          search (arith, take-append_seam, accepted_now, new_number, at_end) in
           let long = length_push h (entered e n) in
-          let told : IsExplained h' (f m.call) (Some now) (Some reply) = ((begun_before k m.call m.at, omega arith, unended_none m.call.ended (λ z. now < z) m.unended), is) in
+          let early = begun_before k m.call m.at in
+          let told : IsExplained h' (f m.call) (Some now) (Some reply) = search (arith, early, long, base, m.unended, m.caller, o.asks) in
           moved steps w kept (Reporter n) (Within k (Holding e old new)) holds k refl (Swap (Reporter n)) (Answered k) h' (slice_set w.words (g - 1) new) f tt (entered e n ∷ [], refl) legal words
           (λ a. refl)
           (once_accepted w.calls k f m.call m.at o.asks.reply h (entered e n) refl refl (made_within h w.calls kept.explained) kept.once) (told, refl) refl
@@ -161,31 +143,20 @@ module _ (steps : List Step) (w : MachineState) (kept : Keeps steps w) where
       → (length (loaded ++ slice_index w.words (length loaded) ∷ []) == 12) ≡ b
       → Keeps (steps ++ First c ∷ []) (with_held
       (Within k (cond b (Checking (loaded ++ slice_index w.words (length loaded) ∷ []) 0 now) (Collecting (loaded ++ slice_index w.words (length loaded) ∷ [])))) c w)
-  first_kept c k loaded holds true is =
+  first_kept c k loaded holds b is =
       let m = kept.knows c (Within k (Collecting loaded)) k holds refl in
-      let o = m.sees in
-      let more = loaded ++ slice_index w.words (length loaded) ∷ [] in
-      let checks : Checks w.history m.call more 0 now = search (arith, eqb-true, begun_before, le_refl, loaded_more) in
-      stayed steps w kept c (Within k (Collecting loaded)) holds k refl (First c) (Within k (Checking more 0 now)) tt checks refl
-  first_kept c k loaded holds false is =
-      let m = kept.knows c (Within k (Collecting loaded)) k holds refl in
-      let o = m.sees in
       let more = loaded ++ slice_index w.words (length loaded) ∷ [] in
       let long = length_push loaded (slice_index w.words (length loaded)) in
-      let few = o.few in
-      let not-all = eqb-false (length more) 12 is in
-      let collects : Collects w.history m.call more = record { reads = o.reads; few = below (length loaded) (length more) few long not-all; loaded = loaded_more loaded o.few o.loaded } in
-      stayed steps w kept c (Within k (Collecting loaded)) holds k refl (First c) (Within k (Collecting more)) tt collects refl
-    where
-      below : (n m : ℕ) → n < 12 → m ≡ n + 1 → (m ≡ 12 → ⊥) → m < 12
-      below n m few is not = omega arith
+      let all = loaded_more loaded m.sees.few m.sees.loaded in
+      let early = begun_before k m.call m.at in
+      let sees : Sees w.history m.call (Within k (cond b (Checking more 0 now) (Collecting more))) = search (arith, eqb-true, eqb-false, m.sees, long, all, early) in
+      stayed steps w kept c (Within k (Collecting loaded)) holds k refl (First c) (Within k (cond b (Checking more 0 now) (Collecting more))) tt sees refl
 
   module _ (c : Caller) (k : ℕ) (words : List ℕ) (checked point : ℕ) (holds : held_by w.callers c ≡ Some (Within k (Checking words checked point))) where
     start_again : Keeps (steps ++ Second c ∷ []) (with_held (Within k (Collecting [])) c w)
     start_again =
         let m = kept.knows c (Within k (Checking words checked point)) k holds refl in
-        let collects : Collects w.history m.call [] = record { reads = m.sees.reads; few = omega arith; loaded = λ i none. absurd (omega arith) } in
-        stayed steps w kept c (Within k (Checking words checked point)) holds k refl (Second c) (Within k (Collecting [])) tt collects refl
+        stayed steps w kept c (Within k (Checking words checked point)) holds k refl (Second c) (Within k (Collecting [])) tt (search (arith, m.sees)) refl
 
     pub one_more : (slice_index w.words checked == slice_index words checked) ≡ true → AreAt w.history words (checked + 1) point
     one_more same i less =
@@ -202,14 +173,8 @@ module _ (steps : List Step) (w : MachineState) (kept : Keeps steps w) where
         → Keeps (steps ++ Second c ∷ []) (with_held (Within k (Checking words (checked + 1) point)) c w)
     goes_on same other =
         let m = kept.knows c (Within k (Checking words checked point)) k holds refl in
-        let o = m.sees in
-        let few = o.few in
-        let not-last = eqb-false checked 11 other in
-        let checks : Checks w.history m.call words (checked + 1) point = search (arith, below, one_more) in
+        let checks : Checks w.history m.call words (checked + 1) point = search (arith, eqb-false checked 11 other, m.sees, one_more same) in
         stayed steps w kept c (Within k (Checking words checked point)) holds k refl (Second c) (Within k (Checking words (checked + 1) point)) tt checks refl
-      where
-        below : (n : ℕ) → n < 12 → (n ≡ 11 → ⊥) → n + 1 < 12
-        below n few not = omega arith
 
     module _ (same : (slice_index w.words checked == slice_index words checked) ≡ true) (last : (checked == 11) ≡ true) where
       copied_board : words ≡ board_of (take point w.history)
@@ -232,8 +197,7 @@ module _ (steps : List Step) (w : MachineState) (kept : Keeps steps w) where
           let h = w.history in
           let r = Copied (reading_of words) in
           let f = with_reply point r in
-          let is : IsSequential h point m.call.caller m.call.call r = search (arith, sequential_reading, copied_board, copied_version) in
-          let told : IsExplained h (f m.call) (Some point) (Some r) = ((o.early, o.late, unended_none m.call.ended (λ z. point ≤ z) m.unended), is) in
+          let told : IsExplained h (f m.call) (Some point) (Some r) = search (arith, o.early, o.late, m.unended, sequential_reading, copied_board, copied_version) in
           moved steps w kept c (Within k (Checking words checked point)) holds k refl (Second c) (Answered k) h w.words f tt (begins_same h) kept.legal kept.words (λ a. refl)
           (once_refused w.calls k f m.call m.at o.reads.reply h refl kept.once) (told, refl) refl
 
@@ -242,35 +206,17 @@ module _ (steps : List Step) (w : MachineState) (kept : Keeps steps w) where
     second_kept a b same last = search (arith, copied, goes_on, start_again)
 
   begin_kept : (c : Caller) (call : Call) → held_by w.callers c ≡ Some Idle → may_begin c call ≡ true → Keeps (steps ++ Begin c call ∷ []) (after_begin c call w)
-  begin_kept (Reporter zero) (Event e) holds may = absurd (none-some Idle holds)
   begin_kept (Reporter (suc n)) (Event e) holds may =
-      let a = and_parts (nat_le 1 e.game) (nat_le e.game 12 && nat_le (suc n) 255) may in
-      let b = and_parts (nat_le e.game 12) (nat_le (suc n) 255) a.1 in
-      begun steps w kept (Reporter (suc n)) Idle holds refl (Event e) (Wanting (length w.calls) e)
-      (record { call = refl; reporter = suc n; caller = refl; low = omega arith; high = leb-true (suc n) 255 b.1; game = (leb-true 1 e.game a.0, leb-true e.game 12 b.0); point = refl; reply = refl })
-      refl
-  begin_kept (Reader n) (Event e) holds may = absurd (false≢true may)
-  begin_kept (Reporter n) Reading holds may =
-      begun steps w kept (Reporter n) Idle holds refl Reading (Within (length w.calls) (Collecting []))
-      (record { reads = record { call = refl; point = refl; reply = refl }; few = omega arith; loaded = λ i none. absurd (omega arith) }) refl
-  begin_kept (Reader n) Reading holds may =
-      begun steps w kept (Reader n) Idle holds refl Reading (Within (length w.calls) (Collecting []))
-      (record { reads = record { call = refl; point = refl; reply = refl }; few = omega arith; loaded = λ i none. absurd (omega arith) }) refl
+      begun steps w kept (Reporter (suc n)) Idle holds refl (Event e) (Wanting (length w.calls) e) (search (arith, and_parts, leb-true)) refl
+  begin_kept c (Event e) holds may = search (arith, none-some, false≢true)
+  begin_kept c Reading holds may = begun steps w kept c Idle holds refl Reading (Within (length w.calls) (Collecting [])) (search arith) refl
 
   pub step_kept : (s : Step) (o : Option Holds) (w' : MachineState) → held_by w.callers (caller_of s) ≡ o → after_step_holding s o w ≡ Some w' → Keeps (steps ++ s ∷ []) w'
-  step_kept (Begin c call) (Some Idle) w' holds done =
-      let t = cond_some (may_begin c call) (after_begin c call w) w' done in
-      subst (Keeps (steps ++ Begin c call ∷ [])) t.1 (begin_kept c call holds t.0)
-  step_kept (Look (Reporter n)) (Some (Wanting k e)) w' holds done =
-      subst (Keeps (steps ++ Look (Reporter n) ∷ [])) (same_Some (state_after_look n k e w) w' done) (look_kept n k e holds (refusal_of (record_at (word_at w.words e.game)) e.expected e.kind) refl)
-  step_kept (Swap (Reporter n)) (Some (Within k (Holding e old new))) w' holds done =
-      subst (Keeps (steps ++ Swap (Reporter n) ∷ [])) (same_Some (state_after_swap n k e old new w) w' done) (swap_kept n k e old new holds (word_at w.words e.game == old) refl)
+  step_kept (Begin c call) (Some Idle) w' holds done = search (arith, cond_some (may_begin c call) (after_begin c call w) w' done, begin_kept c call holds)
+  step_kept (Look (Reporter n)) (Some (Wanting k e)) w' holds done = search (arith, same_Some, look_kept n k e holds)
+  step_kept (Swap (Reporter n)) (Some (Within k (Holding e old new))) w' holds done = search (arith, same_Some, swap_kept n k e old new holds)
   step_kept (First c) (Some (Within k (Collecting loaded))) w' holds done =
       subst (Keeps (steps ++ First c ∷ [])) (same_Some (state_after_first c k loaded w) w' done) (first_kept c k loaded holds (length (loaded ++ slice_index w.words (length loaded) ∷ []) == 12) refl)
-  step_kept (Second c) (Some (Within k (Checking words checked point))) w' holds done = search (
-    arith,
-    same_Some (state_after_second c k words checked point w) w' done,
-    second_kept c k words checked point holds (slice_index w.words checked == slice_index words checked) (checked == 11) refl refl,
-  )
+  step_kept (Second c) (Some (Within k (Checking words checked point))) w' holds done = search (arith, same_Some, second_kept c k words checked point holds)
   step_kept (End c) (Some (Answered k)) w' holds done = search (arith, ended steps w kept c (Answered k) holds k refl (kept.knows c (Answered k) k holds refl).sees, same_Some)
   step_kept s o w' holds done = absurd (none-some w' done)

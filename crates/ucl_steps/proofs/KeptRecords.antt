@@ -1,16 +1,14 @@
 -- The calls of a pass that has no call under way are just its finished calls: so a later run keeps what an earlier one has of it.
-use Rattle.ucl_steps.proofs.Common.{◌≡◌, ℕ, zero, suc, ◌+◌, ◌≤◌, Bool, List, ◌∷◌, ◌++◌, length, drop, map, Some, None, refl, sym, ap, ◌∙◌, subst, arith, append-nil, length-append, [], slice_get}
-use Rattle.ucl_steps.proofs.Common.{filter, none-some, same_Some, map-append, length-map, filter-append, some, some-injective, IsPrefix, get_elem?, CallRecord, caller_and_call, MachineState}
+use Rattle.ucl_steps.proofs.Common.{◌≡◌, ℕ, zero, suc, ◌+◌, ◌≤◌, Bool, List, ◌∷◌, ◌++◌, length, drop, map, Some, None, refl, sym, ap, ◌∙◌, arith, append-nil, length-append, [], slice_get}
+use Rattle.ucl_steps.proofs.Common.{filter, none-some, map-append, length-map, filter-append, some, some-injective, IsPrefix, get_elem?, CallRecord, caller_and_call, MachineState}
 use Rattle.ucl_steps.proofs.Common.{Nothing, Answer, caller_for, is_of, calls_by, AreRecordsOf, FitsRun, Actor, HasGoneOn, HaveGoneOn, records_by}
 use Rattle.std.proofs.lemmas.List.{nil_from_length}
 
 -- what stands before a place, and at it
 drop_split : {X : Type 0} (xs : List X) (low k : ℕ) (x : X) → low ≤ k → slice_get xs k ≡ Some x → (front : List X) × (drop low xs ≡ front ++ x ∷ drop (suc k) xs)
-drop_split [] low k x le at = absurd (none-some x at)
-drop_split {X} (y ∷ xs) zero zero x le at = ([], ap (λ (z : X). z ∷ xs) (same_Some y x at))
 drop_split {X} (y ∷ xs) zero (suc k) x le at = let t = drop_split xs 0 k x (omega arith) at in (y ∷ t.0, ap (λ (l : List X). y ∷ l) t.1)
-drop_split (y ∷ xs) (suc low) zero x le at = absurd (omega arith)
 drop_split (y ∷ xs) (suc low) (suc k) x le at = drop_split xs low k x (omega arith) at
+drop_split xs low k x le at = search (arith, none-some)
 
 module _ (seat number : ℕ) where
   abbrev pub own : CallRecord → Bool
@@ -67,10 +65,8 @@ pub kept_records : (actors later : List Actor) (last last' : MachineState) → H
     → ((seat : ℕ) (a : Actor) → get_elem? later seat ≡ some a → FitsRun last' seat a.number a.doing × (a.doing.held ≡ Nothing))
     → (seat : ℕ) (a b : Actor) → get_elem? actors seat ≡ some a → get_elem? later seat ≡ some b → IsPrefix (records_by seat a.number last) (records_by seat b.number last')
 kept_records actors later last last' on each each' seat a b at bt =
-    let goes = on seat a at in
-    let gone : HasGoneOn a b = subst (HasGoneOn a) (some-injective goes.0 b (sym goes.1 ∙ bt)) goes.2 in
     let f = each seat a at in
     let g = each' seat b bt in
-    let first = records_are seat a.number last a f.0 f.1 ∙ same_callers seat a b gone last.calls 0 f.0.high a.doing.calls f.0.recorded in
-    let all = records_are seat b.number last' b g.0 g.1 in
-    search (arith, some-injective, records_are, same_callers, map-append)
+    let was = records_are seat a.number last a f.0 f.1 in
+    let is = records_are seat b.number last' b g.0 g.1 in
+    search (arith, some-injective (on seat a at).0 b (sym (on seat a at).1 ∙ bt), was, is, same_callers, map-append)

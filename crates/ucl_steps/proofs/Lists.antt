@@ -12,9 +12,8 @@ module _ {A : Type 0} where
   get_some (x ∷ xs) (suc k) l = get_some xs k (omega arith)
 
   pub take_one : (xs : List A) (k : ℕ) (x : A) → slice_get xs k ≡ Some x → take (suc k) xs ≡ take k xs ++ x ∷ []
-  take_one [] k x e = absurd (none-some x e)
-  take_one (y ∷ xs) zero x e = ap (λ (z : A). z ∷ []) (same_Some y x e)
   take_one (y ∷ xs) (suc k) x e = ap (λ (z : List A). y ∷ z) (take_one xs k x e)
+  take_one xs k x e = search (arith, none-some, same_Some)
 
   pub take_split : (xs : List A) (a b : ℕ) → a ≤ b → take b xs ≡ take a xs ++ drop a (take b xs)
   take_split xs a b l = sym (take-append-drop a (take b xs)) ∙ ap (λ (z : List A). z ++ drop a (take b xs)) (take-take a b xs l)

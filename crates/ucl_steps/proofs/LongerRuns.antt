@@ -1,16 +1,17 @@
 -- A run is told by the log and by what the actors have asked: so runs of later states are longer runs.
-use Rattle.ucl_steps.proofs.Common.{◌≡◌, ◌≢◌, ◌⊎◌, inl, inr, ℕ, zero, suc, ◌+◌, Bool, true, false, cond, List, ◌∷◌, ◌++◌, length, map, Option, Some, None, refl, sym, ap, [], ◌∙◌, subst, arith}
+use Rattle.ucl_steps.proofs.Common.{calls_asked, ◌≡◌, ◌≢◌, ◌⊎◌, inl, inr, ℕ, suc, ◌+◌, Bool, true, false, cond, List, ◌∷◌, ◌++◌, length, map, Option, Some, None, refl, sym, ap, [], ◌∙◌, subst, arith}
 use Rattle.ucl_steps.proofs.Common.{append_assoc, eq-eqb, slice_get, none-some, same_Some, option_and_then_some, le-leb, flat_map-append, some, some-injective, IsPrefix, get_elem?, EventCall}
 use Rattle.ucl_steps.proofs.Common.{IsReporter, word_at, AccessKind, Access, Logged, Log, access_list, slice_index, Cast, Caller, Reporter, Call, Reading, Step, Begin, Look, Swap, First, Second}
 use Rattle.ucl_steps.proofs.Common.{End, Held, Holding, Collecting, Checking, Outcome, GoesOn, Answers, looked, swapped, loaded, compared, Holds, Idle, Wanting, Within, Answered, Callers}
 use Rattle.ucl_steps.proofs.Common.{MachineState, initial_state, held_by, set_held, may_begin, held_at_begin, after_begin, after_end, after_outcome, stored, state_after_look, state_after_swap}
 use Rattle.ucl_steps.proofs.Common.{state_after_first, state_after_second, after_step_holding, caller_of, after_step, after_steps, step_of, access_in, accesses_holding, accesses_of_step, begun_in}
-use Rattle.ucl_steps.proofs.Common.{cast_for, caller_for, IsOf, is_of, call_of, FitsHeld, calls_told, calls_by, left_by, FitsRun, Move, end_by, steps_of_move, steps_of_moves, Actor, IsTakenBy}
+use Rattle.ucl_steps.proofs.Common.{cast_for, begin_by, caller_for, IsOf, is_of, call_of, FitsHeld, calls_told, calls_by, left_by, FitsRun, Move, end_by, steps_of_move, steps_of_moves, Actor, IsTakenBy}
 use Rattle.ucl_steps.proofs.Common.{accesses_of_log, AreStepsOf, IsRunOfLog, HasGoneOn, HaveGoneOn}
 use Rattle.std.proofs.Common.{replicate}
 use Rattle.ucl_board.specs.Log as kinds
 use Rattle.ucl_steps.proofs.Callers.{same_caller, held_here, held_else}
 use Rattle.ucl_steps.proofs.Runs.{linearizable_run}
+use Rattle.ucl_steps.proofs.PassSteps.{move_of}
 use Rattle.ucl_steps.proofs.OneStep.{and_true, caller_of_kind, calls_append, calls_next}
 
 -- one step of two machines, which may differ in how many readers they have
@@ -95,9 +96,8 @@ step_holds : (s : Step) (a a' : MachineState) → after_step a s ≡ Some a' →
 step_holds s a a' e = let p = stepped s a a' e in (p.then, ap (λ (cs : Callers). held_by cs (caller_of s)) p.callers ∙ held_here a.callers (caller_of s) p.holds p.then p.held)
 
 idle_only : (n k : ℕ) (x : Holds) → slice_get (replicate n Idle) k ≡ Some x → x ≡ Idle
-idle_only zero k x e = absurd (none-some x e)
-idle_only (suc n) zero x e = sym (same_Some Idle x e)
 idle_only (suc n) (suc k) x e = idle_only n k x e
+idle_only n k x e = search (arith, none-some, same_Some)
 
 held_at_start : (cast : Cast) (c : Caller) (x : Holds) → held_by (initial_state cast).callers c ≡ Some x → x ≡ Idle
 held_at_start cast c x e = search (arith, none-some, idle_only)
@@ -111,9 +111,6 @@ AfterBegin c (Some call) a w = after_step a (Begin c call) ≡ Some w
 abbrev AfterEnd : Caller → Bool → MachineState → MachineState → Type 0
 AfterEnd c false v z = v ≡ z
 AfterEnd c true v z = after_step v (End c) ≡ Some z
-
-abbrev move_of : Caller → Option Call → AccessKind → Bool → Move
-move_of c begins kind ends = record { caller = c; begins = begins; kind = kind; ends = ends }
 
 record Moved (m : Move) (a z : MachineState) : Type 0 where
   begun : MachineState
@@ -131,76 +128,38 @@ record Moving (m : Move) (rest : List Step) (a last : MachineState) : Type 0 whe
   kind : access.kind ≡ m.kind
   left : left_by (steps_of_move m ++ rest) (Some a) ≡ (m.caller, access) ∷ left_by rest (Some after)
 
-look_left : (c : Caller) (o : Option Holds) (a v : MachineState) → after_step_holding (Look c) o a ≡ Some v → (m : Access) × (accesses_holding (Look c) o a ≡ m ∷ []) × (m.kind ≡ kinds.Look)
-look_left (Reporter r) (Some (Wanting call e)) a v is = (access_in a kinds.Look e.game, refl, refl)
-look_left c o a v is = absurd (none-some v is)
-
-swap_left : (c : Caller) (o : Option Holds) (a v : MachineState) → after_step_holding (Swap c) o a ≡ Some v → (m : Access) × (accesses_holding (Swap c) o a ≡ m ∷ []) × (m.kind ≡ kinds.Swap)
-swap_left (Reporter r) (Some (Within call (Holding e old new))) a v is = (access_in a kinds.Swap e.game, refl, refl)
-swap_left c o a v is = absurd (none-some v is)
-
-first_left : (c : Caller) (o : Option Holds) (a v : MachineState) → after_step_holding (First c) o a ≡ Some v → (m : Access) × (accesses_holding (First c) o a ≡ m ∷ []) × (m.kind ≡ kinds.First)
-first_left c (Some (Within call (Collecting words))) a v is = (access_in a kinds.First (length words + 1), refl, refl)
-first_left c o a v is = absurd (none-some v is)
-
-second_left : (c : Caller) (o : Option Holds) (a v : MachineState) → after_step_holding (Second c) o a ≡ Some v → (m : Access) × (accesses_holding (Second c) o a ≡ m ∷ []) × (m.kind ≡ kinds.Second)
-second_left c (Some (Within call (Checking words checked point))) a v is = (access_in a kinds.Second (checked + 1), refl, refl)
-second_left c o a v is = absurd (none-some v is)
+step_left_by : (c : Caller) (kind : AccessKind) (o : Option Holds) (a v : MachineState) → after_step_holding (step_of c kind) o a ≡ Some v
+    → (m : Access) × (accesses_holding (step_of c kind) o a ≡ m ∷ []) × (m.kind ≡ kind)
+step_left_by (Reporter r) kinds.Look (Some (Wanting call e)) a v is = (access_in a kinds.Look e.game, refl, refl)
+step_left_by (Reporter r) kinds.Swap (Some (Within call (Holding e old new))) a v is = (access_in a kinds.Swap e.game, refl, refl)
+step_left_by c kinds.First (Some (Within call (Collecting words))) a v is = (access_in a kinds.First (length words + 1), refl, refl)
+step_left_by c kinds.Second (Some (Within call (Checking words checked point))) a v is = (access_in a kinds.Second (checked + 1), refl, refl)
+step_left_by c kind o a v is = absurd (none-some v is)
 
 step_left : (c : Caller) (kind : AccessKind) (a v : MachineState) → after_step a (step_of c kind) ≡ Some v → (m : Access) × (accesses_of_step (step_of c kind) a ≡ m ∷ []) × (m.kind ≡ kind)
-step_left c kind a v is = search (arith, look_left, swap_left, first_left, second_left)
+step_left c kind a v is = search (arith, step_left_by)
 
--- the end of a move, and the steps after it
-record Ending (c : Caller) (ends : Bool) (rest : List Step) (v last : MachineState) : Type 0 where
-  after : MachineState
-  is : AfterEnd c ends v after
-  then : after_steps rest after ≡ Some last
-  left : left_by (end_by c ends ++ rest) (Some v) ≡ left_by rest (Some after)
+-- the beginning of a move, or its end, and the steps after it
+beginning : (c : Caller) (o : Option Call) (rest : List Step) (a last : MachineState) → after_steps (begin_by c o ++ rest) a ≡ Some last
+    → (w : MachineState) × AfterBegin c o a w × (after_steps rest w ≡ Some last) × (left_by (begin_by c o ++ rest) (Some a) ≡ left_by rest (Some w))
+beginning c o rest a last e = search (arith, option_and_then_some)
 
-ending : (c : Caller) (ends : Bool) (rest : List Step) (v last : MachineState) → after_steps (end_by c ends ++ rest) v ≡ Some last → Ending c ends rest v last
+ending : (c : Caller) (ends : Bool) (rest : List Step) (v last : MachineState) → after_steps (end_by c ends ++ rest) v ≡ Some last
+    → (z : MachineState) × AfterEnd c ends v z × (after_steps rest z ≡ Some last) × (left_by (end_by c ends ++ rest) (Some v) ≡ left_by rest (Some z))
 ending c ends rest v last e = search (arith, option_and_then_some)
 
--- the access and the end of a move
-record Accessing (c : Caller) (kind : AccessKind) (ends : Bool) (rest : List Step) (w last : MachineState) : Type 0 where
-  made : MachineState
-  makes : after_step w (step_of c kind) ≡ Some made
-  ended : Ending c ends rest made last
-  access : Access
-  kind_is : access.kind ≡ kind
-  left : left_by (step_of c kind ∷ end_by c ends ++ rest) (Some w) ≡ (c, access) ∷ left_by rest (Some ended.after)
-
-accessing : (c : Caller) (kind : AccessKind) (ends : Bool) (rest : List Step) (w last : MachineState) → after_steps (step_of c kind ∷ end_by c ends ++ rest) w ≡ Some last
-    → Accessing c kind ends rest w last
-accessing c kind ends rest w last e =
-    option_and_then_some (after_steps (end_by c ends ++ rest)) (after_step w (step_of c kind)) last e (λ v is then.
-    let t = ending c ends rest v last then in
-    let l = step_left c kind w v is in
-    record {
-      made = v;
-      makes = is;
-      ended = t;
-      access = l.0;
-      kind_is = l.2;
-      left = search (arith, caller_of, step_of, caller_of_kind, left_by, end_by);
-    })
-
-moving_by : (c : Caller) (begins : Option Call) (kind : AccessKind) (ends : Bool) (rest : List Step) (a last : MachineState)
-    → after_steps (steps_of_move (move_of c begins kind ends) ++ rest) a ≡ Some last
-    → Moving (move_of c begins kind ends) rest a last
-moving_by c None kind ends rest a last e = search (arith, accessing c kind ends rest a last e)
-moving_by c (Some call) kind ends rest a last e = option_and_then_some (after_steps (step_of c kind ∷ end_by c ends ++ rest)) (after_step a (Begin c call)) last e (λ w is then.
-    let t = accessing c kind ends rest w last then in
-    record {
-      after = t.ended.after;
-      moved = record { begun = w; made = t.made; begins = is; makes = t.makes; ends = t.ended.is };
-      then = t.ended.then;
-      access = t.access;
-      kind = t.kind_is;
-      left = ap (left_by (step_of c kind ∷ end_by c ends ++ rest)) is ∙ t.left;
-    })
-
 moving : (m : Move) (rest : List Step) (a last : MachineState) → after_steps (steps_of_move m ++ rest) a ≡ Some last → Moving m rest a last
-moving m rest a last e = moving_by m.caller m.begins m.kind m.ends rest a last e
+moving m rest a last e =
+    let c = m.caller in
+    let s = step_of c m.kind in
+    let one : steps_of_move m ++ rest ≡ begin_by c m.begins ++ (s ∷ end_by c m.ends ++ rest) = append_assoc (begin_by c m.begins) (s ∷ end_by c m.ends) rest in
+    let b = beginning c m.begins (s ∷ end_by c m.ends ++ rest) a last (ap (λ (l : List Step). after_steps l a) (sym one) ∙ e) in
+    option_and_then_some (after_steps (end_by c m.ends ++ rest)) (after_step b.0 s) last b.2 (λ v is then.
+    let t = ending c m.ends rest v last then in
+    let l = step_left c m.kind b.0 v is in
+    let moved : Moved m a t.0 = record { begun = b.0; made = v; begins = b.1; makes = is; ends = t.1 } in
+    let left : left_by (steps_of_move m ++ rest) (Some a) ≡ (c, l.0) ∷ left_by rest (Some t.0) = ap (λ (l : List Step). left_by l (Some a)) one ∙ (b.3 ∙ search (arith, caller_of_kind)) in
+    record { after = t.0; moved = moved; then = t.2; access = l.0; kind = l.2; left = left })
 
 -- who can take no step
 
@@ -215,13 +174,9 @@ answered_takes : (c : Caller) (kind : AccessKind) (k : ℕ) (a : MachineState) �
 answered_takes c kind k a = search arith
 
 -- a call begins where its caller is idle, and then it holds what its call begins with
-begin_holds : (c : Caller) (call : Call) (a w : MachineState) (o : Option Holds) → held_by a.callers c ≡ o → after_step_holding (Begin c call) o a ≡ Some w
-    → (o ≡ Some Idle) × (held_by w.callers c ≡ Some (held_at_begin call (length a.calls)))
-begin_holds c call a w o held e = search (arith, none-some, same_Some, held_here)
-
 begin_made : (c : Caller) (call : Call) (a w : MachineState) → after_step a (Begin c call) ≡ Some w
     → (held_by a.callers c ≡ Some Idle) × (held_by w.callers c ≡ Some (held_at_begin call (length a.calls)))
-begin_made c call a w e = begin_holds c call a w (held_by a.callers c) refl e
+begin_made c call a w e = search (arith, none-some, same_Some, held_here)
 
 end_holds : (c : Caller) (v z : MachineState) (o : Option Holds) → after_step_holding (End c) o v ≡ Some z → (k : ℕ) × (o ≡ Some (Answered k))
 end_holds c v z o e = search (arith, none-some)
@@ -249,10 +204,8 @@ pub answered_stays : (ms : List Move) (a last : MachineState) (c : Caller) (k : 
 answered_stays [] a last c k held e = cc
 answered_stays (m ∷ ms) a last c k held e =
     let t = moving m (steps_of_moves ms) a last e in
-    elim (same_caller c m.caller) [
-      | inl is ↦ absurd (none_answered m.caller m.begins m.kind a t.moved.begun t.moved.made k t.moved.begins t.moved.makes (ap (held_by a.callers) (sym is) ∙ held))
-      | inr not ↦ answered_stays ms t.after last c k (moved_keeps m a t.after c t.moved not ∙ held) t.then
-    ]
+    let none = none_answered m.caller m.begins m.kind a t.moved.begun t.moved.made k t.moved.begins t.moved.makes in
+    search (arith, same_caller c m.caller, none, moved_keeps m a t.after c t.moved, answered_stays ms t.after last c k)
 
 -- and no actor's call stays so
 pub answered_ends : (state : MachineState) (seat number begun : ℕ) (held : Held) (high : ℕ) (c : Caller) (k : ℕ) → IsOf seat number c → FitsHeld state seat number begun held high
@@ -302,11 +255,12 @@ module _ (c : Caller) (kind : AccessKind) (o p : Option Call) (x y : Bool) (a b 
   same_end : x ≡ y
   same_end = search (arith, step_holds (step_of c kind) t.begun t.made t.makes, step_holds (step_of c kind) u.begun u.made u.makes, same_ends, made_alike, caller_of_kind)
 
-  moved_alike : Alike za zb
-  moved_alike = end_alike c x t.made u.made za zb made_alike t.ends (subst (λ (q : Bool). AfterEnd c q u.made zb) (sym same_end) u.ends)
-
-  same_move : move_of c o kind x ≡ move_of c p kind y
-  same_move = λ i. record { caller = c; begins = same_begin i; kind = kind; ends = same_end i }
+  all_same : (o ≡ p) × Alike za zb × (move_of c o kind x ≡ move_of c p kind y)
+  all_same = (
+    same_begin,
+    end_alike c x t.made u.made za zb made_alike t.ends (subst (λ (q : Bool). AfterEnd c q u.made zb) (sym same_end) u.ends),
+    λ i. record { caller = c; begins = same_begin i; kind = kind; ends = same_end i },
+  )
 
 -- what the actors have asked
 
@@ -338,7 +292,7 @@ begun_move c o kind ends rest = search (arith, begun_after)
 is_reporter : (seat number : ℕ) → IsReporter number → is_of seat number (Reporter number) ≡ true
 is_reporter seat number is = search (arith, and_true, eq-eqb, le-leb)
 
-taken_of : (seat number : ℕ) (kind : AccessKind) (c : Caller) → IsTakenBy seat number kind c → IsOf seat number c
+pub taken_of : (seat number : ℕ) (kind : AccessKind) (c : Caller) → IsTakenBy seat number kind c → IsOf seat number c
 taken_of seat number kind c by = search arith
 
 -- an actor that has gone on takes its steps by the same callers
@@ -353,34 +307,20 @@ module _ (actors later : List Actor) (on : HaveGoneOn actors later) (last last' 
       → get_elem? later seat ≡ some is → HasGoneOn was is → IsTakenBy seat was.number kind c
       → told ++ (c, f) ∷ xs ≡ calls_told last → told ++ (c, g) ∷ ys ≡ calls_told last' → after_step a (Begin c f) ≡ Some w → after_step w (step_of c kind) ≡ Some v → after_step b (Begin c g) ≡ Some w'
       → after_step w' (step_of c kind) ≡ Some v' → f ≡ g
-  same_call seat was is kind c f g told xs ys a b w v w' v' at bt gone by told_is told_is' begins makes begins' makes' = by_kind kind by makes makes'
+  same_call seat was is kind c f g told xs ys a b w v w' v' at bt gone by told_is told_is' begins makes begins' makes' =
+      search (arith, asked, begins_reading c f a w v begins, begins_reading c g b w' v' begins', inl, inr)
     where
       asked : (number : IsReporter was.number) → c ≡ Reporter was.number → f ≡ g
       asked number reporter =
-          let same : is.number ≡ was.number = gone.number (omega arith) in
-          let p : IsPrefix (calls_by seat was.number (calls_told last)) (calls_by seat was.number (calls_told last')) = (
-            gone.asked.0,
-            ap (λ (l : List Call). l ++ gone.asked.0) (each seat was at).whole
-                ∙ (gone.asked.1 ∙ (sym (each' seat is bt).whole ∙ ap (λ (n : ℕ). calls_by seat n (calls_told last')) same)),
-          ) in
-          next_asked seat was.number c f g told xs ys (ap (is_of seat was.number) reporter ∙ is_reporter seat was.number number) (
-            p.0,
-            ap (λ (l : List (Caller × Call)). calls_by seat was.number l ++ p.0) told_is ∙ (p.1 ∙ ap (calls_by seat was.number) (sym told_is')),
-          )
-
-      by_kind : (kind : AccessKind) → IsTakenBy seat was.number kind c → after_step w (step_of c kind) ≡ Some v → after_step w' (step_of c kind) ≡ Some v' → f ≡ g
-      by_kind kinds.Look by makes makes' = asked by.1 by.0
-      by_kind kinds.Swap by makes makes' = asked by.1 by.0
-      by_kind kinds.First by makes makes' = begins_reading c f a w v begins (inl makes) ∙ sym (begins_reading c g b w' v' begins' (inl makes'))
-      by_kind kinds.Second by makes makes' = begins_reading c f a w v begins (inr makes) ∙ sym (begins_reading c g b w' v' begins' (inr makes'))
+          let own : is_of seat was.number c ≡ true = search (arith, is_reporter) in
+          let same = gone.number (omega arith) in
+          let whole : calls_by seat was.number (calls_told last') ≡ calls_asked is.doing = rw (← same) (each' seat is bt).whole in
+          next_asked seat was.number c f g told xs ys own (gone.asked.0, cc (told_is, told_is', (each seat was at).whole, gone.asked.1, whole))
 
   -- one move after another
   grows : (ms ns : List Move) (a b : MachineState) (told : List (Caller × Call)) → Alike a b → after_steps (steps_of_moves ms) a ≡ Some last → after_steps (steps_of_moves ns) b ≡ Some last'
       → told ++ begun_in (steps_of_moves ms) ≡ calls_told last → told ++ begun_in (steps_of_moves ns) ≡ calls_told last'
       → (xs ys : List (ℕ × Access)) → AreStepsOf actors (left_by (steps_of_moves ms) (Some a)) xs → AreStepsOf later (left_by (steps_of_moves ns) (Some b)) (xs ++ ys) → IsPrefix ms ns
-  grows [] ns a b told alike run run' told_is told_is' xs ys is is' = (ns, refl)
-  grows (m ∷ ms) ns a b told alike run run' told_is told_is' [] ys is is' = absurd (subst (λ (l : List (Caller × Access)). AreStepsOf actors l []) (moving m (steps_of_moves ms) a last run).left is)
-  grows (m ∷ ms) [] a b told alike run run' told_is told_is' (x ∷ xs) ys is is' = absurd is'
   grows (m ∷ ms) (n ∷ ns) a b told alike run run' told_is told_is' (x ∷ xs) ys is is' =
       let p = moving m (steps_of_moves ms) a last run in
       let q = moving n (steps_of_moves ns) b last' run' in
@@ -398,13 +338,8 @@ module _ (actors later : List Actor) (on : HaveGoneOn actors later) (last last' 
       let c : Caller = m.caller in
       let told_m : told ++ (begun_by c m.begins ++ begun_in (steps_of_moves ms)) ≡ calls_told last = search (arith, begun_move) in
       let told_n : told ++ (begun_by c n.begins ++ begun_in (steps_of_moves ns)) ≡ calls_told last' = search (arith, begun_move) in
-      let calls : (f g : Call) → m.begins ≡ Some f → n.begins ≡ Some g → f ≡ g =
-      (λ f g is_f is_g. same_call x.0 was now m.kind c f g told (begun_in (steps_of_moves ms)) (begun_in (steps_of_moves ns)) a b p.moved.begun p.moved.made moved'.begun moved'.made s.1.1 t.1.1 gone
-      taken
-      (subst (λ (o : Option Call). told ++ (begun_by c o ++ begun_in (steps_of_moves ms)) ≡ calls_told last) is_f told_m)
-      (subst (λ (o : Option Call). told ++ (begun_by c o ++ begun_in (steps_of_moves ns)) ≡ calls_told last') is_g told_n)
-      (subst (λ (o : Option Call). AfterBegin c o a p.moved.begun) is_f p.moved.begins) p.moved.makes
-      (subst (λ (o : Option Call). AfterBegin c o b moved'.begun) is_g moved'.begins) moved'.makes) in
+      let one = λ (f g : Call). same_call x.0 was now m.kind c f g told (begun_in (steps_of_moves ms)) (begun_in (steps_of_moves ns)) a b p.moved.begun p.moved.made in
+      let calls : (f g : Call) → m.begins ≡ Some f → n.begins ≡ Some g → f ≡ g = λ f g is_f is_g. search (arith, one f g moved'.begun moved'.made s.1.1 t.1.1 gone taken) in
       let f = each x.0 was s.1.1 in
       let f' = each' x.0 now t.1.1 in
       let ends : (k : ℕ) → held_by p.after.callers c ≢ Some (Answered k) =
@@ -412,13 +347,13 @@ module _ (actors later : List Actor) (on : HaveGoneOn actors later) (last last' 
       let ends' : (k : ℕ) → held_by q.after.callers c ≢ Some (Answered k) =
       (λ k held. answered_ends last' x.0 now.number now.doing.begun now.doing.held f'.high c k (subst (IsOf x.0 now.number) (sym caller) (taken_of x.0 now.number x.1.kind n.caller t.1.2)) f'.held
       (answered_stays ns q.after last' c k held q.then)) in
-      let begins = same_begin c m.kind m.begins n.begins m.ends n.ends a b p.after q.after alike p.moved moved' calls ends ends' in
-      let next = moved_alike c m.kind m.begins n.begins m.ends n.ends a b p.after q.after alike p.moved moved' calls ends ends' in
-      let move : m ≡ n = same_move c m.kind m.begins n.begins m.ends n.ends a b p.after q.after alike p.moved moved' calls ends ends' ∙ of_caller in
-      let rest = grows ms ns p.after q.after (told ++ begun_by c m.begins) next p.then q.then (append_assoc told (begun_by c m.begins) (begun_in (steps_of_moves ms)) ∙ told_m)
+      let same = all_same c m.kind m.begins n.begins m.ends n.ends a b p.after q.after alike p.moved moved' calls ends ends' in
+      let move : m ≡ n = same.2 ∙ of_caller in
+      let rest = grows ms ns p.after q.after (told ++ begun_by c m.begins) same.1 p.then q.then (append_assoc told (begun_by c m.begins) (begun_in (steps_of_moves ms)) ∙ told_m)
       (append_assoc told (begun_by c m.begins) (begun_in (steps_of_moves ns))
-      ∙ subst (λ (o : Option Call). told ++ (begun_by c o ++ begun_in (steps_of_moves ns)) ≡ calls_told last') (sym begins) told_n) xs ys s.2 t.2 in
+      ∙ subst (λ (o : Option Call). told ++ (begun_by c o ++ begun_in (steps_of_moves ns)) ≡ calls_told last') (sym same.0) told_n) xs ys s.2 t.2 in
       (rest.0, λ i. move i ∷ rest.1 i)
+  grows ms ns a b told alike run run' told_is told_is' xs ys is is' = search (arith, moving)
 
 -- the accesses of a longer log
 pub accesses_more : (log more : Log) → accesses_of_log (log ++ more) ≡ accesses_of_log log ++ accesses_of_log more

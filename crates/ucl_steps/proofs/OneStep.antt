@@ -1,5 +1,5 @@
 -- One step of the machine on a match word: the word that it finds, what comes of it, the access that it leaves, and what it leaves as it was.
-use Rattle.ucl_steps.proofs.Common.{◌≡◌, ◌≢◌, ℕ, zero, suc, ◌+◌, ◌-◌, ◌<◌, ◌≤◌, ◌==◌, ◌&&◌, nat_le, Bool, true, false, cond, List, ◌∷◌, ◌++◌, length, map, Option, Some, None, Ok, [], refl, ap, ◌∙◌}
+use Rattle.ucl_steps.proofs.Common.{◌≡◌, ◌≢◌, ℕ, suc, ◌+◌, ◌-◌, ◌<◌, ◌≤◌, ◌==◌, ◌&&◌, nat_le, Bool, true, false, cond, List, ◌∷◌, ◌++◌, length, map, Option, Some, None, Ok, [], refl, ap, ◌∙◌}
 use Rattle.ucl_steps.proofs.Common.{arith, append_assoc, append-nil, eq-eqb, ne_eqb, slice_get, slice_index, IsSome, option_and_then, same_Some, option_and_then_some, false≢true, cases_eq, le-leb}
 use Rattle.ucl_steps.proofs.Common.{leb-true, map-append, filter-append, EventCall, Refusal, answer, word_of, IsMatch, word_at, match_after, board_of, word_after, AccessKind, Access, access, Cast}
 use Rattle.ucl_steps.proofs.Common.{Caller, Reporter, Call, Step, CallRecord, Holding, Collecting, Checking, Outcome, looked, swapped, loaded, compared, MayAsk, Holds, Idle, Wanting, Within}
@@ -23,9 +23,8 @@ steps_append (s ∷ xs) ys w v e = option_and_then_some (after_steps xs) (after_
 -- before any step all callers are idle
 
 idle_in : (n k : ℕ) → k < n → slice_get (replicate n Idle) k ≡ Some Idle
-idle_in zero k l = absurd (omega arith)
-idle_in (suc n) zero l = refl
 idle_in (suc n) (suc k) l = idle_in n k (omega arith)
+idle_in n k l = search arith
 
 pub idle_at_start : (cast : Cast) (c : Caller) → IsInCast cast c → held_by (initial_state cast).callers c ≡ Some Idle
 idle_at_start cast c inside = search (arith, idle_in)

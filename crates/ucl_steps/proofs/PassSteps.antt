@@ -1,13 +1,12 @@
 -- One step of a pass on a match word, as steps of the machine: what the pass has done and holds stays what its callers have done and hold.
-use Rattle.ucl_steps.proofs.Common.{◌≡◌, ◌≢◌, ℕ, ◌+◌, ◌<◌, ◌≤◌, ◌==◌, Bool, true, false, cond, List, ◌∷◌, ◌++◌, length, map, Option, Some, None, refl, sym, ap, ◌∙◌, subst, arith, append_assoc, []}
+use Rattle.ucl_steps.proofs.Common.{calls_asked, AccessKind, ◌≡◌, ◌≢◌, ℕ, ◌+◌, ◌<◌, ◌≤◌, ◌==◌, Bool, true, false, cond, List, ◌∷◌, ◌++◌, length, map, Option, Some, None, refl, sym, ap, ◌∙◌, subst, arith, append_assoc, []}
 use Rattle.ucl_steps.proofs.Common.{append-nil, le_refl, eq-eqb, ne_eqb, slice_get, slice_index, IsSome, is_some, same_Some, option_and_then_some, false≢true, cases_eq, length_push, map-append}
-use Rattle.ucl_steps.proofs.Common.{EventCall, Refusal, refusal_of, after, record_at, at_below, at_longer, at_end, Entry, board_of, reading_of, entry_of, Access, Cast, Caller, Reporter, Reader}
-use Rattle.ucl_steps.proofs.Common.{Call, Event, Reading, Step, Begin, End, CallRecord, Reply, Copied, Holds, Idle, Wanting, Within, Answered, MachineState, initial_state, held_by, with_held}
-use Rattle.ucl_steps.proofs.Common.{with_reply, with_end, may_begin, held_at_begin, after_begin, after_reply, after_end, after_outcome, stored, after_step_holding, caller_of, after_step}
-use Rattle.ucl_steps.proofs.Common.{after_steps, caller_and_call, step_of, accesses_of_step, Does, Held, Nothing, Holding, Collecting, Checking, Outcome, GoesOn, Answers, by_rules, looked, swapped}
-use Rattle.ucl_steps.proofs.Common.{loaded, compared, Answer, Doing, goes, ends, done_by, IsNext, after_look, swaps_holding, after_swap, collected, firsts_holding, after_first, seconds_holding}
-use Rattle.ucl_steps.proofs.Common.{after_second, MayAsk, caller_for, IsOf, call_of, CanHold, IsRecordOf, AreRecordsOf, IsUnderWay, FitsHeld, call_under_way, calls_told, calls_by, left_by, FitsRun}
-use Rattle.ucl_steps.proofs.Common.{Move, end_by, steps_of_move}
+use Rattle.ucl_steps.proofs.Common.{EventCall, Refusal, refusal_of, after, record_at, at_below, at_longer, at_end, Entry, board_of, reading_of, entry_of, Access, Cast, Caller, Reporter, Reader, Call}
+use Rattle.ucl_steps.proofs.Common.{Event, Reading, Step, Begin, End, CallRecord, Reply, Copied, Holds, Idle, Within, Answered, MachineState, initial_state, held_by, with_held, with_reply, with_end}
+use Rattle.ucl_steps.proofs.Common.{may_begin, held_at_begin, after_begin, after_reply, after_end, after_outcome, stored, after_step_holding, caller_of, after_step, after_steps, caller_and_call}
+use Rattle.ucl_steps.proofs.Common.{step_of, accesses_of_step, Does, Held, Nothing, Holding, Collecting, Checking, Outcome, GoesOn, Answers, by_rules, looked, swapped, loaded, compared, Answer, Doing}
+use Rattle.ucl_steps.proofs.Common.{goes, ends, done_by, IsNext, after_look, swaps_holding, after_swap, collected, firsts_holding, after_first, seconds_holding, after_second, MayAsk, caller_for, IsOf}
+use Rattle.ucl_steps.proofs.Common.{call_of, CanHold, IsRecordOf, AreRecordsOf, IsUnderWay, FitsHeld, call_under_way, calls_told, calls_by, left_by, FitsRun, Move, end_by, steps_of_move}
 use Rattle.ucl_board.specs.Log as log
 use Rattle.ucl_steps.proofs.ChangedLists.{change_at_here, change_at_else, length-change_at, map_unseen}
 use Rattle.ucl_steps.proofs.Callers.{same_caller, held_here, held_else}
@@ -60,6 +59,9 @@ record TurnOn (seat number : ℕ) (w : MachineState) (c : Caller) (m : Access) (
   turn : Turn seat number w c m d entries
   ends : Bool
   move_is : turn.move ≡ record { caller = c; begins = None; kind = m.kind; ends = ends }
+
+abbrev pub move_of : Caller → Option Call → AccessKind → Bool → Move
+move_of c begins kind ends = record { caller = c; begins = begins; kind = kind; ends = ends }
 
 abbrev with_caller : Step → List Access → List (Caller × Access)
 with_caller step ms = map (λ m. (caller_of step, m)) ms
@@ -131,18 +133,10 @@ module _ (seat number : ℕ) (call : Call) (w : MachineState) (may : MayAsk numb
     begins_under : Under seat number after_it fs call (length w.history) (held_at_begin call)
     begins_under =
         let passes = begins_passes idle_now in
-        search (
-          arith,
-          records_kept w.calls after_it.calls seat number 0 fs high passes.ended recorded,
-          at_end w.calls (began mine call (length w.history)),
-          began mine call (length w.history),
-          held_here w.callers mine Idle (held_at_begin call (length w.calls)) idle_now,
-          idle_now,
-          map-append,
-          calls_one,
-          own_caller,
-          append-nil,
-        )
+        let old = records_kept w.calls after_it.calls seat number 0 fs high passes.ended recorded in
+        let last = at_end w.calls (began mine call (length w.history)) in
+        let held = held_here w.callers mine Idle (held_at_begin call (length w.calls)) idle_now in
+        search (arith, passes, old, last, held, idle_now, map-append, calls_one, own_caller, append-nil)
 
 -- what comes of a step can be held, by a pass that makes this call
 abbrev CanGo : ℕ → Call → Outcome → Type 0
@@ -168,17 +162,12 @@ module _ (seat number : ℕ) (w : MachineState) (d : Doing) (call : Call) (begun
       let last = with_held (Within u.place held) by v in
       let passes : Passes by w last = passes_step (GoesOn held) in
       let after : Under seat number last d.calls call begun (λ k. Within k held) = search (arith, records_kept, held_here, held_v) in
-      let turn : Turn seat number w by m (goes begun held d) entries = record {
-        move = record { caller = by; begins = None; kind = m.kind; ends = false };
-        last = last;
-        run = steps_on (step_of by m.kind) [] w last last made.done refl;
-        left = append-nil (with_caller (step_of by m.kind) (accesses_of_step (step_of by m.kind) w)) ∙ one_left by m w made.left;
-        history = history;
-        of = of_call seat number call u.may;
-        passes = passes;
-        fits = search (arith, fits_under);
-      } in
-      record { turn = turn; ends = false; move_is = refl }
+      let move = move_of by None m.kind false in
+      let run = steps_on (step_of by m.kind) [] w last last made.done refl in
+      let left = append-nil (with_caller (step_of by m.kind) (accesses_of_step (step_of by m.kind) w)) ∙ one_left by m w made.left in
+      let fits : FitsRun last seat number (goes begun held d) = search (arith, fits_under) in
+      let of = of_call seat number call u.may in
+      record { turn = record { move = move; last = last; run = run; left = left; history = history; of = of; passes = passes; fits = fits }; ends = false; move_is = refl }
 
   -- it is the call's last
   answered : (reply : Reply) → Made by w m (after_reply by u.place point reply v) → TurnOn seat number w by m (ends call reply begun now d) entries
@@ -198,23 +187,18 @@ module _ (seat number : ℕ) (w : MachineState) (d : Doing) (call : Call) (begun
       let at_last : slice_get last.calls k ≡ Some (with_end n replied) = change_at_here k (with_end n) z.calls replied at_z in
       let count = at_below last.calls k (with_end n replied) at_last in
       let told : calls_told last ≡ calls_told w = frame.told ∙ (frame_outcome by k (hold k) w v point (Answers reply) u.held same.0 same.1).told in
-      let turn : Turn seat number w by m (ends call reply begun now d) entries = record {
-        move = record { caller = by; begins = None; kind = m.kind; ends = true };
-        last = last;
-        run = steps_on (step_of by m.kind) (End by ∷ []) w z last made.done (steps_on (End by) [] z last last one refl);
-        left = search (arith, append-nil, one_left);
-        history = history;
-        of = of_call seat number call u.may;
-        passes = passes;
-        fits = record {
-          high = k + 1;
-          recorded = records_more last.calls seat number 0 d.calls u.high k f (with_end n replied) (records_kept w.calls last.calls seat number 0 d.calls u.high passes.ended u.recorded) u.low at_last
-              (record { may = u.may; caller = refl; call = refl; begun = refl; reply = refl; ended = ap Some (ap length history ∙ place) });
-          held = search (arith, same_caller, held_here);
-          whole = ap (calls_by seat number) told ∙ (u.whole ∙ (sym (map-append (λ (f : Answer). f.call) d.calls (f ∷ [])) ∙ sym (append-nil (map (λ (f : Answer). f.call) (d.calls ++ f ∷ [])))));
-        };
-      } in
-      record { turn = turn; ends = true; move_is = refl }
+      let move = move_of by None m.kind true in
+      let run = steps_on (step_of by m.kind) (End by ∷ []) w z last made.done (steps_on (End by) [] z last last one refl) in
+      let left : left_by (steps_of_move move) (Some w) ≡ (by, m) ∷ [] = search (arith, append-nil, one_left) in
+      let of = of_call seat number call u.may in
+      let ended = ap Some (ap length history ∙ place) in
+      let own : IsRecordOf seat number f (with_end n replied) = record { may = u.may; caller = refl; call = refl; begun = refl; reply = refl; ended = ended } in
+      let old = records_kept w.calls last.calls seat number 0 d.calls u.high passes.ended u.recorded in
+      let recorded = records_more last.calls seat number 0 d.calls u.high k f (with_end n replied) old u.low at_last own in
+      let held : FitsHeld last seat number begun Nothing (k + 1) = search (arith, same_caller, held_here) in
+      let whole : calls_by seat number (calls_told last) ≡ calls_asked (ends call reply begun now d) = search (arith, told, map-append, append-nil, u.whole) in
+      let fits : FitsRun last seat number (ends call reply begun now d) = record { high = k + 1; recorded = recorded; held = held; whole = whole } in
+      record { turn = record { move = move; last = last; run = run; left = left; history = history; of = of; passes = passes; fits = fits }; ends = true; move_is = refl }
 
   turn_by : (o : Outcome) → CanGo number call o → Made by w m (after_outcome by u.place point o v) → TurnOn seat number w by m (done_by call begun now o d) entries
   turn_by o can made = search (arith, going_on, answered)
@@ -235,17 +219,12 @@ begins_turn seat number call w may m d entries idle on =
     let t = on.turn in
     let c = caller_for seat number call in
     let v = after_begin c call w in
+    let one = begins_step seat number call w may idle in
     let steps : List Step = step_of c m.kind ∷ end_by c on.ends in
-    record {
-      move = record { caller = c; begins = Some call; kind = m.kind; ends = on.ends };
-      last = t.last;
-      run = steps_on (Begin c call) steps w v t.last (begins_step seat number call w may idle) (ap (λ (z : Move). after_steps (steps_of_move z) v) (sym on.move_is) ∙ t.run);
-      left = ap (left_by steps) (begins_step seat number call w may idle) ∙ (ap (λ (z : Move). left_by (steps_of_move z) (Some v)) (sym on.move_is) ∙ t.left);
-      history = t.history;
-      of = t.of;
-      passes = passes_on c w v t.last (begins_passes seat number call w may idle) t.passes;
-      fits = t.fits;
-    }
+    let run = steps_on (Begin c call) steps w v t.last one (ap (λ (z : Move). after_steps (steps_of_move z) v) (sym on.move_is) ∙ t.run) in
+    let left = ap (left_by steps) one ∙ (ap (λ (z : Move). left_by (steps_of_move z) (Some v)) (sym on.move_is) ∙ t.left) in
+    let passes = passes_on c w v t.last (begins_passes seat number call w may idle) t.passes in
+    record { move = move_of c (Some call) m.kind on.ends; last = t.last; run = run; left = left; history = t.history; of = t.of; passes = passes; fits = t.fits }
 
 module _ (cast : Cast) (seat number : ℕ) (steps : List Step) (w : MachineState) (run : after_steps steps (initial_state cast) ≡ Some w) (d : Doing) (f : FitsRun w seat number d) (m : Access)
     (now : IsNow w m) where
@@ -269,19 +248,22 @@ module _ (cast : Cast) (seat number : ℕ) (steps : List Step) (w : MachineState
     is_begun : IsNow (after_begin (caller_for seat number call) call w) m
     is_begun = record { place = now.place; found = now.found }
 
+    turn_new : (point : ℕ) (o : Outcome) → CanGo number call o
+        → Made (caller_for seat number call) (after_begin (caller_for seat number call) call w) m
+        (after_outcome (caller_for seat number call) under_now.place point o (after_begin (caller_for seat number call) call w))
+        → Turn seat number w (caller_for seat number call) m (done_by call (length w.history) (length w.history) o d) []
+    turn_new point o can made = begins_turn seat number call w may m (done_by call (length w.history) (length w.history) o d) [] free_now
+        (turn_kept seat number (after_begin (caller_for seat number call) call w) d call (length w.history) (held_at_begin call) under_now m point o can made)
+
   -- Look
   can_look : (e : EventCall) → MayAsk number (Event e) → (o : Option Refusal) → refusal_of (record_at m.found) e.expected e.kind ≡ o → CanGo number (Event e) (by_rules number e m.found o)
   can_look e may o is = search arith
 
   pub turn_look : (e : EventCall) → MayAsk number (Event e) → d.held ≡ Nothing → Does log.Look e.game m → Turn seat number w (Reporter number) m (after_look number e m.found m.at d) []
   turn_look e may none does =
-      let v = after_begin (Reporter number) (Event e) w in
-      let u = under_now (Event e) may none in
       subst (λ (p : ℕ). Turn seat number w (Reporter number) m (after_look number e m.found p d) []) (sym now.place)
-      (begins_turn seat number (Event e) w may m (after_look number e m.found (length w.history) d) [] (free_now (Event e) may none)
-      (turn_kept seat number v d (Event e) (length w.history) (λ k. Wanting k e) u m (length w.history) (looked number e m.found)
-      (can_look e may (refusal_of (record_at m.found) e.expected e.kind) refl)
-      (made_look v m words_now (is_begun (Event e) may none) number u.place e u.held may.1 does)))
+      (turn_new (Event e) may none (length w.history) (looked number e m.found) (can_look e may (refusal_of (record_at m.found) e.expected e.kind) refl)
+      (made_look (after_begin (Reporter number) (Event e) w) m words_now (is_begun (Event e) may none) number (under_now (Event e) may none).place e (under_now (Event e) may none).held may.1 does))
 
   -- Swap
   module _ (e : EventCall) (old new : ℕ) (is_held : d.held ≡ Holding e old new) (does : Does log.Swap e.game m) where
@@ -322,10 +304,8 @@ module _ (cast : Cast) (seat number : ℕ) (steps : List Step) (w : MachineState
       let v = after_begin reader Reading w in
       let u = under_now Reading tt none in
       subst (λ (p : ℕ). Turn seat number w reader m (goes p (collected (m.found ∷ []) p) d) []) (sym now.place)
-      (begins_turn seat number Reading w tt m (goes (length w.history) (collected (m.found ∷ []) (length w.history)) d) [] (free_now Reading tt none)
-      (turn_kept seat number v d Reading (length w.history) (λ k. Within k (Collecting [])) u m (length w.history) (loaded [] m.found (length w.history))
-      (can_load [] (length w.history) (omega arith) (length (m.found ∷ []) == 12) refl)
-      (made_first v m words_now (is_begun Reading tt none) reader u.place [] u.held (omega arith) does)))
+      (turn_new Reading tt none (length w.history) (loaded [] m.found (length w.history)) (can_load [] (length w.history) (omega arith) (length (m.found ∷ []) == 12) refl)
+      (made_first v m words_now (is_begun Reading tt none) reader u.place [] u.held (omega arith) does))
 
   module _ (words : List ℕ) (is_held : d.held ≡ Collecting words) (does : Does log.First (length words + 1) m) where
     collecting : IsUnderWay w seat number d.begun (Collecting words) f.high

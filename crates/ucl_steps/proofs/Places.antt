@@ -1,27 +1,18 @@
 -- Where calls begin and end in a list of steps, and in one step more.
-use Rattle.ucl_steps.proofs.Common.{◌≡◌, ℕ, zero, suc, ◌<◌, ◌≤◌, List, ◌∷◌, ◌++◌, take, drop, length, Some, ◌⊎◌, inl, inr, refl, sym, ap, ◌∙◌, arith, length-append, [], slice_get, none-some}
-use Rattle.ucl_steps.proofs.Common.{same_Some, cases_lt, take-append-le, take-append-drop, take-length, at_longer, at_below, at_end, at_either, get_back, Caller, Call, Step, Begin, Look, Swap}
-use Rattle.ucl_steps.proofs.Common.{First, Second, End, begun_in, BeginsAt, EndsAt}
+use Rattle.ucl_steps.proofs.Common.{◌≡◌, ℕ, zero, suc, ◌<◌, ◌≤◌, List, ◌∷◌, ◌++◌, take, length, Some, ◌⊎◌, inl, inr, refl, ap, arith, length-append, [], slice_get, none-some, same_Some, cases_lt}
+use Rattle.ucl_steps.proofs.Common.{take-append-le, take-append-drop, take-length, at_longer, at_below, at_end, at_either, get_back, Caller, Call, Step, Begin, begun_in, BeginsAt, EndsAt}
 use Rattle.ucl_steps.proofs.Lists.{take_one, take_split}
 
 pub begun_in-append : (xs ys : List Step) → begun_in (xs ++ ys) ≡ begun_in xs ++ begun_in ys
 begun_in-append [] ys = refl
-begun_in-append (Begin c call ∷ xs) ys = ap (λ (z : List (Caller × Call)). (c, call) ∷ z) (begun_in-append xs ys)
-begun_in-append (Look c ∷ xs) ys = begun_in-append xs ys
-begun_in-append (Swap c ∷ xs) ys = begun_in-append xs ys
-begun_in-append (First c ∷ xs) ys = begun_in-append xs ys
-begun_in-append (Second c ∷ xs) ys = begun_in-append xs ys
-begun_in-append (End c ∷ xs) ys = begun_in-append xs ys
+begun_in-append (s ∷ xs) ys = search (arith, begun_in-append xs ys)
 
 pub begins_call : (steps : List Step) (p i : ℕ) (c : Caller) (b : BeginsAt steps p i c) → slice_get (begun_in steps) i ≡ Some (c, b.call)
 begins_call steps p i c b =
-    let front = begun_in (take p steps) in
-    let rest = begun_in (drop (suc p) steps) in
-    let whole : begun_in steps ≡ (front ++ (c, b.call) ∷ []) ++ rest =
-    ap begun_in (sym (take-append-drop (suc p) steps)) ∙ (begun_in-append (take (suc p) steps) (drop (suc p) steps)
-    ∙ ap (λ (z : List (Caller × Call)). z ++ rest) (ap begun_in (take_one steps p (Begin c b.call) b.begins) ∙ begun_in-append (take p steps) (Begin c b.call ∷ []))) in
-    let there : slice_get (front ++ (c, b.call) ∷ []) i ≡ Some (c, b.call) = ap (slice_get (front ++ (c, b.call) ∷ [])) (sym b.number) ∙ at_end front (c, b.call) in
-    ap (λ (z : List (Caller × Call)). slice_get z i) whole ∙ at_longer (front ++ (c, b.call) ∷ []) rest i (c, b.call) there
+    let cut = take-append-drop (suc p) steps in
+    let one = take_one steps p (Begin c b.call) b.begins in
+    let here = at_end (begun_in (take p steps)) (c, b.call) in
+    search (arith, cut, one, here, begun_in-append, at_longer)
 
 later : (s : Step) (steps : List Step) (p i : ℕ) (c : Caller) → begun_in (s ∷ []) ≡ [] → BeginsAt steps p i c → BeginsAt (s ∷ steps) (suc p) i c
 later s steps p i c none b = search (arith, begun_in-append)
@@ -29,16 +20,9 @@ later s steps p i c none b = search (arith, begun_in-append)
 -- each call that the steps begin is begun at a place
 pub place_of : (steps : List Step) (i : ℕ) (c : Caller) (call : Call) → slice_get (begun_in steps) i ≡ Some (c, call) → (p : ℕ) × BeginsAt steps p i c
 place_of [] i c call e = absurd (none-some (c, call) e)
-place_of (Begin d other ∷ steps) zero c call e =
-    let same = same_Some (d, other) (c, call) e in
-    let caller : d ≡ c = ap (λ (z : Caller × Call). z.0) same in
-    (0, record { call = other; begins = ap (λ (z : Caller). Some (Begin z other)) caller; number = refl })
+place_of (Begin d other ∷ steps) zero c call e = (0, record { call = other; begins = search (arith, same_Some); number = refl })
 place_of (Begin d other ∷ steps) (suc i) c call e = let t = place_of steps i c call e in (suc t.0, record { call = t.1.call; begins = t.1.begins; number = ap suc t.1.number })
-place_of (Look d ∷ steps) i c call e = let t = place_of steps i c call e in (suc t.0, later (Look d) steps t.0 i c refl t.1)
-place_of (Swap d ∷ steps) i c call e = let t = place_of steps i c call e in (suc t.0, later (Swap d) steps t.0 i c refl t.1)
-place_of (First d ∷ steps) i c call e = let t = place_of steps i c call e in (suc t.0, later (First d) steps t.0 i c refl t.1)
-place_of (Second d ∷ steps) i c call e = let t = place_of steps i c call e in (suc t.0, later (Second d) steps t.0 i c refl t.1)
-place_of (End d ∷ steps) i c call e = let t = place_of steps i c call e in (suc t.0, later (End d) steps t.0 i c refl t.1)
+place_of (s ∷ steps) i c call e = let t = place_of steps i c call e in (suc t.0, later s steps t.0 i c refl t.1)
 
 begun_more : (steps : List Step) (p q : ℕ) → p ≤ q → length (begun_in (take p steps)) ≤ length (begun_in (take q steps))
 begun_more steps p q l = search (arith, take_split steps p q l, begun_in-append, length-append)

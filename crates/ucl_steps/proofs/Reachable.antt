@@ -1,6 +1,6 @@
 -- What is known of a state that steps lead to.
 use Rattle.ucl_steps.proofs.Common.{◌≡◌, ℕ, zero, suc, ◌+◌, ◌-◌, ◌<◌, ◌≤◌, Bool, true, List, ◌∷◌, ◌++◌, take, length, map, Option, Some, None, refl, sym, ap, ◌∙◌, arith, [], get_or, set}
-use Rattle.ucl_steps.proofs.Common.{length-take, eq-eqb, ne_eqb, slice_get, slice_index, replicate, option_map, option_and_then, none-some, slice_get-map, slice_get-get_or, slice_get_past}
+use Rattle.ucl_steps.proofs.Common.{length-take, eq-eqb, ne_eqb, slice_get, slice_index, replicate, option_map, option_and_then, slice_get-map, slice_get-get_or, slice_get_past}
 use Rattle.ucl_steps.proofs.Common.{option_and_then_some, false≢true, get_or_default, take_more_set, take_all, length-take-le, map-set, length-set, EventCall, record_at, IsWord, IsMatch, AreWords}
 use Rattle.ucl_steps.proofs.Common.{word_at, greatest_version, match_after, board_of, reading_of, match_valid, versions, Cast, Caller, Reporter, Reader, Step, Swap, Second, Accepted, Copied}
 use Rattle.ucl_steps.proofs.Common.{CallRecord, Collecting, Checking, Holds, Idle, Wanting, Within, Callers, MachineState, initial_state, held_by, with_held, after_reply, stored, state_after_first}
@@ -129,7 +129,6 @@ taken_step old new s taken t is = search (arith, false≢true)
 -- one step more of a list
 pub steps_more : (steps : List Step) (at : ℕ) (s : Step) (w v u : MachineState) → slice_get steps at ≡ Some s → after_steps (take at steps) w ≡ Some v → after_step v s ≡ Some u
     → after_steps (take (suc at) steps) w ≡ Some u
-steps_more [] at s w v u here before then = absurd (none-some s here)
-steps_more (x ∷ steps) zero s w v u here before then = search arith
 steps_more (x ∷ steps) (suc at) s w v u here before then =
     option_and_then_some (after_steps (take at steps)) (after_step w x) v before (λ y is rest. ap (option_and_then (after_steps (take (suc at) steps))) is ∙ steps_more steps at s y v u here rest then)
+steps_more steps at s w v u here before then = search arith

@@ -61,15 +61,9 @@ turns_inner steps n m ts s inner le k = record {
   same = begun_in-append steps (s ∷ []) ∙ (ap (λ (z : List (Caller × Call)). begun_in steps ++ z) (inner_none s inner) ∙ (append-nil (begun_in steps) ∙ k.same));
   past = λ i t at. let p = k.past i t at in let q = p.0 in (omega arith, if_more t.ended n m le p.1);
   turns = k.turns;
-  finished = λ p i c a e at. elim (old_or_last steps s p (End c) e.ends) [
-    | inl l ↦ k.finished p i c a (back_ends steps s p i c l e) at
-    | inr t ↦ absurd (subst IsInner t.1 inner)
-  ];
+  finished = λ p i c a e at. search (arith, old_or_last steps s p (End c) e.ends, k.finished p i c a, back_ends, inner);
   closed = λ i a at some. let t = k.closed i a at some in (t.0, more_ends steps s t.0 i a.caller t.1);
-  real = λ p q i j c d a b e f l at at'. elim (old_or_last steps s q (Begin d f.call) f.begins) [
-    | inl m ↦ k.real p q i j c d a b (back_ends steps s p i c (omega arith) e) (back_begins steps s q j d m f) l at at'
-    | inr t ↦ absurd (subst IsInner t.1 inner)
-  ];
+  real = λ p q i j c d a b e f l at at'. search (arith, old_or_last steps s q (Begin d f.call) f.begins, k.real p q i j c d a b, back_ends, back_begins, inner);
 }
 
 -- a call begins: all earlier calls of its caller have ended
@@ -89,10 +83,7 @@ turns_begin steps n ts c call idle k =
     ] in
     record {
       same = begun_in-append steps (s ∷ []) ∙ (ap (λ (z : List (Caller × Call)). z ++ (c, call) ∷ []) k.same ∙ sym (map-append told ts (new ∷ [])));
-      past = λ i t at. elim (at_either ts new i t at) [
-        | inl u ↦ k.past i t u.1
-        | inr u ↦ subst (λ (z : Time). (z.begun ≤ n) × IfSome z.ended (λ e. e ≤ n)) u.1 (le_refl n, tt)
-      ];
+      past = λ i t at. search (arith, at_either ts new i t at, k.past i t, le_refl n);
       turns = search (arith, at_either, get_back, ended_by);
       finished = λ p i d a e at. let o = old_end p i d a e at in k.finished p i d a o.0 o.1;
       closed = search (arith, at_either, more_ends, not_some);
@@ -185,16 +176,8 @@ module _ (steps : List Step) (n : ℕ) (ts : List Time) (c : Caller) (k : ℕ) (
             still_ended w.time a w.ended b.begun (subst (EndedBy w.time.ended) v.begun (kept.turns i j w.time v.time l w.there v.there (w.caller ∙ (same ∙ sym v.caller))));
         finished = λ p i d a e at.
             let w = time_before i a at in
-            elim (old_or_last steps s p (End d) e.ends) [
-              | inl l ↦ let some = kept.finished p i d w.time (back_ends steps s p i d l e) w.there in elim w.ended [
-                | inl same ↦ subst (λ (z : Option ℕ). IsSome z) same some
-                | inr none ↦ absurd (not_some w.time.ended none some)
-              ]
-              | inr t ↦
-                  let caller = caller_is c d t.1 in
-                  let is = ends_held p i t.0 (subst (EndsAt (steps ++ s ∷ []) p i) (sym caller) e) in
-                  elim w.which [ inl u ↦ subst (λ (z : Option ℕ). IsSome z) (sym u.1) refl | inr u ↦ absurd (u.0 is) ]
-            ];
+            let old = λ (l : p < length steps). kept.finished p i d w.time (back_ends steps s p i d l e) w.there in
+            search (arith, old_or_last steps s p (End d) e.ends, old, w, not_some, ends_held p i, caller_is);
         closed = λ i a at some.
             let w = time_before i a at in
             elim w.which [

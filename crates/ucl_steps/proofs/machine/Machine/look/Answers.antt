@@ -11,5 +11,5 @@ next_word-requires c =
 
 pub reply-requires-clause-call : goal.reply-requires-clause-call
 reply-requires-clause-call c =
-    let is : c.held-held.result ≡ Some (has.Wanting c.in-Some-Wanting.call c.in-Some-Wanting.event) = search rules in
-    call_below (state_of c.args.self.now) c.requires c.args.caller c.held-held.result c.held-held.ensures (has.Wanting c.in-Some-Wanting.call c.in-Some-Wanting.event) c.in-Some-Wanting.call is refl
+    call_below (state_of c.args.self.now) c.requires c.args.caller c.held-held.result c.held-held.ensures
+    (has.Wanting c.in-Some-Wanting.call c.in-Some-Wanting.event) c.in-Some-Wanting.call (search rules) refl
