@@ -18,7 +18,7 @@ use Rattle.ucl_word.proofs.Sequences.{may_none, may_next, may_last, may_inductio
 use Rattle.ucl_word.proofs.EntryCounts.{entered, legal_valid}
 use Rattle.ucl_word.proofs.Words.{record_back}
 use Rattle.ucl_board.specs.declared.entry.Entry.{Entry}
-use Rattle.ucl_board.specs.Fixtures.{match_numbers, IsMatch}
+use Rattle.ucl_board.specs.Fixtures.{match_numbers, IsMatch, IsSlot}
 use Rattle.ucl_board.specs.Words.{AreWords, word_at, game_at}
 use Rattle.ucl_board.specs.History.{of_match, entries_of, match_after, board_of, MayFollow, IsLegal, followed_by, sequential_reply}
 
@@ -52,7 +52,11 @@ each_match P a b c d e f g h i j k l n is =
     (λ not_6. or_else P 7 g n (λ not_7. or_else P 8 h n
     (λ not_8. or_else P 9 i n (λ not_9. or_else P 10 j n (λ not_10. or_else P 11 k n (λ not_11. or_else P 12 l n (λ not_12. absurd (omega arith)))))))))))))
 
-number_listed : (g d : ℕ) → IsMatch g → get_or match_numbers (g - 1) d ≡ g
+-- what holds of slots 1 to 4 holds of each slot
+pub each_slot : (P : ℕ → Type 0) → P 1 → P 2 → P 3 → P 4 → (n : ℕ) → IsSlot n → P n
+each_slot P a b c d n is = or_else P 1 a n (λ not_1. or_else P 2 b n (λ not_2. or_else P 3 c n (λ not_3. or_else P 4 d n (λ not_4. absurd (omega arith)))))
+
+pub number_listed : (g d : ℕ) → IsMatch g → get_or match_numbers (g - 1) d ≡ g
 number_listed g d is = each_match (λ g. get_or match_numbers (g - 1) d ≡ g) refl refl refl refl refl refl refl refl refl refl refl refl g is
 
 -- the board of no event

@@ -26,10 +26,7 @@ use Rattle.ucl_board.specs.Fixtures.{Fixture, at, fixture_of, IsMatch, IsSlot}
 use Rattle.ucl_board.specs.Words.{version_of, word_at}
 use Rattle.ucl_board.specs.History.{entries_of, match_after, board_of, MayFollow, IsLegal, followed_by, Attempt, IsAttempt, entry_of, after_attempt, board_after, accepted_of}
 use Rattle.ucl_board.specs.Laws.{EachPairMeetsOnce, BeginningsAreLegal, BoardsAreCounted, VersionsAreLengths, SameNumberSameWord, SameWordSameEntries, OneWordChanges, EntryIsKnown, AttemptsAreCounted}
-use Rattle.ucl_board.proofs.Histories.{or_else, each_match, entries-append, entries_same, entries_else, legal_match, match_valid, board_words, word_after, game_after, next_board}
-
-each_slot : (P : ℕ → Type 0) → P 1 → P 2 → P 3 → P 4 → (n : ℕ) → IsSlot n → P n
-each_slot P a b c d n is = or_else P 1 a n (λ not_1. or_else P 2 b n (λ not_2. or_else P 3 c n (λ not_3. or_else P 4 d n (λ not_4. absurd (omega arith)))))
+use Rattle.ucl_board.proofs.Histories.{each_match, each_slot, entries-append, entries_same, entries_else, legal_match, match_valid, board_words, word_after, game_after, next_board}
 
 key : Fixture → ℕ
 key f = 10 * f.home + f.away

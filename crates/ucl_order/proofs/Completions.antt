@@ -1,5 +1,5 @@
 -- What a group can still become: points only rise, and never above what the club can reach.
-use Rattle.std.proofs.Common.{◌≡◌, ℕ, zero, suc, ◌+◌, ◌*◌, ◌≤◌, ◌==◌, ◌&&◌, Bool, true, false, not, if◌then◌else◌, List, [], ◌∷◌, Some, None, length, get_or, map, take, count_by, refl, sym, ap, arith}
+use Rattle.std.proofs.Common.{◌≡◌, ℕ, ◌+◌, ◌*◌, ◌≤◌, ◌==◌, ◌&&◌, Bool, true, false, not, if◌then◌else◌, List, [], ◌∷◌, Some, None, length, get_or, map, take, count_by, refl, sym, ap, arith}
 use Rattle.std.proofs.Common.{All, Contains, eqb-true, nat_le, nat_lt}
 use Rattle.std.proofs.Common.{◌⊎◌, inl, inr}
 use Rattle.std.specs.List.{list_all}
@@ -27,7 +27,7 @@ use Rattle.ucl_order.specs.Marks.{IsCompletion, GoesThrough, sure_points, reach,
 use Rattle.ucl_order.proofs.Classes.{IsPermutation-order}
 use Rattle.ucl_order.proofs.ClubCounts.{count-le}
 use Rattle.ucl_order.proofs.Limits.{plays, gains, gains-le, played-cons, points-cons}
-use Rattle.ucl_order.proofs.Unique.{a_club}
+use Rattle.ucl_order.proofs.Slots.{a_club, are_matches}
 use Rattle.ucl_order.proofs.Places.{order_falls, reaches, passes, eq_yes, in_first_two, not_in_first_two}
 
 is_done : (s : State) → is_finished s ≡ true → s ≡ Finished
@@ -117,21 +117,6 @@ between club (game ∷ games) board later are done =
       | inl over ↦ between-done club game games board later rest (done.ended game here) over (match_kept board later game (done.kept game here (is_done _ over)))
       | inr open_now ↦ between-open club game games board later rest (done.ended game here) open_now
     ]
-
-are_matches : All IsMatch match_numbers
-are_matches zero d h = (omega arith, omega arith)
-are_matches (suc zero) d h = (omega arith, omega arith)
-are_matches (suc (suc zero)) d h = (omega arith, omega arith)
-are_matches (suc (suc (suc zero))) d h = (omega arith, omega arith)
-are_matches (suc (suc (suc (suc zero)))) d h = (omega arith, omega arith)
-are_matches (suc (suc (suc (suc (suc zero))))) d h = (omega arith, omega arith)
-are_matches (suc (suc (suc (suc (suc (suc zero)))))) d h = (omega arith, omega arith)
-are_matches (suc (suc (suc (suc (suc (suc (suc zero))))))) d h = (omega arith, omega arith)
-are_matches (suc (suc (suc (suc (suc (suc (suc (suc zero)))))))) d h = (omega arith, omega arith)
-are_matches (suc (suc (suc (suc (suc (suc (suc (suc (suc zero))))))))) d h = (omega arith, omega arith)
-are_matches (suc (suc (suc (suc (suc (suc (suc (suc (suc (suc zero)))))))))) d h = (omega arith, omega arith)
-are_matches (suc (suc (suc (suc (suc (suc (suc (suc (suc (suc (suc zero))))))))))) d h = (omega arith, omega arith)
-are_matches (suc (suc (suc (suc (suc (suc (suc (suc (suc (suc (suc (suc n)))))))))))) d h = absurd (omega arith)
 
 -- Where all matches are finished, a completion is the board itself. --
 

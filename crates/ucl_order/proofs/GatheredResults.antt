@@ -1,18 +1,19 @@
 -- What each club has, gathered in one pass over the matches.
-use Rattle.std.proofs.Common.{◌≡◌, ◌≢◌, ℕ, zero, suc, ◌+◌, ◌-◌, ◌<◌, ◌==◌, if◌then◌else◌, Option, Some, None, List, [], ◌∷◌, ◌++◌, length, get_or, set, map, refl, ◌∙◌, arith, All}
+use Rattle.std.proofs.Common.{◌≡◌, ◌≢◌, ℕ, ◌+◌, ◌-◌, ◌<◌, ◌==◌, if◌then◌else◌, Option, Some, None, List, [], ◌∷◌, ◌++◌, length, get_or, set, map, refl, ◌∙◌, arith, All}
 use Rattle.std.proofs.lemmas.List.{get_or-set_other}
-use Rattle.std.proofs.lemmas.List.Elements.{All-cons, All-map, All-nil, All-set}
-use Rattle.ucl_board.specs.Fixtures.{IsSlot, match_numbers}
+use Rattle.std.proofs.lemmas.List.Elements.{All-cons, All-nil, All-set}
+use Rattle.ucl_board.specs.Fixtures.{IsSlot}
 use Rattle.ucl_order.specs.declared.game.Match.{Match}
 use Rattle.ucl_order.specs.declared.game.Appearance.{Appearance}
 use Rattle.ucl_order.specs.declared.results.Results.{Results}
-use Rattle.ucl_order.specs.Matches.{IsPairing, match_at, matches_of}
+use Rattle.ucl_order.specs.Matches.{IsPairing}
 use Rattle.ucl_order.specs.Appearances.{seen_by, seen_from_away, seen_from_home}
 use Rattle.ucl_order.specs.Results.{results_of}
 use Rattle.ucl_order.specs.Code.Counting.{with_match, IsWithin}
 use Rattle.ucl_order.specs.Order.{all_clubs}
 use Rattle.ucl_order.specs.Code.Rounds.{results_of_clubs}
 use Rattle.ucl_order.proofs.OneMatchMore.{push_more, push_same, within_later}
+use Rattle.ucl_board.proofs.Histories.{each_slot}
 
 -- A list with a place for each club, in which two clubs have one match more. --
 
@@ -20,32 +21,19 @@ module _ (X : Type 0) (more : X → Option Appearance → X) (none : (r : X) →
   two_more : (f : ℕ → X) (h a : ℕ) (x y : Appearance) (d e : X) → IsSlot h → IsSlot a → h ≢ a →
       let middle : List X = set (map f all_clubs) (h - 1) (more (get_or (map f all_clubs) (h - 1) d) (Some x)) in
       set middle (a - 1) (more (get_or middle (a - 1) e) (Some y)) ≡ map (λ c. more (f c) (if h == c then Some x else (if a == c then Some y else None))) all_clubs
-  two_more f zero a x y d e is_h is_a apart = absurd (omega arith)
-  two_more f (suc zero) zero x y d e is_h is_a apart = absurd (omega arith)
-  two_more f (suc zero) (suc zero) x y d e is_h is_a apart = absurd (apart refl)
-  two_more f (suc zero) (suc (suc zero)) x y d e is_h is_a apart = rw (none (f 3), none (f 4))
-  two_more f (suc zero) (suc (suc (suc zero))) x y d e is_h is_a apart = rw (none (f 2), none (f 4))
-  two_more f (suc zero) (suc (suc (suc (suc zero)))) x y d e is_h is_a apart = rw (none (f 2), none (f 3))
-  two_more f (suc zero) (suc (suc (suc (suc (suc n))))) x y d e is_h is_a apart = absurd (omega arith)
-  two_more f (suc (suc zero)) zero x y d e is_h is_a apart = absurd (omega arith)
-  two_more f (suc (suc zero)) (suc zero) x y d e is_h is_a apart = rw (none (f 3), none (f 4))
-  two_more f (suc (suc zero)) (suc (suc zero)) x y d e is_h is_a apart = absurd (apart refl)
-  two_more f (suc (suc zero)) (suc (suc (suc zero))) x y d e is_h is_a apart = rw (none (f 1), none (f 4))
-  two_more f (suc (suc zero)) (suc (suc (suc (suc zero)))) x y d e is_h is_a apart = rw (none (f 1), none (f 3))
-  two_more f (suc (suc zero)) (suc (suc (suc (suc (suc n))))) x y d e is_h is_a apart = absurd (omega arith)
-  two_more f (suc (suc (suc zero))) zero x y d e is_h is_a apart = absurd (omega arith)
-  two_more f (suc (suc (suc zero))) (suc zero) x y d e is_h is_a apart = rw (none (f 2), none (f 4))
-  two_more f (suc (suc (suc zero))) (suc (suc zero)) x y d e is_h is_a apart = rw (none (f 1), none (f 4))
-  two_more f (suc (suc (suc zero))) (suc (suc (suc zero))) x y d e is_h is_a apart = absurd (apart refl)
-  two_more f (suc (suc (suc zero))) (suc (suc (suc (suc zero)))) x y d e is_h is_a apart = rw (none (f 1), none (f 2))
-  two_more f (suc (suc (suc zero))) (suc (suc (suc (suc (suc n))))) x y d e is_h is_a apart = absurd (omega arith)
-  two_more f (suc (suc (suc (suc zero)))) zero x y d e is_h is_a apart = absurd (omega arith)
-  two_more f (suc (suc (suc (suc zero)))) (suc zero) x y d e is_h is_a apart = rw (none (f 2), none (f 3))
-  two_more f (suc (suc (suc (suc zero)))) (suc (suc zero)) x y d e is_h is_a apart = rw (none (f 1), none (f 3))
-  two_more f (suc (suc (suc (suc zero)))) (suc (suc (suc zero))) x y d e is_h is_a apart = rw (none (f 1), none (f 2))
-  two_more f (suc (suc (suc (suc zero)))) (suc (suc (suc (suc zero)))) x y d e is_h is_a apart = absurd (apart refl)
-  two_more f (suc (suc (suc (suc zero)))) (suc (suc (suc (suc (suc n))))) x y d e is_h is_a apart = absurd (omega arith)
-  two_more f (suc (suc (suc (suc (suc n))))) a x y d e is_h is_a apart = absurd (omega arith)
+  two_more f h a x y d e is_h is_a =
+      let P : ℕ → ℕ → Type 0 = λ h a. h ≢ a → (
+      let middle : List X = set (map f all_clubs) (h - 1) (more (get_or (map f all_clubs) (h - 1) d) (Some x)) in
+      set middle (a - 1) (more (get_or middle (a - 1) e) (Some y)) ≡ map (λ c. more (f c) (if h == c then Some x else (if a == c then Some y else None))) all_clubs) in
+      let n1 = none (f 1) in
+      let n2 = none (f 2) in
+      let n3 = none (f 3) in
+      let n4 = none (f 4) in
+      let with_1 = each_slot (P 1) (λ n. absurd (n refl)) (λ n. rw (n3, n4)) (λ n. rw (n2, n4)) (λ n. rw (n2, n3)) in
+      let with_2 = each_slot (P 2) (λ n. rw (n3, n4)) (λ n. absurd (n refl)) (λ n. rw (n1, n4)) (λ n. rw (n1, n3)) in
+      let with_3 = each_slot (P 3) (λ n. rw (n2, n4)) (λ n. rw (n1, n4)) (λ n. absurd (n refl)) (λ n. rw (n1, n2)) in
+      let with_4 = each_slot (P 4) (λ n. rw (n2, n3)) (λ n. rw (n1, n3)) (λ n. rw (n1, n2)) (λ n. absurd (n refl)) in
+      each_slot (λ h. (a : ℕ) → IsSlot a → P h a) with_1 with_2 with_3 with_4 h is_h a is_a
 
   -- the pass over the matches: one match more, whose clubs are those at p and q
   pub lists_more : (f g : ℕ → X) (m : Match) (d e : X) (before after : List X) (p q : ℕ) (home away : X) → IsPairing m → ((c : ℕ) → more (f c) (seen_by c m) ≡ g c) → before ≡ map f all_clubs →
@@ -96,23 +84,3 @@ pub within_two : (n : ℕ) (before : List Results) (p q : ℕ) (home away : Resu
 within_two n before p q home away all first second =
     let more : All (IsWithin (n + 1)) before = λ k d h. within_later n (n + 1) (get_or before k d) (omega arith) (all k d h) in
     All-set (IsWithin (n + 1)) (set before p home) q away second (All-set (IsWithin (n + 1)) before p home first more)
-
--- in each match of a board two different clubs of the group play
-pairing_at : (board : List ℕ) (k : ℕ) (d : ℕ) → k < length match_numbers → IsPairing (match_at board (get_or match_numbers k d))
-pairing_at board zero d h = ((omega arith, omega arith), (omega arith, omega arith), λ e. absurd (omega arith))
-pairing_at board (suc zero) d h = ((omega arith, omega arith), (omega arith, omega arith), λ e. absurd (omega arith))
-pairing_at board (suc (suc zero)) d h = ((omega arith, omega arith), (omega arith, omega arith), λ e. absurd (omega arith))
-pairing_at board (suc (suc (suc zero))) d h = ((omega arith, omega arith), (omega arith, omega arith), λ e. absurd (omega arith))
-pairing_at board (suc (suc (suc (suc zero)))) d h = ((omega arith, omega arith), (omega arith, omega arith), λ e. absurd (omega arith))
-pairing_at board (suc (suc (suc (suc (suc zero))))) d h = ((omega arith, omega arith), (omega arith, omega arith), λ e. absurd (omega arith))
-pairing_at board (suc (suc (suc (suc (suc (suc zero)))))) d h = ((omega arith, omega arith), (omega arith, omega arith), λ e. absurd (omega arith))
-pairing_at board (suc (suc (suc (suc (suc (suc (suc zero))))))) d h = ((omega arith, omega arith), (omega arith, omega arith), λ e. absurd (omega arith))
-pairing_at board (suc (suc (suc (suc (suc (suc (suc (suc zero)))))))) d h = ((omega arith, omega arith), (omega arith, omega arith), λ e. absurd (omega arith))
-pairing_at board (suc (suc (suc (suc (suc (suc (suc (suc (suc zero))))))))) d h = ((omega arith, omega arith), (omega arith, omega arith), λ e. absurd (omega arith))
-pairing_at board (suc (suc (suc (suc (suc (suc (suc (suc (suc (suc zero)))))))))) d h = ((omega arith, omega arith), (omega arith, omega arith), λ e. absurd (omega arith))
-pairing_at board (suc (suc (suc (suc (suc (suc (suc (suc (suc (suc (suc zero))))))))))) d h = ((omega arith, omega arith), (omega arith, omega arith), λ e. absurd (omega arith))
-pairing_at board (suc (suc (suc (suc (suc (suc (suc (suc (suc (suc (suc (suc n)))))))))))) d h = absurd (omega arith)
-
-pub pairings : (board : List ℕ) → All IsPairing (matches_of board)
-unfolding matches_of
-pairings board = All-map IsPairing (match_at board) match_numbers (pairing_at board)

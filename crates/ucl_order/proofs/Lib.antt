@@ -1,3 +1,4 @@
+pub mod Slots
 pub mod Clubs
 pub mod OneMatchMore
 pub mod GatheredResults

@@ -1,5 +1,5 @@
 -- What a club of a group can do at most.
-use Rattle.std.proofs.Common.{◌≡◌, ℕ, zero, suc, ◌+◌, ◌*◌, ◌-◌, ◌≤◌, ◌==◌, Bool, true, false, cond, if◌then◌else◌, List, [], ◌∷◌, Option, Some, None, length, filter, count_by, refl, subst, arith, All}
+use Rattle.std.proofs.Common.{◌≡◌, ℕ, ◌+◌, ◌*◌, ◌-◌, ◌≤◌, ◌==◌, Bool, true, false, cond, if◌then◌else◌, List, [], ◌∷◌, Option, Some, None, length, filter, count_by, refl, subst, arith, All}
 use Rattle.std.specs.List.{slice_index, cons_option}
 use Rattle.std.proofs.lemmas.Bool.Decides.{nat_tests}
 use Rattle.std.proofs.lemmas.List.Sums.{sum_by-cons, sum_by-le, count_by-le-length}
@@ -18,7 +18,8 @@ use Rattle.ucl_order.specs.Order.{all_clubs, order_of}
 use Rattle.ucl_order.specs.Code.Counting.{worth}
 use Rattle.ucl_order.specs.Rows.{row_of, row_with, rows_of, IsWithinTable}
 use Rattle.ucl_order.proofs.Classes.{IsPermutation-order}
-use Rattle.ucl_order.proofs.TiedOrder.{slots}
+use Rattle.ucl_order.proofs.Slots.{all-four, slots}
+use Rattle.ucl_board.proofs.Histories.{each_slot}
 
 -- One match more in front. --
 
@@ -78,12 +79,7 @@ played-filter p club (m ∷ ms) =
 -- each club has six matches
 pub six : (board : List ℕ) (club : ℕ) → IsSlot club → played club (matches_of board) ≡ 6
 unfolding matches_of
-six board zero h = absurd (omega arith)
-six board (suc zero) h = refl
-six board (suc (suc zero)) h = refl
-six board (suc (suc (suc zero))) h = refl
-six board (suc (suc (suc (suc zero)))) h = refl
-six board (suc (suc (suc (suc (suc n))))) h = absurd (omega arith)
+six board club slot = each_slot (λ c. played c (matches_of board) ≡ 6) refl refl refl refl club slot
 
 -- Goals and cards. --
 
@@ -152,8 +148,5 @@ module _ (profile : Profile) (board : List ℕ) (roster : List NamedClub) (valid
       (All-filter has_started HasScore (matches_of board) valid) (at_most_six board (slice_index order (place - 1)) slot)
 
   pub rows_within : All IsWithinTable (rows_of profile board roster)
-  rows_within zero d h = row_within 1 (omega arith) (omega arith)
-  rows_within (suc zero) d h = row_within 2 (omega arith) (omega arith)
-  rows_within (suc (suc zero)) d h = row_within 3 (omega arith) (omega arith)
-  rows_within (suc (suc (suc zero))) d h = row_within 4 (omega arith) (omega arith)
-  rows_within (suc (suc (suc (suc n)))) d h = absurd (omega arith)
+  rows_within = all-four IsWithinTable _ _ _ _ (row_within 1 (omega arith) (omega arith)) (row_within 2 (omega arith) (omega arith))
+      (row_within 3 (omega arith) (omega arith)) (row_within 4 (omega arith) (omega arith))

@@ -1,5 +1,5 @@
 -- One match more in what a club has done.
-use Rattle.std.proofs.Common.{◌≡◌, ℕ, zero, suc, ◌+◌, ◌-◌, ◌<◌, ◌≤◌, ◌&&◌, Bool, true, false, cond, if◌then◌else◌, Option, List, [], ◌∷◌, ◌++◌, Some, None, length, get_or, take, map, filter, count_by}
+use Rattle.std.proofs.Common.{◌≡◌, ℕ, ◌+◌, ◌-◌, ◌<◌, ◌≤◌, ◌&&◌, Bool, true, false, cond, if◌then◌else◌, Option, List, [], ◌∷◌, ◌++◌, Some, None, length, get_or, take, map, filter, count_by}
 use Rattle.std.proofs.Common.{sum_by, refl, sym, ap, ◌∙◌, arith, append-nil, add-zero}
 use Rattle.std.specs.List.{cons_option, filter_map}
 use Rattle.std.proofs.lemmas.List.{take_more, length_push, map-append}
@@ -18,6 +18,7 @@ use Rattle.ucl_order.specs.Appearances.{seen_by, is_won, is_drawn, is_lost, disc
 use Rattle.ucl_order.specs.Results.{points_for, appearances, results_of}
 use Rattle.ucl_order.specs.Code.Counting.{with_match, IsWithin, seen_among}
 use Rattle.ucl_order.specs.Order.{among, is_in}
+use Rattle.ucl_board.proofs.Histories.{number_listed}
 
 -- the same of matches as the club saw them
 pub totals : List Appearance → Results
@@ -193,29 +194,13 @@ row_of_results place slot mark ms r p is h = rw (h, is)
 
 -- The twelve matches, one after another. --
 
-number_at : (n : ℕ) → 1 ≤ n → n ≤ 12 → get_or match_numbers (n - 1) 0 ≡ n
-number_at zero h k = absurd (omega arith)
-number_at (suc zero) h k = refl
-number_at (suc (suc zero)) h k = refl
-number_at (suc (suc (suc zero))) h k = refl
-number_at (suc (suc (suc (suc zero)))) h k = refl
-number_at (suc (suc (suc (suc (suc zero))))) h k = refl
-number_at (suc (suc (suc (suc (suc (suc zero)))))) h k = refl
-number_at (suc (suc (suc (suc (suc (suc (suc zero))))))) h k = refl
-number_at (suc (suc (suc (suc (suc (suc (suc (suc zero)))))))) h k = refl
-number_at (suc (suc (suc (suc (suc (suc (suc (suc (suc zero))))))))) h k = refl
-number_at (suc (suc (suc (suc (suc (suc (suc (suc (suc (suc zero)))))))))) h k = refl
-number_at (suc (suc (suc (suc (suc (suc (suc (suc (suc (suc (suc zero))))))))))) h k = refl
-number_at (suc (suc (suc (suc (suc (suc (suc (suc (suc (suc (suc (suc zero)))))))))))) h k = refl
-number_at (suc (suc (suc (suc (suc (suc (suc (suc (suc (suc (suc (suc (suc n))))))))))))) h k = absurd (omega arith)
-
 pub matches_more : (board : List ℕ) (n : ℕ) (before after : List Match) (m : Match) → 1 ≤ n → n ≤ 12
     → before ≡ map (match_at board) (take (n - 1) match_numbers) → m ≡ match_at board n → after ≡ before ++ m ∷ [] →
     after ≡ map (match_at board) (take (n + 1 - 1) match_numbers)
 matches_more board n before after m low high is one next =
     let at : n + 1 - 1 ≡ n - 1 + 1 = omega arith in
     let within : n - 1 < length match_numbers = omega arith in
-    rw (at, take_more match_numbers (n - 1) 0 within, number_at n low high, map-append (match_at board) (take (n - 1) match_numbers) (n ∷ []), next, is, one)
+    rw (at, take_more match_numbers (n - 1) 0 within, number_listed n 0 (low, high), map-append (match_at board) (take (n - 1) match_numbers) (n ∷ []), next, is, one)
 
 pub matches_all : (board : List ℕ) (n : ℕ) (ms : List Match) → n ≡ 13 → ms ≡ map (match_at board) (take (n - 1) match_numbers) → ms ≡ matches_of board
 unfolding matches_of
