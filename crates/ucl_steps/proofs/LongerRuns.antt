@@ -5,7 +5,8 @@ use Rattle.ucl_steps.proofs.Common.{IsReporter, word_at, AccessKind, Access, Log
 use Rattle.ucl_steps.proofs.Common.{End, Held, Holding, Collecting, Checking, Outcome, GoesOn, Answers, looked, swapped, loaded, compared, Holds, Idle, Wanting, Within, Answered, Callers}
 use Rattle.ucl_steps.proofs.Common.{MachineState, initial_state, held_by, set_held, may_begin, held_at_begin, after_begin, after_end, after_outcome, stored, state_after_look, state_after_swap}
 use Rattle.ucl_steps.proofs.Common.{state_after_first, state_after_second, after_step_holding, caller_of, after_step, after_steps, step_of, access_in, accesses_holding, accesses_of_step, begun_in}
-use Rattle.ucl_steps.proofs.Common.{cast_for, begin_by, caller_for, IsOf, is_of, call_of, FitsHeld, calls_told, calls_by, left_by, FitsRun, Move, end_by, steps_of_move, steps_of_moves, Actor, IsTakenBy}
+use Rattle.ucl_steps.proofs.Common.{cast_for, begin_by, caller_for, IsOf, is_of, call_of, FitsHeld, calls_told, calls_by, left_by, FitsRun, Move, end_by, steps_of_move, steps_of_moves}
+use Rattle.ucl_steps.proofs.Common.{Actor, IsTakenBy}
 use Rattle.ucl_steps.proofs.Common.{accesses_of_log, AreStepsOf, IsRunOfLog, HasGoneOn, HaveGoneOn}
 use Rattle.std.proofs.Common.{replicate}
 use Rattle.ucl_board.specs.Log as kinds

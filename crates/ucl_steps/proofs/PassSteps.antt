@@ -1,5 +1,6 @@
 -- One step of a pass on a match word, as steps of the machine: what the pass has done and holds stays what its callers have done and hold.
-use Rattle.ucl_steps.proofs.Common.{calls_asked, AccessKind, ◌≡◌, ◌≢◌, ℕ, ◌+◌, ◌<◌, ◌≤◌, ◌==◌, Bool, true, false, cond, List, ◌∷◌, ◌++◌, length, map, Option, Some, None, refl, sym, ap, ◌∙◌, subst, arith, append_assoc, []}
+use Rattle.ucl_steps.proofs.Common.{calls_asked, AccessKind, ◌≡◌, ◌≢◌, ℕ, ◌+◌, ◌<◌, ◌≤◌, ◌==◌, Bool, true, false, cond, List, ◌∷◌, ◌++◌, length, map, Option, Some, None, refl, sym, ap, ◌∙◌}
+use Rattle.ucl_steps.proofs.Common.{subst, arith, append_assoc, []}
 use Rattle.ucl_steps.proofs.Common.{append-nil, le_refl, eq-eqb, ne_eqb, slice_get, slice_index, IsSome, is_some, same_Some, option_and_then_some, false≢true, cases_eq, length_push, map-append}
 use Rattle.ucl_steps.proofs.Common.{EventCall, Refusal, refusal_of, after, record_at, at_below, at_longer, at_end, Entry, board_of, reading_of, entry_of, Access, Cast, Caller, Reporter, Reader, Call}
 use Rattle.ucl_steps.proofs.Common.{Event, Reading, Step, Begin, End, CallRecord, Reply, Copied, Holds, Idle, Within, Answered, MachineState, initial_state, held_by, with_held, with_reply, with_end}
