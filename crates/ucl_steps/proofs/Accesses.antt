@@ -88,7 +88,10 @@ unclean_try h low high ms f try =
 pub tries_bound : (h : List Entry) (low high : ℕ) (tries : List (List Access)) → Follows h low (accesses_of tries) high → AllByRecursion IsUnclean tries
     → (low + length tries ≤ high) × (length (accesses_of tries) ≤ 24 * length tries)
 tries_bound h low high [] f all = (omega arith, omega arith)
-tries_bound h low high (ms ∷ tries) f all = search (arith, follows_parts, unclean_try, length-append, tries_bound h (follows_parts h low high ms (accesses_of tries) f).middle high tries (follows_parts h low high ms (accesses_of tries) f).latter all.1)
+tries_bound h low high (ms ∷ tries) f all =
+    let parts = follows_parts h low high ms (accesses_of tries) f in
+    let rest = tries_bound h parts.middle high tries parts.latter all.1 in
+    search (arith, rest, unclean_try h low parts.middle ms parts.former all.0, length-append)
 
 pub tries_few : UncleanTriesAreFew
 tries_few h low high tries f all = (tries_bound h low high tries f all).0

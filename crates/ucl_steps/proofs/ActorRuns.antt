@@ -136,7 +136,7 @@ module _ (readers enlisted : ℕ) (history : List Entry) (actors : List Actor) (
   newcomer_idle d is = search (arith, le_refl)
 
   newcomer_none : All (λ (x : Told). is_of (length actors) 0 x.0 ≡ false) (calls_told r.state)
-  newcomer_none k d lt = search (arith, r.only k d lt, place_below actors (r.only k d lt).0 (r.only k d lt).1 (r.only k d lt).2, place_below, not_of, apart_callers)
+  newcomer_none k d lt = let t = r.only k d lt in search (arith, t, place_below actors t.0 t.1 t.2, not_of, apart_callers)
 
   pub run_more : IsRunOfActors readers enlisted history (actors ++ record { number = 0; doing = nothing_done } ∷ [])
   run_more =

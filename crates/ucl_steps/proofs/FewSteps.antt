@@ -7,7 +7,7 @@ use Rattle.ucl_steps.proofs.Common.{Nothing, Holding, Collecting, Checking, Goes
 use Rattle.ucl_steps.proofs.Common.{with_held, after_reply, change_at, with_reply, with_end, held_at_begin, after_begin, after_outcome, stored, state_after_swap, state_after_first, state_after_second}
 use Rattle.ucl_steps.proofs.Common.{after_end, after_step_holding, caller_of, after_step, after_steps, most_between, decided_in, is_caller, steps_by, SomeCallIsDecided}
 use Rattle.ucl_steps.proofs.CallFacts.{Checks}
-use Rattle.ucl_steps.proofs.Callers.{same_caller, held_here, held_else}
+use Rattle.ucl_steps.proofs.Lists.{same_caller, held_here, held_else}
 use Rattle.ucl_steps.proofs.Invariant.{Keeps}
 use Rattle.ucl_steps.proofs.KeptBySteps.{step_kept}
 use Rattle.ucl_steps.proofs.Runs.{kept_at_start, run_kept}
