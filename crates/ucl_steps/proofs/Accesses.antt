@@ -65,7 +65,8 @@ collect_set kind words ms i n le c k m e = let t = c k m e in let l = at_below m
 -- tries
 
 -- the last Second of an unclean try was overtaken by an entry since the First of its match
-overtaken : (h : List Entry) (low high : ℕ) (ms : List Access) → Follows h low ms high → (try : IsUnclean ms) (first : Access) → slice_get try.firsts (length try.broken.equal) ≡ Some first
+overtaken : (h : List Entry) (low high : ℕ) (ms : List Access) → Follows h low ms high → (try : IsUnclean ms) (first : Access)
+    → slice_get try.firsts (length try.broken.equal) ≡ Some first
     → (low ≤ first.at) × (first.at < try.broken.last.at) × (try.broken.last.at ≤ high)
 overtaken h low high ms f try first at =
     let parts = follows_parts h low high try.firsts try.seconds (subst (λ (z : List Access). Follows h low z high) try.accesses f) in

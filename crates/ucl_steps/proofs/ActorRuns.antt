@@ -90,7 +90,9 @@ module _ (readers enlisted : ℕ) (history : List Entry) (actors : List Actor) (
         state = t.last;
         run = run_on r.moves t.moves (initial_state (cast_for readers)) r.state t.last r.run t.run;
         history_is = t.history ∙ (ap (λ (h : List Entry). h ++ entries) r.history_is ∙ sym more);
-        each = λ j u at. search (arith, at_set actors seat j b u at, t, fits_else j u.number c r.state t.last, apart_callers j seat u.number a.number c, apart j seat u a, r.each j u, here);
+        each = λ j u at.
+            let other = fits_else j u.number c r.state t.last in
+            search (arith, at_set actors seat j b u at, t, other, apart_callers j seat u.number a.number c, apart j seat u a, r.each j u, here);
         only =
             let mine : (call : Call) → IsOfActor (set actors seat b) (c, call) = λ call. (seat, b, set_here actors seat b (place_below actors seat a here), t.of) in
             subst (All (IsOfActor (set actors seat b))) (sym t.passes.told)

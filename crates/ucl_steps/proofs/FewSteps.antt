@@ -274,5 +274,6 @@ all_few cast done w kept sizes =
 pub some_decided : SomeCallIsDecided
 some_decided cast before steps s t e f same =
     let kept = run_kept before [] (initial_state cast) s (kept_at_start cast) e in
-    let sizes = as_cast_run cast [] before (initial_state cast) s (kept_at_start cast) e (record { reporters = length-replicate cast.reporters Idle; readers = length-replicate cast.readers Idle }) in
+    let start : AsCast cast (initial_state cast).callers = record { reporters = length-replicate cast.reporters Idle; readers = length-replicate cast.readers Idle } in
+    let sizes = as_cast_run cast [] before (initial_state cast) s (kept_at_start cast) e start in
     search (arith, few_in_all before steps s t kept f (omega arith), all_few cast before s kept sizes, each_few)

@@ -158,7 +158,8 @@ moving m rest a last e =
     let t = ending c m.ends rest v last then in
     let l = step_left c m.kind b.0 v is in
     let moved : Moved m a t.0 = record { begun = b.0; made = v; begins = b.1; makes = is; ends = t.1 } in
-    let left : left_by (steps_of_move m ++ rest) (Some a) ≡ (c, l.0) ∷ left_by rest (Some t.0) = ap (λ (l : List Step). left_by l (Some a)) one ∙ (b.3 ∙ search (arith, caller_of_kind)) in
+    let left : left_by (steps_of_move m ++ rest) (Some a) ≡ (c, l.0) ∷ left_by rest (Some t.0) =
+    ap (λ (l : List Step). left_by l (Some a)) one ∙ (b.3 ∙ search (arith, caller_of_kind)) in
     record { after = t.0; moved = moved; then = t.2; access = l.0; kind = l.2; left = left })
 
 -- who can take no step

@@ -261,9 +261,10 @@ module _ (cast : Cast) (seat number : ℕ) (steps : List Step) (w : MachineState
 
   pub turn_look : (e : EventCall) → MayAsk number (Event e) → d.held ≡ Nothing → Does log.Look e.game m → Turn seat number w (Reporter number) m (after_look number e m.found m.at d) []
   turn_look e may none does =
+      let u = under_now (Event e) may none in
       subst (λ (p : ℕ). Turn seat number w (Reporter number) m (after_look number e m.found p d) []) (sym now.place)
       (turn_new (Event e) may none (length w.history) (looked number e m.found) (can_look e may (refusal_of (record_at m.found) e.expected e.kind) refl)
-      (made_look (after_begin (Reporter number) (Event e) w) m words_now (is_begun (Event e) may none) number (under_now (Event e) may none).place e (under_now (Event e) may none).held may.1 does))
+      (made_look (after_begin (Reporter number) (Event e) w) m words_now (is_begun (Event e) may none) number u.place e u.held may.1 does))
 
   -- Swap
   module _ (e : EventCall) (old new : ℕ) (is_held : d.held ≡ Holding e old new) (does : Does log.Swap e.game m) where
