@@ -65,7 +65,8 @@ collect_set kind words ms i n le c k m e = let t = c k m e in let l = at_below m
 -- tries
 
 -- the last Second of an unclean try was overtaken by an entry since the First of its match
-overtaken : (h : List Entry) (low high : ℕ) (ms : List Access) → Follows h low ms high → (try : IsUnclean ms) (first : Access) → slice_get try.firsts (length try.broken.equal) ≡ Some first
+overtaken : (h : List Entry) (low high : ℕ) (ms : List Access) → Follows h low ms high → (try : IsUnclean ms) (first : Access)
+    → slice_get try.firsts (length try.broken.equal) ≡ Some first
     → (low ≤ first.at) × (first.at < try.broken.last.at) × (try.broken.last.at ≤ high)
 overtaken h low high ms f try first at =
     let parts = follows_parts h low high try.firsts try.seconds (subst (λ (z : List Access). Follows h low z high) try.accesses f) in
@@ -89,8 +90,9 @@ pub tries_bound : (h : List Entry) (low high : ℕ) (tries : List (List Access))
     → (low + length tries ≤ high) × (length (accesses_of tries) ≤ 24 * length tries)
 tries_bound h low high [] f all = (omega arith, omega arith)
 tries_bound h low high (ms ∷ tries) f all =
-    let p = follows_parts h low high ms (accesses_of tries) f in
-    search (arith, follows_parts, unclean_try, length-append, tries_bound h p.middle high tries p.latter all.1)
+    let parts = follows_parts h low high ms (accesses_of tries) f in
+    let rest = tries_bound h parts.middle high tries parts.latter all.1 in
+    search (arith, rest, unclean_try h low parts.middle ms parts.former all.0, length-append)
 
 pub tries_few : UncleanTriesAreFew
 tries_few h low high tries f all = (tries_bound h low high tries f all).0

@@ -90,7 +90,9 @@ module _ (readers enlisted : ℕ) (history : List Entry) (actors : List Actor) (
         state = t.last;
         run = run_on r.moves t.moves (initial_state (cast_for readers)) r.state t.last r.run t.run;
         history_is = t.history ∙ (ap (λ (h : List Entry). h ++ entries) r.history_is ∙ sym more);
-        each = λ j u at. search (arith, at_set actors seat j b u at, t, fits_else j u.number c r.state t.last, apart_callers j seat u.number a.number c, apart j seat u a, r.each j u, here);
+        each = λ j u at.
+            let other = fits_else j u.number c r.state t.last in
+            search (arith, at_set actors seat j b u at, t, other, apart_callers j seat u.number a.number c, apart j seat u a, r.each j u, here);
         only =
             let mine : (call : Call) → IsOfActor (set actors seat b) (c, call) = λ call. (seat, b, set_here actors seat b (place_below actors seat a here), t.of) in
             subst (All (IsOfActor (set actors seat b))) (sym t.passes.told)
@@ -136,7 +138,7 @@ module _ (readers enlisted : ℕ) (history : List Entry) (actors : List Actor) (
   newcomer_idle d is = search (arith, le_refl)
 
   newcomer_none : All (λ (x : Told). is_of (length actors) 0 x.0 ≡ false) (calls_told r.state)
-  newcomer_none k d lt = search (arith, r.only k d lt, place_below actors (r.only k d lt).0 (r.only k d lt).1 (r.only k d lt).2, place_below, not_of, apart_callers)
+  newcomer_none k d lt = let t = r.only k d lt in search (arith, t, place_below actors t.0 t.1 t.2, not_of, apart_callers)
 
   pub run_more : IsRunOfActors readers enlisted history (actors ++ record { number = 0; doing = nothing_done } ∷ [])
   run_more =

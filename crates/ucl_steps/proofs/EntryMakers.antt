@@ -2,7 +2,7 @@
 use Rattle.ucl_steps.proofs.Common.{◌≡◌, ◌≢◌, ℕ, ◌<◌, true, false, List, ◌∷◌, ◌++◌, length, Option, Some, None, inl, inr, sym, ap, ◌∙◌, subst, arith, [], slice_get, IsSomeAnd, none-some, same_Some}
 use Rattle.ucl_steps.proofs.Common.{map, slice_get-map, cases_eq, false≢true, length_push, Entry, at_longer, at_either, Reply, CallRecord, change_at, is_accepted, Makes, EntryHasOneCall}
 use Rattle.ucl_steps.proofs.Explanations.{IsExplained}
-use Rattle.ucl_steps.proofs.ChangedLists.{get-change_at, change_at_here, change_at_else, map_unseen}
+use Rattle.ucl_steps.proofs.Lists.{get-change_at, change_at_here, change_at_else, map_unseen}
 
 pub and_some : {A : Type 0} (o : Option A) (P : A → Type 0) → IsSomeAnd o P → (x : A) × (o ≡ Some x) × P x
 and_some o P p = search arith

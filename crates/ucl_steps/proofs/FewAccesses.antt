@@ -7,7 +7,7 @@ use Rattle.ucl_steps.proofs.Runs.{kept_at_start, run_kept}
 use Rattle.ucl_steps.proofs.OneStep.{steps_append}
 use Rattle.ucl_steps.proofs.PassSteps.{left_append}
 use Rattle.ucl_steps.proofs.ActorRuns.{Apart}
-use Rattle.ucl_steps.proofs.Callers.{same_caller}
+use Rattle.ucl_steps.proofs.Lists.{same_caller}
 use Rattle.ucl_steps.proofs.LongerRuns.{taken_of, answered_stays, answered_ends, accesses_more, longer_runs}
 use Rattle.ucl_steps.proofs.FewSteps.{decided_more, each_few, takes_none}
 use Rattle.ucl_steps.proofs.FinishedCalls.{finished_decided, decided_finished}

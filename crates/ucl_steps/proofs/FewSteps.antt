@@ -7,7 +7,7 @@ use Rattle.ucl_steps.proofs.Common.{Nothing, Holding, Collecting, Checking, Goes
 use Rattle.ucl_steps.proofs.Common.{with_held, after_reply, change_at, with_reply, with_end, held_at_begin, after_begin, after_outcome, stored, state_after_swap, state_after_first, state_after_second}
 use Rattle.ucl_steps.proofs.Common.{after_end, after_step_holding, caller_of, after_step, after_steps, most_between, decided_in, is_caller, steps_by, SomeCallIsDecided}
 use Rattle.ucl_steps.proofs.CallFacts.{Checks}
-use Rattle.ucl_steps.proofs.Callers.{same_caller, held_here, held_else}
+use Rattle.ucl_steps.proofs.Lists.{same_caller, held_here, held_else}
 use Rattle.ucl_steps.proofs.Invariant.{Keeps}
 use Rattle.ucl_steps.proofs.KeptBySteps.{step_kept}
 use Rattle.ucl_steps.proofs.Runs.{kept_at_start, run_kept}
@@ -274,5 +274,6 @@ all_few cast done w kept sizes =
 pub some_decided : SomeCallIsDecided
 some_decided cast before steps s t e f same =
     let kept = run_kept before [] (initial_state cast) s (kept_at_start cast) e in
-    let sizes = as_cast_run cast [] before (initial_state cast) s (kept_at_start cast) e (record { reporters = length-replicate cast.reporters Idle; readers = length-replicate cast.readers Idle }) in
+    let start : AsCast cast (initial_state cast).callers = record { reporters = length-replicate cast.reporters Idle; readers = length-replicate cast.readers Idle } in
+    let sizes = as_cast_run cast [] before (initial_state cast) s (kept_at_start cast) e start in
     search (arith, few_in_all before steps s t kept f (omega arith), all_few cast before s kept sizes, each_few)

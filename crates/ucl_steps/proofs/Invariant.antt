@@ -3,10 +3,8 @@ use Rattle.ucl_steps.proofs.Common.{◌≡◌, ◌≢◌, ℕ, zero, suc, List, 
 use Rattle.ucl_steps.proofs.Common.{none-some, same_Some, slice_get-map, false≢true, map-append, length-map, Entry, board_of, IsLegal, IsPrefix, at_below, at_longer, at_end, at_either}
 use Rattle.ucl_steps.proofs.Common.{begins_length, begins_same, Caller, Call, Step, Begin, End, CallRecord, Reply, Holds, Idle, Answered, Callers, MachineState, held_by, set_held, with_held}
 use Rattle.ucl_steps.proofs.Common.{change_at, with_end, EntryHasOneCall}
-use Rattle.ucl_steps.proofs.Lists.{get_some}
+use Rattle.ucl_steps.proofs.Lists.{get_some, get-change_at, change_at_here, change_at_else, map_unseen, map-change_at, same_caller, held_here, held_else}
 use Rattle.ucl_steps.proofs.Explanations.{IsExplained}
-use Rattle.ucl_steps.proofs.ChangedLists.{get-change_at, change_at_here, change_at_else, map_unseen, map-change_at}
-use Rattle.ucl_steps.proofs.Callers.{same_caller, held_here, held_else}
 use Rattle.ucl_steps.proofs.Turns.{Time, Turns, IsInner, turns_inner, turns_begin, turns_end, ended_at}
 use Rattle.ucl_steps.proofs.CallFacts.{in_call, Sees, Knows, sees_later, explained_later}
 use Rattle.ucl_steps.proofs.EntryMakers.{once_kept, once_begun}

@@ -134,10 +134,7 @@ module _ (steps : List Step) (w : MachineState) (kept : Keeps steps w) where
   loaded_more : (loaded : List ℕ) → length loaded < 12 → Loaded w.history loaded now → Loaded w.history (loaded ++ slice_index w.words (length loaded) ∷ []) now
   loaded_more loaded few before i less =
       let long = length_push loaded (slice_index w.words (length loaded)) in
-      elim (cases_lt i (length loaded)) [
-        | inl l ↦ let t = before i l in (t.0, t.1, get_or_append_left loaded (slice_index w.words (length loaded) ∷ []) 0 i l ∙ t.2)
-        | inr l ↦ search (arith, le_refl now, word_at_place i (omega arith), get_or_push)
-      ]
+      search (arith, cases_lt i (length loaded), long, before i, get_or_append_left, le_refl now, word_at_place i, get_or_push)
 
   first_kept : (c : Caller) (k : ℕ) (loaded : List ℕ) (holds : held_by w.callers c ≡ Some (Within k (Collecting loaded))) (b : Bool)
       → (length (loaded ++ slice_index w.words (length loaded) ∷ []) == 12) ≡ b

@@ -1,10 +1,8 @@
 pub mod Common
 pub mod Lists
 pub mod Histories
-pub mod ChangedLists
 pub mod Places
 pub mod Turns
-pub mod Callers
 pub mod Explanations
 pub mod CallFacts
 pub mod Clauses

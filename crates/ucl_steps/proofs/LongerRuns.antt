@@ -1,16 +1,15 @@
 -- A run is told by the log and by what the actors have asked: so runs of later states are longer runs.
 use Rattle.ucl_steps.proofs.Common.{calls_asked, ◌≡◌, ◌≢◌, ◌⊎◌, inl, inr, ℕ, suc, ◌+◌, Bool, true, false, cond, List, ◌∷◌, ◌++◌, length, map, Option, Some, None, refl, sym, ap, [], ◌∙◌, subst, arith}
 use Rattle.ucl_steps.proofs.Common.{append_assoc, eq-eqb, slice_get, none-some, same_Some, option_and_then_some, le-leb, flat_map-append, some, some-injective, IsPrefix, get_elem?, EventCall}
-use Rattle.ucl_steps.proofs.Common.{IsReporter, word_at, AccessKind, Access, Logged, Log, access_list, slice_index, Cast, Caller, Reporter, Call, Reading, Step, Begin, Look, Swap, First, Second}
-use Rattle.ucl_steps.proofs.Common.{End, Held, Holding, Collecting, Checking, Outcome, GoesOn, Answers, looked, swapped, loaded, compared, Holds, Idle, Wanting, Within, Answered, Callers}
-use Rattle.ucl_steps.proofs.Common.{MachineState, initial_state, held_by, set_held, may_begin, held_at_begin, after_begin, after_end, after_outcome, stored, state_after_look, state_after_swap}
-use Rattle.ucl_steps.proofs.Common.{state_after_first, state_after_second, after_step_holding, caller_of, after_step, after_steps, step_of, access_in, accesses_holding, accesses_of_step, begun_in}
-use Rattle.ucl_steps.proofs.Common.{cast_for, begin_by, caller_for, IsOf, is_of, call_of, FitsHeld, calls_told, calls_by, left_by, FitsRun, Move, end_by, steps_of_move, steps_of_moves}
-use Rattle.ucl_steps.proofs.Common.{Actor, IsTakenBy}
-use Rattle.ucl_steps.proofs.Common.{accesses_of_log, AreStepsOf, IsRunOfLog, HasGoneOn, HaveGoneOn}
+use Rattle.ucl_steps.proofs.Common.{IsReporter, word_at, AccessKind, Access, Logged, Log, access_list, slice_index, Cast, Caller, Reporter, Call, Reading, Step, Begin, Look, Swap, First, Second, End}
+use Rattle.ucl_steps.proofs.Common.{Held, Holding, Collecting, Checking, Outcome, GoesOn, Answers, looked, swapped, loaded, compared, Holds, Idle, Wanting, Within, Answered, Callers, MachineState}
+use Rattle.ucl_steps.proofs.Common.{initial_state, held_by, set_held, may_begin, held_at_begin, after_begin, after_end, after_outcome, stored, state_after_look, state_after_swap, state_after_first}
+use Rattle.ucl_steps.proofs.Common.{state_after_second, after_step_holding, caller_of, after_step, after_steps, step_of, access_in, accesses_holding, accesses_of_step, begun_in, cast_for, begin_by}
+use Rattle.ucl_steps.proofs.Common.{caller_for, IsOf, is_of, call_of, FitsHeld, calls_told, calls_by, left_by, FitsRun, Move, end_by, steps_of_move, steps_of_moves, Actor, IsTakenBy, accesses_of_log}
+use Rattle.ucl_steps.proofs.Common.{AreStepsOf, IsRunOfLog, HasGoneOn, HaveGoneOn}
 use Rattle.std.proofs.Common.{replicate}
 use Rattle.ucl_board.specs.Log as kinds
-use Rattle.ucl_steps.proofs.Callers.{same_caller, held_here, held_else}
+use Rattle.ucl_steps.proofs.Lists.{same_caller, held_here, held_else}
 use Rattle.ucl_steps.proofs.Runs.{linearizable_run}
 use Rattle.ucl_steps.proofs.PassSteps.{move_of}
 use Rattle.ucl_steps.proofs.OneStep.{and_true, caller_of_kind, calls_append, calls_next}
@@ -159,7 +158,8 @@ moving m rest a last e =
     let t = ending c m.ends rest v last then in
     let l = step_left c m.kind b.0 v is in
     let moved : Moved m a t.0 = record { begun = b.0; made = v; begins = b.1; makes = is; ends = t.1 } in
-    let left : left_by (steps_of_move m ++ rest) (Some a) ≡ (c, l.0) ∷ left_by rest (Some t.0) = ap (λ (l : List Step). left_by l (Some a)) one ∙ (b.3 ∙ search (arith, caller_of_kind)) in
+    let left : left_by (steps_of_move m ++ rest) (Some a) ≡ (c, l.0) ∷ left_by rest (Some t.0) =
+    ap (λ (l : List Step). left_by l (Some a)) one ∙ (b.3 ∙ search (arith, caller_of_kind)) in
     record { after = t.0; moved = moved; then = t.2; access = l.0; kind = l.2; left = left })
 
 -- who can take no step

@@ -8,8 +8,7 @@ use Rattle.ucl_steps.proofs.Common.{accesses_holding, accesses_of_step, IsInCast
 use Rattle.std.proofs.Common.{replicate}
 use Rattle.ucl_word.specs.declared.event.Accepted as word
 use Rattle.ucl_board.specs.Log as log
-use Rattle.ucl_steps.proofs.ChangedLists.{change_at_else, length-change_at, map_unseen}
-use Rattle.ucl_steps.proofs.Callers.{held_else}
+use Rattle.ucl_steps.proofs.Lists.{change_at_else, length-change_at, map_unseen, held_else}
 
 -- steps one after another
 

@@ -1,16 +1,15 @@
 -- One step of a pass on a match word, as steps of the machine: what the pass has done and holds stays what its callers have done and hold.
-use Rattle.ucl_steps.proofs.Common.{calls_asked, AccessKind, ◌≡◌, ◌≢◌, ℕ, ◌+◌, ◌<◌, ◌≤◌, ◌==◌, Bool, true, false, cond, List, ◌∷◌, ◌++◌, length, map, Option, Some, None, refl, sym, ap, ◌∙◌}
-use Rattle.ucl_steps.proofs.Common.{subst, arith, append_assoc, []}
-use Rattle.ucl_steps.proofs.Common.{append-nil, le_refl, eq-eqb, ne_eqb, slice_get, slice_index, IsSome, is_some, same_Some, option_and_then_some, false≢true, cases_eq, length_push, map-append}
-use Rattle.ucl_steps.proofs.Common.{EventCall, Refusal, refusal_of, after, record_at, at_below, at_longer, at_end, Entry, board_of, reading_of, entry_of, Access, Cast, Caller, Reporter, Reader, Call}
-use Rattle.ucl_steps.proofs.Common.{Event, Reading, Step, Begin, End, CallRecord, Reply, Copied, Holds, Idle, Within, Answered, MachineState, initial_state, held_by, with_held, with_reply, with_end}
-use Rattle.ucl_steps.proofs.Common.{may_begin, held_at_begin, after_begin, after_reply, after_end, after_outcome, stored, after_step_holding, caller_of, after_step, after_steps, caller_and_call}
-use Rattle.ucl_steps.proofs.Common.{step_of, accesses_of_step, Does, Held, Nothing, Holding, Collecting, Checking, Outcome, GoesOn, Answers, by_rules, looked, swapped, loaded, compared, Answer, Doing}
-use Rattle.ucl_steps.proofs.Common.{goes, ends, done_by, IsNext, after_look, swaps_holding, after_swap, collected, firsts_holding, after_first, seconds_holding, after_second, MayAsk, caller_for, IsOf}
-use Rattle.ucl_steps.proofs.Common.{call_of, CanHold, IsRecordOf, AreRecordsOf, IsUnderWay, FitsHeld, call_under_way, calls_told, calls_by, left_by, FitsRun, Move, end_by, steps_of_move}
+use Rattle.ucl_steps.proofs.Common.{calls_asked, AccessKind, ◌≡◌, ◌≢◌, ℕ, ◌+◌, ◌<◌, ◌≤◌, ◌==◌, Bool, true, false, cond, List, ◌∷◌, ◌++◌, length, map, Option, Some, None, refl, sym, ap, ◌∙◌, subst}
+use Rattle.ucl_steps.proofs.Common.{arith, append_assoc, [], append-nil, le_refl, eq-eqb, ne_eqb, slice_get, slice_index, IsSome, is_some, same_Some, option_and_then_some, false≢true, cases_eq}
+use Rattle.ucl_steps.proofs.Common.{length_push, map-append, EventCall, Refusal, refusal_of, after, record_at, at_below, at_longer, at_end, Entry, board_of, reading_of, entry_of, Access, Cast, Caller}
+use Rattle.ucl_steps.proofs.Common.{Reporter, Reader, Call, Event, Reading, Step, Begin, End, CallRecord, Reply, Copied, Holds, Idle, Within, Answered, MachineState, initial_state, held_by, with_held}
+use Rattle.ucl_steps.proofs.Common.{with_reply, with_end, may_begin, held_at_begin, after_begin, after_reply, after_end, after_outcome, stored, after_step_holding, caller_of, after_step, after_steps}
+use Rattle.ucl_steps.proofs.Common.{caller_and_call, step_of, accesses_of_step, Does, Held, Nothing, Holding, Collecting, Checking, Outcome, GoesOn, Answers, by_rules, looked, swapped, loaded}
+use Rattle.ucl_steps.proofs.Common.{compared, Answer, Doing, goes, ends, done_by, IsNext, after_look, swaps_holding, after_swap, collected, firsts_holding, after_first, seconds_holding, after_second}
+use Rattle.ucl_steps.proofs.Common.{MayAsk, caller_for, IsOf, call_of, CanHold, IsRecordOf, AreRecordsOf, IsUnderWay, FitsHeld, call_under_way, calls_told, calls_by, left_by, FitsRun, Move, end_by}
+use Rattle.ucl_steps.proofs.Common.{steps_of_move}
 use Rattle.ucl_board.specs.Log as log
-use Rattle.ucl_steps.proofs.ChangedLists.{change_at_here, change_at_else, length-change_at, map_unseen}
-use Rattle.ucl_steps.proofs.Callers.{same_caller, held_here, held_else}
+use Rattle.ucl_steps.proofs.Lists.{change_at_here, change_at_else, length-change_at, map_unseen, same_caller, held_here, held_else}
 use Rattle.ucl_steps.proofs.Runs.{words_of_run}
 use Rattle.ucl_steps.proofs.OneStep.{steps_on, may_ask_begin, began, IsNow, caller_of_kind, Made, made_look, made_swap, made_first, made_second, Frame, frame_outcome, Passes, passes_on, passes_frame}
 use Rattle.ucl_steps.proofs.OneStep.{own_caller, calls_else, calls_one}
@@ -262,9 +261,10 @@ module _ (cast : Cast) (seat number : ℕ) (steps : List Step) (w : MachineState
 
   pub turn_look : (e : EventCall) → MayAsk number (Event e) → d.held ≡ Nothing → Does log.Look e.game m → Turn seat number w (Reporter number) m (after_look number e m.found m.at d) []
   turn_look e may none does =
+      let u = under_now (Event e) may none in
       subst (λ (p : ℕ). Turn seat number w (Reporter number) m (after_look number e m.found p d) []) (sym now.place)
       (turn_new (Event e) may none (length w.history) (looked number e m.found) (can_look e may (refusal_of (record_at m.found) e.expected e.kind) refl)
-      (made_look (after_begin (Reporter number) (Event e) w) m words_now (is_begun (Event e) may none) number (under_now (Event e) may none).place e (under_now (Event e) may none).held may.1 does))
+      (made_look (after_begin (Reporter number) (Event e) w) m words_now (is_begun (Event e) may none) number u.place e u.held may.1 does))
 
   -- Swap
   module _ (e : EventCall) (old new : ℕ) (is_held : d.held ≡ Holding e old new) (does : Does log.Swap e.game m) where

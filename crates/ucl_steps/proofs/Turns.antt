@@ -2,8 +2,7 @@
 use Rattle.ucl_steps.proofs.Common.{◌≡◌, ◌≢◌, ℕ, ◌<◌, ◌≤◌, List, ◌∷◌, ◌++◌, take, length, map, Option, Some, None, ◌⊎◌, inl, inr, refl, sym, ap, ◌∙◌, subst, arith, append-nil, le_refl, []}
 use Rattle.ucl_steps.proofs.Common.{slice_get, IfSome, IsSome, none-some, same_Some, slice_get-map, cases_order, false≢true, length-map, map-append, at_below, at_longer, at_end, at_either, get_back}
 use Rattle.ucl_steps.proofs.Common.{Caller, Call, Step, Begin, Look, Swap, First, Second, End, option_map, change_at, begun_in, BeginsAt, EndsAt}
-use Rattle.ucl_steps.proofs.Lists.{get_some}
-use Rattle.ucl_steps.proofs.ChangedLists.{get-change_at, map_unseen}
+use Rattle.ucl_steps.proofs.Lists.{get_some, get-change_at, map_unseen}
 use Rattle.ucl_steps.proofs.Places.{begun_in-append, begins_call, place_of, earlier_place, earlier_call, back_begins, back_ends, more_begins, more_ends, old_or_last, number_at_end}
 
 -- when a call began and ended

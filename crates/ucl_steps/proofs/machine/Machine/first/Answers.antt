@@ -27,7 +27,8 @@ returns c =
     let twelve : length at.words ≡ 12 = search rules in
     let few = loaded_few w c.requires c.args.caller c.held-held.result c.held-held.ensures at.call at.words at.loaded is twelve in
     let held = holds w c.requires c.args.caller c.held-held.result c.held-held.ensures (has.Collecting at.call at.words at.loaded) is in
-    step_is (First c.args.caller) w (state_of c.hold.new.self) (holds_of (has.Collecting at.call at.words at.loaded)) held (ap Some (sym (c.hold.ensures ∙ elim c.if-loaded-eq11.branch [
+    step_is (First c.args.caller) w (state_of c.hold.new.self) (holds_of (has.Collecting at.call at.words at.loaded)) held
+    (ap Some (sym (c.hold.ensures ∙ elim c.if-loaded-eq11.branch [
       | then-loaded-eq11 b ↦ search (arith, get_or c.args.self.now.words at.loaded 0, first_last w c.args.caller at.call at.words at.loaded twelve few b.if-loaded-eq11.true)
       | else-loaded-eq11 b ↦ search (arith, first_more w c.args.caller at.call at.words at.loaded twelve few b.if-loaded-eq11.false)
     ])))
