@@ -231,8 +231,8 @@ module _ (cast : Cast) (seat number : ℕ) (steps : List Step) (w : MachineState
   words_now : w.words ≡ board_of w.history
   words_now = words_of_run cast steps w run
 
-  idle_held : d.held ≡ Nothing → FitsHeld w seat number d.begun Nothing f.high
-  idle_held none = subst (λ (h : Held). FitsHeld w seat number d.begun h f.high) none f.held
+  held_now : (h : Held) → d.held ≡ h → FitsHeld w seat number d.begun h f.high
+  held_now h is = subst (λ (x : Held). FitsHeld w seat number d.begun x f.high) is f.held
 
   whole_held : (h : Held) → d.held ≡ h → calls_by seat number (calls_told w) ≡ map (λ (f : Answer). f.call) d.calls ++ call_under_way h
   whole_held h is = f.whole ∙ ap (λ (x : Held). map (λ (f : Answer). f.call) d.calls ++ call_under_way x) is
@@ -240,10 +240,10 @@ module _ (cast : Cast) (seat number : ℕ) (steps : List Step) (w : MachineState
   -- a call that begins now
   module _ (call : Call) (may : MayAsk number call) (none : d.held ≡ Nothing) where
     free_now : held_by w.callers (caller_for seat number call) ≡ Some Idle
-    free_now = let idle = idle_held none in idle_now seat number call w may d.calls f.high f.recorded idle.0 idle.1 (whole_held Nothing none)
+    free_now = let idle = held_now Nothing none in idle_now seat number call w may d.calls f.high f.recorded idle.0 idle.1 (whole_held Nothing none)
 
     under_now : Under seat number (after_begin (caller_for seat number call) call w) d.calls call (length w.history) (held_at_begin call)
-    under_now = let idle = idle_held none in begins_under seat number call w may d.calls f.high f.recorded idle.0 idle.1 (whole_held Nothing none)
+    under_now = let idle = held_now Nothing none in begins_under seat number call w may d.calls f.high f.recorded idle.0 idle.1 (whole_held Nothing none)
 
     is_begun : IsNow (after_begin (caller_for seat number call) call w) m
     is_begun = record { place = now.place; found = now.found }
@@ -269,19 +269,16 @@ module _ (cast : Cast) (seat number : ℕ) (steps : List Step) (w : MachineState
   -- Swap
   module _ (e : EventCall) (old new : ℕ) (is_held : d.held ≡ Holding e old new) (does : Does log.Swap e.game m) where
     swapping : IsUnderWay w seat number d.begun (Holding e old new) f.high
-    swapping = subst (λ (h : Held). FitsHeld w seat number d.begun h f.high) is_held f.held
+    swapping = held_now (Holding e old new) is_held
 
     swap_under : Under seat number w d.calls (Event e) d.begun (λ k. Within k (Holding e old new))
     swap_under = under_way seat number w d.calls d.begun (Holding e old new) f.high (swapping.can.0, swapping.can.1) f.recorded swapping (whole_held (Holding e old new) is_held)
-
-    keeps_calls : (b : Bool) → ((cond b (stored number e new w) w).callers ≡ w.callers) × ((cond b (stored number e new w) w).calls ≡ w.calls)
-    keeps_calls b = search arith
 
     swap_by : (entries : List Entry) (after : ℕ) → (cond (m.found == old) (stored number e new w) w).history ≡ w.history ++ entries → length (w.history ++ entries) ≡ after
         → Turn seat number w (Reporter number) m (after_swap m.found after d) entries
     swap_by entries after history place =
         subst (λ (h : Held). Turn seat number w (Reporter number) m (swaps_holding h m.found after d) entries) (sym is_held)
-        (turn_by seat number w d (Event e) d.begun (λ k. Within k (Holding e old new)) swap_under m (cond (m.found == old) (stored number e new w) w) (keeps_calls (m.found == old)) entries history
+        (turn_by seat number w d (Event e) d.begun (λ k. Within k (Holding e old new)) swap_under m (cond (m.found == old) (stored number e new w) w) (search arith) entries history
         after place (length w.history) (swapped old new m.found) tt
         (made_swap w m words_now now number swap_under.place e old new swap_under.held swapping.can.1 does)).turn
 
@@ -309,11 +306,9 @@ module _ (cast : Cast) (seat number : ℕ) (steps : List Step) (w : MachineState
       (made_first v m words_now (is_begun Reading tt none) reader u.place [] u.held (omega arith) does))
 
   module _ (words : List ℕ) (is_held : d.held ≡ Collecting words) (does : Does log.First (length words + 1) m) where
-    collecting : IsUnderWay w seat number d.begun (Collecting words) f.high
-    collecting = subst (λ (h : Held). FitsHeld w seat number d.begun h f.high) is_held f.held
-
     pub turn_first : Turn seat number w reader m (goes d.begun (collected (words ++ m.found ∷ []) m.at) d) []
     turn_first =
+        let collecting = held_now (Collecting words) is_held in
         let u = under_way seat number w d.calls d.begun (Collecting words) f.high tt f.recorded collecting (whole_held (Collecting words) is_held) in
         subst (λ (p : ℕ). Turn seat number w reader m (goes d.begun (collected (words ++ m.found ∷ []) p) d) []) (sym now.place)
         (turn_kept seat number w d Reading d.begun (λ k. Within k (Collecting words)) u m (length w.history) (loaded words m.found (length w.history))
@@ -329,7 +324,7 @@ module _ (cast : Cast) (seat number : ℕ) (steps : List Step) (w : MachineState
   -- Second
   module _ (words : List ℕ) (checked point : ℕ) (is_held : d.held ≡ Checking words checked point) (does : Does log.Second (checked + 1) m) where
     checking : IsUnderWay w seat number d.begun (Checking words checked point) f.high
-    checking = subst (λ (h : Held). FitsHeld w seat number d.begun h f.high) is_held f.held
+    checking = held_now (Checking words checked point) is_held
 
     can_compare : (same last : Bool) → (checked == 11) ≡ last
         → CanGo number Reading (cond same (cond last (Answers (Copied (reading_of words))) (GoesOn (Checking words (checked + 1) point))) (GoesOn (Collecting [])))
