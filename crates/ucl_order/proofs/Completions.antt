@@ -28,7 +28,9 @@ use Rattle.ucl_order.proofs.Classes.{IsPermutation-order}
 use Rattle.ucl_order.proofs.ClubCounts.{count-le}
 use Rattle.ucl_order.proofs.Limits.{plays, gains, gains-le, played-cons, points-cons}
 use Rattle.ucl_order.proofs.Slots.{a_club, are_matches}
-use Rattle.ucl_order.proofs.Places.{order_falls, reaches, passes, eq_yes, in_first_two, not_in_first_two}
+use Rattle.ucl_order.proofs.Places.{order_falls, reaches, passes, in_first_two, not_in_first_two}
+use Rattle.std.proofs.Common.{eq-eqb}
+use Rattle.std.proofs.lemmas.Bool.{leb-true}
 
 is_done : (s : State) → is_finished s ≡ true → s ≡ Finished
 is_done Scheduled h = absurd (cc)
@@ -174,9 +176,6 @@ le_from x y z e h k = omega arith
 le_to : (x y z : ℕ) → x ≡ y → z ≤ y → 2 ≤ z → 2 ≤ x
 le_to x y z e h k = omega arith
 
-le_read : (x y : ℕ) → nat_le x y ≡ true → x ≤ y
-le_read x y h = grind (arith, nat_tests)
-
 -- Sure points never fall, and never pass what the club can reach. --
 
 through_if : (order : List ℕ) (club : ℕ) → is_in (take 2 order) club ≡ true → Contains (take 2 order) club
@@ -184,7 +183,7 @@ through_if order club h = Contains-from_any {eq = λ x y. y == x} (λ x y e. sym
 
 not_through_if : (order : List ℕ) (club : ℕ) → is_in (take 2 order) club ≡ false → Contains (take 2 order) club → ⊥
 not_through_if order club h found =
-    let there : is_in (take 2 order) club ≡ true = list_any_at (λ c. c == club) (take 2 order) found.0 club found.1 (eq_yes _ _ found.2) in
+    let there : is_in (take 2 order) club ≡ true = list_any_at (λ c. c == club) (take 2 order) found.0 club found.1 (eq-eqb _ _ found.2) in
     absurd (cc)
 
 module _ (profile : Profile) (board later : List ℕ) (done : IsCompletion board later) (roster : List NamedClub) where
@@ -199,7 +198,7 @@ module _ (profile : Profile) (board later : List ℕ) (done : IsCompletion board
   member : (club : ℕ) → IsSlot club → is_in (order_of profile (started_of later) roster) club ≡ true
   member club slot =
       let found = Contains-permutation all_clubs (order_of profile (started_of later) roster) club (IsPermutation-order profile later roster) (a_club club slot) in
-      list_any_at (λ c. c == club) (order_of profile (started_of later) roster) found.0 club found.1 (eq_yes _ _ found.2)
+      list_any_at (λ c. c == club) (order_of profile (started_of later) roster) found.0 club found.1 (eq-eqb _ _ found.2)
 
   through : (club : ℕ) → IsSlot club → rivals (matches_of board) club ≤ 1 → is_in (take 2 (order_of profile (started_of later) roster)) club ≡ true
   unfolding final_points reaches
@@ -236,7 +235,7 @@ module _ (profile : Profile) (board later : List ℕ) (done : IsCompletion board
       (elim (plus_cases (list_all has_finished (matches_of board)) (is_in (take 2 (order_of profile (started_of board) roster)) club)
       (nat_le (rivals (matches_of board) club) 1) (nat_le 2 (out_of_reach (matches_of board) club)) h) [
         | inl (all, now) ↦ rw (same_order profile board later roster (unchanged board later done all)) now
-        | inr few ↦ through club slot (le_read _ _ few)
+        | inr few ↦ through club slot (leb-true _ _ few)
       ])
 
   -- a club marked Minus does not
@@ -246,5 +245,5 @@ module _ (profile : Profile) (board later : List ℕ) (done : IsCompletion board
       not_through_if (order_of profile (started_of later) roster) club (elim (minus_cases (list_all has_finished (matches_of board))
       (is_in (take 2 (order_of profile (started_of board) roster)) club) (nat_le (rivals (matches_of board) club) 1) (nat_le 2 (out_of_reach (matches_of board) club)) h) [
         | inl (all, now) ↦ rw (same_order profile board later roster (unchanged board later done all)) now
-        | inr many ↦ out club (le_read _ _ many)
+        | inr many ↦ out club (leb-true _ _ many)
       ])

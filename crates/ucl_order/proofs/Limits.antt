@@ -120,16 +120,8 @@ within_table place slot mark ms is_slot valid most =
     let won : wins slot ms ≤ length games = count_by-le-length is_won games in
     let drawn : draws slot ms ≤ length games = count_by-le-length is_drawn games in
     let lost : losses slot ms ≤ length games = count_by-le-length is_lost games in
-    let three : points slot ms ≤ 3 * played slot ms = points-le slot ms in record {
-      slot = is_slot;
-      played = most;
-      wins = omega arith;
-      draws = omega arith;
-      losses = omega arith;
-      goals_for = omega arith;
-      goals_against = omega arith;
-      points = omega arith;
-    }
+    let three : points slot ms ≤ 3 * played slot ms = points-le slot ms in
+    search arith
 
 at_most_six : (board : List ℕ) (club : ℕ) → IsSlot club → played club (started_of board) ≤ 6
 at_most_six board club slot =

@@ -147,32 +147,12 @@ pub record AreBytes (a : Appearance) : Type 0 where
   pub expulsions : a.expulsions ≤ 255
 
 pub within_later : (m n : ℕ) (r : Results) → m ≤ n → IsWithin m r → IsWithin n r
-within_later m n r e h = record {
-  played = omega arith;
-  wins = omega arith;
-  draws = omega arith;
-  losses = omega arith;
-  goals_for = omega arith;
-  goals_against = omega arith;
-  away_goals = omega arith;
-  away_wins = omega arith;
-  discipline = omega arith;
-}
+within_later m n r e h = search arith
 
 -- nothing is within no match
 pub none_within : (r : Results) → r ≡ results_of 1 [] → IsWithin 0 r
 unfolding results_of
-none_within r is = rw is (record {
-  played = omega arith;
-  wins = omega arith;
-  draws = omega arith;
-  losses = omega arith;
-  goals_for = omega arith;
-  goals_against = omega arith;
-  away_goals = omega arith;
-  away_wins = omega arith;
-  discipline = omega arith;
-})
+none_within r is = rw is (search arith)
 
 -- What is read off such results. --
 
