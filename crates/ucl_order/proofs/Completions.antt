@@ -10,7 +10,7 @@ use Rattle.std.proofs.lemmas.List.Sorted.{Contains-permutation, length_permutati
 use Rattle.std.proofs.lemmas.List.Elements.{All-head, All-tail}
 use Rattle.std.proofs.lemmas.List.Folds.{list_any_at}
 use Rattle.ucl_word.specs.declared.record.State.{State}
-use Rattle.ucl_word.specs.declared.record.State.TheVariants.{Scheduled, InPlay, Finished}
+use Rattle.ucl_word.specs.declared.record.State.TheVariants.{Finished}
 use Rattle.ucl_word.specs.Rules.{is_finished}
 use Rattle.ucl_board.specs.Fixtures.{IsMatch, IsSlot, fixture_of, match_numbers}
 use Rattle.ucl_board.specs.Words.{game_at}
@@ -33,9 +33,7 @@ use Rattle.std.proofs.Common.{eq-eqb}
 use Rattle.std.proofs.lemmas.Bool.{leb-true}
 
 is_done : (s : State) → is_finished s ≡ true → s ≡ Finished
-is_done Scheduled h = absurd (cc)
-is_done InPlay h = absurd (cc)
-is_done Finished h = refl
+is_done s h = search arith
 
 -- The points so far and those at the end, match by match. --
 
@@ -64,9 +62,7 @@ unfinished-open m ms e = rw e
 plays_alike : (at_home away : Bool) (h v h' v' : Appearance)
     → plays (if at_home then Some h else (if away then Some v else None)) ≡ plays (if at_home then Some h' else (if away then Some v' else None))
 unfolding plays
-plays_alike true away h v h' v' = refl
-plays_alike false true h v h' v' = refl
-plays_alike false false h v h' v' = refl
+plays_alike at_home away h v h' v' = search arith
 
 -- who plays does not depend on what is known of the match
 plays_same : (club game : ℕ) (board later : List ℕ) → plays (seen_by club (match_at later game)) ≡ plays (seen_by club (match_at board game))
@@ -146,29 +142,19 @@ final_points later club = points club (started_of later)
 -- the mark, at the tests that it makes
 plus_cases : (all through few many : Bool) → (if all then (if through then Plus else Minus) else (if few then Plus else (if many then Minus else Blank))) ≡ Plus
     → ((all ≡ true) × (through ≡ true)) ⊎ (few ≡ true)
-plus_cases true true few many h = inl (refl, refl)
-plus_cases true false few many h = absurd (cc)
-plus_cases false through true many h = inr refl
-plus_cases false through false true h = absurd (cc)
-plus_cases false through false false h = absurd (cc)
+plus_cases all through few many h = search arith
 
 minus_cases : (all through few many : Bool) → (if all then (if through then Plus else Minus) else (if few then Plus else (if many then Minus else Blank))) ≡ Minus
     → ((all ≡ true) × (through ≡ false)) ⊎ (many ≡ true)
-minus_cases true true few many h = absurd (cc)
-minus_cases true false few many h = inl (refl, refl)
-minus_cases false through true many h = absurd (cc)
-minus_cases false through false true h = inr refl
-minus_cases false through false false h = absurd (cc)
+minus_cases all through few many h = search arith
 
 reach_weaker : (last_club last_other sure_club reach_other : ℕ) (b : Bool) → sure_club ≤ last_club
     → last_other ≤ reach_other → (b && nat_le last_club last_other) ≡ true → (b && nat_le sure_club reach_other) ≡ true
-reach_weaker p q s r true l h e = grind (arith, nat_tests)
-reach_weaker p q s r false l h e = absurd (cc)
+reach_weaker p q r s b l h e = grind (arith, nat_tests, cases_Bool b)
 
 pass_stronger : (last_club last_other reach_club sure_other : ℕ) (b : Bool) → last_club ≤ reach_club
     → sure_other ≤ last_other → (b && nat_lt reach_club sure_other) ≡ true → (b && nat_lt last_club last_other) ≡ true
-pass_stronger p q r s true l h e = grind (arith, nat_tests)
-pass_stronger p q r s false l h e = absurd (cc)
+pass_stronger p q r s b l h e = grind (arith, nat_tests, cases_Bool b)
 
 le_from : (x y z : ℕ) → x ≡ y → y ≤ z → z ≤ 1 → x ≤ 1
 le_from x y z e h k = omega arith

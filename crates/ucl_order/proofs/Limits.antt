@@ -1,5 +1,5 @@
 -- What a club of a group can do at most.
-use Rattle.std.proofs.Common.{◌≡◌, ℕ, ◌+◌, ◌*◌, ◌-◌, ◌≤◌, ◌==◌, Bool, true, false, cond, if◌then◌else◌, List, [], ◌∷◌, Option, Some, None, length, filter, count_by, refl, subst, arith, All}
+use Rattle.std.proofs.Common.{◌≡◌, ℕ, ◌+◌, ◌*◌, ◌-◌, ◌≤◌, ◌==◌, Bool, true, false, cond, if◌then◌else◌, List, [], ◌∷◌, Option, Some, None, length, filter, count_by, refl, arith, All}
 use Rattle.std.specs.List.{slice_index, cons_option}
 use Rattle.std.proofs.lemmas.Bool.Decides.{nat_tests}
 use Rattle.std.proofs.lemmas.List.Sums.{sum_by-cons, sum_by-le, count_by-le-length}
@@ -34,8 +34,7 @@ gains (Some a) = worth a
 
 played_one : (o : Option Appearance) (games : List Appearance) → length (cons_option o games) ≡ plays o + length games
 unfolding plays
-played_one None games = omega arith
-played_one (Some a) games = omega arith
+played_one o games = search arith
 
 pub played-cons : (club : ℕ) (m : Match) (ms : List Match) → played club (m ∷ ms) ≡ plays (seen_by club m) + played club ms
 played-cons club m ms = played_one (seen_by club m) (appearances club ms)
@@ -50,10 +49,7 @@ pub points-cons : (club : ℕ) (m : Match) (ms : List Match) → points club (m 
 points-cons club m ms = points_one (seen_by club m) (appearances club ms)
 
 three_at_most : (won drawn : Bool) → (drawn ≡ true → won ≡ false) → 3 * cond won 1 0 + cond drawn 1 0 ≤ 3
-three_at_most true true h = absurd (cc (h refl))
-three_at_most true false h = omega arith
-three_at_most false true h = omega arith
-three_at_most false false h = omega arith
+three_at_most won drawn h = search (arith, h)
 
 -- a match is worth three points at most
 pub gains-le : (o : Option Appearance) → gains o ≤ 3 * plays o
@@ -91,13 +87,10 @@ pub record AreFew (a : Appearance) : Type 0 where
   pub expulsions : a.expulsions ≤ 31
 
 few_one : (o : Option Appearance) (games : List Appearance) → ((a : Appearance) → o ≡ Some a → AreFew a) → All AreFew games → All AreFew (cons_option o games)
-few_one None games h rest = rest
-few_one (Some a) games h rest = All-cons AreFew a games (h a refl) rest
+few_one o games h rest = search (arith, All-cons AreFew, h, rest)
 
 seen_parts : (at_home away : Bool) (h v a : Appearance) → (if at_home then Some h else (if away then Some v else None)) ≡ Some a → AreFew h → AreFew v → AreFew a
-seen_parts true away h v a e few_h few_v = let same : h ≡ a = (cc) in subst AreFew same few_h
-seen_parts false true h v a e few_h few_v = let same : v ≡ a = (cc) in subst AreFew same few_v
-seen_parts false false h v a e few_h few_v = absurd (cc)
+seen_parts at_home away h v a e few_h few_v = search arith
 
 seen_few : (club : ℕ) (m : Match) (a : Appearance) → HasScore m → seen_by club m ≡ Some a → AreFew a
 seen_few club m a h e =
