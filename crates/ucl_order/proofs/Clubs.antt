@@ -8,6 +8,7 @@ use Rattle.ucl_order.specs.Code.Members.{member_seen, members_seen}
 use Rattle.ucl_order.specs.declared.roster.LentClub.{LentClub}
 use Rattle.ucl_order.specs.Roster.{NamedClub, club_lent, IsClub, IsRoster, is_club, is_name, bad_slot, bad_slot_from}
 use Rattle.std.proofs.lemmas.Bool.{and_parts}
+use Rattle.ucl_order.proofs.Slots.{by_four}
 
 -- the club of each place is good
 pub member-good : (members : List Member) (i : ℕ) (m : Member) → IsRoster (members_seen members) → i < 4 → IsClub (member_seen (slice_index_or members i m))
@@ -34,12 +35,9 @@ coefficient-good members i m roster within =
 pub four-places : {X : Type 0} → (xs : List X) (a b c d : X) → length xs ≡ 4
     → a ≡ slice_index_or xs 0 a → b ≡ slice_index_or xs 1 b → c ≡ slice_index_or xs 2 c → d ≡ slice_index_or xs 3 d
     → xs ≡ a ∷ b ∷ c ∷ d ∷ []
-four-places [] a b c d n p q r s = absurd (omega arith)
-four-places (w ∷ []) a b c d n p q r s = absurd (omega arith)
-four-places (w ∷ x ∷ []) a b c d n p q r s = absurd (omega arith)
-four-places (w ∷ x ∷ y ∷ []) a b c d n p q r s = absurd (omega arith)
-four-places (w ∷ x ∷ y ∷ z ∷ []) a b c d n p q r s = cc
-four-places (w ∷ x ∷ y ∷ z ∷ v ∷ vs) a b c d n p q r s = absurd (omega arith)
+four-places xs a b c d n p q r s =
+    by_four (λ xs. a ≡ slice_index_or xs 0 a → b ≡ slice_index_or xs 1 b → c ≡ slice_index_or xs 2 c → d ≡ slice_index_or xs 3 d → xs ≡ a ∷ b ∷ c ∷ d ∷ [])
+    (λ w x y z p q r s. cc) xs n p q r s
 
 -- four good clubs, and what the roster keeps of them
 pub record IsTaken (club : NamedClub) (member : Member) : Type 0 where
