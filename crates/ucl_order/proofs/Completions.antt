@@ -44,21 +44,6 @@ record Between (club : ℕ) (games board later : List ℕ) : Type 0 where
   low : points club (finished (board_part board games)) ≤ points club (started (board_part later games))
   high : points club (started (board_part later games)) ≤ points club (finished (board_part board games)) + 3 * played club (unfinished (board_part board games))
 
-started-done : (m : Match) (ms : List Match) → m.score.state ≡ Finished → started (m ∷ ms) ≡ m ∷ started ms
-started-done m ms e = rw e
-
-finished-done : (m : Match) (ms : List Match) → has_finished m ≡ true → finished (m ∷ ms) ≡ m ∷ finished ms
-finished-done m ms e = rw e
-
-finished-open : (m : Match) (ms : List Match) → has_finished m ≡ false → finished (m ∷ ms) ≡ finished ms
-finished-open m ms e = rw e
-
-unfinished-done : (m : Match) (ms : List Match) → has_finished m ≡ true → unfinished (m ∷ ms) ≡ unfinished ms
-unfinished-done m ms e = rw e
-
-unfinished-open : (m : Match) (ms : List Match) → has_finished m ≡ false → unfinished (m ∷ ms) ≡ m ∷ unfinished ms
-unfinished-open m ms e = rw e
-
 plays_alike : (at_home away : Bool) (h v h' v' : Appearance)
     → plays (if at_home then Some h else (if away then Some v else None)) ≡ plays (if at_home then Some h' else (if away then Some v' else None))
 unfolding plays
@@ -80,10 +65,7 @@ module _ (club game : ℕ) (games board later : List ℕ) (rest : Between club g
       let worth : gains (seen_by club l) ≡ gains (seen_by club m) = ap (λ x. gains (seen_by club x)) same in
       let now_points : points club (m ∷ finished now) ≡ gains (seen_by club m) + points club (finished now) = points-cons club m (finished now) in
       let end_points : points club (l ∷ started end) ≡ gains (seen_by club l) + points club (started end) = points-cons club l (started end) in
-      record {
-        low = rw (finished-done m now done, started-done l end ended) (omega arith);
-        high = rw (finished-done m now done, unfinished-done m now done, started-done l end ended) (omega arith);
-      }
+      record { low = rw (done, ended) (omega arith); high = rw (done, ended) (omega arith) }
 
   -- any other counts at the end alone
   between-open : has_finished (match_at board game) ≡ false → Between club (game ∷ games) board later
@@ -97,10 +79,7 @@ module _ (club game : ℕ) (games board later : List ℕ) (rest : Between club g
       let alike : plays (seen_by club l) ≡ plays (seen_by club m) = plays_same club game board later in
       let end_points : points club (l ∷ started end) ≡ gains (seen_by club l) + points club (started end) = points-cons club l (started end) in
       let left : played club (m ∷ unfinished now) ≡ plays (seen_by club m) + played club (unfinished now) = played-cons club m (unfinished now) in
-      record {
-        low = rw (finished-open m now open_now, started-done l end ended) (omega arith);
-        high = rw (finished-open m now open_now, unfinished-open m now open_now, started-done l end ended) (omega arith);
-      }
+      record { low = rw (open_now, ended) (omega arith); high = rw (open_now, ended) (omega arith) }
 
 match_kept : (board later : List ℕ) (game : ℕ) → game_at later game ≡ game_at board game → match_at later game ≡ match_at board game
 match_kept board later game e = rw e
@@ -156,12 +135,6 @@ pass_stronger : (last_club last_other reach_club sure_other : ℕ) (b : Bool) �
     → sure_other ≤ last_other → (b && nat_lt reach_club sure_other) ≡ true → (b && nat_lt last_club last_other) ≡ true
 pass_stronger p q r s b l h e = grind (arith, nat_tests, cases_Bool b)
 
-le_from : (x y z : ℕ) → x ≡ y → y ≤ z → z ≤ 1 → x ≤ 1
-le_from x y z e h k = omega arith
-
-le_to : (x y z : ℕ) → x ≡ y → z ≤ y → 2 ≤ z → 2 ≤ x
-le_to x y z e h k = omega arith
-
 -- Sure points never fall, and never pass what the club can reach. --
 
 through_if : (order : List ℕ) (club : ℕ) → is_in (take 2 order) club ≡ true → Contains (take 2 order) club
@@ -198,7 +171,7 @@ module _ (profile : Profile) (board later : List ℕ) (done : IsCompletion board
       let same : count_by (reaches key club) (order_of profile (started_of later) roster) ≡ count_by (reaches key club) all_clubs =
       sum_by-IsPermutation _ _ _ (IsPermutation-order profile later roster) in
       let long : length (order_of profile (started_of later) roster) ≡ 4 = length_permutation _ _ (IsPermutation-order profile later roster) in
-      in_first_two key club (order_of profile (started_of later) roster) long (order_falls profile later roster) (member club slot) (le_from _ _ _ same fewer few)
+      in_first_two key club (order_of profile (started_of later) roster) long (order_falls profile later roster) (member club slot) (omega arith)
 
   out : (club : ℕ) → 2 ≤ out_of_reach (matches_of board) club → is_in (take 2 (order_of profile (started_of later) roster)) club ≡ false
   unfolding final_points passes
@@ -211,7 +184,7 @@ module _ (profile : Profile) (board later : List ℕ) (done : IsCompletion board
       (sure_points (matches_of board) (get_or all_clubs k d)) (not (get_or all_clubs k d == club)) (high club) (low (get_or all_clubs k d))) in
       let same : count_by (passes key club) (order_of profile (started_of later) roster) ≡ count_by (passes key club) all_clubs =
       sum_by-IsPermutation _ _ _ (IsPermutation-order profile later roster) in
-      not_in_first_two key club (order_of profile (started_of later) roster) (order_falls profile later roster) (le_to _ _ _ same more many)
+      not_in_first_two key club (order_of profile (started_of later) roster) (order_falls profile later roster) (omega arith)
 
   -- a club marked Plus goes through
   pub plus_is_certain : (club : ℕ) → IsSlot club → mark_of profile board roster club ≡ Plus → GoesThrough profile later roster club

@@ -1,7 +1,7 @@
 -- What each club has, gathered in one pass over the matches.
 use Rattle.std.proofs.Common.{◌≡◌, ◌≢◌, ℕ, ◌+◌, ◌-◌, ◌<◌, ◌==◌, if◌then◌else◌, Option, Some, None, List, [], ◌∷◌, ◌++◌, length, get_or, set, map, refl, ◌∙◌, arith, All}
 use Rattle.std.proofs.lemmas.List.{get_or-set_other}
-use Rattle.std.proofs.lemmas.List.Elements.{All-cons, All-nil, All-set}
+use Rattle.std.proofs.lemmas.List.Elements.{All-set}
 use Rattle.ucl_board.specs.Fixtures.{IsSlot}
 use Rattle.ucl_order.specs.declared.game.Match.{Match}
 use Rattle.ucl_order.specs.declared.game.Appearance.{Appearance}
@@ -14,6 +14,7 @@ use Rattle.ucl_order.specs.Order.{all_clubs}
 use Rattle.ucl_order.specs.Code.Rounds.{results_of_clubs}
 use Rattle.ucl_order.proofs.OneMatchMore.{push_more, push_same, within_later}
 use Rattle.ucl_board.proofs.Histories.{each_slot}
+use Rattle.ucl_order.proofs.Slots.{all-four}
 
 -- A list with a place for each club, in which two clubs have one match more. --
 
@@ -66,9 +67,7 @@ module _ (ms : List Match) (m : Match) where
 
 -- nothing is within no match
 pub nothing_within : (none : Results) → IsWithin 0 none → All (IsWithin 0) (none ∷ none ∷ none ∷ none ∷ [])
-nothing_within none h =
-    All-cons (IsWithin 0) none (none ∷ none ∷ none ∷ []) h
-    (All-cons (IsWithin 0) none (none ∷ none ∷ []) h (All-cons (IsWithin 0) none (none ∷ []) h (All-cons (IsWithin 0) none [] h (All-nil (IsWithin 0)))))
+nothing_within none h = all-four (IsWithin 0) none none none none h h h h
 
 pub nothing_done : (none : Results) → none ≡ results_of 1 [] → none ∷ none ∷ none ∷ none ∷ [] ≡ results_of_clubs []
 unfolding results_of

@@ -63,14 +63,14 @@ points-le club (m ∷ ms) = omega (arith, played-cons club m ms, points-cons clu
 
 -- Some of the matches. --
 
+-- where each match adds its part, some of the matches give no more than all
+pub filter-less : (f : List Match → ℕ) (part : Match → ℕ) → ((m : Match) (ms : List Match) → f (m ∷ ms) ≡ part m + f ms)
+    → (p : Match → Bool) (ms : List Match) → f (filter p ms) ≤ f ms
+filter-less f part more p [] = omega arith
+filter-less f part more p (m ∷ ms) = search (arith, filter-less f part more p ms, more m ms, more m (filter p ms))
+
 pub played-filter : (p : Match → Bool) (club : ℕ) (ms : List Match) → played club (filter p ms) ≤ played club ms
-played-filter p club [] = omega arith
-played-filter p club (m ∷ ms) =
-    let rest : played club (filter p ms) ≤ played club ms = played-filter p club ms in
-    elim (p m) as (λ v. played club (cond v (m ∷ filter p ms) (filter p ms)) ≤ played club (m ∷ ms)) [
-      | true ↦ omega (arith, rest, played-cons club m ms, played-cons club m (filter p ms))
-      | false ↦ omega (arith, rest, played-cons club m ms)
-    ]
+played-filter p club ms = filter-less (played club) (λ m. plays (seen_by club m)) (played-cons club) p ms
 
 -- each club has six matches
 pub six : (board : List ℕ) (club : ℕ) → IsSlot club → played club (matches_of board) ≡ 6
@@ -116,11 +116,8 @@ within_table place slot mark ms is_slot valid most =
     let three : points slot ms ≤ 3 * played slot ms = points-le slot ms in
     search arith
 
-at_most_six : (board : List ℕ) (club : ℕ) → IsSlot club → played club (started_of board) ≤ 6
-at_most_six board club slot =
-    let some : played club (started_of board) ≤ played club (matches_of board) = played-filter has_started club (matches_of board) in
-    let all : played club (matches_of board) ≡ 6 = six board club slot in
-    omega arith
+pub at_most_six : (board : List ℕ) (club : ℕ) → IsSlot club → played club (started_of board) ≤ 6
+at_most_six board club slot = omega (arith, played-filter has_started club (matches_of board), six board club slot)
 
 module _ (profile : Profile) (board : List ℕ) (roster : List NamedClub) (valid : All HasScore (matches_of board)) where
   row_within : (place : ℕ) → 1 ≤ place → place ≤ 4 → IsWithinTable (row_of profile board roster place)
