@@ -3,11 +3,11 @@ use Rattle.std.proofs.Common.{◌≡◌, ℕ, ◌<◌, ◌≤◌, nat_le, true, 
 use Rattle.std.proofs.lemmas.Bool.Decides.{nat_tests}
 use Rattle.std.proofs.lemmas.List.{get_or-map, length-map}
 use Rattle.std.proofs.lemmas.List.Elements.{All-get_or}
+use Rattle.std.proofs.lemmas.Bool.{and_parts}
 use Rattle.ucl_order.specs.declared.roster.Member.{Member}
 use Rattle.ucl_order.specs.Code.Members.{member_seen, members_seen}
 use Rattle.ucl_order.specs.declared.roster.LentClub.{LentClub}
 use Rattle.ucl_order.specs.Roster.{NamedClub, club_lent, IsClub, IsRoster, is_club, is_name, bad_slot, bad_slot_from}
-use Rattle.std.proofs.lemmas.Bool.{and_parts}
 use Rattle.ucl_order.proofs.Slots.{by_four}
 
 -- the club of each place is good
@@ -28,7 +28,8 @@ name-good members i m roster within = (and_parts _ _ (member-good members i m ro
 pub coefficient-good : (members : List Member) (i : ℕ) (m : Member) → IsRoster (members_seen members) → i < 4 → (slice_index_or members i m).coefficient ≤ 999999
 unfolding is_club
 coefficient-good members i m roster within =
-    let h : nat_le (slice_index_or members i m).coefficient 999999 ≡ true = (and_parts (is_name (slice_index_or members i m).name.items) _ (member-good members i m roster within)).1 in
+    let h : nat_le (slice_index_or members i m).coefficient 999999 ≡ true =
+    (and_parts (is_name (slice_index_or members i m).name.items) _ (member-good members i m roster within)).1 in
     grind (arith, nat_tests)
 
 -- an array of four, place by place
@@ -36,7 +37,8 @@ pub four-places : {X : Type 0} → (xs : List X) (a b c d : X) → length xs ≡
     → a ≡ slice_index_or xs 0 a → b ≡ slice_index_or xs 1 b → c ≡ slice_index_or xs 2 c → d ≡ slice_index_or xs 3 d
     → xs ≡ a ∷ b ∷ c ∷ d ∷ []
 four-places xs a b c d n p q r s =
-    by_four (λ xs. a ≡ slice_index_or xs 0 a → b ≡ slice_index_or xs 1 b → c ≡ slice_index_or xs 2 c → d ≡ slice_index_or xs 3 d → xs ≡ a ∷ b ∷ c ∷ d ∷ [])
+    by_four (λ xs. a ≡ slice_index_or xs 0 a → b ≡ slice_index_or xs 1 b → c ≡ slice_index_or xs 2 c → d ≡ slice_index_or xs 3 d
+    → xs ≡ a ∷ b ∷ c ∷ d ∷ [])
     (λ w x y z p q r s. cc) xs n p q r s
 
 -- four good clubs, and what the roster keeps of them

@@ -1,9 +1,8 @@
 -- What a group can still become: points only rise, and never above what the club can reach.
-use Rattle.std.proofs.Common.{◌≡◌, ℕ, ◌+◌, ◌*◌, ◌≤◌, ◌==◌, ◌&&◌, Bool, true, false, not, if◌then◌else◌, List, [], ◌∷◌, Some, None, length, get_or, map, take, count_by, refl, sym, ap, arith}
-use Rattle.std.proofs.Common.{All, Contains, eqb-true, nat_le, nat_lt}
-use Rattle.std.proofs.Common.{◌⊎◌, inl, inr}
+use Rattle.std.proofs.Common.{◌≡◌, ℕ, ◌+◌, ◌*◌, ◌≤◌, ◌==◌, ◌&&◌, Bool, true, false, not, if◌then◌else◌, List, [], ◌∷◌, Some, None, length, get_or, map, take, count_by, refl, sym, ap, arith, eq-eqb}
+use Rattle.std.proofs.Common.{All, Contains, eqb-true, nat_le, nat_lt, ◌⊎◌, inl, inr}
 use Rattle.std.specs.List.{list_all}
-use Rattle.std.proofs.lemmas.Bool.{cases_Bool, and_parts}
+use Rattle.std.proofs.lemmas.Bool.{cases_Bool, and_parts, leb-true}
 use Rattle.std.proofs.lemmas.Bool.Decides.{nat_tests}
 use Rattle.std.proofs.lemmas.Map.Views.{Contains-from_any}
 use Rattle.std.proofs.lemmas.List.Sorted.{Contains-permutation, length_permutation, sum_by-IsPermutation}
@@ -29,8 +28,6 @@ use Rattle.ucl_order.proofs.ClubCounts.{count-le}
 use Rattle.ucl_order.proofs.Limits.{plays, gains, gains-le, played-cons, points-cons}
 use Rattle.ucl_order.proofs.Slots.{a_club, are_matches}
 use Rattle.ucl_order.proofs.Places.{order_falls, reaches, passes, in_first_two, not_in_first_two}
-use Rattle.std.proofs.Common.{eq-eqb}
-use Rattle.std.proofs.lemmas.Bool.{leb-true}
 
 is_done : (s : State) → is_finished s ≡ true → s ≡ Finished
 is_done s h = search arith
@@ -171,7 +168,8 @@ module _ (profile : Profile) (board later : List ℕ) (done : IsCompletion board
       let same : count_by (reaches key club) (order_of profile (started_of later) roster) ≡ count_by (reaches key club) all_clubs =
       sum_by-IsPermutation _ _ _ (IsPermutation-order profile later roster) in
       let long : length (order_of profile (started_of later) roster) ≡ 4 = length_permutation _ _ (IsPermutation-order profile later roster) in
-      in_first_two key club (order_of profile (started_of later) roster) long (order_falls profile later roster) (member club slot) (omega arith)
+      in_first_two key club (order_of profile (started_of later) roster) long (order_falls profile later roster)
+      (member club slot) (omega arith)
 
   out : (club : ℕ) → 2 ≤ out_of_reach (matches_of board) club → is_in (take 2 (order_of profile (started_of later) roster)) club ≡ false
   unfolding final_points passes

@@ -6,6 +6,7 @@ use Rattle.std.proofs.lemmas.List.Sums.{sum_by-cons, sum_by-le, count_by-le-leng
 use Rattle.std.proofs.lemmas.List.Sorted.{All-permutation, length_permutation}
 use Rattle.std.proofs.lemmas.List.Elements.{All-head, All-tail, All-cons, All-nil, All-filter}
 use Rattle.ucl_board.specs.Fixtures.{IsSlot}
+use Rattle.ucl_board.proofs.Histories.{each_slot}
 use Rattle.ucl_order.specs.declared.profile.Profile.{Profile}
 use Rattle.ucl_order.specs.declared.game.Match.{Match}
 use Rattle.ucl_order.specs.declared.game.Appearance.{Appearance}
@@ -19,7 +20,6 @@ use Rattle.ucl_order.specs.Code.Counting.{worth}
 use Rattle.ucl_order.specs.Rows.{row_of, row_with, rows_of, IsWithinTable}
 use Rattle.ucl_order.proofs.Classes.{IsPermutation-order}
 use Rattle.ucl_order.proofs.Slots.{all-four, slots}
-use Rattle.ucl_board.proofs.Histories.{each_slot}
 
 -- One match more in front. --
 

@@ -5,12 +5,13 @@ use Rattle.std.specs.List.{filter_map}
 use Rattle.std.proofs.lemmas.List.{take_more, length_push, map-append}
 use Rattle.std.proofs.lemmas.List.Sums.{sum_by_push}
 use Rattle.std.proofs.lemmas.List.Elements.{filter_map-append, filter-append}
+use Rattle.ucl_board.specs.Fixtures.{fixture_of, match_numbers}
+use Rattle.ucl_board.specs.Words.{game_at}
+use Rattle.ucl_board.proofs.Histories.{number_listed}
 use Rattle.ucl_order.specs.declared.game.Match.{Match}
 use Rattle.ucl_order.specs.declared.game.Score.{Score}
 use Rattle.ucl_order.specs.declared.game.Appearance.{Appearance}
 use Rattle.ucl_order.specs.declared.results.Results.{Results}
-use Rattle.ucl_board.specs.Fixtures.{fixture_of, match_numbers}
-use Rattle.ucl_board.specs.Words.{game_at}
 use Rattle.ucl_order.specs.declared.mark.Mark.{Mark}
 use Rattle.ucl_order.specs.Rows.{row_with}
 use Rattle.ucl_order.specs.Matches.{match_at, matches_of, score_of}
@@ -18,7 +19,6 @@ use Rattle.ucl_order.specs.Appearances.{seen_by, is_won, is_drawn, is_lost, disc
 use Rattle.ucl_order.specs.Results.{points_for, appearances, results_of}
 use Rattle.ucl_order.specs.Code.Counting.{with_match, IsWithin, seen_among}
 use Rattle.ucl_order.specs.Order.{among}
-use Rattle.ucl_board.proofs.Histories.{number_listed}
 
 -- the same of matches as the club saw them
 pub totals : List Appearance → Results
@@ -75,12 +75,15 @@ module _ (f : Match → Option Appearance) (ms : List Match) where
 
   -- ... and in the loop over the matches
   module _ (i : ℕ) (d : Match) (before : Results) (h : i < length ms) (is : before ≡ totals (filter_map f (take i ms))) where
-    seen_more : (a : Appearance) (after : Results) → Some a ≡ f (get_or ms i d) → after ≡ with_match before a → after ≡ totals (filter_map f (take (i + 1) ms))
+    seen_more : (a : Appearance) (after : Results) → Some a ≡ f (get_or ms i d) → after ≡ with_match before a
+        → after ≡ totals (filter_map f (take (i + 1) ms))
     seen_more a after seen next =
-        rw (next, is, take_more ms i d h, filter_map-append f (take i ms) (get_or ms i d ∷ []), ← seen) (totals_push (filter_map f (take i ms)) a)
+        rw (next, is, take_more ms i d h, filter_map-append f (take i ms) (get_or ms i d ∷ []), ← seen)
+        (totals_push (filter_map f (take i ms)) a)
 
     not_seen : None ≡ f (get_or ms i d) → before ≡ totals (filter_map f (take (i + 1) ms))
-    not_seen seen = rw (is, take_more ms i d h, filter_map-append f (take i ms) (get_or ms i d ∷ []), ← seen, append-nil (filter_map f (take i ms)))
+    not_seen seen =
+        rw (is, take_more ms i d h, filter_map-append f (take i ms) (get_or ms i d ∷ []), ← seen, append-nil (filter_map f (take i ms)))
 
 -- the loop over the matches: one in which the club plays
 pub results_more : (club : ℕ) (ms : List Match) (i : ℕ) (d : Match) (a : Appearance) (before after : Results) → i < length ms
@@ -124,7 +127,8 @@ module _ (club : ℕ) (clubs : List ℕ) where
 
   pub among_same : (ms : List Match) (i : ℕ) (d : Match) (before : Results) → i < length ms → before ≡ results_of club (among clubs (take i ms))
       → None ≡ seen_among club clubs (get_or ms i d) → before ≡ results_of club (among clubs (take (i + 1) ms))
-  among_same ms i d before h is seen = not_seen (seen_among club clubs) ms i d before h (is ∙ tied_are (take i ms)) seen ∙ sym (tied_are (take (i + 1) ms))
+  among_same ms i d before h is seen =
+      not_seen (seen_among club clubs) ms i d before h (is ∙ tied_are (take i ms)) seen ∙ sym (tied_are (take (i + 1) ms))
 
 -- a match as a record of bytes has it
 pub record AreBytes (a : Appearance) : Type 0 where
@@ -167,7 +171,16 @@ pub matches_more : (board : List ℕ) (n : ℕ) (before after : List Match) (m :
 matches_more board n before after m low high is one next =
     let at : n + 1 - 1 ≡ n - 1 + 1 = omega arith in
     let within : n - 1 < length match_numbers = omega arith in
-    rw (at, take_more match_numbers (n - 1) 0 within, number_listed n 0 (low, high), map-append (match_at board) (take (n - 1) match_numbers) (n ∷ []), next, is, one)
+    rw (
+      at,
+      take_more match_numbers (n - 1) 0 within,
+      number_listed n 0 (low, high),
+      map-append (match_at board)
+          (take (n - 1) match_numbers) (n ∷ []),
+      next,
+      is,
+      one,
+    )
 
 pub matches_all : (board : List ℕ) (n : ℕ) (ms : List Match) → n ≡ 13 → ms ≡ map (match_at board) (take (n - 1) match_numbers) → ms ≡ matches_of board
 unfolding matches_of
