@@ -1,18 +1,14 @@
 -- What the clubs of a roster are known to be.
-use Rattle.std.proofs.Common.{◌≡◌, ℕ, ◌<◌, ◌≤◌, ◌&&◌, nat_le, Bool, true, false, List, [], ◌∷◌, length, map, slice_index_or, None, refl, subst, arith}
+use Rattle.std.proofs.Common.{◌≡◌, ℕ, ◌<◌, ◌≤◌, nat_le, true, List, [], ◌∷◌, length, map, slice_index_or, None, subst, arith}
 use Rattle.std.proofs.lemmas.Bool.Decides.{nat_tests}
 use Rattle.std.proofs.lemmas.List.{get_or-map, length-map}
 use Rattle.std.proofs.lemmas.List.Elements.{All-get_or}
+use Rattle.std.proofs.lemmas.Bool.{and_parts}
 use Rattle.ucl_order.specs.declared.roster.Member.{Member}
 use Rattle.ucl_order.specs.Code.Members.{member_seen, members_seen}
 use Rattle.ucl_order.specs.declared.roster.LentClub.{LentClub}
 use Rattle.ucl_order.specs.Roster.{NamedClub, club_lent, IsClub, IsRoster, is_club, is_name, bad_slot, bad_slot_from}
-
-and-left : (a b : Bool) → (a && b) ≡ true → a ≡ true
-and-left a b h = elim a as (λ x. (x && b) ≡ true → x ≡ true) [ true ↦ λ _. refl | false ↦ λ e. e ] h
-
-and-right : (a b : Bool) → (a && b) ≡ true → b ≡ true
-and-right a b h = elim a as (λ x. (x && b) ≡ true → b ≡ true) [ true ↦ λ e. e | false ↦ λ e. cc e ] h
+use Rattle.ucl_order.proofs.Slots.{by_four}
 
 -- the club of each place is good
 pub member-good : (members : List Member) (i : ℕ) (m : Member) → IsRoster (members_seen members) → i < 4 → IsClub (member_seen (slice_index_or members i m))
@@ -26,25 +22,24 @@ member-good members i m roster within =
 -- its name is good
 pub name-good : (members : List Member) (i : ℕ) (m : Member) → IsRoster (members_seen members) → i < 4 → is_name (slice_index_or members i m).name.items ≡ true
 unfolding is_club
-name-good members i m roster within = and-left _ _ (member-good members i m roster within)
+name-good members i m roster within = (and_parts _ _ (member-good members i m roster within)).0
 
 -- its coefficient is at most 999,999
 pub coefficient-good : (members : List Member) (i : ℕ) (m : Member) → IsRoster (members_seen members) → i < 4 → (slice_index_or members i m).coefficient ≤ 999999
 unfolding is_club
 coefficient-good members i m roster within =
-    let h : nat_le (slice_index_or members i m).coefficient 999999 ≡ true = and-right (is_name (slice_index_or members i m).name.items) _ (member-good members i m roster within) in
+    let h : nat_le (slice_index_or members i m).coefficient 999999 ≡ true =
+    (and_parts (is_name (slice_index_or members i m).name.items) _ (member-good members i m roster within)).1 in
     grind (arith, nat_tests)
 
 -- an array of four, place by place
 pub four-places : {X : Type 0} → (xs : List X) (a b c d : X) → length xs ≡ 4
     → a ≡ slice_index_or xs 0 a → b ≡ slice_index_or xs 1 b → c ≡ slice_index_or xs 2 c → d ≡ slice_index_or xs 3 d
     → xs ≡ a ∷ b ∷ c ∷ d ∷ []
-four-places [] a b c d n p q r s = absurd (omega arith)
-four-places (w ∷ []) a b c d n p q r s = absurd (omega arith)
-four-places (w ∷ x ∷ []) a b c d n p q r s = absurd (omega arith)
-four-places (w ∷ x ∷ y ∷ []) a b c d n p q r s = absurd (omega arith)
-four-places (w ∷ x ∷ y ∷ z ∷ []) a b c d n p q r s = cc
-four-places (w ∷ x ∷ y ∷ z ∷ v ∷ vs) a b c d n p q r s = absurd (omega arith)
+four-places xs a b c d n p q r s =
+    by_four (λ xs. a ≡ slice_index_or xs 0 a → b ≡ slice_index_or xs 1 b → c ≡ slice_index_or xs 2 c → d ≡ slice_index_or xs 3 d
+    → xs ≡ a ∷ b ∷ c ∷ d ∷ [])
+    (λ w x y z p q r s. cc) xs n p q r s
 
 -- four good clubs, and what the roster keeps of them
 pub record IsTaken (club : NamedClub) (member : Member) : Type 0 where

@@ -1,16 +1,15 @@
 -- What a group can still become: points only rise, and never above what the club can reach.
-use Rattle.std.proofs.Common.{◌≡◌, ℕ, ◌+◌, ◌*◌, ◌≤◌, ◌==◌, ◌&&◌, Bool, true, false, not, if◌then◌else◌, List, [], ◌∷◌, Some, None, length, get_or, map, take, count_by, refl, sym, ap, arith}
-use Rattle.std.proofs.Common.{All, Contains, eqb-true, nat_le, nat_lt}
-use Rattle.std.proofs.Common.{◌⊎◌, inl, inr}
+use Rattle.std.proofs.Common.{◌≡◌, ℕ, ◌+◌, ◌*◌, ◌≤◌, ◌==◌, ◌&&◌, Bool, true, false, not, if◌then◌else◌, List, [], ◌∷◌, Some, None, length, get_or, map, take, count_by, refl, sym, ap, arith, eq-eqb}
+use Rattle.std.proofs.Common.{All, Contains, eqb-true, nat_le, nat_lt, ◌⊎◌, inl, inr}
 use Rattle.std.specs.List.{list_all}
-use Rattle.std.proofs.lemmas.Bool.{cases_Bool, and_parts}
+use Rattle.std.proofs.lemmas.Bool.{cases_Bool, and_parts, leb-true}
 use Rattle.std.proofs.lemmas.Bool.Decides.{nat_tests}
 use Rattle.std.proofs.lemmas.Map.Views.{Contains-from_any}
 use Rattle.std.proofs.lemmas.List.Sorted.{Contains-permutation, length_permutation, sum_by-IsPermutation}
 use Rattle.std.proofs.lemmas.List.Elements.{All-head, All-tail}
 use Rattle.std.proofs.lemmas.List.Folds.{list_any_at}
 use Rattle.ucl_word.specs.declared.record.State.{State}
-use Rattle.ucl_word.specs.declared.record.State.TheVariants.{Scheduled, InPlay, Finished}
+use Rattle.ucl_word.specs.declared.record.State.TheVariants.{Finished}
 use Rattle.ucl_word.specs.Rules.{is_finished}
 use Rattle.ucl_board.specs.Fixtures.{IsMatch, IsSlot, fixture_of, match_numbers}
 use Rattle.ucl_board.specs.Words.{game_at}
@@ -28,12 +27,10 @@ use Rattle.ucl_order.proofs.Classes.{IsPermutation-order}
 use Rattle.ucl_order.proofs.ClubCounts.{count-le}
 use Rattle.ucl_order.proofs.Limits.{plays, gains, gains-le, played-cons, points-cons}
 use Rattle.ucl_order.proofs.Slots.{a_club, are_matches}
-use Rattle.ucl_order.proofs.Places.{order_falls, reaches, passes, eq_yes, in_first_two, not_in_first_two}
+use Rattle.ucl_order.proofs.Places.{order_falls, reaches, passes, in_first_two, not_in_first_two}
 
 is_done : (s : State) → is_finished s ≡ true → s ≡ Finished
-is_done Scheduled h = absurd (cc)
-is_done InPlay h = absurd (cc)
-is_done Finished h = refl
+is_done s h = search arith
 
 -- The points so far and those at the end, match by match. --
 
@@ -44,27 +41,10 @@ record Between (club : ℕ) (games board later : List ℕ) : Type 0 where
   low : points club (finished (board_part board games)) ≤ points club (started (board_part later games))
   high : points club (started (board_part later games)) ≤ points club (finished (board_part board games)) + 3 * played club (unfinished (board_part board games))
 
-started-done : (m : Match) (ms : List Match) → m.score.state ≡ Finished → started (m ∷ ms) ≡ m ∷ started ms
-started-done m ms e = rw e
-
-finished-done : (m : Match) (ms : List Match) → has_finished m ≡ true → finished (m ∷ ms) ≡ m ∷ finished ms
-finished-done m ms e = rw e
-
-finished-open : (m : Match) (ms : List Match) → has_finished m ≡ false → finished (m ∷ ms) ≡ finished ms
-finished-open m ms e = rw e
-
-unfinished-done : (m : Match) (ms : List Match) → has_finished m ≡ true → unfinished (m ∷ ms) ≡ unfinished ms
-unfinished-done m ms e = rw e
-
-unfinished-open : (m : Match) (ms : List Match) → has_finished m ≡ false → unfinished (m ∷ ms) ≡ m ∷ unfinished ms
-unfinished-open m ms e = rw e
-
 plays_alike : (at_home away : Bool) (h v h' v' : Appearance)
     → plays (if at_home then Some h else (if away then Some v else None)) ≡ plays (if at_home then Some h' else (if away then Some v' else None))
 unfolding plays
-plays_alike true away h v h' v' = refl
-plays_alike false true h v h' v' = refl
-plays_alike false false h v h' v' = refl
+plays_alike at_home away h v h' v' = search arith
 
 -- who plays does not depend on what is known of the match
 plays_same : (club game : ℕ) (board later : List ℕ) → plays (seen_by club (match_at later game)) ≡ plays (seen_by club (match_at board game))
@@ -82,10 +62,7 @@ module _ (club game : ℕ) (games board later : List ℕ) (rest : Between club g
       let worth : gains (seen_by club l) ≡ gains (seen_by club m) = ap (λ x. gains (seen_by club x)) same in
       let now_points : points club (m ∷ finished now) ≡ gains (seen_by club m) + points club (finished now) = points-cons club m (finished now) in
       let end_points : points club (l ∷ started end) ≡ gains (seen_by club l) + points club (started end) = points-cons club l (started end) in
-      record {
-        low = rw (finished-done m now done, started-done l end ended) (omega arith);
-        high = rw (finished-done m now done, unfinished-done m now done, started-done l end ended) (omega arith);
-      }
+      record { low = rw (done, ended) (omega arith); high = rw (done, ended) (omega arith) }
 
   -- any other counts at the end alone
   between-open : has_finished (match_at board game) ≡ false → Between club (game ∷ games) board later
@@ -99,10 +76,7 @@ module _ (club game : ℕ) (games board later : List ℕ) (rest : Between club g
       let alike : plays (seen_by club l) ≡ plays (seen_by club m) = plays_same club game board later in
       let end_points : points club (l ∷ started end) ≡ gains (seen_by club l) + points club (started end) = points-cons club l (started end) in
       let left : played club (m ∷ unfinished now) ≡ plays (seen_by club m) + played club (unfinished now) = played-cons club m (unfinished now) in
-      record {
-        low = rw (finished-open m now open_now, started-done l end ended) (omega arith);
-        high = rw (finished-open m now open_now, unfinished-open m now open_now, started-done l end ended) (omega arith);
-      }
+      record { low = rw (open_now, ended) (omega arith); high = rw (open_now, ended) (omega arith) }
 
 match_kept : (board later : List ℕ) (game : ℕ) → game_at later game ≡ game_at board game → match_at later game ≡ match_at board game
 match_kept board later game e = rw e
@@ -144,38 +118,19 @@ final_points later club = points club (started_of later)
 -- the mark, at the tests that it makes
 plus_cases : (all through few many : Bool) → (if all then (if through then Plus else Minus) else (if few then Plus else (if many then Minus else Blank))) ≡ Plus
     → ((all ≡ true) × (through ≡ true)) ⊎ (few ≡ true)
-plus_cases true true few many h = inl (refl, refl)
-plus_cases true false few many h = absurd (cc)
-plus_cases false through true many h = inr refl
-plus_cases false through false true h = absurd (cc)
-plus_cases false through false false h = absurd (cc)
+plus_cases all through few many h = search arith
 
 minus_cases : (all through few many : Bool) → (if all then (if through then Plus else Minus) else (if few then Plus else (if many then Minus else Blank))) ≡ Minus
     → ((all ≡ true) × (through ≡ false)) ⊎ (many ≡ true)
-minus_cases true true few many h = absurd (cc)
-minus_cases true false few many h = inl (refl, refl)
-minus_cases false through true many h = absurd (cc)
-minus_cases false through false true h = inr refl
-minus_cases false through false false h = absurd (cc)
+minus_cases all through few many h = search arith
 
 reach_weaker : (last_club last_other sure_club reach_other : ℕ) (b : Bool) → sure_club ≤ last_club
     → last_other ≤ reach_other → (b && nat_le last_club last_other) ≡ true → (b && nat_le sure_club reach_other) ≡ true
-reach_weaker p q s r true l h e = grind (arith, nat_tests)
-reach_weaker p q s r false l h e = absurd (cc)
+reach_weaker p q r s b l h e = grind (arith, nat_tests, cases_Bool b)
 
 pass_stronger : (last_club last_other reach_club sure_other : ℕ) (b : Bool) → last_club ≤ reach_club
     → sure_other ≤ last_other → (b && nat_lt reach_club sure_other) ≡ true → (b && nat_lt last_club last_other) ≡ true
-pass_stronger p q r s true l h e = grind (arith, nat_tests)
-pass_stronger p q r s false l h e = absurd (cc)
-
-le_from : (x y z : ℕ) → x ≡ y → y ≤ z → z ≤ 1 → x ≤ 1
-le_from x y z e h k = omega arith
-
-le_to : (x y z : ℕ) → x ≡ y → z ≤ y → 2 ≤ z → 2 ≤ x
-le_to x y z e h k = omega arith
-
-le_read : (x y : ℕ) → nat_le x y ≡ true → x ≤ y
-le_read x y h = grind (arith, nat_tests)
+pass_stronger p q r s b l h e = grind (arith, nat_tests, cases_Bool b)
 
 -- Sure points never fall, and never pass what the club can reach. --
 
@@ -184,7 +139,7 @@ through_if order club h = Contains-from_any {eq = λ x y. y == x} (λ x y e. sym
 
 not_through_if : (order : List ℕ) (club : ℕ) → is_in (take 2 order) club ≡ false → Contains (take 2 order) club → ⊥
 not_through_if order club h found =
-    let there : is_in (take 2 order) club ≡ true = list_any_at (λ c. c == club) (take 2 order) found.0 club found.1 (eq_yes _ _ found.2) in
+    let there : is_in (take 2 order) club ≡ true = list_any_at (λ c. c == club) (take 2 order) found.0 club found.1 (eq-eqb _ _ found.2) in
     absurd (cc)
 
 module _ (profile : Profile) (board later : List ℕ) (done : IsCompletion board later) (roster : List NamedClub) where
@@ -199,7 +154,7 @@ module _ (profile : Profile) (board later : List ℕ) (done : IsCompletion board
   member : (club : ℕ) → IsSlot club → is_in (order_of profile (started_of later) roster) club ≡ true
   member club slot =
       let found = Contains-permutation all_clubs (order_of profile (started_of later) roster) club (IsPermutation-order profile later roster) (a_club club slot) in
-      list_any_at (λ c. c == club) (order_of profile (started_of later) roster) found.0 club found.1 (eq_yes _ _ found.2)
+      list_any_at (λ c. c == club) (order_of profile (started_of later) roster) found.0 club found.1 (eq-eqb _ _ found.2)
 
   through : (club : ℕ) → IsSlot club → rivals (matches_of board) club ≤ 1 → is_in (take 2 (order_of profile (started_of later) roster)) club ≡ true
   unfolding final_points reaches
@@ -213,7 +168,8 @@ module _ (profile : Profile) (board later : List ℕ) (done : IsCompletion board
       let same : count_by (reaches key club) (order_of profile (started_of later) roster) ≡ count_by (reaches key club) all_clubs =
       sum_by-IsPermutation _ _ _ (IsPermutation-order profile later roster) in
       let long : length (order_of profile (started_of later) roster) ≡ 4 = length_permutation _ _ (IsPermutation-order profile later roster) in
-      in_first_two key club (order_of profile (started_of later) roster) long (order_falls profile later roster) (member club slot) (le_from _ _ _ same fewer few)
+      in_first_two key club (order_of profile (started_of later) roster) long (order_falls profile later roster)
+      (member club slot) (omega arith)
 
   out : (club : ℕ) → 2 ≤ out_of_reach (matches_of board) club → is_in (take 2 (order_of profile (started_of later) roster)) club ≡ false
   unfolding final_points passes
@@ -226,7 +182,7 @@ module _ (profile : Profile) (board later : List ℕ) (done : IsCompletion board
       (sure_points (matches_of board) (get_or all_clubs k d)) (not (get_or all_clubs k d == club)) (high club) (low (get_or all_clubs k d))) in
       let same : count_by (passes key club) (order_of profile (started_of later) roster) ≡ count_by (passes key club) all_clubs =
       sum_by-IsPermutation _ _ _ (IsPermutation-order profile later roster) in
-      not_in_first_two key club (order_of profile (started_of later) roster) (order_falls profile later roster) (le_to _ _ _ same more many)
+      not_in_first_two key club (order_of profile (started_of later) roster) (order_falls profile later roster) (omega arith)
 
   -- a club marked Plus goes through
   pub plus_is_certain : (club : ℕ) → IsSlot club → mark_of profile board roster club ≡ Plus → GoesThrough profile later roster club
@@ -236,7 +192,7 @@ module _ (profile : Profile) (board later : List ℕ) (done : IsCompletion board
       (elim (plus_cases (list_all has_finished (matches_of board)) (is_in (take 2 (order_of profile (started_of board) roster)) club)
       (nat_le (rivals (matches_of board) club) 1) (nat_le 2 (out_of_reach (matches_of board) club)) h) [
         | inl (all, now) ↦ rw (same_order profile board later roster (unchanged board later done all)) now
-        | inr few ↦ through club slot (le_read _ _ few)
+        | inr few ↦ through club slot (leb-true _ _ few)
       ])
 
   -- a club marked Minus does not
@@ -246,5 +202,5 @@ module _ (profile : Profile) (board later : List ℕ) (done : IsCompletion board
       not_through_if (order_of profile (started_of later) roster) club (elim (minus_cases (list_all has_finished (matches_of board))
       (is_in (take 2 (order_of profile (started_of board) roster)) club) (nat_le (rivals (matches_of board) club) 1) (nat_le 2 (out_of_reach (matches_of board) club)) h) [
         | inl (all, now) ↦ rw (same_order profile board later roster (unchanged board later done all)) now
-        | inr many ↦ out club (le_read _ _ many)
+        | inr many ↦ out club (leb-true _ _ many)
       ])

@@ -1,8 +1,9 @@
 -- What each club has, gathered in one pass over the matches.
 use Rattle.std.proofs.Common.{◌≡◌, ◌≢◌, ℕ, ◌+◌, ◌-◌, ◌<◌, ◌==◌, if◌then◌else◌, Option, Some, None, List, [], ◌∷◌, ◌++◌, length, get_or, set, map, refl, ◌∙◌, arith, All}
 use Rattle.std.proofs.lemmas.List.{get_or-set_other}
-use Rattle.std.proofs.lemmas.List.Elements.{All-cons, All-nil, All-set}
+use Rattle.std.proofs.lemmas.List.Elements.{All-set}
 use Rattle.ucl_board.specs.Fixtures.{IsSlot}
+use Rattle.ucl_board.proofs.Histories.{each_slot}
 use Rattle.ucl_order.specs.declared.game.Match.{Match}
 use Rattle.ucl_order.specs.declared.game.Appearance.{Appearance}
 use Rattle.ucl_order.specs.declared.results.Results.{Results}
@@ -13,7 +14,7 @@ use Rattle.ucl_order.specs.Code.Counting.{with_match, IsWithin}
 use Rattle.ucl_order.specs.Order.{all_clubs}
 use Rattle.ucl_order.specs.Code.Rounds.{results_of_clubs}
 use Rattle.ucl_order.proofs.OneMatchMore.{push_more, push_same, within_later}
-use Rattle.ucl_board.proofs.Histories.{each_slot}
+use Rattle.ucl_order.proofs.Slots.{all-four}
 
 -- A list with a place for each club, in which two clubs have one match more. --
 
@@ -24,7 +25,8 @@ module _ (X : Type 0) (more : X → Option Appearance → X) (none : (r : X) →
   two_more f h a x y d e is_h is_a =
       let P : ℕ → ℕ → Type 0 = λ h a. h ≢ a → (
       let middle : List X = set (map f all_clubs) (h - 1) (more (get_or (map f all_clubs) (h - 1) d) (Some x)) in
-      set middle (a - 1) (more (get_or middle (a - 1) e) (Some y)) ≡ map (λ c. more (f c) (if h == c then Some x else (if a == c then Some y else None))) all_clubs) in
+      set middle (a - 1) (more (get_or middle (a - 1) e) (Some y))
+      ≡ map (λ c. more (f c) (if h == c then Some x else (if a == c then Some y else None))) all_clubs) in
       let n1 = none (f 1) in
       let n2 = none (f 2) in
       let n3 = none (f 3) in
@@ -66,9 +68,7 @@ module _ (ms : List Match) (m : Match) where
 
 -- nothing is within no match
 pub nothing_within : (none : Results) → IsWithin 0 none → All (IsWithin 0) (none ∷ none ∷ none ∷ none ∷ [])
-nothing_within none h =
-    All-cons (IsWithin 0) none (none ∷ none ∷ none ∷ []) h
-    (All-cons (IsWithin 0) none (none ∷ none ∷ []) h (All-cons (IsWithin 0) none (none ∷ []) h (All-cons (IsWithin 0) none [] h (All-nil (IsWithin 0)))))
+nothing_within none h = all-four (IsWithin 0) none none none none h h h h
 
 pub nothing_done : (none : Results) → none ≡ results_of 1 [] → none ∷ none ∷ none ∷ none ∷ [] ≡ results_of_clubs []
 unfolding results_of

@@ -1,11 +1,12 @@
 -- What a club of a group can do at most.
-use Rattle.std.proofs.Common.{◌≡◌, ℕ, ◌+◌, ◌*◌, ◌-◌, ◌≤◌, ◌==◌, Bool, true, false, cond, if◌then◌else◌, List, [], ◌∷◌, Option, Some, None, length, filter, count_by, refl, subst, arith, All}
+use Rattle.std.proofs.Common.{◌≡◌, ℕ, ◌+◌, ◌*◌, ◌-◌, ◌≤◌, ◌==◌, Bool, true, false, cond, if◌then◌else◌, List, [], ◌∷◌, Option, Some, None, length, filter, count_by, refl, arith, All}
 use Rattle.std.specs.List.{slice_index, cons_option}
 use Rattle.std.proofs.lemmas.Bool.Decides.{nat_tests}
 use Rattle.std.proofs.lemmas.List.Sums.{sum_by-cons, sum_by-le, count_by-le-length}
 use Rattle.std.proofs.lemmas.List.Sorted.{All-permutation, length_permutation}
 use Rattle.std.proofs.lemmas.List.Elements.{All-head, All-tail, All-cons, All-nil, All-filter}
 use Rattle.ucl_board.specs.Fixtures.{IsSlot}
+use Rattle.ucl_board.proofs.Histories.{each_slot}
 use Rattle.ucl_order.specs.declared.profile.Profile.{Profile}
 use Rattle.ucl_order.specs.declared.game.Match.{Match}
 use Rattle.ucl_order.specs.declared.game.Appearance.{Appearance}
@@ -19,7 +20,6 @@ use Rattle.ucl_order.specs.Code.Counting.{worth}
 use Rattle.ucl_order.specs.Rows.{row_of, row_with, rows_of, IsWithinTable}
 use Rattle.ucl_order.proofs.Classes.{IsPermutation-order}
 use Rattle.ucl_order.proofs.Slots.{all-four, slots}
-use Rattle.ucl_board.proofs.Histories.{each_slot}
 
 -- One match more in front. --
 
@@ -34,8 +34,7 @@ gains (Some a) = worth a
 
 played_one : (o : Option Appearance) (games : List Appearance) → length (cons_option o games) ≡ plays o + length games
 unfolding plays
-played_one None games = omega arith
-played_one (Some a) games = omega arith
+played_one o games = search arith
 
 pub played-cons : (club : ℕ) (m : Match) (ms : List Match) → played club (m ∷ ms) ≡ plays (seen_by club m) + played club ms
 played-cons club m ms = played_one (seen_by club m) (appearances club ms)
@@ -50,10 +49,7 @@ pub points-cons : (club : ℕ) (m : Match) (ms : List Match) → points club (m 
 points-cons club m ms = points_one (seen_by club m) (appearances club ms)
 
 three_at_most : (won drawn : Bool) → (drawn ≡ true → won ≡ false) → 3 * cond won 1 0 + cond drawn 1 0 ≤ 3
-three_at_most true true h = absurd (cc (h refl))
-three_at_most true false h = omega arith
-three_at_most false true h = omega arith
-three_at_most false false h = omega arith
+three_at_most won drawn h = search (arith, h)
 
 -- a match is worth three points at most
 pub gains-le : (o : Option Appearance) → gains o ≤ 3 * plays o
@@ -67,14 +63,14 @@ points-le club (m ∷ ms) = omega (arith, played-cons club m ms, points-cons clu
 
 -- Some of the matches. --
 
+-- where each match adds its part, some of the matches give no more than all
+pub filter-less : (f : List Match → ℕ) (part : Match → ℕ) → ((m : Match) (ms : List Match) → f (m ∷ ms) ≡ part m + f ms)
+    → (p : Match → Bool) (ms : List Match) → f (filter p ms) ≤ f ms
+filter-less f part more p [] = omega arith
+filter-less f part more p (m ∷ ms) = search (arith, filter-less f part more p ms, more m ms, more m (filter p ms))
+
 pub played-filter : (p : Match → Bool) (club : ℕ) (ms : List Match) → played club (filter p ms) ≤ played club ms
-played-filter p club [] = omega arith
-played-filter p club (m ∷ ms) =
-    let rest : played club (filter p ms) ≤ played club ms = played-filter p club ms in
-    elim (p m) as (λ v. played club (cond v (m ∷ filter p ms) (filter p ms)) ≤ played club (m ∷ ms)) [
-      | true ↦ omega (arith, rest, played-cons club m ms, played-cons club m (filter p ms))
-      | false ↦ omega (arith, rest, played-cons club m ms)
-    ]
+played-filter p club ms = filter-less (played club) (λ m. plays (seen_by club m)) (played-cons club) p ms
 
 -- each club has six matches
 pub six : (board : List ℕ) (club : ℕ) → IsSlot club → played club (matches_of board) ≡ 6
@@ -91,13 +87,10 @@ pub record AreFew (a : Appearance) : Type 0 where
   pub expulsions : a.expulsions ≤ 31
 
 few_one : (o : Option Appearance) (games : List Appearance) → ((a : Appearance) → o ≡ Some a → AreFew a) → All AreFew games → All AreFew (cons_option o games)
-few_one None games h rest = rest
-few_one (Some a) games h rest = All-cons AreFew a games (h a refl) rest
+few_one o games h rest = search (arith, All-cons AreFew, h, rest)
 
 seen_parts : (at_home away : Bool) (h v a : Appearance) → (if at_home then Some h else (if away then Some v else None)) ≡ Some a → AreFew h → AreFew v → AreFew a
-seen_parts true away h v a e few_h few_v = let same : h ≡ a = (cc) in subst AreFew same few_h
-seen_parts false true h v a e few_h few_v = let same : v ≡ a = (cc) in subst AreFew same few_v
-seen_parts false false h v a e few_h few_v = absurd (cc)
+seen_parts at_home away h v a e few_h few_v = search arith
 
 seen_few : (club : ℕ) (m : Match) (a : Appearance) → HasScore m → seen_by club m ≡ Some a → AreFew a
 seen_few club m a h e =
@@ -120,22 +113,11 @@ within_table place slot mark ms is_slot valid most =
     let won : wins slot ms ≤ length games = count_by-le-length is_won games in
     let drawn : draws slot ms ≤ length games = count_by-le-length is_drawn games in
     let lost : losses slot ms ≤ length games = count_by-le-length is_lost games in
-    let three : points slot ms ≤ 3 * played slot ms = points-le slot ms in record {
-      slot = is_slot;
-      played = most;
-      wins = omega arith;
-      draws = omega arith;
-      losses = omega arith;
-      goals_for = omega arith;
-      goals_against = omega arith;
-      points = omega arith;
-    }
+    let three : points slot ms ≤ 3 * played slot ms = points-le slot ms in
+    search arith
 
-at_most_six : (board : List ℕ) (club : ℕ) → IsSlot club → played club (started_of board) ≤ 6
-at_most_six board club slot =
-    let some : played club (started_of board) ≤ played club (matches_of board) = played-filter has_started club (matches_of board) in
-    let all : played club (matches_of board) ≡ 6 = six board club slot in
-    omega arith
+pub at_most_six : (board : List ℕ) (club : ℕ) → IsSlot club → played club (started_of board) ≤ 6
+at_most_six board club slot = omega (arith, played-filter has_started club (matches_of board), six board club slot)
 
 module _ (profile : Profile) (board : List ℕ) (roster : List NamedClub) (valid : All HasScore (matches_of board)) where
   row_within : (place : ℕ) → 1 ≤ place → place ≤ 4 → IsWithinTable (row_of profile board roster place)

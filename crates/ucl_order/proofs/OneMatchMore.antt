@@ -1,24 +1,24 @@
 -- One match more in what a club has done.
-use Rattle.std.proofs.Common.{◌≡◌, ℕ, ◌+◌, ◌-◌, ◌<◌, ◌≤◌, ◌&&◌, Bool, true, false, cond, if◌then◌else◌, Option, List, [], ◌∷◌, ◌++◌, Some, None, length, get_or, take, map, filter, count_by}
-use Rattle.std.proofs.Common.{sum_by, refl, sym, ap, ◌∙◌, arith, append-nil, add-zero}
-use Rattle.std.specs.List.{cons_option, filter_map}
+use Rattle.std.proofs.Common.{◌≡◌, ℕ, ◌+◌, ◌-◌, ◌<◌, ◌≤◌, ◌&&◌, Bool, cond, Option, List, [], ◌∷◌, ◌++◌, Some, None, length, get_or, take, map, filter, count_by}
+use Rattle.std.proofs.Common.{sum_by, refl, sym, ap, ◌∙◌, arith, append-nil}
+use Rattle.std.specs.List.{filter_map}
 use Rattle.std.proofs.lemmas.List.{take_more, length_push, map-append}
 use Rattle.std.proofs.lemmas.List.Sums.{sum_by_push}
 use Rattle.std.proofs.lemmas.List.Elements.{filter_map-append, filter-append}
+use Rattle.ucl_board.specs.Fixtures.{fixture_of, match_numbers}
+use Rattle.ucl_board.specs.Words.{game_at}
+use Rattle.ucl_board.proofs.Histories.{number_listed}
 use Rattle.ucl_order.specs.declared.game.Match.{Match}
 use Rattle.ucl_order.specs.declared.game.Score.{Score}
 use Rattle.ucl_order.specs.declared.game.Appearance.{Appearance}
 use Rattle.ucl_order.specs.declared.results.Results.{Results}
-use Rattle.ucl_board.specs.Fixtures.{fixture_of, match_numbers}
-use Rattle.ucl_board.specs.Words.{game_at}
 use Rattle.ucl_order.specs.declared.mark.Mark.{Mark}
 use Rattle.ucl_order.specs.Rows.{row_with}
 use Rattle.ucl_order.specs.Matches.{match_at, matches_of, score_of}
 use Rattle.ucl_order.specs.Appearances.{seen_by, is_won, is_drawn, is_lost, disciplinary_points}
 use Rattle.ucl_order.specs.Results.{points_for, appearances, results_of}
 use Rattle.ucl_order.specs.Code.Counting.{with_match, IsWithin, seen_among}
-use Rattle.ucl_order.specs.Order.{among, is_in}
-use Rattle.ucl_board.proofs.Histories.{number_listed}
+use Rattle.ucl_order.specs.Order.{among}
 
 -- the same of matches as the club saw them
 pub totals : List Appearance → Results
@@ -36,16 +36,10 @@ totals games = record {
 
 away_push : (f : Appearance → ℕ) (games : List Appearance) (a : Appearance) →
     sum_by f (filter (λ a. a.is_away) (games ++ a ∷ [])) ≡ sum_by f (filter (λ a. a.is_away) games) + cond a.is_away (f a) 0
-away_push f games a =
-    rw (filter-append (λ a. a.is_away) games (a ∷ []))
-    (elim a.is_away as (λ v. sum_by f (filter (λ a. a.is_away) games ++ cond v (a ∷ []) []) ≡ sum_by f (filter (λ a. a.is_away) games) + cond v (f a) 0) [
-      | true ↦ sum_by_push f (filter (λ a. a.is_away) games) a
-      | false ↦ rw (append-nil (filter (λ a. a.is_away) games), add-zero (sum_by f (filter (λ a. a.is_away) games)))
-    ])
+away_push f games a = search (arith, filter-append (λ a. a.is_away) games (a ∷ []), sum_by_push, append-nil)
 
-both : (a b : Bool) → ◌≡◌ {A = ℕ} (cond a (cond b 1 0) 0) (cond (a && b) 1 0)
-both true b = refl
-both false b = refl
+cond_cond : (a b : Bool) → ◌≡◌ {A = ℕ} (cond a (cond b 1 0) 0) (cond (a && b) 1 0)
+cond_cond a b = search arith
 
 totals_push : (games : List Appearance) (a : Appearance) → with_match (totals games) a ≡ totals (games ++ a ∷ [])
 unfolding totals
@@ -60,7 +54,7 @@ totals_push games a =
       away_push (λ a. a.scored) games a,
       away_push (λ a. cond (is_won a) 1 0) games a,
       sum_by_push disciplinary_points games a,
-      both a.is_away (is_won a),
+      cond_cond a.is_away (is_won a),
     )
 
 pub results_are : (club : ℕ) (ms : List Match) → results_of club ms ≡ totals (appearances club ms)
@@ -71,50 +65,55 @@ pub results_none : (club : ℕ) → results_of club [] ≡ record { played = 0; 
 unfolding results_of
 results_none club = refl
 
--- a match more in a list, where f says how the club sees one
-module _ (f : Match → Option Appearance) (ms : List Match) (i : ℕ) (d : Match) (h : i < length ms) where
-  seen_more : (a : Appearance) → Some a ≡ f (get_or ms i d) → filter_map f (take (i + 1) ms) ≡ filter_map f (take i ms) ++ a ∷ []
-  seen_more a e = rw (take_more ms i d h, filter_map-append f (take i ms) (get_or ms i d ∷ []), ← e)
+-- a match more at the end of a list, where f says how the club sees one
+module _ (f : Match → Option Appearance) (ms : List Match) where
+  push_seen : (m : Match) (a : Appearance) → Some a ≡ f m → with_match (totals (filter_map f ms)) a ≡ totals (filter_map f (ms ++ m ∷ []))
+  push_seen m a seen = rw (filter_map-append f ms (m ∷ []), ← seen) (totals_push (filter_map f ms) a)
 
-  not_seen : None ≡ f (get_or ms i d) → filter_map f (take (i + 1) ms) ≡ filter_map f (take i ms)
-  not_seen e = rw (take_more ms i d h, filter_map-append f (take i ms) (get_or ms i d ∷ []), ← e) (append-nil (filter_map f (take i ms)))
+  push_unseen : (m : Match) → None ≡ f m → totals (filter_map f ms) ≡ totals (filter_map f (ms ++ m ∷ []))
+  push_unseen m seen = rw (filter_map-append f ms (m ∷ []), ← seen, append-nil (filter_map f ms))
+
+  -- ... and in the loop over the matches
+  module _ (i : ℕ) (d : Match) (before : Results) (h : i < length ms) (is : before ≡ totals (filter_map f (take i ms))) where
+    seen_more : (a : Appearance) (after : Results) → Some a ≡ f (get_or ms i d) → after ≡ with_match before a
+        → after ≡ totals (filter_map f (take (i + 1) ms))
+    seen_more a after seen next =
+        rw (next, is, take_more ms i d h, filter_map-append f (take i ms) (get_or ms i d ∷ []), ← seen)
+        (totals_push (filter_map f (take i ms)) a)
+
+    not_seen : None ≡ f (get_or ms i d) → before ≡ totals (filter_map f (take (i + 1) ms))
+    not_seen seen =
+        rw (is, take_more ms i d h, filter_map-append f (take i ms) (get_or ms i d ∷ []), ← seen, append-nil (filter_map f (take i ms)))
 
 -- the loop over the matches: one in which the club plays
 pub results_more : (club : ℕ) (ms : List Match) (i : ℕ) (d : Match) (a : Appearance) (before after : Results) → i < length ms
     → before ≡ results_of club (take i ms) → Some a ≡ seen_by club (get_or ms i d) → after ≡ with_match before a →
     after ≡ results_of club (take (i + 1) ms)
-results_more club ms i d a before after h is seen next =
-    next ∙ ap (λ r. with_match r a) (is ∙ results_are club (take i ms)) ∙ totals_push (appearances club (take i ms)) a
-    ∙ sym (ap totals (seen_more (seen_by club) ms i d h a seen)) ∙ sym (results_are club (take (i + 1) ms))
+unfolding results_of totals
+results_more club ms i d a before after h is seen next = seen_more (seen_by club) ms i d before h is a after seen next
 
 -- ... and one in which it does not
 pub results_same : (club : ℕ) (ms : List Match) (i : ℕ) (d : Match) (before : Results) → i < length ms
     → before ≡ results_of club (take i ms) → None ≡ seen_by club (get_or ms i d) → before ≡ results_of club (take (i + 1) ms)
-results_same club ms i d before h is seen = is ∙ results_are club (take i ms) ∙ sym (ap totals (not_seen (seen_by club) ms i d h seen)) ∙ sym (results_are club (take (i + 1) ms))
+unfolding results_of totals
+results_same club ms i d before h is seen = not_seen (seen_by club) ms i d before h is seen
 
 -- a match more at the end of a list: one in which the club plays
-pub push_more : (club : ℕ) (ms : List Match) (m : Match) (a : Appearance) → Some a ≡ seen_by club m → with_match (results_of club ms) a ≡ results_of club (ms ++ m ∷ [])
-push_more club ms m a seen =
-    let next : appearances club (ms ++ m ∷ []) ≡ appearances club ms ++ a ∷ [] = rw (filter_map-append (seen_by club) ms (m ∷ []), ← seen) in
-    ap (λ r. with_match r a) (results_are club ms) ∙ totals_push (appearances club ms) a ∙ sym (ap totals next) ∙ sym (results_are club (ms ++ m ∷ []))
+pub push_more : (club : ℕ) (ms : List Match) (m : Match) (a : Appearance) → Some a ≡ seen_by club m
+    → with_match (results_of club ms) a ≡ results_of club (ms ++ m ∷ [])
+unfolding results_of totals
+push_more club ms m a seen = push_seen (seen_by club) ms m a seen
 
 -- ... and one in which it does not
 pub push_same : (club : ℕ) (ms : List Match) (m : Match) → None ≡ seen_by club m → results_of club ms ≡ results_of club (ms ++ m ∷ [])
-push_same club ms m seen =
-    let next : appearances club (ms ++ m ∷ []) ≡ appearances club ms = rw (filter_map-append (seen_by club) ms (m ∷ []), ← seen) (append-nil (appearances club ms)) in
-    results_are club ms ∙ sym (ap totals next) ∙ sym (results_are club (ms ++ m ∷ []))
+unfolding results_of totals
+push_same club ms m seen = push_unseen (seen_by club) ms m seen
 
 -- The same over the matches among some clubs. --
 
-seen_among_is : (both : Bool) (club : ℕ) (m : Match) (rest : List Match)
-    → filter_map (seen_by club) (cond both (m ∷ rest) rest) ≡ cons_option (if both then seen_by club m else None) (filter_map (seen_by club) rest)
-seen_among_is true club m rest = refl
-seen_among_is false club m rest = refl
-
 among_seen : (club : ℕ) (clubs : List ℕ) (ms : List Match) → appearances club (among clubs ms) ≡ filter_map (seen_among club clubs) ms
 among_seen club clubs [] = refl
-among_seen club clubs (m ∷ ms) =
-    seen_among_is (is_in clubs m.home && is_in clubs m.away) club m (among clubs ms) ∙ ap (cons_option (seen_among club clubs m)) (among_seen club clubs ms)
+among_seen club clubs (m ∷ ms) = search (arith, among_seen club clubs ms)
 
 module _ (club : ℕ) (clubs : List ℕ) where
   tied_are : (ms : List Match) → results_of club (among clubs ms) ≡ totals (filter_map (seen_among club clubs) ms)
@@ -124,20 +123,12 @@ module _ (club : ℕ) (clubs : List ℕ) where
       → before ≡ results_of club (among clubs (take i ms)) → Some a ≡ seen_among club clubs (get_or ms i d) → after ≡ with_match before a →
       after ≡ results_of club (among clubs (take (i + 1) ms))
   among_more ms i d a before after h is seen next =
-      next ∙ ap (λ r. with_match r a) (is ∙ tied_are (take i ms)) ∙ totals_push (filter_map (seen_among club clubs) (take i ms)) a
-      ∙ sym (ap totals (seen_more (seen_among club clubs) ms i d h a seen)) ∙ sym (tied_are (take (i + 1) ms))
+      seen_more (seen_among club clubs) ms i d before h (is ∙ tied_are (take i ms)) a after seen next ∙ sym (tied_are (take (i + 1) ms))
 
   pub among_same : (ms : List Match) (i : ℕ) (d : Match) (before : Results) → i < length ms → before ≡ results_of club (among clubs (take i ms))
       → None ≡ seen_among club clubs (get_or ms i d) → before ≡ results_of club (among clubs (take (i + 1) ms))
-  among_same ms i d before h is seen = is ∙ tied_are (take i ms) ∙ sym (ap totals (not_seen (seen_among club clubs) ms i d h seen)) ∙ sym (tied_are (take (i + 1) ms))
-
-bit : (b : Bool) → cond b 1 0 ≤ 1
-bit true = omega arith
-bit false = omega arith
-
-part : (b : Bool) (n : ℕ) → cond b n 0 ≤ n
-part true n = omega arith
-part false n = omega arith
+  among_same ms i d before h is seen =
+      not_seen (seen_among club clubs) ms i d before h (is ∙ tied_are (take i ms)) seen ∙ sym (tied_are (take (i + 1) ms))
 
 -- a match as a record of bytes has it
 pub record AreBytes (a : Appearance) : Type 0 where
@@ -147,32 +138,12 @@ pub record AreBytes (a : Appearance) : Type 0 where
   pub expulsions : a.expulsions ≤ 255
 
 pub within_later : (m n : ℕ) (r : Results) → m ≤ n → IsWithin m r → IsWithin n r
-within_later m n r e h = record {
-  played = omega arith;
-  wins = omega arith;
-  draws = omega arith;
-  losses = omega arith;
-  goals_for = omega arith;
-  goals_against = omega arith;
-  away_goals = omega arith;
-  away_wins = omega arith;
-  discipline = omega arith;
-}
+within_later m n r e h = search arith
 
 -- nothing is within no match
 pub none_within : (r : Results) → r ≡ results_of 1 [] → IsWithin 0 r
 unfolding results_of
-none_within r is = rw is (record {
-  played = omega arith;
-  wins = omega arith;
-  draws = omega arith;
-  losses = omega arith;
-  goals_for = omega arith;
-  goals_against = omega arith;
-  away_goals = omega arith;
-  away_wins = omega arith;
-  discipline = omega arith;
-})
+none_within r is = rw is (search arith)
 
 -- What is read off such results. --
 
@@ -200,7 +171,16 @@ pub matches_more : (board : List ℕ) (n : ℕ) (before after : List Match) (m :
 matches_more board n before after m low high is one next =
     let at : n + 1 - 1 ≡ n - 1 + 1 = omega arith in
     let within : n - 1 < length match_numbers = omega arith in
-    rw (at, take_more match_numbers (n - 1) 0 within, number_listed n 0 (low, high), map-append (match_at board) (take (n - 1) match_numbers) (n ∷ []), next, is, one)
+    rw (
+      at,
+      take_more match_numbers (n - 1) 0 within,
+      number_listed n 0 (low, high),
+      map-append (match_at board)
+          (take (n - 1) match_numbers) (n ∷ []),
+      next,
+      is,
+      one,
+    )
 
 pub matches_all : (board : List ℕ) (n : ℕ) (ms : List Match) → n ≡ 13 → ms ≡ map (match_at board) (take (n - 1) match_numbers) → ms ≡ matches_of board
 unfolding matches_of

@@ -1,6 +1,5 @@
 -- The rows, from what the calls answered.
-use Rattle.std.proofs.Common.{◌≡◌, ◌∙◌, ℕ, ◌-◌, List, [], ◌∷◌, map, get_or, All, refl, sym}
-use Rattle.std.proofs.lemmas.List.Elements.{All-cons, All-nil}
+use Rattle.std.proofs.Common.{◌≡◌, ◌∙◌, ℕ, ◌-◌, List, [], ◌∷◌, get_or, All, refl, sym}
 use Rattle.std.specs.List.{slice_index}
 use Rattle.ucl_order.specs.declared.profile.Profile.{Profile}
 use Rattle.ucl_order.specs.declared.game.Match.{Match}
@@ -12,6 +11,7 @@ use Rattle.ucl_order.specs.Order.{order_of}
 use Rattle.ucl_order.specs.Marks.{mark_by, mark_of}
 use Rattle.ucl_order.specs.Rows.{IsWithinTable, MarkIsCertain, row_of, row_with, rows_of}
 use Rattle.ucl_order.proofs.Completions.{plus_is_certain, minus_is_certain}
+use Rattle.ucl_order.proofs.Slots.{all-four}
 
 pub row_is : (place n : ℕ) (order : List ℕ) (ms now : List Match) (mark : Mark) (r : Row) → n ≡ place → now ≡ started ms →
     mark ≡ mark_by ms order (slice_index order (n - 1)) → r ≡ row_with place (slice_index order (n - 1)) mark now →
@@ -42,11 +42,7 @@ module _ (profile : Profile) (board : List ℕ) (roster : List NamedClub) where
   IsMarked row = row.mark ≡ mark_of profile board roster row.slot
 
   all_marked : All IsMarked (rows_of profile board roster)
-  all_marked =
-      All-cons IsMarked (row_of profile board roster 1) (map (row_of profile board roster) (2 ∷ 3 ∷ 4 ∷ [])) (marked 1)
-      (All-cons IsMarked (row_of profile board roster 2) (map (row_of profile board roster) (3 ∷ 4 ∷ [])) (marked 2)
-      (All-cons IsMarked (row_of profile board roster 3) (map (row_of profile board roster) (4 ∷ [])) (marked 3)
-      (All-cons IsMarked (row_of profile board roster 4) [] (marked 4) (All-nil IsMarked))))
+  all_marked = all-four IsMarked _ _ _ _ (marked 1) (marked 2) (marked 3) (marked 4)
 
   certain : (row : Row) → IsWithinTable row → IsMarked row → MarkIsCertain profile board roster row
   certain row within is = record {

@@ -1,11 +1,12 @@
-use Rattle.std.proofs.Common.{◌≡◌, ◌∙◌, ap, refl, sym, subst, All, List, map}
+use Rattle.std.proofs.Common.{◌≡◌, ◌∙◌, ap, refl, sym, subst, All, List, map, ℕ}
 use Rattle.std.proofs.lemmas.List.Elements.{All-same}
 use Rattle.ucl_order.specs.declared.game.Match.{Match}
 use Rattle.ucl_order.specs.Matches.{HasScore, matches_of, started, started_of}
 use Rattle.ucl_order.specs.Marks.{mark_by}
 use Rattle.ucl_order.specs.Code.Rounds.{results_of_clubs}
 use Rattle.ucl_order.specs.Order.{order_of}
-use Rattle.ucl_order.specs.Rows.{rows_of, row_of, IsWithinTable, MarkIsCertain}
+use Rattle.ucl_order.specs.Rows.{rows_of, IsWithinTable, MarkIsCertain}
+use Rattle.ucl_order.specs.declared.table.Row.{Row}
 use Rattle.ucl_order.proofs.Limits.{rows_within}
 use Rattle.ucl_order.proofs.TableRows.{all_certain, four_rows, order_is, row_of_place}
 use Rattle.ucl_order.proofs.table.standings.Goals as goal
@@ -28,15 +29,10 @@ returns-clause-rows c =
     (ap started (c.deref-2.ensures.0 ∙ c.fill_matches.ensures.value)) c.order-order.ensures.value in
     let marks = c.marks_of-marks.ensures ∙ ap (λ m. map (mark_by m c.order-order.result) c.order-order.result) c.deref-3.ensures.0 in
     let results = c.of_clubs-results.ensures.value ∙ ap (λ m. results_of_clubs (started m)) c.deref.ensures.0 in
-    let first : c.row_at.result ≡ row_of c.args.profile c.args.board.now c.args.roster.now 1 =
-    row_of_place c.args.profile c.args.board.now c.args.roster.now 1 ms ms c.order-order.result c.row_at.result c.fill_matches.ensures.value refl order (c.row_at.ensures ms marks results) in
-    let second : c.row_at-2.result ≡ row_of c.args.profile c.args.board.now c.args.roster.now 2 =
-    row_of_place c.args.profile c.args.board.now c.args.roster.now 2 ms ms c.order-order.result c.row_at-2.result c.fill_matches.ensures.value refl order (c.row_at-2.ensures ms marks results) in
-    let third : c.row_at-3.result ≡ row_of c.args.profile c.args.board.now c.args.roster.now 3 =
-    row_of_place c.args.profile c.args.board.now c.args.roster.now 3 ms ms c.order-order.result c.row_at-3.result c.fill_matches.ensures.value refl order (c.row_at-3.ensures ms marks results) in
-    let fourth : c.row_at-4.result ≡ row_of c.args.profile c.args.board.now c.args.roster.now 4 =
-    row_of_place c.args.profile c.args.board.now c.args.roster.now 4 ms ms c.order-order.result c.row_at-4.result c.fill_matches.ensures.value refl order (c.row_at-4.ensures ms marks results) in
-    four_rows first second third fourth
+    let row = λ (place : ℕ) (r : Row). row_of_place c.args.profile c.args.board.now c.args.roster.now place ms ms c.order-order.result r
+    c.fill_matches.ensures.value refl order in
+    four_rows (row 1 c.row_at.result (c.row_at.ensures ms marks results)) (row 2 c.row_at-2.result (c.row_at-2.ensures ms marks results))
+    (row 3 c.row_at-3.result (c.row_at-3.ensures ms marks results)) (row 4 c.row_at-4.result (c.row_at-4.ensures ms marks results))
 
 pub returns-clause-within : goal.returns-clause-within
 returns-clause-within c =
