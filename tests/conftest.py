@@ -39,6 +39,8 @@ def pytest_addoption(parser):
 
 
 def pytest_configure(config):
+    # A shell that starts the tests in the background has them ignore Ctrl-C, and what they start too: some tests end a program by it.
+    signal.signal(signal.SIGINT, signal.default_int_handler)
     config.addinivalue_line("markers", "quick: needs words and input alone, or no program at all, so that --unproved can try it")
     config.addinivalue_line("markers", "limit(seconds): how long the test may take; fifty times that by the profile `night`")
 
