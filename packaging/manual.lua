@@ -1,5 +1,5 @@
--- For pandoc: a page of docs/ as a page of the manual. Of its sections stay those that `sections` names, parted by bars; a table becomes a list by
--- its first column, and a link its text.
+-- For pandoc: a page of docs/ as a page of the manual. Of its sections stay those that `sections` names, parted by bars. A table becomes a list by
+-- its first column, and a link its text; a list of contents goes.
 local utils = pandoc.utils
 
 function Link(link) return link.content end
@@ -19,6 +19,10 @@ local function told(row, heads)
     end
   end
   return { pandoc.Plain(lines) }
+end
+
+function Para(it)
+  if utils.stringify(it):match "^Contents:" then return {} end
 end
 
 function Table(it)
