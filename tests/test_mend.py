@@ -174,7 +174,7 @@ def taken_back(mistake):
 test_what_an_event_takes_back = tabled({mistake: taken_back(mistake) for mistake in MEANT})
 # By the mistake the clubs and the rows of the evening, and the clubs and the rows without it.
 AGAIN = {
-    "A kick-off of match 2": (CLUBS, ROWS, ROSTER, ROWS[:-1]),
+    "A kick-off of match 2": (CLUBS, [*ROWS, "7,2,1,goal-home\n"], ROSTER, ROWS[:-1]),
     "A card in match 1": (CLUBS, ROWS, ROSTER, [*ROWS[:2], *(row for row in LEFT_OUT if "second" not in row), ROWS[-1]]),
     "A misspelt name": (CLUBS.replace("Alpha", "Alhpa"), ROWS, ROSTER, ROWS),
     "A wrong coefficient": (CLUBS, ROWS, [("Alpha", 61_000), *ROSTER[1:]], ROWS),
@@ -192,17 +192,19 @@ def hall(tmp_path, program):
 
 @pytest.mark.quick
 def test_each_line_of_the_page_is_tried():
-    assert TYPED.keys() == MEANT.keys() and LINES.keys() == {*AGAIN, "The table", "The same journal", "The journal of group A", "`ucl_evening --format json`"}
+    assert TYPED.keys() == MEANT.keys() and LINES.keys() == {*AGAIN, "The journal of group A", "`ucl_evening --format json`"}
 
 
 @pytest.mark.parametrize("mistake", AGAIN)
 def test_a_board_begun_again(hall, mistake):
     """The table is that without the mistake, and whoever follows the journal ends with it and with what comes next."""
     clubs, rows, roster, meant = AGAIN[mistake]
+    events, mend, table, *begin = LINES["A card in match 1"].splitlines(True)
     hall("./ucl_live --format json --screens >evening.jsonl; echo -n '{' >>evening.jsonl", clubs + "".join(rows))
-    hall(LINES[mistake])
-    assert hall(LINES["The table"]) == screen(after(*meant), roster)
-    hall("cat >more.rows; " + LINES["The same journal"], "8,12,0,kickoff\n")
+    assert "   3 yellow-home        by reporter 7\n" in hall(events)
+    hall(mend if mend in LINES[mistake] else LINES[mistake])
+    assert hall(table) == screen(after(*meant), roster)
+    hall("".join(begin), "8,12,0,kickoff\n")
     assert hall("./ucl_follow <evening.jsonl | tail -n 12") == screen(after(*meant), roster) + screen(after(*meant, "8,12,0,kickoff\n"), roster)
     assert hall("./ucl_follow --resume <evening.jsonl | head -n 1") == "group,A,uefa,1\n"
 
@@ -217,3 +219,12 @@ def test_an_evening_of_threads_begun_again(hall, program, tmp_path):
     assert (tmp_path / "next.csv").read_text() == "group,A,uefa,1\n" + QUOTED + sheet(without)
     told = hall("./ucl_evening next.csv --reporter more=replies --json screens; tail -n 1 screens | ./ucl_follow --resume")
     assert told.startswith("word,1,") and "group,A,uefa,1\n" in told
+
+
+def test_answers_of_several_reporters_are_put_in_order(hall, tmp_path):
+    """Events of one match whose answers went to two reporters, in turn."""
+    lines = journal_of(NIGHT).splitlines(True)
+    for name, answers in ("north", lines[::2]), ("south", lines[1::2]):
+        (tmp_path / f"{name}.replies").write_text("".join(answers))
+    hall(LINES["`ucl_evening --format json`"])
+    assert (tmp_path / "next.csv").read_text() == "group,A,uefa,1\n" + QUOTED + sheet(after(*AGAIN["A card in match 1"][3]))
