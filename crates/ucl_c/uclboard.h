@@ -62,7 +62,7 @@ enum {
     UCLBOARD_NO_GROUP = 53,       /* not a letter from 'A' to 'H' */
     UCLBOARD_NOT_TWELVE = 54,     /* not twelve words */
     UCLBOARD_NOT_FOUR = 55,       /* not four clubs, or coefficients */
-    UCLBOARD_NO_ROOM = 56,        /* a buffer has no room for the text and a zero, or for the replies: their number is told, of a text that without the zero */
+    UCLBOARD_NO_ROOM = 56,        /* no room for the text and a zero, or for the replies: its length without that, or how many they are, is told */
     UCLBOARD_NOT_FOUR_ROWS = 57,  /* not room for exactly four rows */
     UCLBOARD_NO_STATUS = 58,      /* no status has this number */
     UCLBOARD_IN_USE = 59,         /* the handle that was to be given a pass is not null */
