@@ -61,7 +61,7 @@ impl Kind {
     }
 }
 
-/// By what clubs that are level on points are ordered: the Regulations, or with away goals in the matches among them after goals scored.
+/// The order of clubs that are level on points: that of the Regulations, or with away goals after goals scored in the matches among them.
 #[repr(u32)]
 #[derive(Clone, Copy, Debug, PartialEq, Eq)]
 pub enum Profile {
