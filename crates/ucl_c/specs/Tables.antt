@@ -66,7 +66,7 @@ abbrev pub json_by : Option Profile → ℕ → ℕ → Result (List ℕ) ℕ �
 json_by (Some profile) row group (Ok board) clubs = json_line (screen_value row profile board clubs group)
 json_by _ row group _ clubs = []
 
--- the line in JSON by which an evening answers the row of this number, where it asks for that screen
+-- the line in JSON of a screen under the row of this number: that of an evening, but for its edition and its matches
 abbrev pub json_shown : ℕ → ℕ → ℕ → List ℕ → List NamedClub → List ℕ
 json_shown row code group words clubs = json_by (profile_with code) row group (read_words 1 words) clubs
 

@@ -39,8 +39,8 @@ fn json_of(
     )?)
 }
 
-/// The screen of twelve words and four clubs as one line of JSON: the line by which an evening answers the row of this number where it asks
-/// for the screen. It is handed over as `uclboard_screen` hands over its text.
+/// The screen of twelve words and four clubs as one line of JSON, under this row: as `ucl_live` answers `screen,,,`, but for the edition and the
+/// matches. It is handed over as `uclboard_screen` hands over its text.
 #[unsafe(no_mangle)]
 pub extern "C" fn uclboard_screen_json(
     alloc: Global,
