@@ -17,7 +17,8 @@ Clubs: rows of four fields separated by commas, one a line
                                  thousandths 1 to 9 digits, up to 999,999
   word,MATCH,WORD,               then the words of the twelve matches, if the
                                  evening begins from them: reporter 1 enters
-                                 events that lead there
+                                 events that lead there, and those of the evening
+                                 have the numbers after it
   REPORTER,MATCH,EXPECTED,EVENT  or the events that were entered before; they are
                                  entered first, and none may be refused
 
@@ -30,6 +31,8 @@ at most 256 bytes, and one with nothing on it is passed over and counted
 
   LINE ok MATCH NUMBER VERSION   the event of this line is accepted
   LINE refused CODE NAME         it is refused, for the reason of this name
+  LINE refused 1 stale NUMBER    the match has this event number by now: look at
+                                 matches,, first
   LINE refused 20 bad-row        the line is no such row
 
 With --format json each answer is an object on a line, as ucl_live writes it: that
@@ -59,7 +62,8 @@ Exit status, with a line on standard error for each fault; that of a reporter or
 screen begins with its place, as `reporter 2: `, and the others go on. The status
 is that of the first fault: reporters first, then screens, then those of JSON
   0  all inputs have ended, or help or the version was asked for
-  2  the words of the command line are refused, or differ from the row of a group
+  2  the words of the command line are refused, or an OUT has bytes in it, or they
+     differ from the row of a group
   3  the clubs, or the events that were entered before, have a fault
   4  reading or writing failed
   5  there is no memory, or no thread

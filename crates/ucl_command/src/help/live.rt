@@ -40,8 +40,8 @@ Events:
 Output: once the clubs are named, each row is answered before the next is read
   LINE ok MATCH NUMBER VERSION   the event of this line is accepted
   LINE refused CODE NAME         it is refused, for the reason of this name
-  LINE refused 1 stale NUMBER    somebody else entered an event of this match:
-                                 look at matches,,, first
+  LINE refused 1 stale NUMBER    the match has this event number by now: look at
+                                 matches,,, first
   LINE refused 20 bad-row        the line asks for nothing that there is
   the screen, matches or words   where they are asked for
 
@@ -54,19 +54,18 @@ and what to do.
 Exit status, with a text on standard error where it is not 0:
   0  the input has ended, or help or the version was asked for
   2  the words of the command line are refused, or differ from the row of a group
-  3  the clubs or the words have a fault; nothing was written
+  3  the clubs, the words or the results have a fault; nothing was written
   4  reading or writing failed
   5  there is no memory
 
 Examples:
   ucl_live < examples/one_goal.csv
-  mkfifo rows; ucl_live --screens < rows    in one terminal, and in another
-  cat > rows                                to type rows, up to Ctrl-D
+  cat clubs.csv - | ucl_live --screens      to type rows, up to Ctrl-D
 
 docs/ROWS.md has rows, answers and all codes; docs/RULES.md has the rules.";
 
 /// What `--resumed` does.
-pub(crate) const RESUMED: &str = "Refuses an input without words";
+pub(crate) const RESUMED: &str = "Refuses an input without words or results";
 
 /// What `--screens` does.
 pub(crate) const SCREENS: &str = "Writes the screen after each accepted event";
