@@ -1,5 +1,5 @@
 -- The events of a reporter's pass, one after the other.
-use Rattle.std.proofs.Common.{zero, suc, Some, ◌≡◌, ℕ, ◌+◌, ◌-◌, ◌<◌, ◌≤◌, List, [], ◌∷◌, ◌++◌, length, take, slice_get, refl, sym, ap}
+use Rattle.std.proofs.Common.{zero, suc, Some, ◌≡◌, ℕ, ◌+◌, ◌<◌, ◌≤◌, List, [], ◌∷◌, ◌++◌, length, take, slice_get, refl, sym, ap}
 use Rattle.std.proofs.Common.{◌∙◌, subst, append_assoc, append-nil, arith, length-append, le_refl}
 use Rattle.std.proofs.Math.Seq.{take-append_seam}
 use Rattle.std.proofs.lemmas.List.Elements.{All-cons, All-head, All-nil, All-tail}
@@ -10,14 +10,14 @@ use Rattle.ucl_word.specs.declared.refusal.Refusal.{Refusal}
 use Rattle.ucl_word.proofs.Sequences.{at_end}
 use Rattle.ucl_board.specs.declared.entry.Entry.{Entry}
 use Rattle.ucl_board.specs.declared.reading.Reading.{Reading}
-use Rattle.ucl_board.specs.History.{board_of, entry_of, sequential_reply}
+use Rattle.ucl_board.specs.History.{board_of}
 use Rattle.ucl_board.proofs.Beginnings.{at_beginning, begins_length, take_beginning, take_whole}
 use Rattle.ucl_live_board.specs.Passes.{PassView, IsSound, Continues, ReportsMore, AcceptedReport, RefusedReport, SharedReading}
 use Rattle.ucl_live_board.proofs.Lists.{unchanged}
 use Rattle.ucl_runs.proofs.EnteredRows.{goes_on}
 use Rattle.ucl_evenings.specs.Reporting.{Ask, Entered, EventOutcome, GoThrough, HasReportedRows, IsAmong, IsNoOlder, IsOutcomeAt}
 use Rattle.ucl_evenings.specs.Reporting.{IsReadingFrom, Look, Looked, MomentsHaveTheirEvents, RangFor, Refused, Report, accepted_in}
-use Rattle.ucl_evenings.specs.Reporting.{entered_by, entered_in, past_point}
+use Rattle.ucl_evenings.specs.Reporting.{entered_in, past_point}
 
 -- no event
 pub rows_none : {k : PassView} → IsSound k → HasReportedRows k k [] []

@@ -1,6 +1,6 @@
 -- What a reporter's run comes to, from what the driver says of it.
-use Rattle.std.proofs.Common.{◌≡◌, ◌⊎◌, ℕ, ◌+◌, ◌≤◌, Bool, List, [], ◌∷◌, ◌++◌, length, refl, sym, ap, ◌∙◌, subst, inl, inr}
-use Rattle.std.proofs.Common.{append_assoc, append-nil, arith, length-append}
+use Rattle.std.proofs.Common.{◌≡◌, ◌⊎◌, ℕ, ◌+◌, ◌≤◌, List, [], ◌∷◌, ◌++◌, length, refl, sym, ap, ◌∙◌, inl, inr}
+use Rattle.std.proofs.Common.{append_assoc, append-nil, arith}
 use Rattle.std.specs.Prelude.{⊤, Result, Ok, Err}
 use Rattle.std.specs.Io.KnownBytes.{Appends}
 use mathlib.Core.List.{IsPrefix}
@@ -9,8 +9,8 @@ use Rattle.ucl_io.specs.declared.fault.PumpFault.{PumpFault}
 use Rattle.ucl_io.specs.declared.fault.PumpFault.TheVariants.{Machine, ReadFailed, TooLong, WriteFailed}
 use Rattle.ucl_io.specs.Calls.{Device, HasEnded, LogsCalls}
 use Rattle.ucl_io.specs.Lines.{begun_line, ended_lines}
-use Rattle.ucl_io.specs.Output.{SinkEnds, StoppedAt}
-use Rattle.ucl_io.specs.Pumping.{HasMade, IsAllOut, IsPromptAt, LineRules, Pumped, Seen, StopsLast, is_source_failed, rules_of}
+use Rattle.ucl_io.specs.Output.{StoppedAt}
+use Rattle.ucl_io.specs.Pumping.{HasMade, IsAllOut, IsPromptAt, LineRules, Pumped, Seen, StopsLast, rules_of}
 use Rattle.ucl_io.specs.Turns.{AreTurns, StopsNext, Turn, lines_in, state_after, text_in}
 use Rattle.ucl_io.proofs.Calls.{logs-as}
 use Rattle.ucl_io.proofs.Turns.{lines_count as turns_count}
@@ -18,12 +18,11 @@ use Rattle.ucl_live_board.specs.Passes.{PassView, IsSound}
 use Rattle.ucl_runs.specs.declared.fault.RunFault.{RunFault}
 use Rattle.ucl_runs.specs.declared.fault.RunFault.TheVariants.{OutOfMemory}
 use Rattle.ucl_runs.specs.InputLines.{last_lines, lines_of}
-use Rattle.ucl_runs.specs.Run.{SinkFails, fault_of, is_read_failed}
-use Rattle.ucl_runs.proofs.Driven.{IfMachine, IsOwn, reads, sinks}
-use Rattle.ucl_evenings.specs.Inputs.{input_on}
+use Rattle.ucl_runs.specs.Run.{fault_of}
+use Rattle.ucl_runs.proofs.Driven.{IfMachine, IsOwn}
 use Rattle.ucl_evenings.specs.Answering.{ReplyStyle, answers_in}
 use Rattle.ucl_evenings.specs.Reporting.{EventOutcome, RangFor}
-use Rattle.ucl_evenings.specs.Rows.{EndsAfter, HasNoMemory, IsAnsweredUpTo, RunEnds, StopsInLast, TookRows, TurnsBy, TurnsLines, WantsMemory}
+use Rattle.ucl_evenings.specs.Rows.{EndsAfter, HasNoMemory, IsAnsweredUpTo, RunEnds, StopsInLast, TookRows, TurnsBy, TurnsLines}
 use Rattle.ucl_evenings.proofs.Events.{rang_for}
 use Rattle.ucl_evenings.proofs.LineAnswers.{answers_first}
 use Rattle.ucl_evenings.proofs.Lines.{by_none, by_then, lines_count}

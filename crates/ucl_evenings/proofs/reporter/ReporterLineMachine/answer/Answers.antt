@@ -1,6 +1,6 @@
-use Rattle.std.proofs.Common.{inl, inr, refl, sym, subst, arith, [], ◌∷◌, ◌∙◌}
+use Rattle.std.proofs.Common.{inl, inr, refl, sym, [], ◌∷◌, ◌∙◌}
 use Rattle.ucl_evenings.specs.Reporting.{Entered, Looked, Refused}
-use Rattle.ucl_evenings.proofs.Events.{past_accepted, rang_none, rang_once, row_accepted, row_looked, row_refused, rows_none}
+use Rattle.ucl_evenings.proofs.Events.{past_accepted, rang_none, rang_once, row_accepted, row_looked, row_refused}
 use Rattle.ucl_evenings.proofs.Lines.{nothing_asked, not_told, reports_then, told, turns_line}
 use Rattle.ucl_evenings.proofs.reporter.ReporterLineMachine.answer.Goals as goal
 
