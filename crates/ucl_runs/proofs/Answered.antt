@@ -30,23 +30,8 @@ use Rattle.ucl_runs.specs.Answered.{AnswersTellTheirMoment, IsMoment}
 -- ---- digits
 
 glyph-back : (d : ℕ) → d < 16 → hex_digit (digit_glyph false d) ≡ Some d
-glyph-back zero h = refl
-glyph-back (suc zero) h = refl
-glyph-back (suc (suc zero)) h = refl
-glyph-back (suc (suc (suc zero))) h = refl
-glyph-back (suc (suc (suc (suc zero)))) h = refl
-glyph-back (suc (suc (suc (suc (suc zero))))) h = refl
-glyph-back (suc (suc (suc (suc (suc (suc zero)))))) h = refl
-glyph-back (suc (suc (suc (suc (suc (suc (suc zero))))))) h = refl
-glyph-back (suc (suc (suc (suc (suc (suc (suc (suc zero)))))))) h = refl
-glyph-back (suc (suc (suc (suc (suc (suc (suc (suc (suc zero))))))))) h = refl
-glyph-back (suc (suc (suc (suc (suc (suc (suc (suc (suc (suc zero)))))))))) h = refl
-glyph-back (suc (suc (suc (suc (suc (suc (suc (suc (suc (suc (suc zero))))))))))) h = refl
-glyph-back (suc (suc (suc (suc (suc (suc (suc (suc (suc (suc (suc (suc zero)))))))))))) h = refl
-glyph-back (suc (suc (suc (suc (suc (suc (suc (suc (suc (suc (suc (suc (suc zero))))))))))))) h = refl
-glyph-back (suc (suc (suc (suc (suc (suc (suc (suc (suc (suc (suc (suc (suc (suc zero)))))))))))))) h = refl
-glyph-back (suc (suc (suc (suc (suc (suc (suc (suc (suc (suc (suc (suc (suc (suc (suc zero))))))))))))))) h = refl
 glyph-back (suc (suc (suc (suc (suc (suc (suc (suc (suc (suc (suc (suc (suc (suc (suc (suc d)))))))))))))))) h = absurd (omega arith)
+glyph-back _ _ = refl
 
 one-digit : (n d : ℕ) (rest : List ℕ) → d < 16 → hex_after n (digit_glyph false d ∷ rest) ≡ hex_after (16 * n + d) rest
 unfolding hex_after
@@ -125,12 +110,8 @@ unfolding each_told
 four a b c d p q r s = rw (club-back a p, club-back b q, club-back c r, club-back d s, no-bad a b c d p q r s) refl
 
 clubs-told : (clubs : List NamedClub) → IsRoster clubs → roster_told (listed (club_items clubs)) ≡ Some clubs
-clubs-told [] is = absurd (let t = is.four in omega arith)
-clubs-told (a ∷ []) is = absurd (let t = is.four in omega arith)
-clubs-told (a ∷ b ∷ []) is = absurd (let t = is.four in omega arith)
-clubs-told (a ∷ b ∷ c ∷ []) is = absurd (let t = is.four in omega arith)
 clubs-told (a ∷ b ∷ c ∷ d ∷ []) is = four a b c d (is.each 0 a (omega arith)) (is.each 1 a (omega arith)) (is.each 2 a (omega arith)) (is.each 3 a (omega arith))
-clubs-told (a ∷ b ∷ c ∷ d ∷ e ∷ more) is = absurd (let t = is.four in omega arith)
+clubs-told _ is = absurd (let t = is.four in omega arith)
 
 -- ---- the group and its order
 

@@ -115,9 +115,8 @@ pub asked : (f : FourFields) → AreAttempts (asked_by f)
 asked f = asked-by AreAttempts f none none none none (by-event f (event_of f) (event-is_attempt f))
 
 said-attempts : (r : Said) → All IsAttempt (attempts_on r)
-said-attempts Nothing = none
-said-attempts (Other eight) = none
 said-attempts (Row f) = asked f
+said-attempts _ = none
 
 all-attempts : (row : ℕ) (lines : List (List ℕ)) → All IsAttempt (attempts_in row lines)
 unfolding attempts_in
@@ -128,10 +127,7 @@ all-attempts row (line ∷ lines) = All-append IsAttempt (attempts_on (said_on r
 
 fold-request : (board : List ℕ) (r : Request) (more : List Attempt) → fold board_after board (attempts_of r ++ more) ≡ fold board_after (next_board board r) more
 fold-request board (Event e) more = refl
-fold-request board (Bad field) more = refl
-fold-request board Screen more = refl
-fold-request board Words more = refl
-fold-request board Matches more = refl
+fold-request _ _ _ = refl
 
 abbrev board_on : List ℕ → Said → List ℕ
 board_on board Nothing = board
@@ -139,14 +135,12 @@ board_on board (Other eight) = board
 board_on board (Row f) = next_board board (request_of (Row f))
 
 fold-said : (board : List ℕ) (r : Said) (more : List Attempt) → fold board_after board (attempts_on r ++ more) ≡ fold board_after (board_on board r) more
-fold-said board Nothing more = refl
-fold-said board (Other eight) more = refl
 fold-said board (Row f) more = fold-request board (request_of (Row f)) more
+fold-said _ _ _ = refl
 
 next-open : (options : LiveArgs) (row : ℕ) (clubs : List NamedClub) (board : List ℕ) (r : Said) → next_stage options row (Open clubs board) r ≡ Open clubs (board_on board r)
 next-open options row clubs board Nothing = refl
-next-open options row clubs board (Other eight) = refl
-next-open options row clubs board (Row f) = refl
+next-open _ _ _ _ _ = refl
 
 pub boards : BoardsTakeEvents
 unfolding after_lines attempts_in
@@ -205,10 +199,7 @@ request-answer : (options : LiveArgs) (title : Title) (row : ℕ) (clubs : List 
     → All IsAttempt (attempts_of request)
     → answer_of options title row clubs (board_of history) request shown ≡ answer_by_history options title row clubs history request shown
 request-answer options title row clubs history (Event event) shown legal all = event-answer options title row clubs history event shown legal (first (attempt_of event) [] all)
-request-answer options title row clubs history (Bad field) shown legal all = refl
-request-answer options title row clubs history Screen shown legal all = refl
-request-answer options title row clubs history Words shown legal all = refl
-request-answer options title row clubs history Matches shown legal all = refl
+request-answer _ _ _ _ _ _ _ _ _ = refl
 
 said-answer : (e : Evening) (clubs : List NamedClub) (history : List Entry) (r : Said) (shown : List ℕ) → IsLegal history → e.stage ≡ Open clubs (board_of history)
     → answer_said e r shown ≡ line_by_history e.options e.title e.row clubs history r shown
@@ -256,14 +247,12 @@ sequential e lines clubs history legal h =
 first-answer : (e : Evening) (clubs : List NamedClub) (r : Said) (shown : List ℕ) → e.options.resumed ≡ false → e.stage ≡ Restoring clubs [] → IsOtherRow r
     → answer_said e r shown ≡ answer_said (fresh_at e clubs) r shown
 first-answer e clubs Nothing shown new h k = absurd k
-first-answer e clubs (Other eight) shown new h k = rw (h, new, k) refl
-first-answer e clubs (Row f) shown new h k = rw (h, new, k) refl
+first-answer _ _ _ _ new h k = rw (h, new, k) refl
 
 first-next : (e : Evening) (clubs : List NamedClub) (r : Said) → e.options.resumed ≡ false → e.stage ≡ Restoring clubs [] → IsOtherRow r
     → next e r ≡ next (fresh_at e clubs) r
 first-next e clubs Nothing new h k = absurd k
-first-next e clubs (Other eight) new h k = rw (h, new, k) refl
-first-next e clubs (Row f) new h k = rw (h, new, k) refl
+first-next _ _ _ new h k = rw (h, new, k) refl
 
 pub first-rows : FirstRowsOpenTheBoard
 unfolding answers after_lines

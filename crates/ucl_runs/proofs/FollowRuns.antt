@@ -142,11 +142,6 @@ module _ (T : Type 0) where
         }
 
         pub run_fails : (f : PumpFault OutOfMemory) → Run (Err f) → FollowFails args before after f
-        run_fails (ReadFailed n) p =
-            let e = p.ends.1 in
-            record { bytes = p.bytes; consumed = p.consumed; why = (p.ends.0, subst (Appends old.taken new.taken) (all_text p.bytes p.turns p.rest p.given e.all) e.out) }
-        run_fails TooLong p =
-            let e = p.ends.1 in record { bytes = p.bytes; consumed = p.consumed; why = (p.ends.0, subst (Appends old.taken new.taken) (all_text p.bytes p.turns p.rest p.given e.all) e.out) }
         run_fails (WriteFailed written) p = record {
           bytes = p.bytes;
           consumed = p.consumed;
@@ -154,6 +149,7 @@ module _ (T : Type 0) where
               (stopped_short 0 sink_failed old.taken new.taken p.ends.0 written p.ends.1 p.ends.3);
         }
         run_fails (Machine fault) p = record { bytes = p.bytes; consumed = p.consumed; why = runs_out p.bytes p.turns p.rest p.given fault p.ends.0 p.ends.1 }
+        run_fails _ p = let e = p.ends.1 in record { bytes = p.bytes; consumed = p.consumed; why = (p.ends.0, subst (Appends old.taken new.taken) (all_text p.bytes p.turns p.rest p.given e.all) e.out) }
 
 pub counted : (args : FollowArgs) (left : Option (List ℕ)) (f : Following) → IfSome left (λ input. f ≡ follow_end args input) → IfSome left (λ input. counts_of f ≡ counts_of (follow_end args input))
 counted args None f h = tt

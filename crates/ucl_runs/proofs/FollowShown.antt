@@ -84,10 +84,9 @@ told f (line ∷ lines) =
 -- ---- of one group and order
 
 same-order : (one other : Profile) → is_same_order one other ≡ true → one ≡ other
-same-order Uefa Uefa h = refl
-same-order AwayInTie AwayInTie h = refl
 same-order Uefa AwayInTie h = cc
 same-order AwayInTie Uefa h = cc
+same-order _ _ _ = refl
 
 itself : (order : Profile) → is_same_order order order ≡ true
 itself Uefa = refl

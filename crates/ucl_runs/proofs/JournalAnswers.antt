@@ -117,24 +117,18 @@ good-word row clubs words None is = tt
 good-word row clubs words (Some word) is = good-words clubs (words ++ word ∷ []) is
 
 good-opened : (options : LiveArgs) (s : Stage) (r : Said) → IsGood s → IsGood (opened options s r)
-good-opened options Beginning r g = tt
 good-opened options (Restoring clubs []) r g = either (options.resumed || is_word_row r) (Restoring clubs []) (Open clubs (board_of [])) (λ _. g) (g, fresh-good)
 good-opened options (Restoring clubs (word ∷ words)) r g = g
-good-opened options (Naming clubs) r g = tt
 good-opened options (Open clubs board) r g = g
-good-opened options (Refused fault) r g = tt
+good-opened _ _ _ _ = tt
 
 good-board : (board : List ℕ) (request : Request) → AreWords board → AreAttempts request → AreWords (next_board board request)
 good-board board (Event event) w all = good-after board (attempt_of event) w (All-head IsAttempt (attempt_of event) [] all)
-good-board board (Bad field) w all = w
-good-board board Screen w all = w
-good-board board Words w all = w
-good-board board Matches w all = w
+good-board _ _ w _ = w
 
 of-request : (r : Said) → AreAttempts (request_of r)
-of-request Nothing = All-nil IsAttempt
-of-request (Other eight) = All-nil IsAttempt
 of-request (Row f) = asked f
+of-request _ = All-nil IsAttempt
 
 good-title : (options : LiveArgs) (row : ℕ) (title : Option Title) → IsGood (after_title options row title)
 good-title options row None = tt
@@ -215,16 +209,12 @@ either-title true x y p q = p
 either-title false x y p q = q
 
 row-title : (title : Title) (r : Said) → IsTitle title → IsTitle (title_or title (title_said r))
-row-title title Nothing is = is
-row-title title (Other eight) is = is
 row-title title (Row f) is = or-title title (title_by f) is (said-title f)
+row-title _ _ is = is
 
 next-good : (title : Title) (s : Stage) (r : Said) → IsTitle title → IsTitle (next_title title s r)
 next-good title Beginning r is = either-title (is_group_row r) (title_or title (title_said r)) title (row-title title r is) is
-next-good title (Naming clubs) r is = is
-next-good title (Restoring clubs words) r is = is
-next-good title (Open clubs board) r is = is
-next-good title (Refused fault) r is = is
+next-good _ _ _ is = is
 
 -- ---- evenings
 
@@ -305,9 +295,8 @@ fits-asked : (f : FourFields) → Fits (asked_by f)
 fits-asked f = asked-by Fits f tt tt tt tt (fits-event f (event_of f) (numbers f))
 
 fits-request : (r : Said) → Fits (request_of r)
-fits-request Nothing = tt
-fits-request (Other eight) = tt
 fits-request (Row f) = fits-asked f
+fits-request _ = tt
 
 -- ---- what the answer to a line tells
 
@@ -399,11 +388,8 @@ stage-tells options title other row (Refused fault) r shown json fits t g short 
 
 -- a line that opens the board, or finds it open, says no title
 same-title : (options : LiveArgs) (title : Title) (s : Stage) (r : Said) → is_open (opened options s r) ≡ true → next_title title s r ≡ title
-same-title options title (Open clubs board) r h = refl
 same-title options title Beginning r h = cc
-same-title options title (Naming clubs) r h = refl
-same-title options title (Restoring clubs words) r h = refl
-same-title options title (Refused fault) r h = refl
+same-title _ _ _ _ _ = refl
 
 line-tells : (e : Evening) (r : Said) (shown : List ℕ) → e.options.format ≡ Json → e.row < 2 ^ 64 → IsSound e → IsShown shown
     → TellsAlone (moment_now (next e r)) (answer_said e r shown)

@@ -62,10 +62,7 @@ module _ (e : Evening) (line : List ℕ) (clubs : List NamedClub) (board : List 
   by-request f (Event event) is asks =
       by-reply (Row f) (Event event) event (refusal_of (game_at board event.call.game) event.call.expected event.call.kind) is (ap attempts_of asks)
       (ap (λ (q : Request). Open clubs (next_board board q)) asks) refl
-  by-request f (Bad field) is asks = inl (moved (Row f) is ∙ ap (λ (q : Request). Open clubs (next_board board q)) asks)
-  by-request f Screen is asks = inl (moved (Row f) is ∙ ap (λ (q : Request). Open clubs (next_board board q)) asks)
-  by-request f Words is asks = inl (moved (Row f) is ∙ ap (λ (q : Request). Open clubs (next_board board q)) asks)
-  by-request f Matches is asks = inl (moved (Row f) is ∙ ap (λ (q : Request). Open clubs (next_board board q)) asks)
+  by-request f _ is asks = inl (moved (Row f) is ∙ ap (λ (q : Request). Open clubs (next_board board q)) asks)
 
   by-said : (r : Said) → said_on e.row line ≡ r → StaysOr e line clubs board
   by-said Nothing is = inl (moved Nothing is)

@@ -175,10 +175,7 @@ shown-text line = record {
 
 field-text : (field : BadField) → IsText (field_name field) × (length (field_name field) ≤ 8)
 field-text Count = (refl, omega arith)
-field-text Reporter = (refl, omega arith)
-field-text Match = (refl, omega arith)
-field-text Expected = (refl, omega arith)
-field-text Event = (refl, omega arith)
+field-text _ = (refl, omega arith)
 
 pub bad-line : (o : Option Moment) (row : ℕ) (field : BadField) (shown : List ℕ) → row < 2 ^ 64 → IsShown shown → TellsAlone o (json_line (bad_row_value row (field_name field) shown))
 unfolding serde_json_on_literals
@@ -207,14 +204,7 @@ matches-line o row board clubs r is w =
 
 name-text : (refusal : Refusal) → IsText (refusal_name refusal) × (length (refusal_name refusal) ≤ 20) × (refusal_code refusal < 2 ^ 64)
 name-text (Stale found) = (refl, omega arith, omega arith)
-name-text Finished = (refl, omega arith, omega arith)
-name-text NotStarted = (refl, omega arith, omega arith)
-name-text AlreadyStarted = (refl, omega arith, omega arith)
-name-text NumberFull = (refl, omega arith, omega arith)
-name-text NoGoal = (refl, omega arith, omega arith)
-name-text NoCaution = (refl, omega arith, omega arith)
-name-text LimitReached = (refl, omega arith, omega arith)
-name-text NotFinished = (refl, omega arith, omega arith)
+name-text _ = (refl, omega arith, omega arith)
 
 refused-by-line : (o : Option Moment) (row : ℕ) (event : NightEvent) (code : ℕ) (name : List ℕ) (found : Option ℕ) (m : MatchRecord)
     → row < 2 ^ 64 → HasNumbers event → code < 2 ^ 64 → IsText name → length name ≤ 20 → IfSome found (λ n. n < 2 ^ 64) → IsValid m

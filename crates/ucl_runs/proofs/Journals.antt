@@ -223,9 +223,8 @@ all-rise board (a ∷ attempts) w all =
     (all-rise (board_after board a) attempts (good-after board a w is) (All-tail IsAttempt a attempts all))
 
 said-attempts : (r : Said) → All IsAttempt (attempts_on r)
-said-attempts Nothing = All-nil IsAttempt
-said-attempts (Other eight) = All-nil IsAttempt
 said-attempts (Row f) = asked f
+said-attempts _ = All-nil IsAttempt
 
 pub lines-attempts : (row : ℕ) (lines : Lines) → All IsAttempt (attempts_in row lines)
 unfolding attempts_in
@@ -267,11 +266,8 @@ open-with title (Refused fault) m e = cc
 
 -- once a board is open, its title stays
 open-title : (title : Title) (s : Stage) (r : Said) → is_open s ≡ true → next_title title s r ≡ title
-open-title title (Open clubs board) r h = refl
 open-title title Beginning r h = cc
-open-title title (Naming clubs) r h = refl
-open-title title (Restoring clubs words) r h = refl
-open-title title (Refused fault) r h = refl
+open-title _ _ _ _ = refl
 
 pub title-after : (e : Evening) (lines : Lines) (clubs : List NamedClub) (board : List ℕ) → e.stage ≡ Open clubs board → (after_lines e lines).title ≡ e.title
 unfolding after_lines

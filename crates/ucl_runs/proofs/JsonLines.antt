@@ -54,11 +54,8 @@ request-lines options title row clubs board Matches shown h = rw h (line_of_valu
 
 stage-lines : (options : LiveArgs) (title : Title) (row : ℕ) (stage : Stage) (request : Request) (shown : List ℕ) → options.format ≡ Json
     → AreLinesOfValues (answer_at options title row stage request shown)
-stage-lines options title row Beginning request shown h = no_lines
-stage-lines options title row (Naming clubs) request shown h = no_lines
-stage-lines options title row (Restoring clubs words) request shown h = no_lines
 stage-lines options title row (Open clubs board) request shown h = request-lines options title row clubs board request shown h
-stage-lines options title row (Refused fault) request shown h = no_lines
+stage-lines _ _ _ _ _ _ _ = no_lines
 
 said-lines : (e : Evening) (said : Said) (shown : List ℕ) → e.options.format ≡ Json → AreLinesOfValues (answer_said e said shown)
 said-lines e Nothing shown h = no_lines

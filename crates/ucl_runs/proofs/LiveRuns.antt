@@ -196,12 +196,6 @@ module _ (old new : Seen Held) where
       pub run_fails : (f : PumpFault LiveFault) → Run (Err f)
           → LiveFails start (record { left = old.left; source_failed = x; taken = old.taken; sink_failed = y })
           (record { left = new.left; source_failed = z; taken = new.taken; sink_failed = sink_failed }) f
-      run_fails (ReadFailed n) p =
-          let e = p.ends.1 in
-          record { bytes = p.bytes; consumed = p.consumed; why = (p.ends.0, subst (Appends old.taken new.taken) (all_text p.bytes p.turns p.rest p.given e.all) e.out) }
-      run_fails TooLong p =
-          let e = p.ends.1 in
-          record { bytes = p.bytes; consumed = p.consumed; why = (p.ends.0, subst (Appends old.taken new.taken) (all_text p.bytes p.turns p.rest p.given e.all) e.out) }
       run_fails (WriteFailed written) p = record {
         bytes = p.bytes;
         consumed = p.consumed;
@@ -209,3 +203,4 @@ module _ (old new : Seen Held) where
             (stopped_short 0 sink_failed old.taken new.taken p.ends.0 written p.ends.1 p.ends.3);
       }
       run_fails (Machine fault) p = record { bytes = p.bytes; consumed = p.consumed; why = stops p.bytes p.turns p.rest p.given x y z sink_failed fault p.ends.0 p.ends.1 }
+      run_fails _ p = let e = p.ends.1 in record { bytes = p.bytes; consumed = p.consumed; why = (p.ends.0, subst (Appends old.taken new.taken) (all_text p.bytes p.turns p.rest p.given e.all) e.out) }

@@ -18,10 +18,7 @@ both false b h = cc
 -- the printed bytes of a text end where a byte is none, or where no more are looked at; behind its end a text has zeros
 ends-at : (n at : ℕ) (text : List ℕ) → at ≤ n → list_all is_printed (take at text) ≡ true → (at ≡ n) ⊎ (is_printed (get_or text at 0) ≡ false) → take at text ≡ printed (take n text)
 unfolding printed
-ends-at zero zero text h all e = refl
 ends-at zero (suc at) text h all e = absurd (omega (arith, h))
-ends-at (suc n) zero [] h all e = refl
-ends-at (suc n) (suc at) [] h all e = refl
 ends-at (suc n) zero (b ∷ text) h all (inl e) = absurd (omega (arith, e))
 ends-at (suc n) zero (b ∷ text) h all (inr e) = rw e refl
 ends-at (suc n) (suc at) (b ∷ text) h all e =
@@ -31,6 +28,7 @@ ends-at (suc n) (suc at) (b ∷ text) h all e =
     further : (suc at ≡ suc n) ⊎ (is_printed (get_or text at 0) ≡ false) → (at ≡ n) ⊎ (is_printed (get_or text at 0) ≡ false)
     further (inl e) = inl (omega (arith, e))
     further (inr e) = inr e
+ends-at _ _ _ _ _ _ = refl
 
 pub shown-at : (at : ℕ) (text : List ℕ) → at ≤ 64 → list_all is_printed (take at text) ≡ true → (at ≡ 64) ⊎ (is_printed (get_or text at 0) ≡ false) → take at text ≡ shown_text text
 shown-at at text h all e = ends-at 64 at text h all e

@@ -95,8 +95,7 @@ integer-back (negsuc n) = refl
 
 marked : (mark : Mark) → mark_column (mark_name mark) ≡ mark_text mark
 marked Plus = refl
-marked Minus = refl
-marked Blank = refl
+marked _ = refl
 
 signs : (f a : ℕ) (t : Bool) → ltb f (suc a) ≡ t → signed_text (cond t (negsuc (suc a - suc f)) (pos (f - suc a))) ≡ difference_text f (suc a)
 signs f a true e =

@@ -44,8 +44,7 @@ use Rattle.ucl_runs.proofs.ReadBack.{short-array, short-object, size, told-by-li
 
 state-text : (s : State) → IsText (state_name s) × (length (state_name s) ≤ 9)
 state-text Scheduled = (refl, omega arith)
-state-text InPlay = (refl, omega arith)
-state-text Finished = (refl, omega arith)
+state-text _ = (refl, omega arith)
 
 -- a match as it stands
 pub match-plain : (deep game : ℕ) (m : MatchRecord) → game < 2 ^ 64 → IsValid m → IsPlain (suc (suc deep)) (match_value game m) × (size (match_value game m) ≤ 400)
@@ -150,8 +149,7 @@ difference-plain (negsuc n) a b e h k = omega (arith, ints)
 
 mark-text : (mark : Mark) → IsText (mark_name mark) × (length (mark_name mark) ≤ 1)
 mark-text Plus = (refl, omega arith)
-mark-text Minus = (refl, omega arith)
-mark-text Blank = (refl, omega arith)
+mark-text _ = (refl, omega arith)
 
 place-plain : (roster : List NamedClub) (row : Row) → IsRoster roster → IsWithinTable row → row.place ≤ 4 → IsPlain 125 (place_value roster row)
 unfolding place_value serde_json_on_literals

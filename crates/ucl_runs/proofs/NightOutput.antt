@@ -119,12 +119,7 @@ module _ (profile : Profile) (group readings : ℕ) (old new taken : Option (Lis
     write_failed = part.failed_is;
     written = has_text old text (λ t. StoppedShort 0 write_failed taken after t written) is part;
   }
-  put text failed write_failed after (Err (Input e)) reads is out part = absurd part
-  put text failed write_failed after (Err OutOfMemory) reads is out part = absurd part
-  put text failed write_failed after (Err (NotOnDuty row)) reads is out part = absurd part
-  put text failed write_failed after (Err NoThread) reads is out part = absurd part
-  put text failed write_failed after (Err TooManyReporters) reads is out part = absurd part
-  put text failed write_failed after (Err (Strangers version)) reads is out part = absurd part
+  put _ _ _ _ _ _ _ _ part = absurd part
 
   of_script : (known : Option (List ℕ)) (night : Script) → IfSome known (λ bytes. MeansNight bytes (Ok night)) → All IsOnDuty night.events → IsScriptOnDuty known
   of_script None night means duty = tt

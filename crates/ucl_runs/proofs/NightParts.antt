@@ -18,12 +18,7 @@ stopped_first before failed old new a b (WriteFailed written) s = let cut = s.fi
   };
   told = s.told;
 }
-stopped_first before failed old new a b (Input e) s = s
-stopped_first before failed old new a b OutOfMemory s = s
-stopped_first before failed old new a b (NotOnDuty row) s = s
-stopped_first before failed old new a b NoThread s = s
-stopped_first before failed old new a b TooManyReporters s = s
-stopped_first before failed old new a b (Strangers version) s = s
+stopped_first _ _ _ _ _ _ _ s = s
 
 take_past : (a b : List ℕ) (n : ℕ) → take (length a + n) (a ++ b) ≡ a ++ take n b
 take_past [] b n = let none : length {A = ℕ} [] + n ≡ n = omega arith in ap (λ k. take k b) none
@@ -44,9 +39,4 @@ stopped_second before total failed old mid new a b (WriteFailed written) out tot
   };
   told = told_past before total (length a) s.count written total_is s.told;
 }
-stopped_second before total failed old mid new a b (Input e) out total_is s = s
-stopped_second before total failed old mid new a b OutOfMemory out total_is s = s
-stopped_second before total failed old mid new a b (NotOnDuty row) out total_is s = s
-stopped_second before total failed old mid new a b NoThread out total_is s = s
-stopped_second before total failed old mid new a b TooManyReporters out total_is s = s
-stopped_second before total failed old mid new a b (Strangers version) out total_is s = s
+stopped_second _ _ _ _ _ _ _ _ _ _ _ s = s

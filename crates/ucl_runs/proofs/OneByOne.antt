@@ -99,12 +99,10 @@ some-end e (b ∷ line) some = after-last e (b ∷ line)
 
 -- a greater row is told as the greatest that can be told
 told-alike : (options : LiveArgs) (a b : ℕ) (s : Stage) → told_row a ≡ told_row b → missing options a s ≡ missing options b s
-told-alike options a b Beginning e = ap (λ (n : ℕ). Some (BadRow n)) e
-told-alike options a b (Naming clubs) e = ap (λ (n : ℕ). Some (BadRow n)) e
 told-alike options a b (Restoring clubs []) e = ap (λ (n : ℕ). if options.resumed then Some (BadRow n) else None) e
-told-alike options a b (Restoring clubs (word ∷ words)) e = ap (λ (n : ℕ). Some (BadRow n)) e
 told-alike options a b (Open clubs board) e = refl
 told-alike options a b (Refused fault) e = refl
+told-alike _ _ _ _ e = ap (λ (n : ℕ). Some (BadRow n)) e
 
 -- the evening after the line is this one
 pub some-missing : (e f : Evening) (begun : List ℕ) → (begun ≡ [] → ⊥) → f ≡ next e (said_on e.row begun) → missing_at e begun ≡ missing f.options (min (e.row + 1) (2 ^ 64 - 1)) f.stage

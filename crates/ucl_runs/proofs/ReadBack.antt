@@ -52,14 +52,11 @@ AreInOrder ms = (put_all ms no_members ≡ ms) × (have_texts ms ≡ true)
 -- its numbers fit, its texts are printed bytes, its objects have their members in order, and it nests so deep at most
 abbrev mutual
   pub IsPlain : ℕ → Data → Type 0
-  IsPlain deep null = ⊥
-  IsPlain deep (boolean b) = ⊥
   IsPlain deep (number n) = IsPlainNumber n
   IsPlain deep (string s) = IsText s
-  IsPlain zero (array ds) = ⊥
   IsPlain (suc deep) (array ds) = ArePlain deep ds
-  IsPlain zero (object ms) = ⊥
   IsPlain (suc deep) (object ms) = AreInOrder ms × HavePlain deep ms
+  IsPlain _ _ = ⊥
 
   pub ArePlain : ℕ → Items → Type 0
   ArePlain deep no_items = ⊤
@@ -73,20 +70,16 @@ abbrev mutual
 
 numeral : (n : Num) → IsPlainNumber n → number_of (number_text n) ≡ Some n
 numeral (unsigned n) h = number_of-decimal n h
-numeral (negative (pos n)) h = absurd h
 numeral (negative (negsuc n)) h = number_of-negative n (omega arith)
-numeral (float x) h = absurd h
+numeral _ h = absurd h
 
 mutual
   value-back : (deep : ℕ) (d : Data) → IsPlain deep d → of_json (outline d) ≡ Some d
-  value-back deep null h = absurd h
-  value-back deep (boolean b) h = absurd h
   value-back deep (number n) h = ap (option_map number) (numeral n h)
   value-back deep (string s) h = refl
-  value-back zero (array ds) h = absurd h
   value-back (suc deep) (array ds) h = ap (option_map array) (items-back deep ds h)
-  value-back zero (object ms) h = absurd h
   value-back (suc deep) (object ms) h = ap (option_map object) (members-back deep ms no_members h.1 ∙ ap Some h.0.0)
+  value-back _ _ h = absurd h
 
   items-back : (deep : ℕ) (ds : Items) → ArePlain deep ds → of_items (items_outline ds) ≡ Some ds
   items-back deep no_items h = refl
@@ -98,20 +91,16 @@ mutual
 
 number-is : (n : Num) → IsPlainNumber n → tree.HasNumbers (json.number (number_text n))
 number-is (unsigned n) h = IsNumber-decimal n h
-number-is (negative (pos n)) h = absurd h
 number-is (negative (negsuc n)) h = IsNumber-signed_decimal (negsuc n) (omega arith)
-number-is (float x) h = absurd h
+number-is _ h = absurd h
 
 mutual
   value-numbers : (deep : ℕ) (d : Data) → IsPlain deep d → tree.HasNumbers (outline d)
-  value-numbers deep null h = absurd h
-  value-numbers deep (boolean b) h = absurd h
   value-numbers deep (number n) h = number-is n h
   value-numbers deep (string s) h = tt
-  value-numbers zero (array ds) h = absurd h
   value-numbers (suc deep) (array ds) h = items-numbers deep ds h
-  value-numbers zero (object ms) h = absurd h
   value-numbers (suc deep) (object ms) h = members-numbers deep ms h.1
+  value-numbers _ _ h = absurd h
 
   items-numbers : (deep : ℕ) (ds : Items) → ArePlain deep ds → tree.ItemsHaveNumbers (items_outline ds)
   items-numbers deep no_items h = tt
@@ -123,14 +112,11 @@ mutual
 
 mutual
   value-depth : (deep : ℕ) (d : Data) → IsPlain deep d → tree.depth (outline d) ≤ deep
-  value-depth deep null h = absurd h
-  value-depth deep (boolean b) h = absurd h
   value-depth deep (number n) h = omega arith
   value-depth deep (string s) h = omega arith
-  value-depth zero (array ds) h = absurd h
   value-depth (suc deep) (array ds) h = let i = items-depth deep ds h in omega arith
-  value-depth zero (object ms) h = absurd h
   value-depth (suc deep) (object ms) h = let i = members-depth deep ms h.1 in omega arith
+  value-depth _ _ h = absurd h
 
   items-depth : (deep : ℕ) (ds : Items) → ArePlain deep ds → tree.items_depth (items_outline ds) ≤ deep
   items-depth deep no_items h = omega arith
@@ -191,9 +177,8 @@ digits-short k n some few h = record { ascii = All-from_ascii (decimal n) (IsAsc
 
 number-short : (n : Num) → IsPlainNumber n → IsShort (number_text n) 21
 number-short (unsigned n) h = wider (decimal n) 20 21 (omega arith) (digits-short 20 n (omega arith) (omega arith) h)
-number-short (negative (pos n)) h = absurd h
 number-short (negative (negsuc n)) h = first 45 (decimal (suc n)) 20 (omega arith) (digits-short 20 (suc n) (omega arith) (omega arith) (omega arith))
-number-short (float x) h = absurd h
+number-short _ h = absurd h
 
 quote : IsShort (escape_byte 34) 2
 unfolding escape_byte
@@ -283,14 +268,11 @@ short-object {ms} {n} p = first 123 (members_text false ms) n (omega arith) (p.s
 
 mutual
   value-short : (deep : ℕ) (d : Data) → IsPlain deep d → IsShort (compact_text d) (size d)
-  value-short deep null h = absurd h
-  value-short deep (boolean b) h = absurd h
   value-short deep (number n) h = number-short n h
   value-short deep (string s) h = in-quotes s h
-  value-short zero (array ds) h = absurd h
   value-short (suc deep) (array ds) h = short-array (items-short deep ds h)
-  value-short zero (object ms) h = absurd h
   value-short (suc deep) (object ms) h = short-object (members-short deep ms h.0.1 h.1)
+  value-short _ _ h = absurd h
 
   pub items-short : (deep : ℕ) (ds : Items) → ArePlain deep ds → AreShortItems ds (items_size ds)
   items-short deep no_items h = no-item

@@ -128,10 +128,6 @@ PassesFirst options title start row = (text : List ℕ) (club : NamedClub) → S
 
 clubs-pass : (options : LiveArgs) (title : Title) (start : Evening) (row : ℕ) (roster : List NamedClub) → PassesFirst options title start row → IsRoster roster
     → Passes start (club_rows roster) (at options title (row + 1 + 1 + 1) (Restoring roster []))
-clubs-pass options title start row [] from is = absurd (let t = is.four in omega arith)
-clubs-pass options title start row (a ∷ []) from is = absurd (let t = is.four in omega arith)
-clubs-pass options title start row (a ∷ b ∷ []) from is = absurd (let t = is.four in omega arith)
-clubs-pass options title start row (a ∷ b ∷ c ∷ []) from is = absurd (let t = is.four in omega arith)
 clubs-pass options title start row (a ∷ b ∷ c ∷ d ∷ []) from is =
     let roster = a ∷ b ∷ c ∷ d ∷ [] in
     let first = is.each 0 a (omega arith) in
@@ -141,7 +137,7 @@ clubs-pass options title start row (a ∷ b ∷ c ∷ d ∷ []) from is =
     four-pass options title start row (club_row roster 1) (club_row roster 2) (club_row roster 3) (club_row roster 4) a b c d
     (from (club_row roster 1) a (club_row_says roster 1 (omega arith) first)) (club_row_says roster 2 (omega arith) second)
     (club_row_says roster 3 (omega arith) third) (club_row_says roster 4 (omega arith) fourth) (no-bad a b c d first second third fourth)
-clubs-pass options title start row (a ∷ b ∷ c ∷ d ∷ e ∷ more) from is = absurd (let t = is.four in omega arith)
+clubs-pass _ _ _ _ _ _ is = absurd (let t = is.four in omega arith)
 
 -- ---- the rows of words
 

@@ -19,15 +19,11 @@ pub by-action : (s : State) (d : RowAction) (b : ℕ) (fields : Row) (field rest
     → next_record default_config s fields field (b ∷ rest) ≡ after_action d b fields field rest
 unfolding next_record
 by-action s (Copy state) b fields field rest e = rw e refl
-by-action s (Skip state) b fields field rest e = rw e refl
-by-action s EndField b fields field rest e = rw e refl
-by-action s EndRecord b fields field rest e = rw e refl
+by-action _ _ _ _ _ _ e = rw e refl
 
 pub state-ends : (state : RowState) → ends_at_end (csv_state_of state) ≡ true
 state-ends StartField = refl
-state-ends InField = refl
-state-ends InQuoted = refl
-state-ends AfterQuote = refl
+state-ends _ = refl
 
 -- the end of a text ends the record
 pub at-end : (state : RowState) (fields : Row) (field : List ℕ) → next_record default_config (csv_state_of state) fields field [] ≡ Some (fields ++ field ∷ [], st.StartRecord, [])
@@ -115,10 +111,8 @@ mark-is a b c h = (grind (arith, nat_tests), grind (arith, nat_tests), grind (ar
 
 pub unmarked : (xs : List ℕ) → (3 ≤ length xs → get_or xs 0 0 ≡ 0xEF → get_or xs 1 0 ≡ 0xBB → get_or xs 2 0 ≡ 0xBF → ⊥) → xs ≡ strip_bom xs
 unfolding strip_bom
-unmarked [] h = refl
-unmarked (a ∷ []) h = refl
-unmarked (a ∷ b ∷ []) h = refl
 unmarked (a ∷ b ∷ c ∷ xs) h = elim (cases_Bool (is_bom a b c)) [
   | inl y ↦ let m = mark-is a b c y in absurd (h (omega arith) m.0 m.1 m.2)
   | inr n ↦ rw n refl
 ]
+unmarked _ _ = refl

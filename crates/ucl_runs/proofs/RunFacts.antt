@@ -37,11 +37,5 @@ text-out (Err f) CallsFor known text P is h = tt
 pub part-out : {U : Type 0} (result : Result U RunFault) (CallsFor : List ℕ → List ℕ → Type 0) (known : Option (List ℕ)) (text : List ℕ) (failed : Bool) (old new : Option (List ℕ))
     → IfSome known (λ bytes. CallsFor bytes text) → IfErr result (IsCutShort failed old new text)
     → IfErr result (λ f. IfWriteFailed f (λ written. TextHas CallsFor known (WroteFirst old new written)))
-part-out (Ok u) CallsFor known text failed old new is h = tt
-part-out (Err (Input e)) CallsFor known text failed old new is h = tt
-part-out (Err OutOfMemory) CallsFor known text failed old new is h = tt
-part-out (Err (NotOnDuty row)) CallsFor known text failed old new is h = tt
-part-out (Err NoThread) CallsFor known text failed old new is h = tt
-part-out (Err TooManyReporters) CallsFor known text failed old new is h = tt
-part-out (Err (Strangers version)) CallsFor known text failed old new is h = tt
 part-out (Err (WriteFailed written)) CallsFor known text failed old new is h = text-has CallsFor known text (WroteFirst old new written) is h.1
+part-out _ _ _ _ _ _ _ _ _ = tt

@@ -179,24 +179,17 @@ good-word row clubs words None = tt
 good-word row clubs words (Some word) = good-words clubs (words ++ word ∷ [])
 
 good-opened : (options : LiveArgs) (s : Stage) (r : Said) → Good s → Good (opened options s r)
-good-opened options Beginning r g = tt
 good-opened options (Restoring clubs []) r g = either (options.resumed || is_word_row r) (Restoring clubs []) (Open clubs (board_of [])) tt fresh-good
-good-opened options (Restoring clubs (word ∷ words)) r g = tt
-good-opened options (Naming clubs) r g = tt
 good-opened options (Open clubs board) r g = g
-good-opened options (Refused fault) r g = tt
+good-opened _ _ _ _ = tt
 
 good-board : (board : List ℕ) (request : Request) → AreWords board → AreAttempts request → AreWords (next_board board request)
 good-board board (Event event) w all = good-after board (attempt_of event) w (All-head IsAttempt (attempt_of event) [] all)
-good-board board (Bad field) w all = w
-good-board board Screen w all = w
-good-board board Words w all = w
-good-board board Matches w all = w
+good-board _ _ w _ = w
 
 of-request : (r : Said) → AreAttempts (request_of r)
-of-request Nothing = All-nil IsAttempt
-of-request (Other eight) = All-nil IsAttempt
 of-request (Row f) = asked f
+of-request _ = All-nil IsAttempt
 
 good-title : (options : LiveArgs) (row : ℕ) (title : Option Title) → Good (after_title options row title)
 good-title options row None = tt
@@ -222,11 +215,7 @@ good-next options row s (Row f) g = good-row options row (opened options s (Row 
 
 opened-text : (options : LiveArgs) (s : Stage) (r : Said) → opened (as_text options) s r ≡ opened options s r
 opened-text options Beginning r = refl
-opened-text options (Naming clubs) r = refl
-opened-text options (Restoring clubs []) r = refl
-opened-text options (Restoring clubs (word ∷ words)) r = refl
-opened-text options (Open clubs board) r = refl
-opened-text options (Refused fault) r = refl
+opened-text _ _ _ = refl
 
 title-text : (options : LiveArgs) (row : ℕ) (title : Option Title) → after_title (as_text options) row title ≡ after_title options row title
 title-text options row None = refl
@@ -234,10 +223,7 @@ title-text options row (Some title) = refl
 
 row-text : (options : LiveArgs) (row : ℕ) (s : Stage) (r : Said) → after_row (as_text options) row s r ≡ after_row options row s r
 row-text options row Beginning r = ap (λ (s : Stage). if is_group_row r then s else after_club row [] (club_said 1 r)) (title-text options row (title_said r))
-row-text options row (Naming clubs) r = refl
-row-text options row (Restoring clubs words) r = refl
-row-text options row (Open clubs board) r = refl
-row-text options row (Refused fault) r = refl
+row-text _ _ _ _ = refl
 
 stage-text : (options : LiveArgs) (row : ℕ) (s : Stage) (r : Said) → next_stage (as_text options) row s r ≡ next_stage options row s r
 stage-text options row s Nothing = refl
@@ -246,11 +232,8 @@ stage-text options row s (Row f) = rw (opened-text options s (Row f)) (row-text 
 
 stage-lines : (options : LiveArgs) (title : Title) (row : ℕ) (s : Stage) (r : Said) (shown : List ℕ) → options.format ≡ Json → Good s
     → AreLinesSaying (answer_at (as_text options) title row s (request_of r) shown) (answer_at options title row s (request_of r) shown)
-stage-lines options title row Beginning r shown h g = no-lines
-stage-lines options title row (Naming clubs) r shown h g = no-lines
-stage-lines options title row (Restoring clubs words) r shown h g = no-lines
 stage-lines options title row (Open clubs board) r shown h g = request-lines options title row clubs board (request_of r) shown h g (of-request r)
-stage-lines options title row (Refused fault) r shown h g = no-lines
+stage-lines _ _ _ _ _ _ _ _ = no-lines
 
 abbrev text_of : Evening → Evening
 text_of e = record { options = as_text e.options; title = e.title; row = e.row; stage = e.stage }

@@ -47,11 +47,8 @@ shut-row : (options : LiveArgs) (row : ℕ) (s : Stage) (r : Said) → is_open (
 shut-row options row s r h = elim (cases_Bool (is_open s)) [ inl y ↦ cc (open-row options row s r y) | inr n ↦ n ]
 
 silent-at : (e : Evening) (s : Stage) (r : Said) (shown : List ℕ) → is_open s ≡ false → answer_at e.options e.title e.row s (request_of r) shown ≡ []
-silent-at e Beginning r shown h = refl
-silent-at e (Naming clubs) r shown h = refl
-silent-at e (Restoring clubs words) r shown h = refl
-silent-at e (Refused fault) r shown h = refl
 silent-at e (Open clubs board) r shown h = cc
+silent-at _ _ _ _ _ = refl
 
 silent-answer : (e : Evening) (r : Said) (shown : List ℕ) → is_open (next e r).stage ≡ false → answer_said e r shown ≡ []
 silent-answer e Nothing shown h = refl
@@ -73,8 +70,7 @@ silent e (line ∷ lines) h =
 
 refused-next : (options : LiveArgs) (row : ℕ) (r : Said) (fault : BeginningFault) → next_stage options row (Refused fault) r ≡ Refused fault
 refused-next options row Nothing fault = refl
-refused-next options row (Other eight) fault = refl
-refused-next options row (Row f) fault = refl
+refused-next _ _ _ _ = refl
 
 pub stays-refused : (e : Evening) (lines : List (List ℕ)) (fault : BeginningFault) → e.stage ≡ Refused fault → (after_lines e lines).stage ≡ Refused fault
 unfolding after_lines
@@ -91,7 +87,4 @@ refused-missing options row s fault h = rw h refl
 
 pub missing-shut : (options : LiveArgs) (row : ℕ) (s : Stage) (fault : BeginningFault) → missing options row s ≡ Some fault → is_open s ≡ false
 missing-shut options row (Open clubs board) fault h = cc
-missing-shut options row Beginning fault h = refl
-missing-shut options row (Naming clubs) fault h = refl
-missing-shut options row (Restoring clubs words) fault h = refl
-missing-shut options row (Refused f) fault h = refl
+missing-shut _ _ _ _ _ = refl

@@ -81,18 +81,16 @@ lines-alike line whole (b ∷ bytes) h = elim (cases_Bool (b == 10)) [
 same-answers : (e : Evening) (lines wholes : List (List ℕ)) → AllAlike lines wholes → answers e lines ≡ answers e wholes
 unfolding answers
 same-answers e [] [] h = refl
-same-answers e [] (whole ∷ wholes) h = absurd h
-same-answers e (line ∷ lines) [] h = absurd h
 same-answers e (line ∷ lines) (whole ∷ wholes) h =
     rw (same-said e.row line whole h.0, same-shown line whole h.0)
     (ap (λ (l : List ℕ). answer_said e (said_on e.row whole) (shown_text whole) ++ l) (same-answers (next e (said_on e.row whole)) lines wholes h.1))
+same-answers _ _ _ h = absurd h
 
 same-after : (e : Evening) (lines wholes : List (List ℕ)) → AllAlike lines wholes → after_lines e lines ≡ after_lines e wholes
 unfolding after_lines
 same-after e [] [] h = refl
-same-after e [] (whole ∷ wholes) h = absurd h
-same-after e (line ∷ lines) [] h = absurd h
 same-after e (line ∷ lines) (whole ∷ wholes) h = rw (same-said e.row line whole h.0) (same-after (next e (said_on e.row whole)) lines wholes h.1)
+same-after _ _ _ h = absurd h
 
 pub read-whole : LinesAreReadWhole
 read-whole e bytes =

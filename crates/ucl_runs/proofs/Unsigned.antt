@@ -160,9 +160,8 @@ module _ (number : ℕ → ℕ) where
   get_signed (x ∷ es) (suc k) e at = get_signed es k e at
 
   take_signed : (k : ℕ) (es : List MatchEntry) → take k (map signed_match es) ≡ map signed_match (take k es)
-  take_signed zero es = refl
-  take_signed (suc k) [] = refl
   take_signed (suc k) (e ∷ es) = ap (λ (z : List MatchEntry). signed_match e ∷ z) (take_signed k es)
+  take_signed _ _ = refl
 
   refusal_signed : (es : List MatchEntry) (expected : ℕ) (kind : Kind) → refusal_of (counted_match (map signed_match es)) expected kind ≡ refusal_of (counted_match es) expected kind
   refusal_signed es expected kind =
