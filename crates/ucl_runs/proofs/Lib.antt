@@ -6,7 +6,6 @@ pub mod Points
 pub mod NightParts
 pub mod Driven
 pub mod Duty
-pub mod WorkSteps
 pub mod GateFacts
 pub mod EnteredRows
 pub mod MergedRows

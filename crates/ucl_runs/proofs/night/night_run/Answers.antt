@@ -13,15 +13,10 @@ use Rattle.ucl_runs.proofs.night.night_run.Goals as goal
 
 pub returns-clause-merge : goal.returns-clause-merge
 returns-clause-merge g c =
-    let known = g.B.LiveBoard.reporter in
-    let rows = c.args.night.now.events.items in
-    let back = c.in_ok-reporter_1.field-0 in
     let worked = c.in_ok-reporter_1.ensures in
     let settling = c.in_ok-settled.ensures.says in
-    merged_by_settlers (known c.in_ok-enlist.field-0) (known c.in_ok-enlist-2.field-0) (known back.reporter_1) (known back.reporter_2)
-    (known c.settle.new.first) (known c.settle.new.second) rows c.in_ok-settled.settled.version worked.reporter_1.1 worked.reporter_2.1
-    settling.always.0 settling.always.1 (settling.exactly.0 refl).0
-    (each_on_duty rows (subst (All IsOnDuty) c.deref.ensures.value c.in_ok-check_duty.ensures)) settling.settled settling.of_both
+    merged_by_settlers worked.reporter_1.1 worked.reporter_2.1 settling.always.0 settling.always.1 (settling.exactly.0 refl).0
+    (each_on_duty c.args.night.now.events.items (rw (← c.deref.ensures.value) c.in_ok-check_duty.ensures)) settling.settled settling.of_both
 
 pub returns-clause-board : goal.returns-clause-board
 returns-clause-board g c one =
