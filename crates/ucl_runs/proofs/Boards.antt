@@ -216,8 +216,7 @@ said-board history r legal = sym (fold-said (board_of history) r []) ∙ whole h
 
 said-stage : (e : Evening) (clubs : List NamedClub) (history : List Entry) (r : Said) → IsLegal history → e.stage ≡ Open clubs (board_of history)
     → (next e r).stage ≡ Open clubs (board_of (fold after_attempt history (attempts_on r)))
-said-stage e clubs history r legal h =
-    ap (λ (s : Stage). next_stage e.options e.row s r) h ∙ next-open e.options e.row clubs (board_of history) r ∙ ap (λ (b : List ℕ). Open clubs b) (said-board history r legal)
+said-stage e clubs history r legal h = cc (h, next-open e.options e.row clubs (board_of history) r, said-board history r legal)
 
 -- an open board keeps its title
 open-title : (title : Title) (s : Stage) (r : Said) (clubs : List NamedClub) (board : List ℕ) → s ≡ Open clubs board → next_title title s r ≡ title

@@ -60,9 +60,7 @@ none-begun (x ∷ left) lost e = cc
 
 -- after a line
 begun-after : (value : Data) (left more : List ℕ) → left ≡ json_line value ++ more → begun_line 4097 [] left ≡ begun_line 4097 [] more
-begun-after value left more parts =
-    ap (begun_line 4097 []) parts ∙ begun_append 4097 [] (json_line value) more
-    ∙ ap (λ (l : List ℕ). begun_line 4097 l more) (begun_ended 4097 [] (compact_text value))
+begun-after value left more parts = cc (parts, begun_append 4097 [] (json_line value) more, begun_ended 4097 [] (compact_text value))
 
 cut-values : (values : List Data) (left lost : List ℕ) → flat_map json_line values ≡ left ++ lost → IsCut left lost
 cut-values [] left lost e = inl (none-begun left lost e)

@@ -75,18 +75,13 @@ module _ (T : Type 0) where
       all_text none = shows turns p.turned ∙ ap (sights args.shape (unseen args)) (all_lines none)
 
       some_text : text_in turns ++ sights args.shape (followed (unseen args) (lines_in turns)) rest ≡ heard_text args bytes
-      some_text =
-          ap (λ (l : List ℕ). l ++ sights args.shape (followed (unseen args) (lines_in turns)) rest) (shows turns p.turned) ∙ sym (sights-then args.shape (unseen args) (lines_in turns) rest)
-          ∙ ap (sights args.shape (unseen args)) (sym p.lines_are)
+      some_text = cc (shows turns p.turned, sights-then args.shape (unseen args) (lines_in turns) rest, p.lines_are)
 
       reaches : rest ≡ [] → (state_after old.machine turns).following ≡ follow_end args bytes
-      reaches none =
-          (turns_are 1 old.machine turns p.turned).1 ∙ ap (λ (f : Following). followed f (lines_in turns)) fresh ∙ ap (followed (unseen args)) (all_lines none)
+      reaches none = cc ((turns_are 1 old.machine turns p.turned).1, fresh, all_lines none)
 
       whole_text : (last : List ℕ) → HasClosed (rules_of Answers RanOut Ends RanOut) 4097 old new bytes turns rest last → text_in turns ++ last ≡ follow_text args bytes
-      whole_text last e =
-          ap₂ (λ (a b : List ℕ). a ++ b) (all_text e.all)
-          (e.last.2 ∙ ap₂ (λ (s : FollowShape) (f : Following). resuming_text s f.newest) ((turns_are 1 old.machine turns p.turned).0 ∙ same) (reaches e.all))
+      whole_text last e = cc (all_text e.all, e.last.2, (turns_are 1 old.machine turns p.turned).0, same, reaches e.all)
 
       heard_first : (fault : OutOfMemory) → StopsNext RanOut 1 old.machine new.machine turns rest fault → Appends old.taken new.taken (text_in turns) → HeardFirst args bytes old.taken new.taken
       heard_first fault s out =

@@ -41,7 +41,7 @@ rise f (line ∷ lines) = rise-told f (moment_on line) lines (λ g. rise g lines
 
 both-parts : (xs ys : List Moment) → flat_map screen_of (xs ++ ys) ≡ flat_map screen_of xs ++ flat_map screen_of ys
 both-parts [] ys = refl
-both-parts (x ∷ xs) ys = ap (λ (l : List ℕ). screen_of x ++ l) (both-parts xs ys) ∙ sym (append_assoc (screen_of x) (flat_map screen_of xs) (flat_map screen_of ys))
+both-parts (x ∷ xs) ys = cc (both-parts xs ys, append_assoc (screen_of x) (flat_map screen_of xs) (flat_map screen_of ys))
 
 one-text : (f : Following) (o : Option Moment) → told_text Text f o ≡ flat_map screen_of (shown_of f o)
 one-text f None = refl

@@ -108,7 +108,7 @@ module _ (args : FollowArgs) (e : Evening) (lines : Lines) (json : e.options.for
     title-same : (first rest : Lines) (clubs : List NamedClub) (board : List ℕ) → lines ≡ first ++ rest → (after_lines e first).stage ≡ Open clubs board
         → (after_lines e lines).title ≡ (after_lines e first).title
     title-same first rest clubs board parts stands =
-        ap (λ (ls : Lines). (after_lines e ls).title) parts ∙ ap (λ (f : Evening). f.title) (after-append e first rest) ∙ title-after (after_lines e first) rest clubs board stands
+        cc (parts, after-append e first rest, title-after (after_lines e first) rest clubs board stands)
 
     no-newer : (told : Option Moment) → IsOnTheWay e lines told → IsNoNewer args m told
     no-newer None h = tt

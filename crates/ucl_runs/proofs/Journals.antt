@@ -147,8 +147,7 @@ abbrev pub end_of : Lines → Following
 end_of lines = followed (unseen resume) lines
 
 rows-of : (left : List ℕ) (o : Option Moment) → (end_of (whole_lines left)).newest ≡ o → follow_text resume left ≡ resuming_text Rows o
-rows-of left o e =
-    ap (λ (l : List ℕ). l ++ resuming_text Rows (end_of (whole_lines left)).newest) (no-sights (unseen resume) (whole_lines left)) ∙ ap (resuming_text Rows) e
+rows-of left o e = cc (no-sights (unseen resume) (whole_lines left), e)
 
 -- the newest of a follower is this moment, where there is one
 abbrev pub Stands : Following → Option Moment → Type 0
@@ -471,7 +470,7 @@ journal-ends : (starts : List Start) → begun-of (journal starts) ≡ []
 unfolding journal
 journal-ends [] = begun_none 4097 []
 journal-ends (start ∷ before) =
-    begun_append 4097 [] (journal before) (start.left ++ 10 ∷ []) ∙ ap (λ (l : List ℕ). begun_line 4097 l (start.left ++ 10 ∷ [])) (journal-ends before) ∙ (with-end start.left).0
+    cc (begun_append 4097 [] (journal before) (start.left ++ 10 ∷ []), journal-ends before, (with-end start.left).0)
 
 -- a follower of the journal, after what the last start left and an end of line
 journal-end : (start : Start) (before : List Start) → end_of (lines_in (journal (start ∷ before))) ≡ followed (end_of (lines_in (journal before))) (lines_in (start.left ++ 10 ∷ []))
@@ -482,8 +481,7 @@ journal-end start before =
 
 torn-end : (f : Following) (left : List ℕ) → moment_on (begun-of left) ≡ None → followed f (lines_in (left ++ 10 ∷ [])) ≡ passed_over (followed f (lines_in left))
 unfolding followed
-torn-end f left none =
-    ap (followed f) (with-end left).1 ∙ followed-then f (lines_in left) (begun-of left ∷ []) ∙ ap (after_told (followed f (lines_in left))) none
+torn-end f left none = cc ((with-end left).1, followed-then f (lines_in left) (begun-of left ∷ []), none)
 
 opened-sound : (options : LiveArgs) (m : Moment) → IsMoment m → IsSound (opened_at options m)
 opened-sound options m good = record { stage = (good.clubs, good.words); title = record { letter = good.letter; edition = good.edition } }
@@ -538,9 +536,7 @@ module _ (before : List Start) (start : Start) (is : IsStart before start) (know
   sound = gone-sound start.options o known.good
 
   went : live_text e start.input ≡ start.left ++ is.lost
-  went =
-      sym (gone-text start.options o start.input known.good is.asked)
-      ∙ ap (λ (t : List ℕ). live_text (start_of start.options) (t ++ start.input)) (sym (rows-of (journal before) o refl)) ∙ is.cut
+  went = cc (gone-text start.options o start.input known.good is.asked, rows-of (journal before) o refl, is.cut)
 
   row-fits : e.row + length input-lines ≤ 2 ^ 64
   row-fits =

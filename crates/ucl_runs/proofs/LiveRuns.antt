@@ -88,13 +88,10 @@ module _ (old new : Seen Held) where
     all_reached none = reaches ∙ ap (after_lines start) (all_lines none)
 
     some_text : text_in turns ++ answers (after_lines start (lines_in turns)) rest ≡ answers_to start bytes
-    some_text =
-        ap (λ (l : List ℕ). l ++ answers (after_lines start (lines_in turns)) rest) (shows turns p.turned)
-        ∙ sym (answers-append start (lines_in turns) rest) ∙ ap (answers start) (sym p.lines_are)
+    some_text = cc (shows turns p.turned, answers-append start (lines_in turns) rest, p.lines_are)
 
     whole_text : (last : List ℕ) → HasClosed (rules_of Answers Stops Ends StopsAtEnd) 258 old new bytes turns rest last → text_in turns ++ last ≡ live_text start bytes
-    whole_text last e =
-        ap₂ (λ (a b : List ℕ). a ++ b) (all_text e.all) (e.last.text_is ∙ ap (λ (k : Evening). answers k (last_lines begun)) (all_reached e.all)) ∙ sym (whole-text start bytes)
+    whole_text last e = cc (all_text e.all, e.last.text_is, all_reached e.all, whole-text start bytes)
 
     complete : (last : List ℕ) → HasClosed (rules_of Answers Stops Ends StopsAtEnd) 258 old new bytes turns rest last → missing_after start bytes ≡ None
     complete last e = whole-missing start bytes ∙ ap (λ (k : Evening). missing_at k begun) (sym (all_reached e.all)) ∙ e.last.complete

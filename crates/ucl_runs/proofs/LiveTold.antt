@@ -50,8 +50,7 @@ refused row event code name (Some found) m = ap Some (told-parts (decimal row ++
 
 replied : (row : ℕ) (title : Title) (board : List ℕ) (clubs : List NamedClub) (event : NightEvent) (before : ℕ) (reply : Result Accepted Refusal) → RaisesVersion reply before board
     → text_told (reply_value row event reply title board clubs) ≡ Some (line_of_reply row event.call.game before reply)
-replied row title board clubs event before (Ok a) h =
-    accepted row event a.number title board clubs ∙ ap (λ (version : ℕ). Some (accepted_line row event.call.game a.number version)) h
+replied row title board clubs event before (Ok a) h = cc (accepted row event a.number title board clubs, h)
 replied row title board clubs event before (Err refusal) h =
     refused row event (refusal_code refusal) (refusal_name refusal) (found_of refusal) (game_at board event.call.game)
 
@@ -62,9 +61,7 @@ bad-told row code name field shown = ap Some (told-parts (decimal row ++ codes "
 
 bad : (row : ℕ) (field shown : List ℕ) → text_told (bad_row_value row field shown) ≡ Some (bad_line row)
 bad row field shown =
-    bad-told row 20 (codes "bad-row") field shown
-    ∙ ap (λ (number : List ℕ). Some (decimal row ++ codes " refused " ++ (number ++ codes " " ++ codes "bad-row" ++ []) ++ codes "\n")) (decimal_two 20 (omega arith) (omega arith))
-    ∙ ap Some (append_assoc (decimal row ++ codes " refused ") (codes "20 bad-row") (codes "\n") ∙ append_assoc (decimal row) (codes " refused ") (codes "20 bad-row\n"))
+    cc (bad-told row 20 (codes "bad-row") field shown, decimal_two 20 (omega arith) (omega arith), append_assoc (decimal row ++ codes " refused ") (codes "20 bad-row") (codes "\n"), append_assoc (decimal row) (codes " refused ") (codes "20 bad-row\n"))
 
 -- ---- words
 

@@ -182,4 +182,4 @@ all_merges_agree number rows h merge one = same_board h (accepted_of (map (attem
 -- what a reading of a merge shows is the night's board
 pub night_board_read : (number : ℕ → ℕ) (rows : List NightEvent) (seen : List Entry) (version : ℕ) (reading : Reading) → IsMerge number rows (take version seen) → EachMatchHasOneReporter rows
     → reading ≡ snapshot_at seen version → reading.board ≡ night_board number rows
-night_board_read number rows seen version reading merge one is = ap (λ (r : Reading). r.board) is ∙ all_merges_agree number rows (take version seen) merge one
+night_board_read number rows seen version reading merge one is = cc (is, all_merges_agree number rows (take version seen) merge one)

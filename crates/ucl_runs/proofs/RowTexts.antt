@@ -132,8 +132,7 @@ same-escaped (b ∷ name) = elim (cases_Bool (b == 34)) [
 quoted-reads : (name rest : List ℕ) (fields : List (List ℕ)) → next_record default_config st.StartField fields [] (34 ∷ (flat_map in_quotes name ++ 34 ∷ 44 ∷ rest))
     ≡ next_record default_config st.StartField (fields ++ name ∷ []) [] rest
 unfolding next_record
-quoted-reads name rest fields =
-    ap (λ (l : List ℕ). next_record default_config st.InQuoted fields [] (l ++ 34 ∷ 44 ∷ rest)) (same-escaped name) ∙ quoted-run fields [] name (44 ∷ rest)
+quoted-reads name rest fields = cc (same-escaped name, quoted-run fields [] name (44 ∷ rest))
 
 quoted-before : (name rest : List ℕ) → IsFieldBefore (34 ∷ (flat_map in_quotes name ++ 34 ∷ 44 ∷ rest)) name rest
 quoted-before name rest = record { begins = refl; reads = quoted-reads name rest }

@@ -222,7 +222,7 @@ title-text options row None = refl
 title-text options row (Some title) = refl
 
 row-text : (options : LiveArgs) (row : ℕ) (s : Stage) (r : Said) → after_row (as_text options) row s r ≡ after_row options row s r
-row-text options row Beginning r = ap (λ (s : Stage). if is_group_row r then s else after_club row [] (club_said 1 r)) (title-text options row (title_said r))
+row-text options row Beginning r = cc (title-text options row (title_said r))
 row-text _ _ _ _ = refl
 
 stage-text : (options : LiveArgs) (row : ℕ) (s : Stage) (r : Said) → next_stage (as_text options) row s r ≡ next_stage options row s r
@@ -242,8 +242,7 @@ abbrev with-stage : Evening → Said → Stage → Evening
 with-stage e r s = record { options = as_text e.options; title = next_title e.title e.stage r; row = e.row + 1; stage = s }
 
 text-next : (e : Evening) (r : Said) → next (text_of e) r ≡ text_of (next e r)
-text-next e r =
-    ap (λ (s : Stage). with-stage e r s) (stage-text e.options e.row e.stage r)
+text-next e r = cc (stage-text e.options e.row e.stage r)
 
 said-lines : (e : Evening) (r : Said) (shown : List ℕ) → e.options.format ≡ Json → Good e.stage → AreLinesSaying (answer_said (text_of e) r shown) (answer_said e r shown)
 said-lines e Nothing shown h g = no-lines

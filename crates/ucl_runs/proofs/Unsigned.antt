@@ -128,8 +128,7 @@ module _ (number : ℕ → ℕ) where
 
   reply_signed : (h : List Entry) (call : EventCall) → is_ok (sequential_reply (map signed h) call) ≡ is_ok (sequential_reply h call)
   reply_signed h call =
-      sym (reply_without (match_after (map signed h) call.game) call)
-      ∙ (ap (λ (m : MatchRecord). is_ok (reply_of m call)) (after_signed h call.game) ∙ reply_without (match_after h call.game) call)
+      cc (reply_without (match_after (map signed h) call.game) call, after_signed h call.game, reply_without (match_after h call.game) call)
 
   signed_append : (h : List Entry) (e : Entry) → map signed (followed_by h e) ≡ followed_by (map signed h) (signed e)
   signed_append [] e = refl
@@ -140,14 +139,11 @@ module _ (number : ℕ → ℕ) where
   one_entered false h e = refl
 
   row_signed : (h : List Entry) (row : NightEvent) → after_attempt (map signed h) (attempt_by number row) ≡ map signed (after_attempt h (attempt_of row))
-  row_signed h row =
-      ap (λ (b : Bool). cond b (followed_by (map signed h) (entry_of (number row.reporter) row.call)) (map signed h)) (reply_signed h row.call)
-      ∙ one_entered (is_ok (sequential_reply h row.call)) h (entry_of row.reporter row.call)
+  row_signed h row = cc (reply_signed h row.call, one_entered (is_ok (sequential_reply h row.call)) h (entry_of row.reporter row.call))
 
   rows_signed : (h : List Entry) (rows : List NightEvent) → fold after_attempt (map signed h) (map (attempt_by number) rows) ≡ map signed (fold after_attempt h (map attempt_of rows))
   rows_signed h [] = refl
-  rows_signed h (row ∷ rows) =
-      ap (λ (z : List Entry). fold after_attempt z (map (attempt_by number) rows)) (row_signed h row) ∙ rows_signed (after_attempt h (attempt_of row)) rows
+  rows_signed h (row ∷ rows) = cc (row_signed h row, rows_signed (after_attempt h (attempt_of row)) rows)
 
   -- rows under other numbers are the same entries under these numbers
   pub night_signed : (rows : List NightEvent) → accepted_of (map (attempt_by number) rows) ≡ map signed (accepted_of (map attempt_of rows))
