@@ -1,31 +1,23 @@
 -- What an evening answers tells its moment.
-use Rattle.std.proofs.Common.{◌≡◌, ◌∙◌, ℕ, zero, suc, ◌+◌, ◌*◌, ◌/◌, ◌%◌, ◌^◌, ◌<◌, ◌≤◌, ◌&&◌, ◌==◌, Bool, true, false, refl, ap, arith, List, [], ◌∷◌, codes}
-use Rattle.std.proofs.Common.{length, Option, Some, None, le-leb, inl}
-use Rattle.std.specs.Prelude.{All, nat_le, option_and_then, Ok}
-use Rattle.std.specs.Fmt.{digit_glyph}
-use Rattle.std.proofs.Math.Nat.{pow-suc}
-use Rattle.std.proofs.lemmas.Bool.Decides.{nat_tests}
-use Rattle.std.proofs.lemmas.List.Elements.{All-head, All-tail}
-use Rattle.serde_json.specs.Data.{Data, member, no_members, number, object, string, unsigned}
+use Rattle.ucl_runs.proofs.Common.{All, All-head, All-tail, AreWords, AwayInTie, Bool, Data, IsClub, IsGroup, IsMoment, IsRoster, List}
+use Rattle.ucl_runs.proofs.Common.{Moment, NamedClub, NightEvent, None, Ok, Option, Profile, Some, Uefa, [], ap, arith, bad_slot}
+use Rattle.ucl_runs.proofs.Common.{club_items, codes, digit_glyph, false, hex_digits, inl, is_name, le-leb, length, letter_in, member}
+use Rattle.ucl_runs.proofs.Common.{nat_le, nat_tests, no_members, number_value, object, pow-suc, profile_name, profile_named, read_words}
+use Rattle.ucl_runs.proofs.Common.{refl, string, suc, true, unsigned, word_items, zero, ℕ, ◌%◌, ◌&&◌, ◌*◌, ◌+◌, ◌/◌, ◌<◌, ◌==◌, ◌^◌, ◌∙◌}
+use Rattle.ucl_runs.proofs.Common.{◌∷◌, ◌≡◌, ◌≤◌}
+use Rattle.std.specs.Prelude.{option_and_then}
+use Rattle.serde_json.specs.Data.{number}
 use Rattle.serde_json.specs.Find.{get}
 use Rattle.serde_json.proofs.OnLiterals.{serde_json_on_literals}
-use Rattle.ucl_board.specs.Words.{AreWords}
-use Rattle.ucl_order.specs.declared.profile.Profile.{Profile}
-use Rattle.ucl_order.specs.declared.profile.Profile.TheVariants.{Uefa, AwayInTie}
-use Rattle.ucl_order.specs.Names.{profile_name, profile_named}
-use Rattle.ucl_order.specs.Roster.{IsClub, IsRoster, NamedClub, bad_slot, bad_slot_from, is_club, is_name}
-use Rattle.ucl_screen.specs.Numbers.{hex_digits}
+use Rattle.ucl_order.specs.Roster.{bad_slot_from, is_club}
 use Rattle.ucl_screen.specs.Numbers.{hex_after, hex_digit, hex_word}
-use Rattle.ucl_screen.specs.declared.night.NightEvent.{NightEvent}
-use Rattle.ucl_screen.specs.Screen.{IsGroup, letter_in}
-use Rattle.ucl_screen.specs.WordsRead.{read_words}
 use Rattle.ucl_screen.proofs.ReadWords.{all-read}
-use Rattle.ucl_json.specs.Values.{accepted_value, club_items, edition_screen_value, number_value, screen_value, word_items}
+use Rattle.ucl_json.specs.Values.{accepted_value, edition_screen_value, screen_value}
 use Rattle.ucl_runs.proofs.WordDigits.{low, word-digits}
-use Rattle.ucl_json.specs.declared.moment.Moment.{Moment}
-use Rattle.ucl_json.specs.Told.{board_told, club_told, clubs_told, each_told, edition_in, edition_told, group_told, if_read, just, list_at, listed, moment_told}
+use Rattle.ucl_json.specs.Told.{board_told, club_told, clubs_told, each_told, edition_in, edition_told, group_told, if_read, just, list_at}
+use Rattle.ucl_json.specs.Told.{listed, moment_told}
 use Rattle.ucl_json.specs.Told.{order_told, roster_told, text_at, word_told}
-use Rattle.ucl_runs.specs.Answered.{AnswersTellTheirMoment, IsMoment}
+use Rattle.ucl_runs.specs.Answered.{AnswersTellTheirMoment}
 
 -- ---- digits
 

@@ -1,41 +1,23 @@
 -- The board of an evening as that of a legal history.
-use Rattle.std.proofs.Common.{◌≡◌, ℕ, ◌+◌, ◌≤◌, ◌==◌, ◌&&◌, Bool, true, false, List, [], ◌∷◌, ◌++◌, length, Option, Some, None, refl, sym, ap, ap₂, ◌∙◌, inl, inr, append-nil, arith}
-use Rattle.std.specs.Str.{bytes_eq}
-use Rattle.std.specs.Prelude.{All, codes, nat_le, if◌then◌else◌, Result}
-use Rattle.std.specs.List.{fold}
-use Rattle.std.proofs.lemmas.Bool.{cases_Bool}
-use Rattle.std.proofs.lemmas.Bool.Decides.{nat_tests}
-use Rattle.std.proofs.lemmas.List.Elements.{All-append, All-head, All-tail}
-use Rattle.ucl_word.specs.declared.event.Accepted.{Accepted}
-use Rattle.ucl_word.specs.declared.event.EventCall.{EventCall}
-use Rattle.ucl_word.specs.declared.event.Kind.{Kind}
-use Rattle.ucl_word.specs.declared.refusal.Refusal.{Refusal}
-use Rattle.ucl_word.specs.Names.{kind_named}
-use Rattle.ucl_word.specs.Rules.{reply_of}
-use Rattle.ucl_board.specs.declared.entry.Entry.{Entry}
-use Rattle.ucl_board.specs.Words.{game_at}
-use Rattle.ucl_board.specs.History.{Attempt, IsAttempt, IsLegal, after_attempt, board_after, board_of, sequential_reply}
-use Rattle.ucl_board.proofs.HistoryLaws.{attempt_board, attempt_legal, versions}
+use Rattle.ucl_runs.proofs.Common.{Accepted, All, All-append, All-head, All-tail, Attempt, Bad, Bool, Entry, Evening, Event, EventCall}
+use Rattle.ucl_runs.proofs.Common.{Format, FourFields, IsAttempt, IsLegal, Json, Kind, List, LiveArgs, Matches, NamedClub, NightEvent, None}
+use Rattle.ucl_runs.proofs.Common.{Nothing, Open, Option, Other, Refusal, Request, Restoring, Result, Row, Said, Screen, Some, Stage, Text}
+use Rattle.ucl_runs.proofs.Common.{Title, Words, [], after_attempt, answer_of, answer_said, ap, append-nil, ap₂, arith, attempt_board}
+use Rattle.ucl_runs.proofs.Common.{attempt_of, attempts_of, attempts_on, board_after, board_of, bytes_eq, cases_Bool, event_of}
+use Rattle.ucl_runs.proofs.Common.{event_or_bad, false, fold, game_at, if◌then◌else◌, in_range, inl, inr, kind_named, length, line_of_reply}
+use Rattle.ucl_runs.proofs.Common.{nat_le, nat_tests, next, next_board, next_stage, next_title, number, refl, reply_answer, reply_of}
+use Rattle.ucl_runs.proofs.Common.{request_of, said_on, screen_after, sequential_reply, shown_text, sym, true, ℕ, ◌&&◌, ◌++◌, ◌+◌, ◌==◌}
+use Rattle.ucl_runs.proofs.Common.{◌>>=◌, ◌∙◌, ◌∷◌, ◌≡◌, ◌≤◌}
+use Rattle.std.specs.Prelude.{codes}
+use Rattle.ucl_board.proofs.HistoryLaws.{attempt_legal, versions}
 use Rattle.ucl_board.proofs.Histories.{reply_is}
-use Rattle.ucl_order.specs.Roster.{NamedClub}
-use Rattle.ucl_runs.specs.Feed.{line_of_reply, reply_line}
-use Rattle.ucl_screen.specs.declared.night.NightEvent.{NightEvent}
-use Rattle.ucl_screen.specs.Numbers.{in_range, number}
-use Rattle.ucl_screen.specs.Events.{◌>>=◌, event_of, attempt_of}
-use Rattle.ucl_screen.specs.Rows.{FourFields}
-use Rattle.ucl_json.specs.declared.title.Title.{Title}
-use Rattle.ucl_command.specs.declared.options.Format.{Format}
-use Rattle.ucl_command.specs.declared.options.Format.TheVariants.{Text, Json}
-use Rattle.ucl_command.specs.declared.live.LiveArgs.{LiveArgs}
-use Rattle.ucl_runs.specs.declared.request.Request.{Request}
-use Rattle.ucl_runs.specs.declared.request.Request.TheVariants.{Bad, Event, Screen, Words, Matches}
-use Rattle.ucl_runs.specs.BadRows.{bad_field, shown_text}
-use Rattle.ucl_runs.specs.Requests.{asked_by, event_or_bad, request_of, shown_by}
-use Rattle.ucl_runs.specs.Rows.{Said, Nothing, Other, Row, said_on}
-use Rattle.ucl_runs.specs.Stages.{Stage, Open, Restoring, next_board, next_stage}
-use Rattle.ucl_runs.specs.LiveText.{Evening, after_lines, answer_said, answer_of, answers, next, next_title, reply_answer, screen_after}
-use Rattle.ucl_runs.specs.ByHistory.{answer_by_history, answers_by_history, attempts_in, attempts_of, attempts_on, line_by_history, reply_by_history}
-use Rattle.ucl_runs.specs.LiveLaws.{BoardsTakeEvents, EveningsAreSequential, FirstRowsOpenTheBoard, IsOtherRow, RefusedEveningsAreSilent, RepliesAreThoseOfFeed, fresh_at}
+use Rattle.ucl_runs.specs.Feed.{reply_line}
+use Rattle.ucl_runs.specs.BadRows.{bad_field}
+use Rattle.ucl_runs.specs.Requests.{asked_by, shown_by}
+use Rattle.ucl_runs.specs.LiveText.{after_lines, answers}
+use Rattle.ucl_runs.specs.ByHistory.{answer_by_history, answers_by_history, attempts_in, line_by_history, reply_by_history}
+use Rattle.ucl_runs.specs.LiveLaws.{BoardsTakeEvents, EveningsAreSequential, FirstRowsOpenTheBoard, IsOtherRow, RefusedEveningsAreSilent}
+use Rattle.ucl_runs.specs.LiveLaws.{RepliesAreThoseOfFeed, fresh_at}
 use Rattle.ucl_runs.proofs.Silence.{refused-shut, silent}
 
 -- an event is of a reporter and a match that there are

@@ -1,14 +1,8 @@
 -- A text of lines that is cut: what has begun of its last line tells no moment, unless it lacks its end alone.
-use Rattle.std.proofs.Common.{◌≡◌, ◌≢◌, ◌∙◌, ◌⊎◌, ℕ, refl, sym, ap, subst, arith, inl, inr}
-use Rattle.std.proofs.Common.{List, [], ◌∷◌, ◌++◌, append_assoc, drop, take, None}
-use Rattle.std.specs.Prelude.{flat_map}
-use Rattle.std.proofs.lemmas.List.{take-append-drop}
-use Rattle.serde_json.specs.Data.{Data, null}
-use Rattle.serde_json.specs.Written.{compact_text}
-use Rattle.ucl_io.specs.Lines.{HasNoFeed, begun_line}
-use Rattle.ucl_io.proofs.Cuts.{begun_all, begun_append, begun_ended, begun_none}
-use Rattle.ucl_json.specs.Lines.{AreLinesOfValues, json_line}
-use Rattle.ucl_json.specs.Told.{moment_on}
+use Rattle.ucl_runs.proofs.Common.{AreLinesOfValues, Data, HasNoFeed, List, None, [], ap, append_assoc, arith, begun_append, begun_ended}
+use Rattle.ucl_runs.proofs.Common.{begun_line, begun_none, compact_text, drop, flat_map, inl, inr, json_line, moment_on, null, refl, subst}
+use Rattle.ucl_runs.proofs.Common.{sym, take, take-append-drop, ℕ, ◌++◌, ◌∙◌, ◌∷◌, ◌≡◌, ◌≢◌, ◌⊎◌}
+use Rattle.ucl_io.proofs.Cuts.{begun_all}
 use Rattle.ucl_json.proofs.CutTexts.{front-told}
 use Rattle.ucl_runs.proofs.JournalLines.{text-clean}
 

@@ -1,14 +1,11 @@
 -- What the faults of a driver become.
-use Rattle.std.proofs.Common.{◌≡◌, Bool, false, refl, sym, ◌∙◌}
-use Rattle.std.specs.Prelude.{⊤, Err}
-use Rattle.ucl_io.specs.declared.fault.PumpFault.{PumpFault}
-use Rattle.ucl_io.specs.declared.fault.PumpFault.TheVariants.{Machine, ReadFailed, TooLong, WriteFailed}
+use Rattle.ucl_runs.proofs.Common.{Bool, Err, Machine, PumpFault, RunFault, WriteFailed, false, refl, sym, ⊤, ◌∙◌, ◌≡◌}
+use Rattle.ucl_io.specs.declared.fault.PumpFault.TheVariants.{ReadFailed, TooLong}
 use Rattle.ucl_io.specs.Output.{SinkEnds}
+use Rattle.ucl_runs.specs.Run.{SinkFails, fault_of, is_read_failed}
 use Rattle.ucl_io.specs.Pumping as driver
 use Rattle.ucl_screen.specs.declared.fault.InputFault.TheVariants as input
-use Rattle.ucl_runs.specs.declared.fault.RunFault.{RunFault}
 use Rattle.ucl_runs.specs.declared.fault.RunFault.TheVariants as run
-use Rattle.ucl_runs.specs.Run.{SinkFails, fault_of, is_read_failed}
 
 -- it is no fault of a device
 pub record IsOwn (fault : RunFault) : Type 0 where

@@ -1,22 +1,17 @@
 -- What a reporter's worker has entered: no row yet, and one row more.
-use Rattle.std.proofs.Common.{◌≡◌, ◌≢◌, ◌⊎◌, inl, inr, ℕ, ◌<◌, ◌≤◌, Bool, cond, ◌==◌, List, [], ◌∷◌, ◌++◌, length, take, slice_get, Some, Result, Ok, Err, IfOk, IfErr}
-use Rattle.std.proofs.Common.{refl, sym, ap, ◌∙◌, subst, arith, eq-eqb, ne_eqb, le_refl, length-append}
-use Rattle.std.specs.Prelude.{if◌then◌else◌}
-use Rattle.std.specs.Result.{is_ok}
-use Rattle.std.proofs.lemmas.Option.{none-some}
+use Rattle.ucl_runs.proofs.Common.{Accepted, Bool, ComesFirst, Continues, Entry, HasEntered, IsEnteredAt, IsPrefix, IsRefusedAt, List}
+use Rattle.ucl_runs.proofs.Common.{NightEvent, PassView, Refusal, Some, TakesPlace, [], ap, arith, at_below, at_within, attempted}
+use Rattle.ucl_runs.proofs.Common.{begins_length, begins_through, cond, entries_by, entry_of, eq-eqb, followed_by, if◌then◌else◌, inl, inr}
+use Rattle.ucl_runs.proofs.Common.{is_ok, length, length-append, ne_eqb, none-some, refl, sequential_reply, slice_get, subst, sym, take}
+use Rattle.ucl_runs.proofs.Common.{take-length, ℕ, ◌++◌, ◌<◌, ◌==◌, ◌∙◌, ◌∷◌, ◌≡◌, ◌≢◌, ◌≤◌, ◌⊎◌}
+use Rattle.std.proofs.Common.{Result, Ok, Err, IfOk, IfErr}
+use Rattle.std.proofs.Common.{le_refl}
 use Rattle.std.proofs.lemmas.List.{same_from_push}
-use Rattle.std.proofs.Math.Seq.{take-append_seam, take-length}
-use mathlib.Core.List.{IsPrefix}
-use Rattle.ucl_word.specs.declared.event.Accepted.{Accepted}
-use Rattle.ucl_word.specs.declared.refusal.Refusal.{Refusal}
-use Rattle.ucl_word.proofs.Sequences.{at_longer, at_below, at_end, at_either}
-use Rattle.ucl_board.specs.declared.entry.Entry.{Entry}
-use Rattle.ucl_board.specs.History.{followed_by, attempted, entry_of, sequential_reply}
-use Rattle.ucl_screen.specs.declared.night.NightEvent.{NightEvent}
-use Rattle.ucl_board.proofs.Beginnings.{at_within, begins_length, begins_through}
-use Rattle.ucl_live_board.specs.Passes.{PassView, IsSound, Continues, AcceptedReport, RefusedReport, entries_by}
+use Rattle.std.proofs.Math.Seq.{take-append_seam}
+use Rattle.ucl_word.proofs.Sequences.{at_longer, at_end, at_either}
+use Rattle.ucl_live_board.specs.Passes.{IsSound, AcceptedReport, RefusedReport}
 use Rattle.ucl_live_board.proofs.Lists.{by_own, unchanged}
-use Rattle.ucl_runs.specs.Nights.{IsRefusedAt, IsEnteredAt, TakesPlace, ComesFirst, IsOwnRow, HasEntered}
+use Rattle.ucl_runs.specs.Nights.{IsOwnRow}
 use Rattle.ucl_runs.proofs.Points.{entered_on, place_on, entered_before, first_on, entered_within, place_within, none_by, stands_before}
 
 -- a pass that has no entry of its own has entered no row

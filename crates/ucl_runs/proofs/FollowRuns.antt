@@ -1,24 +1,14 @@
 -- Whole runs of a follower, from what the driver says of them.
-use Rattle.std.proofs.Common.{◌≡◌, ◌⊎◌, ℕ, ◌+◌, List, [], ◌∷◌, ◌++◌, Option, Some, None, refl, sym, ap, ◌∙◌, inl, inr, append_assoc, append-nil}
-use Rattle.std.specs.Prelude.{⊤, Result, Ok, Err, IfSome}
-use Rattle.std.specs.Io.KnownBytes.{Appends}
-use Rattle.ucl_io.specs.declared.fault.PumpFault.{PumpFault}
-use Rattle.ucl_io.specs.declared.fault.PumpFault.TheVariants.{Machine, WriteFailed}
-use Rattle.ucl_io.specs.Calls.{Device}
-use Rattle.ucl_io.specs.Output.{StoppedShort}
-use Rattle.ucl_io.specs.Turns.{AreTurns, StopsNext, Turn, lines_in, state_after, text_in}
-use Rattle.ucl_io.specs.Pumping.{HasClosed, HasMade, IsPromptAt, LineRules, Pumped, Seen, StopsLast, rules_of}
-use Rattle.ucl_io.proofs.Calls.{whole}
-use Rattle.ucl_io.proofs.Cuts.{cut_at}
-use Rattle.ucl_io.proofs.Puts.{stopped_first, stopped_short}
-use Rattle.ucl_io.proofs.Turns.{turns_front}
+use Rattle.ucl_runs.proofs.Common.{Appends, Device, Err, FollowArgs, Following, HasClosed, HasMade, IfSome, IsPromptAt, LineRules, List}
+use Rattle.ucl_runs.proofs.Common.{Machine, None, Ok, Option, PumpFault, Pumped, Result, Seen, Some, StoppedShort, StopsLast, StopsNext}
+use Rattle.ucl_runs.proofs.Common.{Turn, WriteFailed, [], after_told, ap, append-nil, append_assoc, cut_at, follow_text, inl, inr}
+use Rattle.ucl_runs.proofs.Common.{moment_on, refl, resuming_text, rules_of, stopped_first, stopped_short, sym, told_text, turns_front}
+use Rattle.ucl_runs.proofs.Common.{unseen, whole, whole_lines, ℕ, ⊤, ◌++◌, ◌+◌, ◌∙◌, ◌∷◌, ◌≡◌, ◌⊎◌}
+use Rattle.ucl_io.specs.Turns.{AreTurns, lines_in, state_after, text_in}
 use Rattle.ucl_word.specs.declared.refusal.OutOfMemory.{OutOfMemory}
-use Rattle.ucl_command.specs.declared.follow.FollowArgs.{FollowArgs}
 use Rattle.ucl_command.specs.declared.follow.FollowShape.{FollowShape}
 use Rattle.ucl_runs.specs.declared.follower.Follower.{Follower}
-use Rattle.ucl_runs.specs.declared.following.Following.{Following}
-use Rattle.ucl_json.specs.Told.{moment_on}
-use Rattle.ucl_runs.specs.Follow.{after_told, follow_end, follow_text, followed, resuming_text, sights, told_text, unseen, whole_lines}
+use Rattle.ucl_runs.specs.Follow.{follow_end, followed, sights}
 use Rattle.ucl_runs.specs.Hearing.{FollowFails, FollowStops, HeardFirst, IsFollowedSoFar, IsHeard, counts_of, heard_text}
 
 sights-then : (shape : FollowShape) (f : Following) (a b : List (List ℕ))

@@ -1,21 +1,12 @@
 -- What is shown of lines.
-use Rattle.std.proofs.Common.{◌≡◌, ◌⊎◌, ◌==◌, ℕ, true, false, List, [], ◌∷◌, ◌++◌, Option, Some, None, refl, sym, ap, ap₂, ◌∙◌, inl, inr, subst, append_assoc, append-nil, arith}
-use Rattle.std.specs.Prelude.{⊤, All, flat_map}
-use Rattle.std.proofs.lemmas.Bool.{and_parts, and_right, cases_Bool, eqb-true}
-use Rattle.std.proofs.lemmas.Bool.Decides.{nat_tests}
-use Rattle.std.proofs.lemmas.List.Elements.{All-append, All-cons, All-head, All-nil, All-tail}
-use Rattle.ucl_screen.specs.Screen.{screen_text}
-use Rattle.ucl_json.specs.declared.moment.Moment.{Moment}
-use Rattle.ucl_runs.specs.declared.following.Following.{Following}
-use Rattle.ucl_order.specs.declared.profile.Profile.{Profile}
-use Rattle.ucl_order.specs.declared.profile.Profile.TheVariants.{Uefa, AwayInTie}
-use Rattle.ucl_json.specs.declared.title.Title.{Title}
-use Rattle.ucl_runs.specs.Titles.{is_asked, is_same_order}
-use Rattle.ucl_command.specs.declared.follow.FollowArgs.{FollowArgs}
+use Rattle.ucl_runs.proofs.Common.{All, All-append, All-cons, All-head, All-nil, All-tail, AwayInTie, FollowArgs, Following, IsNoNewer}
+use Rattle.ucl_runs.proofs.Common.{IsToldIn, List, Moment, None, Option, Profile, Some, Title, Uefa, [], after_told, and_parts, and_right}
+use Rattle.ucl_runs.proofs.Common.{ap, append-nil, append_assoc, ap₂, arith, cases_Bool, eqb-true, false, flat_map, inl, inr, is_asked}
+use Rattle.ucl_runs.proofs.Common.{is_later, is_newer, is_same_order, is_shown, moment_on, nat_tests, passed_over, refl, screen_text}
+use Rattle.ucl_runs.proofs.Common.{shown_too, subst, sym, told_text, true, unseen, ℕ, ⊤, ◌++◌, ◌==◌, ◌∙◌, ◌∷◌, ◌≡◌, ◌⊎◌}
 use Rattle.ucl_command.specs.declared.follow.FollowShape.TheVariants.{Text}
-use Rattle.ucl_json.specs.Told.{moment_on}
-use Rattle.ucl_runs.specs.Follow.{after_told, followed, is_later, is_newer, is_shown, passed_over, shown_too, sights, told_text, unseen}
-use Rattle.ucl_runs.specs.Latest.{IsLineOfThese, IsNoNewer, IsFollowed, IsShownLast, IsToldIn, LatestIsShownLast, OthersDoNotMatter, RiseAbove}
+use Rattle.ucl_runs.specs.Follow.{followed, sights}
+use Rattle.ucl_runs.specs.Latest.{IsLineOfThese, IsFollowed, IsShownLast, LatestIsShownLast, OthersDoNotMatter, RiseAbove}
 use Rattle.ucl_runs.specs.Latest.{ShownVersionsRise, moments_shown, shown_of}
 
 abbrev Lines : Type 0

@@ -1,12 +1,9 @@
 -- What a gate is told, and how many events were reported.
-use Rattle.std.proofs.Common.{◌≡◌, ◌≢◌, ℕ, ◌+◌, ◌<◌, Bool, cond, ◌==◌, List, [], ◌∷◌, ◌++◌, length, take, get_or, filter, sym, ap, ◌∙◌}
-use Rattle.std.proofs.Common.{subst, arith, append-nil, eq-eqb, ne_eqb, length-append}
-use Rattle.std.proofs.lemmas.List.{take_more}
+use Rattle.ucl_runs.proofs.Common.{Bool, List, NightEvent, PassView, Reading, ReportsMore, SharedReading, [], ap, append-nil, arith, cond}
+use Rattle.ucl_runs.proofs.Common.{eq-eqb, filter, get_or, length, length-append, ne_eqb, rows_by, subst, sym, take, take_more, ℕ, ◌++◌}
+use Rattle.ucl_runs.proofs.Common.{◌+◌, ◌<◌, ◌==◌, ◌∙◌, ◌∷◌, ◌≡◌, ◌≢◌}
 use Rattle.std.proofs.lemmas.List.Elements.{filter-append}
-use Rattle.ucl_board.specs.declared.reading.Reading.{Reading}
-use Rattle.ucl_screen.specs.declared.night.NightEvent.{NightEvent}
-use Rattle.ucl_live_board.specs.Passes.{PassView, SharedReading, ReportsMore}
-use Rattle.ucl_runs.specs.Gates.{IsReadingOf, rows_by}
+use Rattle.ucl_runs.specs.Gates.{IsReadingOf}
 
 -- the rows up to the next one
 module _ (reporter i : ℕ) (rows : List NightEvent) (row : NightEvent) (below : i < length rows) (is : row ≡ get_or rows i row) where

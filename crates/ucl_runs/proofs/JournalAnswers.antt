@@ -1,65 +1,33 @@
 -- What the lines of an evening's answers tell: nothing, or the moment after their line.
-use Rattle.std.proofs.Common.{◌≡◌, ◌∙◌, ℕ, ◌+◌, ◌-◌, ◌^◌, ◌<◌, ◌≤◌, ◌==◌, ◌&&◌, Bool, true, false, refl, sym, ap, subst, arith, List, [], ◌∷◌, ◌++◌}
-use Rattle.std.proofs.Common.{length, leb-true, Option, Some, None, inl, inr}
-use Rattle.std.specs.Prelude.{⊤, ◌||◌, All, if◌then◌else◌, nat_le, Result, Ok, Err}
-use Rattle.std.specs.Result.{is_ok}
-use Rattle.std.proofs.lemmas.Bool.{cases_Bool}
-use Rattle.std.proofs.lemmas.Bool.Decides.{nat_tests}
-use Rattle.std.proofs.lemmas.List.Elements.{All-append, All-cons, All-get_or, All-head, All-nil, All-tail}
-use Rattle.ucl_io.specs.Lines.{begun_line}
-use Rattle.ucl_io.proofs.Cuts.{begun_none, ended_none}
-use Rattle.ucl_word.specs.declared.event.EventCall.{EventCall}
-use Rattle.ucl_word.specs.declared.event.Kind.{Kind}
-use Rattle.ucl_word.specs.declared.event.Kind.TheVariants.{KickOff}
-use Rattle.ucl_word.specs.declared.record.MatchRecord.{MatchRecord}
-use Rattle.ucl_word.specs.declared.refusal.Refusal.{Refusal}
-use Rattle.ucl_word.specs.Layout.{IsWord}
-use Rattle.ucl_word.specs.Names.{kind_named}
-use Rattle.ucl_word.specs.Record.{IsValid}
-use Rattle.ucl_word.specs.Rules.{answer, refusal_of, reply_of}
-use Rattle.ucl_word.proofs.ValidRecords.{number_valid}
-use Rattle.ucl_word.proofs.Words.{word_valid}
-use Rattle.ucl_board.specs.History.{Attempt, IsAttempt, board_after, board_of}
-use Rattle.ucl_board.specs.Words.{AreWords, game_at, version_of, word_at}
-use Rattle.ucl_board.proofs.Repeats.{no_refusal}
-use Rattle.ucl_order.specs.Roster.{IsClub, IsRoster, NamedClub, bad_slot, bad_slot_from, is_club}
-use Rattle.ucl_screen.specs.declared.night.NightEvent.{NightEvent}
-use Rattle.ucl_screen.specs.Events.{◌>>=◌, event_of, attempt_of}
-use Rattle.ucl_screen.specs.Numbers.{in_range, number}
-use Rattle.ucl_screen.specs.Rows.{FourFields}
-use Rattle.ucl_screen.specs.WordsRead.{read_words}
-use Rattle.ucl_json.specs.Lines.{json_line}
-use Rattle.ucl_json.specs.Values.{accepted_value, edition_screen_value, reply_value}
-use Rattle.ucl_command.specs.declared.live.LiveArgs.{LiveArgs}
-use Rattle.ucl_command.specs.declared.options.Format.TheVariants.{Json}
-use Rattle.ucl_runs.specs.declared.request.Request.{Request}
-use Rattle.ucl_runs.specs.declared.request.Request.TheVariants.{Bad, Event, Screen, Words, Matches}
-use Rattle.ucl_runs.specs.ByHistory.{attempts_of, attempts_on}
-use Rattle.ucl_runs.specs.BadRows.{shown_text}
-use Rattle.ucl_json.specs.declared.title.Title.{Title}
-use Rattle.ucl_screen.specs.Screen.{IsGroup, letter_in}
-use Rattle.ucl_order.specs.declared.profile.Profile.{Profile}
-use Rattle.ucl_order.specs.Names.{profile_named}
-use Rattle.ucl_runs.specs.declared.live_fault.BeginningFault.TheVariants.{OtherGroup}
-use Rattle.ucl_runs.specs.Titles.{asked_group, asked_title, edition_by, is_as_asked, is_group_row, title_by, title_said}
+use Rattle.ucl_runs.proofs.Common.{All, All-append, All-cons, All-get_or, All-head, All-nil, All-tail, AreWords, Attempt, Bad, Beginning}
+use Rattle.ucl_runs.proofs.Common.{Bool, Err, Evening, Event, EventCall, FourFields, HasNumbers, IsAttempt, IsClub, IsGroup, IsMoment}
+use Rattle.ucl_runs.proofs.Common.{IsRoster, IsValid, IsWord, Json, KickOff, Kind, List, LiveArgs, MatchRecord, Matches, Moment, NamedClub}
+use Rattle.ucl_runs.proofs.Common.{Naming, NightEvent, None, Nothing, Ok, Open, Option, Other, OtherGroup, Profile, Refusal, Refused}
+use Rattle.ucl_runs.proofs.Common.{Request, Restoring, Result, Row, Said, Screen, Some, Stage, Title, Words, [], accepted_value}
+use Rattle.ucl_runs.proofs.Common.{after_beginning, after_club, after_row, after_title, after_word, answer, answer_at, answer_of}
+use Rattle.ucl_runs.proofs.Common.{answer_said, answers, ap, arith, asked_by, asked_group, asked_title, attempt_of, attempts_of}
+use Rattle.ucl_runs.proofs.Common.{attempts_on, bad_slot, begun_line, begun_none, board_after, board_of, cases_Bool, club_said}
+use Rattle.ucl_runs.proofs.Common.{edition_screen_value, ended_none, event_of, event_or_bad, false, game_at, if◌then◌else◌, in_range, inl}
+use Rattle.ucl_runs.proofs.Common.{inr, is_as_asked, is_group_row, is_ok, is_word_row, json_line, kind_named, leb-true, length, letter_in}
+use Rattle.ucl_runs.proofs.Common.{moment_at, moment_now, moment_on, moment_with, nat_le, nat_tests, next, next_board, next_stage}
+use Rattle.ucl_runs.proofs.Common.{next_title, no_refusal, number, number_valid, opened, profile_named, read_words, refl, refusal_of}
+use Rattle.ucl_runs.proofs.Common.{reply_answer, reply_of, reply_value, request_of, restored, said_on, screen_after, screen_answer}
+use Rattle.ucl_runs.proofs.Common.{shown_text, start_of, subst, sym, title_by, title_said, true, version_at, version_of, with_roster}
+use Rattle.ucl_runs.proofs.Common.{with_words, word_at, word_said, word_valid, ℕ, ⊤, ◌&&◌, ◌++◌, ◌+◌, ◌-◌, ◌<◌, ◌==◌, ◌>>=◌, ◌^◌, ◌||◌, ◌∙◌}
+use Rattle.ucl_runs.proofs.Common.{◌∷◌, ◌≡◌, ◌≤◌}
+use Rattle.ucl_order.specs.Roster.{bad_slot_from, is_club}
+use Rattle.ucl_runs.specs.Titles.{edition_by}
 use Rattle.ucl_command.specs.Groups.{may_be_asked}
 use Rattle.ucl_command.proofs.Letters.{asked_letter}
 use Rattle.ucl_runs.proofs.Silence.{is_open}
-use Rattle.ucl_runs.specs.Requests.{asked_by, event_or_bad, request_of}
-use Rattle.ucl_runs.specs.Rows.{Said, Nothing, Other, Row, said_on}
-use Rattle.ucl_runs.specs.Stages.{Stage, Beginning, Naming, Open, Refused, Restoring, after_club, after_beginning, after_row, after_title, after_word}
-use Rattle.ucl_runs.specs.Stages.{club_said, is_word_row, next_board, next_stage, opened, restored, with_roster, with_words, word_said}
-use Rattle.ucl_runs.specs.LiveText.{Evening, after_lines, answer_at, answer_of, answer_said, answers, next, next_title, reply_answer, screen_after, screen_answer, start_of, title_or}
+use Rattle.ucl_runs.specs.LiveText.{after_lines, title_or}
 use Rattle.ucl_runs.proofs.Boards.{AreAttempts, asked, asked-by, event-is_attempt}
 use Rattle.ucl_runs.proofs.GoodBoards.{fresh-good, good-after, read-good, version-after}
 use Rattle.ucl_runs.proofs.OneByOne.{after-none, after-one, answers-none, answers-one}
-use Rattle.ucl_json.specs.declared.moment.Moment.{Moment}
-use Rattle.ucl_runs.specs.Answered.{HasNumbers, IsMoment}
-use Rattle.ucl_json.specs.Told.{moment_on}
-use Rattle.ucl_runs.specs.Follow.{version_at}
-use Rattle.ucl_runs.specs.Journals.{moment_at, moment_now, moment_with}
-use Rattle.ucl_runs.proofs.JournalLines.{IsLineThat, IsShown, TellsAlone, TellsAtMost, alone-as, alone-line, alone-none, alone-then, bad-line}
-use Rattle.ucl_runs.proofs.JournalLines.{begun-then, board-fits, found-fits, lines-then, lines_in, matches-line, refused-line, shown-text, value-line, words-line}
+use Rattle.ucl_runs.proofs.JournalLines.{IsLineThat, IsShown, TellsAlone, TellsAtMost, alone-as, alone-line, alone-none, alone-then}
+use Rattle.ucl_runs.proofs.JournalLines.{bad-line}
+use Rattle.ucl_runs.proofs.JournalLines.{begun-then, board-fits, found-fits, lines-then, lines_in, matches-line, refused-line, shown-text}
+use Rattle.ucl_runs.proofs.JournalLines.{value-line, words-line}
 use Rattle.ucl_runs.proofs.Answered.{both}
 use Rattle.ucl_runs.proofs.Matches.{told-lines}
 

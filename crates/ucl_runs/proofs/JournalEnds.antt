@@ -1,37 +1,20 @@
 -- The last moment of a journal, and what comes after a crash.
-use Rattle.std.proofs.Common.{◌≡◌, ◌∙◌, ◌⊎◌, ℕ, ◌+◌, ◌^◌, ◌≤◌, true, refl, sym, ap, ap₂, subst}
-use Rattle.std.proofs.Common.{arith, List, [], ◌∷◌, ◌++◌, length, append-nil, append_assoc, length-append, Option, Some, None, inl, inr}
-use Rattle.std.specs.List.{fold}
-use Rattle.ucl_word.specs.declared.refusal.Refusal.{Refusal}
-use Rattle.ucl_word.specs.Rules.{refusal_of}
-use Rattle.ucl_board.specs.History.{board_after, board_of}
-use Rattle.ucl_board.specs.Words.{game_at, version_of}
+use Rattle.ucl_runs.proofs.Common.{Bad, Evening, Event, FollowArgs, Following, FourFields, IsAnsweredIn, IsNoNewer, IsToldIn, Json, List}
+use Rattle.ucl_runs.proofs.Common.{Matches, Moment, NamedClub, NightEvent, None, Nothing, Open, Option, Other, Refusal, Request, Row, Said}
+use Rattle.ucl_runs.proofs.Common.{Screen, Some, Stage, TakesEvent, Words, [], after_lines, answers, ap, append-nil, append_assoc, ap₂}
+use Rattle.ucl_runs.proofs.Common.{arith, asked_by, attempt_of, attempts_of, attempts_on, board_after, board_of, fold, game_at, inl, inr}
+use Rattle.ucl_runs.proofs.Common.{is_asked, length, length-append, lines_of, moment_at, moment_now, moment_with, next, next_board}
+use Rattle.ucl_runs.proofs.Common.{next_stage, opened, opened_at, refl, refusal_of, resume, resumed_row, said_on, start_of, subst, sym}
+use Rattle.ucl_runs.proofs.Common.{true, unseen, version_at, version_of, whole_lines, ℕ, ◌++◌, ◌+◌, ◌^◌, ◌∙◌, ◌∷◌, ◌≡◌, ◌≤◌, ◌⊎◌}
 use Rattle.ucl_board.proofs.Repeats.{go_on}
-use Rattle.ucl_order.specs.Roster.{NamedClub}
-use Rattle.ucl_screen.specs.Events.{attempt_of}
-use Rattle.ucl_screen.specs.Rows.{FourFields}
-use Rattle.ucl_screen.specs.declared.night.NightEvent.{NightEvent}
-use Rattle.ucl_command.specs.declared.follow.FollowArgs.{FollowArgs}
-use Rattle.ucl_command.specs.declared.options.Format.TheVariants.{Json}
-use Rattle.ucl_runs.specs.declared.request.Request.{Request}
-use Rattle.ucl_runs.specs.declared.request.Request.TheVariants.{Bad, Event, Screen, Words, Matches}
-use Rattle.ucl_runs.specs.ByHistory.{attempts_in, attempts_of, attempts_on}
-use Rattle.ucl_runs.specs.InputLines.{lines_of}
-use Rattle.ucl_runs.specs.Requests.{asked_by}
-use Rattle.ucl_runs.specs.Rows.{Said, Nothing, Other, Row, said_on}
-use Rattle.ucl_runs.specs.Stages.{Stage, Open, next_board, next_stage, opened}
-use Rattle.ucl_runs.specs.Titles.{is_asked}
-use Rattle.ucl_runs.specs.LiveText.{Evening, after_lines, answers, next, start_of}
+use Rattle.ucl_runs.specs.ByHistory.{attempts_in}
 use Rattle.ucl_runs.proofs.Boards.{boards}
 use Rattle.ucl_runs.proofs.OneByOne.{after-append, after-none, after-one}
-use Rattle.ucl_runs.specs.declared.following.Following.{Following}
-use Rattle.ucl_json.specs.declared.moment.Moment.{Moment}
-use Rattle.ucl_runs.specs.Follow.{unseen, version_at, whole_lines}
-use Rattle.ucl_runs.specs.Journals.{CrashesChangeNothing, IsAnsweredIn, TakesEvent, JournalsEndWithTheBoard, moment_at, moment_now, moment_with, resume}
-use Rattle.ucl_runs.specs.Latest.{IsLatest, IsNoNewer, IsToldIn}
-use Rattle.ucl_runs.specs.Resuming.{opened_at, resumed_row}
+use Rattle.ucl_runs.specs.Journals.{CrashesChangeNothing, JournalsEndWithTheBoard}
+use Rattle.ucl_runs.specs.Latest.{IsLatest}
 use Rattle.ucl_runs.proofs.JournalAnswers.{AllTold, IsGood, IsOnTheWay, IsSound, Lines, good-after-lines, start-sound, weaken}
-use Rattle.ucl_runs.proofs.Journals.{HasTitle, IsPast, among, boards-rise, end_of, first-answer, greatest, in-lines, later-by-version, lines-attempts}
+use Rattle.ucl_runs.proofs.Journals.{HasTitle, IsPast, among, boards-rise, end_of, first-answer, greatest, in-lines, later-by-version}
+use Rattle.ucl_runs.proofs.Journals.{lines-attempts}
 use Rattle.ucl_runs.proofs.Journals.{lines-few, none-past, not-later, open-with, row-after, title-after, told-in, told-in-left, way}
 use Rattle.ucl_runs.proofs.Repeats.{all-same}
 use Rattle.ucl_runs.proofs.FollowShown.{titled-so}

@@ -1,43 +1,30 @@
 -- Journals that are cut, and what they resume.
-use Rattle.std.proofs.Common.{◌≡◌, ◌∙◌, ◌⊎◌, ℕ, ◌+◌, ◌^◌, ◌<◌, ◌≤◌, true, false, refl, sym, ap, subst, arith, List, [], ◌∷◌, ◌++◌, length, append_assoc, length-append, Option, Some, None, inl, inr}
-use Rattle.std.specs.Prelude.{⊤, All, IfSome}
-use Rattle.std.specs.List.{fold}
-use Rattle.std.proofs.lemmas.Bool.{and_from, and_parts, and_right, cases_Bool, cases_lt}
-use Rattle.std.proofs.lemmas.Bool.Decides.{nat_tests}
-use Rattle.std.proofs.lemmas.List.Elements.{All-append, All-cons, All-head, All-nil, All-tail}
+use Rattle.ucl_runs.proofs.Common.{All, All-append, All-cons, All-head, All-nil, All-tail, AreWords, Attempt, Beginning, Evening, Following}
+use Rattle.ucl_runs.proofs.Common.{IfSome, IsAnsweredIn, IsAttempt, IsMoment, IsToldIn, Json, List, LiveArgs, Moment, NamedClub, Naming}
+use Rattle.ucl_runs.proofs.Common.{None, Nothing, Open, Option, Other, Refusal, Refused, Restoring, Row, Said, Some, Stage, TakesEvent}
+use Rattle.ucl_runs.proofs.Common.{Title, [], after_told, and_from, and_parts, and_right, answers, ap, append_assoc, arith, attempts_on}
+use Rattle.ucl_runs.proofs.Common.{begun_append, begun_none, board_after, cases_Bool, cases_lt, ended_append, ended_none, false, fold}
+use Rattle.ucl_runs.proofs.Common.{follow_text, game_at, inl, inr, is_as_asked, is_asked, is_later, is_newer, is_plain_title, is_shown}
+use Rattle.ucl_runs.proofs.Common.{last_lines, length, length-append, lines_of, live_text, moment_at, moment_now, moment_on, moment_with}
+use Rattle.ucl_runs.proofs.Common.{nat_tests, next, next_title, opened, opened_at, passed_over, refl, refusal_of, resume, resumed_row}
+use Rattle.ucl_runs.proofs.Common.{resuming_text, said_on, shown_text, shown_too, start_of, subst, sym, told_text, true, unseen, version_at}
+use Rattle.ucl_runs.proofs.Common.{version_of, whole_lines, ℕ, ⊤, ◌++◌, ◌+◌, ◌<◌, ◌^◌, ◌∙◌, ◌∷◌, ◌≡◌, ◌≤◌, ◌⊎◌}
 use Rattle.ucl_io.specs.Lines.{begun_line, ended_lines}
-use Rattle.ucl_io.proofs.Cuts.{begun_append, begun_none, ended_append, ended_none, few_lines}
-use Rattle.ucl_word.specs.declared.refusal.Refusal.{Refusal}
-use Rattle.ucl_word.specs.Rules.{refusal_of}
-use Rattle.ucl_board.specs.History.{Attempt, IsAttempt, board_after}
-use Rattle.ucl_board.specs.Words.{AreWords, game_at, version_of}
-use Rattle.ucl_order.specs.Roster.{NamedClub}
+use Rattle.ucl_io.proofs.Cuts.{few_lines}
 use Rattle.ucl_command.specs.declared.follow.FollowShape.TheVariants.{Rows}
-use Rattle.ucl_command.specs.declared.live.LiveArgs.{LiveArgs}
-use Rattle.ucl_command.specs.declared.options.Format.TheVariants.{Json}
-use Rattle.ucl_runs.specs.Titles.{is_as_asked, is_asked}
 use Rattle.ucl_runs.proofs.Silence.{is_open}
-use Rattle.ucl_runs.specs.BadRows.{shown_text}
-use Rattle.ucl_runs.specs.ByHistory.{attempts_in, attempts_on}
-use Rattle.ucl_runs.specs.InputLines.{last_lines, lines_of}
-use Rattle.ucl_runs.specs.Rows.{Said, Nothing, Other, Row, said_on}
-use Rattle.ucl_runs.specs.Stages.{Stage, Beginning, Naming, Open, Refused, Restoring, opened}
-use Rattle.ucl_runs.specs.LiveText.{Evening, after_lines, answers, live_text, next, next_title, start_of}
+use Rattle.ucl_runs.specs.ByHistory.{attempts_in}
+use Rattle.ucl_runs.specs.LiveText.{after_lines}
 use Rattle.ucl_runs.proofs.Boards.{asked, boards}
 use Rattle.ucl_runs.proofs.GoodBoards.{good-after, version-after}
 use Rattle.ucl_runs.proofs.OneByOne.{after-append, after-last, after-none, answers-append, answers-one}
-use Rattle.ucl_json.specs.declared.title.Title.{Title}
-use Rattle.ucl_json.specs.declared.moment.Moment.{Moment}
-use Rattle.ucl_runs.specs.declared.following.Following.{Following}
-use Rattle.ucl_runs.specs.Answered.{IsMoment}
-use Rattle.ucl_json.specs.Told.{moment_on}
-use Rattle.ucl_runs.specs.Follow.{after_told, follow_text, followed, is_later, is_newer, is_plain_title, is_shown, passed_over, resuming_text}
-use Rattle.ucl_runs.specs.Follow.{shown_too, sights, told_text, unseen, version_at, whole_lines}
-use Rattle.ucl_runs.specs.Journals.{CutJournalsResume, TakesEvent, IsAnsweredIn, moment_at, moment_now, moment_with, resume}
+use Rattle.ucl_runs.specs.Follow.{followed}
+use Rattle.ucl_runs.specs.Follow.{sights}
+use Rattle.ucl_runs.specs.Journals.{CutJournalsResume}
 use Rattle.ucl_runs.specs.Journals.{AreStarts, GoesOnAgain, IsStart, JournalsGoOn, Start, gone_on, journal, newest_in}
-use Rattle.ucl_runs.specs.Latest.{IsToldIn}
-use Rattle.ucl_runs.specs.Resuming.{OpensTheBoard, opened_at, resumed_row}
-use Rattle.ucl_runs.proofs.JournalAnswers.{AllTold, AnswersFirst, IsGood, IsOnTheWay, IsSound, Lines, answers-first, begun-of, good-after-lines, on-the-way, stage-good, start-sound}
+use Rattle.ucl_runs.specs.Resuming.{OpensTheBoard}
+use Rattle.ucl_runs.proofs.JournalAnswers.{AllTold, AnswersFirst, IsGood, IsOnTheWay, IsSound, Lines, answers-first, begun-of}
+use Rattle.ucl_runs.proofs.JournalAnswers.{good-after-lines, on-the-way, stage-good, start-sound}
 use Rattle.ucl_runs.proofs.JournalLines.{lines-then, lines_in}
 use Rattle.ucl_runs.proofs.CutLines.{IsCut, cut-lines}
 use Rattle.ucl_runs.proofs.JsonLines.{json-lines}

@@ -1,29 +1,15 @@
 -- Whole runs of an evening, from what the driver says of them.
-use Rattle.std.proofs.Common.{◌≡◌, ◌⊎◌, ℕ, ◌+◌, false, List, [], ◌∷◌, ◌++◌, length, Some, None, refl, sym, ap, ◌∙◌, inl, inr, append-nil, arith}
-use Rattle.std.specs.Prelude.{Result, Ok, Err, IfSome}
-use Rattle.std.specs.Io.KnownBytes.{Appends}
-use Rattle.ucl_io.specs.declared.fault.PumpFault.{PumpFault}
-use Rattle.ucl_io.specs.declared.fault.PumpFault.TheVariants.{Machine, WriteFailed}
-use Rattle.ucl_io.specs.Calls.{Device}
-use Rattle.ucl_io.specs.Lines.{begun_line, ended_lines}
-use Rattle.ucl_io.specs.Output.{StoppedShort}
-use Rattle.ucl_io.specs.Turns.{AreTurns, StopsNext, Turn, lines_in, state_after, text_in}
-use Rattle.ucl_io.specs.Pumping.{HasClosed, HasMade, IsPromptAt, LineRules, Pumped, Seen, StopsLast, rules_of}
-use Rattle.ucl_io.proofs.Calls.{whole}
-use Rattle.ucl_io.proofs.Cuts.{cut_at}
-use Rattle.ucl_io.proofs.Puts.{stopped_first, stopped_short}
-use Rattle.ucl_io.proofs.Turns.{turns_front}
+use Rattle.ucl_runs.proofs.Common.{Appends, BeginningFault, Device, Err, Evening, HasClosed, HasMade, HasNoAnswer, HasNoEnd, IfSome}
+use Rattle.ucl_runs.proofs.Common.{IsPromptAt, LineRules, List, LiveFault, Machine, None, Ok, PumpFault, Pumped, Refused, Result, Seen}
+use Rattle.ucl_runs.proofs.Common.{Some, StoppedShort, StopsLast, StopsNext, Turn, WriteFailed, [], after_bytes, answer_said, answers_to}
+use Rattle.ucl_runs.proofs.Common.{ap, append-nil, arith, begun_line, cut_at, ended_lines, evening_of, false, inl, inr, last_lines, length}
+use Rattle.ucl_runs.proofs.Common.{live_text, missing_after, missing_at, next, refl, rules_of, said_on, shown_text, stopped_first}
+use Rattle.ucl_runs.proofs.Common.{stopped_short, sym, turns_front, whole, ℕ, ◌++◌, ◌+◌, ◌∙◌, ◌∷◌, ◌≡◌, ◌⊎◌}
+use Rattle.ucl_io.specs.Turns.{AreTurns, lines_in, state_after, text_in}
 use Rattle.ucl_runs.specs.declared.evening.Evening.{Evening as Held}
-use Rattle.ucl_runs.specs.declared.live_fault.BeginningFault.{BeginningFault}
-use Rattle.ucl_runs.specs.declared.live_fault.LiveFault.{LiveFault}
 use Rattle.ucl_runs.specs.declared.live_fault.LiveFault.TheVariants.{Beginning, OutOfMemory}
-use Rattle.ucl_runs.specs.Holding.{Closes, HasNoAnswer, HasNoEnd, IsAnsweredSoFar, LiveFails, LiveFailsAfter, RanOut, WriteStops}
-use Rattle.ucl_runs.specs.Holding.{after_bytes, answers_to, evening_of, missing_at}
-use Rattle.ucl_runs.specs.InputLines.{last_lines}
-use Rattle.ucl_runs.specs.BadRows.{shown_text}
-use Rattle.ucl_runs.specs.Rows.{said_on}
-use Rattle.ucl_runs.specs.Stages.{Refused}
-use Rattle.ucl_runs.specs.LiveText.{Evening, after_lines, answer_said, answers, live_text, missing_after, next}
+use Rattle.ucl_runs.specs.Holding.{Closes, IsAnsweredSoFar, LiveFails, LiveFailsAfter, RanOut, WriteStops}
+use Rattle.ucl_runs.specs.LiveText.{after_lines, answers}
 use Rattle.ucl_runs.proofs.OneByOne.{after-append, after-one, answers-append, whole-missing, whole-text}
 use Rattle.ucl_runs.proofs.Silence.{is_open, missing-shut, refused-shut, shut-lines, silent, stays-refused}
 

@@ -1,15 +1,11 @@
 -- How rows are shown.
-use Rattle.std.proofs.Common.{◌≡◌, ℕ, zero, suc, ◌+◌, ◌<◌, ◌≤◌, ◌&&◌, Bool, true, false, List, [], ◌∷◌, length, take, get_or, refl, sym, ap, ◌∙◌, inl, inr, ◌⊎◌, arith}
-use Rattle.std.specs.Prelude.{nat_le}
-use Rattle.std.specs.List.{list_all}
+use Rattle.ucl_runs.proofs.Common.{Bool, IsUtf8-from_ascii, List, [], ap, arith, false, get_or, inl, inr, is_printed, length, list_all}
+use Rattle.ucl_runs.proofs.Common.{nat_le, nat_tests, refl, shown_text, suc, sym, take, take_all, true, zero, ℕ, ◌&&◌, ◌+◌, ◌<◌, ◌∙◌, ◌∷◌}
+use Rattle.ucl_runs.proofs.Common.{◌≡◌, ◌≤◌, ◌⊎◌}
 use Rattle.std.specs.Str.{IsAscii, IsUtf8}
-use Rattle.std.proofs.lemmas.Bool.Decides.{nat_tests}
-use Rattle.std.proofs.lemmas.List.{take_all}
 use Rattle.std.proofs.lemmas.List.Folds.{list_all_more}
-use Rattle.std.proofs.lemmas.Str.{IsUtf8-from_ascii}
 use Rattle.std.proofs.lemmas.Str.Ascii.{IsAscii-nil, IsAscii-cons}
-use Rattle.ucl_order.specs.Roster.{is_printed}
-use Rattle.ucl_runs.specs.BadRows.{printed, shown_text}
+use Rattle.ucl_runs.specs.BadRows.{printed}
 
 both : (a b : Bool) → (a && b) ≡ true → (a ≡ true) × (b ≡ true)
 both true b h = (refl, h)

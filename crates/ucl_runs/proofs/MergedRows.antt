@@ -1,20 +1,14 @@
 -- Two reporters' rows in one history that has the entries of both and no other: a merge.
-use Rattle.std.proofs.Common.{◌≡◌, ◌≢◌, ◌⊎◌, inl, inr, ⊎_elim, ℕ, ◌<◌, Bool, cond, ◌==◌, List, length, take, slice_get, Option, Some, None, sym, ap, ◌∙◌, subst, arith, eq-eqb, ne_eqb}
-use Rattle.std.specs.Prelude.{if◌then◌else◌, All}
+use Rattle.ucl_runs.proofs.Common.{All, All-get_or, Bool, ComesFirst, Continues, Entry, HasEntered, IsEnteredAt, IsLegal, IsMerge, IsOnDuty}
+use Rattle.ucl_runs.proofs.Common.{IsPrefix, List, NightEvent, None, Option, PassView, Some, TakesPlace, ap, arith, at_below, at_within}
+use Rattle.ucl_runs.proofs.Common.{attempt_by, attempted, begins_take, cond, entries_by, entry_of, eq-eqb, if◌then◌else◌, inl, inr, length}
+use Rattle.ucl_runs.proofs.Common.{ne_eqb, number_of_two, same_Some, slice_get, subst, sym, take, ℕ, ⊎_elim, ◌<◌, ◌==◌, ◌∙◌, ◌≡◌, ◌≢◌, ◌⊎◌}
 use Rattle.std.proofs.lemmas.Bool.{cases_order}
-use Rattle.std.proofs.lemmas.Option.{same_Some, get_or_from_slice_get}
-use Rattle.std.proofs.lemmas.List.Elements.{All-get_or}
-use mathlib.Core.List.{IsPrefix}
-use Rattle.ucl_word.proofs.Sequences.{at_below}
-use Rattle.ucl_board.specs.declared.entry.Entry.{Entry}
-use Rattle.ucl_board.specs.History.{IsLegal, attempted, entry_of}
+use Rattle.std.proofs.lemmas.Option.{get_or_from_slice_get}
 use Rattle.ucl_board.proofs.HistoryLaws.{legal_take}
-use Rattle.ucl_screen.specs.declared.night.NightEvent.{NightEvent}
-use Rattle.ucl_board.proofs.Beginnings.{at_within, begins_take}
-use Rattle.ucl_live_board.specs.Passes.{PassView, Continues, entries_by}
 use Rattle.ucl_live_board.specs.Settling.{Settled, IsOfBoth}
 use Rattle.ucl_runs.proofs.Elements.{get_some}
-use Rattle.ucl_runs.specs.Nights.{number_of_two, attempt_by, IsOnDuty, IsEnteredAt, TakesPlace, ComesFirst, IsOfRow, IsMerge, HasEntered}
+use Rattle.ucl_runs.specs.Nights.{IsOfRow}
 use Rattle.ucl_runs.proofs.Points.{entered_on, place_on, first_on, stands_before}
 
 -- all rows of a script are of reporters 1 and 2

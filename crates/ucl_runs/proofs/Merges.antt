@@ -1,25 +1,18 @@
 -- All merges of the rows of a script have one board, where each match has one reporter.
-use Rattle.std.proofs.Common.{◌≡◌, ◌≢◌, inl, inr, ℕ, zero, suc, ◌+◌, ◌-◌, ◌<◌, ◌≤◌, Bool, true, false, cond, List, [], map, length, take, slice_get, Some, refl, sym, ap, ◌∙◌, subst, arith, add-zero}
-use Rattle.std.specs.Result.{is_ok}
-use Rattle.std.proofs.lemmas.Bool.{cases_lt, cases_eq, false≢true}
-use Rattle.std.proofs.lemmas.Option.{same_Some}
+use Rattle.ucl_runs.proofs.Common.{Bool, EachMatchHasOneReporter, Entry, EventCall, IsEnteredAt, IsMerge, IsRefusedAt, List, MatchEntry}
+use Rattle.ucl_runs.proofs.Common.{NightEvent, Reading, Some, [], accepted_of, after_attempt, ap, arith, at_below, attempt_by, cases_eq}
+use Rattle.ucl_runs.proofs.Common.{cases_lt, cond, entries_of, entry_of, false, false≢true, followed_by, inl, inr, is_ok, length, map}
+use Rattle.ucl_runs.proofs.Common.{match_numbers, refl, reply_of, same_Some, sequential_reply, slice_get, snapshot_at, subst, suc, sym}
+use Rattle.ucl_runs.proofs.Common.{take, take-length, true, word_of, zero, ℕ, ◌+◌, ◌-◌, ◌<◌, ◌∙◌, ◌≡◌, ◌≢◌, ◌≤◌}
+use Rattle.std.proofs.Common.{add-zero}
 use Rattle.std.proofs.lemmas.List.{map_push}
 use Rattle.std.proofs.lemmas.List.Sums.{fold_push}
-use Rattle.std.proofs.Math.Seq.{take-length}
-use Rattle.ucl_word.specs.declared.event.EventCall.{EventCall}
-use Rattle.ucl_word.specs.Layout.{word_of}
-use Rattle.ucl_word.specs.Rules.{reply_of}
-use Rattle.ucl_word.specs.Counts.{MatchEntry, counted_match}
+use Rattle.ucl_word.specs.Counts.{counted_match}
 use Rattle.ucl_word.proofs.EntryCounts.{entered}
-use Rattle.ucl_word.proofs.Sequences.{at_below}
-use Rattle.ucl_board.specs.declared.entry.Entry.{Entry}
-use Rattle.ucl_board.specs.declared.reading.Reading.{Reading}
-use Rattle.ucl_board.specs.Fixtures.{match_numbers}
-use Rattle.ucl_board.specs.History.{entries_of, board_of, followed_by, sequential_reply, entry_of, after_attempt, accepted_of, snapshot_at}
+use Rattle.ucl_board.specs.History.{board_of}
 use Rattle.ucl_board.proofs.Histories.{entries_same, entries_else}
 use Rattle.ucl_runs.proofs.Elements.{get_some, take_one}
-use Rattle.ucl_screen.specs.declared.night.NightEvent.{NightEvent}
-use Rattle.ucl_runs.specs.Nights.{attempt_by, IsRefusedAt, IsEnteredAt, IsMerge, EachMatchHasOneReporter, ScheduleDoesNotMatter, night_board}
+use Rattle.ucl_runs.specs.Nights.{ScheduleDoesNotMatter, night_board}
 use Rattle.ucl_runs.proofs.Points.{entered_within, place_within}
 
 -- a merge of the rows, and a match

@@ -1,11 +1,9 @@
 -- An output that failed in one of its parts.
-use Rattle.std.proofs.Common.{◌≡◌, ℕ, suc, ◌+◌, ◌-◌, ◌^◌, min, Bool, List, [], ◌∷◌, ◌++◌, length, take, Option, sym, ap, ◌∙◌, subst, arith, length-append}
-use Rattle.std.proofs.lemmas.List.{take-append-le}
-use Rattle.std.specs.Io.KnownBytes.{Appends}
+use Rattle.ucl_runs.proofs.Common.{Appends, Bool, Input, IsStopped, List, NoThread, NotOnDuty, Option, OutOfMemory, RunFault, Strangers}
+use Rattle.ucl_runs.proofs.Common.{TooManyReporters, [], ap, arith, length, length-append, min, subst, suc, sym, take, take-append-le, ℕ}
+use Rattle.ucl_runs.proofs.Common.{◌++◌, ◌+◌, ◌-◌, ◌^◌, ◌∙◌, ◌∷◌, ◌≡◌}
 use Rattle.ucl_io.proofs.MovedBytes.{appends-then}
-use Rattle.ucl_runs.specs.declared.fault.RunFault.{RunFault}
-use Rattle.ucl_runs.specs.declared.fault.RunFault.TheVariants.{Input, OutOfMemory, WriteFailed, NotOnDuty, NoThread, TooManyReporters, Strangers}
-use Rattle.ucl_runs.specs.Run.{IsStopped}
+use Rattle.ucl_runs.specs.declared.fault.RunFault.TheVariants.{WriteFailed}
 
 -- in the first of two parts
 pub stopped_first : (before : ℕ) (failed : Bool) (old new : Option (List ℕ)) (a b : List ℕ) (f : RunFault) → IsStopped before failed old new a f → IsStopped before failed old new (a ++ b) f

@@ -1,20 +1,17 @@
 -- Lines that are answered one after the other.
-use Rattle.std.proofs.Common.{◌≡◌, ℕ, ◌+◌, ◌-◌, ◌^◌, min, List, [], ◌∷◌, ◌++◌, Some, refl, sym, ap, ◌∙◌, append_assoc, append-nil, arith}
-use Rattle.std.specs.Prelude.{if◌then◌else◌, None}
+use Rattle.ucl_runs.proofs.Common.{Beginning, Evening, HasNoAnswer, HasNoEnd, List, LiveArgs, LiveFault, Naming, Open, Refused, Restoring}
+use Rattle.ucl_runs.proofs.Common.{Some, Stage, [], after_bytes, answer_said, answers_to, ap, append-nil, append_assoc, arith, begun_append}
+use Rattle.ucl_runs.proofs.Common.{begun_ended, begun_line, ended_append, ended_lines, if◌then◌else◌, last_lines, lines_of, live_text, min}
+use Rattle.ucl_runs.proofs.Common.{missing, missing_after, missing_at, next, refl, said_on, shown_text, sym, ℕ, ◌++◌, ◌+◌, ◌-◌, ◌^◌, ◌∙◌}
+use Rattle.ucl_runs.proofs.Common.{◌∷◌, ◌≡◌}
+use Rattle.std.specs.Prelude.{None}
 use Rattle.ucl_runs.specs.declared.live_fault.BeginningFault.TheVariants.{BadRow}
-use Rattle.ucl_io.specs.Lines.{begun_line, ended_lines}
-use Rattle.ucl_io.proofs.Cuts.{begun_append, begun_ended, ended_append}
-use Rattle.ucl_runs.specs.declared.live_fault.LiveFault.{LiveFault}
-use Rattle.ucl_runs.specs.declared.live_fault.LiveFault.TheVariants as live
-use Rattle.ucl_command.specs.declared.live.LiveArgs.{LiveArgs}
-use Rattle.ucl_runs.specs.Holding.{HasNoAnswer, HasNoEnd, after_bytes, answers_to, end_of, missing_at}
-use Rattle.ucl_runs.specs.InputLines.{last_lines, lines_of}
+use Rattle.ucl_runs.specs.Holding.{end_of}
 use Rattle.ucl_runs.specs.LiveLaws.{BeginningsAreAnswered, ended}
-use Rattle.ucl_runs.specs.BadRows.{shown_text}
-use Rattle.ucl_runs.specs.Rows.{said_on}
-use Rattle.ucl_runs.specs.Stages.{Stage, Beginning, Naming, Restoring, Open, Refused, missing, told_row}
-use Rattle.ucl_runs.specs.LiveText.{Evening, after_lines, answer_said, answers, live_text, missing_after, missing_now, next}
+use Rattle.ucl_runs.specs.Stages.{told_row}
+use Rattle.ucl_runs.specs.LiveText.{after_lines, answers, missing_now}
 use Rattle.ucl_runs.proofs.Silence.{refused-missing}
+use Rattle.ucl_runs.specs.declared.live_fault.LiveFault.TheVariants as live
 
 pub answers-none : (e : Evening) → answers e [] ≡ []
 unfolding answers

@@ -1,19 +1,11 @@
 -- The points of attempts in a history and in one that goes on from it.
-use Rattle.std.proofs.Common.{refl, ◌≡◌, ◌≢◌, inl, inr, ℕ, zero, suc, ◌<◌, ◌≤◌, Bool, true, false, cond, ◌==◌, List, [], ◌∷◌, ◌++◌, length, take, slice_get, Some, sym, ap, ◌∙◌}
-use Rattle.std.proofs.Common.{subst, arith, length-append, eq-eqb}
-use Rattle.std.specs.Result.{is_ok}
-use Rattle.std.proofs.lemmas.Bool.{cases_lt, false≢true}
-use Rattle.std.proofs.lemmas.Option.{none-some, same_Some}
+use Rattle.ucl_runs.proofs.Common.{Attempt, Bool, ComesFirst, Entry, EventCall, IsEnteredAt, IsPrefix, IsRefusedAt, List, Some, TakesPlace}
+use Rattle.ucl_runs.proofs.Common.{[], ap, arith, at_below, begins_length, cases_lt, cond, entries_by, entry_of, eq-eqb, false, false≢true}
+use Rattle.ucl_runs.proofs.Common.{inl, inr, is_ok, length, length-append, none-some, refl, same_Some, sequential_reply, slice_get, subst}
+use Rattle.ucl_runs.proofs.Common.{suc, sym, take, take_beginning, true, zero, ℕ, ◌++◌, ◌<◌, ◌==◌, ◌∙◌, ◌∷◌, ◌≡◌, ◌≢◌, ◌≤◌}
 use Rattle.std.proofs.lemmas.List.{nil_from_length}
-use mathlib.Core.List.{IsPrefix}
-use Rattle.ucl_word.specs.declared.event.EventCall.{EventCall}
-use Rattle.ucl_word.proofs.Sequences.{at_below}
-use Rattle.ucl_board.specs.declared.entry.Entry.{Entry}
-use Rattle.ucl_board.specs.History.{Attempt, entry_of, sequential_reply}
-use Rattle.ucl_board.proofs.Beginnings.{at_beginning, begins_length, take_beginning}
-use Rattle.ucl_live_board.specs.Passes.{entries_by}
+use Rattle.ucl_board.proofs.Beginnings.{at_beginning}
 use Rattle.ucl_live_board.proofs.Lists.{by_more}
-use Rattle.ucl_runs.specs.Nights.{IsRefusedAt, IsEnteredAt, TakesPlace, ComesFirst}
 
 -- the beginning of a history
 module _ (s h : List Entry) (on : IsPrefix s h) where

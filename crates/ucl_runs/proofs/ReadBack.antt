@@ -1,30 +1,26 @@
 -- The text of a plain value: it is read as that value, has ASCII alone, and is no longer than its parts.
-use Rattle.std.proofs.Common.{◌≡◌, ◌∙◌, ℕ, zero, suc, ◌+◌, ◌*◌, ◌^◌, ◌<◌, ◌≤◌, ◌&&◌, pos, negsuc, Bool, true, false, refl, sym, ap, arith}
-use Rattle.std.proofs.Common.{List, [], ◌∷◌, ◌++◌, length, append-nil, length-append, Some, inl, inr}
-use Rattle.std.specs.Prelude.{⊤, All, decimal, option_map, nat_le}
-use Rattle.std.specs.List.{list_all}
-use Rattle.std.proofs.lemmas.Bool.{and_parts, cases_eq}
-use Rattle.std.proofs.lemmas.Bool.Decides.{nat_tests}
-use Rattle.std.proofs.lemmas.Fmt.{IsAscii-decimal, length-decimal-le}
-use Rattle.std.proofs.lemmas.List.Elements.{All-append, All-cons, All-nil}
-use Rattle.std.proofs.lemmas.Str.{IsUtf8-from_ascii}
+use Rattle.ucl_runs.proofs.Common.{All, All-append, All-cons, All-nil, Bool, Data, IsUtf8-from_ascii, List, Some, [], and_parts, ap}
+use Rattle.ucl_runs.proofs.Common.{append-nil, arith, array, cases_eq, compact_text, decimal, false, inl, inr, is_printed, length}
+use Rattle.ucl_runs.proofs.Common.{length-append, length-decimal-le, list_all, member, moment_on, nat_le, nat_tests, negsuc, no_members}
+use Rattle.ucl_runs.proofs.Common.{null, number_text, object, option_map, pos, quoted, refl, string, suc, sym, true, unsigned, zero, ℕ, ⊤}
+use Rattle.ucl_runs.proofs.Common.{◌&&◌, ◌*◌, ◌++◌, ◌+◌, ◌<◌, ◌^◌, ◌∙◌, ◌∷◌, ◌≡◌, ◌≤◌}
+use Rattle.std.proofs.lemmas.Fmt.{IsAscii-decimal}
 use Rattle.std.proofs.lemmas.Str.Ascii.{All-from_ascii, IsAscii-from_all}
-use Rattle.json.specs.Json as json
 use Rattle.json.specs.Lex.{tokens}
-use Rattle.json.specs.Print.{escape, escape_byte, quoted}
-use Rattle.json.specs.Tree as tree
+use Rattle.json.specs.Print.{escape, escape_byte}
 use Rattle.json.proofs.Printed.Strings.{escape_byte_plain}
 use Rattle.json.proofs.Printed.Decimals.{IsNumber-decimal, IsNumber-signed_decimal}
 use Rattle.json.proofs.Printed.Tokens.{tokens-print}
 use Rattle.json.proofs.Printed.Trees.{ArePrintable-json_tokens, value-json_tokens}
-use Rattle.serde_json.specs.Data.{Num, unsigned, negative, float, Data, null, boolean, number, string, array, object, Items, no_items, item, Members, no_members, member, put}
+use Rattle.serde_json.specs.Data.{Num, negative, float, boolean, number, Items, no_items, item, Members, put}
 use Rattle.serde_json.specs.Read.{number_of, of_json, of_items, of_members, read}
-use Rattle.serde_json.specs.Written.{compact_text, items_text, members_text, number_text, comma_if, outline, items_outline, members_outline}
+use Rattle.serde_json.specs.Written.{items_text, members_text, comma_if, outline, items_outline, members_outline}
 use Rattle.serde_json.proofs.Numbers.{number_of-decimal, number_of-negative}
 use Rattle.serde_json.proofs.Texts.{print-outline}
-use Rattle.ucl_order.specs.Roster.{is_printed}
-use Rattle.ucl_json.specs.Told.{moment_on, moment_told}
+use Rattle.ucl_json.specs.Told.{moment_told}
 use Rattle.ucl_json.proofs.Members.{was-read}
+use Rattle.json.specs.Json as json
+use Rattle.json.specs.Tree as tree
 
 abbrev pub IsText : List ℕ → Type 0
 IsText s = list_all is_printed s ≡ true

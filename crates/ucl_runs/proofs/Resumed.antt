@@ -1,38 +1,23 @@
 -- An evening that reads the rows by which it goes on from a moment.
-use Rattle.std.proofs.Common.{◌≡◌, ◌∙◌, ℕ, ◌+◌, ◌^◌, ◌<◌, refl, sym, ap, ap₂, subst, arith, List, [], ◌∷◌, ◌++◌, codes, length, append_assoc, append-nil, length-append, ne_eqb}
-use Rattle.std.proofs.Common.{Option, Some, None, Bool, true, false, ◌==◌, ◌&&◌, inl, inr}
-use Rattle.std.specs.Prelude.{All, ◌||◌}
+use Rattle.ucl_runs.proofs.Common.{All, All-head, All-tail, AreWords, AwayInTie, Beginning, Bool, Evening, FourFields, IsMoment, IsRoster}
+use Rattle.ucl_runs.proofs.Common.{List, LiveArgs, Moment, NamedClub, Naming, None, Open, Option, Profile, Restoring, Row, Said, Some}
+use Rattle.ucl_runs.proofs.Common.{Stage, Title, Uefa, [], after_bytes, after_club, after_lines, after_row, after_word, answer_at}
+use Rattle.ucl_runs.proofs.Common.{answer_said, answers, answers_to, ap, append-nil, append_assoc, ap₂, arith, asked_group, asked_title}
+use Rattle.ucl_runs.proofs.Common.{bad_slot, begun_append, begun_ended, begun_line, cases_Bool, club_of, club_row, codes, ended_append}
+use Rattle.ucl_runs.proofs.Common.{ended_line, ended_lines, eqb-true, false, group_row, inl, inr, is_as_asked, is_plain_title}
+use Rattle.ucl_runs.proofs.Common.{is_same_order, last_lines, length, length-append, lines_of, live_text, ne_eqb, next, next_stage, opened}
+use Rattle.ucl_runs.proofs.Common.{opened_at, refl, request_of, said_by_text, said_on, shown_text, start_of, subst, sym, take_all, title_by}
+use Rattle.ucl_runs.proofs.Common.{true, with_roster, with_words, word_line, word_of_row, word_said, ℕ, ◌&&◌, ◌++◌, ◌+◌, ◌<◌, ◌==◌, ◌^◌}
+use Rattle.ucl_runs.proofs.Common.{◌||◌, ◌∙◌, ◌∷◌, ◌≡◌}
 use Rattle.std.specs.Option.{option_or}
-use Rattle.std.proofs.lemmas.Bool.{cases_Bool, eqb-true}
-use Rattle.std.proofs.lemmas.List.{take_all}
-use Rattle.std.proofs.lemmas.List.Elements.{All-head, All-tail}
-use Rattle.ucl_board.specs.Words.{AreWords}
-use Rattle.ucl_order.specs.declared.profile.Profile.{Profile}
-use Rattle.ucl_order.specs.declared.profile.Profile.TheVariants.{Uefa, AwayInTie}
-use Rattle.ucl_order.specs.Roster.{IsRoster, NamedClub, bad_slot}
 use Rattle.ucl_runs.specs.Feed.{word_lines}
-use Rattle.ucl_runs.specs.Lines.{word_line}
-use Rattle.ucl_screen.specs.Rows.{FourFields}
 use Rattle.ucl_screen.specs.Results.{result_of_row}
-use Rattle.ucl_screen.specs.Script.{club_of, word_of_row}
-use Rattle.ucl_command.specs.declared.live.LiveArgs.{LiveArgs}
-use Rattle.ucl_io.specs.Lines.{begun_line, ended_lines}
-use Rattle.ucl_io.proofs.Cuts.{begun_append, begun_ended, ended_append, ended_line}
-use Rattle.ucl_runs.specs.InputLines.{last_lines, lines_of}
-use Rattle.ucl_json.specs.declared.title.Title.{Title}
-use Rattle.ucl_runs.specs.Titles.{asked_group, asked_order, asked_title, is_as_asked, is_asked_group, is_asked_order, is_same_order, title_by}
-use Rattle.ucl_runs.specs.Requests.{request_of}
-use Rattle.ucl_runs.specs.BadRows.{shown_text}
-use Rattle.ucl_runs.specs.Rows.{Row, Said, said_by_text, said_on}
-use Rattle.ucl_runs.specs.Stages.{Stage, Beginning, Naming, Open, Restoring, after_club, after_row, after_word, next_stage, opened, with_clubs, with_roster, with_words, word_said}
-use Rattle.ucl_runs.specs.Holding.{after_bytes, answers_to}
-use Rattle.ucl_runs.specs.LiveText.{Evening, after_lines, answer_at, answer_said, answers, live_text, next, start_of}
+use Rattle.ucl_runs.specs.Titles.{asked_order, is_asked_group, is_asked_order}
+use Rattle.ucl_runs.specs.Stages.{with_clubs}
 use Rattle.ucl_runs.proofs.Boards.{sequential}
 use Rattle.ucl_runs.proofs.OneByOne.{after-append, after-last, answers-append, answers-last, text-append}
-use Rattle.ucl_json.specs.declared.moment.Moment.{Moment}
-use Rattle.ucl_runs.specs.Answered.{IsMoment}
-use Rattle.ucl_runs.specs.Follow.{club_row, group_row, is_plain_title, resuming_rows}
-use Rattle.ucl_runs.specs.Resuming.{ResumedRowsOpenTheBoard, opened_at}
+use Rattle.ucl_runs.specs.Follow.{resuming_rows}
+use Rattle.ucl_runs.specs.Resuming.{ResumedRowsOpenTheBoard}
 use Rattle.ucl_runs.proofs.Answered.{board-back, both, no-bad}
 use Rattle.ucl_runs.proofs.RowTexts.{SaysClub, SaysRow, SaysTitle, SaysWord, club_row_says, group_row_says, word_row_says}
 

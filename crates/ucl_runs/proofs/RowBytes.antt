@@ -1,19 +1,16 @@
 -- What single bytes do to the reading of a row.
-use Rattle.std.proofs.Common.{◌≡◌, ℕ, ◌+◌, ◌<◌, ◌≤◌, ◌==◌, ◌||◌, true, false, List, [], ◌∷◌, ◌++◌, length, drop, get_or, Some, refl, ◌∙◌, ◌⊎◌, inl, inr, arith}
-use Rattle.std.proofs.lemmas.Bool.Decides.{nat_tests}
-use Rattle.std.proofs.lemmas.Bool.{cases_Bool}
-use Rattle.std.proofs.lemmas.List.{drop_more}
-use Rattle.csv.specs.Machine.{Read, after_end, ends_at_end, in_field, next_record, step}
-use Rattle.csv.specs.Reading.{default_config, is_bom, strip_bom}
-use Rattle.csv.specs.declared.parser.Terminator.TheVariants as term
-use Rattle.csv.specs.declared.parser.State.{State}
-use Rattle.csv.specs.declared.parser.State.TheVariants as st
+use Rattle.ucl_runs.proofs.Common.{EndRecord, InField, List, Read, RowAction, RowState, Some, StartField, State, [], after_action}
+use Rattle.ucl_runs.proofs.Common.{after_end, arith, begins_row, cases_Bool, csv_state_of, default_config, drop, drop_more, ends_at_end}
+use Rattle.ucl_runs.proofs.Common.{false, get_or, in_field, inl, inr, length, made, nat_tests, refl, step, true, ℕ, ◌++◌, ◌+◌, ◌<◌, ◌==◌}
+use Rattle.ucl_runs.proofs.Common.{◌∙◌, ◌∷◌, ◌≡◌, ◌≤◌, ◌⊎◌}
+use Rattle.std.proofs.Common.{◌||◌}
+use Rattle.csv.specs.Machine.{next_record}
+use Rattle.csv.specs.Reading.{is_bom, strip_bom}
 use Rattle.ucl_screen.specs.Rows.{Fields as Row}
-use Rattle.ucl_runs.specs.declared.row.RowState.{RowState}
-use Rattle.ucl_runs.specs.declared.row.RowState.TheVariants.{StartField, InField, InQuoted, AfterQuote}
-use Rattle.ucl_runs.specs.declared.row.RowAction.{RowAction}
-use Rattle.ucl_runs.specs.declared.row.RowAction.TheVariants.{Copy, Skip, EndField, EndRecord}
-use Rattle.ucl_runs.specs.Reading.{after_action, begins_row, made, csv_state_of}
+use Rattle.ucl_runs.specs.declared.row.RowState.TheVariants.{InQuoted, AfterQuote}
+use Rattle.ucl_runs.specs.declared.row.RowAction.TheVariants.{Copy, Skip, EndField}
+use Rattle.csv.specs.declared.parser.Terminator.TheVariants as term
+use Rattle.csv.specs.declared.parser.State.TheVariants as st
 
 pub by-action : (s : State) (d : RowAction) (b : ℕ) (fields : Row) (field rest : List ℕ) → step default_config s b ≡ made b d
     → next_record default_config s fields field (b ∷ rest) ≡ after_action d b fields field rest

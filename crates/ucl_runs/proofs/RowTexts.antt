@@ -1,40 +1,27 @@
 -- The rows by which an evening goes on, byte by byte.
-use Rattle.std.proofs.Common.{◌≡◌, ◌∙◌, ℕ, zero, suc, ◌+◌, ◌-◌, ◌*◌, ◌/◌, ◌%◌, ◌^◌, ◌<◌, ◌≤◌, ◌&&◌, ◌==◌, true, false, refl, sym, ap, subst, arith, List, [], ◌∷◌, ◌++◌, codes}
-use Rattle.std.proofs.Common.{length, get_or, Some, le-leb, leb-true, ne_eqb, inl, inr, append_assoc, length-append}
-use Rattle.std.specs.Prelude.{decimal, flat_map, nat_le, nat_lt, not}
-use Rattle.std.specs.Fmt.{digit_glyph}
-use Rattle.std.specs.List.{list_all}
-use Rattle.std.specs.Str.{bytes_eq}
-use Rattle.std.proofs.lemmas.Bool.{cases_Bool, eqb-true}
-use Rattle.std.proofs.lemmas.Bool.Decides.{nat_tests}
-use Rattle.std.proofs.lemmas.Fmt.{decimal_by_steps, decimal_digit, decimal_nonempty, length-decimal-le}
+use Rattle.ucl_runs.proofs.Common.{AreJoining, AwayInTie, EndsRow, FourFields, HasNoFeed, IsBehindEnds, IsClub, IsFieldBefore, IsGroup}
+use Rattle.ucl_runs.proofs.Common.{List, NamedClub, Profile, Row, Some, Title, Uefa, [], ap, append_assoc, arith, bytes_eq, cases_Bool}
+use Rattle.ucl_runs.proofs.Common.{club_in, club_of, club_row, codes, decimal, default_config, digit_glyph, eqb-true, false, fits, flat_map}
+use Rattle.ucl_runs.proofs.Common.{get_or, group_row, hex_digits, in_quotes, inl, inr, is_joining, is_name, is_printed, le-leb, leb-true}
+use Rattle.ucl_runs.proofs.Common.{length, length-append, length-decimal-le, list_all, nat_le, nat_lt, nat_tests, ne_eqb, number, of_rows}
+use Rattle.ucl_runs.proofs.Common.{profile_name, profile_named, records, refl, said_by_text, subst, suc, sym, title_by, true, word_line}
+use Rattle.ucl_runs.proofs.Common.{word_of_row, zero, ℕ, ◌%◌, ◌&&◌, ◌*◌, ◌++◌, ◌+◌, ◌-◌, ◌/◌, ◌<◌, ◌==◌, ◌^◌, ◌∙◌, ◌∷◌, ◌≡◌, ◌≤◌}
+use Rattle.std.specs.Prelude.{not}
+use Rattle.std.proofs.lemmas.Fmt.{decimal_by_steps, decimal_digit, decimal_nonempty}
 use Rattle.std.proofs.lemmas.Slice.Eq.{bytes_eq-Decides}
 use Rattle.csv.proofs.RoundTrip.{quoted-run}
 use Rattle.csv.specs.Machine.{next_record}
-use Rattle.csv.specs.Reading.{default_config, records, strip_bom}
+use Rattle.csv.specs.Reading.{strip_bom}
 use Rattle.csv.specs.Writing.{default_writer, escaped}
-use Rattle.csv.specs.declared.parser.State.TheVariants as st
-use Rattle.ucl_order.specs.Roster.{IsClub, NamedClub, club_in, is_club, is_name, is_printed}
-use Rattle.ucl_screen.specs.Numbers.{hex_digits}
-use Rattle.ucl_runs.specs.Lines.{word_line}
-use Rattle.ucl_screen.specs.Numbers.{digits_after, is_digit, number}
-use Rattle.ucl_screen.specs.Rows.{FourFields}
-use Rattle.ucl_screen.specs.Script.{club_of, word_of_row}
+use Rattle.ucl_order.specs.Roster.{is_club}
+use Rattle.ucl_screen.specs.Numbers.{digits_after, is_digit}
 use Rattle.ucl_screen.proofs.Digits.{number-is}
-use Rattle.ucl_io.specs.Lines.{HasNoFeed}
-use Rattle.ucl_runs.specs.Reading.{AreJoining, EndsRow, IsBehindEnds, IsFieldBefore, is_joining}
-use Rattle.ucl_runs.specs.Rows.{Row, fits, of_rows, row_by_text, said_by_text}
+use Rattle.ucl_runs.specs.Rows.{row_by_text}
 use Rattle.ucl_runs.proofs.PlainRows.{at-ends, before-comma, plain_row}
 use Rattle.ucl_runs.proofs.RowBytes.{between-same, skip-one}
 use Rattle.ucl_runs.proofs.WordDigits.{low, word-digits}
-use Rattle.ucl_order.specs.declared.profile.Profile.{Profile}
-use Rattle.ucl_order.specs.declared.profile.Profile.TheVariants.{Uefa, AwayInTie}
-use Rattle.ucl_order.specs.Names.{profile_name, profile_named}
-use Rattle.ucl_screen.specs.Screen.{IsGroup}
-use Rattle.ucl_json.specs.declared.title.Title.{Title}
-use Rattle.ucl_runs.specs.Titles.{title_by}
-use Rattle.ucl_runs.specs.Follow.{club_row, group_row, in_quotes}
 use Rattle.ucl_runs.proofs.Answered.{both, long, word-back}
+use Rattle.csv.specs.declared.parser.State.TheVariants as st
 
 -- ---- bytes that join a field
 

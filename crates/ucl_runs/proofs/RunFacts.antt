@@ -1,16 +1,14 @@
 -- The text of an input that was accepted.
-use Rattle.std.proofs.Common.{◌≡◌, ℕ, List, Option, Some, None}
-use Rattle.std.specs.Prelude.{Bool, Result, Ok, Err, IfSome, IfErr, OnOk}
-use Rattle.ucl_order.specs.declared.profile.Profile.{Profile}
-use Rattle.ucl_screen.specs.Script.{Script, WrittenSheet}
-use Rattle.ucl_screen.specs.Parsing.{MeansNight, MeansSheet}
-use Rattle.ucl_screen.specs.Screen.{screen_text}
-use Rattle.ucl_runs.specs.Feed.{IsFed, feed_text}
-use Rattle.ucl_runs.specs.Show.{IsShown}
-use Rattle.ucl_runs.specs.declared.fault.RunFault.{RunFault}
-use Rattle.ucl_runs.specs.declared.fault.RunFault.TheVariants.{Input, OutOfMemory, WriteFailed, NotOnDuty, NoThread, TooManyReporters, Strangers}
+use Rattle.ucl_runs.proofs.Common.{Err, IfErr, IfSome, Input, IsFed, IsShown, List, MeansNight, NoThread, None, NotOnDuty, Ok, OnOk, Option}
+use Rattle.ucl_runs.proofs.Common.{OutOfMemory, Profile, Result, RunFault, Script, Some, Strangers, TextHas, TooManyReporters, screen_text}
+use Rattle.ucl_runs.proofs.Common.{ℕ, ◌≡◌}
+use Rattle.std.specs.Prelude.{Bool}
+use Rattle.ucl_screen.specs.Script.{WrittenSheet}
+use Rattle.ucl_screen.specs.Parsing.{MeansSheet}
+use Rattle.ucl_runs.specs.Feed.{feed_text}
+use Rattle.ucl_runs.specs.declared.fault.RunFault.TheVariants.{WriteFailed}
 use Rattle.ucl_io.specs.Stream.{WroteFirst}
-use Rattle.ucl_runs.specs.Run.{IfWriteFailed, IsCutShort, TextHas}
+use Rattle.ucl_runs.specs.Run.{IfWriteFailed, IsCutShort}
 
 -- a script's text, and a sheet's screen
 pub fed : (known : Option (List ℕ)) (night : Script) (text : List ℕ) → IfSome known (λ bytes. MeansNight bytes (Ok night)) → text ≡ feed_text night.events → IfSome known (λ bytes. IsFed bytes text)

@@ -1,45 +1,22 @@
 -- An evening in JSON says what it says as text.
-use Rattle.std.proofs.Common.{◌≡◌, ◌∙◌, ℕ, ◌+◌, ◌==◌, Bool, true, false, List, [], ◌∷◌, ◌++◌, length, Option, Some, None, refl, sym, ap, inl, inr, append_assoc, append-nil, arith}
-use Rattle.std.specs.Prelude.{⊤, ◌||◌, if◌then◌else◌, Result, Ok, Err}
-use Rattle.std.specs.Result.{is_ok}
-use Rattle.std.proofs.lemmas.Bool.{cases_Bool}
-use Rattle.std.proofs.lemmas.Bool.Decides.{nat_tests}
+use Rattle.ucl_runs.proofs.Common.{Accepted, All-append, All-cons, All-head, All-nil, AreWords, Bad, Beginning, Bool, Data, Err, Evening}
+use Rattle.ucl_runs.proofs.Common.{Event, IsAttempt, Json, List, LiveArgs, Matches, NamedClub, Naming, NightEvent, None, Nothing, Ok, Open}
+use Rattle.ucl_runs.proofs.Common.{Option, Other, OtherGroup, RaisesVersion, Refusal, Refused, Request, Restoring, Result, Row, Said}
+use Rattle.ucl_runs.proofs.Common.{Screen, Some, Stage, Text, Title, Words, [], after_beginning, after_club, after_row, after_title}
+use Rattle.ucl_runs.proofs.Common.{after_word, answer_at, answer_of, answer_said, ap, append-nil, append_assoc, arith, attempt_of, bad_line}
+use Rattle.ucl_runs.proofs.Common.{bad_row_value, bad_slot, board_of, cases_Bool, club_said, edition_screen_value, false, field_name}
+use Rattle.ucl_runs.proofs.Common.{game_at, if◌then◌else◌, inl, inr, is_as_asked, is_group_row, is_ok, is_word_row, json_line, length}
+use Rattle.ucl_runs.proofs.Common.{line_of_reply, lines_of, matches_value, nat_tests, next, next_board, next_stage, next_title, no_refusal}
+use Rattle.ucl_runs.proofs.Common.{one_line, opened, read_words, refl, refusal_of, reply_answer, reply_of, reply_value, request_of}
+use Rattle.ucl_runs.proofs.Common.{restored, said_on, screen_after, screen_answer, screen_text, shown_text, start_of, sym, title_said, true}
+use Rattle.ucl_runs.proofs.Common.{version_of, with_roster, with_words, word_lines, word_said, words_value, ℕ, ⊤, ◌++◌, ◌+◌, ◌==◌, ◌>>=◌}
+use Rattle.ucl_runs.proofs.Common.{◌||◌, ◌∙◌, ◌∷◌, ◌≡◌}
 use Rattle.std.proofs.lemmas.Grind.{flat_map-append}
-use Rattle.std.proofs.lemmas.List.Elements.{All-append, All-cons, All-head, All-nil}
-use Rattle.serde_json.specs.Data.{Data}
-use Rattle.ucl_word.specs.declared.event.Accepted.{Accepted}
-use Rattle.ucl_word.specs.declared.refusal.Refusal.{Refusal}
-use Rattle.ucl_word.specs.Rules.{refusal_of, reply_of}
-use Rattle.ucl_board.specs.Words.{AreWords, game_at, version_of}
-use Rattle.ucl_board.specs.History.{IsAttempt, board_of}
-use Rattle.ucl_board.proofs.Repeats.{no_refusal}
-use Rattle.ucl_order.specs.Roster.{NamedClub, bad_slot}
-use Rattle.ucl_runs.specs.Feed.{line_of_reply, word_lines}
-use Rattle.ucl_screen.specs.Events.{◌>>=◌, attempt_of}
 use Rattle.ucl_screen.specs.Matches.{matches_text}
-use Rattle.ucl_screen.specs.Screen.{screen_text}
-use Rattle.ucl_screen.specs.WordsRead.{read_words}
-use Rattle.ucl_screen.specs.declared.night.NightEvent.{NightEvent}
-use Rattle.ucl_json.specs.Lines.{IsOneLine, json_line}
-use Rattle.ucl_json.specs.declared.title.Title.{Title}
-use Rattle.ucl_json.specs.Values.{bad_row_value, edition_screen_value, matches_value, reply_value, words_value}
-use Rattle.ucl_json.proofs.OneLine.{one_line}
-use Rattle.ucl_command.specs.declared.options.Format.TheVariants.{Json, Text}
-use Rattle.ucl_command.specs.declared.live.LiveArgs.{LiveArgs}
-use Rattle.ucl_runs.specs.declared.live_fault.BeginningFault.TheVariants.{OtherGroup}
-use Rattle.ucl_runs.specs.Titles.{is_as_asked, is_group_row, title_said}
-use Rattle.ucl_runs.specs.declared.request.Request.{Request}
-use Rattle.ucl_runs.specs.declared.request.Request.TheVariants.{Bad, Event, Screen, Words, Matches}
-use Rattle.ucl_runs.specs.InputLines.{lines_of}
+use Rattle.ucl_json.specs.Lines.{IsOneLine}
 use Rattle.ucl_runs.specs.Members.{text_told, texts_told}
-use Rattle.ucl_runs.specs.BadRows.{field_name, shown_text}
-use Rattle.ucl_runs.specs.Requests.{request_of}
-use Rattle.ucl_runs.specs.Rows.{Said, Nothing, Other, Row, said_on}
-use Rattle.ucl_runs.specs.Stages.{Stage, Beginning, Naming, Restoring, Open, Refused}
-use Rattle.ucl_runs.specs.Stages.{after_beginning, after_club, after_row, after_title, after_word}
-use Rattle.ucl_runs.specs.Stages.{club_said, is_word_row, next_board, next_stage, opened, restored, with_roster, with_words, word_said}
-use Rattle.ucl_runs.specs.LiveText.{Evening, answer_at, answer_of, answer_said, answers, bad_line, next, reply_answer, screen_after, next_title, screen_answer, start_of}
-use Rattle.ucl_runs.specs.LiveLaws.{AreLinesSaying, EveningsSayTheSame, RaisesVersion, as_text}
+use Rattle.ucl_runs.specs.LiveText.{answers}
+use Rattle.ucl_runs.specs.LiveLaws.{AreLinesSaying, EveningsSayTheSame, as_text}
 use Rattle.ucl_runs.proofs.Boards.{AreAttempts, asked}
 use Rattle.ucl_runs.proofs.GoodBoards.{fresh-good, good-after, read-good, version-after}
 use Rattle.ucl_runs.proofs.LiveTold.{same}

@@ -1,13 +1,8 @@
 -- An evening whose board is not open has answered nothing, and one that is refused stays so.
-use Rattle.std.proofs.Common.{◌≡◌, ℕ, Bool, true, false, List, [], ◌∷◌, Some, refl, ap, ◌∙◌, inl, inr}
-use Rattle.std.proofs.lemmas.Bool.{cases_Bool}
-use Rattle.ucl_command.specs.declared.live.LiveArgs.{LiveArgs}
-use Rattle.ucl_runs.specs.declared.live_fault.BeginningFault.{BeginningFault}
-use Rattle.ucl_runs.specs.BadRows.{shown_text}
-use Rattle.ucl_runs.specs.Requests.{request_of}
-use Rattle.ucl_runs.specs.Rows.{Said, Nothing, Other, Row, said_on}
-use Rattle.ucl_runs.specs.Stages.{Stage, Beginning, Naming, Restoring, Open, Refused, after_row, missing, next_stage, opened}
-use Rattle.ucl_runs.specs.LiveText.{Evening, after_lines, answer_said, answer_at, answers, next}
+use Rattle.ucl_runs.proofs.Common.{Beginning, BeginningFault, Bool, Evening, List, LiveArgs, Naming, Nothing, Open, Other, Refused}
+use Rattle.ucl_runs.proofs.Common.{Restoring, Row, Said, Some, Stage, [], after_row, answer_at, answer_said, ap, cases_Bool, false, inl}
+use Rattle.ucl_runs.proofs.Common.{inr, missing, next, next_stage, opened, refl, request_of, said_on, shown_text, true, ℕ, ◌∙◌, ◌∷◌, ◌≡◌}
+use Rattle.ucl_runs.specs.LiveText.{after_lines, answers}
 
 abbrev pub is_open : Stage → Bool
 is_open (Open clubs board) = true

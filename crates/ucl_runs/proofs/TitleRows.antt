@@ -1,12 +1,6 @@
 -- Titles, which no row but the first changes.
-use Rattle.std.proofs.Common.{◌≡◌, ◌∙◌, refl, ap, [], ◌∷◌, inl, inr}
-use Rattle.std.specs.Prelude.{◌||◌}
-use Rattle.std.proofs.lemmas.Bool.{cases_Bool}
-use Rattle.ucl_json.specs.declared.title.Title.{Title}
-use Rattle.ucl_command.specs.declared.live.LiveArgs.{LiveArgs}
-use Rattle.ucl_runs.specs.Rows.{Said}
-use Rattle.ucl_runs.specs.Stages.{Stage, Beginning, Naming, Restoring, Open, Refused, is_word_row, opened}
-use Rattle.ucl_runs.specs.LiveText.{next_title}
+use Rattle.ucl_runs.proofs.Common.{Beginning, LiveArgs, Naming, Open, Refused, Restoring, Said, Stage, Title, [], ap, cases_Bool, inl, inr}
+use Rattle.ucl_runs.proofs.Common.{is_word_row, next_title, opened, refl, ◌||◌, ◌∙◌, ◌∷◌, ◌≡◌}
 
 -- a row that opens the board says no title
 opened-title : (options : LiveArgs) (title : Title) (s : Stage) (r : Said) → next_title title (opened options s r) r ≡ next_title title s r

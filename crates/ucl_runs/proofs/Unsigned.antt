@@ -1,39 +1,28 @@
 -- What a screen shows does not tell by whom the events were entered.
-use Rattle.std.proofs.Common.{◌≡◌, ℕ, zero, suc, ◌+◌, ◌-◌, ◌==◌, Bool, true, false, cond, if◌then◌else◌, List, [], ◌∷◌, ◌++◌, length, map, filter, take, flat_map}
-use Rattle.std.proofs.Common.{count_by, Option, Some, None, All, ◌⊎◌, ⊎_elim, refl, sym, ap, ◌∙◌, subst, arith}
-use Rattle.std.specs.Prelude.{sum_by, slice_get, option_map}
-use Rattle.std.specs.List.{fold}
-use Rattle.std.specs.Result.{is_ok}
-use Rattle.std.proofs.lemmas.List.Elements.{All-nil, All-head, All-tail, All-push}
+use Rattle.ucl_runs.proofs.Common.{All-head, All-nil, All-push, All-tail, Away, Bool, Disallow, EachMatchHasOneReporter, Entry, EventCall}
+use Rattle.ucl_runs.proofs.Common.{Finished, FullTime, Goal, Home, InPlay, IsMerge, IsOnDuty, KickOff, Kind, List, MatchEntry, MatchRecord}
+use Rattle.ucl_runs.proofs.Common.{NamedClub, NightEvent, None, Option, Profile, Red, Refusal, Reopen, Scheduled, SecondYellow, Some}
+use Rattle.ucl_runs.proofs.Common.{Yellow, [], accepted_of, after_attempt, answer, ap, arith, attempt_by, attempt_of, cond, entries_of}
+use Rattle.ucl_runs.proofs.Common.{entry_of, false, filter, fold, followed_by, game_at, in_play, is_in_play, is_ok, length, map}
+use Rattle.ucl_runs.proofs.Common.{match_numbers, number_of_two, option_map, record_at, record_back, refl, reply_of, row_line}
+use Rattle.ucl_runs.proofs.Common.{sequential_reply, subst, suc, sym, take, true, version_of, word_of, zero, ℕ, ⊎_elim, ◌++◌, ◌+◌, ◌-◌}
+use Rattle.ucl_runs.proofs.Common.{◌==◌, ◌∙◌, ◌∷◌, ◌≡◌, ◌⊎◌}
+use Rattle.std.proofs.Common.{if◌then◌else◌, flat_map}
+use Rattle.std.proofs.Common.{count_by, All}
+use Rattle.std.specs.Prelude.{sum_by, slice_get}
 use Rattle.std.proofs.lemmas.List.Sums.{sum_by-cons}
 use mathlib.Core.Path.{fun_ext}
-use Rattle.ucl_word.specs.declared.record.MatchRecord.{MatchRecord}
-use Rattle.ucl_word.specs.declared.record.State.TheVariants.{Scheduled, InPlay, Finished}
-use Rattle.ucl_word.specs.declared.event.Side.TheVariants.{Home, Away}
-use Rattle.ucl_word.specs.declared.event.Kind.{Kind}
-use Rattle.ucl_word.specs.declared.event.Kind.TheVariants.{KickOff, Goal, Disallow, Yellow, SecondYellow, Red, FullTime, Reopen}
-use Rattle.ucl_word.specs.declared.event.EventCall.{EventCall}
-use Rattle.ucl_word.specs.declared.refusal.Refusal.{Refusal}
 use Rattle.ucl_word.specs.Record.{IsReporter}
-use Rattle.ucl_word.specs.Layout.{word_of, record_at}
-use Rattle.ucl_word.specs.Rules.{refusal_of, answer, reply_of, is_kick_off, is_full_time, is_reopen, is_in_play}
-use Rattle.ucl_word.specs.Counts.{MatchEntry, IsLegalMatch, count, counted_match, is_goal, is_disallow, is_yellow, is_second_yellow, is_red}
-use Rattle.ucl_word.proofs.Words.{record_back}
+use Rattle.ucl_word.specs.Rules.{refusal_of, is_kick_off, is_full_time, is_reopen}
+use Rattle.ucl_word.specs.Counts.{IsLegalMatch, count, counted_match, is_goal, is_disallow, is_yellow, is_second_yellow, is_red}
 use Rattle.ucl_word.proofs.EntryCounts.{legal_valid}
-use Rattle.ucl_board.specs.declared.entry.Entry.{Entry}
-use Rattle.ucl_board.specs.Fixtures.{IsMatch, match_numbers}
-use Rattle.ucl_board.specs.Words.{version_of, game_at}
-use Rattle.ucl_board.specs.History.{of_match, entries_of, match_after, entry_of, after_attempt, accepted_of, board_of, followed_by, sequential_reply}
+use Rattle.ucl_board.specs.Fixtures.{IsMatch}
+use Rattle.ucl_board.specs.History.{of_match, match_after, board_of}
 use Rattle.ucl_board.proofs.Histories.{legal_match, match_valid, word_after}
-use Rattle.ucl_order.specs.declared.profile.Profile.{Profile}
-use Rattle.ucl_order.specs.Roster.{NamedClub}
 use Rattle.ucl_order.specs.Matches.{score_of}
 use Rattle.ucl_order.proofs.Scores.{same_rows}
-use Rattle.ucl_screen.specs.declared.night.NightEvent.{NightEvent}
 use Rattle.ucl_screen.specs.Lines.{header}
-use Rattle.ucl_screen.specs.Screen.{columns, in_play, row_line, screen_text}
-use Rattle.ucl_screen.specs.Events.{attempt_of}
-use Rattle.ucl_runs.specs.Nights.{EachMatchHasOneReporter, IsMerge, IsOnDuty, attempt_by, number_of_two}
+use Rattle.ucl_screen.specs.Screen.{columns, screen_text}
 use Rattle.ucl_runs.proofs.Merges.{entries_agree}
 
 -- The record of a match without its reporter. --

@@ -1,7 +1,4 @@
-use Rattle.std.proofs.lemmas.Result.{err_from_is_err_and}
-use Rattle.ucl_io.specs.Calls.{device}
-use Rattle.ucl_io.specs.Pumping.{seen}
-use Rattle.ucl_io.proofs.Calls.{logs-as}
+use Rattle.ucl_runs.proofs.Common.{device, err_from_is_err_and, logs-as, seen}
 use Rattle.ucl_runs.proofs.LiveRuns.{answered_at, run_complete, run_fails, run_text}
 use Rattle.ucl_runs.proofs.live.live_run.Goals as goal
 

@@ -1,11 +1,9 @@
-use Rattle.std.proofs.Common.{ℕ, List, [], ◌∷◌, ◌++◌, refl, subst, sym, ap, All, true≢false, ◌∙◌}
-use Rattle.std.specs.Prelude.{option_map, string_bytes, take}
-use Rattle.std.proofs.lemmas.Result.{err_from_is_err_and}
-use mathlib.Core.List.{IsPrefix}
-use Rattle.ucl_board.proofs.Beginnings.{begins_take, begins_through}
-use Rattle.ucl_live_board.specs.Passes.{PassView, kept_pass, split_pass}
-use Rattle.ucl_runs.specs.Nights.{HasShown, IsOnDuty, night_history, number_of_two}
-use Rattle.ucl_runs.specs.Styles.{styled}
+use Rattle.ucl_runs.proofs.Common.{HasShown, IsOnDuty, IsPrefix, List, PassView, [], ap, begins_take, begins_through, err_from_is_err_and}
+use Rattle.ucl_runs.proofs.Common.{number_of_two, option_map, refl, string_bytes, styled, subst, sym, ℕ, ◌++◌, ◌∙◌, ◌∷◌}
+use Rattle.std.proofs.Common.{All, true≢false}
+use Rattle.std.specs.Prelude.{take}
+use Rattle.ucl_live_board.specs.Passes.{kept_pass, split_pass}
+use Rattle.ucl_runs.specs.Nights.{night_history}
 use Rattle.ucl_runs.proofs.GateFacts.{reported_in_all}
 use Rattle.ucl_runs.proofs.MergedRows.{each_on_duty, merged_by_settlers}
 use Rattle.ucl_runs.proofs.Merges.{night_board_read}
