@@ -93,7 +93,8 @@ module _ (reporter : ℕ) (s h : List Entry) (on : IsPrefix s h) where
   reading_on {reading = reading} r = let longer = begins_length s h on in record {
     low = r.low;
     high = omega (arith, r.high);
-    snapshot = r.snapshot ∙ ap (λ (l : List Entry). record { board = board_of l; version = reading.version }) (sym (take_beginning s h _ on r.high));
+    snapshot = r.snapshot ∙ ap (λ (l : List Entry). record { board = board_of l; version = reading.version })
+        (sym (take_beginning s h _ on r.high));
   }
 
   pub at_on : (point : ℕ) (ask : Ask) (w : EventOutcome) → IsOutcomeAt reporter s point ask w → IsOutcomeAt reporter h point ask w
@@ -127,7 +128,8 @@ module _ (reporter : ℕ) (h : List Entry) where
       → GoThrough reporter h mid high more later → GoThrough reporter h low high (asks ++ more) (outcomes ++ later)
   unfolding GoThrough
   through_then low mid high [] more [] later g k = through_lower _ _ _ _ _ g k
-  through_then low mid high (ask ∷ asks) more (w ∷ outcomes) later g k = (g.0, g.1, g.2, through_then (past_point g.0 w) _ _ asks _ outcomes _ g.3 k)
+  through_then low mid high (ask ∷ asks) more (w ∷ outcomes) later g k =
+      (g.0, g.1, g.2, through_then (past_point g.0 w) _ _ asks _ outcomes _ g.3 k)
   through_then _ _ _ _ _ _ _ g k = absurd g
 
   -- as many went so as were asked for, and what was entered is what was accepted

@@ -1,5 +1,6 @@
 -- The answers to lines, one after the other.
-use Rattle.std.proofs.Common.{◌≡◌, ℕ, ◌+◌, ◌-◌, ◌<◌, List, [], ◌∷◌, ◌++◌, length, refl, ap, ◌∙◌, append_assoc, append-nil, arith, length-append}
+use Rattle.std.proofs.Common.{◌≡◌, ℕ, ◌+◌, ◌-◌, ◌<◌, List, [], ◌∷◌, ◌++◌, length, refl, ap, ◌∙◌, append_assoc, append-nil, arith}
+use Rattle.std.proofs.Common.{length-append}
 use Rattle.std.specs.Prelude.{IfOk, Result, Ok, Err}
 use Rattle.ucl_word.specs.declared.event.Accepted.{Accepted}
 use Rattle.ucl_word.specs.declared.refusal.Refusal.{Refusal}
@@ -16,7 +17,8 @@ use Rattle.ucl_evenings.specs.declared.shape.Shape.{Shape}
 use Rattle.ucl_evenings.specs.declared.input.Input.{Input}
 use Rattle.ucl_evenings.specs.declared.input.Input.TheVariants.{Event, Matches}
 use Rattle.ucl_evenings.specs.Inputs.{input_on}
-use Rattle.ucl_evenings.specs.Answering.{ReplyStyle, answers_in, asks_in, asks_of, entered_answer, event_outcome, input_answer, outcome_answer}
+use Rattle.ucl_evenings.specs.Answering.{ReplyStyle, answers_in, asks_in, asks_of, entered_answer, event_outcome, input_answer}
+use Rattle.ucl_evenings.specs.Answering.{outcome_answer}
 use Rattle.ucl_evenings.specs.Answering.{outcomes_later, refused_answer}
 use Rattle.ucl_evenings.specs.Reporting.{Ask, EventOutcome, Look, Report, reports_in}
 
@@ -32,7 +34,8 @@ reports_both (Report call ∷ a) b = let n = reports_both a b in omega arith
 reports_both (Look ∷ a) b = reports_both a b
 
 -- what a line says takes what it asks for from the first outcomes
-one_line : (s : ReplyStyle) (row n : ℕ) (shown : List ℕ) (t : Input) (outcomes later : List EventOutcome) → length outcomes ≡ length (asks_of t) + n
+one_line : (s : ReplyStyle) (row n : ℕ) (shown : List ℕ) (t : Input) (outcomes later : List EventOutcome)
+    → length outcomes ≡ length (asks_of t) + n
     → (input_answer s row shown t (outcomes ++ later) ≡ input_answer s row shown t outcomes)
     × (outcomes_later t (outcomes ++ later) ≡ outcomes_later t outcomes ++ later) × (length (outcomes_later t outcomes) ≡ n)
 one_line s row n shown (Event call) [] later h = absurd (omega arith)
@@ -75,6 +78,7 @@ module _ (row : ℕ) (clubs : List NamedClub) (event : NightEvent) (reading : Re
 
   pub reply_is : (shape : Shape) (reply : Result Accepted Refusal) → IfOk reply (λ _. 0 < reading.version)
       → reply_answer shape.format shape.title row clubs event before reply reading.board
-      ≡ outcome_answer (record { shape = shape; clubs = clubs; reporter = event.reporter }) row (Report event.call) (event_outcome reply reading)
+      ≡ outcome_answer (record { shape = shape; clubs = clubs; reporter = event.reporter }) row (Report event.call)
+      (event_outcome reply reading)
   reply_is shape (Ok accepted) some = entered_is shape.format shape.title accepted some
   reply_is shape (Err refusal) some = refused_is shape.format shape.title refusal

@@ -40,7 +40,8 @@ turns_line is outcomes rows reports rang e = (
 
 -- one that asks for nothing
 pub nothing_asked : {s : ReplyStyle} {k : PassView} {a r : ℕ → Type 0} {row : ℕ} {line : List ℕ} {t : Input} → input_on row line ≡ t
-    → asks_of t ≡ [] → IsSound k → {text : List ℕ} → text ≡ input_answer s row (shown_text line) t [] → TurnsLines s k k a a r r row (line ∷ []) text
+    → asks_of t ≡ [] → IsSound k → {text : List ℕ} → text ≡ input_answer s row (shown_text line) t []
+    → TurnsLines s k k a a r r row (line ∷ []) text
 nothing_asked {a = a} is none sound e =
     turns_line is [] (rw none (rows_none sound)) (rw none (λ n h. subst a (omega arith) h)) (rang_none refl) e
 

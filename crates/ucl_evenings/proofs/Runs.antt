@@ -53,7 +53,9 @@ module _ {M K : Type 0} (board_of : M → K) (d : Known M) where
       × HasNoMemory (d.style m) (d.view m) (d.view n) (d.reports m) (d.reports n) (d.rung m) (d.rung n) row begun f
 
   abbrev Rules : LineRules M RunFault
-  Rules = rules_of (λ m row line n text. Turns m n row (line ∷ []) text) Stops (λ m row begun n text. Turns m n row (last_lines begun) text) StopsAtEnd
+  Rules =
+      rules_of (λ m row line n text. Turns m n row (line ∷ []) text) Stops
+      (λ m row begun n text. Turns m n row (last_lines begun) text) StopsAtEnd
 
   abbrev AreRun : ℕ → M → List (Turn M) → Type 0
   AreRun row m turns = AreTurns Rules.Answers row m turns
@@ -174,7 +176,8 @@ module _ {M K : Type 0} (board_of : M → K) (d : Known M) where
             → RunEnds (d.style m) before after result p.bytes (lines_in p.turns) (first ++ []) → Came result
         came_all result is how = came result [] (rw is there.board) (turns_all is) how
 
-        turns_more : {lines : List (List ℕ)} {text : List ℕ} {later : List EventOutcome} → By (d.style z) z n (1 + length p.turns) lines text later
+        turns_more : {lines : List (List ℕ)} {text : List ℕ} {later : List EventOutcome}
+            → By (d.style z) z n (1 + length p.turns) lines text later
             → By (d.style m) m n 1 (lines_in p.turns ++ lines) (text_in p.turns ++ text) (first ++ later)
         turns_more y = by_then _ (rw turns_count refl) there.by (rw there.style at y)
 
@@ -260,7 +263,12 @@ module _ {M K : Type 0} (board_of : M → K) (d : Known M) where
           let e = p.ends.1 in
           let y = e.1.last in
           let by = turns_more p y.2.1 in
-          came p _ y.2.0 (y.0 ∙ (there p).board) by (record { ended = e.1.ended; all = whole_lines p e.1.all; answered = rw by.text_is at e.2 })
+          came p _ y.2.0 (y.0 ∙ (there p).board) by (record {
+            ended = e.1.ended;
+            all = whole_lines p e.1.all;
+            answered = rw by.text_is at
+                e.2;
+          })
 
       ended_badly : (f : PumpFault RunFault) → Run (Err f) → Came (Err (fault_of f))
       ended_badly (ReadFailed count) p = let e = p.ends.1 in came_all p _ e.machine (ends_after p e, p.ends.0)

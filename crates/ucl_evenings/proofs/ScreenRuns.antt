@@ -1,5 +1,6 @@
 -- What a screen's run comes to.
-use Rattle.std.proofs.Common.{◌≡◌, inl, inr, ℕ, ◌+◌, ◌<◌, ◌≤◌, Bool, true, false, List, [], ◌∷◌, ◌++◌, Option, Some, None, ap, length, refl, arith}
+use Rattle.std.proofs.Common.{◌≡◌, inl, inr, ℕ, ◌+◌, ◌<◌, ◌≤◌, Bool, true, false, List, [], ◌∷◌, ◌++◌, Option, Some, None, ap, length, refl}
+use Rattle.std.proofs.Common.{arith}
 use Rattle.std.specs.Prelude.{⊤, Result, Ok, Err, IfErr, OnOk, cond, not}
 use Rattle.std.proofs.lemmas.Bool.{cases_lt}
 use Rattle.ucl_board.specs.declared.reading.Reading.{Reading}
@@ -9,7 +10,8 @@ use Rattle.ucl_runs.specs.declared.fault.RunFault.{RunFault}
 use Rattle.ucl_runs.specs.declared.fault.RunFault.TheVariants.{OutOfMemory, WriteFailed}
 use Rattle.ucl_live_board.specs.Passes.{PassView, Continues, SharedReading}
 use Rattle.ucl_evenings.specs.declared.shape.Shape.{Shape}
-use Rattle.ucl_evenings.specs.Showing.{AreFew, EndsWithLatest, FailsToShowReading, HasRisen, HasShownReading, Screening, ShowsSince, SoFar, ends_by}
+use Rattle.ucl_evenings.specs.Showing.{AreFew, EndsWithLatest, FailsToShowReading, HasRisen, HasShownReading, Screening, ShowsSince, SoFar}
+use Rattle.ucl_evenings.specs.Showing.{ends_by}
 use Rattle.ucl_evenings.proofs.ShownScreens.{ends_same, risen, risen_more, same_text, so_far_more, so_far_on, stopped_more}
 
 -- a reading was shown, or its version was shown before
@@ -22,7 +24,8 @@ module _ {options : Shape} {clubs : List NamedClub} {k m z : PassView} {s : Scre
     pub risen2 : HasRisen k z versions2
     pub latest : EndsWithLatest least z versions2
 
-  pub after_reading : {t : Screening} {new2 : Option (List ℕ)} → (s.next ≤ reading.version → HasShownReading options clubs reading s t new new2)
+  pub after_reading : {t : Screening} {new2 : Option (List ℕ)}
+      → (s.next ≤ reading.version → HasShownReading options clubs reading s t new new2)
       → (reading.version < s.next → (t ≡ s) × (new2 ≡ new)) → AfterReading t new2
   after_reading shown kept = elim (cases_lt reading.version s.next) [
     | inl less ↦ record {
@@ -80,7 +83,8 @@ ended_by start ends ends2 pass true over same told is = rw (told, same, is)
 ended_by start ends ends2 pass false over same told is = rw (told, same, is)
 
 -- a screen that a reading may be shown on: it has not shown more than there are versions
-module _ {options : Shape} {clubs : List NamedClub} {m z : PassView} {reading : Reading} (on : Continues m z) (read : SharedReading m reading z)
+module _ {options : Shape} {clubs : List NamedClub} {m z : PassView} {reading : Reading} (on : Continues m z)
+    (read : SharedReading m reading z)
     {s t : Screening} {new new2 : Option (List ℕ)} (shown : s.next ≤ reading.version → HasShownReading options clubs reading s t new new2)
     (kept : reading.version < s.next → (t ≡ s) × (new2 ≡ new)) where
   pub few_after : AreFew s → AreFew t

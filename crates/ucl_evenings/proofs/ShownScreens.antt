@@ -175,7 +175,8 @@ stays_prefix m z (inl on) = on.on.seen
 stays_prefix m z (inr same) = rw same (begins_same m.seen)
 
 -- the last reading has the version that was shown last
-pub ends_same : (least : ℕ) {m z : PassView} {next : ℕ} {reading : Reading} {versions : List ℕ} → SharedReading m reading z → least ≤ length m.seen
+pub ends_same : (least : ℕ) {m z : PassView} {next : ℕ} {reading : Reading} {versions : List ℕ} → SharedReading m reading z
+    → least ≤ length m.seen
     → next ≤ length m.seen + 1 → (next ≡ 0) ⊎ IsLastBefore next versions → reading.version < next → EndsWithLatest least z versions
 ends_same least read low below (inl none) less = absurd (omega arith)
 ends_same least {m} {reading = reading} read low below (inr l) less =

@@ -26,7 +26,8 @@ entered_none k reporter sound none = record {
 }
 
 -- a row of the other reporter
-pub next_skipped : {k m : PassView} {reporter : ℕ} {rows : List NightEvent} (row : NightEvent) → HasEntered k m reporter rows → row.reporter ≢ reporter
+pub next_skipped : {k m : PassView} {reporter : ℕ} {rows : List NightEvent} (row : NightEvent) → HasEntered k m reporter rows
+    → row.reporter ≢ reporter
     → HasEntered k m reporter (rows ++ row ∷ [])
 next_skipped {reporter = reporter} {rows} row e other =
     let theirs_not : (x : NightEvent) → row ≡ x → x.reporter ≡ reporter → ⊥ = (λ x same is. other (rw same is)) in
@@ -53,7 +54,8 @@ next_skipped {reporter = reporter} {rows} row e other =
     }
 
 -- one row more of a reporter, whose point q is past all that its pass m had seen
-module _ {k m : PassView} (z : PassView) {reporter : ℕ} {rows : List NightEvent} (row : NightEvent) {q : ℕ} (e : HasEntered k m reporter rows)
+module _ {k m : PassView} (z : PassView) {reporter : ℕ} {rows : List NightEvent} (row : NightEvent) {q : ℕ}
+    (e : HasEntered k m reporter rows)
     (on : IsPrefix m.seen z.seen) (past : length m.seen ≤ q) (place : TakesPlace z.seen (attempted k.number row.call) q) where
   abbrev points : ℕ → ℕ
   points i = if i == length rows then q else e.point i
@@ -76,7 +78,11 @@ module _ {k m : PassView} (z : PassView) {reporter : ℕ} {rows : List NightEven
   before_new i x at is =
       let there = e.each i x at is in
       let low = place_within there in
-      record { never_falls = omega arith; rises = λ entered. (let below = entered_within (entered_before m.seen z.seen on there entered) in omega arith) }
+      record {
+        never_falls = omega arith;
+        rises = λ entered.
+            (let below = entered_within (entered_before m.seen z.seen on there entered) in omega arith);
+      }
 
   each_order : (i j : ℕ) (x y : NightEvent) → slice_get (rows ++ row ∷ []) i ≡ Some x → slice_get (rows ++ row ∷ []) j ≡ Some y → i < j
       → x.reporter ≡ reporter → y.reporter ≡ reporter → ComesFirst z.seen (attempted k.number x.call) (points i) (points j)
@@ -85,7 +91,8 @@ module _ {k m : PassView} (z : PassView) {reporter : ℕ} {rows : List NightEven
       let n = length-append rows (row ∷ []) in
       let old = at_within rows (rows ++ row ∷ []) i x (row ∷ [], refl) (omega arith) at_x in
       rw (old_point i (omega arith)) (elim (at_either rows row j y at_y) [
-        | inl next ↦ rw (old_point j next.0) (first_on m.seen z.seen on (e.each i x old is_x) (e.in_order i j x y old next.1 below is_x is_y))
+        | inl next ↦ rw (old_point j next.0) (first_on m.seen z.seen on (e.each i x old is_x)
+            (e.in_order i j x y old next.1 below is_x is_y))
         | inr last ↦ rw (new_point j last.0) (before_new i x old is_x)
       ])
 
@@ -114,7 +121,8 @@ module _ {k m : PassView} (z : PassView) {reporter : ℕ} {rows : List NightEven
   }
 
   next_row : Continues k z → z.shown ≡ k.shown → row.reporter ≡ reporter
-      → ((p : ℕ) (x : Entry) → slice_get z.seen p ≡ Some x → x.reporter ≡ k.number → OldOrNew p) → HasEntered k z reporter (rows ++ row ∷ [])
+      → ((p : ℕ) (x : Entry) → slice_get z.seen p ≡ Some x → x.reporter ≡ k.number → OldOrNew p)
+      → HasEntered k z reporter (rows ++ row ∷ [])
   next_row always shown theirs either = record {
     always = always;
     shown = shown;

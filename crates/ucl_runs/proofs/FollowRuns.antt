@@ -79,7 +79,8 @@ module _ (T : Type 0) where
             → text_in p.turns ++ last ≡ follow_text args p.bytes
         whole_text e = cc (all_text e.all, e.last.2, (turns_are 1 m p.turns p.given.turned).0, same, reaches e.all)
 
-        runs_out : {fault : OutOfMemory} → (StopsNext Rules.Stops 1 m n p.turns p.rest fault ⊎ StopsLast Rules 4097 old new p.bytes p.turns p.rest fault)
+        runs_out : {fault : OutOfMemory}
+            → (StopsNext Rules.Stops 1 m n p.turns p.rest fault ⊎ StopsLast Rules 4097 old new p.bytes p.turns p.rest fault)
             → Appends old.taken new.taken (text_in p.turns) → HeardFirst args p.bytes old.taken new.taken
         runs_out (inl s) out =
             let at = cut_at 4097 [] p.bytes (lines_in p.turns) s.line s.later (p.given.lines_are ∙ rw s.next) in

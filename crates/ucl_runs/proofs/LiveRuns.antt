@@ -81,7 +81,8 @@ module _ (before : Device) (m : Held) where
       some_text : text_in p.turns ++ answers (after_lines start (lines_in p.turns)) p.rest ≡ answers_to start p.bytes
       some_text = cc (shown, answers-append start (lines_in p.turns) p.rest, p.given.lines_are)
 
-      whole_text : {last : List ℕ} → HasClosed Rules 258 old new p.bytes p.turns p.rest last → text_in p.turns ++ last ≡ live_text start p.bytes
+      whole_text : {last : List ℕ} → HasClosed Rules 258 old new p.bytes p.turns p.rest last
+          → text_in p.turns ++ last ≡ live_text start p.bytes
       whole_text e = cc (all_text e.all, e.last.text_is, all_reached e.all, whole-text start p.bytes)
 
       complete : {last : List ℕ} → HasClosed Rules 258 old new p.bytes p.turns p.rest last → missing_after start p.bytes ≡ None
@@ -132,7 +133,8 @@ module _ (before : Device) (m : Held) where
         asks = rw (← all_reached e.all) e.stops;
       }
 
-      stops : (fault : LiveFault) → (StopsNext Rules.Stops 1 m n p.turns p.rest fault ⊎ StopsLast Rules 258 old new p.bytes p.turns p.rest fault)
+      stops : (fault : LiveFault)
+          → (StopsNext Rules.Stops 1 m n p.turns p.rest fault ⊎ StopsLast Rules 258 old new p.bytes p.turns p.rest fault)
           → Appends old.taken new.taken (text_in p.turns) → LiveFailsAfter start p.bytes before after (Machine fault)
       stops OutOfMemory (inl s) out = line_asks s out
       stops OutOfMemory (inr e) out = end_asks e out

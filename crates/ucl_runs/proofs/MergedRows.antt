@@ -22,7 +22,8 @@ each_on_duty rows all i row at = subst IsOnDuty (get_or_from_slice_get rows i ro
 module _ {k m : PassView} {rows : List NightEvent} {h : List Entry} {who : ℕ} (e : HasEntered k m who rows) (on : IsPrefix m.seen h)
     (number points : ℕ → ℕ) (number_is : (r : ℕ) → r ≡ who → number r ≡ k.number)
     (points_are : (i : ℕ) (row : NightEvent) → slice_get rows i ≡ Some row → row.reporter ≡ who → points i ≡ e.point i) where
-  their_place : (i : ℕ) (row : NightEvent) → slice_get rows i ≡ Some row → row.reporter ≡ who → TakesPlace h (attempt_by number row) (points i)
+  their_place : (i : ℕ) (row : NightEvent) → slice_get rows i ≡ Some row → row.reporter ≡ who
+      → TakesPlace h (attempt_by number row) (points i)
   their_place i row at is = rw (number_is row.reporter is, points_are i row at is) (place_on m.seen h on (e.each i row at is))
 
   their_order : (i j : ℕ) (row next : NightEvent) → slice_get rows i ≡ Some row → slice_get rows j ≡ Some next → i < j

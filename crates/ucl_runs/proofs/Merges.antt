@@ -125,7 +125,8 @@ module _ (number : ℕ → ℕ) (rows : List NightEvent) (h : List Entry) (merge
       let q : ℕ = merge.point i in
       let new : Entry = entry_of (number row.reporter) row.call in
       let past = fits.below i row at is there (omega arith) in
-      let ok : is_ok (sequential_reply (night_at i) row.call) ≡ true = rw (← same_reply (take q h) (night_at i) row.call is same) there.reply in
+      let ok : is_ok (sequential_reply (night_at i) row.call) ≡ true = rw
+      (← same_reply (take q h) (night_at i) row.call is same) there.reply in
       let more : entries_at (suc q) ≡ entered (entries_at q) new.reporter new.kind =
       rw (take_one h q new there.entry) (entries_same (take q h) new g is) in
       same_between (suc q) p past within (none_between i p row at is fits)
@@ -138,7 +139,8 @@ module _ (number : ℕ → ℕ) (rows : List NightEvent) (h : List Entry) (merge
   refused_agrees i row at is same there agrees p within fits =
       let not_ok : is_ok (sequential_reply (night_at i) row.call) ≡ false =
       rw (← same_reply (take (merge.point i) h) (night_at i) row.call is same) there.reply in
-      rw (night_next i row at, not_ok) (agrees p within (fits_skipped i p row at (λ game entered. false≢true (sym there.reply ∙ entered.reply)) fits))
+      rw (night_next i row at, not_ok) (agrees p within (fits_skipped i p row at
+      (λ game entered. false≢true (sym there.reply ∙ entered.reply)) fits))
 
   next_agrees : (i : ℕ) (row : NightEvent) → slice_get rows i ≡ Some row → Agrees i → Agrees (suc i)
   next_agrees i row at agrees = elim (cases_eq row.call.game g) [

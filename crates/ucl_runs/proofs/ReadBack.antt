@@ -64,71 +64,48 @@ abbrev mutual
 
 -- ---- reading
 
-numeral : (n : Num) → IsPlainNumber n → number_of (number_text n) ≡ Some n
-numeral (unsigned n) h = number_of-decimal n h
-numeral (negative (negsuc n)) h = number_of-negative n (omega arith)
+numeral : (n : Num) → IsPlainNumber n → (number_of (number_text n) ≡ Some n) × tree.HasNumbers (json.number (number_text n))
+numeral (unsigned n) h = (number_of-decimal n h, IsNumber-decimal n h)
+numeral (negative (negsuc n)) h = (number_of-negative n (omega arith), IsNumber-signed_decimal (negsuc n) (omega arith))
 numeral _ h = absurd h
 
+-- it is read back from its outline, whose numbers are numerals, and which nests no deeper
 mutual
-  value-back : (deep : ℕ) (d : Data) → IsPlain deep d → of_json (outline d) ≡ Some d
-  value-back deep (number n) h = ap (option_map number) (numeral n h)
-  value-back deep (string s) h = refl
-  value-back (suc deep) (array ds) h = ap (option_map array) (items-back deep ds h)
-  value-back (suc deep) (object ms) h = ap (option_map object) (members-back deep ms no_members h.1 ∙ ap Some h.0.0)
+  value-back : (deep : ℕ) (d : Data) → IsPlain deep d
+      → (of_json (outline d) ≡ Some d) × tree.HasNumbers (outline d) × (tree.depth (outline d) ≤ deep)
+  value-back deep (number n) h = let p = numeral n h in (ap (option_map number) p.0, p.1, omega arith)
+  value-back deep (string s) h = (refl, tt, omega arith)
+  value-back (suc deep) (array ds) h = let p = items-back deep ds h in (ap (option_map array) p.0, p.1, (let n = p.2 in omega arith))
+  value-back (suc deep) (object ms) h =
+      let p = members-back deep ms no_members h.1 in
+      (ap (option_map object) (p.0 ∙ ap Some h.0.0), p.1, (let n = p.2 in omega arith))
   value-back _ _ h = absurd h
 
-  items-back : (deep : ℕ) (ds : Items) → ArePlain deep ds → of_items (items_outline ds) ≡ Some ds
-  items-back deep no_items h = refl
-  items-back deep (item d ds) h = rw (value-back deep d h.0, items-back deep ds h.1) refl
+  items-back : (deep : ℕ) (ds : Items) → ArePlain deep ds
+      → (of_items (items_outline ds) ≡ Some ds) × tree.ItemsHaveNumbers (items_outline ds) × (tree.items_depth (items_outline ds) ≤ deep)
+  items-back deep no_items h = (refl, tt, omega arith)
+  items-back deep (item d ds) h =
+      let p = value-back deep d h.0 in
+      let q = items-back deep ds h.1 in
+      (rw (p.0, q.0) refl, (p.1, q.1), (let m = p.2 in let n = q.2 in omega arith))
 
-  members-back : (deep : ℕ) (ms found : Members) → HavePlain deep ms → of_members (members_outline ms) found ≡ Some (put_all ms found)
-  members-back deep no_members found h = refl
-  members-back deep (member k d ms) found h = rw (value-back deep d h.0) (members-back deep ms (put k d found) h.1)
-
-number-is : (n : Num) → IsPlainNumber n → tree.HasNumbers (json.number (number_text n))
-number-is (unsigned n) h = IsNumber-decimal n h
-number-is (negative (negsuc n)) h = IsNumber-signed_decimal (negsuc n) (omega arith)
-number-is _ h = absurd h
-
-mutual
-  value-numbers : (deep : ℕ) (d : Data) → IsPlain deep d → tree.HasNumbers (outline d)
-  value-numbers deep (number n) h = number-is n h
-  value-numbers deep (string s) h = tt
-  value-numbers (suc deep) (array ds) h = items-numbers deep ds h
-  value-numbers (suc deep) (object ms) h = members-numbers deep ms h.1
-  value-numbers _ _ h = absurd h
-
-  items-numbers : (deep : ℕ) (ds : Items) → ArePlain deep ds → tree.ItemsHaveNumbers (items_outline ds)
-  items-numbers deep no_items h = tt
-  items-numbers deep (item d ds) h = (value-numbers deep d h.0, items-numbers deep ds h.1)
-
-  members-numbers : (deep : ℕ) (ms : Members) → HavePlain deep ms → tree.MembersHaveNumbers (members_outline ms)
-  members-numbers deep no_members h = tt
-  members-numbers deep (member k d ms) h = (value-numbers deep d h.0, members-numbers deep ms h.1)
-
-mutual
-  value-depth : (deep : ℕ) (d : Data) → IsPlain deep d → tree.depth (outline d) ≤ deep
-  value-depth deep (number n) h = omega arith
-  value-depth deep (string s) h = omega arith
-  value-depth (suc deep) (array ds) h = let i = items-depth deep ds h in omega arith
-  value-depth (suc deep) (object ms) h = let i = members-depth deep ms h.1 in omega arith
-  value-depth _ _ h = absurd h
-
-  items-depth : (deep : ℕ) (ds : Items) → ArePlain deep ds → tree.items_depth (items_outline ds) ≤ deep
-  items-depth deep no_items h = omega arith
-  items-depth deep (item d ds) h = let i = value-depth deep d h.0 in let j = items-depth deep ds h.1 in omega arith
-
-  members-depth : (deep : ℕ) (ms : Members) → HavePlain deep ms → tree.members_depth (members_outline ms) ≤ deep
-  members-depth deep no_members h = omega arith
-  members-depth deep (member k d ms) h = let i = value-depth deep d h.0 in let j = members-depth deep ms h.1 in omega arith
+  members-back : (deep : ℕ) (ms found : Members) → HavePlain deep ms
+      → (of_members (members_outline ms) found ≡ Some (put_all ms found)) × tree.MembersHaveNumbers (members_outline ms)
+      × (tree.members_depth (members_outline ms) ≤ deep)
+  members-back deep no_members found h = (refl, tt, omega arith)
+  members-back deep (member k d ms) found h =
+      let p = value-back deep d h.0 in
+      let q = members-back deep ms (put k d found) h.1 in
+      (rw p.0 q.0, (p.1, q.1), (let m = p.2 in let n = q.2 in omega arith))
 
 pub reads : (d : Data) → IsPlain 127 d → read (compact_text d) ≡ Some d
 reads d h =
+    let back = value-back 127 d h in
     let same : tokens (compact_text d) ≡ tree.json_tokens (outline d) =
-    ap tokens (sym (print-outline d)) ∙ tokens-print (tree.json_tokens (outline d)) (ArePrintable-json_tokens (outline d) (value-numbers 127 d h)) in
+    ap tokens (sym (print-outline d)) ∙ tokens-print (tree.json_tokens (outline d)) (ArePrintable-json_tokens (outline d) back.1) in
     let whole : json.value 127 (tokens (compact_text d)) ≡ Some (outline d, []) =
-    ap (json.value 127) (same ∙ sym (append-nil (tree.json_tokens (outline d)))) ∙ value-json_tokens (outline d) 127 [] (value-depth 127 d h) in
-    rw whole (value-back 127 d h)
+    ap (json.value 127) (same ∙ sym (append-nil (tree.json_tokens (outline d)))) ∙ value-json_tokens (outline d) 127 [] back.2 in
+    rw whole back.0
 
 -- ---- its bytes
 

@@ -241,7 +241,8 @@ club-says slot name coefficient s c one six twenty printed =
     let slots = no-feed-then slot (44 ∷ 34 ∷ (flat_map in_quotes name ++ 34 ∷ 44 ∷ coefficient)) (joining-clear slot s)
     (no-feed-then (44 ∷ 34 ∷ []) _ (test-clear (44 ∷ 34 ∷ []) refl) names) in
     let long = name-long name in
-    says-row text (codes "club," ++ (slot ++ 44 ∷ 34 ∷ (flat_map in_quotes name ++ 34 ∷ 44 ∷ coefficient))) (club_fields slot name coefficient)
+    says-row text (codes "club," ++ (slot ++ 44 ∷ 34 ∷ (flat_map in_quotes name ++ 34 ∷ 44 ∷ coefficient)))
+    (club_fields slot name coefficient)
     (no-feed-then (codes "club,") _ (test-clear (codes "club,") refl) slots) (simp append_assoc) (simp length-append (omega arith))
     (begins-plain (slot ++ 44 ∷ quoted)).0
     (plain_row text (slot ++ 44 ∷ quoted) quoted last (codes "club") slot name coefficient
@@ -253,7 +254,8 @@ word-says index hex i h two long =
     let last : List ℕ = 10 ∷ [] in
     let text = word_text index hex in
     let behind = no-feed-then hex (44 ∷ []) (joining-clear hex h) (test-clear (44 ∷ []) refl) in
-    let places = no-feed-then index (44 ∷ (hex ++ 44 ∷ [])) (joining-clear index i) (no-feed-then (44 ∷ []) _ (test-clear (44 ∷ []) refl) behind) in
+    let places = no-feed-then index (44 ∷ (hex ++ 44 ∷ [])) (joining-clear index i)
+    (no-feed-then (44 ∷ []) _ (test-clear (44 ∷ []) refl) behind) in
     says-row text (codes "word," ++ (index ++ 44 ∷ (hex ++ 44 ∷ []))) (word_fields index hex)
     (no-feed-then (codes "word,") _ (test-clear (codes "word,") refl) places) (simp append_assoc) (simp length-append (omega arith))
     (begins-plain (index ++ 44 ∷ (hex ++ 44 ∷ last))).1
@@ -272,7 +274,8 @@ group-says letter order edition a b c one eleven five =
     (no-feed-then (codes "group,") _ (test-clear (codes "group,") refl) letters) (simp append_assoc) (simp length-append (omega arith))
     (begins-plain (letter ++ 44 ∷ (order ++ 44 ∷ last))).2
     (plain_row text (letter ++ 44 ∷ (order ++ 44 ∷ last)) (order ++ 44 ∷ last) last (codes "group") letter order edition
-    (group-before (letter ++ 44 ∷ (order ++ 44 ∷ last))) (before-comma letter (order ++ 44 ∷ last) a) (before-comma order last b) (at-end edition c))
+    (group-before (letter ++ 44 ∷ (order ++ 44 ∷ last))) (before-comma letter (order ++ 44 ∷ last) a) (before-comma order last b)
+    (at-end edition c))
 
 -- ---- the row of a club
 
@@ -305,7 +308,9 @@ club_row_says roster slot few is =
     let six = length-decimal-le 6 club.coefficient (omega arith) (omega arith) (omega arith) in
     record {
       fields = club_fields (decimal slot) club.name (decimal club.coefficient);
-      says = rw (← club-parts (decimal slot) club.name (decimal club.coefficient)) (club-says (decimal slot) club.name (decimal club.coefficient)
+      says =
+          rw (← club-parts (decimal slot) club.name (decimal club.coefficient))
+          (club-says (decimal slot) club.name (decimal club.coefficient)
           (decimal-joins slot (omega arith)) (decimal-joins club.coefficient (omega arith)) one six short named.1);
       first = refl;
       club_is = club-is slot club.name club.coefficient few most;

@@ -21,7 +21,8 @@ pub returns-in-Matches : goal.returns-in-Matches
 returns-in-Matches g c =
     let read = c.read_own-reading.ensures in
     let is = sym c.input_on.ensures ∙ c.in-Matches.is in
-    let turn = turns_line is (Looked _ ∷ []) (row_looked read.says.always read.says.reading) read.reported (rang_none read.says.reading.mine) refl in record {
+    let turn = turns_line is (Looked _ ∷ []) (row_looked read.says.always read.says.reading) read.reported
+    (rang_none read.says.reading.mine) refl in record {
       ready = (read.own, read.says.always.sound);
       answers = told turn c.answer_matches.result refl _ (cc) c.answer_matches.ensures.text;
       stops = not_told turn c.answer_matches.result refl (λ f memory. (memory, inr is)) c.answer_matches.ensures.memory;
@@ -36,7 +37,9 @@ returns-in-Ok g c =
     let then = c.read_own-reading-in-Ok.ensures in
     let result = c.answer_event.result in
     let turn = turns_line (sym c.input_on.ensures ∙ c.in-Event.is) (Entered _ _ ∷ [])
-    (row_accepted first.says.always then.says.always then.says.reading first.says.accepted) (reports_then _ (g.B.LiveBoard.has_reported c.report.new.pass) (g.B.LiveBoard.has_reported c.read_own-reading-in-Ok.new.pass) 1 0 first.reported then.reported)
+    (row_accepted first.says.always then.says.always then.says.reading first.says.accepted)
+    (reports_then _ (g.B.LiveBoard.has_reported c.report.new.pass)
+    (g.B.LiveBoard.has_reported c.read_own-reading-in-Ok.new.pass) 1 0 first.reported then.reported)
     (rang_once first.says.accepted then.says.reading c.ring.ensures) refl in
     record {
       ready = (then.own, then.says.always.sound);
@@ -50,7 +53,9 @@ returns-in-Err g c =
     let then = c.read_own-reading-in-Err.ensures in
     let result = c.answer_event-in-Err.result in
     let turn = turns_line (sym c.input_on.ensures ∙ c.in-Event.is) (Refused _ _ ∷ [])
-    (row_refused first.says.always then.says.always then.says.reading first.says.refused) (reports_then _ (g.B.LiveBoard.has_reported c.report.new.pass) (g.B.LiveBoard.has_reported c.read_own-reading-in-Err.new.pass) 1 0 first.reported then.reported)
+    (row_refused first.says.always then.says.always then.says.reading first.says.refused)
+    (reports_then _ (g.B.LiveBoard.has_reported c.report.new.pass)
+    (g.B.LiveBoard.has_reported c.read_own-reading-in-Err.new.pass) 1 0 first.reported then.reported)
     (rang_none (then.says.reading.mine ∙ first.says.refused.mine)) refl in
     record {
       ready = (then.own, then.says.always.sound);
