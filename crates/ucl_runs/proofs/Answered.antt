@@ -1,9 +1,10 @@
 -- What an evening answers tells its moment.
-use Rattle.ucl_runs.proofs.Common.{All, All-head, All-tail, AreWords, AwayInTie, Bool, Data, IsClub, IsGroup, IsMoment, IsRoster, List}
+use Rattle.ucl_runs.proofs.Common.{and_parts}
+use Rattle.ucl_runs.proofs.Common.{All, All-head, All-tail, AreWords, AwayInTie, Data, IsClub, IsGroup, IsMoment, IsRoster, List}
 use Rattle.ucl_runs.proofs.Common.{Moment, NamedClub, NightEvent, None, Ok, Option, Profile, Some, Uefa, [], ap, arith, bad_slot}
 use Rattle.ucl_runs.proofs.Common.{club_items, codes, digit_glyph, false, hex_digits, inl, is_name, le-leb, length, letter_in, member}
 use Rattle.ucl_runs.proofs.Common.{nat_le, nat_tests, no_members, number_value, object, pow-suc, profile_name, profile_named, read_words}
-use Rattle.ucl_runs.proofs.Common.{refl, string, suc, true, unsigned, word_items, zero, ℕ, ◌%◌, ◌&&◌, ◌*◌, ◌+◌, ◌/◌, ◌<◌, ◌==◌, ◌^◌, ◌∙◌}
+use Rattle.ucl_runs.proofs.Common.{refl, string, suc, true, unsigned, word_items, zero, ℕ, ◌%◌, ◌*◌, ◌+◌, ◌/◌, ◌<◌, ◌==◌, ◌^◌, ◌∙◌}
 use Rattle.ucl_runs.proofs.Common.{◌∷◌, ◌≡◌, ◌≤◌}
 use Rattle.std.specs.Prelude.{option_and_then}
 use Rattle.serde_json.specs.Data.{number}
@@ -85,13 +86,9 @@ board-told board w bits = rw (count-words board, same-twelve (length board) w.tw
 
 -- ---- clubs
 
-pub both : (a b : Bool) → (a && b) ≡ true → (a ≡ true) × (b ≡ true)
-both true b h = (refl, h)
-both false b h = cc
-
 club-back : (club : NamedClub) → IsClub club → club_told (object (member (codes "club") (string club.name) (member (codes "coefficient") (number (unsigned club.coefficient)) no_members))) ≡ Some club
 unfolding is_club serde_json_on_literals
-club-back club h = let p = both (is_name club.name) (nat_le club.coefficient 999999) h in rw p.1 refl
+club-back club h = let p = and_parts (is_name club.name) (nat_le club.coefficient 999999) h in rw p.1 refl
 
 pub no-bad : (a b c d : NamedClub) → IsClub a → IsClub b → IsClub c → IsClub d → bad_slot (a ∷ b ∷ c ∷ d ∷ []) ≡ None
 unfolding bad_slot_from

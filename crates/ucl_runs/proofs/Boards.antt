@@ -96,7 +96,7 @@ module _ (P : Request → Type 0) where
 pub asked : (f : FourFields) → AreAttempts (asked_by f)
 asked f = asked-by AreAttempts f none none none none (by-event f (event_of f) (event-is_attempt f))
 
-said-attempts : (r : Said) → All IsAttempt (attempts_on r)
+pub said-attempts : (r : Said) → All IsAttempt (attempts_on r)
 said-attempts (Row f) = asked f
 said-attempts _ = none
 

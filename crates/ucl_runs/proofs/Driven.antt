@@ -1,6 +1,5 @@
 -- What the faults of a driver become.
-use Rattle.ucl_runs.proofs.Common.{Bool, Err, Machine, PumpFault, RunFault, WriteFailed, false, refl, sym, ⊤, ◌∙◌, ◌≡◌}
-use Rattle.ucl_io.specs.declared.fault.PumpFault.TheVariants.{ReadFailed, TooLong}
+use Rattle.ucl_runs.proofs.Common.{Bool, Err, Machine, PumpFault, RunFault, false, refl, sym, ⊤, ◌∙◌, ◌≡◌}
 use Rattle.ucl_io.specs.Output.{SinkEnds}
 use Rattle.ucl_runs.specs.Run.{SinkFails, fault_of, is_read_failed}
 use Rattle.ucl_io.specs.Pumping as driver

@@ -1,8 +1,8 @@
 -- What a reporter's worker has entered: no row yet, and one row more.
-use Rattle.ucl_runs.proofs.Common.{Accepted, Bool, ComesFirst, Continues, Entry, HasEntered, IsEnteredAt, IsPrefix, IsRefusedAt, List}
+use Rattle.ucl_runs.proofs.Common.{Accepted, ComesFirst, Continues, Entry, HasEntered, IsEnteredAt, IsPrefix, IsRefusedAt, List}
 use Rattle.ucl_runs.proofs.Common.{NightEvent, PassView, Refusal, Some, TakesPlace, [], ap, arith, at_below, at_within, attempted}
-use Rattle.ucl_runs.proofs.Common.{begins_length, begins_through, cond, entries_by, entry_of, eq-eqb, followed_by, if◌then◌else◌, inl, inr}
-use Rattle.ucl_runs.proofs.Common.{is_ok, length, length-append, ne_eqb, none-some, refl, sequential_reply, slice_get, subst, sym, take}
+use Rattle.ucl_runs.proofs.Common.{begins_length, begins_through, entries_by, entry_of, eq-eqb, followed_by, if◌then◌else◌, inl, inr}
+use Rattle.ucl_runs.proofs.Common.{length, length-append, ne_eqb, none-some, refl, slice_get, sym, take}
 use Rattle.ucl_runs.proofs.Common.{take-length, ℕ, ◌++◌, ◌<◌, ◌==◌, ◌∙◌, ◌∷◌, ◌≡◌, ◌≢◌, ◌≤◌, ◌⊎◌}
 use Rattle.std.proofs.Common.{Result, Ok, Err, IfOk, IfErr}
 use Rattle.std.proofs.Common.{le_refl}

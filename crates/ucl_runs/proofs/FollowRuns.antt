@@ -1,6 +1,6 @@
 -- Whole runs of a follower, from what the driver says of them.
 use Rattle.ucl_runs.proofs.Common.{Appends, Device, Err, FollowArgs, Following, HasClosed, HasMade, IfSome, IsPromptAt, LineRules, List}
-use Rattle.ucl_runs.proofs.Common.{Machine, None, Ok, Option, PumpFault, Pumped, Result, Seen, Some, StoppedShort, StopsLast, StopsNext}
+use Rattle.ucl_runs.proofs.Common.{Machine, Ok, PumpFault, Pumped, Result, Seen, StoppedShort, StopsLast, StopsNext}
 use Rattle.ucl_runs.proofs.Common.{Turn, WriteFailed, [], after_told, ap, append-nil, append_assoc, cut_at, follow_text, inl, inr}
 use Rattle.ucl_runs.proofs.Common.{moment_on, refl, resuming_text, rules_of, stopped_first, stopped_short, sym, told_text, turns_front}
 use Rattle.ucl_runs.proofs.Common.{unseen, whole, whole_lines, ℕ, ⊤, ◌++◌, ◌+◌, ◌∙◌, ◌∷◌, ◌≡◌, ◌⊎◌}

@@ -50,7 +50,7 @@ text f (line ∷ lines) =
 told-first : (line : List ℕ) (lines : Lines) (m : Moment) → moment_on line ≡ Some m → IsToldIn (line ∷ lines) m
 told-first line lines m e = (line, ([], lines, refl), e)
 
-told-later : (line : List ℕ) (lines : Lines) (m : Moment) → IsToldIn lines m → IsToldIn (line ∷ lines) m
+pub told-later : (line : List ℕ) (lines : Lines) (m : Moment) → IsToldIn lines m → IsToldIn (line ∷ lines) m
 told-later line lines m (l, (before, after, e), k) = (l, (line ∷ before, after, ap (λ (ls : Lines). line ∷ ls) e), k)
 
 weaker : (line : List ℕ) (lines : Lines) (ms : List Moment) → All (IsToldIn lines) ms → All (IsToldIn (line ∷ lines)) ms

@@ -1,4 +1,5 @@
 -- Boards of valid words, through an evening.
+use Rattle.ucl_runs.proofs.Common.{and_parts}
 use Rattle.ucl_runs.proofs.Common.{All, All-cons, All-get_or, All-nil, AreWords, Attempt, Bool, Err, IsAttempt, IsValid, IsWord, List}
 use Rattle.ucl_runs.proofs.Common.{MatchRecord, None, Ok, Option, Refusal, Result, Some, [], ap, arith, board_after, board_of, false}
 use Rattle.ucl_runs.proofs.Common.{game_at, get_or, length, nat_le, nat_tests, record_at, record_back, refl, refusal_of, set, subst, true}
@@ -62,10 +63,6 @@ module _ (words : List ℕ) (a : Attempt) (w : AreWords words) (is : IsAttempt a
 
 -- ---- words that were read
 
-both : (a b : Bool) → (a && b) ≡ true → (a ≡ true) × (b ≡ true)
-both true b h = (refl, h)
-both false b h = cc
-
 same-test : (a b : ℕ) → (a == b) ≡ true → a ≡ b
 same-test a b e = grind (arith, nat_tests)
 
@@ -76,13 +73,13 @@ of-either : (word new : ℕ) (p q : Bool) → is_word word ≡ p → is_first_wo
 unfolding read_word
 of-either word new true q e f h =
     let same : word ≡ new = same-some word new (rw e at h) in
-    let p = both (is_valid (record_at word)) (word_of (record_at word) == word) e in
+    let p = and_parts (is_valid (record_at word)) (word_of (record_at word) == word) e in
     subst IsWord same (record { of = record_at word; valid = p.0; packed = same-test (word_of (record_at word)) word p.1 })
 of-either word new false true e f h =
     let same : word_of (first_record_at word) ≡ new = same-some (word_of (first_record_at word)) new (rw (e, f) at h) in
     let m = first_record_at word in
-    let p = both (is_valid m && nat_le m.number (most_in_first m.state)) (first_word_of m == word) f in
-    let q = both (is_valid m) (nat_le m.number (most_in_first m.state)) p.0 in
+    let p = and_parts (is_valid m && nat_le m.number (most_in_first m.state)) (first_word_of m == word) f in
+    let q = and_parts (is_valid m) (nat_le m.number (most_in_first m.state)) p.0 in
     subst IsWord same (packed m q.0)
 of-either word new false false e f h = cc (rw (e, f) at h)
 

@@ -1,122 +1,38 @@
 -- What the lines of an evening's answers tell: nothing, or the moment after their line.
+use Rattle.ucl_runs.proofs.GoodStages.{IsGood, good-next, good-opened, of-request}
+use Rattle.ucl_runs.proofs.Common.{and_parts}
 use Rattle.ucl_runs.proofs.Common.{All, All-append, All-cons, All-get_or, All-head, All-nil, All-tail, AreWords, Attempt, Bad, Beginning}
-use Rattle.ucl_runs.proofs.Common.{Bool, Err, Evening, Event, EventCall, FourFields, HasNumbers, IsAttempt, IsClub, IsGroup, IsMoment}
+use Rattle.ucl_runs.proofs.Common.{Bool, Evening, Event, EventCall, FourFields, HasNumbers, IsAttempt, IsGroup, IsMoment}
 use Rattle.ucl_runs.proofs.Common.{IsRoster, IsValid, IsWord, Json, KickOff, Kind, List, LiveArgs, MatchRecord, Matches, Moment, NamedClub}
-use Rattle.ucl_runs.proofs.Common.{Naming, NightEvent, None, Nothing, Ok, Open, Option, Other, OtherGroup, Profile, Refusal, Refused}
-use Rattle.ucl_runs.proofs.Common.{Request, Restoring, Result, Row, Said, Screen, Some, Stage, Title, Words, [], accepted_value}
-use Rattle.ucl_runs.proofs.Common.{after_beginning, after_club, after_row, after_title, after_word, answer, answer_at, answer_of}
+use Rattle.ucl_runs.proofs.Common.{Naming, NightEvent, None, Nothing, Open, Option, Other, Profile, Refusal, Refused}
+use Rattle.ucl_runs.proofs.Common.{Request, Restoring, Row, Said, Screen, Some, Stage, Title, Words, [], accepted_value}
+use Rattle.ucl_runs.proofs.Common.{after_row, answer, answer_at, answer_of}
 use Rattle.ucl_runs.proofs.Common.{answer_said, answers, ap, arith, asked_by, asked_group, asked_title, attempt_of, attempts_of}
-use Rattle.ucl_runs.proofs.Common.{attempts_on, bad_slot, begun_line, begun_none, board_after, board_of, cases_Bool, club_said}
+use Rattle.ucl_runs.proofs.Common.{attempts_on, begun_line, begun_none, board_after, cases_Bool}
 use Rattle.ucl_runs.proofs.Common.{edition_screen_value, ended_none, event_of, event_or_bad, false, game_at, if◌then◌else◌, in_range, inl}
-use Rattle.ucl_runs.proofs.Common.{inr, is_as_asked, is_group_row, is_ok, is_word_row, json_line, kind_named, leb-true, length, letter_in}
-use Rattle.ucl_runs.proofs.Common.{moment_at, moment_now, moment_on, moment_with, nat_le, nat_tests, next, next_board, next_stage}
-use Rattle.ucl_runs.proofs.Common.{next_title, no_refusal, number, number_valid, opened, profile_named, read_words, refl, refusal_of}
-use Rattle.ucl_runs.proofs.Common.{reply_answer, reply_of, reply_value, request_of, restored, said_on, screen_after, screen_answer}
-use Rattle.ucl_runs.proofs.Common.{shown_text, start_of, subst, sym, title_by, title_said, true, version_at, version_of, with_roster}
-use Rattle.ucl_runs.proofs.Common.{with_words, word_at, word_said, word_valid, ℕ, ⊤, ◌&&◌, ◌++◌, ◌+◌, ◌-◌, ◌<◌, ◌==◌, ◌>>=◌, ◌^◌, ◌||◌, ◌∙◌}
+use Rattle.ucl_runs.proofs.Common.{inr, is_group_row, is_ok, json_line, kind_named, leb-true, length, letter_in}
+use Rattle.ucl_runs.proofs.Common.{moment_at, moment_now, moment_on, moment_with, nat_le, nat_tests, next, next_board}
+use Rattle.ucl_runs.proofs.Common.{next_title, no_refusal, number, number_valid, opened, profile_named, refl, refusal_of}
+use Rattle.ucl_runs.proofs.Common.{reply_answer, reply_of, reply_value, request_of, said_on, screen_after, screen_answer}
+use Rattle.ucl_runs.proofs.Common.{shown_text, start_of, subst, sym, title_by, title_said, true, version_at, version_of}
+use Rattle.ucl_runs.proofs.Common.{word_at, word_valid, ℕ, ⊤, ◌&&◌, ◌++◌, ◌+◌, ◌-◌, ◌<◌, ◌>>=◌, ◌^◌, ◌∙◌}
 use Rattle.ucl_runs.proofs.Common.{◌∷◌, ◌≡◌, ◌≤◌}
-use Rattle.ucl_order.specs.Roster.{bad_slot_from, is_club}
 use Rattle.ucl_runs.specs.Titles.{edition_by}
 use Rattle.ucl_command.specs.Groups.{may_be_asked}
 use Rattle.ucl_command.proofs.Letters.{asked_letter}
 use Rattle.ucl_runs.proofs.Silence.{is_open}
 use Rattle.ucl_runs.specs.LiveText.{after_lines, title_or}
 use Rattle.ucl_runs.proofs.Boards.{AreAttempts, asked, asked-by, event-is_attempt}
-use Rattle.ucl_runs.proofs.GoodBoards.{fresh-good, good-after, read-good, version-after}
+use Rattle.ucl_runs.proofs.GoodBoards.{good-after, version-after}
 use Rattle.ucl_runs.proofs.OneByOne.{after-none, after-one, answers-none, answers-one}
 use Rattle.ucl_runs.proofs.JournalLines.{IsLineThat, IsShown, TellsAlone, TellsAtMost, alone-as, alone-line, alone-none, alone-then}
 use Rattle.ucl_runs.proofs.JournalLines.{bad-line}
 use Rattle.ucl_runs.proofs.JournalLines.{begun-then, board-fits, found-fits, lines-then, lines_in, matches-line, refused-line, shown-text}
 use Rattle.ucl_runs.proofs.JournalLines.{value-line, words-line}
-use Rattle.ucl_runs.proofs.Answered.{both}
 use Rattle.ucl_runs.proofs.Matches.{told-lines}
 
 abbrev pub Lines : Type 0
 Lines = List (List ℕ)
-
--- ---- stages of an evening: rosters and boards that there are
-
-abbrev pub IsGood : Stage → Type 0
-IsGood (Open clubs board) = IsRoster clubs × AreWords board
-IsGood (Restoring clubs words) = IsRoster clubs
-IsGood Beginning = ⊤
-IsGood (Naming clubs) = ⊤
-IsGood (Refused fault) = ⊤
-
-all-clubs : (slot : ℕ) (clubs : List NamedClub) → bad_slot_from slot clubs ≡ None → All IsClub clubs
-unfolding bad_slot_from
-all-clubs slot [] h = All-nil IsClub
-all-clubs slot (club ∷ clubs) h = elim (cases_Bool (is_club club)) [
-  | inl y ↦ All-cons IsClub club clubs y (all-clubs (slot + 1) clubs (rw y at h))
-  | inr n ↦ cc (rw n at h)
-]
-
-either : (b : Bool) (s r : Stage) → (b ≡ true → IsGood s) → IsGood r → IsGood (if b then s else r)
-either true s r p q = p refl
-either false s r p q = q
-
-good-roster : (clubs : List NamedClub) (slot : Option ℕ) → length clubs ≡ 4 → bad_slot clubs ≡ slot → IsGood (with_roster clubs slot)
-good-roster clubs None four e = record { four = four; each = all-clubs 1 clubs e }
-good-roster clubs (Some slot) four e = tt
-
-same-four : (n : ℕ) → (n == 4) ≡ true → n ≡ 4
-same-four n e = grind (arith, nat_tests)
-
-good-club : (row : ℕ) (clubs : List NamedClub) (club : Option NamedClub) → IsGood (after_club row clubs club)
-good-club row clubs None = tt
-good-club row clubs (Some club) =
-    let all = clubs ++ club ∷ [] in
-    either (length all == 4) (with_roster all (bad_slot all)) (Naming all) (λ e. good-roster all (bad_slot all) (same-four (length all) e) refl) tt
-
-good-restored : (clubs : List NamedClub) (words : List ℕ) (r : Result (List ℕ) ℕ) → IsRoster clubs → length words ≡ 12 → read_words 1 words ≡ r → IsGood (restored clubs r)
-good-restored clubs words (Ok board) is long e = (is, read-good words board long e)
-good-restored clubs words (Err index) is long e = tt
-
-same-twelve : (n : ℕ) → (n == 12) ≡ true → n ≡ 12
-same-twelve n e = grind (arith, nat_tests)
-
-good-words : (clubs : List NamedClub) (words : List ℕ) → IsRoster clubs → IsGood (with_words clubs words)
-good-words clubs words is =
-    either (length words == 12) (restored clubs (read_words 1 words)) (Restoring clubs words)
-    (λ e. good-restored clubs words (read_words 1 words) is (same-twelve (length words) e) refl) is
-
-good-word : (row : ℕ) (clubs : List NamedClub) (words : List ℕ) (word : Option ℕ) → IsRoster clubs → IsGood (after_word row clubs words word)
-good-word row clubs words None is = tt
-good-word row clubs words (Some word) is = good-words clubs (words ++ word ∷ []) is
-
-good-opened : (options : LiveArgs) (s : Stage) (r : Said) → IsGood s → IsGood (opened options s r)
-good-opened options (Restoring clubs []) r g = either (options.resumed || is_word_row r) (Restoring clubs []) (Open clubs (board_of [])) (λ _. g) (g, fresh-good)
-good-opened options (Restoring clubs (word ∷ words)) r g = g
-good-opened options (Open clubs board) r g = g
-good-opened _ _ _ _ = tt
-
-good-board : (board : List ℕ) (request : Request) → AreWords board → AreAttempts request → AreWords (next_board board request)
-good-board board (Event event) w all = good-after board (attempt_of event) w (All-head IsAttempt (attempt_of event) [] all)
-good-board _ _ w _ = w
-
-of-request : (r : Said) → AreAttempts (request_of r)
-of-request (Row f) = asked f
-of-request _ = All-nil IsAttempt
-
-good-title : (options : LiveArgs) (row : ℕ) (title : Option Title) → IsGood (after_title options row title)
-good-title options row None = tt
-good-title options row (Some title) = either (is_as_asked options title) (Naming []) (Refused OtherGroup) (λ e. tt) tt
-
-good-first : (options : LiveArgs) (row : ℕ) (r : Said) → IsGood (after_beginning options row r)
-good-first options row r =
-    either (is_group_row r) (after_title options row (title_said r)) (after_club row [] (club_said 1 r)) (λ e. good-title options row (title_said r)) (good-club row [] (club_said 1 r))
-
-good-row : (options : LiveArgs) (row : ℕ) (s : Stage) (r : Said) → IsGood s → IsGood (after_row options row s r)
-good-row options row Beginning r g = good-first options row r
-good-row options row (Naming clubs) r g = good-club row clubs (club_said (length clubs + 1) r)
-good-row options row (Restoring clubs words) r g = good-word row clubs words (word_said (length words + 1) r) g
-good-row options row (Open clubs board) r g = (g.0, good-board board (request_of r) g.1 (of-request r))
-good-row options row (Refused fault) r g = tt
-
-good-next : (options : LiveArgs) (row : ℕ) (s : Stage) (r : Said) → IsGood s → IsGood (next_stage options row s r)
-good-next options row s Nothing g = g
-good-next options row s (Other eight) g = good-row options row (opened options s (Other eight)) (Other eight) (good-opened options s (Other eight) g)
-good-next options row s (Row f) g = good-row options row (opened options s (Row f)) (Row f) (good-opened options s (Row f) g)
 
 ranged : (low high : ℕ) (o : Option ℕ) (n : ℕ) → in_range low high o ≡ Some n → n ≤ high
 ranged low high None n h = cc
@@ -136,7 +52,7 @@ within [] group e = cc
 within (b ∷ []) group e = elim (cases_Bool (nat_le 65 b && nat_le b 72)) [
   | inl y ↦
       let same : b ≡ group = cc (rw y at e) in
-      let p = both (nat_le 65 b) (nat_le b 72) y in subst IsGroup same (leb-true 65 b p.0, leb-true b 72 p.1)
+      let p = and_parts (nat_le 65 b) (nat_le b 72) y in subst IsGroup same (leb-true 65 b p.0, leb-true b 72 p.1)
   | inr n ↦ cc (rw n at e)
 ]
 within (b ∷ c ∷ more) group e = cc

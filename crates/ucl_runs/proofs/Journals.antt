@@ -1,7 +1,9 @@
 -- Journals that are cut, and what they resume.
+use Rattle.ucl_runs.proofs.Boards.{said-attempts}
+use Rattle.ucl_runs.proofs.FollowShown.{told-later}
 use Rattle.ucl_runs.proofs.Common.{All, All-append, All-cons, All-head, All-nil, All-tail, AreWords, Attempt, Beginning, Evening, Following}
 use Rattle.ucl_runs.proofs.Common.{IfSome, IsAnsweredIn, IsAttempt, IsMoment, IsToldIn, Json, List, LiveArgs, Moment, NamedClub, Naming}
-use Rattle.ucl_runs.proofs.Common.{None, Nothing, Open, Option, Other, Refusal, Refused, Restoring, Row, Said, Some, Stage, TakesEvent}
+use Rattle.ucl_runs.proofs.Common.{None, Open, Option, Refusal, Refused, Restoring, Said, Some, Stage, TakesEvent}
 use Rattle.ucl_runs.proofs.Common.{Title, [], after_told, and_from, and_parts, and_right, answers, ap, append_assoc, arith, attempts_on}
 use Rattle.ucl_runs.proofs.Common.{begun_append, begun_none, board_after, cases_Bool, cases_lt, ended_append, ended_none, false, fold}
 use Rattle.ucl_runs.proofs.Common.{follow_text, game_at, inl, inr, is_as_asked, is_asked, is_later, is_newer, is_plain_title, is_shown}
@@ -23,7 +25,8 @@ use Rattle.ucl_runs.specs.Follow.{sights}
 use Rattle.ucl_runs.specs.Journals.{CutJournalsResume}
 use Rattle.ucl_runs.specs.Journals.{AreStarts, GoesOnAgain, IsStart, JournalsGoOn, Start, gone_on, journal, newest_in}
 use Rattle.ucl_runs.specs.Resuming.{OpensTheBoard}
-use Rattle.ucl_runs.proofs.JournalAnswers.{AllTold, AnswersFirst, IsGood, IsOnTheWay, IsSound, Lines, answers-first, begun-of}
+use Rattle.ucl_runs.proofs.GoodStages.{IsGood}
+use Rattle.ucl_runs.proofs.JournalAnswers.{AllTold, AnswersFirst, IsOnTheWay, IsSound, Lines, answers-first, begun-of}
 use Rattle.ucl_runs.proofs.JournalAnswers.{good-after-lines, on-the-way, stage-good, start-sound}
 use Rattle.ucl_runs.proofs.JournalLines.{lines-then, lines_in}
 use Rattle.ucl_runs.proofs.CutLines.{IsCut, cut-lines}
@@ -91,9 +94,6 @@ pub record Greatest (f : Following) (lines : Lines) (end : Following) : Type 0 w
   pub each : AllTold (IsPast end) lines
   pub still : (m : Moment) → is_shown f m ≡ false → is_shown end m ≡ false
   pub from : IsSame f end ⊎ ((m : Moment) × IsToldIn lines m × HasTitle end m)
-
-told-later : (line : List ℕ) (lines : Lines) (m : Moment) → IsToldIn lines m → IsToldIn (line ∷ lines) m
-told-later line lines m (l, (before, after, e), k) = (l, (line ∷ before, after, ap (λ (ls : Lines). line ∷ ls) e), k)
 
 past-still : (f end : Following) → ((m : Moment) → is_shown f m ≡ false → is_shown end m ≡ false) → (o : Option Moment) → IsPast f o → IsPast end o
 past-still f end still None h = tt
@@ -207,10 +207,6 @@ all-rise board (a ∷ attempts) w all =
     rises-then board (board_after board a) (fold board_after board (a ∷ attempts))
     (one-rises board a w is (refusal_of (game_at board a.call.game) a.call.expected a.call.kind) refl)
     (all-rise (board_after board a) attempts (good-after board a w is) (All-tail IsAttempt a attempts all))
-
-said-attempts : (r : Said) → All IsAttempt (attempts_on r)
-said-attempts (Row f) = asked f
-said-attempts _ = All-nil IsAttempt
 
 pub lines-attempts : (row : ℕ) (lines : Lines) → All IsAttempt (attempts_in row lines)
 unfolding attempts_in

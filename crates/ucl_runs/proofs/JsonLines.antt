@@ -1,6 +1,6 @@
 -- In JSON an evening answers by lines of values.
-use Rattle.ucl_runs.proofs.Common.{Accepted, AreLinesOfValues, Bad, Beginning, Bool, Err, Evening, Event, Format, Json, List, LiveArgs}
-use Rattle.ucl_runs.proofs.Common.{Matches, NamedClub, Naming, NightEvent, Nothing, Ok, Open, Other, Refusal, Refused, Request, Restoring}
+use Rattle.ucl_runs.proofs.Common.{Accepted, AreLinesOfValues, Bad, Bool, Err, Evening, Event, Format, Json, List, LiveArgs}
+use Rattle.ucl_runs.proofs.Common.{Matches, NamedClub, NightEvent, Nothing, Ok, Open, Other, Refusal, Request}
 use Rattle.ucl_runs.proofs.Common.{Result, Row, Said, Screen, Stage, Title, Words, [], answer_at, answer_of, answer_said, bad_row_value}
 use Rattle.ucl_runs.proofs.Common.{edition_screen_value, false, field_name, game_at, if◌then◌else◌, matches_value, next, next_board, opened}
 use Rattle.ucl_runs.proofs.Common.{reply_answer, reply_of, reply_value, request_of, said_on, screen_after, screen_answer, shown_text, true}

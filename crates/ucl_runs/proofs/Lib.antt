@@ -41,6 +41,7 @@ pub mod Resumed
 pub mod JournalLines
 pub mod CutLines
 pub mod Matches
+pub mod GoodStages
 pub mod JournalAnswers
 pub mod Journals
 pub mod JournalEnds

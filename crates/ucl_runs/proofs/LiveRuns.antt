@@ -2,7 +2,7 @@
 use Rattle.ucl_runs.proofs.Common.{Appends, BeginningFault, Device, Err, Evening, HasClosed, HasMade, HasNoAnswer, HasNoEnd, IfSome}
 use Rattle.ucl_runs.proofs.Common.{IsPromptAt, LineRules, List, LiveFault, Machine, None, Ok, PumpFault, Pumped, Refused, Result, Seen}
 use Rattle.ucl_runs.proofs.Common.{Some, StoppedShort, StopsLast, StopsNext, Turn, WriteFailed, [], after_bytes, answer_said, answers_to}
-use Rattle.ucl_runs.proofs.Common.{ap, append-nil, arith, begun_line, cut_at, ended_lines, evening_of, false, inl, inr, last_lines, length}
+use Rattle.ucl_runs.proofs.Common.{ap, append-nil, arith, begun_line, cut_at, ended_lines, evening_of, inl, inr, last_lines, length}
 use Rattle.ucl_runs.proofs.Common.{live_text, missing_after, missing_at, next, refl, rules_of, said_on, shown_text, stopped_first}
 use Rattle.ucl_runs.proofs.Common.{stopped_short, sym, turns_front, whole, ℕ, ◌++◌, ◌+◌, ◌∙◌, ◌∷◌, ◌≡◌, ◌⊎◌}
 use Rattle.ucl_io.specs.Turns.{AreTurns, lines_in, state_after, text_in}
@@ -11,7 +11,7 @@ use Rattle.ucl_runs.specs.declared.live_fault.LiveFault.TheVariants.{Beginning, 
 use Rattle.ucl_runs.specs.Holding.{Closes, IsAnsweredSoFar, LiveFails, LiveFailsAfter, RanOut, WriteStops}
 use Rattle.ucl_runs.specs.LiveText.{after_lines, answers}
 use Rattle.ucl_runs.proofs.OneByOne.{after-append, after-one, answers-append, whole-missing, whole-text}
-use Rattle.ucl_runs.proofs.Silence.{is_open, missing-shut, refused-shut, shut-lines, silent, stays-refused}
+use Rattle.ucl_runs.proofs.Silence.{missing-shut, refused-shut, shut-lines, silent, stays-refused}
 
 abbrev Rules : LineRules Held LiveFault
 Rules = rules_of

@@ -1,5 +1,5 @@
 -- The members of an answer in JSON say what it says as text.
-use Rattle.ucl_runs.proofs.Common.{Accepted, Blank, Bool, Err, List, Mark, MatchRecord, Minus, NamedClub, NightEvent, None, Ok, Option}
+use Rattle.ucl_runs.proofs.Common.{Accepted, Bool, Err, List, Mark, MatchRecord, NamedClub, NightEvent, None, Ok, Option}
 use Rattle.ucl_runs.proofs.Common.{Plus, RaisesVersion, Refusal, Result, Some, Title, [], ap, arith, bad_line, bad_row_value, club_items}
 use Rattle.ucl_runs.proofs.Common.{codes, cond, decimal, false, flat_map, found_of, game_at, le-leb, line_of_reply, lt-leb, mark_name}
 use Rattle.ucl_runs.proofs.Common.{match_items, match_numbers, negsuc, of_integer, place_items, pos, refl, refusal_code, refusal_name}

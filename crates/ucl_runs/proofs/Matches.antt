@@ -1,6 +1,6 @@
 -- The twelve matches in JSON are plain, and their line is short; so is that of a screen, which has them.
-use Rattle.ucl_runs.proofs.Common.{All-get_or, AreWords, Blank, Finished, InPlay, IsMoment, IsRoster, IsValid, IsWord, List, Mark}
-use Rattle.ucl_runs.proofs.Common.{MatchRecord, Minus, Moment, NamedClub, Plus, Profile, Scheduled, [], accepted_value, and_parts, arith}
+use Rattle.ucl_runs.proofs.Common.{All-get_or, AreWords, IsMoment, IsRoster, IsValid, IsWord, List, Mark}
+use Rattle.ucl_runs.proofs.Common.{MatchRecord, Moment, NamedClub, Plus, Profile, Scheduled, [], accepted_value, and_parts, arith}
 use Rattle.ucl_runs.proofs.Common.{array, club_items, codes, compact_text, decimal, game_at, in_play, is_in_play, length, list_all}
 use Rattle.ucl_runs.proofs.Common.{mark_name, match_items, match_numbers, nat_le, nat_tests, negsuc, number_text, number_valid}
 use Rattle.ucl_runs.proofs.Common.{number_value, of_integer, place_items, pos, profile_name, quoted, record_at, refl, rows_of, string}

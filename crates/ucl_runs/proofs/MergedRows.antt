@@ -1,8 +1,8 @@
 -- Two reporters' rows in one history that has the entries of both and no other: a merge.
-use Rattle.ucl_runs.proofs.Common.{All, All-get_or, Bool, ComesFirst, Continues, Entry, HasEntered, IsEnteredAt, IsLegal, IsMerge, IsOnDuty}
+use Rattle.ucl_runs.proofs.Common.{All, All-get_or, ComesFirst, Continues, Entry, HasEntered, IsLegal, IsMerge, IsOnDuty}
 use Rattle.ucl_runs.proofs.Common.{IsPrefix, List, NightEvent, None, Option, PassView, Some, TakesPlace, ap, arith, at_below, at_within}
-use Rattle.ucl_runs.proofs.Common.{attempt_by, attempted, begins_take, cond, entries_by, entry_of, eq-eqb, if◌then◌else◌, inl, inr, length}
-use Rattle.ucl_runs.proofs.Common.{ne_eqb, number_of_two, same_Some, slice_get, subst, sym, take, ℕ, ⊎_elim, ◌<◌, ◌==◌, ◌∙◌, ◌≡◌, ◌≢◌, ◌⊎◌}
+use Rattle.ucl_runs.proofs.Common.{attempt_by, begins_take, entries_by, entry_of, eq-eqb, if◌then◌else◌, inl, inr, length}
+use Rattle.ucl_runs.proofs.Common.{ne_eqb, number_of_two, same_Some, slice_get, subst, sym, take, ℕ, ◌<◌, ◌==◌, ◌∙◌, ◌≡◌, ◌≢◌, ◌⊎◌}
 use Rattle.std.proofs.lemmas.Bool.{cases_order}
 use Rattle.std.proofs.lemmas.Option.{get_or_from_slice_get}
 use Rattle.ucl_board.proofs.HistoryLaws.{legal_take}

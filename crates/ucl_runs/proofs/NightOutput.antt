@@ -1,8 +1,8 @@
 -- What a night, and a line, does with its streams, from what its calls answer.
-use Rattle.ucl_runs.proofs.Common.{Appends, Bool, EachMatchHasOneReporter, Entry, Err, HasShown, IfErr, IfSome, Input, IsMerge, IsOnDuty}
-use Rattle.ucl_runs.proofs.Common.{IsPrefix, IsStopped, List, MeansNight, NamedClub, NoThread, None, NotOnDuty, Ok, OnOk, Option}
-use Rattle.ucl_runs.proofs.Common.{OutOfMemory, PassView, Profile, Reading, Result, RunFault, Script, Some, StoppedShort, Strangers}
-use Rattle.ucl_runs.proofs.Common.{TextHas, TooManyReporters, [], ap, arith, begins_length, board_of, false, length, length-append}
+use Rattle.ucl_runs.proofs.Common.{Appends, Bool, EachMatchHasOneReporter, Entry, Err, HasShown, IfErr, IfSome, IsMerge, IsOnDuty}
+use Rattle.ucl_runs.proofs.Common.{IsPrefix, IsStopped, List, MeansNight, NamedClub, None, Ok, OnOk, Option}
+use Rattle.ucl_runs.proofs.Common.{PassView, Profile, Reading, Result, RunFault, Script, Some, StoppedShort, Strangers}
+use Rattle.ucl_runs.proofs.Common.{TextHas, [], ap, arith, begins_length, board_of, false, length, length-append}
 use Rattle.ucl_runs.proofs.Common.{night_text, number_of_two, refl, screen_text, snapshot_at, styled, sym, take_beginning, ℕ, ⊤, ◌∙◌, ◌∷◌}
 use Rattle.ucl_runs.proofs.Common.{◌≡◌, ◌≢◌, ◌≤◌}
 use Rattle.std.proofs.Common.{All}

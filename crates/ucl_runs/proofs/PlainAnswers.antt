@@ -13,7 +13,7 @@ use Rattle.ucl_board.specs.Fixtures.{IsSlot}
 use Rattle.ucl_order.specs.Roster.{is_club, named}
 use Rattle.ucl_json.specs.Values.{accepted_value, club_value}
 use Rattle.ucl_runs.proofs.WordDigits.{low, word-digits}
-use Rattle.ucl_runs.proofs.Answered.{both, long}
+use Rattle.ucl_runs.proofs.Answered.{long}
 use Rattle.ucl_runs.proofs.ReadBack.{ArePlain, IsPlain, IsText, items_size, size}
 
 -- ---- words
@@ -62,7 +62,7 @@ pub record IsPlainClub (club : NamedClub) : Type 0 where
 club-plain : (club : NamedClub) → IsClub club → IsPlainClub club
 unfolding is_club
 club-plain club h =
-    let p = both (is_name club.name) (nat_le club.coefficient 999999) h in
+    let p = and_parts (is_name club.name) (nat_le club.coefficient 999999) h in
     let q = name-parts club.name p.0 in
     record { name = q.1; short = q.0; coefficient = fits club.coefficient p.1 }
   where

@@ -1,4 +1,5 @@
 -- The rows by which an evening goes on, byte by byte.
+use Rattle.ucl_runs.proofs.Common.{and_parts}
 use Rattle.ucl_runs.proofs.Common.{AreJoining, AwayInTie, EndsRow, FourFields, HasNoFeed, IsBehindEnds, IsClub, IsFieldBefore, IsGroup}
 use Rattle.ucl_runs.proofs.Common.{List, NamedClub, Profile, Row, Some, Title, Uefa, [], ap, append_assoc, arith, bytes_eq, cases_Bool}
 use Rattle.ucl_runs.proofs.Common.{club_in, club_of, club_row, codes, decimal, default_config, digit_glyph, eqb-true, false, fits, flat_map}
@@ -20,7 +21,7 @@ use Rattle.ucl_runs.specs.Rows.{row_by_text}
 use Rattle.ucl_runs.proofs.PlainRows.{at-ends, before-comma, plain_row}
 use Rattle.ucl_runs.proofs.RowBytes.{between-same, skip-one}
 use Rattle.ucl_runs.proofs.WordDigits.{low, word-digits}
-use Rattle.ucl_runs.proofs.Answered.{both, long, word-back}
+use Rattle.ucl_runs.proofs.Answered.{long, word-back}
 use Rattle.csv.specs.declared.parser.State.TheVariants as st
 
 -- ---- bytes that join a field
@@ -144,7 +145,7 @@ joining-clear (x ∷ xs) h = (λ e. cc (rw e at h.0), joining-clear xs h.1)
 
 test-clear : (xs : List ℕ) → list_all (λ b. not (b == 10)) xs ≡ true → HasNoFeed xs
 test-clear [] h = tt
-test-clear (x ∷ xs) h = let p = both (not (x == 10)) (list_all (λ b. not (b == 10)) xs) h in (λ e. cc (rw e at p.0), test-clear xs p.1)
+test-clear (x ∷ xs) h = let p = and_parts (not (x == 10)) (list_all (λ b. not (b == 10)) xs) h in (λ e. cc (rw e at p.0), test-clear xs p.1)
 
 printed-clear : (b : ℕ) → is_printed b ≡ true → b ≡ 10 → ⊥
 printed-clear b h e = cc (rw e at h)
@@ -158,7 +159,7 @@ quotes-clear b h = elim (cases_Bool (b == 34)) [
 name-clear : (name : List ℕ) → list_all is_printed name ≡ true → HasNoFeed (flat_map in_quotes name)
 name-clear [] h = tt
 name-clear (b ∷ name) h =
-    let p = both (is_printed b) (list_all is_printed name) h in
+    let p = and_parts (is_printed b) (list_all is_printed name) h in
     no-feed-then (in_quotes b) (flat_map in_quotes name) (quotes-clear b p.0) (name-clear name p.1)
 
 -- ---- lengths
@@ -300,9 +301,9 @@ pub club_row_says : (roster : List NamedClub) (slot : ℕ) → slot < 10 → IsC
 unfolding is_club
 club_row_says roster slot few is =
     let club = club_in roster slot in
-    let parts = both (is_name club.name) (nat_le club.coefficient 999999) is in
-    let named = both (nat_le 1 (length club.name) && nat_le (length club.name) 20) (list_all is_printed club.name) parts.0 in
-    let short = leb-true (length club.name) 20 (both (nat_le 1 (length club.name)) (nat_le (length club.name) 20) named.0).1 in
+    let parts = and_parts (is_name club.name) (nat_le club.coefficient 999999) is in
+    let named = and_parts (nat_le 1 (length club.name) && nat_le (length club.name) 20) (list_all is_printed club.name) parts.0 in
+    let short = leb-true (length club.name) 20 (and_parts (nat_le 1 (length club.name)) (nat_le (length club.name) 20) named.0).1 in
     let most = leb-true club.coefficient 999999 parts.1 in
     let one = length-decimal-le 1 slot (omega arith) (omega arith) (omega arith) in
     let six = length-decimal-le 6 club.coefficient (omega arith) (omega arith) (omega arith) in

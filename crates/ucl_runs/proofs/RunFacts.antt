@@ -1,6 +1,6 @@
 -- The text of an input that was accepted.
-use Rattle.ucl_runs.proofs.Common.{Err, IfErr, IfSome, Input, IsFed, IsShown, List, MeansNight, NoThread, None, NotOnDuty, Ok, OnOk, Option}
-use Rattle.ucl_runs.proofs.Common.{OutOfMemory, Profile, Result, RunFault, Script, Some, Strangers, TextHas, TooManyReporters, screen_text}
+use Rattle.ucl_runs.proofs.Common.{Err, IfErr, IfSome, IsFed, IsShown, List, MeansNight, None, Ok, OnOk, Option}
+use Rattle.ucl_runs.proofs.Common.{Profile, Result, RunFault, Script, Some, TextHas, screen_text}
 use Rattle.ucl_runs.proofs.Common.{ℕ, ◌≡◌}
 use Rattle.std.specs.Prelude.{Bool}
 use Rattle.ucl_screen.specs.Script.{WrittenSheet}

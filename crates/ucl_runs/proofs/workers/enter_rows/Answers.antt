@@ -1,4 +1,4 @@
-use Rattle.ucl_runs.proofs.Common.{HasEntered, ReportsMore, rows_by, subst, sym, take, ℕ, ◌+◌, ◌∙◌, ◌≢◌}
+use Rattle.ucl_runs.proofs.Common.{sym, ◌∙◌, ◌≢◌}
 use Rattle.ucl_runs.proofs.EnteredRows.{entered_none, next_skipped, next_entered}
 use Rattle.ucl_runs.proofs.GateFacts.{next_rows, none_more, one_more, rows_other, rows_own}
 use Rattle.ucl_runs.proofs.workers.enter_rows.Goals.{then-get-reporter, else-get-reporter}
