@@ -1,52 +1,30 @@
 -- What an evening answers tells its moment.
-use Rattle.std.proofs.Common.{◌≡◌, ◌∙◌, ℕ, zero, suc, ◌+◌, ◌*◌, ◌/◌, ◌%◌, ◌^◌, ◌<◌, ◌≤◌, ◌&&◌, ◌==◌, Bool, true, false, refl, ap, arith, List, [], ◌∷◌, codes}
-use Rattle.std.proofs.Common.{length, Option, Some, None, le-leb, inl}
-use Rattle.std.specs.Prelude.{All, nat_le, option_and_then, Ok}
-use Rattle.std.specs.Fmt.{digit_glyph}
-use Rattle.std.proofs.Math.Nat.{pow-suc}
-use Rattle.std.proofs.lemmas.Bool.Decides.{nat_tests}
-use Rattle.std.proofs.lemmas.List.Elements.{All-head, All-tail}
-use Rattle.serde_json.specs.Data.{Data, member, no_members, number, object, string, unsigned}
+use Rattle.ucl_runs.proofs.Common.{and_parts}
+use Rattle.ucl_runs.proofs.Common.{All, All-head, All-tail, AreWords, AwayInTie, Data, IsClub, IsGroup, IsMoment, IsRoster, List}
+use Rattle.ucl_runs.proofs.Common.{Moment, NamedClub, NightEvent, None, Ok, Option, Profile, Some, Uefa, [], ap, arith, bad_slot}
+use Rattle.ucl_runs.proofs.Common.{club_items, codes, digit_glyph, false, hex_digits, inl, is_name, le-leb, length, letter_in, member}
+use Rattle.ucl_runs.proofs.Common.{nat_le, nat_tests, no_members, number_value, object, pow-suc, profile_name, profile_named, read_words}
+use Rattle.ucl_runs.proofs.Common.{refl, string, suc, true, unsigned, word_items, zero, ℕ, ◌%◌, ◌*◌, ◌+◌, ◌/◌, ◌<◌, ◌==◌, ◌^◌, ◌∙◌}
+use Rattle.ucl_runs.proofs.Common.{◌∷◌, ◌≡◌, ◌≤◌}
+use Rattle.std.specs.Prelude.{option_and_then}
+use Rattle.serde_json.specs.Data.{number}
 use Rattle.serde_json.specs.Find.{get}
 use Rattle.serde_json.proofs.OnLiterals.{serde_json_on_literals}
-use Rattle.ucl_board.specs.Words.{AreWords}
-use Rattle.ucl_order.specs.declared.profile.Profile.{Profile}
-use Rattle.ucl_order.specs.declared.profile.Profile.TheVariants.{Uefa, AwayInTie}
-use Rattle.ucl_order.specs.Names.{profile_name, profile_named}
-use Rattle.ucl_order.specs.Roster.{IsClub, IsRoster, NamedClub, bad_slot, bad_slot_from, is_club, is_name}
-use Rattle.ucl_screen.specs.Numbers.{hex_digits}
+use Rattle.ucl_order.specs.Roster.{bad_slot_from, is_club}
 use Rattle.ucl_screen.specs.Numbers.{hex_after, hex_digit, hex_word}
-use Rattle.ucl_screen.specs.declared.night.NightEvent.{NightEvent}
-use Rattle.ucl_screen.specs.Screen.{IsGroup, letter_in}
-use Rattle.ucl_screen.specs.WordsRead.{read_words}
 use Rattle.ucl_screen.proofs.ReadWords.{all-read}
-use Rattle.ucl_json.specs.Values.{accepted_value, club_items, edition_screen_value, number_value, screen_value, word_items}
+use Rattle.ucl_json.specs.Values.{accepted_value, edition_screen_value, screen_value}
 use Rattle.ucl_runs.proofs.WordDigits.{low, word-digits}
-use Rattle.ucl_json.specs.declared.moment.Moment.{Moment}
-use Rattle.ucl_json.specs.Told.{board_told, club_told, clubs_told, each_told, edition_in, edition_told, group_told, if_read, just, list_at, listed, moment_told}
+use Rattle.ucl_json.specs.Told.{board_told, club_told, clubs_told, each_told, edition_in, edition_told, group_told, if_read, just, list_at}
+use Rattle.ucl_json.specs.Told.{listed, moment_told}
 use Rattle.ucl_json.specs.Told.{order_told, roster_told, text_at, word_told}
-use Rattle.ucl_runs.specs.Answered.{AnswersTellTheirMoment, IsMoment}
+use Rattle.ucl_runs.specs.Answered.{AnswersTellTheirMoment}
 
 -- ---- digits
 
 glyph-back : (d : ℕ) → d < 16 → hex_digit (digit_glyph false d) ≡ Some d
-glyph-back zero h = refl
-glyph-back (suc zero) h = refl
-glyph-back (suc (suc zero)) h = refl
-glyph-back (suc (suc (suc zero))) h = refl
-glyph-back (suc (suc (suc (suc zero)))) h = refl
-glyph-back (suc (suc (suc (suc (suc zero))))) h = refl
-glyph-back (suc (suc (suc (suc (suc (suc zero)))))) h = refl
-glyph-back (suc (suc (suc (suc (suc (suc (suc zero))))))) h = refl
-glyph-back (suc (suc (suc (suc (suc (suc (suc (suc zero)))))))) h = refl
-glyph-back (suc (suc (suc (suc (suc (suc (suc (suc (suc zero))))))))) h = refl
-glyph-back (suc (suc (suc (suc (suc (suc (suc (suc (suc (suc zero)))))))))) h = refl
-glyph-back (suc (suc (suc (suc (suc (suc (suc (suc (suc (suc (suc zero))))))))))) h = refl
-glyph-back (suc (suc (suc (suc (suc (suc (suc (suc (suc (suc (suc (suc zero)))))))))))) h = refl
-glyph-back (suc (suc (suc (suc (suc (suc (suc (suc (suc (suc (suc (suc (suc zero))))))))))))) h = refl
-glyph-back (suc (suc (suc (suc (suc (suc (suc (suc (suc (suc (suc (suc (suc (suc zero)))))))))))))) h = refl
-glyph-back (suc (suc (suc (suc (suc (suc (suc (suc (suc (suc (suc (suc (suc (suc (suc zero))))))))))))))) h = refl
 glyph-back (suc (suc (suc (suc (suc (suc (suc (suc (suc (suc (suc (suc (suc (suc (suc (suc d)))))))))))))))) h = absurd (omega arith)
+glyph-back _ _ = refl
 
 one-digit : (n d : ℕ) (rest : List ℕ) → d < 16 → hex_after n (digit_glyph false d ∷ rest) ≡ hex_after (16 * n + d) rest
 unfolding hex_after
@@ -108,13 +86,9 @@ board-told board w bits = rw (count-words board, same-twelve (length board) w.tw
 
 -- ---- clubs
 
-pub both : (a b : Bool) → (a && b) ≡ true → (a ≡ true) × (b ≡ true)
-both true b h = (refl, h)
-both false b h = cc
-
 club-back : (club : NamedClub) → IsClub club → club_told (object (member (codes "club") (string club.name) (member (codes "coefficient") (number (unsigned club.coefficient)) no_members))) ≡ Some club
 unfolding is_club serde_json_on_literals
-club-back club h = let p = both (is_name club.name) (nat_le club.coefficient 999999) h in rw p.1 refl
+club-back club h = let p = and_parts (is_name club.name) (nat_le club.coefficient 999999) h in rw p.1 refl
 
 pub no-bad : (a b c d : NamedClub) → IsClub a → IsClub b → IsClub c → IsClub d → bad_slot (a ∷ b ∷ c ∷ d ∷ []) ≡ None
 unfolding bad_slot_from
@@ -125,12 +99,8 @@ unfolding each_told
 four a b c d p q r s = rw (club-back a p, club-back b q, club-back c r, club-back d s, no-bad a b c d p q r s) refl
 
 clubs-told : (clubs : List NamedClub) → IsRoster clubs → roster_told (listed (club_items clubs)) ≡ Some clubs
-clubs-told [] is = absurd (let t = is.four in omega arith)
-clubs-told (a ∷ []) is = absurd (let t = is.four in omega arith)
-clubs-told (a ∷ b ∷ []) is = absurd (let t = is.four in omega arith)
-clubs-told (a ∷ b ∷ c ∷ []) is = absurd (let t = is.four in omega arith)
 clubs-told (a ∷ b ∷ c ∷ d ∷ []) is = four a b c d (is.each 0 a (omega arith)) (is.each 1 a (omega arith)) (is.each 2 a (omega arith)) (is.each 3 a (omega arith))
-clubs-told (a ∷ b ∷ c ∷ d ∷ e ∷ more) is = absurd (let t = is.four in omega arith)
+clubs-told _ is = absurd (let t = is.four in omega arith)
 
 -- ---- the group and its order
 
@@ -158,12 +128,11 @@ Has value m = (text_at (codes "group") value ≡ Some (m.title.group ∷ [])) ×
     × (list_at (codes "clubs") value ≡ Some (listed (club_items m.roster))) × (list_at (codes "words") value ≡ Some (listed (word_items m.board)))
 
 tells : (value : Data) (m : Moment) → IsMoment m → Has value m → moment_told value ≡ Some m
-tells value m is (group, order, edition, clubs, words) = told-by value m
-    (ap (option_and_then letter_in) group ∙ letter-told m.title.group is.letter)
+tells value m is (group, order, edition, clubs, words) =
+    cc (told-by value m (ap (option_and_then letter_in) group ∙ letter-told m.title.group is.letter)
     (ap (option_and_then profile_named) order ∙ order-back m.title.profile)
     (ap edition_in edition ∙ edition-back m.title.edition is.edition)
-    (ap (option_and_then roster_told) clubs ∙ clubs-told m.roster is.clubs)
-    (rw words (board-told m.board is.words is.bits))
+    (ap (option_and_then roster_told) clubs ∙ clubs-told m.roster is.clubs) (rw words (board-told m.board is.words is.bits)))
 
 reply-has : (row : ℕ) (event : NightEvent) (event_number : ℕ) (m : Moment) → Has (accepted_value row event event_number m.title m.board m.roster) m
 unfolding accepted_value serde_json_on_literals

@@ -1,41 +1,23 @@
 -- The board of an evening as that of a legal history.
-use Rattle.std.proofs.Common.{◌≡◌, ℕ, ◌+◌, ◌≤◌, ◌==◌, ◌&&◌, Bool, true, false, List, [], ◌∷◌, ◌++◌, length, Option, Some, None, refl, sym, ap, ap₂, ◌∙◌, inl, inr, append-nil, arith}
-use Rattle.std.specs.Str.{bytes_eq}
-use Rattle.std.specs.Prelude.{All, codes, nat_le, if◌then◌else◌, Result}
-use Rattle.std.specs.List.{fold}
-use Rattle.std.proofs.lemmas.Bool.{cases_Bool}
-use Rattle.std.proofs.lemmas.Bool.Decides.{nat_tests}
-use Rattle.std.proofs.lemmas.List.Elements.{All-append, All-head, All-tail}
-use Rattle.ucl_word.specs.declared.event.Accepted.{Accepted}
-use Rattle.ucl_word.specs.declared.event.EventCall.{EventCall}
-use Rattle.ucl_word.specs.declared.event.Kind.{Kind}
-use Rattle.ucl_word.specs.declared.refusal.Refusal.{Refusal}
-use Rattle.ucl_word.specs.Names.{kind_named}
-use Rattle.ucl_word.specs.Rules.{reply_of}
-use Rattle.ucl_board.specs.declared.entry.Entry.{Entry}
-use Rattle.ucl_board.specs.Words.{game_at}
-use Rattle.ucl_board.specs.History.{Attempt, IsAttempt, IsLegal, after_attempt, board_after, board_of, sequential_reply}
-use Rattle.ucl_board.proofs.HistoryLaws.{attempt_board, attempt_legal, versions}
+use Rattle.ucl_runs.proofs.Common.{Accepted, All, All-append, All-head, All-tail, Attempt, Bad, Bool, Entry, Evening, Event, EventCall}
+use Rattle.ucl_runs.proofs.Common.{Format, FourFields, IsAttempt, IsLegal, Json, Kind, List, LiveArgs, Matches, NamedClub, NightEvent, None}
+use Rattle.ucl_runs.proofs.Common.{Nothing, Open, Option, Other, Refusal, Request, Restoring, Result, Row, Said, Screen, Some, Stage, Text}
+use Rattle.ucl_runs.proofs.Common.{Title, Words, [], after_attempt, answer_of, answer_said, ap, append-nil, ap₂, arith, attempt_board}
+use Rattle.ucl_runs.proofs.Common.{attempt_of, attempts_of, attempts_on, board_after, board_of, bytes_eq, cases_Bool, event_of}
+use Rattle.ucl_runs.proofs.Common.{event_or_bad, false, fold, game_at, if◌then◌else◌, in_range, inl, inr, kind_named, length, line_of_reply}
+use Rattle.ucl_runs.proofs.Common.{nat_le, nat_tests, next, next_board, next_stage, next_title, number, refl, reply_answer, reply_of}
+use Rattle.ucl_runs.proofs.Common.{request_of, said_on, screen_after, sequential_reply, shown_text, sym, true, ℕ, ◌&&◌, ◌++◌, ◌+◌, ◌==◌}
+use Rattle.ucl_runs.proofs.Common.{◌>>=◌, ◌∙◌, ◌∷◌, ◌≡◌, ◌≤◌}
+use Rattle.std.specs.Prelude.{codes}
+use Rattle.ucl_board.proofs.HistoryLaws.{attempt_legal, versions}
 use Rattle.ucl_board.proofs.Histories.{reply_is}
-use Rattle.ucl_order.specs.Roster.{NamedClub}
-use Rattle.ucl_runs.specs.Feed.{line_of_reply, reply_line}
-use Rattle.ucl_screen.specs.declared.night.NightEvent.{NightEvent}
-use Rattle.ucl_screen.specs.Numbers.{in_range, number}
-use Rattle.ucl_screen.specs.Events.{◌>>=◌, event_of, attempt_of}
-use Rattle.ucl_screen.specs.Rows.{FourFields}
-use Rattle.ucl_json.specs.declared.title.Title.{Title}
-use Rattle.ucl_command.specs.declared.options.Format.{Format}
-use Rattle.ucl_command.specs.declared.options.Format.TheVariants.{Text, Json}
-use Rattle.ucl_command.specs.declared.live.LiveArgs.{LiveArgs}
-use Rattle.ucl_runs.specs.declared.request.Request.{Request}
-use Rattle.ucl_runs.specs.declared.request.Request.TheVariants.{Bad, Event, Screen, Words, Matches}
-use Rattle.ucl_runs.specs.BadRows.{bad_field, shown_text}
-use Rattle.ucl_runs.specs.Requests.{asked_by, event_or_bad, request_of, shown_by}
-use Rattle.ucl_runs.specs.Rows.{Said, Nothing, Other, Row, said_on}
-use Rattle.ucl_runs.specs.Stages.{Stage, Open, Restoring, next_board, next_stage}
-use Rattle.ucl_runs.specs.LiveText.{Evening, after_lines, answer_said, answer_of, answers, next, next_title, reply_answer, screen_after}
-use Rattle.ucl_runs.specs.ByHistory.{answer_by_history, answers_by_history, attempts_in, attempts_of, attempts_on, line_by_history, reply_by_history}
-use Rattle.ucl_runs.specs.LiveLaws.{BoardsTakeEvents, EveningsAreSequential, FirstRowsOpenTheBoard, IsOtherRow, RefusedEveningsAreSilent, RepliesAreThoseOfFeed, fresh_at}
+use Rattle.ucl_runs.specs.Feed.{reply_line}
+use Rattle.ucl_runs.specs.BadRows.{bad_field}
+use Rattle.ucl_runs.specs.Requests.{asked_by, shown_by}
+use Rattle.ucl_runs.specs.LiveText.{after_lines, answers}
+use Rattle.ucl_runs.specs.ByHistory.{answer_by_history, answers_by_history, attempts_in, line_by_history, reply_by_history}
+use Rattle.ucl_runs.specs.LiveLaws.{BoardsTakeEvents, EveningsAreSequential, FirstRowsOpenTheBoard, IsOtherRow, RefusedEveningsAreSilent}
+use Rattle.ucl_runs.specs.LiveLaws.{RepliesAreThoseOfFeed, fresh_at}
 use Rattle.ucl_runs.proofs.Silence.{refused-shut, silent}
 
 -- an event is of a reporter and a match that there are
@@ -114,10 +96,9 @@ module _ (P : Request → Type 0) where
 pub asked : (f : FourFields) → AreAttempts (asked_by f)
 asked f = asked-by AreAttempts f none none none none (by-event f (event_of f) (event-is_attempt f))
 
-said-attempts : (r : Said) → All IsAttempt (attempts_on r)
-said-attempts Nothing = none
-said-attempts (Other eight) = none
+pub said-attempts : (r : Said) → All IsAttempt (attempts_on r)
 said-attempts (Row f) = asked f
+said-attempts _ = none
 
 all-attempts : (row : ℕ) (lines : List (List ℕ)) → All IsAttempt (attempts_in row lines)
 unfolding attempts_in
@@ -128,10 +109,7 @@ all-attempts row (line ∷ lines) = All-append IsAttempt (attempts_on (said_on r
 
 fold-request : (board : List ℕ) (r : Request) (more : List Attempt) → fold board_after board (attempts_of r ++ more) ≡ fold board_after (next_board board r) more
 fold-request board (Event e) more = refl
-fold-request board (Bad field) more = refl
-fold-request board Screen more = refl
-fold-request board Words more = refl
-fold-request board Matches more = refl
+fold-request _ _ _ = refl
 
 abbrev board_on : List ℕ → Said → List ℕ
 board_on board Nothing = board
@@ -139,14 +117,12 @@ board_on board (Other eight) = board
 board_on board (Row f) = next_board board (request_of (Row f))
 
 fold-said : (board : List ℕ) (r : Said) (more : List Attempt) → fold board_after board (attempts_on r ++ more) ≡ fold board_after (board_on board r) more
-fold-said board Nothing more = refl
-fold-said board (Other eight) more = refl
 fold-said board (Row f) more = fold-request board (request_of (Row f)) more
+fold-said _ _ _ = refl
 
 next-open : (options : LiveArgs) (row : ℕ) (clubs : List NamedClub) (board : List ℕ) (r : Said) → next_stage options row (Open clubs board) r ≡ Open clubs (board_on board r)
 next-open options row clubs board Nothing = refl
-next-open options row clubs board (Other eight) = refl
-next-open options row clubs board (Row f) = refl
+next-open _ _ _ _ _ = refl
 
 pub boards : BoardsTakeEvents
 unfolding after_lines attempts_in
@@ -205,10 +181,7 @@ request-answer : (options : LiveArgs) (title : Title) (row : ℕ) (clubs : List 
     → All IsAttempt (attempts_of request)
     → answer_of options title row clubs (board_of history) request shown ≡ answer_by_history options title row clubs history request shown
 request-answer options title row clubs history (Event event) shown legal all = event-answer options title row clubs history event shown legal (first (attempt_of event) [] all)
-request-answer options title row clubs history (Bad field) shown legal all = refl
-request-answer options title row clubs history Screen shown legal all = refl
-request-answer options title row clubs history Words shown legal all = refl
-request-answer options title row clubs history Matches shown legal all = refl
+request-answer _ _ _ _ _ _ _ _ _ = refl
 
 said-answer : (e : Evening) (clubs : List NamedClub) (history : List Entry) (r : Said) (shown : List ℕ) → IsLegal history → e.stage ≡ Open clubs (board_of history)
     → answer_said e r shown ≡ line_by_history e.options e.title e.row clubs history r shown
@@ -225,8 +198,7 @@ said-board history r legal = sym (fold-said (board_of history) r []) ∙ whole h
 
 said-stage : (e : Evening) (clubs : List NamedClub) (history : List Entry) (r : Said) → IsLegal history → e.stage ≡ Open clubs (board_of history)
     → (next e r).stage ≡ Open clubs (board_of (fold after_attempt history (attempts_on r)))
-said-stage e clubs history r legal h =
-    ap (λ (s : Stage). next_stage e.options e.row s r) h ∙ next-open e.options e.row clubs (board_of history) r ∙ ap (λ (b : List ℕ). Open clubs b) (said-board history r legal)
+said-stage e clubs history r legal h = cc (h, next-open e.options e.row clubs (board_of history) r, said-board history r legal)
 
 -- an open board keeps its title
 open-title : (title : Title) (s : Stage) (r : Said) (clubs : List NamedClub) (board : List ℕ) → s ≡ Open clubs board → next_title title s r ≡ title
@@ -256,14 +228,12 @@ sequential e lines clubs history legal h =
 first-answer : (e : Evening) (clubs : List NamedClub) (r : Said) (shown : List ℕ) → e.options.resumed ≡ false → e.stage ≡ Restoring clubs [] → IsOtherRow r
     → answer_said e r shown ≡ answer_said (fresh_at e clubs) r shown
 first-answer e clubs Nothing shown new h k = absurd k
-first-answer e clubs (Other eight) shown new h k = rw (h, new, k) refl
-first-answer e clubs (Row f) shown new h k = rw (h, new, k) refl
+first-answer _ _ _ _ new h k = rw (h, new, k) refl
 
 first-next : (e : Evening) (clubs : List NamedClub) (r : Said) → e.options.resumed ≡ false → e.stage ≡ Restoring clubs [] → IsOtherRow r
     → next e r ≡ next (fresh_at e clubs) r
 first-next e clubs Nothing new h k = absurd k
-first-next e clubs (Other eight) new h k = rw (h, new, k) refl
-first-next e clubs (Row f) new h k = rw (h, new, k) refl
+first-next _ _ _ new h k = rw (h, new, k) refl
 
 pub first-rows : FirstRowsOpenTheBoard
 unfolding answers after_lines

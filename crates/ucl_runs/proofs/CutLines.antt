@@ -1,14 +1,8 @@
 -- A text of lines that is cut: what has begun of its last line tells no moment, unless it lacks its end alone.
-use Rattle.std.proofs.Common.{◌≡◌, ◌≢◌, ◌∙◌, ◌⊎◌, ℕ, refl, sym, ap, subst, arith, inl, inr}
-use Rattle.std.proofs.Common.{List, [], ◌∷◌, ◌++◌, append_assoc, drop, take, None}
-use Rattle.std.specs.Prelude.{flat_map}
-use Rattle.std.proofs.lemmas.List.{take-append-drop}
-use Rattle.serde_json.specs.Data.{Data, null}
-use Rattle.serde_json.specs.Written.{compact_text}
-use Rattle.ucl_io.specs.Lines.{HasNoFeed, begun_line}
-use Rattle.ucl_io.proofs.Cuts.{begun_all, begun_append, begun_ended, begun_none}
-use Rattle.ucl_json.specs.Lines.{AreLinesOfValues, json_line}
-use Rattle.ucl_json.specs.Told.{moment_on}
+use Rattle.ucl_runs.proofs.Common.{AreLinesOfValues, Data, HasNoFeed, List, None, [], ap, append_assoc, arith, begun_append, begun_ended}
+use Rattle.ucl_runs.proofs.Common.{begun_line, begun_none, compact_text, drop, flat_map, inl, inr, json_line, moment_on, null, refl, subst}
+use Rattle.ucl_runs.proofs.Common.{sym, take, take-append-drop, ℕ, ◌++◌, ◌∙◌, ◌∷◌, ◌≡◌, ◌≢◌, ◌⊎◌}
+use Rattle.ucl_io.proofs.Cuts.{begun_all}
 use Rattle.ucl_json.proofs.CutTexts.{front-told}
 use Rattle.ucl_runs.proofs.JournalLines.{text-clean}
 
@@ -60,9 +54,7 @@ none-begun (x ∷ left) lost e = cc
 
 -- after a line
 begun-after : (value : Data) (left more : List ℕ) → left ≡ json_line value ++ more → begun_line 4097 [] left ≡ begun_line 4097 [] more
-begun-after value left more parts =
-    ap (begun_line 4097 []) parts ∙ begun_append 4097 [] (json_line value) more
-    ∙ ap (λ (l : List ℕ). begun_line 4097 l more) (begun_ended 4097 [] (compact_text value))
+begun-after value left more parts = cc (parts, begun_append 4097 [] (json_line value) more, begun_ended 4097 [] (compact_text value))
 
 cut-values : (values : List Data) (left lost : List ℕ) → flat_map json_line values ≡ left ++ lost → IsCut left lost
 cut-values [] left lost e = inl (none-begun left lost e)

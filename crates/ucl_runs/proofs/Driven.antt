@@ -1,14 +1,10 @@
 -- What the faults of a driver become.
-use Rattle.std.proofs.Common.{◌≡◌, Bool, false, refl, sym, ◌∙◌}
-use Rattle.std.specs.Prelude.{⊤, Err}
-use Rattle.ucl_io.specs.declared.fault.PumpFault.{PumpFault}
-use Rattle.ucl_io.specs.declared.fault.PumpFault.TheVariants.{Machine, ReadFailed, TooLong, WriteFailed}
+use Rattle.ucl_runs.proofs.Common.{Bool, Err, Machine, PumpFault, RunFault, false, refl, sym, ⊤, ◌∙◌, ◌≡◌}
 use Rattle.ucl_io.specs.Output.{SinkEnds}
+use Rattle.ucl_runs.specs.Run.{SinkFails, fault_of, is_read_failed}
 use Rattle.ucl_io.specs.Pumping as driver
 use Rattle.ucl_screen.specs.declared.fault.InputFault.TheVariants as input
-use Rattle.ucl_runs.specs.declared.fault.RunFault.{RunFault}
 use Rattle.ucl_runs.specs.declared.fault.RunFault.TheVariants as run
-use Rattle.ucl_runs.specs.Run.{SinkFails, fault_of, is_read_failed}
 
 -- it is no fault of a device
 pub record IsOwn (fault : RunFault) : Type 0 where
@@ -23,26 +19,12 @@ IfMachine P _ = ⊤
 -- whatever a run would give
 same_read : (U W : Type 0) (fault : RunFault) → is_read_failed {U = U} (Err fault) ≡ is_read_failed {U = W} (Err fault)
 same_read U W (run.Input (input.BadRow row)) = refl
-same_read U W (run.Input (input.BadRoster slot)) = refl
-same_read U W (run.Input (input.BadWordAt index)) = refl
-same_read U W (run.Input input.OutOfMemory) = refl
-same_read U W (run.Input (input.ReadFailed bytes)) = refl
-same_read U W (run.Input input.TooLong) = refl
-same_read U W run.OutOfMemory = refl
-same_read U W (run.WriteFailed written) = refl
-same_read U W (run.NotOnDuty row) = refl
-same_read U W run.NoThread = refl
-same_read U W run.TooManyReporters = refl
-same_read U W (run.Strangers version) = refl
+same_read _ _ _ = refl
 
 pub reads : (V U : Type 0) (f : PumpFault RunFault) (failed : Bool) → IfMachine IsOwn f → failed ≡ driver.is_source_failed {V = V} (Err f) → failed ≡ is_read_failed {U = U} (Err (fault_of f))
-reads V U (ReadFailed n) failed own e = e
-reads V U TooLong failed own e = e
-reads V U (WriteFailed n) failed own e = e
 reads V U (Machine fault) failed own e = e ∙ sym own.not_read ∙ same_read ⊤ U fault
+reads _ _ _ _ _ e = e
 
 pub sinks : (V : Type 0) (f : PumpFault RunFault) (failed failed2 : Bool) → IfMachine IsOwn f → SinkEnds {V = V} failed failed2 (Err f) → SinkFails failed failed2 (fault_of f)
-sinks V (ReadFailed n) failed failed2 own e = e
-sinks V TooLong failed failed2 own e = e
-sinks V (WriteFailed n) failed failed2 own e = e
 sinks V (Machine fault) failed failed2 own e = own.sink failed failed2 e
+sinks _ _ _ _ _ e = e

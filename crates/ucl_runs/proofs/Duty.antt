@@ -1,10 +1,9 @@
 -- Which rows are of reporters on duty.
-use Rattle.std.proofs.Common.{◌≡◌, ◌⊎◌, inl, inr, ⊎_elim, ℕ, zero, suc, ◌+◌, ◌<◌, ◌≤◌, List, ◌++◌, length, take, drop, get_or, sym, ap, ◌∙◌, subst, arith, All, take_all, length-take-le}
-use Rattle.std.proofs.lemmas.List.{take-append-drop}
+use Rattle.ucl_runs.proofs.Common.{IsOnDuty, List, NightEvent, ap, arith, drop, first-event, get_or, inl, inr, length, subst, suc, sym}
+use Rattle.ucl_runs.proofs.Common.{take, take-append-drop, zero, ℕ, ⊎_elim, ◌++◌, ◌+◌, ◌<◌, ◌∙◌, ◌≡◌, ◌≤◌, ◌⊎◌}
+use Rattle.std.proofs.Common.{All, take_all, length-take-le}
 use Rattle.std.proofs.lemmas.List.Elements.{All-more}
-use Rattle.ucl_screen.specs.declared.night.NightEvent.{NightEvent}
-use Rattle.ucl_runs.specs.Nights.{IsOnDuty, IsFirstOffDuty}
-use Rattle.ucl_screen.proofs.EventsInTurn.{first-event}
+use Rattle.ucl_runs.specs.Nights.{IsFirstOffDuty}
 
 one_or_two : (n : ℕ) → 1 ≤ n → n ≤ 2 → (n ≡ 1) ⊎ (n ≡ 2)
 one_or_two zero low high = absurd (omega arith)

@@ -1,21 +1,12 @@
 -- What is shown of lines.
-use Rattle.std.proofs.Common.{◌≡◌, ◌⊎◌, ◌==◌, ℕ, true, false, List, [], ◌∷◌, ◌++◌, Option, Some, None, refl, sym, ap, ap₂, ◌∙◌, inl, inr, subst, append_assoc, append-nil, arith}
-use Rattle.std.specs.Prelude.{⊤, All, flat_map}
-use Rattle.std.proofs.lemmas.Bool.{and_parts, and_right, cases_Bool, eqb-true}
-use Rattle.std.proofs.lemmas.Bool.Decides.{nat_tests}
-use Rattle.std.proofs.lemmas.List.Elements.{All-append, All-cons, All-head, All-nil, All-tail}
-use Rattle.ucl_screen.specs.Screen.{screen_text}
-use Rattle.ucl_json.specs.declared.moment.Moment.{Moment}
-use Rattle.ucl_runs.specs.declared.following.Following.{Following}
-use Rattle.ucl_order.specs.declared.profile.Profile.{Profile}
-use Rattle.ucl_order.specs.declared.profile.Profile.TheVariants.{Uefa, AwayInTie}
-use Rattle.ucl_json.specs.declared.title.Title.{Title}
-use Rattle.ucl_runs.specs.Titles.{is_asked, is_same_order}
-use Rattle.ucl_command.specs.declared.follow.FollowArgs.{FollowArgs}
+use Rattle.ucl_runs.proofs.Common.{All, All-append, All-cons, All-head, All-nil, All-tail, AwayInTie, FollowArgs, Following, IsNoNewer}
+use Rattle.ucl_runs.proofs.Common.{IsToldIn, List, Moment, None, Option, Profile, Some, Title, Uefa, [], after_told, and_parts, and_right}
+use Rattle.ucl_runs.proofs.Common.{ap, append-nil, append_assoc, ap₂, arith, cases_Bool, eqb-true, false, flat_map, inl, inr, is_asked}
+use Rattle.ucl_runs.proofs.Common.{is_later, is_newer, is_same_order, is_shown, moment_on, nat_tests, passed_over, refl, screen_text}
+use Rattle.ucl_runs.proofs.Common.{shown_too, subst, sym, told_text, true, unseen, ℕ, ⊤, ◌++◌, ◌==◌, ◌∙◌, ◌∷◌, ◌≡◌, ◌⊎◌}
 use Rattle.ucl_command.specs.declared.follow.FollowShape.TheVariants.{Text}
-use Rattle.ucl_json.specs.Told.{moment_on}
-use Rattle.ucl_runs.specs.Follow.{after_told, followed, is_later, is_newer, is_shown, passed_over, shown_too, sights, told_text, unseen}
-use Rattle.ucl_runs.specs.Latest.{IsLineOfThese, IsNoNewer, IsFollowed, IsShownLast, IsToldIn, LatestIsShownLast, OthersDoNotMatter, RiseAbove}
+use Rattle.ucl_runs.specs.Follow.{followed, sights}
+use Rattle.ucl_runs.specs.Latest.{IsLineOfThese, IsFollowed, IsShownLast, LatestIsShownLast, OthersDoNotMatter, RiseAbove}
 use Rattle.ucl_runs.specs.Latest.{ShownVersionsRise, moments_shown, shown_of}
 
 abbrev Lines : Type 0
@@ -41,7 +32,7 @@ rise f (line ∷ lines) = rise-told f (moment_on line) lines (λ g. rise g lines
 
 both-parts : (xs ys : List Moment) → flat_map screen_of (xs ++ ys) ≡ flat_map screen_of xs ++ flat_map screen_of ys
 both-parts [] ys = refl
-both-parts (x ∷ xs) ys = ap (λ (l : List ℕ). screen_of x ++ l) (both-parts xs ys) ∙ sym (append_assoc (screen_of x) (flat_map screen_of xs) (flat_map screen_of ys))
+both-parts (x ∷ xs) ys = cc (both-parts xs ys, append_assoc (screen_of x) (flat_map screen_of xs) (flat_map screen_of ys))
 
 one-text : (f : Following) (o : Option Moment) → told_text Text f o ≡ flat_map screen_of (shown_of f o)
 one-text f None = refl
@@ -59,7 +50,7 @@ text f (line ∷ lines) =
 told-first : (line : List ℕ) (lines : Lines) (m : Moment) → moment_on line ≡ Some m → IsToldIn (line ∷ lines) m
 told-first line lines m e = (line, ([], lines, refl), e)
 
-told-later : (line : List ℕ) (lines : Lines) (m : Moment) → IsToldIn lines m → IsToldIn (line ∷ lines) m
+pub told-later : (line : List ℕ) (lines : Lines) (m : Moment) → IsToldIn lines m → IsToldIn (line ∷ lines) m
 told-later line lines m (l, (before, after, e), k) = (l, (line ∷ before, after, ap (λ (ls : Lines). line ∷ ls) e), k)
 
 weaker : (line : List ℕ) (lines : Lines) (ms : List Moment) → All (IsToldIn lines) ms → All (IsToldIn (line ∷ lines)) ms
@@ -84,10 +75,9 @@ told f (line ∷ lines) =
 -- ---- of one group and order
 
 same-order : (one other : Profile) → is_same_order one other ≡ true → one ≡ other
-same-order Uefa Uefa h = refl
-same-order AwayInTie AwayInTie h = refl
 same-order Uefa AwayInTie h = cc
 same-order AwayInTie Uefa h = cc
+same-order _ _ _ = refl
 
 itself : (order : Profile) → is_same_order order order ≡ true
 itself Uefa = refl

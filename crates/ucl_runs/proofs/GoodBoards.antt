@@ -1,27 +1,22 @@
 -- Boards of valid words, through an evening.
-use Rattle.std.proofs.Common.{◌≡◌, ℕ, ◌+◌, ◌-◌, ◌<◌, ◌==◌, ◌&&◌, Bool, true, false, List, [], ◌∷◌, length, get_or, set, Option, Some, None}
-use Rattle.std.proofs.Common.{refl, ap, ◌∙◌, subst, arith}
-use Rattle.std.specs.Prelude.{All, Result, Ok, Err}
-use Rattle.std.proofs.lemmas.Bool.Decides.{nat_tests}
+use Rattle.ucl_runs.proofs.Common.{and_parts}
+use Rattle.ucl_runs.proofs.Common.{All, All-cons, All-get_or, All-nil, AreWords, Attempt, Bool, Err, IsAttempt, IsValid, IsWord, List}
+use Rattle.ucl_runs.proofs.Common.{MatchRecord, None, Ok, Option, Refusal, Result, Some, [], ap, arith, board_after, board_of, false}
+use Rattle.ucl_runs.proofs.Common.{game_at, get_or, length, nat_le, nat_tests, record_at, record_back, refl, refusal_of, set, subst, true}
+use Rattle.ucl_runs.proofs.Common.{version_of, word_of, word_valid, ℕ, ◌&&◌, ◌+◌, ◌-◌, ◌<◌, ◌==◌, ◌∙◌, ◌∷◌, ◌≡◌}
 use Rattle.std.proofs.lemmas.List.{get_or-set_same, get_or-set_other, length-set}
-use Rattle.std.proofs.lemmas.List.Elements.{All-cons, All-from_get_or, All-get_or, All-nil}
+use Rattle.std.proofs.lemmas.List.Elements.{All-from_get_or}
 use Rattle.std.proofs.lemmas.List.Sums.{sum_by-set}
 use mathlib.Core.Logic.{dite}
 use native.Mathlib.Decide.{ℕ_discrete}
-use Rattle.ucl_word.specs.declared.record.MatchRecord.{MatchRecord}
-use Rattle.ucl_word.specs.declared.refusal.Refusal.{Refusal}
-use Rattle.ucl_word.specs.Record.{is_valid, IsValid}
-use Rattle.ucl_word.specs.Layout.{IsWord, record_at, word_of}
-use Rattle.ucl_word.specs.Rules.{after, refusal_of}
+use Rattle.ucl_word.specs.Record.{is_valid}
+use Rattle.ucl_word.specs.Rules.{after}
 use Rattle.ucl_word.proofs.AcceptedEvents.{accepts, after_number, after_valid}
 use Rattle.ucl_word.proofs.Sequences.{may_none}
-use Rattle.ucl_word.proofs.Words.{record_back, word_valid}
-use Rattle.ucl_board.specs.Words.{AreWords, game_at, version_of}
-use Rattle.ucl_board.specs.History.{Attempt, IsAttempt, MayFollow, board_after, board_of}
+use Rattle.ucl_board.specs.History.{MayFollow}
 use Rattle.ucl_board.proofs.Histories.{board_words}
 use Rattle.ucl_screen.specs.WordsRead.{before_words, first_record_at, is_first_word, is_word, read_word, read_words}
 use Rattle.ucl_word.specs.Migration.{first_word_of, most_in_first}
-use Rattle.std.specs.Prelude.{nat_le}
 
 packed : (m : MatchRecord) → IsValid m → IsWord (word_of m)
 packed m v = record { of = m; valid = v; packed = refl }
@@ -68,10 +63,6 @@ module _ (words : List ℕ) (a : Attempt) (w : AreWords words) (is : IsAttempt a
 
 -- ---- words that were read
 
-both : (a b : Bool) → (a && b) ≡ true → (a ≡ true) × (b ≡ true)
-both true b h = (refl, h)
-both false b h = cc
-
 same-test : (a b : ℕ) → (a == b) ≡ true → a ≡ b
 same-test a b e = grind (arith, nat_tests)
 
@@ -82,13 +73,13 @@ of-either : (word new : ℕ) (p q : Bool) → is_word word ≡ p → is_first_wo
 unfolding read_word
 of-either word new true q e f h =
     let same : word ≡ new = same-some word new (rw e at h) in
-    let p = both (is_valid (record_at word)) (word_of (record_at word) == word) e in
+    let p = and_parts (is_valid (record_at word)) (word_of (record_at word) == word) e in
     subst IsWord same (record { of = record_at word; valid = p.0; packed = same-test (word_of (record_at word)) word p.1 })
 of-either word new false true e f h =
     let same : word_of (first_record_at word) ≡ new = same-some (word_of (first_record_at word)) new (rw (e, f) at h) in
     let m = first_record_at word in
-    let p = both (is_valid m && nat_le m.number (most_in_first m.state)) (first_word_of m == word) f in
-    let q = both (is_valid m) (nat_le m.number (most_in_first m.state)) p.0 in
+    let p = and_parts (is_valid m && nat_le m.number (most_in_first m.state)) (first_word_of m == word) f in
+    let q = and_parts (is_valid m) (nat_le m.number (most_in_first m.state)) p.0 in
     subst IsWord same (packed m q.0)
 of-either word new false false e f h = cc (rw (e, f) at h)
 

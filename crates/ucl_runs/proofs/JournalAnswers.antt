@@ -1,160 +1,38 @@
 -- What the lines of an evening's answers tell: nothing, or the moment after their line.
-use Rattle.std.proofs.Common.{◌≡◌, ◌∙◌, ℕ, ◌+◌, ◌-◌, ◌^◌, ◌<◌, ◌≤◌, ◌==◌, ◌&&◌, Bool, true, false, refl, sym, ap, subst, arith, List, [], ◌∷◌, ◌++◌}
-use Rattle.std.proofs.Common.{length, leb-true, Option, Some, None, inl, inr}
-use Rattle.std.specs.Prelude.{⊤, ◌||◌, All, if◌then◌else◌, nat_le, Result, Ok, Err}
-use Rattle.std.specs.Result.{is_ok}
-use Rattle.std.proofs.lemmas.Bool.{cases_Bool}
-use Rattle.std.proofs.lemmas.Bool.Decides.{nat_tests}
-use Rattle.std.proofs.lemmas.List.Elements.{All-append, All-cons, All-get_or, All-head, All-nil, All-tail}
-use Rattle.ucl_io.specs.Lines.{begun_line}
-use Rattle.ucl_io.proofs.Cuts.{begun_none, ended_none}
-use Rattle.ucl_word.specs.declared.event.EventCall.{EventCall}
-use Rattle.ucl_word.specs.declared.event.Kind.{Kind}
-use Rattle.ucl_word.specs.declared.event.Kind.TheVariants.{KickOff}
-use Rattle.ucl_word.specs.declared.record.MatchRecord.{MatchRecord}
-use Rattle.ucl_word.specs.declared.refusal.Refusal.{Refusal}
-use Rattle.ucl_word.specs.Layout.{IsWord}
-use Rattle.ucl_word.specs.Names.{kind_named}
-use Rattle.ucl_word.specs.Record.{IsValid}
-use Rattle.ucl_word.specs.Rules.{answer, refusal_of, reply_of}
-use Rattle.ucl_word.proofs.ValidRecords.{number_valid}
-use Rattle.ucl_word.proofs.Words.{word_valid}
-use Rattle.ucl_board.specs.History.{Attempt, IsAttempt, board_after, board_of}
-use Rattle.ucl_board.specs.Words.{AreWords, game_at, version_of, word_at}
-use Rattle.ucl_board.proofs.Repeats.{no_refusal}
-use Rattle.ucl_order.specs.Roster.{IsClub, IsRoster, NamedClub, bad_slot, bad_slot_from, is_club}
-use Rattle.ucl_screen.specs.declared.night.NightEvent.{NightEvent}
-use Rattle.ucl_screen.specs.Events.{◌>>=◌, event_of, attempt_of}
-use Rattle.ucl_screen.specs.Numbers.{in_range, number}
-use Rattle.ucl_screen.specs.Rows.{FourFields}
-use Rattle.ucl_screen.specs.WordsRead.{read_words}
-use Rattle.ucl_json.specs.Lines.{json_line}
-use Rattle.ucl_json.specs.Values.{accepted_value, edition_screen_value, reply_value}
-use Rattle.ucl_command.specs.declared.live.LiveArgs.{LiveArgs}
-use Rattle.ucl_command.specs.declared.options.Format.TheVariants.{Json}
-use Rattle.ucl_runs.specs.declared.request.Request.{Request}
-use Rattle.ucl_runs.specs.declared.request.Request.TheVariants.{Bad, Event, Screen, Words, Matches}
-use Rattle.ucl_runs.specs.ByHistory.{attempts_of, attempts_on}
-use Rattle.ucl_runs.specs.BadRows.{shown_text}
-use Rattle.ucl_json.specs.declared.title.Title.{Title}
-use Rattle.ucl_screen.specs.Screen.{IsGroup, letter_in}
-use Rattle.ucl_order.specs.declared.profile.Profile.{Profile}
-use Rattle.ucl_order.specs.Names.{profile_named}
-use Rattle.ucl_runs.specs.declared.live_fault.BeginningFault.TheVariants.{OtherGroup}
-use Rattle.ucl_runs.specs.Titles.{asked_group, asked_title, edition_by, is_as_asked, is_group_row, title_by, title_said}
+use Rattle.ucl_runs.proofs.GoodStages.{IsGood, good-next, good-opened, of-request}
+use Rattle.ucl_runs.proofs.Common.{and_parts}
+use Rattle.ucl_runs.proofs.Common.{All, All-append, All-cons, All-get_or, All-head, All-nil, All-tail, AreWords, Attempt, Bad, Beginning}
+use Rattle.ucl_runs.proofs.Common.{Bool, Evening, Event, EventCall, FourFields, HasNumbers, IsAttempt, IsGroup, IsMoment}
+use Rattle.ucl_runs.proofs.Common.{IsRoster, IsValid, IsWord, Json, KickOff, Kind, List, LiveArgs, MatchRecord, Matches, Moment, NamedClub}
+use Rattle.ucl_runs.proofs.Common.{Naming, NightEvent, None, Nothing, Open, Option, Other, Profile, Refusal, Refused}
+use Rattle.ucl_runs.proofs.Common.{Request, Restoring, Row, Said, Screen, Some, Stage, Title, Words, [], accepted_value}
+use Rattle.ucl_runs.proofs.Common.{after_row, answer, answer_at, answer_of}
+use Rattle.ucl_runs.proofs.Common.{answer_said, answers, ap, arith, asked_by, asked_group, asked_title, attempt_of, attempts_of}
+use Rattle.ucl_runs.proofs.Common.{attempts_on, begun_line, begun_none, board_after, cases_Bool}
+use Rattle.ucl_runs.proofs.Common.{edition_screen_value, ended_none, event_of, event_or_bad, false, game_at, if◌then◌else◌, in_range, inl}
+use Rattle.ucl_runs.proofs.Common.{inr, is_group_row, is_ok, json_line, kind_named, leb-true, length, letter_in}
+use Rattle.ucl_runs.proofs.Common.{moment_at, moment_now, moment_on, moment_with, nat_le, nat_tests, next, next_board}
+use Rattle.ucl_runs.proofs.Common.{next_title, no_refusal, number, number_valid, opened, profile_named, refl, refusal_of}
+use Rattle.ucl_runs.proofs.Common.{reply_answer, reply_of, reply_value, request_of, said_on, screen_after, screen_answer}
+use Rattle.ucl_runs.proofs.Common.{shown_text, start_of, subst, sym, title_by, title_said, true, version_at, version_of}
+use Rattle.ucl_runs.proofs.Common.{word_at, word_valid, ℕ, ⊤, ◌&&◌, ◌++◌, ◌+◌, ◌-◌, ◌<◌, ◌>>=◌, ◌^◌, ◌∙◌}
+use Rattle.ucl_runs.proofs.Common.{◌∷◌, ◌≡◌, ◌≤◌}
+use Rattle.ucl_runs.specs.Titles.{edition_by}
 use Rattle.ucl_command.specs.Groups.{may_be_asked}
 use Rattle.ucl_command.proofs.Letters.{asked_letter}
 use Rattle.ucl_runs.proofs.Silence.{is_open}
-use Rattle.ucl_runs.specs.Requests.{asked_by, event_or_bad, request_of}
-use Rattle.ucl_runs.specs.Rows.{Said, Nothing, Other, Row, said_on}
-use Rattle.ucl_runs.specs.Stages.{Stage, Beginning, Naming, Open, Refused, Restoring, after_club, after_beginning, after_row, after_title, after_word}
-use Rattle.ucl_runs.specs.Stages.{club_said, is_word_row, next_board, next_stage, opened, restored, with_roster, with_words, word_said}
-use Rattle.ucl_runs.specs.LiveText.{Evening, after_lines, answer_at, answer_of, answer_said, answers, next, next_title, reply_answer, screen_after, screen_answer, start_of, title_or}
+use Rattle.ucl_runs.specs.LiveText.{after_lines, title_or}
 use Rattle.ucl_runs.proofs.Boards.{AreAttempts, asked, asked-by, event-is_attempt}
-use Rattle.ucl_runs.proofs.GoodBoards.{fresh-good, good-after, read-good, version-after}
+use Rattle.ucl_runs.proofs.GoodBoards.{good-after, version-after}
 use Rattle.ucl_runs.proofs.OneByOne.{after-none, after-one, answers-none, answers-one}
-use Rattle.ucl_json.specs.declared.moment.Moment.{Moment}
-use Rattle.ucl_runs.specs.Answered.{HasNumbers, IsMoment}
-use Rattle.ucl_json.specs.Told.{moment_on}
-use Rattle.ucl_runs.specs.Follow.{version_at}
-use Rattle.ucl_runs.specs.Journals.{moment_at, moment_now, moment_with}
-use Rattle.ucl_runs.proofs.JournalLines.{IsLineThat, IsShown, TellsAlone, TellsAtMost, alone-as, alone-line, alone-none, alone-then, bad-line}
-use Rattle.ucl_runs.proofs.JournalLines.{begun-then, board-fits, found-fits, lines-then, lines_in, matches-line, refused-line, shown-text, value-line, words-line}
-use Rattle.ucl_runs.proofs.Answered.{both}
+use Rattle.ucl_runs.proofs.JournalLines.{IsLineThat, IsShown, TellsAlone, TellsAtMost, alone-as, alone-line, alone-none, alone-then}
+use Rattle.ucl_runs.proofs.JournalLines.{bad-line}
+use Rattle.ucl_runs.proofs.JournalLines.{begun-then, board-fits, found-fits, lines-then, lines_in, matches-line, refused-line, shown-text}
+use Rattle.ucl_runs.proofs.JournalLines.{value-line, words-line}
 use Rattle.ucl_runs.proofs.Matches.{told-lines}
 
 abbrev pub Lines : Type 0
 Lines = List (List ℕ)
-
--- ---- stages of an evening: rosters and boards that there are
-
-abbrev pub IsGood : Stage → Type 0
-IsGood (Open clubs board) = IsRoster clubs × AreWords board
-IsGood (Restoring clubs words) = IsRoster clubs
-IsGood Beginning = ⊤
-IsGood (Naming clubs) = ⊤
-IsGood (Refused fault) = ⊤
-
-all-clubs : (slot : ℕ) (clubs : List NamedClub) → bad_slot_from slot clubs ≡ None → All IsClub clubs
-unfolding bad_slot_from
-all-clubs slot [] h = All-nil IsClub
-all-clubs slot (club ∷ clubs) h = elim (cases_Bool (is_club club)) [
-  | inl y ↦ All-cons IsClub club clubs y (all-clubs (slot + 1) clubs (rw y at h))
-  | inr n ↦ cc (rw n at h)
-]
-
-either : (b : Bool) (s r : Stage) → (b ≡ true → IsGood s) → IsGood r → IsGood (if b then s else r)
-either true s r p q = p refl
-either false s r p q = q
-
-good-roster : (clubs : List NamedClub) (slot : Option ℕ) → length clubs ≡ 4 → bad_slot clubs ≡ slot → IsGood (with_roster clubs slot)
-good-roster clubs None four e = record { four = four; each = all-clubs 1 clubs e }
-good-roster clubs (Some slot) four e = tt
-
-same-four : (n : ℕ) → (n == 4) ≡ true → n ≡ 4
-same-four n e = grind (arith, nat_tests)
-
-good-club : (row : ℕ) (clubs : List NamedClub) (club : Option NamedClub) → IsGood (after_club row clubs club)
-good-club row clubs None = tt
-good-club row clubs (Some club) =
-    let all = clubs ++ club ∷ [] in
-    either (length all == 4) (with_roster all (bad_slot all)) (Naming all) (λ e. good-roster all (bad_slot all) (same-four (length all) e) refl) tt
-
-good-restored : (clubs : List NamedClub) (words : List ℕ) (r : Result (List ℕ) ℕ) → IsRoster clubs → length words ≡ 12 → read_words 1 words ≡ r → IsGood (restored clubs r)
-good-restored clubs words (Ok board) is long e = (is, read-good words board long e)
-good-restored clubs words (Err index) is long e = tt
-
-same-twelve : (n : ℕ) → (n == 12) ≡ true → n ≡ 12
-same-twelve n e = grind (arith, nat_tests)
-
-good-words : (clubs : List NamedClub) (words : List ℕ) → IsRoster clubs → IsGood (with_words clubs words)
-good-words clubs words is =
-    either (length words == 12) (restored clubs (read_words 1 words)) (Restoring clubs words)
-    (λ e. good-restored clubs words (read_words 1 words) is (same-twelve (length words) e) refl) is
-
-good-word : (row : ℕ) (clubs : List NamedClub) (words : List ℕ) (word : Option ℕ) → IsRoster clubs → IsGood (after_word row clubs words word)
-good-word row clubs words None is = tt
-good-word row clubs words (Some word) is = good-words clubs (words ++ word ∷ []) is
-
-good-opened : (options : LiveArgs) (s : Stage) (r : Said) → IsGood s → IsGood (opened options s r)
-good-opened options Beginning r g = tt
-good-opened options (Restoring clubs []) r g = either (options.resumed || is_word_row r) (Restoring clubs []) (Open clubs (board_of [])) (λ _. g) (g, fresh-good)
-good-opened options (Restoring clubs (word ∷ words)) r g = g
-good-opened options (Naming clubs) r g = tt
-good-opened options (Open clubs board) r g = g
-good-opened options (Refused fault) r g = tt
-
-good-board : (board : List ℕ) (request : Request) → AreWords board → AreAttempts request → AreWords (next_board board request)
-good-board board (Event event) w all = good-after board (attempt_of event) w (All-head IsAttempt (attempt_of event) [] all)
-good-board board (Bad field) w all = w
-good-board board Screen w all = w
-good-board board Words w all = w
-good-board board Matches w all = w
-
-of-request : (r : Said) → AreAttempts (request_of r)
-of-request Nothing = All-nil IsAttempt
-of-request (Other eight) = All-nil IsAttempt
-of-request (Row f) = asked f
-
-good-title : (options : LiveArgs) (row : ℕ) (title : Option Title) → IsGood (after_title options row title)
-good-title options row None = tt
-good-title options row (Some title) = either (is_as_asked options title) (Naming []) (Refused OtherGroup) (λ e. tt) tt
-
-good-first : (options : LiveArgs) (row : ℕ) (r : Said) → IsGood (after_beginning options row r)
-good-first options row r =
-    either (is_group_row r) (after_title options row (title_said r)) (after_club row [] (club_said 1 r)) (λ e. good-title options row (title_said r)) (good-club row [] (club_said 1 r))
-
-good-row : (options : LiveArgs) (row : ℕ) (s : Stage) (r : Said) → IsGood s → IsGood (after_row options row s r)
-good-row options row Beginning r g = good-first options row r
-good-row options row (Naming clubs) r g = good-club row clubs (club_said (length clubs + 1) r)
-good-row options row (Restoring clubs words) r g = good-word row clubs words (word_said (length words + 1) r) g
-good-row options row (Open clubs board) r g = (g.0, good-board board (request_of r) g.1 (of-request r))
-good-row options row (Refused fault) r g = tt
-
-good-next : (options : LiveArgs) (row : ℕ) (s : Stage) (r : Said) → IsGood s → IsGood (next_stage options row s r)
-good-next options row s Nothing g = g
-good-next options row s (Other eight) g = good-row options row (opened options s (Other eight)) (Other eight) (good-opened options s (Other eight) g)
-good-next options row s (Row f) g = good-row options row (opened options s (Row f)) (Row f) (good-opened options s (Row f) g)
 
 ranged : (low high : ℕ) (o : Option ℕ) (n : ℕ) → in_range low high o ≡ Some n → n ≤ high
 ranged low high None n h = cc
@@ -174,7 +52,7 @@ within [] group e = cc
 within (b ∷ []) group e = elim (cases_Bool (nat_le 65 b && nat_le b 72)) [
   | inl y ↦
       let same : b ≡ group = cc (rw y at e) in
-      let p = both (nat_le 65 b) (nat_le b 72) y in subst IsGroup same (leb-true 65 b p.0, leb-true b 72 p.1)
+      let p = and_parts (nat_le 65 b) (nat_le b 72) y in subst IsGroup same (leb-true 65 b p.0, leb-true b 72 p.1)
   | inr n ↦ cc (rw n at e)
 ]
 within (b ∷ c ∷ more) group e = cc
@@ -215,16 +93,12 @@ either-title true x y p q = p
 either-title false x y p q = q
 
 row-title : (title : Title) (r : Said) → IsTitle title → IsTitle (title_or title (title_said r))
-row-title title Nothing is = is
-row-title title (Other eight) is = is
 row-title title (Row f) is = or-title title (title_by f) is (said-title f)
+row-title _ _ is = is
 
 next-good : (title : Title) (s : Stage) (r : Said) → IsTitle title → IsTitle (next_title title s r)
 next-good title Beginning r is = either-title (is_group_row r) (title_or title (title_said r)) title (row-title title r is) is
-next-good title (Naming clubs) r is = is
-next-good title (Restoring clubs words) r is = is
-next-good title (Open clubs board) r is = is
-next-good title (Refused fault) r is = is
+next-good _ _ _ is = is
 
 -- ---- evenings
 
@@ -305,9 +179,8 @@ fits-asked : (f : FourFields) → Fits (asked_by f)
 fits-asked f = asked-by Fits f tt tt tt tt (fits-event f (event_of f) (numbers f))
 
 fits-request : (r : Said) → Fits (request_of r)
-fits-request Nothing = tt
-fits-request (Other eight) = tt
 fits-request (Row f) = fits-asked f
+fits-request _ = tt
 
 -- ---- what the answer to a line tells
 
@@ -399,11 +272,8 @@ stage-tells options title other row (Refused fault) r shown json fits t g short 
 
 -- a line that opens the board, or finds it open, says no title
 same-title : (options : LiveArgs) (title : Title) (s : Stage) (r : Said) → is_open (opened options s r) ≡ true → next_title title s r ≡ title
-same-title options title (Open clubs board) r h = refl
 same-title options title Beginning r h = cc
-same-title options title (Naming clubs) r h = refl
-same-title options title (Restoring clubs words) r h = refl
-same-title options title (Refused fault) r h = refl
+same-title _ _ _ _ _ = refl
 
 line-tells : (e : Evening) (r : Said) (shown : List ℕ) → e.options.format ≡ Json → e.row < 2 ^ 64 → IsSound e → IsShown shown
     → TellsAlone (moment_now (next e r)) (answer_said e r shown)

@@ -1,37 +1,21 @@
 -- The last moment of a journal, and what comes after a crash.
-use Rattle.std.proofs.Common.{◌≡◌, ◌∙◌, ◌⊎◌, ℕ, ◌+◌, ◌^◌, ◌≤◌, true, refl, sym, ap, ap₂, subst}
-use Rattle.std.proofs.Common.{arith, List, [], ◌∷◌, ◌++◌, length, append-nil, append_assoc, length-append, Option, Some, None, inl, inr}
-use Rattle.std.specs.List.{fold}
-use Rattle.ucl_word.specs.declared.refusal.Refusal.{Refusal}
-use Rattle.ucl_word.specs.Rules.{refusal_of}
-use Rattle.ucl_board.specs.History.{board_after, board_of}
-use Rattle.ucl_board.specs.Words.{game_at, version_of}
+use Rattle.ucl_runs.proofs.Common.{Evening, Event, FollowArgs, Following, FourFields, IsAnsweredIn, IsNoNewer, IsToldIn, Json, List}
+use Rattle.ucl_runs.proofs.Common.{Moment, NamedClub, NightEvent, None, Nothing, Open, Option, Other, Refusal, Request, Row, Said}
+use Rattle.ucl_runs.proofs.Common.{Some, Stage, TakesEvent, [], after_lines, answers, ap, append-nil, append_assoc, ap₂}
+use Rattle.ucl_runs.proofs.Common.{arith, asked_by, attempt_of, attempts_of, attempts_on, board_after, board_of, fold, game_at, inl, inr}
+use Rattle.ucl_runs.proofs.Common.{is_asked, length, length-append, lines_of, moment_at, moment_now, moment_with, next, next_board}
+use Rattle.ucl_runs.proofs.Common.{next_stage, opened, opened_at, refl, refusal_of, resume, resumed_row, said_on, start_of, subst, sym}
+use Rattle.ucl_runs.proofs.Common.{true, unseen, version_at, version_of, whole_lines, ℕ, ◌++◌, ◌+◌, ◌^◌, ◌∙◌, ◌∷◌, ◌≡◌, ◌≤◌, ◌⊎◌}
 use Rattle.ucl_board.proofs.Repeats.{go_on}
-use Rattle.ucl_order.specs.Roster.{NamedClub}
-use Rattle.ucl_screen.specs.Events.{attempt_of}
-use Rattle.ucl_screen.specs.Rows.{FourFields}
-use Rattle.ucl_screen.specs.declared.night.NightEvent.{NightEvent}
-use Rattle.ucl_command.specs.declared.follow.FollowArgs.{FollowArgs}
-use Rattle.ucl_command.specs.declared.options.Format.TheVariants.{Json}
-use Rattle.ucl_runs.specs.declared.request.Request.{Request}
-use Rattle.ucl_runs.specs.declared.request.Request.TheVariants.{Bad, Event, Screen, Words, Matches}
-use Rattle.ucl_runs.specs.ByHistory.{attempts_in, attempts_of, attempts_on}
-use Rattle.ucl_runs.specs.InputLines.{lines_of}
-use Rattle.ucl_runs.specs.Requests.{asked_by}
-use Rattle.ucl_runs.specs.Rows.{Said, Nothing, Other, Row, said_on}
-use Rattle.ucl_runs.specs.Stages.{Stage, Open, next_board, next_stage, opened}
-use Rattle.ucl_runs.specs.Titles.{is_asked}
-use Rattle.ucl_runs.specs.LiveText.{Evening, after_lines, answers, next, start_of}
+use Rattle.ucl_runs.specs.ByHistory.{attempts_in}
 use Rattle.ucl_runs.proofs.Boards.{boards}
 use Rattle.ucl_runs.proofs.OneByOne.{after-append, after-none, after-one}
-use Rattle.ucl_runs.specs.declared.following.Following.{Following}
-use Rattle.ucl_json.specs.declared.moment.Moment.{Moment}
-use Rattle.ucl_runs.specs.Follow.{unseen, version_at, whole_lines}
-use Rattle.ucl_runs.specs.Journals.{CrashesChangeNothing, IsAnsweredIn, TakesEvent, JournalsEndWithTheBoard, moment_at, moment_now, moment_with, resume}
-use Rattle.ucl_runs.specs.Latest.{IsLatest, IsNoNewer, IsToldIn}
-use Rattle.ucl_runs.specs.Resuming.{opened_at, resumed_row}
-use Rattle.ucl_runs.proofs.JournalAnswers.{AllTold, IsGood, IsOnTheWay, IsSound, Lines, good-after-lines, start-sound, weaken}
-use Rattle.ucl_runs.proofs.Journals.{HasTitle, IsPast, among, boards-rise, end_of, first-answer, greatest, in-lines, later-by-version, lines-attempts}
+use Rattle.ucl_runs.specs.Journals.{CrashesChangeNothing, JournalsEndWithTheBoard}
+use Rattle.ucl_runs.specs.Latest.{IsLatest}
+use Rattle.ucl_runs.proofs.GoodStages.{IsGood}
+use Rattle.ucl_runs.proofs.JournalAnswers.{AllTold, IsOnTheWay, IsSound, Lines, good-after-lines, start-sound, weaken}
+use Rattle.ucl_runs.proofs.Journals.{HasTitle, IsPast, among, boards-rise, end_of, first-answer, greatest, in-lines, later-by-version}
+use Rattle.ucl_runs.proofs.Journals.{lines-attempts}
 use Rattle.ucl_runs.proofs.Journals.{lines-few, none-past, not-later, open-with, row-after, title-after, told-in, told-in-left, way}
 use Rattle.ucl_runs.proofs.Repeats.{all-same}
 use Rattle.ucl_runs.proofs.FollowShown.{titled-so}
@@ -62,10 +46,7 @@ module _ (e : Evening) (line : List ℕ) (clubs : List NamedClub) (board : List 
   by-request f (Event event) is asks =
       by-reply (Row f) (Event event) event (refusal_of (game_at board event.call.game) event.call.expected event.call.kind) is (ap attempts_of asks)
       (ap (λ (q : Request). Open clubs (next_board board q)) asks) refl
-  by-request f (Bad field) is asks = inl (moved (Row f) is ∙ ap (λ (q : Request). Open clubs (next_board board q)) asks)
-  by-request f Screen is asks = inl (moved (Row f) is ∙ ap (λ (q : Request). Open clubs (next_board board q)) asks)
-  by-request f Words is asks = inl (moved (Row f) is ∙ ap (λ (q : Request). Open clubs (next_board board q)) asks)
-  by-request f Matches is asks = inl (moved (Row f) is ∙ ap (λ (q : Request). Open clubs (next_board board q)) asks)
+  by-request f _ is asks = inl (moved (Row f) is ∙ ap (λ (q : Request). Open clubs (next_board board q)) asks)
 
   by-said : (r : Said) → said_on e.row line ≡ r → StaysOr e line clubs board
   by-said Nothing is = inl (moved Nothing is)
@@ -111,7 +92,7 @@ module _ (args : FollowArgs) (e : Evening) (lines : Lines) (json : e.options.for
     title-same : (first rest : Lines) (clubs : List NamedClub) (board : List ℕ) → lines ≡ first ++ rest → (after_lines e first).stage ≡ Open clubs board
         → (after_lines e lines).title ≡ (after_lines e first).title
     title-same first rest clubs board parts stands =
-        ap (λ (ls : Lines). (after_lines e ls).title) parts ∙ ap (λ (f : Evening). f.title) (after-append e first rest) ∙ title-after (after_lines e first) rest clubs board stands
+        cc (parts, after-append e first rest, title-after (after_lines e first) rest clubs board stands)
 
     no-newer : (told : Option Moment) → IsOnTheWay e lines told → IsNoNewer args m told
     no-newer None h = tt

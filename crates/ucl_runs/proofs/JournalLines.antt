@@ -1,37 +1,23 @@
 -- The lines that an evening in JSON answers, and what each tells.
-use Rattle.std.proofs.Common.{◌≡◌, ◌∙◌, ◌⊎◌, ℕ, ◌/◌, ◌^◌, ◌<◌, ◌≤◌, Bool, true, false, refl, sym, ap, subst, arith, List, [], ◌∷◌, ◌++◌, length, take, Option, Some, None, inl, inr}
-use Rattle.std.specs.Prelude.{◌≢◌, All, IfSome, if◌then◌else◌}
-use Rattle.std.specs.List.{list_all}
-use Rattle.std.proofs.lemmas.Bool.{and_from, cases_Bool, cases_lt}
-use Rattle.std.proofs.lemmas.List.{append_cancel_right, length-take, length-take-le, take_all}
-use Rattle.std.proofs.lemmas.List.Elements.{All-append, All-cons, All-head, All-nil, All-tail}
-use Rattle.serde_json.specs.Data.{Data}
-use Rattle.serde_json.specs.Written.{compact_text}
+use Rattle.ucl_runs.proofs.Common.{All, All-append, All-cons, All-head, All-nil, All-tail, AreWords, Bool, Data, HasNoFeed, HasNumbers}
+use Rattle.ucl_runs.proofs.Common.{IfSome, IsRoster, IsValid, IsWord, Kind, List, MatchRecord, Moment, NamedClub, NightEvent, None, Option}
+use Rattle.ucl_runs.proofs.Common.{Refusal, Some, [], and_from, ap, arith, bad_row_value, begun_append, begun_ended, begun_line, begun_none}
+use Rattle.ucl_runs.proofs.Common.{cases_Bool, cases_lt, compact_text, ended_append, ended_line, ended_lines, ended_none, false, field_name}
+use Rattle.ucl_runs.proofs.Common.{found_of, if◌then◌else◌, inl, inr, is_printed, json_line, length, list_all, moment_on, number_valid}
+use Rattle.ucl_runs.proofs.Common.{one_line, record_at, refl, refusal_code, refusal_name, refused_by, shown_text, subst, sym, take}
+use Rattle.ucl_runs.proofs.Common.{take_all, true, word_valid, words_value, ℕ, ◌++◌, ◌/◌, ◌<◌, ◌^◌, ◌∙◌, ◌∷◌, ◌≡◌, ◌≤◌, ◌⊎◌}
+use Rattle.std.specs.Prelude.{◌≢◌}
+use Rattle.std.proofs.lemmas.List.{append_cancel_right, length-take, length-take-le}
 use Rattle.serde_json.proofs.OnLiterals.{serde_json_on_literals}
-use Rattle.ucl_io.specs.Lines.{HasNoFeed, begun_line, ended_lines}
-use Rattle.ucl_io.proofs.Cuts.{begun_append, begun_ended, begun_none, ended_append, ended_line, ended_none}
-use Rattle.ucl_word.specs.declared.event.Kind.{Kind}
-use Rattle.ucl_word.specs.declared.record.MatchRecord.{MatchRecord}
-use Rattle.ucl_word.specs.declared.refusal.Refusal.{Refusal}
-use Rattle.ucl_word.specs.declared.refusal.Refusal.TheVariants.{Stale, Finished, NotFinished, NotStarted, AlreadyStarted, NumberFull, NoGoal, NoCaution, LimitReached}
-use Rattle.ucl_word.specs.Layout.{IsWord, record_at}
-use Rattle.ucl_word.specs.Record.{IsValid}
-use Rattle.ucl_word.specs.Names.{found_of, refusal_code, refusal_name}
+use Rattle.ucl_word.specs.declared.refusal.Refusal.TheVariants.{Stale, Finished, NotFinished, NotStarted, AlreadyStarted, NumberFull}
+use Rattle.ucl_word.specs.declared.refusal.Refusal.TheVariants.{NoGoal, NoCaution, LimitReached}
 use Rattle.ucl_word.specs.Rules.{refusal_of}
-use Rattle.ucl_word.proofs.ValidRecords.{number_valid}
-use Rattle.ucl_word.proofs.Words.{word_high, word_valid}
-use Rattle.ucl_board.specs.Words.{AreWords}
-use Rattle.ucl_order.specs.Roster.{IsRoster, NamedClub, is_printed}
-use Rattle.ucl_screen.specs.declared.night.NightEvent.{NightEvent}
-use Rattle.ucl_json.specs.Lines.{json_line}
-use Rattle.ucl_json.specs.Values.{bad_row_value, coded_value, matches_value, numbered_value, refused_by, refused_value, words_value}
-use Rattle.ucl_json.proofs.OneLine.{one_line}
-use Rattle.ucl_runs.specs.BadRows.{field_name, printed, shown_text}
+use Rattle.ucl_word.proofs.Words.{word_high}
+use Rattle.ucl_json.specs.Values.{coded_value, matches_value, numbered_value, refused_value}
+use Rattle.ucl_runs.specs.BadRows.{printed}
 use Rattle.ucl_runs.specs.declared.bad_row.BadField.{BadField}
-use Rattle.ucl_runs.specs.declared.bad_row.BadField.TheVariants.{Count, Reporter, Match, Expected, Event}
-use Rattle.ucl_json.specs.declared.moment.Moment.{Moment}
-use Rattle.ucl_runs.specs.Answered.{HasNumbers}
-use Rattle.ucl_json.specs.Told.{moment_on, moment_told}
+use Rattle.ucl_runs.specs.declared.bad_row.BadField.TheVariants.{Count}
+use Rattle.ucl_json.specs.Told.{moment_told}
 use Rattle.ucl_json.proofs.Members.{too-long}
 use Rattle.ucl_runs.proofs.Matches.{match-plain, matches-plain, matches-short}
 use Rattle.ucl_runs.proofs.PlainAnswers.{kind-text, words-plain}
@@ -175,10 +161,7 @@ shown-text line = record {
 
 field-text : (field : BadField) → IsText (field_name field) × (length (field_name field) ≤ 8)
 field-text Count = (refl, omega arith)
-field-text Reporter = (refl, omega arith)
-field-text Match = (refl, omega arith)
-field-text Expected = (refl, omega arith)
-field-text Event = (refl, omega arith)
+field-text _ = (refl, omega arith)
 
 pub bad-line : (o : Option Moment) (row : ℕ) (field : BadField) (shown : List ℕ) → row < 2 ^ 64 → IsShown shown → TellsAlone o (json_line (bad_row_value row (field_name field) shown))
 unfolding serde_json_on_literals
@@ -207,14 +190,7 @@ matches-line o row board clubs r is w =
 
 name-text : (refusal : Refusal) → IsText (refusal_name refusal) × (length (refusal_name refusal) ≤ 20) × (refusal_code refusal < 2 ^ 64)
 name-text (Stale found) = (refl, omega arith, omega arith)
-name-text Finished = (refl, omega arith, omega arith)
-name-text NotStarted = (refl, omega arith, omega arith)
-name-text AlreadyStarted = (refl, omega arith, omega arith)
-name-text NumberFull = (refl, omega arith, omega arith)
-name-text NoGoal = (refl, omega arith, omega arith)
-name-text NoCaution = (refl, omega arith, omega arith)
-name-text LimitReached = (refl, omega arith, omega arith)
-name-text NotFinished = (refl, omega arith, omega arith)
+name-text _ = (refl, omega arith, omega arith)
 
 refused-by-line : (o : Option Moment) (row : ℕ) (event : NightEvent) (code : ℕ) (name : List ℕ) (found : Option ℕ) (m : MatchRecord)
     → row < 2 ^ 64 → HasNumbers event → code < 2 ^ 64 → IsText name → length name ≤ 20 → IfSome found (λ n. n < 2 ^ 64) → IsValid m

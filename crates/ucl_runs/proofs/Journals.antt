@@ -1,43 +1,33 @@
 -- Journals that are cut, and what they resume.
-use Rattle.std.proofs.Common.{◌≡◌, ◌∙◌, ◌⊎◌, ℕ, ◌+◌, ◌^◌, ◌<◌, ◌≤◌, true, false, refl, sym, ap, subst, arith, List, [], ◌∷◌, ◌++◌, length, append_assoc, length-append, Option, Some, None, inl, inr}
-use Rattle.std.specs.Prelude.{⊤, All, IfSome}
-use Rattle.std.specs.List.{fold}
-use Rattle.std.proofs.lemmas.Bool.{and_from, and_parts, and_right, cases_Bool, cases_lt}
-use Rattle.std.proofs.lemmas.Bool.Decides.{nat_tests}
-use Rattle.std.proofs.lemmas.List.Elements.{All-append, All-cons, All-head, All-nil, All-tail}
+use Rattle.ucl_runs.proofs.Boards.{said-attempts}
+use Rattle.ucl_runs.proofs.FollowShown.{told-later}
+use Rattle.ucl_runs.proofs.Common.{All, All-append, All-cons, All-head, All-nil, All-tail, AreWords, Attempt, Beginning, Evening, Following}
+use Rattle.ucl_runs.proofs.Common.{IfSome, IsAnsweredIn, IsAttempt, IsMoment, IsToldIn, Json, List, LiveArgs, Moment, NamedClub, Naming}
+use Rattle.ucl_runs.proofs.Common.{None, Open, Option, Refusal, Refused, Restoring, Said, Some, Stage, TakesEvent}
+use Rattle.ucl_runs.proofs.Common.{Title, [], after_told, and_from, and_parts, and_right, answers, ap, append_assoc, arith, attempts_on}
+use Rattle.ucl_runs.proofs.Common.{begun_append, begun_none, board_after, cases_Bool, cases_lt, ended_append, ended_none, false, fold}
+use Rattle.ucl_runs.proofs.Common.{follow_text, game_at, inl, inr, is_as_asked, is_asked, is_later, is_newer, is_plain_title, is_shown}
+use Rattle.ucl_runs.proofs.Common.{last_lines, length, length-append, lines_of, live_text, moment_at, moment_now, moment_on, moment_with}
+use Rattle.ucl_runs.proofs.Common.{nat_tests, next, next_title, opened, opened_at, passed_over, refl, refusal_of, resume, resumed_row}
+use Rattle.ucl_runs.proofs.Common.{resuming_text, said_on, shown_text, shown_too, start_of, subst, sym, told_text, true, unseen, version_at}
+use Rattle.ucl_runs.proofs.Common.{version_of, whole_lines, ℕ, ⊤, ◌++◌, ◌+◌, ◌<◌, ◌^◌, ◌∙◌, ◌∷◌, ◌≡◌, ◌≤◌, ◌⊎◌}
 use Rattle.ucl_io.specs.Lines.{begun_line, ended_lines}
-use Rattle.ucl_io.proofs.Cuts.{begun_append, begun_none, ended_append, ended_none, few_lines}
-use Rattle.ucl_word.specs.declared.refusal.Refusal.{Refusal}
-use Rattle.ucl_word.specs.Rules.{refusal_of}
-use Rattle.ucl_board.specs.History.{Attempt, IsAttempt, board_after}
-use Rattle.ucl_board.specs.Words.{AreWords, game_at, version_of}
-use Rattle.ucl_order.specs.Roster.{NamedClub}
+use Rattle.ucl_io.proofs.Cuts.{few_lines}
 use Rattle.ucl_command.specs.declared.follow.FollowShape.TheVariants.{Rows}
-use Rattle.ucl_command.specs.declared.live.LiveArgs.{LiveArgs}
-use Rattle.ucl_command.specs.declared.options.Format.TheVariants.{Json}
-use Rattle.ucl_runs.specs.Titles.{is_as_asked, is_asked}
 use Rattle.ucl_runs.proofs.Silence.{is_open}
-use Rattle.ucl_runs.specs.BadRows.{shown_text}
-use Rattle.ucl_runs.specs.ByHistory.{attempts_in, attempts_on}
-use Rattle.ucl_runs.specs.InputLines.{last_lines, lines_of}
-use Rattle.ucl_runs.specs.Rows.{Said, Nothing, Other, Row, said_on}
-use Rattle.ucl_runs.specs.Stages.{Stage, Beginning, Naming, Open, Refused, Restoring, opened}
-use Rattle.ucl_runs.specs.LiveText.{Evening, after_lines, answers, live_text, next, next_title, start_of}
+use Rattle.ucl_runs.specs.ByHistory.{attempts_in}
+use Rattle.ucl_runs.specs.LiveText.{after_lines}
 use Rattle.ucl_runs.proofs.Boards.{asked, boards}
 use Rattle.ucl_runs.proofs.GoodBoards.{good-after, version-after}
 use Rattle.ucl_runs.proofs.OneByOne.{after-append, after-last, after-none, answers-append, answers-one}
-use Rattle.ucl_json.specs.declared.title.Title.{Title}
-use Rattle.ucl_json.specs.declared.moment.Moment.{Moment}
-use Rattle.ucl_runs.specs.declared.following.Following.{Following}
-use Rattle.ucl_runs.specs.Answered.{IsMoment}
-use Rattle.ucl_json.specs.Told.{moment_on}
-use Rattle.ucl_runs.specs.Follow.{after_told, follow_text, followed, is_later, is_newer, is_plain_title, is_shown, passed_over, resuming_text}
-use Rattle.ucl_runs.specs.Follow.{shown_too, sights, told_text, unseen, version_at, whole_lines}
-use Rattle.ucl_runs.specs.Journals.{CutJournalsResume, TakesEvent, IsAnsweredIn, moment_at, moment_now, moment_with, resume}
+use Rattle.ucl_runs.specs.Follow.{followed}
+use Rattle.ucl_runs.specs.Follow.{sights}
+use Rattle.ucl_runs.specs.Journals.{CutJournalsResume}
 use Rattle.ucl_runs.specs.Journals.{AreStarts, GoesOnAgain, IsStart, JournalsGoOn, Start, gone_on, journal, newest_in}
-use Rattle.ucl_runs.specs.Latest.{IsToldIn}
-use Rattle.ucl_runs.specs.Resuming.{OpensTheBoard, opened_at, resumed_row}
-use Rattle.ucl_runs.proofs.JournalAnswers.{AllTold, AnswersFirst, IsGood, IsOnTheWay, IsSound, Lines, answers-first, begun-of, good-after-lines, on-the-way, stage-good, start-sound}
+use Rattle.ucl_runs.specs.Resuming.{OpensTheBoard}
+use Rattle.ucl_runs.proofs.GoodStages.{IsGood}
+use Rattle.ucl_runs.proofs.JournalAnswers.{AllTold, AnswersFirst, IsOnTheWay, IsSound, Lines, answers-first, begun-of}
+use Rattle.ucl_runs.proofs.JournalAnswers.{good-after-lines, on-the-way, stage-good, start-sound}
 use Rattle.ucl_runs.proofs.JournalLines.{lines-then, lines_in}
 use Rattle.ucl_runs.proofs.CutLines.{IsCut, cut-lines}
 use Rattle.ucl_runs.proofs.JsonLines.{json-lines}
@@ -105,9 +95,6 @@ pub record Greatest (f : Following) (lines : Lines) (end : Following) : Type 0 w
   pub still : (m : Moment) → is_shown f m ≡ false → is_shown end m ≡ false
   pub from : IsSame f end ⊎ ((m : Moment) × IsToldIn lines m × HasTitle end m)
 
-told-later : (line : List ℕ) (lines : Lines) (m : Moment) → IsToldIn lines m → IsToldIn (line ∷ lines) m
-told-later line lines m (l, (before, after, e), k) = (l, (line ∷ before, after, ap (λ (ls : Lines). line ∷ ls) e), k)
-
 past-still : (f end : Following) → ((m : Moment) → is_shown f m ≡ false → is_shown end m ≡ false) → (o : Option Moment) → IsPast f o → IsPast end o
 past-still f end still None h = tt
 past-still f end still (Some m) h = still m h
@@ -147,8 +134,7 @@ abbrev pub end_of : Lines → Following
 end_of lines = followed (unseen resume) lines
 
 rows-of : (left : List ℕ) (o : Option Moment) → (end_of (whole_lines left)).newest ≡ o → follow_text resume left ≡ resuming_text Rows o
-rows-of left o e =
-    ap (λ (l : List ℕ). l ++ resuming_text Rows (end_of (whole_lines left)).newest) (no-sights (unseen resume) (whole_lines left)) ∙ ap (resuming_text Rows) e
+rows-of left o e = cc (no-sights (unseen resume) (whole_lines left), e)
 
 -- the newest of a follower is this moment, where there is one
 abbrev pub Stands : Following → Option Moment → Type 0
@@ -222,11 +208,6 @@ all-rise board (a ∷ attempts) w all =
     (one-rises board a w is (refusal_of (game_at board a.call.game) a.call.expected a.call.kind) refl)
     (all-rise (board_after board a) attempts (good-after board a w is) (All-tail IsAttempt a attempts all))
 
-said-attempts : (r : Said) → All IsAttempt (attempts_on r)
-said-attempts Nothing = All-nil IsAttempt
-said-attempts (Other eight) = All-nil IsAttempt
-said-attempts (Row f) = asked f
-
 pub lines-attempts : (row : ℕ) (lines : Lines) → All IsAttempt (attempts_in row lines)
 unfolding attempts_in
 lines-attempts row [] = All-nil IsAttempt
@@ -267,11 +248,8 @@ open-with title (Refused fault) m e = cc
 
 -- once a board is open, its title stays
 open-title : (title : Title) (s : Stage) (r : Said) → is_open s ≡ true → next_title title s r ≡ title
-open-title title (Open clubs board) r h = refl
 open-title title Beginning r h = cc
-open-title title (Naming clubs) r h = refl
-open-title title (Restoring clubs words) r h = refl
-open-title title (Refused fault) r h = refl
+open-title _ _ _ _ = refl
 
 pub title-after : (e : Evening) (lines : Lines) (clubs : List NamedClub) (board : List ℕ) → e.stage ≡ Open clubs board → (after_lines e lines).title ≡ e.title
 unfolding after_lines
@@ -475,7 +453,7 @@ journal-ends : (starts : List Start) → begun-of (journal starts) ≡ []
 unfolding journal
 journal-ends [] = begun_none 4097 []
 journal-ends (start ∷ before) =
-    begun_append 4097 [] (journal before) (start.left ++ 10 ∷ []) ∙ ap (λ (l : List ℕ). begun_line 4097 l (start.left ++ 10 ∷ [])) (journal-ends before) ∙ (with-end start.left).0
+    cc (begun_append 4097 [] (journal before) (start.left ++ 10 ∷ []), journal-ends before, (with-end start.left).0)
 
 -- a follower of the journal, after what the last start left and an end of line
 journal-end : (start : Start) (before : List Start) → end_of (lines_in (journal (start ∷ before))) ≡ followed (end_of (lines_in (journal before))) (lines_in (start.left ++ 10 ∷ []))
@@ -486,8 +464,7 @@ journal-end start before =
 
 torn-end : (f : Following) (left : List ℕ) → moment_on (begun-of left) ≡ None → followed f (lines_in (left ++ 10 ∷ [])) ≡ passed_over (followed f (lines_in left))
 unfolding followed
-torn-end f left none =
-    ap (followed f) (with-end left).1 ∙ followed-then f (lines_in left) (begun-of left ∷ []) ∙ ap (after_told (followed f (lines_in left))) none
+torn-end f left none = cc ((with-end left).1, followed-then f (lines_in left) (begun-of left ∷ []), none)
 
 opened-sound : (options : LiveArgs) (m : Moment) → IsMoment m → IsSound (opened_at options m)
 opened-sound options m good = record { stage = (good.clubs, good.words); title = record { letter = good.letter; edition = good.edition } }
@@ -542,9 +519,7 @@ module _ (before : List Start) (start : Start) (is : IsStart before start) (know
   sound = gone-sound start.options o known.good
 
   went : live_text e start.input ≡ start.left ++ is.lost
-  went =
-      sym (gone-text start.options o start.input known.good is.asked)
-      ∙ ap (λ (t : List ℕ). live_text (start_of start.options) (t ++ start.input)) (sym (rows-of (journal before) o refl)) ∙ is.cut
+  went = cc (gone-text start.options o start.input known.good is.asked, rows-of (journal before) o refl, is.cut)
 
   row-fits : e.row + length input-lines ≤ 2 ^ 64
   row-fits =

@@ -1,26 +1,12 @@
 -- In JSON an evening answers by lines of values.
-use Rattle.std.proofs.Common.{◌≡◌, ℕ, Bool, true, false, List, [], ◌∷◌}
-use Rattle.std.specs.Prelude.{Result, Ok, Err, if◌then◌else◌}
-use Rattle.ucl_word.specs.declared.event.Accepted.{Accepted}
-use Rattle.ucl_word.specs.declared.refusal.Refusal.{Refusal}
-use Rattle.ucl_word.specs.Rules.{reply_of}
-use Rattle.ucl_board.specs.Words.{game_at, version_of}
-use Rattle.ucl_order.specs.Roster.{NamedClub}
-use Rattle.ucl_screen.specs.declared.night.NightEvent.{NightEvent}
-use Rattle.ucl_json.specs.Lines.{AreLinesOfValues}
-use Rattle.ucl_json.specs.declared.title.Title.{Title}
-use Rattle.ucl_json.specs.Values.{bad_row_value, edition_screen_value, matches_value, reply_value, words_value}
+use Rattle.ucl_runs.proofs.Common.{Accepted, AreLinesOfValues, Bad, Bool, Err, Evening, Event, Format, Json, List, LiveArgs}
+use Rattle.ucl_runs.proofs.Common.{Matches, NamedClub, NightEvent, Nothing, Ok, Open, Other, Refusal, Request}
+use Rattle.ucl_runs.proofs.Common.{Result, Row, Said, Screen, Stage, Title, Words, [], answer_at, answer_of, answer_said, bad_row_value}
+use Rattle.ucl_runs.proofs.Common.{edition_screen_value, false, field_name, game_at, if◌then◌else◌, matches_value, next, next_board, opened}
+use Rattle.ucl_runs.proofs.Common.{reply_answer, reply_of, reply_value, request_of, said_on, screen_after, screen_answer, shown_text, true}
+use Rattle.ucl_runs.proofs.Common.{version_of, words_value, ℕ, ◌∷◌, ◌≡◌}
 use Rattle.ucl_json.proofs.OneLine.{line_of_value, lines_then, no_lines}
-use Rattle.ucl_command.specs.declared.options.Format.{Format}
-use Rattle.ucl_command.specs.declared.options.Format.TheVariants.{Json}
-use Rattle.ucl_command.specs.declared.live.LiveArgs.{LiveArgs}
-use Rattle.ucl_runs.specs.declared.request.Request.{Request}
-use Rattle.ucl_runs.specs.declared.request.Request.TheVariants.{Bad, Event, Screen, Words, Matches}
-use Rattle.ucl_runs.specs.Rows.{Said, Nothing, Other, Row, said_on}
-use Rattle.ucl_runs.specs.BadRows.{field_name, shown_text}
-use Rattle.ucl_runs.specs.Requests.{request_of}
-use Rattle.ucl_runs.specs.Stages.{Stage, Beginning, Naming, Restoring, Open, Refused, next_board, opened}
-use Rattle.ucl_runs.specs.LiveText.{Evening, answer_said, answer_at, answer_of, answers, next, reply_answer, screen_after, screen_answer}
+use Rattle.ucl_runs.specs.LiveText.{answers}
 use Rattle.ucl_runs.specs.LiveLaws.{JsonAnswersAreLines}
 
 screen-line : (format : Format) (title : Title) (row : ℕ) (clubs : List NamedClub) (board : List ℕ) → format ≡ Json → AreLinesOfValues (screen_answer format title row clubs board)
@@ -54,11 +40,8 @@ request-lines options title row clubs board Matches shown h = rw h (line_of_valu
 
 stage-lines : (options : LiveArgs) (title : Title) (row : ℕ) (stage : Stage) (request : Request) (shown : List ℕ) → options.format ≡ Json
     → AreLinesOfValues (answer_at options title row stage request shown)
-stage-lines options title row Beginning request shown h = no_lines
-stage-lines options title row (Naming clubs) request shown h = no_lines
-stage-lines options title row (Restoring clubs words) request shown h = no_lines
 stage-lines options title row (Open clubs board) request shown h = request-lines options title row clubs board request shown h
-stage-lines options title row (Refused fault) request shown h = no_lines
+stage-lines _ _ _ _ _ _ _ = no_lines
 
 said-lines : (e : Evening) (said : Said) (shown : List ℕ) → e.options.format ≡ Json → AreLinesOfValues (answer_said e said shown)
 said-lines e Nothing shown h = no_lines

@@ -1,3 +1,4 @@
+pub mod Common
 pub mod Elements
 pub mod Texts
 pub mod RunFacts
@@ -6,7 +7,6 @@ pub mod Points
 pub mod NightParts
 pub mod Driven
 pub mod Duty
-pub mod WorkSteps
 pub mod GateFacts
 pub mod EnteredRows
 pub mod MergedRows
@@ -41,6 +41,7 @@ pub mod Resumed
 pub mod JournalLines
 pub mod CutLines
 pub mod Matches
+pub mod GoodStages
 pub mod JournalAnswers
 pub mod Journals
 pub mod JournalEnds

@@ -1,36 +1,27 @@
 -- How rows are shown.
-use Rattle.std.proofs.Common.{◌≡◌, ℕ, zero, suc, ◌+◌, ◌<◌, ◌≤◌, ◌&&◌, Bool, true, false, List, [], ◌∷◌, length, take, get_or, refl, sym, ap, ◌∙◌, inl, inr, ◌⊎◌, arith}
-use Rattle.std.specs.Prelude.{nat_le}
-use Rattle.std.specs.List.{list_all}
+use Rattle.ucl_runs.proofs.Common.{and_parts}
+use Rattle.ucl_runs.proofs.Common.{IsUtf8-from_ascii, List, [], ap, arith, false, get_or, inl, inr, is_printed, length, list_all}
+use Rattle.ucl_runs.proofs.Common.{nat_le, nat_tests, refl, shown_text, suc, sym, take, take_all, true, zero, ℕ, ◌+◌, ◌<◌, ◌∙◌, ◌∷◌}
+use Rattle.ucl_runs.proofs.Common.{◌≡◌, ◌≤◌, ◌⊎◌}
 use Rattle.std.specs.Str.{IsAscii, IsUtf8}
-use Rattle.std.proofs.lemmas.Bool.Decides.{nat_tests}
-use Rattle.std.proofs.lemmas.List.{take_all}
 use Rattle.std.proofs.lemmas.List.Folds.{list_all_more}
-use Rattle.std.proofs.lemmas.Str.{IsUtf8-from_ascii}
 use Rattle.std.proofs.lemmas.Str.Ascii.{IsAscii-nil, IsAscii-cons}
-use Rattle.ucl_order.specs.Roster.{is_printed}
-use Rattle.ucl_runs.specs.BadRows.{printed, shown_text}
-
-both : (a b : Bool) → (a && b) ≡ true → (a ≡ true) × (b ≡ true)
-both true b h = (refl, h)
-both false b h = cc
+use Rattle.ucl_runs.specs.BadRows.{printed}
 
 -- the printed bytes of a text end where a byte is none, or where no more are looked at; behind its end a text has zeros
 ends-at : (n at : ℕ) (text : List ℕ) → at ≤ n → list_all is_printed (take at text) ≡ true → (at ≡ n) ⊎ (is_printed (get_or text at 0) ≡ false) → take at text ≡ printed (take n text)
 unfolding printed
-ends-at zero zero text h all e = refl
 ends-at zero (suc at) text h all e = absurd (omega (arith, h))
-ends-at (suc n) zero [] h all e = refl
-ends-at (suc n) (suc at) [] h all e = refl
 ends-at (suc n) zero (b ∷ text) h all (inl e) = absurd (omega (arith, e))
 ends-at (suc n) zero (b ∷ text) h all (inr e) = rw e refl
 ends-at (suc n) (suc at) (b ∷ text) h all e =
-    let p = both (is_printed b) (list_all is_printed (take at text)) all in
+    let p = and_parts (is_printed b) (list_all is_printed (take at text)) all in
     rw p.0 (ap (λ (l : List ℕ). b ∷ l) (ends-at n at text (omega (arith, h)) p.1 (further e)))
   where
     further : (suc at ≡ suc n) ⊎ (is_printed (get_or text at 0) ≡ false) → (at ≡ n) ⊎ (is_printed (get_or text at 0) ≡ false)
     further (inl e) = inl (omega (arith, e))
     further (inr e) = inr e
+ends-at _ _ _ _ _ _ = refl
 
 pub shown-at : (at : ℕ) (text : List ℕ) → at ≤ 64 → list_all is_printed (take at text) ≡ true → (at ≡ 64) ⊎ (is_printed (get_or text at 0) ≡ false) → take at text ≡ shown_text text
 shown-at at text h all e = ends-at 64 at text h all e
@@ -38,7 +29,7 @@ shown-at at text h all e = ends-at 64 at text h all e
 printed-all : (text : List ℕ) → list_all is_printed text ≡ true → printed text ≡ text
 unfolding printed
 printed-all [] h = refl
-printed-all (b ∷ text) h = let p = both (is_printed b) (list_all is_printed text) h in rw p.0 (ap (λ (l : List ℕ). b ∷ l) (printed-all text p.1))
+printed-all (b ∷ text) h = let p = and_parts (is_printed b) (list_all is_printed text) h in rw p.0 (ap (λ (l : List ℕ). b ∷ l) (printed-all text p.1))
 
 pub shown-all : (at : ℕ) (text : List ℕ) → length text ≤ at → at ≤ 64 → list_all is_printed (take at text) ≡ true → take (length text) text ≡ shown_text text
 shown-all at text h few all =
@@ -49,11 +40,11 @@ pub printed-more : (at : ℕ) (text : List ℕ) → at < length text → list_al
 printed-more at text h all one = rw (list_all_more is_printed text at 0 h, all, one) refl
 
 below : (b : ℕ) → is_printed b ≡ true → b < 128
-below b h = let e = (both (nat_le 0x20 b) (nat_le b 0x7e) h).1 in grind (arith, nat_tests)
+below b h = let e = (and_parts (nat_le 0x20 b) (nat_le b 0x7e) h).1 in grind (arith, nat_tests)
 
 ascii : (bytes : List ℕ) → list_all is_printed bytes ≡ true → IsAscii bytes
 ascii [] h = IsAscii-nil
-ascii (b ∷ bytes) h = let e = both (is_printed b) (list_all is_printed bytes) h in IsAscii-cons b bytes (below b e.0) (ascii bytes e.1)
+ascii (b ∷ bytes) h = let e = and_parts (is_printed b) (list_all is_printed bytes) h in IsAscii-cons b bytes (below b e.0) (ascii bytes e.1)
 
 pub shown-utf8 : (bytes : List ℕ) → list_all is_printed bytes ≡ true → IsUtf8 bytes
 shown-utf8 bytes h = IsUtf8-from_ascii bytes (ascii bytes h)

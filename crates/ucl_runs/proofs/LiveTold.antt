@@ -1,35 +1,27 @@
 -- The members of an answer in JSON say what it says as text.
-use Rattle.std.proofs.Common.{◌≡◌, ℕ, zero, suc, ◌+◌, ◌-◌, ◌<◌, ℤ, pos, negsuc, ◌-ℤ◌, Bool, true, false, List, [], ◌∷◌, ◌++◌, codes, Option, None, Some}
-use Rattle.std.proofs.Common.{refl, ap, ◌∙◌, arith, cond, le-leb, ltb}
-use Rattle.std.specs.Prelude.{Result, Ok, Err, decimal, flat_map}
+use Rattle.ucl_runs.proofs.Common.{Accepted, Bool, Err, List, Mark, MatchRecord, NamedClub, NightEvent, None, Ok, Option}
+use Rattle.ucl_runs.proofs.Common.{Plus, RaisesVersion, Refusal, Result, Some, Title, [], ap, arith, bad_line, bad_row_value, club_items}
+use Rattle.ucl_runs.proofs.Common.{codes, cond, decimal, false, flat_map, found_of, game_at, le-leb, line_of_reply, lt-leb, mark_name}
+use Rattle.ucl_runs.proofs.Common.{match_items, match_numbers, negsuc, of_integer, place_items, pos, refl, refusal_code, refusal_name}
+use Rattle.ucl_runs.proofs.Common.{refused_by, reply_value, row_line, rows_of, suc, true, version_of, word_items, words_value, zero, ℕ, ℤ}
+use Rattle.ucl_runs.proofs.Common.{◌++◌, ◌+◌, ◌-ℤ◌, ◌-◌, ◌<◌, ◌∙◌, ◌∷◌, ◌≡◌}
+use Rattle.std.proofs.Common.{ltb}
 use Rattle.std.proofs.lemmas.List.{append_assoc}
 use Rattle.itoa.proofs.Decimal.{decimal_two}
-use Rattle.std.proofs.lemmas.Bool.{lt-leb, ltb-false, ltb-true}
-use Rattle.serde_json.specs.Find.{as_integer, of_integer}
+use Rattle.std.proofs.lemmas.Bool.{ltb-false, ltb-true}
+use Rattle.serde_json.specs.Find.{as_integer}
 use Rattle.serde_json.proofs.OnLiterals.{serde_json_on_literals}
-use Rattle.ucl_word.specs.declared.event.Accepted.{Accepted}
-use Rattle.ucl_word.specs.declared.record.MatchRecord.{MatchRecord}
-use Rattle.ucl_word.specs.declared.refusal.Refusal.{Refusal}
-use Rattle.ucl_word.specs.Names.{found_of, found_text, refusal_code, refusal_name}
-use Rattle.ucl_board.specs.Fixtures.{match_numbers}
-use Rattle.ucl_board.specs.Words.{game_at, version_of}
-use Rattle.ucl_order.specs.declared.mark.Mark.{Mark}
-use Rattle.ucl_order.specs.declared.mark.Mark.TheVariants.{Plus, Minus, Blank}
+use Rattle.ucl_word.specs.Names.{found_text}
 use Rattle.ucl_order.specs.declared.table.Row.{Row}
-use Rattle.ucl_order.specs.Roster.{NamedClub}
-use Rattle.ucl_order.specs.Rows.{rows_of}
-use Rattle.ucl_runs.specs.Feed.{line_of_reply, word_lines}
+use Rattle.ucl_runs.specs.Feed.{word_lines}
 use Rattle.ucl_runs.specs.Lines.{accepted_line}
 use Rattle.ucl_screen.specs.Lines.{difference_text, mark_text, place_line}
 use Rattle.ucl_screen.specs.Matches.{clubs_text, counts_text, match_line, matches_text, state_text}
-use Rattle.ucl_screen.specs.Screen.{row_line, screen_text}
-use Rattle.ucl_screen.specs.declared.night.NightEvent.{NightEvent}
-use Rattle.ucl_json.specs.declared.title.Title.{Title}
-use Rattle.ucl_json.specs.Values.{accepted_value, bad_row_value, bad_value, club_items, edition_screen_value, mark_name, match_items, matches_value}
-use Rattle.ucl_json.specs.Values.{place_items, place_value, refused_by, reply_value, screen_value, word_items, words_value}
+use Rattle.ucl_screen.specs.Screen.{screen_text}
+use Rattle.ucl_json.specs.Values.{accepted_value, bad_value, edition_screen_value, matches_value}
+use Rattle.ucl_json.specs.Values.{place_value, screen_value}
 use Rattle.ucl_runs.specs.Members.{mark_column, match_lines_of, place_line_of, place_lines_of, signed_text, text_told, word_lines_of}
-use Rattle.ucl_runs.specs.LiveText.{bad_line}
-use Rattle.ucl_runs.specs.LiveLaws.{JsonSaysTheSame, RaisesVersion}
+use Rattle.ucl_runs.specs.LiveLaws.{JsonSaysTheSame}
 
 -- ---- replies
 
@@ -50,8 +42,7 @@ refused row event code name (Some found) m = ap Some (told-parts (decimal row ++
 
 replied : (row : ℕ) (title : Title) (board : List ℕ) (clubs : List NamedClub) (event : NightEvent) (before : ℕ) (reply : Result Accepted Refusal) → RaisesVersion reply before board
     → text_told (reply_value row event reply title board clubs) ≡ Some (line_of_reply row event.call.game before reply)
-replied row title board clubs event before (Ok a) h =
-    accepted row event a.number title board clubs ∙ ap (λ (version : ℕ). Some (accepted_line row event.call.game a.number version)) h
+replied row title board clubs event before (Ok a) h = cc (accepted row event a.number title board clubs, h)
 replied row title board clubs event before (Err refusal) h =
     refused row event (refusal_code refusal) (refusal_name refusal) (found_of refusal) (game_at board event.call.game)
 
@@ -62,9 +53,14 @@ bad-told row code name field shown = ap Some (told-parts (decimal row ++ codes "
 
 bad : (row : ℕ) (field shown : List ℕ) → text_told (bad_row_value row field shown) ≡ Some (bad_line row)
 bad row field shown =
-    bad-told row 20 (codes "bad-row") field shown
-    ∙ ap (λ (number : List ℕ). Some (decimal row ++ codes " refused " ++ (number ++ codes " " ++ codes "bad-row" ++ []) ++ codes "\n")) (decimal_two 20 (omega arith) (omega arith))
-    ∙ ap Some (append_assoc (decimal row ++ codes " refused ") (codes "20 bad-row") (codes "\n") ∙ append_assoc (decimal row) (codes " refused ") (codes "20 bad-row\n"))
+    cc (
+      bad-told row 20 (codes "bad-row") field shown,
+      decimal_two 20 (omega arith) (omega arith),
+      append_assoc
+          (decimal row ++ codes " refused ") (codes "20 bad-row") (codes "\n"),
+      append_assoc (decimal row) (codes " refused ")
+          (codes "20 bad-row\n"),
+    )
 
 -- ---- words
 
@@ -95,8 +91,7 @@ integer-back (negsuc n) = refl
 
 marked : (mark : Mark) → mark_column (mark_name mark) ≡ mark_text mark
 marked Plus = refl
-marked Minus = refl
-marked Blank = refl
+marked _ = refl
 
 signs : (f a : ℕ) (t : Bool) → ltb f (suc a) ≡ t → signed_text (cond t (negsuc (suc a - suc f)) (pos (f - suc a))) ≡ difference_text f (suc a)
 signs f a true e =

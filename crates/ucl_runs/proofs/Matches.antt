@@ -1,51 +1,36 @@
 -- The twelve matches in JSON are plain, and their line is short; so is that of a screen, which has them.
-use Rattle.std.proofs.Common.{◌≡◌, ◌∙◌, ℕ, suc, ◌+◌, ◌-◌, ◌*◌, ◌^◌, ◌<◌, ◌≤◌, pos, negsuc, ℤ, ◌-ℤ◌, true, refl, arith, List, [], ◌∷◌, length, codes, subst}
-use Rattle.std.specs.Prelude.{decimal, nat_le}
-use Rattle.std.specs.List.{list_all}
-use Rattle.std.proofs.lemmas.Bool.{and_parts}
-use Rattle.std.proofs.lemmas.Bool.Decides.{nat_tests}
+use Rattle.ucl_runs.proofs.Common.{All-get_or, AreWords, IsMoment, IsRoster, IsValid, IsWord, List, Mark}
+use Rattle.ucl_runs.proofs.Common.{MatchRecord, Moment, NamedClub, Plus, Profile, Scheduled, [], accepted_value, and_parts, arith}
+use Rattle.ucl_runs.proofs.Common.{array, club_items, codes, compact_text, decimal, game_at, in_play, is_in_play, length, list_all}
+use Rattle.ucl_runs.proofs.Common.{mark_name, match_items, match_numbers, nat_le, nat_tests, negsuc, number_text, number_valid}
+use Rattle.ucl_runs.proofs.Common.{number_value, of_integer, place_items, pos, profile_name, quoted, record_at, refl, rows_of, string}
+use Rattle.ucl_runs.proofs.Common.{subst, suc, true, version_of, word_at, word_items, word_valid, ℕ, ℤ, ◌*◌, ◌+◌, ◌-ℤ◌, ◌-◌, ◌<◌, ◌^◌, ◌∙◌}
+use Rattle.ucl_runs.proofs.Common.{◌∷◌, ◌≡◌, ◌≤◌}
 use Rattle.std.proofs.lemmas.Int.{ints}
-use Rattle.std.proofs.lemmas.List.Elements.{All-get_or}
 use Rattle.std.proofs.lemmas.List.Sums.{count_by-le-length}
-use Rattle.json.specs.Print.{escape_byte, quoted}
-use Rattle.serde_json.specs.Data.{array, string}
-use Rattle.serde_json.specs.Find.{of_integer}
-use Rattle.serde_json.specs.Written.{compact_text, number_text}
+use Rattle.json.specs.Print.{escape_byte}
 use Rattle.serde_json.proofs.OnLiterals.{serde_json_on_literals}
-use Rattle.ucl_word.specs.declared.record.MatchRecord.{MatchRecord}
 use Rattle.ucl_word.specs.declared.record.State.{State}
-use Rattle.ucl_word.specs.declared.record.State.TheVariants.{Scheduled, InPlay, Finished}
-use Rattle.ucl_word.specs.Layout.{IsWord, record_at}
-use Rattle.ucl_word.specs.Record.{IsValid}
-use Rattle.ucl_word.specs.Rules.{is_in_play}
-use Rattle.ucl_word.proofs.ValidRecords.{number_valid, home_goals_valid, away_goals_valid, home_yellows_valid, away_yellows_valid, home_expulsions_valid, away_expulsions_valid, reporter_valid}
-use Rattle.ucl_word.proofs.Words.{word_valid}
-use Rattle.ucl_board.specs.Fixtures.{match_numbers}
-use Rattle.ucl_board.specs.Words.{AreWords, game_at, version_of, word_at}
-use Rattle.ucl_order.specs.declared.mark.Mark.{Mark}
-use Rattle.ucl_order.specs.declared.mark.Mark.TheVariants.{Plus, Minus, Blank}
-use Rattle.ucl_order.specs.declared.profile.Profile.{Profile}
+use Rattle.ucl_word.proofs.ValidRecords.{home_goals_valid, away_goals_valid, home_yellows_valid, away_yellows_valid, home_expulsions_valid}
+use Rattle.ucl_word.proofs.ValidRecords.{away_expulsions_valid, reporter_valid}
 use Rattle.ucl_order.specs.declared.table.Row.{Row}
-use Rattle.ucl_order.specs.Names.{profile_name}
-use Rattle.ucl_order.specs.Roster.{IsRoster, NamedClub, name_of}
-use Rattle.ucl_order.specs.Rows.{IsWithinTable, row_of, rows_of}
+use Rattle.ucl_order.specs.Roster.{name_of}
+use Rattle.ucl_order.specs.Rows.{IsWithinTable, row_of}
 use Rattle.ucl_order.proofs.KeysFit.{words_valid}
 use Rattle.ucl_order.proofs.Limits.{rows_within}
 use Rattle.ucl_screen.specs.Matches.{state_name}
-use Rattle.ucl_screen.specs.Screen.{in_play}
-use Rattle.ucl_json.specs.Values.{accepted_value, club_items, difference_value, edition_screen_value, mark_name, match_items, match_value, matches_value}
-use Rattle.ucl_json.specs.Values.{number_value, place_items, place_value, screen_value, sides_value, word_items}
-use Rattle.ucl_json.specs.declared.moment.Moment.{Moment}
-use Rattle.ucl_runs.specs.Answered.{IsMoment, LinesTellTheirMoment, MatchesFitTheirLine}
+use Rattle.ucl_json.specs.Values.{difference_value, edition_screen_value, match_value, matches_value}
+use Rattle.ucl_json.specs.Values.{place_value, screen_value, sides_value}
+use Rattle.ucl_runs.specs.Answered.{LinesTellTheirMoment, MatchesFitTheirLine}
 use Rattle.ucl_runs.proofs.Answered.{answered}
 use Rattle.ucl_runs.proofs.PlainAnswers.{accepted-plain, clubs-plain, group-text, order-text, slot-plain, version-fits, words-plain}
-use Rattle.ucl_runs.proofs.ReadBack.{AreShortItems, ArePlain, IsPlain, IsPlainNumber, IsShort, IsText, digits-short, first, in-quotes, items-short, items_size, no-item, no-member}
+use Rattle.ucl_runs.proofs.ReadBack.{AreShortItems, ArePlain, IsPlain, IsPlainNumber, IsShort, IsText, digits-short, first, in-quotes}
+use Rattle.ucl_runs.proofs.ReadBack.{items-short, items_size, no-item, no-member}
 use Rattle.ucl_runs.proofs.ReadBack.{short-array, short-object, size, told-by-line, told-if-short, wider, with-item, with-key, with-member}
 
 state-text : (s : State) → IsText (state_name s) × (length (state_name s) ≤ 9)
 state-text Scheduled = (refl, omega arith)
-state-text InPlay = (refl, omega arith)
-state-text Finished = (refl, omega arith)
+state-text _ = (refl, omega arith)
 
 -- a match as it stands
 pub match-plain : (deep game : ℕ) (m : MatchRecord) → game < 2 ^ 64 → IsValid m → IsPlain (suc (suc deep)) (match_value game m) × (size (match_value game m) ≤ 400)
@@ -150,8 +135,7 @@ difference-plain (negsuc n) a b e h k = omega (arith, ints)
 
 mark-text : (mark : Mark) → IsText (mark_name mark) × (length (mark_name mark) ≤ 1)
 mark-text Plus = (refl, omega arith)
-mark-text Minus = (refl, omega arith)
-mark-text Blank = (refl, omega arith)
+mark-text _ = (refl, omega arith)
 
 place-plain : (roster : List NamedClub) (row : Row) → IsRoster roster → IsWithinTable row → row.place ≤ 4 → IsPlain 125 (place_value roster row)
 unfolding place_value serde_json_on_literals

@@ -1,25 +1,18 @@
 -- All merges of the rows of a script have one board, where each match has one reporter.
-use Rattle.std.proofs.Common.{◌≡◌, ◌≢◌, inl, inr, ℕ, zero, suc, ◌+◌, ◌-◌, ◌<◌, ◌≤◌, Bool, true, false, cond, List, [], map, length, take, slice_get, Some, refl, sym, ap, ◌∙◌, subst, arith, add-zero}
-use Rattle.std.specs.Result.{is_ok}
-use Rattle.std.proofs.lemmas.Bool.{cases_lt, cases_eq, false≢true}
-use Rattle.std.proofs.lemmas.Option.{same_Some}
+use Rattle.ucl_runs.proofs.Common.{Bool, EachMatchHasOneReporter, Entry, EventCall, IsEnteredAt, IsMerge, IsRefusedAt, List, MatchEntry}
+use Rattle.ucl_runs.proofs.Common.{NightEvent, Reading, Some, accepted_of, after_attempt, ap, arith, at_below, attempt_by, cases_eq}
+use Rattle.ucl_runs.proofs.Common.{cases_lt, cond, entries_of, entry_of, false, false≢true, inl, inr, is_ok, length, map}
+use Rattle.ucl_runs.proofs.Common.{match_numbers, refl, reply_of, same_Some, sequential_reply, slice_get, snapshot_at, suc, sym}
+use Rattle.ucl_runs.proofs.Common.{take, take-length, true, word_of, zero, ℕ, ◌+◌, ◌-◌, ◌<◌, ◌∙◌, ◌≡◌, ◌≢◌, ◌≤◌}
+use Rattle.std.proofs.Common.{add-zero}
 use Rattle.std.proofs.lemmas.List.{map_push}
 use Rattle.std.proofs.lemmas.List.Sums.{fold_push}
-use Rattle.std.proofs.Math.Seq.{take-length}
-use Rattle.ucl_word.specs.declared.event.EventCall.{EventCall}
-use Rattle.ucl_word.specs.Layout.{word_of}
-use Rattle.ucl_word.specs.Rules.{reply_of}
-use Rattle.ucl_word.specs.Counts.{MatchEntry, counted_match}
+use Rattle.ucl_word.specs.Counts.{counted_match}
 use Rattle.ucl_word.proofs.EntryCounts.{entered}
-use Rattle.ucl_word.proofs.Sequences.{at_below}
-use Rattle.ucl_board.specs.declared.entry.Entry.{Entry}
-use Rattle.ucl_board.specs.declared.reading.Reading.{Reading}
-use Rattle.ucl_board.specs.Fixtures.{match_numbers}
-use Rattle.ucl_board.specs.History.{entries_of, board_of, followed_by, sequential_reply, entry_of, after_attempt, accepted_of, snapshot_at}
+use Rattle.ucl_board.specs.History.{board_of}
 use Rattle.ucl_board.proofs.Histories.{entries_same, entries_else}
 use Rattle.ucl_runs.proofs.Elements.{get_some, take_one}
-use Rattle.ucl_screen.specs.declared.night.NightEvent.{NightEvent}
-use Rattle.ucl_runs.specs.Nights.{attempt_by, IsRefusedAt, IsEnteredAt, IsMerge, EachMatchHasOneReporter, ScheduleDoesNotMatter, night_board}
+use Rattle.ucl_runs.specs.Nights.{ScheduleDoesNotMatter, night_board}
 use Rattle.ucl_runs.proofs.Points.{entered_within, place_within}
 
 -- a merge of the rows, and a match
@@ -53,8 +46,8 @@ module _ (number : ℕ → ℕ) (rows : List NightEvent) (h : List Entry) (merge
         index = i;
         row = o.row;
         here = o.here;
-        game = ap (λ (x : Entry). x.game) (same_Some (entry_of (number o.row.reporter) o.row.call) e (sym o.entered.entry ∙ at)) ∙ is;
-        entered = subst (IsEnteredAt h (attempt_by number o.row)) (sym o.point_is) o.entered;
+        game = ap (λ (x : Entry). x.game) (same_Some _ e (sym o.entered.entry ∙ at)) ∙ is;
+        entered = rw o.point_is o.entered;
         point_is = o.point_is;
       }
 
@@ -64,9 +57,9 @@ module _ (number : ℕ → ℕ) (rows : List NightEvent) (h : List Entry) (merge
   same_until a (suc d) within none =
       let t = get_some h (a + d) (omega arith) in
       let further : a + suc d ≡ suc (a + d) = omega arith in
-      let cut : take (a + suc d) h ≡ followed_by (take (a + d) h) t.0 = ap (λ (x : ℕ). take x h) further ∙ take_one h (a + d) t.0 t.1 in
       let other : t.0.game ≢ g = (λ is. none (a + d) (row_there (a + d) t.0 t.1 is) (omega arith) (omega arith)) in
-      ap (entries_of g) cut ∙ (entries_else (take (a + d) h) t.0 g other ∙ same_until a d (omega arith) (λ r row low high. none r row low (omega arith)))
+      rw (further, take_one h (a + d) t.0 t.1, entries_else (take (a + d) h) t.0 g other)
+      (same_until a d (omega arith) (λ r row low high. none r row low (omega arith)))
 
   same_between : (a p : ℕ) → a ≤ p → p ≤ length h → ((r : ℕ) → RowThere r → a ≤ r → r < p → ⊥) → entries_at p ≡ entries_at a
   same_between a p low within none =
@@ -74,15 +67,7 @@ module _ (number : ℕ → ℕ) (rows : List NightEvent) (h : List Entry) (merge
       ap entries_at (sym e) ∙ same_until a (p - a) (omega arith) (λ r row least most. none r row least (omega arith))
 
   night_next : (i : ℕ) (row : NightEvent) → slice_get rows i ≡ Some row → night_at (suc i) ≡ after_attempt (night_at i) (attempt_by number row)
-  night_next i row at = ap (λ (xs : List NightEvent). accepted_of (map (attempt_by number) xs)) (take_one rows i row at)
-      ∙ (ap (accepted_of) (map_push (attempt_by number) (take i rows) row) ∙ fold_push after_attempt [] (map (attempt_by number) (take i rows)) (attempt_by number row))
-
-  night_accepts : (i : ℕ) (row : NightEvent) → slice_get rows i ≡ Some row → is_ok (sequential_reply (night_at i) row.call) ≡ true
-      → night_at (suc i) ≡ followed_by (night_at i) (entry_of (number row.reporter) row.call)
-  night_accepts i row at ok = night_next i row at ∙ ap (λ (b : Bool). cond b (followed_by (night_at i) (entry_of (number row.reporter) row.call)) (night_at i)) ok
-
-  night_refuses : (i : ℕ) (row : NightEvent) → slice_get rows i ≡ Some row → is_ok (sequential_reply (night_at i) row.call) ≡ false → night_at (suc i) ≡ night_at i
-  night_refuses i row at not_ok = night_next i row at ∙ ap (λ (b : Bool). cond b (followed_by (night_at i) (entry_of (number row.reporter) row.call)) (night_at i)) not_ok
+  night_next i row at = rw (take_one rows i row at, map_push, fold_push)
 
   either_way : (b : Bool) (x y : List Entry) → entries_of g x ≡ entries_of g y → entries_of g (cond b x y) ≡ entries_of g y
   either_way true x y same = same
@@ -90,23 +75,19 @@ module _ (number : ℕ → ℕ) (rows : List NightEvent) (h : List Entry) (merge
 
   -- a row of another match
   night_else : (i : ℕ) (row : NightEvent) → slice_get rows i ≡ Some row → row.call.game ≢ g → entries_of g (night_at (suc i)) ≡ entries_of g (night_at i)
-  night_else i row at other = ap (entries_of g) (night_next i row at)
-      ∙ either_way (is_ok (sequential_reply (night_at i) row.call)) (followed_by (night_at i) (entry_of (number row.reporter) row.call)) (night_at i)
-      (entries_else (night_at i) (entry_of (number row.reporter) row.call) g other)
+  night_else i row at other = rw (night_next i row at)
+      (either_way (is_ok (sequential_reply (night_at i) row.call)) _ (night_at i) (entries_else (night_at i) _ g other))
 
   -- the reply to an event of the match goes by the entries of the match
   same_reply : (x y : List Entry) (call : EventCall) → call.game ≡ g → entries_of g x ≡ entries_of g y → sequential_reply x call ≡ sequential_reply y call
-  same_reply x y call is same =
-      let at_game : entries_of call.game x ≡ entries_of call.game y = subst (λ (game : ℕ). entries_of game x ≡ entries_of game y) (sym is) same in
-      ap (λ (es : List MatchEntry). reply_of (counted_match es) call) at_game
+  same_reply x y call is same = ap (λ (es : List MatchEntry). reply_of (counted_match es) call) (rw is same)
 
   fits_skipped : (i p : ℕ) (row : NightEvent) → slice_get rows i ≡ Some row → (row.call.game ≡ g → IsEnteredAt h (attempt_by number row) (merge.point i) → ⊥) → Fits (suc i) p → Fits i p
   fits_skipped i p row at not_there fits = record {
     below = λ j x at_j is entered less. fits.below j x at_j is entered (omega arith);
     above = λ j x at_j is entered least. elim (cases_eq i j) [
       | inl same ↦ (let row_is : row ≡ x = same_Some row x (sym at ∙ (ap (slice_get rows) same ∙ at_j)) in
-          absurd (not_there (ap (λ (y : NightEvent). y.call.game) row_is ∙ is)
-          (subst (λ (y : NightEvent). IsEnteredAt h (attempt_by number y) (merge.point i)) (sym row_is) (subst (λ (y : ℕ). IsEnteredAt h (attempt_by number x) (merge.point y)) (sym same) entered))))
+          absurd (not_there (rw row_is is) (rw (row_is, same) entered)))
       | inr other ↦ fits.above j x at_j is entered (omega arith)
     ];
   }
@@ -144,23 +125,27 @@ module _ (number : ℕ → ℕ) (rows : List NightEvent) (h : List Entry) (merge
       let q : ℕ = merge.point i in
       let new : Entry = entry_of (number row.reporter) row.call in
       let past = fits.below i row at is there (omega arith) in
-      let ok : is_ok (sequential_reply (night_at i) row.call) ≡ true = ap is_ok (sym (same_reply (take q h) (night_at i) row.call is same)) ∙ there.reply in
-      let more : entries_at (suc q) ≡ entered (entries_at q) new.reporter new.kind = ap (entries_of g) (take_one h q new there.entry) ∙ entries_same (take q h) new g is in
-      let night : entries_of g (night_at (suc i)) ≡ entered (entries_of g (night_at i)) new.reporter new.kind = ap (entries_of g) (night_accepts i row at ok) ∙ entries_same (night_at i) new g is in
-      same_between (suc q) p past within (none_between i p row at is fits) ∙ (more ∙ (ap (λ (es : List MatchEntry). entered es new.reporter new.kind) same ∙ sym night))
+      let ok : is_ok (sequential_reply (night_at i) row.call) ≡ true = rw
+      (← same_reply (take q h) (night_at i) row.call is same) there.reply in
+      let more : entries_at (suc q) ≡ entered (entries_at q) new.reporter new.kind =
+      rw (take_one h q new there.entry) (entries_same (take q h) new g is) in
+      same_between (suc q) p past within (none_between i p row at is fits)
+      ∙ rw (more, same, night_next i row at, ok) (sym (entries_same (night_at i) new g is))
 
   -- a row of the match that was refused
   refused_agrees : (i : ℕ) (row : NightEvent) → slice_get rows i ≡ Some row → row.call.game ≡ g → entries_at (merge.point i) ≡ entries_of g (night_at i)
       → IsRefusedAt h (attempt_by number row) (merge.point i)
       → Agrees i → Agrees (suc i)
   refused_agrees i row at is same there agrees p within fits =
-      let not_ok : is_ok (sequential_reply (night_at i) row.call) ≡ false = ap is_ok (sym (same_reply (take (merge.point i) h) (night_at i) row.call is same)) ∙ there.reply in
-      agrees p within (fits_skipped i p row at (λ game entered. false≢true (sym there.reply ∙ entered.reply)) fits) ∙ ap (entries_of g) (sym (night_refuses i row at not_ok))
+      let not_ok : is_ok (sequential_reply (night_at i) row.call) ≡ false =
+      rw (← same_reply (take (merge.point i) h) (night_at i) row.call is same) there.reply in
+      rw (night_next i row at, not_ok) (agrees p within (fits_skipped i p row at
+      (λ game entered. false≢true (sym there.reply ∙ entered.reply)) fits))
 
   next_agrees : (i : ℕ) (row : NightEvent) → slice_get rows i ≡ Some row → Agrees i → Agrees (suc i)
   next_agrees i row at agrees = elim (cases_eq row.call.game g) [
     | inl is ↦
-        (let same = agrees (merge.point i) (place_within h (attempt_by number row) (merge.point i) (merge.each i row at)) (fits_point i row at is) in
+        (let same = agrees (merge.point i) (place_within (merge.each i row at)) (fits_point i row at is) in
         elim (merge.each i row at) [ inl refused ↦ refused_agrees i row at is same refused agrees | inr there ↦ entered_agrees i row at is same there ])
     | inr other ↦ (λ p within fits. agrees p within (fits_skipped i p row at (λ game entered. other game) fits) ∙ sym (night_else i row at other))
   ]
@@ -176,11 +161,10 @@ module _ (number : ℕ → ℕ) (rows : List NightEvent) (h : List Entry) (merge
   pub entries_agree : entries_of g h ≡ entries_of g (accepted_of (map (attempt_by number) rows))
   entries_agree =
       let fits : Fits (length rows) (length h) = record {
-        below = λ j x at is entered less. entered_within h (attempt_by number x) (merge.point j) entered;
+        below = λ j x at is entered less. entered_within entered;
         above = λ j x at is entered least. (let below = at_below rows j x at in absurd (omega arith));
       } in
-      ap (entries_of g) (sym (take-length h)) ∙ (all_agree (length rows) (omega arith) (length h) (omega arith) fits
-      ∙ ap (λ (xs : List NightEvent). entries_of g (accepted_of (map (attempt_by number) xs))) (take-length rows))
+      simp take-length at (all_agree (length rows) (omega arith) (length h) (omega arith) fits)
 
 -- boards of histories in which each match has the same entries
 same_board : (x y : List Entry) → ((g : ℕ) → entries_of g x ≡ entries_of g y) → board_of x ≡ board_of y
@@ -193,4 +177,4 @@ all_merges_agree number rows h merge one = same_board h (accepted_of (map (attem
 -- what a reading of a merge shows is the night's board
 pub night_board_read : (number : ℕ → ℕ) (rows : List NightEvent) (seen : List Entry) (version : ℕ) (reading : Reading) → IsMerge number rows (take version seen) → EachMatchHasOneReporter rows
     → reading ≡ snapshot_at seen version → reading.board ≡ night_board number rows
-night_board_read number rows seen version reading merge one is = ap (λ (r : Reading). r.board) is ∙ all_merges_agree number rows (take version seen) merge one
+night_board_read number rows seen version reading merge one is = cc (is, all_merges_agree number rows (take version seen) merge one)

@@ -1,27 +1,16 @@
 -- What a night, and a line, does with its streams, from what its calls answer.
-use Rattle.std.proofs.Common.{◌≡◌, ◌≢◌, ℕ, ◌≤◌, Bool, false, List, [], ◌∷◌, length, Option, Some, None, All, refl, sym, ap, ◌∙◌, arith, length-append}
+use Rattle.ucl_runs.proofs.Common.{Appends, Bool, EachMatchHasOneReporter, Entry, Err, HasShown, IfErr, IfSome, IsMerge, IsOnDuty}
+use Rattle.ucl_runs.proofs.Common.{IsPrefix, IsStopped, List, MeansNight, NamedClub, None, Ok, OnOk, Option}
+use Rattle.ucl_runs.proofs.Common.{PassView, Profile, Reading, Result, RunFault, Script, Some, StoppedShort, Strangers}
+use Rattle.ucl_runs.proofs.Common.{TextHas, [], ap, arith, begins_length, board_of, false, length, length-append}
+use Rattle.ucl_runs.proofs.Common.{night_text, number_of_two, refl, screen_text, snapshot_at, styled, sym, take_beginning, ℕ, ⊤, ◌∙◌, ◌∷◌}
+use Rattle.ucl_runs.proofs.Common.{◌≡◌, ◌≢◌, ◌≤◌}
+use Rattle.std.proofs.Common.{All}
 use Rattle.std.proofs.lemmas.List.Elements.{All-pop}
-use Rattle.std.specs.Prelude.{⊤, IfSome, IfErr, OnOk, Result, Ok, Err, take}
-use Rattle.std.specs.Io.KnownBytes.{Appends}
-use Rattle.ucl_board.specs.declared.entry.Entry.{Entry}
-use Rattle.ucl_board.specs.declared.reading.Reading.{Reading}
-use Rattle.ucl_board.specs.History.{board_of, snapshot_at}
-use mathlib.Core.List.{IsPrefix}
-use Rattle.ucl_board.proofs.Beginnings.{begins_length, take_beginning}
-use Rattle.ucl_order.specs.declared.profile.Profile.{Profile}
-use Rattle.ucl_order.specs.Roster.{NamedClub}
-use Rattle.ucl_screen.specs.Script.{Script}
-use Rattle.ucl_screen.specs.Parsing.{MeansNight}
-use Rattle.ucl_screen.specs.Screen.{screen_text}
-use Rattle.ucl_live_board.specs.Passes.{PassView}
+use Rattle.std.specs.Prelude.{take}
 use Rattle.ucl_command.specs.declared.night.Line.TheVariants.{Night}
-use Rattle.ucl_runs.specs.declared.fault.RunFault.{RunFault}
-use Rattle.ucl_runs.specs.declared.fault.RunFault.TheVariants.{Input, OutOfMemory, WriteFailed, NotOnDuty, NoThread, TooManyReporters, Strangers}
-use Rattle.ucl_runs.specs.Nights.{EachMatchHasOneReporter, HasShown, IsMerge, IsOnDuty, night_text, number_of_two}
+use Rattle.ucl_runs.specs.declared.fault.RunFault.TheVariants.{WriteFailed}
 use Rattle.ucl_runs.specs.Program.{HasLooked, IsPlayed, IsScriptOnDuty, Obeys, streams}
-use Rattle.ucl_io.specs.Output.{StoppedShort}
-use Rattle.ucl_runs.specs.Run.{IsStopped, TextHas}
-use Rattle.ucl_runs.specs.Styles.{styled}
 use Rattle.ucl_runs.proofs.Unsigned.{screen_of_script}
 
 -- The output of a night. --
@@ -119,12 +108,7 @@ module _ (profile : Profile) (group readings : ℕ) (old new taken : Option (Lis
     write_failed = part.failed_is;
     written = has_text old text (λ t. StoppedShort 0 write_failed taken after t written) is part;
   }
-  put text failed write_failed after (Err (Input e)) reads is out part = absurd part
-  put text failed write_failed after (Err OutOfMemory) reads is out part = absurd part
-  put text failed write_failed after (Err (NotOnDuty row)) reads is out part = absurd part
-  put text failed write_failed after (Err NoThread) reads is out part = absurd part
-  put text failed write_failed after (Err TooManyReporters) reads is out part = absurd part
-  put text failed write_failed after (Err (Strangers version)) reads is out part = absurd part
+  put _ _ _ _ _ _ _ _ part = absurd part
 
   of_script : (known : Option (List ℕ)) (night : Script) → IfSome known (λ bytes. MeansNight bytes (Ok night)) → All IsOnDuty night.events → IsScriptOnDuty known
   of_script None night means duty = tt

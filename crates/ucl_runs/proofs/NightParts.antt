@@ -1,11 +1,9 @@
 -- An output that failed in one of its parts.
-use Rattle.std.proofs.Common.{◌≡◌, ℕ, suc, ◌+◌, ◌-◌, ◌^◌, min, Bool, List, [], ◌∷◌, ◌++◌, length, take, Option, sym, ap, ◌∙◌, subst, arith, length-append}
-use Rattle.std.proofs.lemmas.List.{take-append-le}
-use Rattle.std.specs.Io.KnownBytes.{Appends}
+use Rattle.ucl_runs.proofs.Common.{Appends, Bool, IsStopped, List, Option, RunFault}
+use Rattle.ucl_runs.proofs.Common.{[], ap, arith, length, length-append, min, subst, suc, sym, take, take-append-le, ℕ}
+use Rattle.ucl_runs.proofs.Common.{◌++◌, ◌+◌, ◌-◌, ◌^◌, ◌∙◌, ◌∷◌, ◌≡◌}
 use Rattle.ucl_io.proofs.MovedBytes.{appends-then}
-use Rattle.ucl_runs.specs.declared.fault.RunFault.{RunFault}
-use Rattle.ucl_runs.specs.declared.fault.RunFault.TheVariants.{Input, OutOfMemory, WriteFailed, NotOnDuty, NoThread, TooManyReporters, Strangers}
-use Rattle.ucl_runs.specs.Run.{IsStopped}
+use Rattle.ucl_runs.specs.declared.fault.RunFault.TheVariants.{WriteFailed}
 
 -- in the first of two parts
 pub stopped_first : (before : ℕ) (failed : Bool) (old new : Option (List ℕ)) (a b : List ℕ) (f : RunFault) → IsStopped before failed old new a f → IsStopped before failed old new (a ++ b) f
@@ -18,12 +16,7 @@ stopped_first before failed old new a b (WriteFailed written) s = let cut = s.fi
   };
   told = s.told;
 }
-stopped_first before failed old new a b (Input e) s = s
-stopped_first before failed old new a b OutOfMemory s = s
-stopped_first before failed old new a b (NotOnDuty row) s = s
-stopped_first before failed old new a b NoThread s = s
-stopped_first before failed old new a b TooManyReporters s = s
-stopped_first before failed old new a b (Strangers version) s = s
+stopped_first _ _ _ _ _ _ _ s = s
 
 take_past : (a b : List ℕ) (n : ℕ) → take (length a + n) (a ++ b) ≡ a ++ take n b
 take_past [] b n = let none : length {A = ℕ} [] + n ≡ n = omega arith in ap (λ k. take k b) none
@@ -44,9 +37,4 @@ stopped_second before total failed old mid new a b (WriteFailed written) out tot
   };
   told = told_past before total (length a) s.count written total_is s.told;
 }
-stopped_second before total failed old mid new a b (Input e) out total_is s = s
-stopped_second before total failed old mid new a b OutOfMemory out total_is s = s
-stopped_second before total failed old mid new a b (NotOnDuty row) out total_is s = s
-stopped_second before total failed old mid new a b NoThread out total_is s = s
-stopped_second before total failed old mid new a b TooManyReporters out total_is s = s
-stopped_second before total failed old mid new a b (Strangers version) out total_is s = s
+stopped_second _ _ _ _ _ _ _ _ _ _ _ s = s

@@ -1,20 +1,17 @@
 -- Lines that are answered one after the other.
-use Rattle.std.proofs.Common.{◌≡◌, ℕ, ◌+◌, ◌-◌, ◌^◌, min, List, [], ◌∷◌, ◌++◌, Some, refl, sym, ap, ◌∙◌, append_assoc, append-nil, arith}
-use Rattle.std.specs.Prelude.{if◌then◌else◌, None}
+use Rattle.ucl_runs.proofs.Common.{Evening, HasNoAnswer, HasNoEnd, List, LiveArgs, LiveFault, Open, Refused, Restoring}
+use Rattle.ucl_runs.proofs.Common.{Some, Stage, [], after_bytes, answer_said, answers_to, ap, append-nil, append_assoc, arith, begun_append}
+use Rattle.ucl_runs.proofs.Common.{begun_ended, begun_line, ended_append, ended_lines, if◌then◌else◌, last_lines, lines_of, live_text, min}
+use Rattle.ucl_runs.proofs.Common.{missing, missing_after, missing_at, next, refl, said_on, shown_text, sym, ℕ, ◌++◌, ◌+◌, ◌-◌, ◌^◌, ◌∙◌}
+use Rattle.ucl_runs.proofs.Common.{◌∷◌, ◌≡◌}
+use Rattle.std.specs.Prelude.{None}
 use Rattle.ucl_runs.specs.declared.live_fault.BeginningFault.TheVariants.{BadRow}
-use Rattle.ucl_io.specs.Lines.{begun_line, ended_lines}
-use Rattle.ucl_io.proofs.Cuts.{begun_append, begun_ended, ended_append}
-use Rattle.ucl_runs.specs.declared.live_fault.LiveFault.{LiveFault}
-use Rattle.ucl_runs.specs.declared.live_fault.LiveFault.TheVariants as live
-use Rattle.ucl_command.specs.declared.live.LiveArgs.{LiveArgs}
-use Rattle.ucl_runs.specs.Holding.{HasNoAnswer, HasNoEnd, after_bytes, answers_to, end_of, missing_at}
-use Rattle.ucl_runs.specs.InputLines.{last_lines, lines_of}
+use Rattle.ucl_runs.specs.Holding.{end_of}
 use Rattle.ucl_runs.specs.LiveLaws.{BeginningsAreAnswered, ended}
-use Rattle.ucl_runs.specs.BadRows.{shown_text}
-use Rattle.ucl_runs.specs.Rows.{said_on}
-use Rattle.ucl_runs.specs.Stages.{Stage, Beginning, Naming, Restoring, Open, Refused, missing, told_row}
-use Rattle.ucl_runs.specs.LiveText.{Evening, after_lines, answer_said, answers, live_text, missing_after, missing_now, next}
+use Rattle.ucl_runs.specs.Stages.{told_row}
+use Rattle.ucl_runs.specs.LiveText.{after_lines, answers, missing_now}
 use Rattle.ucl_runs.proofs.Silence.{refused-missing}
+use Rattle.ucl_runs.specs.declared.live_fault.LiveFault.TheVariants as live
 
 pub answers-none : (e : Evening) → answers e [] ≡ []
 unfolding answers
@@ -99,12 +96,10 @@ some-end e (b ∷ line) some = after-last e (b ∷ line)
 
 -- a greater row is told as the greatest that can be told
 told-alike : (options : LiveArgs) (a b : ℕ) (s : Stage) → told_row a ≡ told_row b → missing options a s ≡ missing options b s
-told-alike options a b Beginning e = ap (λ (n : ℕ). Some (BadRow n)) e
-told-alike options a b (Naming clubs) e = ap (λ (n : ℕ). Some (BadRow n)) e
 told-alike options a b (Restoring clubs []) e = ap (λ (n : ℕ). if options.resumed then Some (BadRow n) else None) e
-told-alike options a b (Restoring clubs (word ∷ words)) e = ap (λ (n : ℕ). Some (BadRow n)) e
 told-alike options a b (Open clubs board) e = refl
 told-alike options a b (Refused fault) e = refl
+told-alike _ _ _ _ e = ap (λ (n : ℕ). Some (BadRow n)) e
 
 -- the evening after the line is this one
 pub some-missing : (e f : Evening) (begun : List ℕ) → (begun ≡ [] → ⊥) → f ≡ next e (said_on e.row begun) → missing_at e begun ≡ missing f.options (min (e.row + 1) (2 ^ 64 - 1)) f.stage

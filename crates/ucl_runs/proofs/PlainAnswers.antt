@@ -1,35 +1,19 @@
 -- What an evening answers is plain, and short: so each of its lines tells what its value tells.
-use Rattle.std.proofs.Common.{◌≡◌, ℕ, zero, suc, ◌+◌, ◌-◌, ◌*◌, ◌/◌, ◌%◌, ◌^◌, ◌<◌, ◌≤◌, ◌&&◌, true}
-use Rattle.std.proofs.Common.{false, refl, arith, List, [], ◌∷◌, length, le-leb, inl, inr}
-use Rattle.std.specs.Prelude.{All, nat_le, nat_lt, slice_index_or}
-use Rattle.std.specs.Fmt.{digit_glyph}
-use Rattle.std.specs.List.{list_all}
-use Rattle.std.proofs.lemmas.Bool.{and_from, and_parts, cases_Bool}
-use Rattle.std.proofs.lemmas.Bool.Decides.{nat_tests}
-use Rattle.std.proofs.lemmas.List.Elements.{All-head, All-tail}
+use Rattle.ucl_runs.proofs.Common.{All, All-head, All-tail, AreWords, Away, AwayInTie, Disallow, FullTime, Goal, HasNumbers, Home, IsClub}
+use Rattle.ucl_runs.proofs.Common.{IsGroup, IsMoment, IsRoster, KickOff, Kind, List, Moment, NamedClub, NightEvent, Profile, Red, Reopen}
+use Rattle.ucl_runs.proofs.Common.{SecondYellow, Uefa, Yellow, [], and_from, and_parts, arith, cases_Bool, club_in, club_items, digit_glyph}
+use Rattle.ucl_runs.proofs.Common.{false, hex_digits, inl, inr, is_name, is_printed, le-leb, length, list_all, nat_le, nat_lt, nat_tests}
+use Rattle.ucl_runs.proofs.Common.{number_valid, profile_name, record_at, refl, suc, true, version_of, word_items, word_valid, zero, ℕ, ◌%◌}
+use Rattle.ucl_runs.proofs.Common.{◌&&◌, ◌*◌, ◌+◌, ◌-◌, ◌/◌, ◌<◌, ◌^◌, ◌∷◌, ◌≡◌, ◌≤◌}
+use Rattle.std.specs.Prelude.{slice_index_or}
 use Rattle.std.proofs.lemmas.List.Sums.{sum_by-le}
 use Rattle.serde_json.proofs.OnLiterals.{serde_json_on_literals}
-use Rattle.ucl_word.specs.declared.event.Kind.{Kind}
-use Rattle.ucl_word.specs.declared.event.Kind.TheVariants.{KickOff, Goal, Disallow, Yellow, SecondYellow, Red, FullTime, Reopen}
-use Rattle.ucl_word.specs.declared.event.Side.TheVariants.{Home, Away}
-use Rattle.ucl_word.specs.Layout.{record_at}
 use Rattle.ucl_word.specs.Names.{kind_name}
-use Rattle.ucl_word.proofs.ValidRecords.{number_valid}
-use Rattle.ucl_word.proofs.Words.{word_valid}
 use Rattle.ucl_board.specs.Fixtures.{IsSlot}
-use Rattle.ucl_board.specs.Words.{AreWords, version_of}
-use Rattle.ucl_order.specs.declared.profile.Profile.{Profile}
-use Rattle.ucl_order.specs.declared.profile.Profile.TheVariants.{Uefa, AwayInTie}
-use Rattle.ucl_order.specs.Names.{profile_name}
-use Rattle.ucl_order.specs.Roster.{IsClub, IsRoster, NamedClub, club_in, is_club, is_name, is_printed, named}
-use Rattle.ucl_screen.specs.declared.night.NightEvent.{NightEvent}
-use Rattle.ucl_screen.specs.Numbers.{hex_digits}
-use Rattle.ucl_screen.specs.Screen.{IsGroup}
-use Rattle.ucl_json.specs.Values.{accepted_value, club_items, club_value, word_items}
+use Rattle.ucl_order.specs.Roster.{is_club, named}
+use Rattle.ucl_json.specs.Values.{accepted_value, club_value}
 use Rattle.ucl_runs.proofs.WordDigits.{low, word-digits}
-use Rattle.ucl_json.specs.declared.moment.Moment.{Moment}
-use Rattle.ucl_runs.specs.Answered.{HasNumbers, IsMoment}
-use Rattle.ucl_runs.proofs.Answered.{both, long}
+use Rattle.ucl_runs.proofs.Answered.{long}
 use Rattle.ucl_runs.proofs.ReadBack.{ArePlain, IsPlain, IsText, items_size, size}
 
 -- ---- words
@@ -78,7 +62,7 @@ pub record IsPlainClub (club : NamedClub) : Type 0 where
 club-plain : (club : NamedClub) → IsClub club → IsPlainClub club
 unfolding is_club
 club-plain club h =
-    let p = both (is_name club.name) (nat_le club.coefficient 999999) h in
+    let p = and_parts (is_name club.name) (nat_le club.coefficient 999999) h in
     let q = name-parts club.name p.0 in
     record { name = q.1; short = q.0; coefficient = fits club.coefficient p.1 }
   where

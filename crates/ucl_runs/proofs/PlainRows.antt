@@ -1,24 +1,20 @@
 -- Rows of fields that are not in quotes.
-use Rattle.std.proofs.Common.{◌≡◌, ℕ, ◌+◌, ◌<◌, ◌==◌, ◌||◌, true, false, List, [], ◌∷◌, ◌++◌, length, take, drop, get_or, Option, Some, None, IfSome}
-use Rattle.std.proofs.Common.{refl, sym, ap, ◌∙◌, subst, inl, inr, append_assoc, arith}
-use Rattle.std.proofs.lemmas.Bool.Decides.{nat_tests}
-use Rattle.std.proofs.lemmas.Bool.{cases_Bool}
-use Rattle.std.proofs.lemmas.List.{drop_more, take-append-drop, take_more}
+use Rattle.ucl_runs.proofs.Common.{AreJoining, EndRecord, EndsRow, InField, IsBehindEnds, IsFieldBefore, List, None, Option, Row, RowState}
+use Rattle.ucl_runs.proofs.Common.{Some, StartField, [], after_end, ap, append_assoc, arith, begins_row, cases_Bool, csv_state_of}
+use Rattle.ucl_runs.proofs.Common.{default_config, drop, drop_more, false, fits, get_or, in_field, inl, inr, is_joining, length, made}
+use Rattle.ucl_runs.proofs.Common.{nat_tests, of_rows, records, refl, said_on, step, subst, sym, take, take-append-drop, take_more, true, ℕ}
+use Rattle.ucl_runs.proofs.Common.{◌++◌, ◌+◌, ◌<◌, ◌==◌, ◌∙◌, ◌∷◌, ◌≡◌}
+use Rattle.std.proofs.Common.{◌||◌, IfSome}
 use Rattle.csv.proofs.ReadFacts.{run-copies}
-use Rattle.csv.specs.Machine.{Runs, after_end, in_field, next_record, step}
-use Rattle.csv.specs.Reading.{default_config, records}
+use Rattle.csv.specs.Machine.{Runs, next_record}
+use Rattle.ucl_screen.specs.Rows.{Fields as Rows, four_seen}
+use Rattle.ucl_screen.specs.declared.rows.Four.{Four}
+use Rattle.ucl_runs.specs.Rows.{row_by_text}
+use Rattle.ucl_runs.proofs.RowBytes.{at-end, begins-field, between-same, by-action, skip-one, some-record}
+use Rattle.ucl_runs.proofs.RowEnds.{found-one, no-record}
 use Rattle.csv.specs.declared.parser.Action.TheVariants as act
 use Rattle.csv.specs.declared.parser.State.TheVariants as st
 use Rattle.csv.specs.declared.parser.Terminator.TheVariants as term
-use Rattle.ucl_screen.specs.Rows.{Fields as Rows, four_seen}
-use Rattle.ucl_screen.specs.declared.rows.Four.{Four}
-use Rattle.ucl_runs.specs.Rows.{Row, fits, of_rows, row_by_text, said_on}
-use Rattle.ucl_runs.specs.declared.row.RowAction.TheVariants.{EndRecord}
-use Rattle.ucl_runs.specs.declared.row.RowState.{RowState}
-use Rattle.ucl_runs.specs.declared.row.RowState.TheVariants.{StartField, InField}
-use Rattle.ucl_runs.specs.Reading.{AreJoining, EndsRow, IsBehindEnds, IsFieldBefore, begins_row, csv_state_of, is_joining, made}
-use Rattle.ucl_runs.proofs.RowBytes.{at-end, begins-field, between-same, by-action, skip-one, some-record}
-use Rattle.ucl_runs.proofs.RowEnds.{found-one, no-record}
 
 -- a byte that joins a field is no comma, no quote and no end of a line
 record Apart (b : ℕ) : Type 0 where

@@ -1,30 +1,26 @@
 -- The text of a plain value: it is read as that value, has ASCII alone, and is no longer than its parts.
-use Rattle.std.proofs.Common.{◌≡◌, ◌∙◌, ℕ, zero, suc, ◌+◌, ◌*◌, ◌^◌, ◌<◌, ◌≤◌, ◌&&◌, pos, negsuc, Bool, true, false, refl, sym, ap, arith}
-use Rattle.std.proofs.Common.{List, [], ◌∷◌, ◌++◌, length, append-nil, length-append, Some, inl, inr}
-use Rattle.std.specs.Prelude.{⊤, All, decimal, option_map, nat_le}
-use Rattle.std.specs.List.{list_all}
-use Rattle.std.proofs.lemmas.Bool.{and_parts, cases_eq}
-use Rattle.std.proofs.lemmas.Bool.Decides.{nat_tests}
-use Rattle.std.proofs.lemmas.Fmt.{IsAscii-decimal, length-decimal-le}
-use Rattle.std.proofs.lemmas.List.Elements.{All-append, All-cons, All-nil}
-use Rattle.std.proofs.lemmas.Str.{IsUtf8-from_ascii}
+use Rattle.ucl_runs.proofs.Common.{All, All-append, All-cons, All-nil, Bool, Data, IsUtf8-from_ascii, List, Some, [], and_parts, ap}
+use Rattle.ucl_runs.proofs.Common.{append-nil, arith, array, cases_eq, compact_text, decimal, false, inl, inr, is_printed, length}
+use Rattle.ucl_runs.proofs.Common.{length-append, length-decimal-le, list_all, member, moment_on, nat_le, nat_tests, negsuc, no_members}
+use Rattle.ucl_runs.proofs.Common.{null, number_text, object, option_map, pos, quoted, refl, string, suc, sym, true, unsigned, ℕ, ⊤}
+use Rattle.ucl_runs.proofs.Common.{◌&&◌, ◌*◌, ◌++◌, ◌+◌, ◌<◌, ◌^◌, ◌∙◌, ◌∷◌, ◌≡◌, ◌≤◌}
+use Rattle.std.proofs.lemmas.Fmt.{IsAscii-decimal}
 use Rattle.std.proofs.lemmas.Str.Ascii.{All-from_ascii, IsAscii-from_all}
-use Rattle.json.specs.Json as json
 use Rattle.json.specs.Lex.{tokens}
-use Rattle.json.specs.Print.{escape, escape_byte, quoted}
-use Rattle.json.specs.Tree as tree
+use Rattle.json.specs.Print.{escape, escape_byte}
 use Rattle.json.proofs.Printed.Strings.{escape_byte_plain}
 use Rattle.json.proofs.Printed.Decimals.{IsNumber-decimal, IsNumber-signed_decimal}
 use Rattle.json.proofs.Printed.Tokens.{tokens-print}
 use Rattle.json.proofs.Printed.Trees.{ArePrintable-json_tokens, value-json_tokens}
-use Rattle.serde_json.specs.Data.{Num, unsigned, negative, float, Data, null, boolean, number, string, array, object, Items, no_items, item, Members, no_members, member, put}
+use Rattle.serde_json.specs.Data.{Num, negative, float, boolean, number, Items, no_items, item, Members, put}
 use Rattle.serde_json.specs.Read.{number_of, of_json, of_items, of_members, read}
-use Rattle.serde_json.specs.Written.{compact_text, items_text, members_text, number_text, comma_if, outline, items_outline, members_outline}
+use Rattle.serde_json.specs.Written.{items_text, members_text, comma_if, outline, items_outline, members_outline}
 use Rattle.serde_json.proofs.Numbers.{number_of-decimal, number_of-negative}
 use Rattle.serde_json.proofs.Texts.{print-outline}
-use Rattle.ucl_order.specs.Roster.{is_printed}
-use Rattle.ucl_json.specs.Told.{moment_on, moment_told}
+use Rattle.ucl_json.specs.Told.{moment_told}
 use Rattle.ucl_json.proofs.Members.{was-read}
+use Rattle.json.specs.Json as json
+use Rattle.json.specs.Tree as tree
 
 abbrev pub IsText : List ℕ → Type 0
 IsText s = list_all is_printed s ≡ true
@@ -52,14 +48,11 @@ AreInOrder ms = (put_all ms no_members ≡ ms) × (have_texts ms ≡ true)
 -- its numbers fit, its texts are printed bytes, its objects have their members in order, and it nests so deep at most
 abbrev mutual
   pub IsPlain : ℕ → Data → Type 0
-  IsPlain deep null = ⊥
-  IsPlain deep (boolean b) = ⊥
   IsPlain deep (number n) = IsPlainNumber n
   IsPlain deep (string s) = IsText s
-  IsPlain zero (array ds) = ⊥
   IsPlain (suc deep) (array ds) = ArePlain deep ds
-  IsPlain zero (object ms) = ⊥
   IsPlain (suc deep) (object ms) = AreInOrder ms × HavePlain deep ms
+  IsPlain _ _ = ⊥
 
   pub ArePlain : ℕ → Items → Type 0
   ArePlain deep no_items = ⊤
@@ -71,82 +64,48 @@ abbrev mutual
 
 -- ---- reading
 
-numeral : (n : Num) → IsPlainNumber n → number_of (number_text n) ≡ Some n
-numeral (unsigned n) h = number_of-decimal n h
-numeral (negative (pos n)) h = absurd h
-numeral (negative (negsuc n)) h = number_of-negative n (omega arith)
-numeral (float x) h = absurd h
+numeral : (n : Num) → IsPlainNumber n → (number_of (number_text n) ≡ Some n) × tree.HasNumbers (json.number (number_text n))
+numeral (unsigned n) h = (number_of-decimal n h, IsNumber-decimal n h)
+numeral (negative (negsuc n)) h = (number_of-negative n (omega arith), IsNumber-signed_decimal (negsuc n) (omega arith))
+numeral _ h = absurd h
 
+-- it is read back from its outline, whose numbers are numerals, and which nests no deeper
 mutual
-  value-back : (deep : ℕ) (d : Data) → IsPlain deep d → of_json (outline d) ≡ Some d
-  value-back deep null h = absurd h
-  value-back deep (boolean b) h = absurd h
-  value-back deep (number n) h = ap (option_map number) (numeral n h)
-  value-back deep (string s) h = refl
-  value-back zero (array ds) h = absurd h
-  value-back (suc deep) (array ds) h = ap (option_map array) (items-back deep ds h)
-  value-back zero (object ms) h = absurd h
-  value-back (suc deep) (object ms) h = ap (option_map object) (members-back deep ms no_members h.1 ∙ ap Some h.0.0)
+  value-back : (deep : ℕ) (d : Data) → IsPlain deep d
+      → (of_json (outline d) ≡ Some d) × tree.HasNumbers (outline d) × (tree.depth (outline d) ≤ deep)
+  value-back deep (number n) h = let p = numeral n h in (ap (option_map number) p.0, p.1, omega arith)
+  value-back deep (string s) h = (refl, tt, omega arith)
+  value-back (suc deep) (array ds) h = let p = items-back deep ds h in (ap (option_map array) p.0, p.1, (let n = p.2 in omega arith))
+  value-back (suc deep) (object ms) h =
+      let p = members-back deep ms no_members h.1 in
+      (ap (option_map object) (p.0 ∙ ap Some h.0.0), p.1, (let n = p.2 in omega arith))
+  value-back _ _ h = absurd h
 
-  items-back : (deep : ℕ) (ds : Items) → ArePlain deep ds → of_items (items_outline ds) ≡ Some ds
-  items-back deep no_items h = refl
-  items-back deep (item d ds) h = rw (value-back deep d h.0, items-back deep ds h.1) refl
+  items-back : (deep : ℕ) (ds : Items) → ArePlain deep ds
+      → (of_items (items_outline ds) ≡ Some ds) × tree.ItemsHaveNumbers (items_outline ds) × (tree.items_depth (items_outline ds) ≤ deep)
+  items-back deep no_items h = (refl, tt, omega arith)
+  items-back deep (item d ds) h =
+      let p = value-back deep d h.0 in
+      let q = items-back deep ds h.1 in
+      (rw (p.0, q.0) refl, (p.1, q.1), (let m = p.2 in let n = q.2 in omega arith))
 
-  members-back : (deep : ℕ) (ms found : Members) → HavePlain deep ms → of_members (members_outline ms) found ≡ Some (put_all ms found)
-  members-back deep no_members found h = refl
-  members-back deep (member k d ms) found h = rw (value-back deep d h.0) (members-back deep ms (put k d found) h.1)
-
-number-is : (n : Num) → IsPlainNumber n → tree.HasNumbers (json.number (number_text n))
-number-is (unsigned n) h = IsNumber-decimal n h
-number-is (negative (pos n)) h = absurd h
-number-is (negative (negsuc n)) h = IsNumber-signed_decimal (negsuc n) (omega arith)
-number-is (float x) h = absurd h
-
-mutual
-  value-numbers : (deep : ℕ) (d : Data) → IsPlain deep d → tree.HasNumbers (outline d)
-  value-numbers deep null h = absurd h
-  value-numbers deep (boolean b) h = absurd h
-  value-numbers deep (number n) h = number-is n h
-  value-numbers deep (string s) h = tt
-  value-numbers zero (array ds) h = absurd h
-  value-numbers (suc deep) (array ds) h = items-numbers deep ds h
-  value-numbers zero (object ms) h = absurd h
-  value-numbers (suc deep) (object ms) h = members-numbers deep ms h.1
-
-  items-numbers : (deep : ℕ) (ds : Items) → ArePlain deep ds → tree.ItemsHaveNumbers (items_outline ds)
-  items-numbers deep no_items h = tt
-  items-numbers deep (item d ds) h = (value-numbers deep d h.0, items-numbers deep ds h.1)
-
-  members-numbers : (deep : ℕ) (ms : Members) → HavePlain deep ms → tree.MembersHaveNumbers (members_outline ms)
-  members-numbers deep no_members h = tt
-  members-numbers deep (member k d ms) h = (value-numbers deep d h.0, members-numbers deep ms h.1)
-
-mutual
-  value-depth : (deep : ℕ) (d : Data) → IsPlain deep d → tree.depth (outline d) ≤ deep
-  value-depth deep null h = absurd h
-  value-depth deep (boolean b) h = absurd h
-  value-depth deep (number n) h = omega arith
-  value-depth deep (string s) h = omega arith
-  value-depth zero (array ds) h = absurd h
-  value-depth (suc deep) (array ds) h = let i = items-depth deep ds h in omega arith
-  value-depth zero (object ms) h = absurd h
-  value-depth (suc deep) (object ms) h = let i = members-depth deep ms h.1 in omega arith
-
-  items-depth : (deep : ℕ) (ds : Items) → ArePlain deep ds → tree.items_depth (items_outline ds) ≤ deep
-  items-depth deep no_items h = omega arith
-  items-depth deep (item d ds) h = let i = value-depth deep d h.0 in let j = items-depth deep ds h.1 in omega arith
-
-  members-depth : (deep : ℕ) (ms : Members) → HavePlain deep ms → tree.members_depth (members_outline ms) ≤ deep
-  members-depth deep no_members h = omega arith
-  members-depth deep (member k d ms) h = let i = value-depth deep d h.0 in let j = members-depth deep ms h.1 in omega arith
+  members-back : (deep : ℕ) (ms found : Members) → HavePlain deep ms
+      → (of_members (members_outline ms) found ≡ Some (put_all ms found)) × tree.MembersHaveNumbers (members_outline ms)
+      × (tree.members_depth (members_outline ms) ≤ deep)
+  members-back deep no_members found h = (refl, tt, omega arith)
+  members-back deep (member k d ms) found h =
+      let p = value-back deep d h.0 in
+      let q = members-back deep ms (put k d found) h.1 in
+      (rw p.0 q.0, (p.1, q.1), (let m = p.2 in let n = q.2 in omega arith))
 
 pub reads : (d : Data) → IsPlain 127 d → read (compact_text d) ≡ Some d
 reads d h =
+    let back = value-back 127 d h in
     let same : tokens (compact_text d) ≡ tree.json_tokens (outline d) =
-    ap tokens (sym (print-outline d)) ∙ tokens-print (tree.json_tokens (outline d)) (ArePrintable-json_tokens (outline d) (value-numbers 127 d h)) in
+    ap tokens (sym (print-outline d)) ∙ tokens-print (tree.json_tokens (outline d)) (ArePrintable-json_tokens (outline d) back.1) in
     let whole : json.value 127 (tokens (compact_text d)) ≡ Some (outline d, []) =
-    ap (json.value 127) (same ∙ sym (append-nil (tree.json_tokens (outline d)))) ∙ value-json_tokens (outline d) 127 [] (value-depth 127 d h) in
-    rw whole (value-back 127 d h)
+    ap (json.value 127) (same ∙ sym (append-nil (tree.json_tokens (outline d)))) ∙ value-json_tokens (outline d) 127 [] back.2 in
+    rw whole back.0
 
 -- ---- its bytes
 
@@ -191,9 +150,8 @@ digits-short k n some few h = record { ascii = All-from_ascii (decimal n) (IsAsc
 
 number-short : (n : Num) → IsPlainNumber n → IsShort (number_text n) 21
 number-short (unsigned n) h = wider (decimal n) 20 21 (omega arith) (digits-short 20 n (omega arith) (omega arith) h)
-number-short (negative (pos n)) h = absurd h
 number-short (negative (negsuc n)) h = first 45 (decimal (suc n)) 20 (omega arith) (digits-short 20 (suc n) (omega arith) (omega arith) (omega arith))
-number-short (float x) h = absurd h
+number-short _ h = absurd h
 
 quote : IsShort (escape_byte 34) 2
 unfolding escape_byte
@@ -283,14 +241,11 @@ short-object {ms} {n} p = first 123 (members_text false ms) n (omega arith) (p.s
 
 mutual
   value-short : (deep : ℕ) (d : Data) → IsPlain deep d → IsShort (compact_text d) (size d)
-  value-short deep null h = absurd h
-  value-short deep (boolean b) h = absurd h
   value-short deep (number n) h = number-short n h
   value-short deep (string s) h = in-quotes s h
-  value-short zero (array ds) h = absurd h
   value-short (suc deep) (array ds) h = short-array (items-short deep ds h)
-  value-short zero (object ms) h = absurd h
   value-short (suc deep) (object ms) h = short-object (members-short deep ms h.0.1 h.1)
+  value-short _ _ h = absurd h
 
   pub items-short : (deep : ℕ) (ds : Items) → ArePlain deep ds → AreShortItems ds (items_size ds)
   items-short deep no_items h = no-item

@@ -1,12 +1,8 @@
 -- The stage after twelve words.
-use Rattle.std.proofs.Common.{◌≡◌, ℕ, List, length, refl}
-use Rattle.std.specs.Prelude.{Ok, Err}
+use Rattle.ucl_runs.proofs.Common.{Err, List, NamedClub, Ok, Open, Refused, length, read_words, refl, with_words, ℕ, ◌≡◌}
 use Rattle.ucl_board.specs.Words.{AreReadAs, IsFirstBad}
-use Rattle.ucl_order.specs.Roster.{NamedClub}
 use Rattle.ucl_runs.specs.declared.live_fault.BeginningFault.TheVariants.{BadWordAt}
-use Rattle.ucl_screen.specs.WordsRead.{read_words}
 use Rattle.ucl_screen.proofs.ReadWords.{are-read, first-bad}
-use Rattle.ucl_runs.specs.Stages.{Open, Refused, with_words}
 
 pub words_read : (clubs : List NamedClub) (words twelve board : List ℕ) → twelve ≡ words → length words ≡ 12 → AreReadAs twelve board → Open clubs board ≡ with_words clubs words
 words_read clubs words twelve board e long r =

@@ -1,12 +1,10 @@
 -- Accepted attempts that are made again, at any places and any number of times.
-use Rattle.std.proofs.Common.{◌≡◌, ◌∙◌, ℕ, refl, sym, ap, subst, List, [], ◌∷◌, ◌++◌, inl, inr}
-use Rattle.std.specs.List.{fold, All}
-use Rattle.std.proofs.lemmas.List.Elements.{All-cons, All-head, All-nil, All-push, All-tail}
+use Rattle.ucl_runs.proofs.Common.{All-cons, All-head, All-nil, All-push, All-tail, Attempt, Entry, IsAttempt, IsLegal, List, []}
+use Rattle.ucl_runs.proofs.Common.{after_attempt, ap, attempt_board, board_after, fold, inl, inr, refl, subst, sym, ℕ, ◌++◌, ◌∙◌, ◌∷◌, ◌≡◌}
+use Rattle.std.specs.List.{All}
 use Rattle.std.proofs.lemmas.List.Sums.{fold-append}
-use Rattle.ucl_board.specs.declared.entry.Entry.{Entry}
-use Rattle.ucl_board.specs.History.{Attempt, IsAttempt, IsLegal, after_attempt, board_after}
 use Rattle.ucl_board.specs.Laws.{IsStaleAgain}
-use Rattle.ucl_board.proofs.HistoryLaws.{attempt_board, attempts_from}
+use Rattle.ucl_board.proofs.HistoryLaws.{attempts_from}
 use Rattle.ucl_board.proofs.Repeats.{go_stale}
 use Rattle.ucl_runs.specs.Repeats.{HasRepeats, LeaveTheSame, RepeatedRowsChangeNothing, WasAccepted}
 

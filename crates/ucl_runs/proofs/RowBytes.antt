@@ -1,33 +1,26 @@
 -- What single bytes do to the reading of a row.
-use Rattle.std.proofs.Common.{◌≡◌, ℕ, ◌+◌, ◌<◌, ◌≤◌, ◌==◌, ◌||◌, true, false, List, [], ◌∷◌, ◌++◌, length, drop, get_or, Some, refl, ◌∙◌, ◌⊎◌, inl, inr, arith}
-use Rattle.std.proofs.lemmas.Bool.Decides.{nat_tests}
-use Rattle.std.proofs.lemmas.Bool.{cases_Bool}
-use Rattle.std.proofs.lemmas.List.{drop_more}
-use Rattle.csv.specs.Machine.{Read, after_end, ends_at_end, in_field, next_record, step}
-use Rattle.csv.specs.Reading.{default_config, is_bom, strip_bom}
-use Rattle.csv.specs.declared.parser.Terminator.TheVariants as term
-use Rattle.csv.specs.declared.parser.State.{State}
-use Rattle.csv.specs.declared.parser.State.TheVariants as st
+use Rattle.ucl_runs.proofs.Common.{EndRecord, InField, List, Read, RowAction, RowState, Some, StartField, State, [], after_action}
+use Rattle.ucl_runs.proofs.Common.{after_end, arith, begins_row, cases_Bool, csv_state_of, default_config, drop, drop_more, ends_at_end}
+use Rattle.ucl_runs.proofs.Common.{false, get_or, in_field, inl, inr, length, made, nat_tests, refl, step, true, ℕ, ◌++◌, ◌+◌, ◌<◌, ◌==◌}
+use Rattle.ucl_runs.proofs.Common.{◌∙◌, ◌∷◌, ◌≡◌, ◌≤◌, ◌⊎◌}
+use Rattle.std.proofs.Common.{◌||◌}
+use Rattle.csv.specs.Machine.{next_record}
+use Rattle.csv.specs.Reading.{is_bom, strip_bom}
 use Rattle.ucl_screen.specs.Rows.{Fields as Row}
-use Rattle.ucl_runs.specs.declared.row.RowState.{RowState}
-use Rattle.ucl_runs.specs.declared.row.RowState.TheVariants.{StartField, InField, InQuoted, AfterQuote}
-use Rattle.ucl_runs.specs.declared.row.RowAction.{RowAction}
-use Rattle.ucl_runs.specs.declared.row.RowAction.TheVariants.{Copy, Skip, EndField, EndRecord}
-use Rattle.ucl_runs.specs.Reading.{after_action, begins_row, made, csv_state_of}
+use Rattle.ucl_runs.specs.declared.row.RowState.TheVariants.{InQuoted, AfterQuote}
+use Rattle.ucl_runs.specs.declared.row.RowAction.TheVariants.{Copy, Skip, EndField}
+use Rattle.csv.specs.declared.parser.Terminator.TheVariants as term
+use Rattle.csv.specs.declared.parser.State.TheVariants as st
 
 pub by-action : (s : State) (d : RowAction) (b : ℕ) (fields : Row) (field rest : List ℕ) → step default_config s b ≡ made b d
     → next_record default_config s fields field (b ∷ rest) ≡ after_action d b fields field rest
 unfolding next_record
 by-action s (Copy state) b fields field rest e = rw e refl
-by-action s (Skip state) b fields field rest e = rw e refl
-by-action s EndField b fields field rest e = rw e refl
-by-action s EndRecord b fields field rest e = rw e refl
+by-action _ _ _ _ _ _ e = rw e refl
 
 pub state-ends : (state : RowState) → ends_at_end (csv_state_of state) ≡ true
 state-ends StartField = refl
-state-ends InField = refl
-state-ends InQuoted = refl
-state-ends AfterQuote = refl
+state-ends _ = refl
 
 -- the end of a text ends the record
 pub at-end : (state : RowState) (fields : Row) (field : List ℕ) → next_record default_config (csv_state_of state) fields field [] ≡ Some (fields ++ field ∷ [], st.StartRecord, [])
@@ -115,10 +108,8 @@ mark-is a b c h = (grind (arith, nat_tests), grind (arith, nat_tests), grind (ar
 
 pub unmarked : (xs : List ℕ) → (3 ≤ length xs → get_or xs 0 0 ≡ 0xEF → get_or xs 1 0 ≡ 0xBB → get_or xs 2 0 ≡ 0xBF → ⊥) → xs ≡ strip_bom xs
 unfolding strip_bom
-unmarked [] h = refl
-unmarked (a ∷ []) h = refl
-unmarked (a ∷ b ∷ []) h = refl
 unmarked (a ∷ b ∷ c ∷ xs) h = elim (cases_Bool (is_bom a b c)) [
   | inl y ↦ let m = mark-is a b c y in absurd (h (omega arith) m.0 m.1 m.2)
   | inr n ↦ rw n refl
 ]
+unmarked _ _ = refl

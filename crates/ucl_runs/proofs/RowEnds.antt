@@ -1,24 +1,19 @@
 -- The fields of a row, and the rows of a line.
-use Rattle.std.proofs.Common.{◌≡◌, ℕ, suc, ◌+◌, ◌-◌, ◌<◌, ◌≤◌, ◌==◌, Bool, true, false, List, [], ◌∷◌, ◌++◌, length, take, drop, get_or, Option, Some, None, refl, sym, ap, ◌∙◌, inl, inr, arith}
-use Rattle.csv.specs.Machine.{Read, ends_at_end, next_record, step}
-use Rattle.csv.specs.Reading.{default_config, records}
+use Rattle.ucl_runs.proofs.Common.{Bool, FourFields, IsBehindEnds, List, None, Option, Read, RowAction, RowState, Some, StartField, State}
+use Rattle.ucl_runs.proofs.Common.{[], after_action, ap, arith, begins_row, csv_state_of, default_config, drop, drop-length, drop_more}
+use Rattle.ucl_runs.proofs.Common.{ends_at_end, false, get_or, inl, inr, length, made, nat_tests, records, refl, step, suc, sym, take}
+use Rattle.ucl_runs.proofs.Common.{take_all, true, ℕ, ◌++◌, ◌+◌, ◌-◌, ◌<◌, ◌==◌, ◌∙◌, ◌∷◌, ◌≡◌, ◌≤◌}
+use Rattle.csv.specs.Machine.{next_record}
 use Rattle.csv.specs.Records.{Rising, cut_from, field_at, last_end}
-use Rattle.ucl_screen.specs.Rows.{FourFields}
 use Rattle.ucl_runs.specs.Rows.{eight_of}
-use Rattle.csv.specs.declared.parser.State.{State}
-use Rattle.csv.specs.declared.parser.State.TheVariants as st
-use Rattle.std.proofs.lemmas.Bool.Decides.{nat_tests}
 use Rattle.csv.proofs.RecordFacts.{last-append, rising-last}
-use Rattle.std.proofs.lemmas.List.{drop-append-le, drop_all, drop_more, length-drop, take_all}
-use Rattle.std.proofs.Math.Seq.{drop-length}
+use Rattle.std.proofs.lemmas.List.{drop-append-le, drop_all, length-drop}
 use Rattle.ucl_screen.specs.Rows.{Fields as Row, rows_from}
 use Rattle.ucl_screen.proofs.RowFacts.{behind, rows-next, rows-none}
-use Rattle.ucl_runs.specs.declared.row.RowState.{RowState}
-use Rattle.ucl_runs.specs.declared.row.RowState.TheVariants.{StartField}
-use Rattle.ucl_runs.specs.declared.row.RowAction.{RowAction}
 use Rattle.ucl_runs.specs.declared.row.RowCount.TheVariants.{One, More}
-use Rattle.ucl_runs.specs.Reading.{AreFound, IsBehindEnds, after_action, begins_row, made, read_on, csv_state_of}
+use Rattle.ucl_runs.specs.Reading.{AreFound, read_on}
 use Rattle.ucl_runs.proofs.RowBytes.{at-end, begins-field, by-action, some-record}
+use Rattle.csv.specs.declared.parser.State.TheVariants as st
 
 whole : (line : List ℕ) → records default_config line ≡ rows_from st.StartRecord (Some line)
 unfolding rows_from

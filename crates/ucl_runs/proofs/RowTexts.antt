@@ -1,40 +1,28 @@
 -- The rows by which an evening goes on, byte by byte.
-use Rattle.std.proofs.Common.{◌≡◌, ◌∙◌, ℕ, zero, suc, ◌+◌, ◌-◌, ◌*◌, ◌/◌, ◌%◌, ◌^◌, ◌<◌, ◌≤◌, ◌&&◌, ◌==◌, true, false, refl, sym, ap, subst, arith, List, [], ◌∷◌, ◌++◌, codes}
-use Rattle.std.proofs.Common.{length, get_or, Some, le-leb, leb-true, ne_eqb, inl, inr, append_assoc, length-append}
-use Rattle.std.specs.Prelude.{decimal, flat_map, nat_le, nat_lt, not}
-use Rattle.std.specs.Fmt.{digit_glyph}
-use Rattle.std.specs.List.{list_all}
-use Rattle.std.specs.Str.{bytes_eq}
-use Rattle.std.proofs.lemmas.Bool.{cases_Bool, eqb-true}
-use Rattle.std.proofs.lemmas.Bool.Decides.{nat_tests}
-use Rattle.std.proofs.lemmas.Fmt.{decimal_by_steps, decimal_digit, decimal_nonempty, length-decimal-le}
+use Rattle.ucl_runs.proofs.Common.{and_parts}
+use Rattle.ucl_runs.proofs.Common.{AreJoining, AwayInTie, EndsRow, FourFields, HasNoFeed, IsBehindEnds, IsClub, IsFieldBefore, IsGroup}
+use Rattle.ucl_runs.proofs.Common.{List, NamedClub, Profile, Row, Some, Title, Uefa, [], ap, append_assoc, arith, bytes_eq, cases_Bool}
+use Rattle.ucl_runs.proofs.Common.{club_in, club_of, club_row, codes, decimal, default_config, digit_glyph, eqb-true, false, fits, flat_map}
+use Rattle.ucl_runs.proofs.Common.{get_or, group_row, hex_digits, in_quotes, inl, inr, is_joining, is_name, is_printed, le-leb, leb-true}
+use Rattle.ucl_runs.proofs.Common.{length, length-append, length-decimal-le, list_all, nat_le, nat_lt, nat_tests, ne_eqb, number, of_rows}
+use Rattle.ucl_runs.proofs.Common.{profile_name, profile_named, records, refl, said_by_text, subst, suc, sym, title_by, true, word_line}
+use Rattle.ucl_runs.proofs.Common.{word_of_row, zero, ℕ, ◌%◌, ◌&&◌, ◌*◌, ◌++◌, ◌+◌, ◌-◌, ◌/◌, ◌<◌, ◌==◌, ◌^◌, ◌∙◌, ◌∷◌, ◌≡◌, ◌≤◌}
+use Rattle.std.specs.Prelude.{not}
+use Rattle.std.proofs.lemmas.Fmt.{decimal_by_steps, decimal_digit, decimal_nonempty}
 use Rattle.std.proofs.lemmas.Slice.Eq.{bytes_eq-Decides}
 use Rattle.csv.proofs.RoundTrip.{quoted-run}
 use Rattle.csv.specs.Machine.{next_record}
-use Rattle.csv.specs.Reading.{default_config, records, strip_bom}
+use Rattle.csv.specs.Reading.{strip_bom}
 use Rattle.csv.specs.Writing.{default_writer, escaped}
-use Rattle.csv.specs.declared.parser.State.TheVariants as st
-use Rattle.ucl_order.specs.Roster.{IsClub, NamedClub, club_in, is_club, is_name, is_printed}
-use Rattle.ucl_screen.specs.Numbers.{hex_digits}
-use Rattle.ucl_runs.specs.Lines.{word_line}
-use Rattle.ucl_screen.specs.Numbers.{digits_after, is_digit, number}
-use Rattle.ucl_screen.specs.Rows.{FourFields}
-use Rattle.ucl_screen.specs.Script.{club_of, word_of_row}
+use Rattle.ucl_order.specs.Roster.{is_club}
+use Rattle.ucl_screen.specs.Numbers.{digits_after, is_digit}
 use Rattle.ucl_screen.proofs.Digits.{number-is}
-use Rattle.ucl_io.specs.Lines.{HasNoFeed}
-use Rattle.ucl_runs.specs.Reading.{AreJoining, EndsRow, IsBehindEnds, IsFieldBefore, is_joining}
-use Rattle.ucl_runs.specs.Rows.{Row, fits, of_rows, row_by_text, said_by_text}
+use Rattle.ucl_runs.specs.Rows.{row_by_text}
 use Rattle.ucl_runs.proofs.PlainRows.{at-ends, before-comma, plain_row}
 use Rattle.ucl_runs.proofs.RowBytes.{between-same, skip-one}
 use Rattle.ucl_runs.proofs.WordDigits.{low, word-digits}
-use Rattle.ucl_order.specs.declared.profile.Profile.{Profile}
-use Rattle.ucl_order.specs.declared.profile.Profile.TheVariants.{Uefa, AwayInTie}
-use Rattle.ucl_order.specs.Names.{profile_name, profile_named}
-use Rattle.ucl_screen.specs.Screen.{IsGroup}
-use Rattle.ucl_json.specs.declared.title.Title.{Title}
-use Rattle.ucl_runs.specs.Titles.{title_by}
-use Rattle.ucl_runs.specs.Follow.{club_row, group_row, in_quotes}
-use Rattle.ucl_runs.proofs.Answered.{both, long, word-back}
+use Rattle.ucl_runs.proofs.Answered.{long, word-back}
+use Rattle.csv.specs.declared.parser.State.TheVariants as st
 
 -- ---- bytes that join a field
 
@@ -132,8 +120,7 @@ same-escaped (b ∷ name) = elim (cases_Bool (b == 34)) [
 quoted-reads : (name rest : List ℕ) (fields : List (List ℕ)) → next_record default_config st.StartField fields [] (34 ∷ (flat_map in_quotes name ++ 34 ∷ 44 ∷ rest))
     ≡ next_record default_config st.StartField (fields ++ name ∷ []) [] rest
 unfolding next_record
-quoted-reads name rest fields =
-    ap (λ (l : List ℕ). next_record default_config st.InQuoted fields [] (l ++ 34 ∷ 44 ∷ rest)) (same-escaped name) ∙ quoted-run fields [] name (44 ∷ rest)
+quoted-reads name rest fields = cc (same-escaped name, quoted-run fields [] name (44 ∷ rest))
 
 quoted-before : (name rest : List ℕ) → IsFieldBefore (34 ∷ (flat_map in_quotes name ++ 34 ∷ 44 ∷ rest)) name rest
 quoted-before name rest = record { begins = refl; reads = quoted-reads name rest }
@@ -158,7 +145,7 @@ joining-clear (x ∷ xs) h = (λ e. cc (rw e at h.0), joining-clear xs h.1)
 
 test-clear : (xs : List ℕ) → list_all (λ b. not (b == 10)) xs ≡ true → HasNoFeed xs
 test-clear [] h = tt
-test-clear (x ∷ xs) h = let p = both (not (x == 10)) (list_all (λ b. not (b == 10)) xs) h in (λ e. cc (rw e at p.0), test-clear xs p.1)
+test-clear (x ∷ xs) h = let p = and_parts (not (x == 10)) (list_all (λ b. not (b == 10)) xs) h in (λ e. cc (rw e at p.0), test-clear xs p.1)
 
 printed-clear : (b : ℕ) → is_printed b ≡ true → b ≡ 10 → ⊥
 printed-clear b h e = cc (rw e at h)
@@ -172,7 +159,7 @@ quotes-clear b h = elim (cases_Bool (b == 34)) [
 name-clear : (name : List ℕ) → list_all is_printed name ≡ true → HasNoFeed (flat_map in_quotes name)
 name-clear [] h = tt
 name-clear (b ∷ name) h =
-    let p = both (is_printed b) (list_all is_printed name) h in
+    let p = and_parts (is_printed b) (list_all is_printed name) h in
     no-feed-then (in_quotes b) (flat_map in_quotes name) (quotes-clear b p.0) (name-clear name p.1)
 
 -- ---- lengths
@@ -207,118 +194,89 @@ pub record SaysRow (text : List ℕ) (f : FourFields) : Type 0 where
   pub short : length front ≤ 256
   pub said : (row : ℕ) → said_by_text row text ≡ Row f
 
--- the texts of the two kinds of rows
+says-row : (text front : List ℕ) (f : FourFields) → HasNoFeed front → text ≡ front ++ 10 ∷ [] → length front ≤ 256
+    → strip_bom text ≡ text → of_rows (records default_config text) ≡ Row f → SaysRow text f
+says-row text front f clean line short unmarked reads =
+    let long = simp length-append at (ap length line) in record {
+      front = front;
+      clean = clean;
+      line = line;
+      short = short;
+      said = λ row. said-short row text f (omega arith) unmarked reads;
+    }
+
+-- the first field of a row is its kind
+
+begins-plain : (rest : List ℕ) → (strip_bom (codes "club," ++ rest) ≡ codes "club," ++ rest)
+    × (strip_bom (codes "word," ++ rest) ≡ codes "word," ++ rest) × (strip_bom (codes "group," ++ rest) ≡ codes "group," ++ rest)
+unfolding strip_bom
+begins-plain rest = (refl, refl, refl)
+
+-- the texts of the kinds of rows
 abbrev club_text : List ℕ → List ℕ → List ℕ → List ℕ
 club_text slot name coefficient = codes "club," ++ (slot ++ 44 ∷ 34 ∷ (flat_map in_quotes name ++ 34 ∷ 44 ∷ (coefficient ++ 10 ∷ [])))
-
-abbrev word_text : List ℕ → List ℕ → List ℕ
-word_text index hex = codes "word," ++ (index ++ 44 ∷ (hex ++ 44 ∷ 10 ∷ []))
 
 abbrev club_fields : List ℕ → List ℕ → List ℕ → FourFields
 club_fields slot name coefficient = record { first = codes "club"; second = slot; third = name; fourth = coefficient }
 
+abbrev word_text : List ℕ → List ℕ → List ℕ
+word_text index hex = codes "word," ++ (index ++ 44 ∷ (hex ++ 44 ∷ 10 ∷ []))
+
 abbrev word_fields : List ℕ → List ℕ → FourFields
 word_fields index hex = record { first = codes "word"; second = index; third = hex; fourth = [] }
 
--- they are lines
+abbrev group_text : List ℕ → List ℕ → List ℕ → List ℕ
+group_text letter order edition = codes "group," ++ (letter ++ 44 ∷ (order ++ 44 ∷ (edition ++ 10 ∷ [])))
 
-abbrev club_front : List ℕ → List ℕ → List ℕ → List ℕ
-club_front slot name coefficient = codes "club," ++ (slot ++ 44 ∷ 34 ∷ (flat_map in_quotes name ++ 34 ∷ 44 ∷ coefficient))
+abbrev group_fields : List ℕ → List ℕ → List ℕ → FourFields
+group_fields letter order edition = record { first = codes "group"; second = letter; third = order; fourth = edition }
 
-abbrev word_front : List ℕ → List ℕ → List ℕ
-word_front index hex = codes "word," ++ (index ++ 44 ∷ (hex ++ 44 ∷ []))
-
-club-clean : (slot name coefficient : List ℕ) → AreJoining slot → AreJoining coefficient → list_all is_printed name ≡ true → HasNoFeed (club_front slot name coefficient)
-club-clean slot name coefficient s c n =
-    let last = no-feed-then (34 ∷ 44 ∷ []) coefficient (test-clear (34 ∷ 44 ∷ []) refl) (joining-clear coefficient c) in
-    let names = no-feed-then (flat_map in_quotes name) (34 ∷ 44 ∷ coefficient) (name-clear name n) last in
-    let quoted = no-feed-then (44 ∷ 34 ∷ []) (flat_map in_quotes name ++ 34 ∷ 44 ∷ coefficient) (test-clear (44 ∷ 34 ∷ []) refl) names in
-    let slots = no-feed-then slot (44 ∷ 34 ∷ (flat_map in_quotes name ++ 34 ∷ 44 ∷ coefficient)) (joining-clear slot s) quoted in
-    no-feed-then (codes "club,") (slot ++ 44 ∷ 34 ∷ (flat_map in_quotes name ++ 34 ∷ 44 ∷ coefficient)) (test-clear (codes "club,") refl) slots
-
-club-line : (slot name coefficient : List ℕ) → club_text slot name coefficient ≡ club_front slot name coefficient ++ 10 ∷ []
-club-line slot name coefficient = simp append_assoc
-
-word-clean : (index hex : List ℕ) → AreJoining index → AreJoining hex → HasNoFeed (word_front index hex)
-word-clean index hex i h =
-    let last = no-feed-then hex (44 ∷ []) (joining-clear hex h) (test-clear (44 ∷ []) refl) in
-    let behind = no-feed-then (44 ∷ []) (hex ++ 44 ∷ []) (test-clear (44 ∷ []) refl) last in
-    no-feed-then (codes "word,") (index ++ 44 ∷ (hex ++ 44 ∷ [])) (test-clear (codes "word,") refl)
-    (no-feed-then index (44 ∷ (hex ++ 44 ∷ [])) (joining-clear index i) behind)
-
-word-line : (index hex : List ℕ) → word_text index hex ≡ word_front index hex ++ 10 ∷ []
-word-line index hex = simp append_assoc
-
--- so the line is one byte shorter
-less-one : (text front : List ℕ) → text ≡ front ++ 10 ∷ [] → length text ≤ 257 → length front ≤ 256
-less-one text front e h =
-    let long : length text ≡ length front + 1 = ap (λ (l : List ℕ). length l) e ∙ length-append front (10 ∷ []) in omega (arith, long, h)
-
--- they are short
-
-club-short : (slot name coefficient : List ℕ) → length slot ≤ 1 → length coefficient ≤ 6 → length name ≤ 20 → length (club_text slot name coefficient) ≤ 257
-club-short slot name coefficient s c n =
-    let a = length-append slot (44 ∷ 34 ∷ (flat_map in_quotes name ++ 34 ∷ 44 ∷ (coefficient ++ 10 ∷ []))) in
-    let b = length-append (flat_map in_quotes name) (34 ∷ 44 ∷ (coefficient ++ 10 ∷ [])) in
-    let d = length-append coefficient (10 ∷ []) in
-    let e = name-long name in
-    omega arith
-
-word-short : (index hex : List ℕ) → length index ≤ 2 → length hex ≡ 16 → length (word_text index hex) ≤ 257
-word-short index hex i h =
-    let a = length-append index (44 ∷ (hex ++ 44 ∷ 10 ∷ [])) in
-    let b = length-append hex (44 ∷ 10 ∷ []) in
-    omega arith
-
--- they have no byte order mark
-
-club-unmarked : (rest : List ℕ) → strip_bom (codes "club," ++ rest) ≡ codes "club," ++ rest
-unfolding strip_bom
-club-unmarked rest = refl
-
-word-unmarked : (rest : List ℕ) → strip_bom (codes "word," ++ rest) ≡ codes "word," ++ rest
-unfolding strip_bom
-word-unmarked rest = refl
-
-group-unmarked : (rest : List ℕ) → strip_bom (codes "group," ++ rest) ≡ codes "group," ++ rest
-unfolding strip_bom
-group-unmarked rest = refl
-
--- and say their fields
-
-club-reads : (slot name coefficient : List ℕ) → AreJoining slot → AreJoining coefficient → of_rows (records default_config (club_text slot name coefficient)) ≡ Row (club_fields slot name coefficient)
-club-reads slot name coefficient s c =
+club-says : (slot name coefficient : List ℕ) → AreJoining slot → AreJoining coefficient → length slot ≤ 1 → length coefficient ≤ 6
+    → length name ≤ 20 → list_all is_printed name ≡ true → SaysRow (club_text slot name coefficient) (club_fields slot name coefficient)
+club-says slot name coefficient s c one six twenty printed =
     let last = coefficient ++ 10 ∷ [] in
     let quoted = 34 ∷ (flat_map in_quotes name ++ 34 ∷ 44 ∷ last) in
-    plain_row (club_text slot name coefficient) (slot ++ 44 ∷ quoted) quoted last (codes "club") slot name coefficient
-    (club-before (slot ++ 44 ∷ quoted)) (before-comma slot quoted s) (quoted-before name last) (at-end coefficient c)
+    let text = club_text slot name coefficient in
+    let behind = no-feed-then (34 ∷ 44 ∷ []) coefficient (test-clear (34 ∷ 44 ∷ []) refl) (joining-clear coefficient c) in
+    let names = no-feed-then (flat_map in_quotes name) (34 ∷ 44 ∷ coefficient) (name-clear name printed) behind in
+    let slots = no-feed-then slot (44 ∷ 34 ∷ (flat_map in_quotes name ++ 34 ∷ 44 ∷ coefficient)) (joining-clear slot s)
+    (no-feed-then (44 ∷ 34 ∷ []) _ (test-clear (44 ∷ 34 ∷ []) refl) names) in
+    let long = name-long name in
+    says-row text (codes "club," ++ (slot ++ 44 ∷ 34 ∷ (flat_map in_quotes name ++ 34 ∷ 44 ∷ coefficient)))
+    (club_fields slot name coefficient)
+    (no-feed-then (codes "club,") _ (test-clear (codes "club,") refl) slots) (simp append_assoc) (simp length-append (omega arith))
+    (begins-plain (slot ++ 44 ∷ quoted)).0
+    (plain_row text (slot ++ 44 ∷ quoted) quoted last (codes "club") slot name coefficient
+    (club-before (slot ++ 44 ∷ quoted)) (before-comma slot quoted s) (quoted-before name last) (at-end coefficient c))
 
-word-reads : (index hex : List ℕ) → AreJoining index → AreJoining hex → of_rows (records default_config (word_text index hex)) ≡ Row (word_fields index hex)
-word-reads index hex i h =
+word-says : (index hex : List ℕ) → AreJoining index → AreJoining hex → length index ≤ 2 → length hex ≡ 16
+    → SaysRow (word_text index hex) (word_fields index hex)
+word-says index hex i h two long =
     let last : List ℕ = 10 ∷ [] in
-    plain_row (word_text index hex) (index ++ 44 ∷ (hex ++ 44 ∷ last)) (hex ++ 44 ∷ last) last (codes "word") index hex []
-    (word-before (index ++ 44 ∷ (hex ++ 44 ∷ last))) (before-comma index (hex ++ 44 ∷ last) i) (before-comma hex last h) (at-end [] tt)
+    let text = word_text index hex in
+    let behind = no-feed-then hex (44 ∷ []) (joining-clear hex h) (test-clear (44 ∷ []) refl) in
+    let places = no-feed-then index (44 ∷ (hex ++ 44 ∷ [])) (joining-clear index i)
+    (no-feed-then (44 ∷ []) _ (test-clear (44 ∷ []) refl) behind) in
+    says-row text (codes "word," ++ (index ++ 44 ∷ (hex ++ 44 ∷ []))) (word_fields index hex)
+    (no-feed-then (codes "word,") _ (test-clear (codes "word,") refl) places) (simp append_assoc) (simp length-append (omega arith))
+    (begins-plain (index ++ 44 ∷ (hex ++ 44 ∷ last))).1
+    (plain_row text (index ++ 44 ∷ (hex ++ 44 ∷ last)) (hex ++ 44 ∷ last) last (codes "word") index hex []
+    (word-before (index ++ 44 ∷ (hex ++ 44 ∷ last))) (before-comma index (hex ++ 44 ∷ last) i) (before-comma hex last h) (at-end [] tt))
 
-club-says : (slot name coefficient : List ℕ) → AreJoining slot → AreJoining coefficient → length slot ≤ 1 → length coefficient ≤ 6 → length name ≤ 20 → list_all is_printed name ≡ true
-    → SaysRow (club_text slot name coefficient) (club_fields slot name coefficient)
-club-says slot name coefficient s c a b d n = record {
-  front = club_front slot name coefficient;
-  clean = club-clean slot name coefficient s c n;
-  line = club-line slot name coefficient;
-  short = less-one (club_text slot name coefficient) (club_front slot name coefficient) (club-line slot name coefficient) (club-short slot name coefficient a b d);
-  said = λ row. said-short row (club_text slot name coefficient) (club_fields slot name coefficient) (club-short slot name coefficient a b d)
-      (club-unmarked (slot ++ 44 ∷ 34 ∷ (flat_map in_quotes name ++ 34 ∷ 44 ∷ (coefficient ++ 10 ∷ [])))) (club-reads slot name coefficient s c);
-}
-
-word-says : (index hex : List ℕ) → AreJoining index → AreJoining hex → length index ≤ 2 → length hex ≡ 16 → SaysRow (word_text index hex) (word_fields index hex)
-word-says index hex i h a b = record {
-  front = word_front index hex;
-  clean = word-clean index hex i h;
-  line = word-line index hex;
-  short = less-one (word_text index hex) (word_front index hex) (word-line index hex) (word-short index hex a b);
-  said = λ row. said-short row (word_text index hex) (word_fields index hex) (word-short index hex a b)
-      (word-unmarked (index ++ 44 ∷ (hex ++ 44 ∷ 10 ∷ []))) (word-reads index hex i h);
-}
+group-says : (letter order edition : List ℕ) → AreJoining letter → AreJoining order → AreJoining edition → length letter ≤ 1
+    → length order ≤ 11 → length edition ≤ 5 → SaysRow (group_text letter order edition) (group_fields letter order edition)
+group-says letter order edition a b c one eleven five =
+    let last = edition ++ 10 ∷ [] in
+    let text = group_text letter order edition in
+    let comma = λ (l : List ℕ). no-feed-then (44 ∷ []) l (test-clear (44 ∷ []) refl) in
+    let orders = no-feed-then order (44 ∷ edition) (joining-clear order b) (comma edition (joining-clear edition c)) in
+    let letters = no-feed-then letter (44 ∷ (order ++ 44 ∷ edition)) (joining-clear letter a) (comma (order ++ 44 ∷ edition) orders) in
+    says-row text (codes "group," ++ (letter ++ 44 ∷ (order ++ 44 ∷ edition))) (group_fields letter order edition)
+    (no-feed-then (codes "group,") _ (test-clear (codes "group,") refl) letters) (simp append_assoc) (simp length-append (omega arith))
+    (begins-plain (letter ++ 44 ∷ (order ++ 44 ∷ last))).2
+    (plain_row text (letter ++ 44 ∷ (order ++ 44 ∷ last)) (order ++ 44 ∷ last) last (codes "group") letter order edition
+    (group-before (letter ++ 44 ∷ (order ++ 44 ∷ last))) (before-comma letter (order ++ 44 ∷ last) a) (before-comma order last b)
+    (at-end edition c))
 
 -- ---- the row of a club
 
@@ -343,16 +301,18 @@ pub club_row_says : (roster : List NamedClub) (slot : ℕ) → slot < 10 → IsC
 unfolding is_club
 club_row_says roster slot few is =
     let club = club_in roster slot in
-    let parts = both (is_name club.name) (nat_le club.coefficient 999999) is in
-    let named = both (nat_le 1 (length club.name) && nat_le (length club.name) 20) (list_all is_printed club.name) parts.0 in
-    let short = leb-true (length club.name) 20 (both (nat_le 1 (length club.name)) (nat_le (length club.name) 20) named.0).1 in
+    let parts = and_parts (is_name club.name) (nat_le club.coefficient 999999) is in
+    let named = and_parts (nat_le 1 (length club.name) && nat_le (length club.name) 20) (list_all is_printed club.name) parts.0 in
+    let short = leb-true (length club.name) 20 (and_parts (nat_le 1 (length club.name)) (nat_le (length club.name) 20) named.0).1 in
     let most = leb-true club.coefficient 999999 parts.1 in
     let one = length-decimal-le 1 slot (omega arith) (omega arith) (omega arith) in
     let six = length-decimal-le 6 club.coefficient (omega arith) (omega arith) (omega arith) in
     record {
       fields = club_fields (decimal slot) club.name (decimal club.coefficient);
-      says = subst (λ (t : List ℕ). SaysRow t (club_fields (decimal slot) club.name (decimal club.coefficient))) (club-parts (decimal slot) club.name (decimal club.coefficient))
-          (club-says (decimal slot) club.name (decimal club.coefficient) (decimal-joins slot (omega arith)) (decimal-joins club.coefficient (omega arith)) one six short named.1);
+      says =
+          rw (← club-parts (decimal slot) club.name (decimal club.coefficient))
+          (club-says (decimal slot) club.name (decimal club.coefficient)
+          (decimal-joins slot (omega arith)) (decimal-joins club.coefficient (omega arith)) one six short named.1);
       first = refl;
       club_is = club-is slot club.name club.coefficient few most;
     }
@@ -379,61 +339,13 @@ word_row_says index word i h =
     let two = length-decimal-le 2 index (omega arith) (omega arith) (omega arith) in
     record {
       fields = word_fields (decimal index) (hex_digits word);
-      says = subst (λ (t : List ℕ). SaysRow t (word_fields (decimal index) (hex_digits word))) (word-parts (decimal index) (hex_digits word))
-          (word-says (decimal index) (hex_digits word) (decimal-joins index (omega arith)) (hex-joins word h) two (hex-long word h));
+      says = rw (← word-parts (decimal index) (hex_digits word)) (word-says (decimal index) (hex_digits word)
+          (decimal-joins index (omega arith)) (hex-joins word h) two (hex-long word h));
       first = refl;
       word_is = word-is index word i h;
     }
 
 -- ---- the row of a group
-
-abbrev group_text : List ℕ → List ℕ → List ℕ → List ℕ
-group_text letter order edition = codes "group," ++ (letter ++ 44 ∷ (order ++ 44 ∷ (edition ++ 10 ∷ [])))
-
-abbrev group_front : List ℕ → List ℕ → List ℕ → List ℕ
-group_front letter order edition = codes "group," ++ (letter ++ 44 ∷ (order ++ 44 ∷ edition))
-
-abbrev group_fields : List ℕ → List ℕ → List ℕ → FourFields
-group_fields letter order edition = record { first = codes "group"; second = letter; third = order; fourth = edition }
-
-group-clean : (letter order edition : List ℕ) → AreJoining letter → AreJoining order → AreJoining edition → HasNoFeed (group_front letter order edition)
-group-clean letter order edition a b c =
-    let last = no-feed-then (44 ∷ []) edition (test-clear (44 ∷ []) refl) (joining-clear edition c) in
-    let orders = no-feed-then order (44 ∷ edition) (joining-clear order b) last in
-    let behind = no-feed-then (44 ∷ []) (order ++ 44 ∷ edition) (test-clear (44 ∷ []) refl) orders in
-    no-feed-then (codes "group,") (letter ++ 44 ∷ (order ++ 44 ∷ edition)) (test-clear (codes "group,") refl)
-    (no-feed-then letter (44 ∷ (order ++ 44 ∷ edition)) (joining-clear letter a) behind)
-
-group-line : (letter order edition : List ℕ) → group_text letter order edition ≡ group_front letter order edition ++ 10 ∷ []
-group-line letter order edition = simp append_assoc
-
-group-short : (letter order edition : List ℕ) → length letter ≤ 1 → length order ≤ 11 → length edition ≤ 5 → length (group_text letter order edition) ≤ 257
-group-short letter order edition a b c =
-    let p = length-append letter (44 ∷ (order ++ 44 ∷ (edition ++ 10 ∷ []))) in
-    let q = length-append order (44 ∷ (edition ++ 10 ∷ [])) in
-    let r = length-append edition (10 ∷ []) in
-    omega arith
-
-group-reads : (letter order edition : List ℕ) → AreJoining letter → AreJoining order → AreJoining edition
-    → of_rows (records default_config (group_text letter order edition)) ≡ Row (group_fields letter order edition)
-group-reads letter order edition a b c =
-    let last = edition ++ 10 ∷ [] in
-    plain_row (group_text letter order edition) (letter ++ 44 ∷ (order ++ 44 ∷ last)) (order ++ 44 ∷ last) last (codes "group") letter order edition
-    (group-before (letter ++ 44 ∷ (order ++ 44 ∷ last))) (before-comma letter (order ++ 44 ∷ last) a) (before-comma order last b) (at-end edition c)
-
-group-says : (letter order edition : List ℕ) → AreJoining letter → AreJoining order → AreJoining edition → length letter ≤ 1 → length order ≤ 11 → length edition ≤ 5
-    → SaysRow (group_text letter order edition) (group_fields letter order edition)
-group-says letter order edition a b c p q r =
-    let text = group_text letter order edition in
-    let short = group-short letter order edition p q r in
-    let line = group-line letter order edition in record {
-      front = group_front letter order edition;
-      clean = group-clean letter order edition a b c;
-      line = line;
-      short = less-one text (group_front letter order edition) line short;
-      said = λ row. said-short row text (group_fields letter order edition) short (group-unmarked (letter ++ 44 ∷ (order ++ 44 ∷ (edition ++ 10 ∷ []))))
-          (group-reads letter order edition a b c);
-    }
 
 pub record SaysTitle (text : List ℕ) (title : Title) : Type 0 where
   pub fields : FourFields
@@ -462,7 +374,7 @@ group_row_says title letter most =
     let low = letter.0 in
     record {
       fields = fields;
-      says = subst (λ (t : List ℕ). SaysRow t fields) (group-parts (title.group ∷ []) (profile_name title.profile) (decimal title.edition))
+      says = rw (← group-parts (title.group ∷ []) (profile_name title.profile) (decimal title.edition))
           (group-says (title.group ∷ []) (profile_name title.profile) (decimal title.edition) (above-marks title.group (omega arith), tt) order.0
           (decimal-joins title.edition (omega arith)) (omega arith) order.1 five);
       first = refl;

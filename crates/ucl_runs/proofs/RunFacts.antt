@@ -1,16 +1,14 @@
 -- The text of an input that was accepted.
-use Rattle.std.proofs.Common.{◌≡◌, ℕ, List, Option, Some, None}
-use Rattle.std.specs.Prelude.{Bool, Result, Ok, Err, IfSome, IfErr, OnOk}
-use Rattle.ucl_order.specs.declared.profile.Profile.{Profile}
-use Rattle.ucl_screen.specs.Script.{Script, WrittenSheet}
-use Rattle.ucl_screen.specs.Parsing.{MeansNight, MeansSheet}
-use Rattle.ucl_screen.specs.Screen.{screen_text}
-use Rattle.ucl_runs.specs.Feed.{IsFed, feed_text}
-use Rattle.ucl_runs.specs.Show.{IsShown}
-use Rattle.ucl_runs.specs.declared.fault.RunFault.{RunFault}
-use Rattle.ucl_runs.specs.declared.fault.RunFault.TheVariants.{Input, OutOfMemory, WriteFailed, NotOnDuty, NoThread, TooManyReporters, Strangers}
+use Rattle.ucl_runs.proofs.Common.{Err, IfErr, IfSome, IsFed, IsShown, List, MeansNight, None, Ok, OnOk, Option}
+use Rattle.ucl_runs.proofs.Common.{Profile, Result, RunFault, Script, Some, TextHas, screen_text}
+use Rattle.ucl_runs.proofs.Common.{ℕ, ◌≡◌}
+use Rattle.std.specs.Prelude.{Bool}
+use Rattle.ucl_screen.specs.Script.{WrittenSheet}
+use Rattle.ucl_screen.specs.Parsing.{MeansSheet}
+use Rattle.ucl_runs.specs.Feed.{feed_text}
+use Rattle.ucl_runs.specs.declared.fault.RunFault.TheVariants.{WriteFailed}
 use Rattle.ucl_io.specs.Stream.{WroteFirst}
-use Rattle.ucl_runs.specs.Run.{IfWriteFailed, IsCutShort, TextHas}
+use Rattle.ucl_runs.specs.Run.{IfWriteFailed, IsCutShort}
 
 -- a script's text, and a sheet's screen
 pub fed : (known : Option (List ℕ)) (night : Script) (text : List ℕ) → IfSome known (λ bytes. MeansNight bytes (Ok night)) → text ≡ feed_text night.events → IfSome known (λ bytes. IsFed bytes text)
@@ -37,11 +35,5 @@ text-out (Err f) CallsFor known text P is h = tt
 pub part-out : {U : Type 0} (result : Result U RunFault) (CallsFor : List ℕ → List ℕ → Type 0) (known : Option (List ℕ)) (text : List ℕ) (failed : Bool) (old new : Option (List ℕ))
     → IfSome known (λ bytes. CallsFor bytes text) → IfErr result (IsCutShort failed old new text)
     → IfErr result (λ f. IfWriteFailed f (λ written. TextHas CallsFor known (WroteFirst old new written)))
-part-out (Ok u) CallsFor known text failed old new is h = tt
-part-out (Err (Input e)) CallsFor known text failed old new is h = tt
-part-out (Err OutOfMemory) CallsFor known text failed old new is h = tt
-part-out (Err (NotOnDuty row)) CallsFor known text failed old new is h = tt
-part-out (Err NoThread) CallsFor known text failed old new is h = tt
-part-out (Err TooManyReporters) CallsFor known text failed old new is h = tt
-part-out (Err (Strangers version)) CallsFor known text failed old new is h = tt
 part-out (Err (WriteFailed written)) CallsFor known text failed old new is h = text-has CallsFor known text (WroteFirst old new written) is h.1
+part-out _ _ _ _ _ _ _ _ _ = tt

@@ -1,47 +1,25 @@
 -- An evening in JSON says what it says as text.
-use Rattle.std.proofs.Common.{◌≡◌, ◌∙◌, ℕ, ◌+◌, ◌==◌, Bool, true, false, List, [], ◌∷◌, ◌++◌, length, Option, Some, None, refl, sym, ap, inl, inr, append_assoc, append-nil, arith}
-use Rattle.std.specs.Prelude.{⊤, ◌||◌, if◌then◌else◌, Result, Ok, Err}
-use Rattle.std.specs.Result.{is_ok}
-use Rattle.std.proofs.lemmas.Bool.{cases_Bool}
-use Rattle.std.proofs.lemmas.Bool.Decides.{nat_tests}
+use Rattle.ucl_runs.proofs.GoodStages.{IsGood, good-next, good-opened, of-request}
+use Rattle.ucl_runs.proofs.Common.{Accepted, All-append, All-cons, All-head, All-nil, AreWords, Bad, Beginning, Bool, Data, Err, Evening}
+use Rattle.ucl_runs.proofs.Common.{Event, IsAttempt, Json, List, LiveArgs, Matches, NamedClub, NightEvent, None, Nothing, Ok, Open}
+use Rattle.ucl_runs.proofs.Common.{Option, Other, RaisesVersion, Refusal, Request, Result, Row, Said}
+use Rattle.ucl_runs.proofs.Common.{Screen, Some, Stage, Text, Title, Words, [], after_row, after_title}
+use Rattle.ucl_runs.proofs.Common.{answer_at, answer_of, answer_said, ap, append-nil, append_assoc, attempt_of, bad_line}
+use Rattle.ucl_runs.proofs.Common.{bad_row_value, edition_screen_value, false, field_name}
+use Rattle.ucl_runs.proofs.Common.{game_at, if◌then◌else◌, is_ok, json_line}
+use Rattle.ucl_runs.proofs.Common.{line_of_reply, lines_of, matches_value, next, next_board, next_stage, next_title, no_refusal}
+use Rattle.ucl_runs.proofs.Common.{one_line, opened, refl, refusal_of, reply_answer, reply_of, reply_value, request_of}
+use Rattle.ucl_runs.proofs.Common.{said_on, screen_after, screen_answer, screen_text, shown_text, start_of, sym, title_said, true}
+use Rattle.ucl_runs.proofs.Common.{version_of, word_lines, words_value, ℕ, ◌++◌, ◌+◌, ◌>>=◌}
+use Rattle.ucl_runs.proofs.Common.{◌∙◌, ◌∷◌, ◌≡◌}
 use Rattle.std.proofs.lemmas.Grind.{flat_map-append}
-use Rattle.std.proofs.lemmas.List.Elements.{All-append, All-cons, All-head, All-nil}
-use Rattle.serde_json.specs.Data.{Data}
-use Rattle.ucl_word.specs.declared.event.Accepted.{Accepted}
-use Rattle.ucl_word.specs.declared.refusal.Refusal.{Refusal}
-use Rattle.ucl_word.specs.Rules.{refusal_of, reply_of}
-use Rattle.ucl_board.specs.Words.{AreWords, game_at, version_of}
-use Rattle.ucl_board.specs.History.{IsAttempt, board_of}
-use Rattle.ucl_board.proofs.Repeats.{no_refusal}
-use Rattle.ucl_order.specs.Roster.{NamedClub, bad_slot}
-use Rattle.ucl_runs.specs.Feed.{line_of_reply, word_lines}
-use Rattle.ucl_screen.specs.Events.{◌>>=◌, attempt_of}
 use Rattle.ucl_screen.specs.Matches.{matches_text}
-use Rattle.ucl_screen.specs.Screen.{screen_text}
-use Rattle.ucl_screen.specs.WordsRead.{read_words}
-use Rattle.ucl_screen.specs.declared.night.NightEvent.{NightEvent}
-use Rattle.ucl_json.specs.Lines.{IsOneLine, json_line}
-use Rattle.ucl_json.specs.declared.title.Title.{Title}
-use Rattle.ucl_json.specs.Values.{bad_row_value, edition_screen_value, matches_value, reply_value, words_value}
-use Rattle.ucl_json.proofs.OneLine.{one_line}
-use Rattle.ucl_command.specs.declared.options.Format.TheVariants.{Json, Text}
-use Rattle.ucl_command.specs.declared.live.LiveArgs.{LiveArgs}
-use Rattle.ucl_runs.specs.declared.live_fault.BeginningFault.TheVariants.{OtherGroup}
-use Rattle.ucl_runs.specs.Titles.{is_as_asked, is_group_row, title_said}
-use Rattle.ucl_runs.specs.declared.request.Request.{Request}
-use Rattle.ucl_runs.specs.declared.request.Request.TheVariants.{Bad, Event, Screen, Words, Matches}
-use Rattle.ucl_runs.specs.InputLines.{lines_of}
+use Rattle.ucl_json.specs.Lines.{IsOneLine}
 use Rattle.ucl_runs.specs.Members.{text_told, texts_told}
-use Rattle.ucl_runs.specs.BadRows.{field_name, shown_text}
-use Rattle.ucl_runs.specs.Requests.{request_of}
-use Rattle.ucl_runs.specs.Rows.{Said, Nothing, Other, Row, said_on}
-use Rattle.ucl_runs.specs.Stages.{Stage, Beginning, Naming, Restoring, Open, Refused}
-use Rattle.ucl_runs.specs.Stages.{after_beginning, after_club, after_row, after_title, after_word}
-use Rattle.ucl_runs.specs.Stages.{club_said, is_word_row, next_board, next_stage, opened, restored, with_roster, with_words, word_said}
-use Rattle.ucl_runs.specs.LiveText.{Evening, answer_at, answer_of, answer_said, answers, bad_line, next, reply_answer, screen_after, next_title, screen_answer, start_of}
-use Rattle.ucl_runs.specs.LiveLaws.{AreLinesSaying, EveningsSayTheSame, RaisesVersion, as_text}
-use Rattle.ucl_runs.proofs.Boards.{AreAttempts, asked}
-use Rattle.ucl_runs.proofs.GoodBoards.{fresh-good, good-after, read-good, version-after}
+use Rattle.ucl_runs.specs.LiveText.{answers}
+use Rattle.ucl_runs.specs.LiveLaws.{AreLinesSaying, EveningsSayTheSame, as_text}
+use Rattle.ucl_runs.proofs.Boards.{AreAttempts}
+use Rattle.ucl_runs.proofs.GoodBoards.{version-after}
 use Rattle.ucl_runs.proofs.LiveTold.{same}
 
 abbrev Ends : Data → Type 0
@@ -143,114 +121,29 @@ request-lines options title row clubs board Matches shown h w all =
 
 -- ---- lines of an evening
 
--- a board that is open is of valid words
-abbrev Good : Stage → Type 0
-Good (Open clubs board) = AreWords board
-Good Beginning = ⊤
-Good (Naming clubs) = ⊤
-Good (Restoring clubs words) = ⊤
-Good (Refused fault) = ⊤
-
-good-roster : (clubs : List NamedClub) (slot : Option ℕ) → Good (with_roster clubs slot)
-good-roster clubs None = tt
-good-roster clubs (Some slot) = tt
-
-either : (b : Bool) (s r : Stage) → Good s → Good r → Good (if b then s else r)
-either true s r p q = p
-either false s r p q = q
-
-good-club : (row : ℕ) (clubs : List NamedClub) (club : Option NamedClub) → Good (after_club row clubs club)
-good-club row clubs None = tt
-good-club row clubs (Some club) =
-    let all = clubs ++ club ∷ [] in either (length all == 4) (with_roster all (bad_slot all)) (Naming all) (good-roster all (bad_slot all)) tt
-
-good-restored : (clubs : List NamedClub) (words : List ℕ) (r : Result (List ℕ) ℕ) → length words ≡ 12 → read_words 1 words ≡ r → Good (restored clubs r)
-good-restored clubs words (Ok board) long e = read-good words board long e
-good-restored clubs words (Err index) long e = tt
-
-good-words : (clubs : List NamedClub) (words : List ℕ) → Good (with_words clubs words)
-good-words clubs words = elim (cases_Bool (length words == 12)) [
-  | inl y ↦ rw y (good-restored clubs words (read_words 1 words) (grind (arith, nat_tests)) refl)
-  | inr n ↦ rw n tt
-]
-
-good-word : (row : ℕ) (clubs : List NamedClub) (words : List ℕ) (word : Option ℕ) → Good (after_word row clubs words word)
-good-word row clubs words None = tt
-good-word row clubs words (Some word) = good-words clubs (words ++ word ∷ [])
-
-good-opened : (options : LiveArgs) (s : Stage) (r : Said) → Good s → Good (opened options s r)
-good-opened options Beginning r g = tt
-good-opened options (Restoring clubs []) r g = either (options.resumed || is_word_row r) (Restoring clubs []) (Open clubs (board_of [])) tt fresh-good
-good-opened options (Restoring clubs (word ∷ words)) r g = tt
-good-opened options (Naming clubs) r g = tt
-good-opened options (Open clubs board) r g = g
-good-opened options (Refused fault) r g = tt
-
-good-board : (board : List ℕ) (request : Request) → AreWords board → AreAttempts request → AreWords (next_board board request)
-good-board board (Event event) w all = good-after board (attempt_of event) w (All-head IsAttempt (attempt_of event) [] all)
-good-board board (Bad field) w all = w
-good-board board Screen w all = w
-good-board board Words w all = w
-good-board board Matches w all = w
-
-of-request : (r : Said) → AreAttempts (request_of r)
-of-request Nothing = All-nil IsAttempt
-of-request (Other eight) = All-nil IsAttempt
-of-request (Row f) = asked f
-
-good-title : (options : LiveArgs) (row : ℕ) (title : Option Title) → Good (after_title options row title)
-good-title options row None = tt
-good-title options row (Some title) = either (is_as_asked options title) (Naming []) (Refused OtherGroup) tt tt
-
-good-first : (options : LiveArgs) (row : ℕ) (r : Said) → Good (after_beginning options row r)
-good-first options row r =
-    either (is_group_row r) (after_title options row (title_said r)) (after_club row [] (club_said 1 r)) (good-title options row (title_said r)) (good-club row [] (club_said 1 r))
-
-good-row : (options : LiveArgs) (row : ℕ) (s : Stage) (r : Said) → Good s → Good (after_row options row s r)
-good-row options row Beginning r g = good-first options row r
-good-row options row (Naming clubs) r g = good-club row clubs (club_said (length clubs + 1) r)
-good-row options row (Restoring clubs words) r g = good-word row clubs words (word_said (length words + 1) r)
-good-row options row (Open clubs board) r g = good-board board (request_of r) g (of-request r)
-good-row options row (Refused fault) r g = tt
-
-good-next : (options : LiveArgs) (row : ℕ) (s : Stage) (r : Said) → Good s → Good (next_stage options row s r)
-good-next options row s Nothing g = g
-good-next options row s (Other eight) g = good-row options row (opened options s (Other eight)) (Other eight) (good-opened options s (Other eight) g)
-good-next options row s (Row f) g = good-row options row (opened options s (Row f)) (Row f) (good-opened options s (Row f) g)
-
 -- ---- the form of the answers changes no stage
 
 opened-text : (options : LiveArgs) (s : Stage) (r : Said) → opened (as_text options) s r ≡ opened options s r
 opened-text options Beginning r = refl
-opened-text options (Naming clubs) r = refl
-opened-text options (Restoring clubs []) r = refl
-opened-text options (Restoring clubs (word ∷ words)) r = refl
-opened-text options (Open clubs board) r = refl
-opened-text options (Refused fault) r = refl
+opened-text _ _ _ = refl
 
 title-text : (options : LiveArgs) (row : ℕ) (title : Option Title) → after_title (as_text options) row title ≡ after_title options row title
 title-text options row None = refl
 title-text options row (Some title) = refl
 
 row-text : (options : LiveArgs) (row : ℕ) (s : Stage) (r : Said) → after_row (as_text options) row s r ≡ after_row options row s r
-row-text options row Beginning r = ap (λ (s : Stage). if is_group_row r then s else after_club row [] (club_said 1 r)) (title-text options row (title_said r))
-row-text options row (Naming clubs) r = refl
-row-text options row (Restoring clubs words) r = refl
-row-text options row (Open clubs board) r = refl
-row-text options row (Refused fault) r = refl
+row-text options row Beginning r = cc (title-text options row (title_said r))
+row-text _ _ _ _ = refl
 
 stage-text : (options : LiveArgs) (row : ℕ) (s : Stage) (r : Said) → next_stage (as_text options) row s r ≡ next_stage options row s r
 stage-text options row s Nothing = refl
 stage-text options row s (Other eight) = rw (opened-text options s (Other eight)) (row-text options row (opened options s (Other eight)) (Other eight))
 stage-text options row s (Row f) = rw (opened-text options s (Row f)) (row-text options row (opened options s (Row f)) (Row f))
 
-stage-lines : (options : LiveArgs) (title : Title) (row : ℕ) (s : Stage) (r : Said) (shown : List ℕ) → options.format ≡ Json → Good s
+stage-lines : (options : LiveArgs) (title : Title) (row : ℕ) (s : Stage) (r : Said) (shown : List ℕ) → options.format ≡ Json → IsGood s
     → AreLinesSaying (answer_at (as_text options) title row s (request_of r) shown) (answer_at options title row s (request_of r) shown)
-stage-lines options title row Beginning r shown h g = no-lines
-stage-lines options title row (Naming clubs) r shown h g = no-lines
-stage-lines options title row (Restoring clubs words) r shown h g = no-lines
-stage-lines options title row (Open clubs board) r shown h g = request-lines options title row clubs board (request_of r) shown h g (of-request r)
-stage-lines options title row (Refused fault) r shown h g = no-lines
+stage-lines options title row (Open clubs board) r shown h g = request-lines options title row clubs board (request_of r) shown h g.1 (of-request r)
+stage-lines _ _ _ _ _ _ _ _ = no-lines
 
 abbrev text_of : Evening → Evening
 text_of e = record { options = as_text e.options; title = e.title; row = e.row; stage = e.stage }
@@ -259,17 +152,16 @@ abbrev with-stage : Evening → Said → Stage → Evening
 with-stage e r s = record { options = as_text e.options; title = next_title e.title e.stage r; row = e.row + 1; stage = s }
 
 text-next : (e : Evening) (r : Said) → next (text_of e) r ≡ text_of (next e r)
-text-next e r =
-    ap (λ (s : Stage). with-stage e r s) (stage-text e.options e.row e.stage r)
+text-next e r = cc (stage-text e.options e.row e.stage r)
 
-said-lines : (e : Evening) (r : Said) (shown : List ℕ) → e.options.format ≡ Json → Good e.stage → AreLinesSaying (answer_said (text_of e) r shown) (answer_said e r shown)
+said-lines : (e : Evening) (r : Said) (shown : List ℕ) → e.options.format ≡ Json → IsGood e.stage → AreLinesSaying (answer_said (text_of e) r shown) (answer_said e r shown)
 said-lines e Nothing shown h g = no-lines
 said-lines e (Other eight) shown h g =
     let r = Other eight in rw (opened-text e.options e.stage r) (stage-lines e.options e.title e.row (opened e.options e.stage r) r shown h (good-opened e.options e.stage r g))
 said-lines e (Row f) shown h g =
     rw (opened-text e.options e.stage (Row f)) (stage-lines e.options e.title e.row (opened e.options e.stage (Row f)) (Row f) shown h (good-opened e.options e.stage (Row f) g))
 
-all-lines : (e : Evening) (lines : List (List ℕ)) → e.options.format ≡ Json → Good e.stage → AreLinesSaying (answers (text_of e) lines) (answers e lines)
+all-lines : (e : Evening) (lines : List (List ℕ)) → e.options.format ≡ Json → IsGood e.stage → AreLinesSaying (answers (text_of e) lines) (answers e lines)
 unfolding answers
 all-lines e [] h g = no-lines
 all-lines e (line ∷ lines) h g =

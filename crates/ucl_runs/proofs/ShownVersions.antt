@@ -1,14 +1,10 @@
 -- The versions that a reader shows, and the history that they are of.
-use Rattle.std.proofs.Common.{◌≡◌, ℕ, ◌+◌, ◌-◌, ◌≤◌, List, [], ◌∷◌, ◌++◌, length, take, Option, Some, All, sym, ap, ◌∙◌, subst, arith, length-append}
+use Rattle.ucl_runs.proofs.Common.{All-push, Continues, Entry, HasShown, IsPrefix, List, Option, PassView, Reading, SharedReading, Some, []}
+use Rattle.ucl_runs.proofs.Common.{ap, arith, begins_length, begins_take, begins_through, length, length-append, subst, sym, take, ℕ, ◌++◌}
+use Rattle.ucl_runs.proofs.Common.{◌+◌, ◌-◌, ◌∙◌, ◌∷◌, ◌≡◌, ◌≤◌}
+use Rattle.std.proofs.Common.{All}
 use Rattle.std.specs.List.Sorted.{IsNonDecreasing}
-use Rattle.std.proofs.lemmas.List.Elements.{All-push}
 use Rattle.std.proofs.lemmas.List.Sorted.{IsNonDecreasingBy-push}
-use mathlib.Core.List.{IsPrefix}
-use Rattle.ucl_board.specs.declared.entry.Entry.{Entry}
-use Rattle.ucl_board.specs.declared.reading.Reading.{Reading}
-use Rattle.ucl_board.proofs.Beginnings.{begins_length, begins_take, begins_through}
-use Rattle.ucl_live_board.specs.Passes.{PassView, Continues, SharedReading}
-use Rattle.ucl_runs.specs.Nights.{HasShown}
 use Rattle.ucl_runs.specs.Styles.{Style, styled_screen}
 
 -- a version that is no lower than what had been seen

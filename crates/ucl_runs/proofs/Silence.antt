@@ -1,13 +1,8 @@
 -- An evening whose board is not open has answered nothing, and one that is refused stays so.
-use Rattle.std.proofs.Common.{◌≡◌, ℕ, Bool, true, false, List, [], ◌∷◌, Some, refl, ap, ◌∙◌, inl, inr}
-use Rattle.std.proofs.lemmas.Bool.{cases_Bool}
-use Rattle.ucl_command.specs.declared.live.LiveArgs.{LiveArgs}
-use Rattle.ucl_runs.specs.declared.live_fault.BeginningFault.{BeginningFault}
-use Rattle.ucl_runs.specs.BadRows.{shown_text}
-use Rattle.ucl_runs.specs.Requests.{request_of}
-use Rattle.ucl_runs.specs.Rows.{Said, Nothing, Other, Row, said_on}
-use Rattle.ucl_runs.specs.Stages.{Stage, Beginning, Naming, Restoring, Open, Refused, after_row, missing, next_stage, opened}
-use Rattle.ucl_runs.specs.LiveText.{Evening, after_lines, answer_said, answer_at, answers, next}
+use Rattle.ucl_runs.proofs.Common.{Beginning, BeginningFault, Bool, Evening, List, LiveArgs, Naming, Nothing, Open, Other, Refused}
+use Rattle.ucl_runs.proofs.Common.{Restoring, Row, Said, Some, Stage, [], after_row, answer_at, answer_said, ap, cases_Bool, false, inl}
+use Rattle.ucl_runs.proofs.Common.{inr, missing, next, next_stage, opened, refl, request_of, said_on, shown_text, true, ℕ, ◌∙◌, ◌∷◌, ◌≡◌}
+use Rattle.ucl_runs.specs.LiveText.{after_lines, answers}
 
 abbrev pub is_open : Stage → Bool
 is_open (Open clubs board) = true
@@ -47,11 +42,8 @@ shut-row : (options : LiveArgs) (row : ℕ) (s : Stage) (r : Said) → is_open (
 shut-row options row s r h = elim (cases_Bool (is_open s)) [ inl y ↦ cc (open-row options row s r y) | inr n ↦ n ]
 
 silent-at : (e : Evening) (s : Stage) (r : Said) (shown : List ℕ) → is_open s ≡ false → answer_at e.options e.title e.row s (request_of r) shown ≡ []
-silent-at e Beginning r shown h = refl
-silent-at e (Naming clubs) r shown h = refl
-silent-at e (Restoring clubs words) r shown h = refl
-silent-at e (Refused fault) r shown h = refl
 silent-at e (Open clubs board) r shown h = cc
+silent-at _ _ _ _ _ = refl
 
 silent-answer : (e : Evening) (r : Said) (shown : List ℕ) → is_open (next e r).stage ≡ false → answer_said e r shown ≡ []
 silent-answer e Nothing shown h = refl
@@ -73,8 +65,7 @@ silent e (line ∷ lines) h =
 
 refused-next : (options : LiveArgs) (row : ℕ) (r : Said) (fault : BeginningFault) → next_stage options row (Refused fault) r ≡ Refused fault
 refused-next options row Nothing fault = refl
-refused-next options row (Other eight) fault = refl
-refused-next options row (Row f) fault = refl
+refused-next _ _ _ _ = refl
 
 pub stays-refused : (e : Evening) (lines : List (List ℕ)) (fault : BeginningFault) → e.stage ≡ Refused fault → (after_lines e lines).stage ≡ Refused fault
 unfolding after_lines
@@ -91,7 +82,4 @@ refused-missing options row s fault h = rw h refl
 
 pub missing-shut : (options : LiveArgs) (row : ℕ) (s : Stage) (fault : BeginningFault) → missing options row s ≡ Some fault → is_open s ≡ false
 missing-shut options row (Open clubs board) fault h = cc
-missing-shut options row Beginning fault h = refl
-missing-shut options row (Naming clubs) fault h = refl
-missing-shut options row (Restoring clubs words) fault h = refl
-missing-shut options row (Refused f) fault h = refl
+missing-shut _ _ _ _ _ = refl

@@ -1,12 +1,9 @@
 -- Texts written one line at a time.
-use Rattle.std.proofs.Common.{◌≡◌, ℕ, ◌+◌, ◌<◌, ◌≤◌, List, ◌∷◌, ◌++◌, length, drop, get_or, sym, ◌∙◌, append_assoc, add-one, drop-cons}
+use Rattle.ucl_runs.proofs.Common.{Entry, List, NightEvent, after_attempt, append_assoc, attempt_of, drop, first-event, get_or, length, sym}
+use Rattle.ucl_runs.proofs.Common.{word_line, ℕ, ◌++◌, ◌+◌, ◌<◌, ◌∙◌, ◌∷◌, ◌≡◌, ◌≤◌}
+use Rattle.std.proofs.Common.{add-one, drop-cons}
 use Rattle.std.proofs.lemmas.List.{append-nil}
-use Rattle.ucl_board.specs.declared.entry.Entry.{Entry}
-use Rattle.ucl_board.specs.History.{after_attempt}
-use Rattle.ucl_screen.specs.declared.night.NightEvent.{NightEvent}
-use Rattle.ucl_runs.specs.Lines.{word_line}
-use Rattle.ucl_screen.specs.Events.{attempt_of}
-use Rattle.ucl_screen.proofs.EventsInTurn.{first-event, past}
+use Rattle.ucl_screen.proofs.EventsInTurn.{past}
 use Rattle.ucl_runs.specs.Feed.{reply_lines, reply_line, word_lines}
 
 pub words-step : (index i : ℕ) (words out new whole : List ℕ) → i < length words → out ++ word_lines index (drop i words) ≡ whole

@@ -1,11 +1,11 @@
 -- What is done where the words name nothing to do, over the streams.
-use Rattle.std.proofs.Common.{ap, ℕ, Bool, List, Option}
-use Rattle.ucl_io.specs.declared.stream.Source as reads
-use Rattle.ucl_io.specs.declared.stream.Sink as writes
+use Rattle.ucl_runs.proofs.Common.{Bool, List, Option, ap, ℕ}
 use Rattle.ucl_command.specs.declared.fault.LineFault.{LineFault}
 use Rattle.ucl_command.specs.declared.fault.LineFault.TheVariants.{Help, Refused, OutOfMemory}
 use Rattle.ucl_runs.specs.Ending.{EndsUnasked}
 use Rattle.ucl_runs.specs.Program.{Streams, streams_at}
+use Rattle.ucl_io.specs.declared.stream.Source as reads
+use Rattle.ucl_io.specs.declared.stream.Sink as writes
 
 pub over_streams : {S W : Type 0} (source : reads.Ghosts S) (sink : writes.Ghosts W) (s : S) (fault : LineFault) (before after : W)
     (code : ℕ) (failed : Bool) (old new : Option (List ℕ))

@@ -1,15 +1,13 @@
 -- The lines as they are read, and as they came.
-use Rattle.std.proofs.Common.{◌≡◌, ℕ, ◌+◌, ◌-◌, ◌≤◌, ◌<◌, ◌==◌, false, List, [], ◌∷◌, ◌++◌, length, take, get_or, None, refl, sym, ap, ◌∙◌, inl, inr, arith, length-append}
-use Rattle.std.specs.Prelude.{⊤, ◌⊎◌, nat_le}
-use Rattle.std.proofs.lemmas.Bool.{cases_Bool, lt-leb}
-use Rattle.std.proofs.lemmas.Bool.Decides.{nat_tests}
-use Rattle.std.proofs.lemmas.List.{take-append-le}
+use Rattle.ucl_runs.proofs.Common.{Evening, List, None, Other, [], answer_said, ap, arith, cases_Bool, false, fits, get_or, inl, inr}
+use Rattle.ucl_runs.proofs.Common.{last_lines, length, length-append, lines_of, lt-leb, nat_le, nat_tests, next, refl, said_on, shown_text}
+use Rattle.ucl_runs.proofs.Common.{sym, take, take-append-le, ℕ, ⊤, ◌++◌, ◌+◌, ◌-◌, ◌<◌, ◌==◌, ◌∙◌, ◌∷◌, ◌≡◌, ◌≤◌}
+use Rattle.std.specs.Prelude.{◌⊎◌}
 use Rattle.ucl_io.specs.Lines.{begun_line, ended_lines, longer}
-use Rattle.ucl_runs.specs.InputLines.{last_lines, lines_of}
 use Rattle.ucl_runs.specs.UncutLines.{uncut_after, uncut_lines}
-use Rattle.ucl_runs.specs.BadRows.{printed, shown_text}
-use Rattle.ucl_runs.specs.Rows.{Other, fits, row_by_text, said_on}
-use Rattle.ucl_runs.specs.LiveText.{Evening, after_lines, answer_said, answers, next}
+use Rattle.ucl_runs.specs.BadRows.{printed}
+use Rattle.ucl_runs.specs.Rows.{row_by_text}
+use Rattle.ucl_runs.specs.LiveText.{after_lines, answers}
 use Rattle.ucl_runs.specs.LiveLaws.{LinesAreReadWhole}
 
 -- a line and what was kept of it: the same, or both too long, and shown in the same way
@@ -81,18 +79,16 @@ lines-alike line whole (b ∷ bytes) h = elim (cases_Bool (b == 10)) [
 same-answers : (e : Evening) (lines wholes : List (List ℕ)) → AllAlike lines wholes → answers e lines ≡ answers e wholes
 unfolding answers
 same-answers e [] [] h = refl
-same-answers e [] (whole ∷ wholes) h = absurd h
-same-answers e (line ∷ lines) [] h = absurd h
 same-answers e (line ∷ lines) (whole ∷ wholes) h =
     rw (same-said e.row line whole h.0, same-shown line whole h.0)
     (ap (λ (l : List ℕ). answer_said e (said_on e.row whole) (shown_text whole) ++ l) (same-answers (next e (said_on e.row whole)) lines wholes h.1))
+same-answers _ _ _ h = absurd h
 
 same-after : (e : Evening) (lines wholes : List (List ℕ)) → AllAlike lines wholes → after_lines e lines ≡ after_lines e wholes
 unfolding after_lines
 same-after e [] [] h = refl
-same-after e [] (whole ∷ wholes) h = absurd h
-same-after e (line ∷ lines) [] h = absurd h
 same-after e (line ∷ lines) (whole ∷ wholes) h = rw (same-said e.row line whole h.0) (same-after (next e (said_on e.row whole)) lines wholes h.1)
+same-after _ _ _ h = absurd h
 
 pub read-whole : LinesAreReadWhole
 read-whole e bytes =

@@ -1,39 +1,28 @@
 -- What a screen shows does not tell by whom the events were entered.
-use Rattle.std.proofs.Common.{◌≡◌, ℕ, zero, suc, ◌+◌, ◌-◌, ◌==◌, Bool, true, false, cond, if◌then◌else◌, List, [], ◌∷◌, ◌++◌, length, map, filter, take, flat_map}
-use Rattle.std.proofs.Common.{count_by, Option, Some, None, All, ◌⊎◌, ⊎_elim, refl, sym, ap, ◌∙◌, subst, arith}
-use Rattle.std.specs.Prelude.{sum_by, slice_get, option_map}
-use Rattle.std.specs.List.{fold}
-use Rattle.std.specs.Result.{is_ok}
-use Rattle.std.proofs.lemmas.List.Elements.{All-nil, All-head, All-tail, All-push}
+use Rattle.ucl_runs.proofs.Common.{All-head, All-nil, All-push, All-tail, Away, Bool, Disallow, EachMatchHasOneReporter, Entry, EventCall}
+use Rattle.ucl_runs.proofs.Common.{Finished, FullTime, Goal, Home, InPlay, IsMerge, IsOnDuty, KickOff, Kind, List, MatchEntry, MatchRecord}
+use Rattle.ucl_runs.proofs.Common.{NamedClub, NightEvent, None, Option, Profile, Red, Refusal, Reopen, Scheduled, SecondYellow, Some}
+use Rattle.ucl_runs.proofs.Common.{Yellow, [], accepted_of, after_attempt, answer, ap, arith, attempt_by, attempt_of, cond, entries_of}
+use Rattle.ucl_runs.proofs.Common.{entry_of, false, filter, fold, followed_by, game_at, in_play, is_in_play, is_ok, length, map}
+use Rattle.ucl_runs.proofs.Common.{match_numbers, number_of_two, option_map, record_at, record_back, refl, reply_of, row_line}
+use Rattle.ucl_runs.proofs.Common.{sequential_reply, subst, suc, sym, take, true, version_of, word_of, zero, ℕ, ⊎_elim, ◌++◌, ◌+◌, ◌-◌}
+use Rattle.ucl_runs.proofs.Common.{◌==◌, ◌∙◌, ◌∷◌, ◌≡◌, ◌⊎◌}
+use Rattle.std.proofs.Common.{if◌then◌else◌, flat_map}
+use Rattle.std.proofs.Common.{count_by, All}
+use Rattle.std.specs.Prelude.{sum_by, slice_get}
 use Rattle.std.proofs.lemmas.List.Sums.{sum_by-cons}
 use mathlib.Core.Path.{fun_ext}
-use Rattle.ucl_word.specs.declared.record.MatchRecord.{MatchRecord}
-use Rattle.ucl_word.specs.declared.record.State.TheVariants.{Scheduled, InPlay, Finished}
-use Rattle.ucl_word.specs.declared.event.Side.TheVariants.{Home, Away}
-use Rattle.ucl_word.specs.declared.event.Kind.{Kind}
-use Rattle.ucl_word.specs.declared.event.Kind.TheVariants.{KickOff, Goal, Disallow, Yellow, SecondYellow, Red, FullTime, Reopen}
-use Rattle.ucl_word.specs.declared.event.EventCall.{EventCall}
-use Rattle.ucl_word.specs.declared.refusal.Refusal.{Refusal}
 use Rattle.ucl_word.specs.Record.{IsReporter}
-use Rattle.ucl_word.specs.Layout.{word_of, record_at}
-use Rattle.ucl_word.specs.Rules.{refusal_of, answer, reply_of, is_kick_off, is_full_time, is_reopen, is_in_play}
-use Rattle.ucl_word.specs.Counts.{MatchEntry, IsLegalMatch, count, counted_match, is_goal, is_disallow, is_yellow, is_second_yellow, is_red}
-use Rattle.ucl_word.proofs.Words.{record_back}
+use Rattle.ucl_word.specs.Rules.{refusal_of, is_kick_off, is_full_time, is_reopen}
+use Rattle.ucl_word.specs.Counts.{IsLegalMatch, count, counted_match, is_goal, is_disallow, is_yellow, is_second_yellow, is_red}
 use Rattle.ucl_word.proofs.EntryCounts.{legal_valid}
-use Rattle.ucl_board.specs.declared.entry.Entry.{Entry}
-use Rattle.ucl_board.specs.Fixtures.{IsMatch, match_numbers}
-use Rattle.ucl_board.specs.Words.{version_of, game_at}
-use Rattle.ucl_board.specs.History.{of_match, entries_of, match_after, entry_of, after_attempt, accepted_of, board_of, followed_by, sequential_reply}
+use Rattle.ucl_board.specs.Fixtures.{IsMatch}
+use Rattle.ucl_board.specs.History.{of_match, match_after, board_of}
 use Rattle.ucl_board.proofs.Histories.{legal_match, match_valid, word_after}
-use Rattle.ucl_order.specs.declared.profile.Profile.{Profile}
-use Rattle.ucl_order.specs.Roster.{NamedClub}
 use Rattle.ucl_order.specs.Matches.{score_of}
 use Rattle.ucl_order.proofs.Scores.{same_rows}
-use Rattle.ucl_screen.specs.declared.night.NightEvent.{NightEvent}
 use Rattle.ucl_screen.specs.Lines.{header}
-use Rattle.ucl_screen.specs.Screen.{columns, in_play, row_line, screen_text}
-use Rattle.ucl_screen.specs.Events.{attempt_of}
-use Rattle.ucl_runs.specs.Nights.{EachMatchHasOneReporter, IsMerge, IsOnDuty, attempt_by, number_of_two}
+use Rattle.ucl_screen.specs.Screen.{columns, screen_text}
 use Rattle.ucl_runs.proofs.Merges.{entries_agree}
 
 -- The record of a match without its reporter. --
@@ -128,8 +117,7 @@ module _ (number : ℕ → ℕ) where
 
   reply_signed : (h : List Entry) (call : EventCall) → is_ok (sequential_reply (map signed h) call) ≡ is_ok (sequential_reply h call)
   reply_signed h call =
-      sym (reply_without (match_after (map signed h) call.game) call)
-      ∙ (ap (λ (m : MatchRecord). is_ok (reply_of m call)) (after_signed h call.game) ∙ reply_without (match_after h call.game) call)
+      cc (reply_without (match_after (map signed h) call.game) call, after_signed h call.game, reply_without (match_after h call.game) call)
 
   signed_append : (h : List Entry) (e : Entry) → map signed (followed_by h e) ≡ followed_by (map signed h) (signed e)
   signed_append [] e = refl
@@ -140,14 +128,11 @@ module _ (number : ℕ → ℕ) where
   one_entered false h e = refl
 
   row_signed : (h : List Entry) (row : NightEvent) → after_attempt (map signed h) (attempt_by number row) ≡ map signed (after_attempt h (attempt_of row))
-  row_signed h row =
-      ap (λ (b : Bool). cond b (followed_by (map signed h) (entry_of (number row.reporter) row.call)) (map signed h)) (reply_signed h row.call)
-      ∙ one_entered (is_ok (sequential_reply h row.call)) h (entry_of row.reporter row.call)
+  row_signed h row = cc (reply_signed h row.call, one_entered (is_ok (sequential_reply h row.call)) h (entry_of row.reporter row.call))
 
   rows_signed : (h : List Entry) (rows : List NightEvent) → fold after_attempt (map signed h) (map (attempt_by number) rows) ≡ map signed (fold after_attempt h (map attempt_of rows))
   rows_signed h [] = refl
-  rows_signed h (row ∷ rows) =
-      ap (λ (z : List Entry). fold after_attempt z (map (attempt_by number) rows)) (row_signed h row) ∙ rows_signed (after_attempt h (attempt_of row)) rows
+  rows_signed h (row ∷ rows) = cc (row_signed h row, rows_signed (after_attempt h (attempt_of row)) rows)
 
   -- rows under other numbers are the same entries under these numbers
   pub night_signed : (rows : List NightEvent) → accepted_of (map (attempt_by number) rows) ≡ map signed (accepted_of (map attempt_of rows))
@@ -160,9 +145,8 @@ module _ (number : ℕ → ℕ) where
   get_signed (x ∷ es) (suc k) e at = get_signed es k e at
 
   take_signed : (k : ℕ) (es : List MatchEntry) → take k (map signed_match es) ≡ map signed_match (take k es)
-  take_signed zero es = refl
-  take_signed (suc k) [] = refl
   take_signed (suc k) (e ∷ es) = ap (λ (z : List MatchEntry). signed_match e ∷ z) (take_signed k es)
+  take_signed _ _ = refl
 
   refusal_signed : (es : List MatchEntry) (expected : ℕ) (kind : Kind) → refusal_of (counted_match (map signed_match es)) expected kind ≡ refusal_of (counted_match es) expected kind
   refusal_signed es expected kind =

@@ -1,12 +1,10 @@
 -- A word in sixteen hexadecimal digits, made from its last digit on.
-use Rattle.std.proofs.Common.{◌≡◌, ℕ, zero, suc, ◌+◌, ◌-◌, ◌/◌, ◌%◌, ◌^◌, ◌<◌, ◌≤◌, ◌==◌, true, false, List, [], ◌∷◌, ◌++◌, length, drop, set, replicate, refl, sym, ap, ◌∙◌, subst, inl}
-use Rattle.std.proofs.Common.{inr, append_assoc, append-nil, arith, length-append}
-use Rattle.std.proofs.Math.Nat.{pow-suc}
+use Rattle.ucl_runs.proofs.Common.{List, [], ap, append-nil, append_assoc, arith, cases_Bool, digit_glyph, drop, false, hex_digits, inl}
+use Rattle.ucl_runs.proofs.Common.{inr, length, length-append, nat_tests, pow-suc, refl, set, subst, suc, sym, true, zero, ℕ, ◌%◌, ◌++◌}
+use Rattle.ucl_runs.proofs.Common.{◌+◌, ◌-◌, ◌/◌, ◌<◌, ◌==◌, ◌^◌, ◌∙◌, ◌∷◌, ◌≡◌, ◌≤◌}
+use Rattle.std.proofs.Common.{replicate}
 use Rattle.std.proofs.lemmas.List.{drop-set}
-use Rattle.std.proofs.lemmas.Bool.{cases_Bool}
-use Rattle.std.proofs.lemmas.Bool.Decides.{nat_tests}
-use Rattle.std.specs.Fmt.{char_count, digit_glyph, digits, digits_onto, padded_integral}
-use Rattle.ucl_screen.specs.Numbers.{hex_digits}
+use Rattle.std.specs.Fmt.{char_count, digits, digits_onto, padded_integral}
 
 -- the last k digits of a number, before others
 abbrev pub low : ℕ → ℕ → List ℕ → List ℕ

@@ -1,8 +1,7 @@
-use Rattle.std.proofs.Common.{refl, ap, length, ◌∙◌, arith, le_refl}
+use Rattle.std.proofs.Common.{refl, ap, ◌∙◌, arith, le_refl}
 use Rattle.std.proofs.lemmas.Result.{err_from_is_err_and}
 use Rattle.ucl_board.proofs.Beginnings.{begins_length}
-use Rattle.ucl_evenings.specs.Showing.{standing}
-use Rattle.ucl_evenings.proofs.ScreenRuns.{after_reading, ended_by, few_after, low_after, run_failed, run_over}
+use Rattle.ucl_evenings.proofs.ScreenRuns.{after_reading, ended_by, few_after, low_after, run_shown}
 use Rattle.ucl_evenings.proofs.show.show_boards.Goals as goal
 
 pub loop-init : goal.loop-init
@@ -33,54 +32,38 @@ show-requires-clause-few g c κs within = let few = c.loop.invariant.few in let 
 
 pub returns-then-is_over-clause-shows : goal.returns-then-is_over-clause-shows
 returns-then-is_over-clause-shows g c k old versions p =
-    let known = g.B.LiveBoard.reader in
-    let taken = g.V.Sink.taken in
-    let so_far = c.loop.invariant.so_far k old versions p in
+    let inv = c.loop.invariant in
     let read = c.read-reading.ensures.says in
-    run_over c.args.screen.now.options c.args.roster.now (length (known c.args.pass.now).seen) k (known c.loop.pass) (known c.read-reading.new.pass) (standing c.loop.screen) old
-    (taken c.loop.screen.sink) so_far.versions so_far.so_far read.always c.read-reading.result read.reading c.loop.invariant.long
-    (standing c.show.new.self) (taken c.show.new.self.sink) _
-    (after_reading c.args.screen.now.options c.args.roster.now (length (known c.args.pass.now).seen) k (known c.loop.pass) (known c.read-reading.new.pass) (standing c.loop.screen) old
-    (taken c.loop.screen.sink) so_far.versions so_far.so_far read.always c.read-reading.result read.reading c.loop.invariant.long
-    (standing c.show.new.self) (taken c.show.new.self.sink) (rw c.loop.invariant.same.options at c.in_ok-show.ensures.shown) c.in_ok-show.ensures.kept)
+    let show = c.in_ok-show.ensures in
+    run_shown _ (inv.so_far k old versions p).so_far read.always read.reading inv.long _ (rw inv.same.options at show.shown) show.kept tt tt
 
 pub returns-in_err-show-clause-shows : goal.returns-in_err-show-clause-shows
 returns-in_err-show-clause-shows g c k old versions p =
     let e = err_from_is_err_and c.from_residual.result c.from_residual.ensures.1 in
-    let known = g.B.LiveBoard.reader in
-    let taken = g.V.Sink.taken in
-    let so_far = c.loop.invariant.so_far k old versions p in
+    let inv = c.loop.invariant in
     let read = c.read-reading.ensures.says in
-    rw (e.1, e.2) (run_failed c.args.screen.now.options c.args.roster.now (length (known c.args.pass.now).seen) k (known c.loop.pass) (known c.read-reading.new.pass)
-    (standing c.loop.screen) old (taken c.loop.screen.sink) so_far.versions so_far.so_far read.always c.read-reading.result read.reading c.loop.invariant.long
-    (standing c.show.new.self) (taken c.show.new.self.sink) (g.V.Sink.failed c.show.new.self.sink) _ c.in_err-show.ensures.rises
-    (rw c.loop.invariant.same.options at c.in_err-show.ensures.fails))
+    let show = c.in_err-show.ensures in
+    rw (e.1, e.2) (run_shown _ (inv.so_far k old versions p).so_far read.always read.reading inv.long _ (λ _. tt) (λ _. tt) show.rises
+    (rw inv.same.options at show.fails))
 
 pub loop-preserved : goal.loop-preserved
 loop-preserved g c =
-    let known = g.B.LiveBoard.reader in
-    let taken = g.V.Sink.taken in
     let inv = c.loop.invariant in
-    let m = known c.loop.pass in
-    let z = known c.read-reading.new.pass in
-    let s = standing c.loop.screen in
-    let t = standing c.show.new.self in
-    let new = taken c.loop.screen.sink in
-    let new2 = taken c.show.new.self.sink in
     let read = c.read-reading.ensures.says in
-    let least = length (known c.args.pass.now).seen in
-    let options = c.args.screen.now.options in
     let show = c.in_ok-show.ensures in
     record {
       own = c.read-reading.ensures.own;
-      same = record { board = show.same.board ∙ inv.same.board; roster = show.same.roster ∙ inv.same.roster; options = show.same.options ∙ inv.same.options };
-      few = few_after c.loop.screen.options c.args.roster.now m z s new read.always c.read-reading.result read.reading t new2 inv.few show.shown show.kept;
-      low = low_after m z s t c.read-reading.result read.reading inv.low (λ le. (show.shown le).next_is) (λ less. (show.kept less).0);
-      long = (let on = begins_length m.seen z.seen read.always.on.seen in let l = inv.long in omega arith);
-      waited = rw c.next-is_over.ensures.waited (le_refl (length z.shown));
+      same = record {
+        board = show.same.board ∙ inv.same.board;
+        roster = show.same.roster ∙ inv.same.roster;
+        options = show.same.options ∙ inv.same.options;
+      };
+      few = few_after read.always read.reading show.shown show.kept inv.few;
+      low = low_after read.always read.reading show.shown show.kept inv.low;
+      long = (let on = begins_length _ _ read.always.on.seen in let l = inv.long in omega arith);
+      waited = rw c.next-is_over.ensures.waited (le_refl _);
       so_far = λ k old versions p.
-          let so_far = inv.so_far k old versions p in
-          let after = after_reading options c.args.roster.now least k m z s old new so_far.versions so_far.so_far read.always c.read-reading.result read.reading inv.long t new2
+          let after = after_reading _ (inv.so_far k old versions p).so_far read.always read.reading inv.long
           (rw inv.same.options at show.shown) show.kept in
           record { versions = after.versions2; so_far = after.so_far };
       ended = ended_by _ _ _ _ c.next-is_over.result _ (rw c.if-is_over.false at inv.ended) c.next-is_over.ensures.ends refl;

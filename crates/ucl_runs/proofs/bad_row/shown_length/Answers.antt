@@ -1,7 +1,8 @@
-use Rattle.std.proofs.Common.{◌∙◌, sym, inl, inr}
+use Rattle.ucl_runs.proofs.Common.{inl, inr, sym, ◌∙◌}
 use Rattle.ucl_runs.proofs.LiveShown.{shown-all, shown-at}
+use Rattle.ucl_runs.proofs.bad_row.shown_length.Goals.{then-at-eq-MOST_SHOWN-via-then-at-eq-MOST_SHOWN}
+use Rattle.ucl_runs.proofs.bad_row.shown_length.Goals.{then-at-eq-MOST_SHOWN-via-else-at-eq-MOST_SHOWN+then-not-is_printed}
 use Rattle.ucl_runs.proofs.bad_row.shown_length.Goals as goal
-use Rattle.ucl_runs.proofs.bad_row.shown_length.Goals.{then-at-eq-MOST_SHOWN-via-then-at-eq-MOST_SHOWN, then-at-eq-MOST_SHOWN-via-else-at-eq-MOST_SHOWN+then-not-is_printed}
 
 pub returns-then-at-eq-MOST_SHOWN-clause-shown : goal.returns-then-at-eq-MOST_SHOWN-clause-shown
 returns-then-at-eq-MOST_SHOWN-clause-shown c =

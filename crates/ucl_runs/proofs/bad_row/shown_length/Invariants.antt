@@ -1,6 +1,4 @@
-use Rattle.std.proofs.Common.{◌≡◌, ◌≤◌, true, take}
-use Rattle.std.specs.List.{list_all}
-use Rattle.ucl_order.specs.Roster.{is_printed}
+use Rattle.ucl_runs.proofs.Common.{is_printed, list_all, take, true, ◌≡◌, ◌≤◌}
 use Rattle.ucl_runs.proofs.bad_row.shown_length.Given as goal
 
 abbrev pub invariant-loop-at : goal.invariant-loop-at

@@ -1,7 +1,4 @@
-use Rattle.std.proofs.Common.{◌∙◌}
-use Rattle.std.specs.Io.KnownBytes.{Appends}
-use Rattle.ucl_screen.specs.Parsing.{night_seen}
-use Rattle.ucl_runs.specs.Feed.{IsFed}
+use Rattle.ucl_runs.proofs.Common.{Appends, IsFed, night_seen, ◌∙◌}
 use Rattle.ucl_runs.proofs.RunFacts.{fed, part-out, text-out}
 use Rattle.ucl_runs.proofs.feed.feed_run.Goals as goal
 

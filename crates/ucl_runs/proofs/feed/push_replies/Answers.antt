@@ -1,6 +1,4 @@
-use Rattle.std.proofs.Common.{arith, sym}
-use Rattle.ucl_board.specs.History.{after_attempt}
-use Rattle.ucl_screen.specs.Events.{attempt_of}
+use Rattle.ucl_runs.proofs.Common.{after_attempt, arith, attempt_of, sym}
 use Rattle.ucl_runs.proofs.Texts.{replies-end, replies-step}
 use Rattle.ucl_screen.proofs.EventsInTurn.{history-end, history-step, version-bound}
 use Rattle.ucl_runs.proofs.feed.push_replies.Goals as goal

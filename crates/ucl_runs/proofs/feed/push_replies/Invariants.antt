@@ -1,9 +1,7 @@
-use Rattle.std.proofs.Common.{◌≡◌, List, [], ◌+◌, ◌++◌, drop, map, string_bytes}
-use Rattle.std.specs.List.{fold}
-use Rattle.ucl_board.specs.declared.entry.Entry.{Entry}
-use Rattle.ucl_board.specs.History.{accepted_of, after_attempt}
+use Rattle.ucl_runs.proofs.Common.{Entry, List, [], accepted_of, after_attempt, attempt_of, drop, fold, map, ◌++◌, ◌+◌, ◌≡◌}
+use Rattle.std.proofs.Common.{string_bytes}
 use Rattle.ucl_runs.specs.Feed.{reply_lines}
-use Rattle.ucl_screen.specs.Events.{IsBoardAfter, attempt_of}
+use Rattle.ucl_screen.specs.Events.{IsBoardAfter}
 use Rattle.ucl_runs.proofs.feed.push_replies.Given as goal
 
 abbrev pub invariant-loop-event : goal.invariant-loop-event

@@ -1,5 +1,5 @@
-use Rattle.std.proofs.Common.{◌≡◌, ◌+◌, ◌++◌, drop, string_bytes}
-use Rattle.ucl_runs.specs.Feed.{word_lines}
+use Rattle.ucl_runs.proofs.Common.{drop, word_lines, ◌++◌, ◌+◌, ◌≡◌}
+use Rattle.std.proofs.Common.{string_bytes}
 use Rattle.ucl_runs.proofs.feed.push_words.Given as goal
 
 abbrev pub invariant-loop-word : goal.invariant-loop-word

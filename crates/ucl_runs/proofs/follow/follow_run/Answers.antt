@@ -1,39 +1,44 @@
-use Rattle.std.proofs.lemmas.Result.{err_from_is_err_and}
-use Rattle.ucl_io.specs.Pumping.{seen}
-use Rattle.ucl_io.proofs.Calls.{logs-as}
-use Rattle.ucl_runs.proofs.FollowRuns.{counted, followed_at, run_counts, run_fails, run_text}
+use Rattle.ucl_runs.proofs.Common.{device, err_from_is_err_and, logs-as, seen}
+use Rattle.ucl_runs.proofs.FollowRuns.{followed_at, run_counts, run_fails, run_text}
 use Rattle.ucl_runs.proofs.follow.follow_run.Goals as goal
 
-pub returns-in_err-pump-clause-prompt : goal.returns-in_err-pump-clause-prompt
-returns-in_err-pump-clause-prompt g c =
-    let run = c.in_err-pump.ensures.pumped in
-    let old = seen g.S.Source.left g.W.Sink.taken (c.args.duplex.now.source, c.args.duplex.now.sink, c.new-follower.result) in
+pub returns-in_err-pump : goal.returns-in_err-pump
+returns-in_err-pump g c =
+    let pump = c.in_err-pump.ensures in
+    let run = pump.pumped in
     let fresh = c.new-follower.ensures in
-    (logs-as _ _ _ _ _ _ _ (λ time u. followed_at _ c.args.args old (seen g.S.Source.left g.W.Sink.taken time) fresh.following fresh.shape run.turns run.given.turned u) run.prompt)
-
-pub returns-in_err-pump-clause-fails : goal.returns-in_err-pump-clause-fails
-returns-in_err-pump-clause-fails g c =
+    let m = c.new-follower.result in
     let p = err_from_is_err_and c.from_residual.result c.from_residual.ensures.1 in
-    let old = seen g.S.Source.left g.W.Sink.taken (c.args.duplex.now.source, c.args.duplex.now.sink, c.new-follower.result) in
-    let new = seen g.S.Source.left g.W.Sink.taken (c.pump.new.duplex.source, c.pump.new.duplex.sink, c.pump.new.machine) in
-    rw (p.1, p.2)
-    (run_fails _ c.args.args old new c.new-follower.ensures.following c.new-follower.ensures.shape _ _ _ _ _ c.in_err-pump.field-0.0 c.in_err-pump.ensures.pumped)
+    let seen_as = device g.S.Source.left g.S.Source.failed g.W.Sink.taken g.W.Sink.failed in
+    let before = seen_as c.args.duplex.now in
+    let at = seen g.S.Source.left g.W.Sink.taken in
+    rw (p.1, p.2) (record {
+      text = tt;
+      counts = tt;
+      prompt = logs-as _ _ _ _ _ _ _
+          (λ time u. followed_at _ c.args.args before m fresh.following fresh.shape (at time) run.turns run.given.turned u) run.prompt;
+      read_failed = pump.read_failed;
+      sink = pump.sink;
+      fails = run_fails _ c.args.args before m fresh.following fresh.shape (seen_as c.pump.new.duplex) c.pump.new.machine _
+          c.in_err-pump.field-0.0 run;
+    })
 
-pub returns-clause-text : goal.returns-clause-text
-returns-clause-text g c =
-    let old = seen g.S.Source.left g.W.Sink.taken (c.args.duplex.now.source, c.args.duplex.now.sink, c.new-follower.result) in
-    let new = seen g.S.Source.left g.W.Sink.taken (c.pump.new.duplex.source, c.pump.new.duplex.sink, c.pump.new.machine) in
-    (run_text _ c.args.args old new c.new-follower.ensures.following c.new-follower.ensures.shape _ _ _ c.in_ok-pump.ensures.pumped)
-
-pub returns-clause-counts : goal.returns-clause-counts
-returns-clause-counts g c =
-    let old = seen g.S.Source.left g.W.Sink.taken (c.args.duplex.now.source, c.args.duplex.now.sink, c.new-follower.result) in
-    let new = seen g.S.Source.left g.W.Sink.taken (c.pump.new.duplex.source, c.pump.new.duplex.sink, c.pump.new.machine) in
-    counted c.args.args old.left _ (run_counts _ c.args.args old new c.new-follower.ensures.following c.new-follower.ensures.shape _ _ _ c.in_ok-pump.ensures.pumped)
-
-pub returns-clause-prompt : goal.returns-clause-prompt
-returns-clause-prompt g c =
-    let run = c.in_ok-pump.ensures.pumped in
-    let old = seen g.S.Source.left g.W.Sink.taken (c.args.duplex.now.source, c.args.duplex.now.sink, c.new-follower.result) in
+pub returns : goal.returns
+returns g c =
+    let pump = c.in_ok-pump.ensures in
+    let run = pump.pumped in
     let fresh = c.new-follower.ensures in
-    (logs-as _ _ _ _ _ _ _ (λ time u. followed_at _ c.args.args old (seen g.S.Source.left g.W.Sink.taken time) fresh.following fresh.shape run.turns run.given.turned u) run.prompt)
+    let m = c.new-follower.result in
+    let seen_as = device g.S.Source.left g.S.Source.failed g.W.Sink.taken g.W.Sink.failed in
+    let before = seen_as c.args.duplex.now in
+    let after = seen_as c.pump.new.duplex in
+    let at = seen g.S.Source.left g.W.Sink.taken in
+    record {
+      text = run_text _ c.args.args before m fresh.following fresh.shape after c.pump.new.machine _ _ run;
+      counts = run_counts _ c.args.args before m fresh.following fresh.shape after c.pump.new.machine _ _ run;
+      prompt = logs-as _ _ _ _ _ _ _
+          (λ time u. followed_at _ c.args.args before m fresh.following fresh.shape (at time) run.turns run.given.turned u) run.prompt;
+      read_failed = pump.read_failed;
+      sink = pump.sink;
+      fails = tt;
+    }

@@ -1,4 +1,4 @@
-use Rattle.std.proofs.Common.{append_assoc, arith}
+use Rattle.ucl_runs.proofs.Common.{append_assoc, arith}
 use Rattle.ucl_runs.proofs.lines.push_accepted.Goals as goal
 
 pub returns : goal.returns

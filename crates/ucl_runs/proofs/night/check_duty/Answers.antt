@@ -1,4 +1,4 @@
-use Rattle.std.proofs.Common.{arith}
+use Rattle.ucl_runs.proofs.Common.{arith}
 use Rattle.ucl_runs.proofs.Duty.{duty_more, duty_all, first_off_duty}
 use Rattle.ucl_runs.proofs.night.check_duty.Goals as goal
 

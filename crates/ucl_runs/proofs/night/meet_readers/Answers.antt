@@ -1,5 +1,4 @@
-use Rattle.std.proofs.Common.{sym}
-use Rattle.ucl_board.proofs.Beginnings.{begins_through}
+use Rattle.ucl_runs.proofs.Common.{begins_through, sym}
 use Rattle.ucl_runs.proofs.ShownVersions.{met_before}
 use Rattle.ucl_runs.proofs.night.meet_readers.Goals as goal
 

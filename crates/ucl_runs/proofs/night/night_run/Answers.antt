@@ -1,11 +1,9 @@
-use Rattle.std.proofs.Common.{ℕ, List, [], ◌∷◌, ◌++◌, refl, subst, sym, ap, All, true≢false, ◌∙◌}
-use Rattle.std.specs.Prelude.{option_map, string_bytes, take}
-use Rattle.std.proofs.lemmas.Result.{err_from_is_err_and}
-use mathlib.Core.List.{IsPrefix}
-use Rattle.ucl_board.proofs.Beginnings.{begins_take, begins_through}
-use Rattle.ucl_live_board.specs.Passes.{PassView, kept_pass, split_pass}
-use Rattle.ucl_runs.specs.Nights.{HasShown, IsOnDuty, night_history, number_of_two}
-use Rattle.ucl_runs.specs.Styles.{styled}
+use Rattle.ucl_runs.proofs.Common.{HasShown, IsPrefix, List, PassView, [], ap, begins_take, begins_through, err_from_is_err_and}
+use Rattle.ucl_runs.proofs.Common.{number_of_two, option_map, refl, string_bytes, styled, subst, sym, ℕ, ◌++◌, ◌∙◌, ◌∷◌}
+use Rattle.std.proofs.Common.{true≢false}
+use Rattle.std.specs.Prelude.{take}
+use Rattle.ucl_live_board.specs.Passes.{kept_pass, split_pass}
+use Rattle.ucl_runs.specs.Nights.{night_history}
 use Rattle.ucl_runs.proofs.GateFacts.{reported_in_all}
 use Rattle.ucl_runs.proofs.MergedRows.{each_on_duty, merged_by_settlers}
 use Rattle.ucl_runs.proofs.Merges.{night_board_read}
@@ -13,15 +11,10 @@ use Rattle.ucl_runs.proofs.night.night_run.Goals as goal
 
 pub returns-clause-merge : goal.returns-clause-merge
 returns-clause-merge g c =
-    let known = g.B.LiveBoard.reporter in
-    let rows = c.args.night.now.events.items in
-    let back = c.in_ok-reporter_1.field-0 in
     let worked = c.in_ok-reporter_1.ensures in
     let settling = c.in_ok-settled.ensures.says in
-    merged_by_settlers (known c.in_ok-enlist.field-0) (known c.in_ok-enlist-2.field-0) (known back.reporter_1) (known back.reporter_2)
-    (known c.settle.new.first) (known c.settle.new.second) rows c.in_ok-settled.settled.version worked.reporter_1.1 worked.reporter_2.1
-    settling.always.0 settling.always.1 (settling.exactly.0 refl).0
-    (each_on_duty rows (subst (All IsOnDuty) c.deref.ensures.value c.in_ok-check_duty.ensures)) settling.settled settling.of_both
+    merged_by_settlers worked.reporter_1.1 worked.reporter_2.1 settling.always.0 settling.always.1 (settling.exactly.0 refl).0
+    (each_on_duty c.args.night.now.events.items (rw (← c.deref.ensures.value) c.in_ok-check_duty.ensures)) settling.settled settling.of_both
 
 pub returns-clause-board : goal.returns-clause-board
 returns-clause-board g c one =

@@ -1,5 +1,6 @@
-use Rattle.std.proofs.Common.{arith, codes, ◌++◌, string_bytes}
-use Rattle.ucl_runs.specs.Nights.{last_shown, lasts_text}
+use Rattle.ucl_runs.proofs.Common.{arith, codes, last_shown, ◌++◌}
+use Rattle.std.proofs.Common.{string_bytes}
+use Rattle.ucl_runs.specs.Nights.{lasts_text}
 use Rattle.ucl_runs.proofs.NightParts.{stopped_second}
 use Rattle.ucl_runs.proofs.night.put_night.Goals as goal
 

@@ -1,4 +1,4 @@
-use Rattle.std.proofs.Common.{sym, ◌∙◌}
+use Rattle.ucl_runs.proofs.Common.{sym, ◌∙◌}
 use Rattle.ucl_runs.proofs.PlainRows.{joining-more}
 use Rattle.ucl_runs.proofs.plain.field_length.Goals as goal
 

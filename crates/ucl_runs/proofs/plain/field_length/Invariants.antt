@@ -1,5 +1,4 @@
-use Rattle.std.proofs.Common.{take}
-use Rattle.ucl_runs.specs.Reading.{AreJoining}
+use Rattle.ucl_runs.proofs.Common.{AreJoining, take}
 use Rattle.ucl_runs.proofs.plain.field_length.Given as goal
 
 abbrev pub invariant-loop-at : goal.invariant-loop-at

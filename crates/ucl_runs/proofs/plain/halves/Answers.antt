@@ -1,4 +1,4 @@
-use Rattle.std.proofs.Common.{◌+◌}
+use Rattle.ucl_runs.proofs.Common.{◌+◌}
 use Rattle.ucl_runs.proofs.PlainRows.{field-before}
 use Rattle.ucl_runs.proofs.RowEnds.{rest-of}
 use Rattle.ucl_runs.proofs.plain.halves.Goals as goal

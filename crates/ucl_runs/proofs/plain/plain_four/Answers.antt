@@ -1,4 +1,4 @@
-use Rattle.std.proofs.Common.{[], ◌∷◌, ◌++◌}
+use Rattle.ucl_runs.proofs.Common.{[], ◌++◌, ◌∷◌}
 use Rattle.ucl_runs.proofs.PlainRows.{plain_row}
 use Rattle.ucl_runs.proofs.plain.plain_four.Goals as goal
 

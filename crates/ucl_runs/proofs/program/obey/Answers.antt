@@ -1,5 +1,5 @@
 -- Each goal is found by search. They are written down so that a wrong body is refused at the arm that it breaks.
-use Rattle.std.proofs.Common.{rules}
+use Rattle.ucl_runs.proofs.Common.{rules}
 use Rattle.ucl_runs.proofs.program.obey.Goals as goal
 
 pub returns-in-Feed : goal.returns-in-Feed

@@ -1,10 +1,4 @@
-use Rattle.std.proofs.Common.{subst}
-use Rattle.std.proofs.lemmas.Result.{err_from_is_err_and}
-use mathlib.Core.List.{IsPrefix}
-use Rattle.ucl_board.proofs.Beginnings.{take_beginning}
-use Rattle.std.specs.Prelude.{string_bytes}
-use Rattle.ucl_screen.specs.Parsing.{night_seen}
-use Rattle.ucl_runs.specs.Nights.{last_shown, night_text}
+use Rattle.ucl_runs.proofs.Common.{IsPrefix, err_from_is_err_and, last_shown, night_seen, night_text, string_bytes, subst, take_beginning}
 use Rattle.ucl_runs.proofs.NightOutput.{closing-of, looked, played, put, unsettled}
 use Rattle.ucl_runs.proofs.program.play.Goals as goal
 

@@ -1,4 +1,4 @@
-use Rattle.std.proofs.Common.{rules}
+use Rattle.ucl_runs.proofs.Common.{rules}
 use Rattle.ucl_runs.proofs.Unasked.{over_streams}
 use Rattle.ucl_runs.proofs.program.run.Goals as goal
 

@@ -1,4 +1,4 @@
-use Rattle.std.proofs.Common.{◌≡◌, ◌+◌, ◌-◌, sym, arith}
+use Rattle.ucl_runs.proofs.Common.{arith, sym, ◌+◌, ◌-◌, ◌≡◌}
 use Rattle.csv.proofs.RecordFacts.{prev-first, prev-next}
 use Rattle.ucl_runs.proofs.row.start_of.Goals as goal
 

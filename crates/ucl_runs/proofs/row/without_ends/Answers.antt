@@ -1,4 +1,4 @@
-use Rattle.std.proofs.Common.{◌∙◌}
+use Rattle.ucl_runs.proofs.Common.{◌∙◌}
 use Rattle.ucl_runs.proofs.RowBytes.{between-same, is-end, skip-at}
 use Rattle.ucl_runs.proofs.row.without_ends.Goals as goal
 

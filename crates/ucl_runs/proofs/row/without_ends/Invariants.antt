@@ -1,7 +1,4 @@
-use Rattle.std.proofs.Common.{◌≡◌, [], drop, false}
-use Rattle.csv.specs.Machine.{ends_at_end, next_record}
-use Rattle.csv.specs.Reading.{default_config}
-use Rattle.csv.specs.declared.parser.State.{State}
+use Rattle.ucl_runs.proofs.Common.{State, [], default_config, drop, ends_at_end, false, next_record, ◌≡◌}
 use Rattle.csv.specs.declared.parser.State.TheVariants as st
 use Rattle.ucl_runs.proofs.row.without_ends.Given as goal
 

@@ -1,9 +1,10 @@
-use Rattle.std.proofs.Common.{◌∙◌, sym, arith}
+use Rattle.ucl_runs.proofs.Common.{arith, sym, ◌∙◌}
 use Rattle.ucl_runs.proofs.RowBytes.{marked, unmarked}
 use Rattle.ucl_runs.proofs.RowEnds.{rest-of}
-use Rattle.ucl_runs.proofs.row.without_mark.Goals as goal
-use Rattle.ucl_runs.proofs.row.without_mark.Goals.{else-line-ge3-via-then-line-ge3+then-line+then-line-2+else-line-3, else-line-ge3-via-then-line-ge3+then-line+else-line-2}
+use Rattle.ucl_runs.proofs.row.without_mark.Goals.{else-line-ge3-via-then-line-ge3+then-line+then-line-2+else-line-3}
+use Rattle.ucl_runs.proofs.row.without_mark.Goals.{else-line-ge3-via-then-line-ge3+then-line+else-line-2}
 use Rattle.ucl_runs.proofs.row.without_mark.Goals.{else-line-ge3-via-then-line-ge3+else-line, else-line-ge3-via-else-line-ge3}
+use Rattle.ucl_runs.proofs.row.without_mark.Goals as goal
 
 pub returns-then-line-3-clause-text : goal.returns-then-line-3-clause-text
 returns-then-line-3-clause-text c = rest-of 3 c.args.line.now ∙ sym (marked c.args.line.now c.if-line-ge3.true c.if-line.true c.if-line-2.true c.if-line-3.true)

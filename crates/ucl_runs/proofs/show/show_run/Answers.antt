@@ -1,7 +1,5 @@
-use Rattle.std.proofs.Common.{◌∙◌}
-use Rattle.std.specs.Io.KnownBytes.{Appends}
+use Rattle.ucl_runs.proofs.Common.{Appends, IsShown, ◌∙◌}
 use Rattle.ucl_screen.specs.Parsing.{sheet_seen}
-use Rattle.ucl_runs.specs.Show.{IsShown}
 use Rattle.ucl_runs.proofs.RunFacts.{part-out, shown, text-out}
 use Rattle.ucl_runs.proofs.show.show_run.Goals as goal
 

@@ -1,4 +1,5 @@
-use Rattle.std.proofs.Common.{◌≡◌, ◌-◌, ◌^◌, ◌<◌, ◌≤◌, ◌∙◌, length, refl, arith, length-set}
+use Rattle.ucl_runs.proofs.Common.{arith, length, refl, ◌-◌, ◌<◌, ◌^◌, ◌∙◌, ◌≡◌, ◌≤◌}
+use Rattle.std.proofs.Common.{length-set}
 use Rattle.ucl_runs.proofs.WordDigits.{digits-end, digits-step}
 use Rattle.ucl_runs.proofs.words.digits_of.Goals as goal
 

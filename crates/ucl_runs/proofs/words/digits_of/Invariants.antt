@@ -1,4 +1,4 @@
-use Rattle.std.proofs.Common.{◌≡◌, ◌≤◌, [], drop, length}
+use Rattle.ucl_runs.proofs.Common.{[], drop, length, ◌≡◌, ◌≤◌}
 use Rattle.ucl_runs.proofs.WordDigits.{low}
 use Rattle.ucl_runs.proofs.words.digits_of.Given as goal
 

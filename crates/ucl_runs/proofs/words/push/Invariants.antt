@@ -1,4 +1,4 @@
-use Rattle.std.proofs.Common.{◌≡◌, ◌++◌, take}
+use Rattle.ucl_runs.proofs.Common.{take, ◌++◌, ◌≡◌}
 use Rattle.ucl_runs.proofs.words.push.Given as goal
 
 abbrev pub invariant-loop-b : goal.invariant-loop-b

@@ -1,4 +1,4 @@
-use Rattle.std.proofs.Common.{arith}
+use Rattle.ucl_runs.proofs.Common.{arith}
 use Rattle.ucl_runs.proofs.Texts.{words-step, words-end}
 use Rattle.ucl_runs.proofs.words.push_words.Goals as goal
 

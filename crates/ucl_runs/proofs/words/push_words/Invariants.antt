@@ -1,5 +1,4 @@
-use Rattle.std.proofs.Common.{◌≡◌, ◌+◌, ◌*◌, ◌≤◌, ◌++◌, drop, length}
-use Rattle.ucl_runs.specs.Feed.{word_lines}
+use Rattle.ucl_runs.proofs.Common.{drop, length, word_lines, ◌*◌, ◌++◌, ◌+◌, ◌≡◌, ◌≤◌}
 use Rattle.ucl_runs.proofs.words.push_words.Given as goal
 
 abbrev pub invariant-loop-word : goal.invariant-loop-word

@@ -1,7 +1,4 @@
-use Rattle.std.proofs.Common.{take}
-use Rattle.ucl_live_board.specs.Passes.{ReportsMore}
-use Rattle.ucl_runs.specs.Gates.{rows_by}
-use Rattle.ucl_runs.specs.Nights.{HasEntered}
+use Rattle.ucl_runs.proofs.Common.{HasEntered, ReportsMore, rows_by, take}
 use Rattle.ucl_runs.proofs.workers.enter_rows.Given as goal
 
 abbrev pub invariant-loop-row : goal.invariant-loop-row

@@ -1,5 +1,4 @@
-use Rattle.std.proofs.Common.{◌∙◌}
-use Rattle.std.specs.Prelude.{string_bytes}
+use Rattle.ucl_runs.proofs.Common.{string_bytes, ◌∙◌}
 use Rattle.ucl_runs.specs.Workers.{style_of}
 use Rattle.ucl_runs.proofs.GateFacts.{just_read}
 use Rattle.ucl_runs.proofs.ShownVersions.{shown_more}

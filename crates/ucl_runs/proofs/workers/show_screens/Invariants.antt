@@ -1,6 +1,4 @@
-use Rattle.std.specs.Prelude.{option_map, string_bytes}
-use Rattle.ucl_runs.specs.Nights.{HasShown}
-use Rattle.ucl_runs.specs.Styles.{styled}
+use Rattle.ucl_runs.proofs.Common.{HasShown, option_map, string_bytes, styled}
 use Rattle.ucl_runs.proofs.workers.show_screens.Given as goal
 
 abbrev pub invariant-loop-call : goal.invariant-loop-call

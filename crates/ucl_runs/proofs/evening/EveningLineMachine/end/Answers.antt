@@ -1,6 +1,4 @@
-use Rattle.std.proofs.Common.{sym, ◌∙◌}
-use Rattle.std.proofs.lemmas.Result.{err_from_is_err_and}
-use Rattle.ucl_runs.specs.Holding.{evening_of}
+use Rattle.ucl_runs.proofs.Common.{err_from_is_err_and, evening_of, sym, ◌∙◌}
 use Rattle.ucl_runs.proofs.OneByOne.{none-answers, none-missing, some-answers, some-missing, some-stops}
 use Rattle.ucl_runs.proofs.RowEnds.{empty-list, full-list}
 use Rattle.ucl_runs.proofs.evening.EveningLineMachine.end.Goals as goal

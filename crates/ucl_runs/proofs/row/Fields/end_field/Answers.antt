@@ -1,4 +1,4 @@
-use Rattle.std.proofs.Common.{length}
+use Rattle.ucl_runs.proofs.Common.{length}
 use Rattle.csv.proofs.RecordFacts.{cut-end, rising-end}
 use Rattle.ucl_runs.proofs.RowEnds.{field-ended}
 use Rattle.ucl_runs.proofs.row.Fields.end_field.Goals as goal

@@ -1,4 +1,4 @@
-use Rattle.std.proofs.Common.{sym, arith}
+use Rattle.ucl_runs.proofs.Common.{arith, sym}
 use Rattle.csv.proofs.RecordFacts.{cut-length, field-bounds, field-cut, field-none}
 use Rattle.ucl_runs.proofs.row.Fields.field.Goals as goal
 

@@ -1,10 +1,7 @@
-use Rattle.std.proofs.Common.{◌∙◌, sym, get_or, None, Some, arith}
-use Rattle.std.proofs.Math.Seq.{drop-length}
-use Rattle.csv.specs.Machine.{after_end}
+use Rattle.ucl_runs.proofs.Common.{None, Some, after_end, arith, drop-length, field_in, get_or, sym, ◌∙◌}
+use Rattle.ucl_runs.proofs.RowEnds.{fill-end, fill-step, no-fields, none-rising}
 use Rattle.csv.specs.declared.parser.State.TheVariants as st
 use Rattle.csv.specs.declared.parser.Terminator.TheVariants as term
-use Rattle.ucl_runs.specs.Reading.{field_in}
-use Rattle.ucl_runs.proofs.RowEnds.{fill-end, fill-step, no-fields, none-rising}
 use Rattle.ucl_runs.proofs.row.Fields.fill.Goals as goal
 
 pub loop-at-init : goal.loop-at-init

@@ -1,9 +1,7 @@
-use Rattle.std.proofs.Common.{◌≡◌, ◌≤◌, [], length, drop}
-use Rattle.csv.specs.Machine.{next_record}
-use Rattle.csv.specs.Reading.{default_config}
+use Rattle.ucl_runs.proofs.Common.{[], csv_state_of, default_config, drop, field_in, length, next_record, ◌≡◌, ◌≤◌}
 use Rattle.csv.specs.Records.{Rising}
+use Rattle.ucl_runs.specs.Reading.{fields_in}
 use Rattle.csv.specs.declared.parser.State.TheVariants as st
-use Rattle.ucl_runs.specs.Reading.{field_in, fields_in, csv_state_of}
 use Rattle.ucl_runs.proofs.row.Fields.fill.Given as goal
 
 abbrev pub invariant-loop-at : goal.invariant-loop-at

@@ -1,4 +1,4 @@
-use Rattle.std.proofs.Common.{[], ◌∷◌, arith}
+use Rattle.ucl_runs.proofs.Common.{[], arith, ◌∷◌}
 use Rattle.csv.proofs.RecordFacts.{cut-more, rising-more}
 use Rattle.ucl_runs.proofs.RowEnds.{field-pushed}
 use Rattle.ucl_runs.proofs.row.Fields.push.Goals as goal

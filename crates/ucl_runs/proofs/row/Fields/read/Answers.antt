@@ -1,4 +1,4 @@
-use Rattle.std.proofs.Common.{arith}
+use Rattle.ucl_runs.proofs.Common.{arith}
 use Rattle.ucl_runs.proofs.RowEnds.{empty-list, found-more, found-nothing, found-one, full-list, none-rising, rest-of}
 use Rattle.ucl_runs.proofs.row.Fields.read.Goals as goal
 

@@ -1,7 +1,6 @@
-use Rattle.std.proofs.Common.{ap, ◌∙◌}
+use Rattle.ucl_runs.proofs.Common.{ap, opened, ◌∙◌}
 use Rattle.ucl_runs.specs.Rows.{fields_seen}
 use Rattle.ucl_runs.specs.Seen.{stage_seen}
-use Rattle.ucl_runs.specs.Stages.{opened}
 use Rattle.ucl_runs.proofs.TitleRows.{title_opened}
 use Rattle.ucl_runs.proofs.stage.Stage.answered.Goals as goal
 
