@@ -1,4 +1,5 @@
 use Rattle.std.proofs.Common.{◌≡◌, List, inr, subst, sym, ◌∙◌}
+use Rattle.std.specs.Prelude.{⊤}
 use mathlib.Core.List.{IsPrefix}
 use Rattle.ucl_board.specs.declared.entry.Entry.{Entry}
 use Rattle.ucl_board.proofs.Beginnings.{begins_through}
@@ -8,16 +9,17 @@ use Rattle.ucl_evenings_threads.specs.Runs.{HasRun, IsLooking, IsReadyToLook, Is
 use Rattle.ucl_evenings_threads.proofs.Counting.{seen_on}
 use Rattle.ucl_evenings_threads.proofs.Decided.{is_decided}
 use Rattle.ucl_evenings_threads.proofs.Holding.{begins_whole, early_long, heard_at_end, reported_at_end, shown_at_end, theirs_at_end, whole, whole_long}
-use Rattle.ucl_evenings_threads.proofs.Splits.{maps_same, split_both, stays_share}
-use Rattle.ucl_evenings_threads.proofs.Zips.{zip_right, zip_right_of}
+use Rattle.ucl_evenings_threads.proofs.Splits.{split_both, stays_share}
+use Rattle.ucl_evenings_threads.proofs.Zips.{maps_same, zip_right}
 use Rattle.ucl_evenings_threads.proofs.evening.hold_evening.Goals as goal
 
 pub run_threads-requires-clause-lent : goal.run_threads-requires-clause-lent
 run_threads-requires-clause-lent g c κs within = record {
   own = c.enlist_all.ensures.own;
-  looking = zip_right_of (IsLooking g.B.LiveBoard c.args.board.now _) (IsNewScreen c.args.board.now c.args.roster.now) (IsReadyToLook g.B.LiveBoard c.args.board.now c.args.roster.now)
+  looking = zip_right (IsLooking g.B.LiveBoard c.args.board.now _) (IsNewScreen c.args.board.now c.args.roster.now) (IsReadyToLook g.B.LiveBoard c.args.board.now c.args.roster.now)
       (λ screen looking l new. record { own = l.own; new = subst (IsNewScreen c.args.board.now c.args.roster.now) (sym l.same) new }) _ _ c.in_ok-screens.ensures.looking c.requires.screens;
-  ready = zip_right (WasEnlisted g.B.LiveBoard c.args.board.now _) (IsReadyToRun g.B.LiveBoard c.args.board.now) (λ reporter enlisted l. l.ready) _ _ c.in_ok-all.ensures.enlisted;
+  ready = zip_right (WasEnlisted g.B.LiveBoard c.args.board.now _) (λ x. ⊤) (IsReadyToRun g.B.LiveBoard c.args.board.now) (λ x y l t. l.ready) _ _
+      c.in_ok-all.ensures.enlisted (λ k d lt. tt);
 }
 
 pub returns-clause-held : goal.returns-clause-held

@@ -1,6 +1,7 @@
 use Rattle.ucl_evenings_threads.proofs.Ended.{heard_more}
 use Rattle.ucl_evenings_threads.specs.Runs.{IsHandedBack}
-use Rattle.ucl_evenings_threads.proofs.Zips.{map_push, zip_none, zip_push}
+use Rattle.std.proofs.lemmas.List.{map_push}
+use Rattle.ucl_evenings_threads.proofs.Zips.{zip_none, zip_push}
 use Rattle.ucl_evenings_threads.proofs.tally.+hear_all.Goals as goal
 
 pub returns-clause-heard : goal.returns-clause-heard
