@@ -117,14 +117,17 @@ module _ {B R P S W : Type 0} (live : boards.Ghosts B R P) (board : B) (source :
       let e : Entering = record { number = k.number; asks = asks; outcomes = t.outcomes } in
       record {
         all = e ∷ d.all;
-        came = (record {
-          number = refl;
-          bytes = t.bytes;
-          lines = t.lines;
-          consumed = t.consumed;
-          asks = refl;
-          all = all_lines _ _ _ end.result t.bytes t.lines _ t.ends;
-        }, d.came);
+        came = (
+          record {
+            number = refl;
+            bytes = t.bytes;
+            lines = t.lines;
+            consumed = t.consumed;
+            asks = refl;
+            all = all_lines _ _ _ end.result t.bytes t.lines _ t.ends;
+          },
+          d.came,
+        );
         outcomes = All-cons (WentThrough before h) e d.all (record {
           through = a.through;
           own = own 0 k (omega arith) ∙ rows.mine ∙ rw (a.ready.nothing, rows.always.number) refl;
@@ -154,10 +157,10 @@ module _ {B R P S W V : Type 0} (live : boards.Ghosts B R P) (board : B) (source
       let d = draw live board source replies clubs before h rise.0 255 reporters end.reporters.items held.reported last rise.1 in
       let known : All (HadEntered before) early = rw (maps_same (IsHandedBack live board) live.reporter live.reporter (λ x y kept. kept.unchanged) entered end.entered.items held.kept) had in
       let others = λ (p : ℕ) (x : Entry) (from : length before ≤ p) (at : slice_get h p ≡ Some x). ⊎_elim
-          (λ is. absurd (none_of_these before h early p x held.since known first from at is))
-          (λ is. d.each x.reporter is)
-          (one_of_either early late x.reporter (subst (λ (y : Entry). IsOneOf (early ++ late) y.reporter) (get_or_from_slice_get h p x x at)
-          (theirs.no_other p x (at_below h p x at)))) in
+      (λ is. absurd (none_of_these before h early p x held.since known first from at is))
+      (λ is. d.each x.reporter is)
+      (one_of_either early late x.reporter (subst (λ (y : Entry). IsOneOf (early ++ late) y.reporter) (get_or_from_slice_get h p x x at)
+      (theirs.no_other p x (at_below h p x at)))) in
       record {
         all = d.all;
         came = d.came;

@@ -70,7 +70,7 @@ module _ {B R P V : Type 0} (live : boards.Ghosts B R P) (board : B) (sink : sin
       (λ screen looking end l p.
       let seen = (live.reader looking.pass).seen in
       let q = shown_on live board sink clubs seen s h (LastIsAtLeast least) (LastIsAtLeast version) looking.screen end on
-          (λ versions e. subst (λ (n : ℕ). LastIsAtLeast n versions) (sym same) e) p in
+      (λ versions e. subst (λ (n : ℕ). LastIsAtLeast n versions) (sym same) e) p in
       subst (λ (x : Screen B V). HasShownOf live board sink clubs first h (LastIs version) x end) l.same
       (record {
         own = q.own;

@@ -127,10 +127,12 @@ module _ (n : ℕ) (h : List Entry) where
         let more = own_from low p above in
         let one = own_next p (entry_of n call) w.entry refl in
         let later = decide (p + 1) (after_attempt s (attempted n call)) asks outcomes (omega arith) rest in
-        let count = later.0 in
-        (omega arith, λ few same. later.1 (omega arith)
-            (same_attempt g s (take p h) (attempted n call) (same ∙ sym (same_from low p from above (omega arith) (omega arith)))
-            ∙ ap (entries_of g) (ap (λ r. if is_ok r then followed_by (take p h) (entry_of n call) else take p h) w.reply ∙ sym (next h p (entry_of n call) w.entry))))
+        let count = later.0 in (
+          omega arith,
+          λ few same. later.1 (omega arith)
+              (same_attempt g s (take p h) (attempted n call) (same ∙ sym (same_from low p from above (omega arith) (omega arith)))
+              ∙ ap (entries_of g) (ap (λ r. if is_ok r then followed_by (take p h) (entry_of n call) else take p h) w.reply ∙ sym (next h p (entry_of n call) w.entry))),
+        )
     decide low s (Report call ∷ asks) (Refused refusal reading ∷ outcomes) from (p, above, w, rest) =
         decide_on low p (accepted_in outcomes) s (after_attempt s (attempted n call)) asks from above (omega (arith, w.0.low, w.0.high))
         (λ same. same_attempt g s (take p h) (attempted n call) same
