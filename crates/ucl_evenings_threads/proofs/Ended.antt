@@ -76,9 +76,6 @@ module _ {B R P V : Type 0} (live : boards.Ghosts B R P) (board : B) (sink : sin
         served = p.served;
       }
 
-pub above_less : (least less : ℕ) (versions : List ℕ) → less ≤ least → LastIsAtLeast least versions → LastIsAtLeast less versions
-above_less least less versions le e = let at = e.least_is in record { version = e.version; before = e.before; last = e.last; least_is = omega arith }
-
 rise_last : (low high version : ℕ) (before : List ℕ) → RiseWithin low high (before ++ version ∷ []) → version < high
 unfolding RiseWithin
 rise_last low high version [] r = let at = r.1 in omega arith
@@ -106,9 +103,6 @@ looked_few options clubs least k m s failed old new (Err f) p = tt
 -- ---- a sink
 
 module _ {W : Type 0} (sink : sinks.Ghosts W) where
-  pub served_same : (old new : W) (r r2 : Result ⊤ RunFault) → r ≡ r2 → SinkServed sink old new r → SinkServed sink old new r2
-  served_same old new r r2 same h = subst (SinkServed sink old new) same h
-
   -- what take_rows and what a screen promise of theirs
   pub served_by : (old new : W) (r : Result ⊤ RunFault) → OnOk r (sink.failed new ≡ sink.failed old)
       → IfErr r (SinkFails (sink.failed old) (sink.failed new)) → SinkServed sink old new r

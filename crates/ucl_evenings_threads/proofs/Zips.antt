@@ -1,6 +1,6 @@
 -- Lists side by side.
-use Rattle.std.proofs.Common.{◌≡◌, List, [], ◌∷◌, ◌++◌, map, refl, ap, ◌∙◌, suc, arith, rules}
-use Rattle.std.proofs.lemmas.List.{map_push}
+use Rattle.std.proofs.Common.{◌≡◌, List, [], ◌∷◌, ◌++◌, map, refl, ap, ◌∙◌, suc, arith, ℕ, ◌+◌, ◌<◌, length, drop, get_or, sym}
+use Rattle.std.proofs.lemmas.List.{drop_more, map_push}
 use Rattle.std.specs.Prelude.{All, Some}
 use Rattle.std.specs.List.{AllZip}
 use Rattle.std.proofs.lemmas.List.Elements.{All-cons, All-head, All-nil, All-pop, All-tail}
@@ -47,6 +47,10 @@ pub maps_same : {X Y K : Type 0} (P : X → Y → Type 0) (f : X → K) (g : Y �
 maps_same P f g same [] [] h = refl
 maps_same P f g same (x ∷ xs) (y ∷ ys) h = ap (λ k. k ∷ map g ys) (same x y h.0) ∙ ap (λ l. f x ∷ l) (maps_same P f g same xs ys h.1)
 maps_same P f g same _ _ h = absurd h
+
+-- what is left of a list, from a place of which the element is known
+pub first_there : {X : Type 0} (i : ℕ) (xs : List X) (x : X) → i < length xs → x ≡ get_or xs i x → drop i xs ≡ x ∷ drop (i + 1) xs
+first_there i xs x h is = drop_more xs i x h ∙ ap (λ y. y ∷ drop (i + 1) xs) (sym is)
 
 pub all_pop : {X : Type 0} (P : X → Type 0) (xs ys : List X) (x : X) → xs ≡ ys ++ x ∷ [] → All P xs → All P ys × P x
 all_pop P xs ys x e h = All-pop P xs ys (Some x) e h
