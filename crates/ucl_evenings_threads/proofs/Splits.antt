@@ -35,7 +35,7 @@ pub stays_share : (k m : PassView) → GoesOnOrStays k m → m.share ≡ k.share
 stays_share k m (inl on) = on.on.share
 stays_share k m (inr same) = ap (λ (x : PassView). x.share) same
 
-pub map_set_same : {X : Type 0} (f : X → Share) (xs : List X) (i : ℕ) (d y : X) → f y ≡ f (get_or xs i d) → map f (set xs i y) ≡ map f xs
+pub map_set_same : {X K : Type 0} (f : X → K) (xs : List X) (i : ℕ) (d y : X) → f y ≡ f (get_or xs i d) → map f (set xs i y) ≡ map f xs
 map_set_same f [] i d y same = refl
-map_set_same f (x ∷ xs) zero d y same = ap (λ (s : Share). s ∷ map f xs) same
-map_set_same f (x ∷ xs) (suc i) d y same = ap (λ (l : List Share). f x ∷ l) (map_set_same f xs i d y same)
+map_set_same f (x ∷ xs) zero d y same = ap (λ k. k ∷ map f xs) same
+map_set_same f (x ∷ xs) (suc i) d y same = ap (λ l. f x ∷ l) (map_set_same f xs i d y same)

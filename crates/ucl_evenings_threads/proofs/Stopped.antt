@@ -13,16 +13,8 @@ use Rattle.ucl_runs.specs.declared.fault.RunFault.{RunFault}
 use Rattle.ucl_runs.specs.declared.fault.RunFault.TheVariants.{Input, OutOfMemory, WriteFailed, NotOnDuty, NoThread, TooManyReporters, Strangers}
 use Rattle.ucl_evenings_threads.specs.Earlier.{HaveEntered, HasInOrder, StopsEntering, WasNotEntered, WasRefused, entries_for, numbers_of}
 use Rattle.ucl_evenings_threads.specs.Runs.{IsOfEnlisting}
-use Rattle.ucl_evenings_threads.proofs.Entering.{HaveSoFar, view_there}
-use Rattle.ucl_evenings_threads.proofs.Zips.{first_there}
-
--- what the pass at a place has entered
-entered_there : (n p r : ℕ) (events : List NightEvent) (views : List PassView) (k : PassView) → p < length views → k ≡ get_or views p k
-    → r ≡ n + p → HaveEntered n events views → k.mine ≡ entries_for r events k.number
-unfolding HaveEntered
-entered_there n zero r events (v ∷ views) k lt is at h = let same : r ≡ n = omega arith in rw (same, is) h.0
-entered_there n (suc p) r events (v ∷ views) k lt is at h = entered_there (n + 1) p r events views k (omega arith) is (omega arith) h.1
-entered_there n p r events [] k lt is at h = absurd (omega arith)
+use Rattle.ucl_evenings_threads.proofs.Entering.{HaveSoFar, entered_there}
+use Rattle.ucl_evenings_threads.proofs.Zips.{first_there, view_at}
 
 -- a history that has events in their order has what was there before
 order_begins : (numbers : List ℕ) (start : List Entry) (events : List NightEvent) (h : List Entry) → HasInOrder numbers start events h
@@ -56,9 +48,8 @@ refused_there live board start events i row e passes at old new p lt row_is is w
       row_is = omega arith;
       pass = new;
       own = own;
-      mine = was.mine ∙ entered_there 1 at e.reporter (take i events) (map live.reporter passes) (live.reporter old)
-          (omega (arith, length-map passes live.reporter)) (view_there live.reporter passes at old there) place so_far.each
-          ∙ ap (entries_for e.reporter (take i events)) (sym was.number);
+      mine = rw (was.number, place)
+          (was.mine ∙ entered_there 1 at (take i events) (map live.reporter passes) (live.reporter old) (view_at live.reporter passes at old (within, there)) so_far.each);
       since = begins_through start p.seen (live.reporter new).seen (order_begins (numbers_of (map live.reporter passes)) start
           (take i events) p.seen so_far.in_order) was.since;
       refused = was.refused;

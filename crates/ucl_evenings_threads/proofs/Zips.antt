@@ -1,6 +1,6 @@
 -- Lists side by side.
 use Rattle.std.proofs.Common.{◌≡◌, List, [], ◌∷◌, ◌++◌, map, refl, ap, ◌∙◌, suc, arith, ℕ, ◌+◌, ◌<◌, length, drop, get_or, sym}
-use Rattle.std.proofs.lemmas.List.{drop_more, map_push}
+use Rattle.std.proofs.lemmas.List.{drop_more, get_or-map, length-map, map_push}
 use Rattle.std.specs.Prelude.{All, Some}
 use Rattle.std.specs.List.{AllZip}
 use Rattle.std.proofs.lemmas.List.Elements.{All-cons, All-head, All-nil, All-pop, All-tail}
@@ -51,6 +51,13 @@ maps_same P f g same _ _ h = absurd h
 -- what is left of a list, from a place of which the element is known
 pub first_there : {X : Type 0} (i : ℕ) (xs : List X) (x : X) → i < length xs → x ≡ get_or xs i x → drop i xs ≡ x ∷ drop (i + 1) xs
 first_there i xs x h is = drop_more xs i x h ∙ ap (λ y. y ∷ drop (i + 1) xs) (sym is)
+
+-- an element stands at a place
+abbrev pub IsAt : {X : Type 0} → List X → ℕ → X → Type 0
+IsAt xs at x = (at < length xs) × (x ≡ get_or xs at x)
+
+pub view_at : {X Y : Type 0} (view : X → Y) (xs : List X) (at : ℕ) (x : X) → IsAt xs at x → IsAt (map view xs) at (view x)
+view_at view xs at x (lt, is) = (omega (arith, length-map xs view), ap view is ∙ sym (get_or-map view xs at x (view x) lt))
 
 pub all_pop : {X : Type 0} (P : X → Type 0) (xs ys : List X) (x : X) → xs ≡ ys ++ x ∷ [] → All P xs → All P ys × P x
 all_pop P xs ys x e h = All-pop P xs ys (Some x) e h
