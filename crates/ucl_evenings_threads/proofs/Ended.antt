@@ -44,26 +44,18 @@ took_later s k m m2 a b c old new r P Q f t same more = record {
 
 -- ---- a screen
 
--- how a screen ends, by what is known of the last version
-pub screens_end : (failed : Bool) (old new : Option (List ℕ)) (text : List ℕ) (P Q : Type 0) (r : Result ⊤ RunFault) → (P → Q) → ScreensEnd failed old new text P r → ScreensEnd failed old new text Q r
-screens_end failed old new text P Q (Ok done) f e = (e.0, f e.1)
-screens_end failed old new text P Q (Err OutOfMemory) f e = e
-screens_end failed old new text P Q (Err (WriteFailed count)) f e = e
-screens_end failed old new text P Q (Err (Input fault)) f e = absurd e
-screens_end failed old new text P Q (Err (NotOnDuty row)) f e = absurd e
-screens_end failed old new text P Q (Err NoThread) f e = absurd e
-screens_end failed old new text P Q (Err TooManyReporters) f e = absurd e
-screens_end failed old new text P Q (Err (Strangers version)) f e = absurd e
-
 -- where it failed, nothing has to be known
-pub failed_end : (failed : Bool) (old new : Option (List ℕ)) (text : List ℕ) (P Q : Type 0) (f : RunFault) → ScreensEnd failed old new text P (Err f) → ScreensEnd failed old new text Q (Err f)
+pub failed_end : (failed : Bool) (old new : Option (List ℕ)) (text : List ℕ) (P Q : Type 0) (f : RunFault)
+    → ScreensEnd failed old new text P (Err f) → ScreensEnd failed old new text Q (Err f)
 failed_end failed old new text P Q OutOfMemory e = e
 failed_end failed old new text P Q (WriteFailed count) e = e
-failed_end failed old new text P Q (Input fault) e = absurd e
-failed_end failed old new text P Q (NotOnDuty row) e = absurd e
-failed_end failed old new text P Q NoThread e = absurd e
-failed_end failed old new text P Q TooManyReporters e = absurd e
-failed_end failed old new text P Q (Strangers version) e = absurd e
+failed_end failed old new text P Q _ e = absurd e
+
+-- how a screen ends, by what is known of the last version
+pub screens_end : (failed : Bool) (old new : Option (List ℕ)) (text : List ℕ) (P Q : Type 0) (r : Result ⊤ RunFault) → (P → Q)
+    → ScreensEnd failed old new text P r → ScreensEnd failed old new text Q r
+screens_end failed old new text P Q (Ok done) f e = (e.0, f e.1)
+screens_end failed old new text P Q (Err fault) f e = failed_end failed old new text P Q fault e
 
 -- what a screen has shown of a beginning it has shown of the whole
 module _ {B R P V : Type 0} (live : boards.Ghosts B R P) (board : B) (sink : sinks.Ghosts V) (clubs : List NamedClub) where
@@ -83,24 +75,6 @@ module _ {B R P V : Type 0} (live : boards.Ghosts B R P) (board : B) (sink : sin
             end.result (f p.versions) p.ends);
         served = p.served;
       }
-
--- what was shown since more had been seen was shown since less had been
-pub shown_since : {B R P V : Type 0} (live : boards.Ghosts B R P) (board : B) (sink : sinks.Ghosts V) (clubs : List NamedClub) (first before h : List Entry) (Ends : List ℕ → Type 0)
-    (screen : Screen B V) (end : ScreenEnd R (Screen B V)) → IsPrefix first before → HasShownOf live board sink clubs before h Ends screen end
-    → HasShownOf live board sink clubs first h Ends screen end
-shown_since live board sink clubs first before h Ends screen end on p =
-    let le = begins_length first before on in record {
-      own = p.own;
-      options = p.options;
-      seen = p.seen;
-      versions = p.versions;
-      rise = rise_lower (length first) (length before) (length h + 1) p.versions p.rise (omega arith);
-      ends = p.ends;
-      served = p.served;
-    }
-
-pub above_less : (least less : ℕ) (versions : List ℕ) → less ≤ least → LastIsAtLeast least versions → LastIsAtLeast less versions
-above_less least less versions le e = let at = e.least_is in record { version = e.version; before = e.before; last = e.last; least_is = omega arith }
 
 rise_last : (low high version : ℕ) (before : List ℕ) → RiseWithin low high (before ++ version ∷ []) → version < high
 unfolding RiseWithin
@@ -129,9 +103,6 @@ looked_few options clubs least k m s failed old new (Err f) p = tt
 -- ---- a sink
 
 module _ {W : Type 0} (sink : sinks.Ghosts W) where
-  pub served_same : (old new : W) (r r2 : Result ⊤ RunFault) → r ≡ r2 → SinkServed sink old new r → SinkServed sink old new r2
-  served_same old new r r2 same h = subst (SinkServed sink old new) same h
-
   -- what take_rows and what a screen promise of theirs
   pub served_by : (old new : W) (r : Result ⊤ RunFault) → OnOk r (sink.failed new ≡ sink.failed old)
       → IfErr r (SinkFails (sink.failed old) (sink.failed new)) → SinkServed sink old new r

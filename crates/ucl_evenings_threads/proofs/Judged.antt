@@ -10,38 +10,23 @@ use Rattle.ucl_runs.specs.declared.fault.RunFault.{RunFault}
 use Rattle.ucl_runs.specs.declared.fault.RunFault.TheVariants.{Input}
 use Rattle.ucl_screen.specs.Events.{attempt_of}
 use Rattle.ucl_evenings_threads.specs.Earlier.{IsJudgedAs, entered_from}
-use Rattle.ucl_command.proofs.Lists.{first_left, past_end}
+use Rattle.ucl_command.proofs.Lists.{past_end}
+use Rattle.ucl_evenings_threads.proofs.Zips.{first_there}
 
-pub event_left : (i : ℕ) (events : List NightEvent) (e : NightEvent) → i < length events → e ≡ get_or events i e → drop i events ≡ e ∷ drop (i + 1) events
-event_left i events e h is = first_left i events e h ∙ ap (λ (x : NightEvent). x ∷ drop (i + 1) events) (sym is)
-
--- where an event is accepted, the history goes on by its entry, and the board with it
-pub accepted_next : (history : List Entry) (e : NightEvent) (accepted : Bool) → accepted ≡ is_ok (sequential_reply history e.call) → accepted ≡ true
-    → after_attempt history (attempt_of e) ≡ followed_by history (entry_of e.reporter e.call)
-accepted_next history e accepted reply good =
-    ap (λ (b : Bool). if b then followed_by history (entry_of e.reporter e.call) else history) (sym reply ∙ good)
-
-pub judge_step : (row i : ℕ) (events : List NightEvent) (e : NightEvent) (history : List Entry) (accepted : Bool) (whole : Result (List Entry) RunFault) → i < length events
-    → e ≡ get_or events i e → entered_from row history (drop i events) ≡ whole → accepted ≡ is_ok (sequential_reply history e.call) → accepted ≡ true
+pub judge_step : (row i : ℕ) (events : List NightEvent) (e : NightEvent) (history : List Entry) (accepted : Bool)
+    (whole : Result (List Entry) RunFault) → i < length events → e ≡ get_or events i e → entered_from row history (drop i events) ≡ whole
+    → accepted ≡ is_ok (sequential_reply history e.call) → accepted ≡ true
     → entered_from (row + 1) (followed_by history (entry_of e.reporter e.call)) (drop (i + 1) events) ≡ whole
 unfolding entered_from
-judge_step row i events e history accepted whole h is so_far reply good =
-    ap (λ (now : List Entry). entered_from (row + 1) now (drop (i + 1) events)) (sym (accepted_next history e accepted reply good))
-    ∙ ap (λ (b : Bool). if b then entered_from (row + 1) (after_attempt history (attempt_of e)) (drop (i + 1) events) else Err (Input (BadRow row))) (sym (sym reply ∙ good))
-    ∙ ap (entered_from row history) (sym (event_left i events e h is)) ∙ so_far
+judge_step row i events e history accepted whole h is so_far reply good = rw (first_there i events e h is, sym reply ∙ good) at so_far
 
-pub judge_refused : (row i : ℕ) (events : List NightEvent) (e : NightEvent) (history : List Entry) (accepted : Bool) (whole : Result (List Entry) RunFault) → i < length events
-    → e ≡ get_or events i e → entered_from row history (drop i events) ≡ whole → accepted ≡ is_ok (sequential_reply history e.call) → accepted ≡ false
-    → IsJudgedAs whole (Err (Input (BadRow row)))
+pub judge_refused : (row i : ℕ) (events : List NightEvent) (e : NightEvent) (history : List Entry) (accepted : Bool)
+    (whole : Result (List Entry) RunFault) → i < length events → e ≡ get_or events i e → entered_from row history (drop i events) ≡ whole
+    → accepted ≡ is_ok (sequential_reply history e.call) → accepted ≡ false → IsJudgedAs whole (Err (Input (BadRow row)))
 unfolding entered_from
-judge_refused row i events e history accepted whole h is so_far reply bad =
-    subst (λ (r : Result (List Entry) RunFault). IsJudgedAs r (Err (Input (BadRow row))))
-    (ap (λ (b : Bool). if b then entered_from (row + 1) (after_attempt history (attempt_of e)) (drop (i + 1) events) else Err (Input (BadRow row))) (sym (sym reply ∙ bad))
-    ∙ ap (entered_from row history) (sym (event_left i events e h is)) ∙ so_far)
-    refl
+judge_refused row i events e history accepted whole h is so_far reply bad = rw (← so_far, first_there i events e h is, sym reply ∙ bad) refl
 
 pub judge_end : (row i : ℕ) (events : List NightEvent) (history : List Entry) (whole : Result (List Entry) RunFault) → length events ≤ i
     → entered_from row history (drop i events) ≡ whole → IsJudgedAs whole (Ok tt)
 unfolding entered_from
-judge_end row i events history whole h so_far =
-    subst (λ (r : Result (List Entry) RunFault). IsJudgedAs r (Ok tt)) (ap (entered_from row history) (sym (past_end i events h)) ∙ so_far) tt
+judge_end row i events history whole h so_far = rw (← so_far, past_end i events h) tt

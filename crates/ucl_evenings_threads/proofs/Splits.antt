@@ -5,7 +5,7 @@ use Rattle.ucl_live_board.specs.Passes.{PassView}
 use Rattle.ucl_live_board.specs.Shares.{Share, first_half, second_half}
 use Rattle.ucl_evenings.specs.Showing.{GoesOnOrStays}
 use Rattle.ucl_evenings_threads.specs.Runs.{WereSplitOff}
-use Rattle.ucl_evenings_threads.proofs.Zips.{map_push}
+use Rattle.std.proofs.lemmas.List.{map_push}
 use Rattle.std.proofs.Common.{inl, inr}
 
 pub split_none : {X : Type 0} (f : X → Share) (s left : Share) (xs : List X) → xs ≡ [] → left ≡ s → WereSplitOff s (map f xs) left
@@ -35,14 +35,7 @@ pub stays_share : (k m : PassView) → GoesOnOrStays k m → m.share ≡ k.share
 stays_share k m (inl on) = on.on.share
 stays_share k m (inr same) = ap (λ (x : PassView). x.share) same
 
-pub maps_same : {X Y : Type 0} (P : X → Y → Type 0) (f : X → Share) (g : Y → Share) → ((x : X) (y : Y) → P x y → g y ≡ f x) → (xs : List X) (ys : List Y) → AllZip P xs ys → map g ys ≡ map f xs
-maps_same P f g same [] [] h = refl
-maps_same P f g same [] (y ∷ ys) h = absurd h
-maps_same P f g same (x ∷ xs) [] h = absurd h
-maps_same P f g same (x ∷ xs) (y ∷ ys) h =
-    ap (λ (s : Share). s ∷ map g ys) (same x y h.0) ∙ ap (λ (l : List Share). f x ∷ l) (maps_same P f g same xs ys h.1)
-
-pub map_set_same : {X : Type 0} (f : X → Share) (xs : List X) (i : ℕ) (d y : X) → f y ≡ f (get_or xs i d) → map f (set xs i y) ≡ map f xs
+pub map_set_same : {X K : Type 0} (f : X → K) (xs : List X) (i : ℕ) (d y : X) → f y ≡ f (get_or xs i d) → map f (set xs i y) ≡ map f xs
 map_set_same f [] i d y same = refl
-map_set_same f (x ∷ xs) zero d y same = ap (λ (s : Share). s ∷ map f xs) same
-map_set_same f (x ∷ xs) (suc i) d y same = ap (λ (l : List Share). f x ∷ l) (map_set_same f xs i d y same)
+map_set_same f (x ∷ xs) zero d y same = ap (λ k. k ∷ map f xs) same
+map_set_same f (x ∷ xs) (suc i) d y same = ap (λ l. f x ∷ l) (map_set_same f xs i d y same)

@@ -13,57 +13,44 @@ use Rattle.ucl_runs.specs.declared.fault.RunFault.{RunFault}
 use Rattle.ucl_runs.specs.declared.fault.RunFault.TheVariants.{Input, OutOfMemory, WriteFailed, NotOnDuty, NoThread, TooManyReporters, Strangers}
 use Rattle.ucl_evenings_threads.specs.Earlier.{HaveEntered, HasInOrder, StopsEntering, WasNotEntered, WasRefused, entries_for, numbers_of}
 use Rattle.ucl_evenings_threads.specs.Runs.{IsOfEnlisting}
-use Rattle.ucl_evenings_threads.proofs.Entering.{HaveSoFar, view_there}
-use Rattle.ucl_evenings_threads.proofs.Judged.{event_left}
-
--- what the pass at a place has entered
-entered_there : (n p r : ℕ) (events : List NightEvent) (views : List PassView) (k : PassView) → p < length views → k ≡ get_or views p k → r ≡ n + p → HaveEntered n events views
-    → k.mine ≡ entries_for r events k.number
-unfolding HaveEntered
-entered_there n p r events [] k lt is at h = absurd (omega arith)
-entered_there n zero r events (v ∷ views) k lt is at h =
-    let same : n ≡ r = omega arith in
-    subst (λ (i : ℕ). k.mine ≡ entries_for i events k.number) same (subst (λ (x : PassView). x.mine ≡ entries_for n events x.number) (sym is) h.0)
-entered_there n (suc p) r events (v ∷ views) k lt is at h = entered_there (n + 1) p r events views k (omega arith) is (omega arith) h.1
+use Rattle.ucl_evenings_threads.proofs.Entering.{HaveSoFar, entered_there}
+use Rattle.ucl_evenings_threads.proofs.Zips.{first_there, view_at}
 
 -- a history that has events in their order has what was there before
-order_begins : (numbers : List ℕ) (start : List Entry) (events : List NightEvent) (h : List Entry) → HasInOrder numbers start events h → IsPrefix start h
+order_begins : (numbers : List ℕ) (start : List Entry) (events : List NightEvent) (h : List Entry) → HasInOrder numbers start events h
+    → IsPrefix start h
 unfolding HasInOrder
 order_begins numbers start [] h o = o
 order_begins numbers start (e ∷ events) h o =
-    let entry = entry_of (slice_index numbers (e.reporter - 1)) e.call in
-    begins_through start o.0 h o.1
-    (begins_through o.0 (followed_by o.0 entry) h (begins_more o.0 o.0 entry (begins_same o.0)) (order_begins numbers (followed_by o.0 entry) events h o.3))
+    let next = followed_by o.0 (entry_of (slice_index numbers (e.reporter - 1)) e.call) in
+    begins_through start next h (begins_more start o.0 _ o.1) (order_begins numbers next events h o.3)
 
 -- where reporters were not enlisted, no event was entered
-pub enlisting_stops : {B R P : Type 0} (live : boards.Ghosts B R P) (board : B) (before : List Entry) (events : List NightEvent) (fault : RunFault) → 1 ≤ length events
-    → IsOfEnlisting live board fault → StopsEntering live board before events fault
+pub enlisting_stops : {B R P : Type 0} (live : boards.Ghosts B R P) (board : B) (before : List Entry) (events : List NightEvent)
+    (fault : RunFault) → 1 ≤ length events → IsOfEnlisting live board fault → StopsEntering live board before events fault
 enlisting_stops live board before events OutOfMemory some h = some
 enlisting_stops live board before events TooManyReporters some h = (some, h)
-enlisting_stops live board before events (Input e) some h = absurd h
-enlisting_stops live board before events (WriteFailed written) some h = absurd h
-enlisting_stops live board before events (NotOnDuty row) some h = absurd h
-enlisting_stops live board before events NoThread some h = absurd h
-enlisting_stops live board before events (Strangers version) some h = absurd h
+enlisting_stops live board before events _ some h = absurd h
 
 -- the event at a place was refused to the pass at the place of its reporter
-pub refused_there : {B R P : Type 0} (live : boards.Ghosts B R P) (board : B) (start : List Entry) (events : List NightEvent) (i row : ℕ) (e : NightEvent) (passes : List P) (at : ℕ)
-    (old new : P) (p : PassView) → i < length events → row ≡ 5 + i → e ≡ get_or events i e → at < length passes → old ≡ get_or passes at old → e.reporter ≡ 1 + at
-    → live.is_reporter board new → WasNotEntered p (live.reporter old) e (live.reporter new) → HaveSoFar start (take i events) (map live.reporter passes) p.seen
+pub refused_there : {B R P : Type 0} (live : boards.Ghosts B R P) (board : B) (start : List Entry) (events : List NightEvent) (i row : ℕ)
+    (e : NightEvent) (passes : List P) (at : ℕ) (old new : P) (p : PassView) → i < length events → row ≡ 5 + i → e ≡ get_or events i e
+    → at < length passes → old ≡ get_or passes at old → e.reporter ≡ 1 + at → live.is_reporter board new
+    → WasNotEntered p (live.reporter old) e (live.reporter new) → HaveSoFar start (take i events) (map live.reporter passes) p.seen
     → WasRefused live board start events row
 refused_there live board start events i row e passes at old new p lt row_is is within there place own was so_far =
-    let long : at < length (map live.reporter passes) = omega (arith, length-map passes live.reporter) in
     let many = length-take-le i events (omega arith) in
     record {
       earlier = take i events;
       event = e;
       later = drop (i + 1) events;
-      script = sym (take-append-drop i events) ∙ ap (λ (l : List NightEvent). take i events ++ l) (event_left i events e lt is);
+      script = sym (take-append-drop i events) ∙ ap (λ l. take i events ++ l) (first_there i events e lt is);
       row_is = omega arith;
       pass = new;
       own = own;
-      mine = was.mine ∙ entered_there 1 at e.reporter (take i events) (map live.reporter passes) (live.reporter old) long (view_there live.reporter passes at old there) place so_far.each
-          ∙ ap (entries_for e.reporter (take i events)) (sym was.number);
-      since = begins_through start p.seen (live.reporter new).seen (order_begins (numbers_of (map live.reporter passes)) start (take i events) p.seen so_far.in_order) was.since;
+      mine = rw (was.number, place)
+          (was.mine ∙ entered_there 1 at (take i events) (map live.reporter passes) (live.reporter old) (view_at live.reporter passes at old (within, there)) so_far.each);
+      since = begins_through start p.seen (live.reporter new).seen (order_begins (numbers_of (map live.reporter passes)) start
+          (take i events) p.seen so_far.in_order) was.since;
       refused = was.refused;
     }

@@ -19,31 +19,26 @@ use Rattle.ucl_evenings_threads.specs.declared.workers.ScreenEnd.{ScreenEnd}
 use Rattle.ucl_command.specs.declared.options.Format.{Format}
 use Rattle.ucl_command.specs.declared.options.Format.TheVariants as forms
 use Rattle.ucl_evenings_threads.specs.Ending.{TellsAll, TellsEnd, TellsResult, first_status, number_for, one_of, reporter_parts, screen_parts, status_at, worker_for}
-use Rattle.ucl_command.proofs.Lists.{first_left, past_end}
+use Rattle.ucl_command.proofs.Lists.{past_end}
+use Rattle.ucl_evenings_threads.proofs.Zips.{first_there}
+use Rattle.std.proofs.Common.{zero-add}
 
 -- ---- a line of two parts
 
 -- the first part broke off
-pub broke_first : (failed : Bool) (old new : Option (List ℕ)) (a b : List ℕ) (fault : RunFault) → IsCutShort failed old new a fault → Tells failed old new (a ++ b)
+pub broke_first : (failed : Bool) (old new : Option (List ℕ)) (a b : List ℕ) (fault : RunFault) → IsCutShort failed old new a fault
+    → Tells failed old new (a ++ b)
 broke_first failed old new a b (WriteFailed written) cut = let short = cut.1.cut in let long = length-append a b in inr (record {
   failed_is = cut.0;
   count = written;
-  first = record {
-    cut = omega arith;
-    out = subst (Appends old new) (sym (take-append-le written a b (omega arith))) cut.1.out;
-  };
+  first = record { cut = omega arith; out = rw (take-append-le written a b (omega arith)) cut.1.out };
 })
-broke_first failed old new a b (Input e) cut = absurd cut
-broke_first failed old new a b OutOfMemory cut = absurd cut
-broke_first failed old new a b (NotOnDuty row) cut = absurd cut
-broke_first failed old new a b NoThread cut = absurd cut
-broke_first failed old new a b TooManyReporters cut = absurd cut
-broke_first failed old new a b (Strangers version) cut = absurd cut
+broke_first failed old new a b _ cut = absurd cut
 
 take_beyond : (a b : List ℕ) (n : ℕ) → take (length a + n) (a ++ b) ≡ a ++ take n b
-take_beyond [] b n = let none : length {A = ℕ} [] + n ≡ n = omega arith in ap (λ k. take k b) none
+take_beyond [] b n = ap (λ k. take k b) (zero-add n)
 take_beyond (x ∷ a) b n =
-    let one : length (x ∷ a) + n ≡ suc (length a + n) = omega arith in ap (λ k. take k (x ∷ a ++ b)) one ∙ ap (λ (l : List ℕ). x ∷ l) (take_beyond a b n)
+    let one : length (x ∷ a) + n ≡ suc (length a + n) = omega arith in rw one (ap (λ (l : List ℕ). x ∷ l) (take_beyond a b n))
 
 -- the first part is out, and the second was told
 pub told_second : (failed : Bool) (old between new : Option (List ℕ)) (a b : List ℕ) → Appends old between a → Tells failed between new b → Tells failed old new (a ++ b)
@@ -53,7 +48,7 @@ told_second failed old between new a b out (inr broke) = let short = broke.first
   count = length a + broke.count;
   first = record {
     cut = omega arith;
-    out = subst (Appends old new) (sym (take_beyond a b broke.count)) (appends-then old between new a (take broke.count b) out broke.first.out);
+    out = rw (take_beyond a b broke.count) (appends-then old between new a (take broke.count b) out broke.first.out);
   };
 })
 
@@ -68,18 +63,19 @@ told_later : (worker : Worker) (number : ℕ) (r : Result ⊤ RunFault) (failed 
     → TellsResult worker number r failed old new → TellsResult worker number r end old new
 told_later worker number (Ok done) failed end old new stays told = told
 told_later worker number (Err fault) failed end old new stays (inl all) = inl all
-told_later worker number (Err fault) failed end old new stays (inr broke) = inr (record { failed_is = stays broke.failed_is; count = broke.count; first = broke.first })
+told_later worker number (Err fault) failed end old new stays (inr broke) =
+    inr (record { failed_is = stays broke.failed_is; count = broke.count; first = broke.first })
 
--- a part that ended well leaves the first status as it is
+-- a part leaves the first status as it is where it ended well, and else is the first where there was none
 pub count_well : (first : Option ℕ) (part : Part) (rest : List Part) (done : ⊤) → part.result ≡ Ok done
     → unwrap_or first (first_status rest) ≡ unwrap_or first (first_status (part ∷ rest))
 unfolding first_status
-count_well first part rest done is = ap (λ (r : Result ⊤ RunFault). unwrap_or first (unwrap_or (status_at r) (first_status rest))) (sym is)
+count_well first part rest done is = rw is refl
 
-pub count_fault : (first : Option ℕ) (part : Part) (rest : List Part) (fault : RunFault) (code : ℕ) → part.result ≡ Err fault → code ≡ unwrap_or first (status fault)
-    → code ≡ unwrap_or first (first_status (part ∷ rest))
+pub count_fault : (first : Option ℕ) (part : Part) (rest : List Part) (fault : RunFault) (code : ℕ) → part.result ≡ Err fault
+    → code ≡ unwrap_or first (status fault) → code ≡ unwrap_or first (first_status (part ∷ rest))
 unfolding first_status
-count_fault first part rest fault code is code_is = code_is ∙ ap (λ (r : Result ⊤ RunFault). unwrap_or first (unwrap_or (status_at r) (first_status rest))) (sym is)
+count_fault first part rest fault code is code_is = rw is code_is
 
 -- so much was told of these parts, and the status of the first fault so far is this
 pub record StandsAt (parts left : List Part) (failed : Bool) (old now : Option (List ℕ)) (first : Option ℕ) : Type 0 where
@@ -117,28 +113,29 @@ tells_later (part ∷ parts) failed end old now stays told =
 
 -- ---- the workers that are left
 
-pub reporters_left : {P S W : Type 0} (i number : ℕ) (ends : List (ReporterEnd P S W)) (end : ReporterEnd P S W) (more : List Part) → i < length ends → end ≡ get_or ends i end
-    → reporter_parts number (drop i ends) ++ more ≡ record { worker = Reporter; number = number; result = end.result } ∷ reporter_parts (number + 1) (drop (i + 1) ends) ++ more
+pub reporters_left : {P S W : Type 0} (i number : ℕ) (ends : List (ReporterEnd P S W)) (end : ReporterEnd P S W) (more : List Part)
+    → i < length ends → end ≡ get_or ends i end → reporter_parts number (drop i ends) ++ more
+    ≡ record { worker = Reporter; number = number; result = end.result } ∷ reporter_parts (number + 1) (drop (i + 1) ends) ++ more
 unfolding reporter_parts
-reporters_left {P} {S} {W} i number ends end more h is =
-    ap (λ (l : List (ReporterEnd P S W)). reporter_parts number l ++ more) (first_left i ends end h ∙ ap (λ (x : ReporterEnd P S W). x ∷ drop (i + 1) ends) (sym is))
+reporters_left i number ends end more h is = ap (λ l. reporter_parts number l ++ more) (first_there i ends end h is)
 
-pub reporters_done : {P S W : Type 0} (i number : ℕ) (ends : List (ReporterEnd P S W)) (more : List Part) → length ends ≤ i → reporter_parts number (drop i ends) ++ more ≡ more
+pub reporters_done : {P S W : Type 0} (i number : ℕ) (ends : List (ReporterEnd P S W)) (more : List Part) → length ends ≤ i
+    → reporter_parts number (drop i ends) ++ more ≡ more
 unfolding reporter_parts
-reporters_done {P} {S} {W} i number ends more h = ap (λ (l : List (ReporterEnd P S W)). reporter_parts number l ++ more) (past_end i ends h)
+reporters_done i number ends more h = ap (λ l. reporter_parts number l ++ more) (past_end i ends h)
 
-pub screens_left : {B R V : Type 0} (i text json : ℕ) (ends : List (ScreenEnd R (Screen B V))) (end : ScreenEnd R (Screen B V)) (form : Format) (worker : Worker)
-    (number text2 json2 : ℕ) → i < length ends
-    → end ≡ get_or ends i end → end.screen.options.format ≡ form → worker ≡ worker_for form → number ≡ number_for form text json
-    → text2 ≡ text + one_of forms.Text form → json2 ≡ json + one_of forms.Json form
-    → screen_parts text json (drop i ends) ≡ record { worker = worker; number = number; result = end.result } ∷ screen_parts text2 json2 (drop (i + 1) ends)
+pub screens_left : {B R V : Type 0} (i text json : ℕ) (ends : List (ScreenEnd R (Screen B V))) (end : ScreenEnd R (Screen B V)) (form : Format)
+    (worker : Worker) (number text2 json2 : ℕ) → i < length ends → end ≡ get_or ends i end → end.screen.options.format ≡ form
+    → worker ≡ worker_for form → number ≡ number_for form text json → text2 ≡ text + one_of forms.Text form → json2 ≡ json + one_of forms.Json form
+    → screen_parts text json (drop i ends)
+    ≡ record { worker = worker; number = number; result = end.result } ∷ screen_parts text2 json2 (drop (i + 1) ends)
 unfolding screen_parts
-screens_left {B} {R} {V} i text json ends end form worker number text2 json2 h at is w n t j =
-    rw (w, n, t, j)
-    (ap (screen_parts text json) (first_left i ends end h ∙ ap (λ (x : ScreenEnd R (Screen B V)). x ∷ drop (i + 1) ends) (sym at))
-    ∙ ap (λ (f : Format). record { worker = worker_for f; number = number_for f text json; result = end.result }
+screens_left i text json ends end form worker number text2 json2 h at is w n t j =
+    rw (w, n, t, j) (ap (screen_parts text json) (first_there i ends end h at)
+    ∙ ap (λ f. record { worker = worker_for f; number = number_for f text json; result = end.result }
     ∷ screen_parts (text + one_of forms.Text f) (json + one_of forms.Json f) (drop (i + 1) ends)) is)
 
-pub screens_done : {B R V : Type 0} (i text json : ℕ) (ends : List (ScreenEnd R (Screen B V))) → length ends ≤ i → screen_parts text json (drop i ends) ≡ []
+pub screens_done : {B R V : Type 0} (i text json : ℕ) (ends : List (ScreenEnd R (Screen B V))) → length ends ≤ i
+    → screen_parts text json (drop i ends) ≡ []
 unfolding screen_parts
 screens_done i text json ends h = ap (screen_parts text json) (past_end i ends h)

@@ -17,13 +17,14 @@ use Rattle.ucl_io.specs.Calls.{Device}
 use Rattle.ucl_evenings.specs.Answering.{asks_in, reply_style}
 use Rattle.ucl_evenings.specs.Reporting.{GoThrough}
 use Rattle.ucl_evenings.specs.Rows.{TookRows}
-use Rattle.ucl_evenings.specs.Showing.{IsNewScreen, IsScreenOn, RiseWithin, ScreensEnd, ShowsSince, StaysScreen, screens_shown, standing}
+use Rattle.ucl_evenings.specs.Showing.{GoesOnOrStays, IsNewScreen, IsScreenOn, RiseWithin, ScreensEnd, ShowsSince, StaysScreen, screens_shown, standing}
 use Rattle.ucl_evenings_threads.specs.declared.workers.Reporter.{Reporter}
 use Rattle.ucl_evenings_threads.specs.declared.workers.ReporterEnd.{ReporterEnd}
 use Rattle.ucl_evenings_threads.specs.declared.workers.Enlisted.{Enlisted}
 use Rattle.ucl_evenings.specs.declared.screen.Screen.{Screen}
 use Rattle.ucl_evenings_threads.specs.declared.workers.ScreenEnd.{ScreenEnd}
 use Rattle.ucl_evenings_threads.specs.declared.workers.Looking.{Looking}
+use Rattle.ucl_evenings_threads.specs.declared.reporters.Reported.{Reported}
 use Rattle.ucl_evenings_threads.specs.declared.screens.Ran.{Ran}
 use Rattle.ucl_evenings_threads.specs.Whole.{IsSeenIn}
 
@@ -186,14 +187,25 @@ pub record AreLent {B R P S W V : Type 0} (live : boards.Ghosts B R P) (board : 
   pub looking : All (IsReadyToLook live board clubs) screens
   pub ready : All (IsReadyToRun live board) all
 
--- all threads have run: what the reporters have seen is in a history, which goes on from what had been seen before; and of a history that goes on
--- from that one is what each screen has shown, up to no less
-pub record HaveRun {B R P S W V : Type 0} (live : boards.Ghosts B R P) (board : B) (source : sources.Ghosts S) (replies : sinks.Ghosts W) (sink : sinks.Ghosts V)
-    (clubs : List NamedClub) (before history : List Entry) (screens : List (Looking R (Screen B V))) (all : List (Enlisted P S W)) (ran : Ran R P S W (Screen B V)) : Type 0 where
+-- all reporters have run, and a reader's pass has then seen what they have: it has gone on from what was known of it
+pub record HaveReported {B R P S W : Type 0} (live : boards.Ghosts B R P) (board : B) (source : sources.Ghosts S) (replies : sinks.Ghosts W)
+    (clubs : List NamedClub) (k : PassView) (all : List (Enlisted P S W)) (reported : Reported R P S W) : Type 0 where
+  pub own : live.is_reader board reported.pass
+  pub always : GoesOnOrStays k (live.reader reported.pass)
+  pub run : AllZip (HasRun live board source replies clubs) all reported.ends.items
+  pub heard : All (IsSeenIn (live.reader reported.pass).seen) (views_of live reported.ends.items)
+
+-- all threads have run, and a reader's pass has gone on from what was known of it: what the reporters have seen is in a history that it has
+-- seen; and of all that it has seen is what each screen has shown, up to no less than that history
+pub record HaveRun {B R P S W V : Type 0} (live : boards.Ghosts B R P) (board : B) (source : sources.Ghosts S) (replies : sinks.Ghosts W)
+    (sink : sinks.Ghosts V) (clubs : List NamedClub) (k : PassView) (screens : List (Looking R (Screen B V))) (all : List (Enlisted P S W))
+    (ran : Ran R P S W (Screen B V)) : Type 0 where
+  pub own : live.is_reader board ran.pass
+  pub always : GoesOnOrStays k (live.reader ran.pass)
   pub early : List Entry
-  pub since : IsPrefix before early
-  pub on : IsPrefix early history
+  pub since : IsPrefix k.seen early
+  pub on : IsPrefix early (live.reader ran.pass).seen
   pub run : AllZip (HasRun live board source replies clubs) all ran.reporters.items
   pub heard : All (IsSeenIn early) (views_of live ran.reporters.items)
-  pub shown : AllZip (HasShownAbove live board sink clubs history (length early)) screens ran.screens.items
+  pub shown : AllZip (HasShownAbove live board sink clubs (live.reader ran.pass).seen (length early)) screens ran.screens.items
   pub kept : AllZip (KeepsShare live) screens ran.screens.items

@@ -4,7 +4,7 @@ ghost use Rattle.std.specs.Prelude.{◌≡◌, None, IfErr, IfOk, vec_len};
 ghost use Rattle.ucl_evenings_threads.specs.Runs.{IsOfThreads};
 
 use crate::lists::put;
-use crate::workers::ReporterEnd;
+use crate::reporters::Reported;
 use std::alloc::Global;
 use std::snapshot::Snapshot;
 use std::sync::{OnceLock, OnceToken, Wait};
@@ -19,7 +19,7 @@ pub struct Over(());
 
 impl Over {
     /// They have been run.
-    pub fn after<P, S, W>(_run: &Result<Vec<ReporterEnd<P, S, W>>, RunFault>) -> Over {
+    pub fn after<Q, P, S, W>(_run: &Result<Reported<Q, P, S, W>, RunFault>) -> Over {
         Over(())
     }
 }

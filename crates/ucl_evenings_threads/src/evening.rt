@@ -55,46 +55,23 @@ fn run_threads<
     pass: B::ReaderPass,
     screens: Vec<Looking<B::ReaderPass, Screen<B, V>>>,
     all: Vec<Enlisted<B::ReporterPass, S, W>>,
-) -> Result<
-    (
-        B::ReaderPass,
-        Ran<B::ReaderPass, B::ReporterPass, S, W, Screen<B, V>>,
-    ),
-    RunFault,
->
+) -> Result<Ran<B::ReaderPass, B::ReporterPass, S, W, Screen<B, V>>, RunFault>
     requires bells { vec_len screens ≤ length wakes.now }
     requires lent { AreLent B.LiveBoard board.now roster.now pass screens.items all.items }
-    ensures own { IfOk result (λ r. B.is_reader board.entry.now r.0) }
-    ensures always { IfOk result (λ r. GoesOnOrStays (B.reader pass) (B.reader r.0)) }
-    ensures ran { IfOk result (λ r. HaveRun B.LiveBoard board.entry.now S.Source W.Sink V.Sink
-        roster.entry.now (B.reader pass).seen (B.reader r.0).seen screens.items all.items r.1) }
+    ensures ran { IfOk result (HaveRun B.LiveBoard board.entry.now S.Source W.Sink V.Sink
+        roster.entry.now (B.reader pass) screens.items all.items) }
     ensures kinds { IfErr result IsOfThreads }
 {
     thread::scope(
         thread::scope_env(),
         rt,
-        move |scope| -> Result<
-            (
-                B::ReaderPass,
-                Ran<B::ReaderPass, B::ReporterPass, S, W, Screen<B, V>>,
-            ),
-            RunFault,
-        >
+        move |scope| -> Result<Ran<B::ReaderPass, B::ReporterPass, S, W, Screen<B, V>>, RunFault>
             requires bells { vec_len screens ≤ length wakes.now }
             requires lent { AreLent B.LiveBoard board.now roster.now pass screens.items all.items }
-            ensures own { IfOk result (λ r. B.is_reader board.entry.now r.0) }
-            ensures always { IfOk result (λ r. GoesOnOrStays (B.reader pass) (B.reader r.0)) }
-            ensures ran { IfOk result (λ r. HaveRun B.LiveBoard board.entry.now S.Source W.Sink
-                V.Sink roster.entry.now (B.reader pass).seen (B.reader r.0).seen screens.items
-                all.items r.1) }
+            ensures ran { IfOk result (HaveRun B.LiveBoard board.entry.now S.Source W.Sink V.Sink
+                roster.entry.now (B.reader pass) screens.items all.items) }
             ensures kinds { IfErr result IsOfThreads }
-        {
-            let mut pass = pass;
-            let ran = run_screens(
-                scope, rt, alloc, board, wakes, roster, &mut pass, screens, all,
-            )?;
-            Ok((pass, ran))
-        },
+        { run_screens(scope, rt, alloc, board, wakes, roster, pass, screens, all) },
     )
 }
 
@@ -153,17 +130,21 @@ pub fn hold_evening<
     let screens = look_all(rt, alloc, board, &mut pass, screens)?;
     let all = enlist_all(rt, alloc, board, &mut pass, reporters)?;
     let wakes = hang_bells(alloc, screens.len())?;
-    let (mut pass, ran) = run_threads(rt, alloc, board, &wakes, roster, pass, screens, all)?;
+    let Ran {
+        mut pass,
+        screens,
+        reporters,
+    } = run_threads(rt, alloc, board, &wakes, roster, pass, screens, all)?;
     let last = board.read(rt, &mut pass);
-    let is_theirs = are_all_of::<B, S, W>(&entered, &ran.reporters, last.version);
+    let is_theirs = are_all_of::<B, S, W>(&entered, &reporters, last.version);
     if !is_theirs {
         return Err(RunFault::Strangers {
             version: last.version,
         });
     }
     Ok(EveningEnd {
-        reporters: ran.reporters,
-        screens: ran.screens,
+        reporters,
+        screens,
         entered,
         last,
         pass,

@@ -1,10 +1,7 @@
 //! The threads of reporters.
 
 ghost use Rattle.std.specs.Prelude.{◌≡◌, All, IfErr, IfOk};
-ghost use Rattle.std.specs.List.{AllZip};
-ghost use Rattle.ucl_evenings.specs.Showing.{GoesOnOrStays};
-ghost use Rattle.ucl_evenings_threads.specs.Runs.{HasRun, IsOfThreads, IsReadyToRun, views_of};
-ghost use Rattle.ucl_evenings_threads.specs.Whole.{IsSeenIn};
+ghost use Rattle.ucl_evenings_threads.specs.Runs.{HasRun, HaveReported, IsOfThreads, IsReadyToRun};
 
 use crate::bells::{Bells, Wake};
 use crate::lists::{put, take_last};
@@ -127,7 +124,17 @@ where
                 enlisted result }
         { report(rt, alloc, board, wakes, roster, enlisted) },
     );
-    started.map_err(|_| RunFault::NoThread)
+    match started {
+        Ok(worker) => Ok(worker),
+        Err(_) => Err(RunFault::NoThread),
+    }
+}
+
+/// What the threads of all reporters handed back, and the pass that has heard them.
+#[derive(Drop)]
+pub struct Reported<Q, P, S, W> {
+    pub pass: Q,
+    pub ends: Vec<ReporterEnd<P, S, W>>,
 }
 
 /// Runs all reporters, each in a thread of its own, and hears each when it has ended.
@@ -145,28 +152,28 @@ pub fn run_reporters<
     board: &'s B,
     wakes: &'s [Wake],
     roster: &'s Roster,
-    pass: &mut B::ReaderPass,
+    pass: B::ReaderPass,
     mut all: Vec<Enlisted<B::ReporterPass, S, W>>,
-) -> Result<Vec<ReporterEnd<B::ReporterPass, S, W>>, RunFault>
+) -> Result<Reported<B::ReaderPass, B::ReporterPass, S, W>, RunFault>
 where
+    B::ReaderPass: 's,
     B::ReporterPass: 's,
-    requires own { B.is_reader board.now pass.old }
+    requires own { B.is_reader board.now pass }
     requires ready { All (IsReadyToRun B.LiveBoard board.now) all.items }
-    ensures own { B.is_reader board.now pass.new }
-    ensures always { GoesOnOrStays (B.reader pass.old) (B.reader pass.new) }
-    ensures run { IfOk result (λ ends.
-        AllZip (HasRun B.LiveBoard board.now S.Source W.Sink roster.now) all.items ends.items) }
-    ensures heard { IfOk result (λ ends. All (IsSeenIn (B.reader pass.new).seen)
-        (views_of B.LiveBoard ends.items)) }
+    ensures reported { IfOk result (HaveReported B.LiveBoard board.now S.Source W.Sink roster.now
+        (B.reader pass) all.items) }
     ensures kinds { IfErr result IsOfThreads }
 {
     let Some(enlisted) = take_last(&mut all) else {
-        return Ok(Vec::new(alloc));
+        return Ok(Reported {
+            pass,
+            ends: Vec::new(alloc),
+        });
     };
     let worker = start_reporter(scope, rt, alloc, board, wakes, roster, enlisted)?;
-    let mut ends = run_reporters(scope, rt, alloc, board, wakes, roster, pass, all)?;
+    let mut reported = run_reporters(scope, rt, alloc, board, wakes, roster, pass, all)?;
     let mut end = worker.join(rt);
-    hear_reporter(rt, board, pass, &mut end.pass);
-    put(&mut ends, end)?;
-    Ok(ends)
+    hear_reporter(rt, board, &mut reported.pass, &mut end.pass);
+    put(&mut reported.ends, end)?;
+    Ok(reported)
 }

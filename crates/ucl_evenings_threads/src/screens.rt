@@ -1,14 +1,12 @@
 //! The threads of screens.
 
-ghost use Rattle.std.specs.Prelude.{◌≡◌, ◌≤◌, All, IfErr, IfOk, OnOk, length, vec_len};
-ghost use Rattle.std.specs.List.{AllZip};
-ghost use mathlib.Core.List.{IsPrefix};
-ghost use Rattle.ucl_evenings.specs.Showing.{AreFew, GoesOnOrStays, IsScreenOn, standing};
-ghost use Rattle.ucl_evenings_threads.specs.Runs.{HasLookedOn, HasShownAbove, HaveRun, IsOfThreads, IsReadyToLook, IsReadyToRun};
+ghost use Rattle.std.specs.Prelude.{◌≡◌, ◌≤◌, IfErr, IfOk, OnOk, length, vec_len};
+ghost use Rattle.ucl_evenings.specs.Showing.{AreFew, IsScreenOn, standing};
+ghost use Rattle.ucl_evenings_threads.specs.Runs.{AreLent, HasLookedOn, HasShownAbove, HaveRun, IsOfThreads, IsReadyToLook};
 
 use crate::bells::{Ear, Over, Wake, end_all};
 use crate::lists::{put, take_last};
-use crate::reporters::run_reporters;
+use crate::reporters::{Reported, run_reporters};
 use crate::workers::{Enlisted, Looking, ReporterEnd, ScreenEnd};
 use std::alloc::Global;
 use std::snapshot::Snapshot;
@@ -89,7 +87,10 @@ where
                 result }
         { look(rt, alloc, board, wake, roster, looking) },
     );
-    started.map_err(|_| RunFault::NoThread)
+    match started {
+        Ok(worker) => Ok(worker),
+        Err(_) => Err(RunFault::NoThread),
+    }
 }
 
 /// Shows the last board on a screen whose thread has ended well, should it not have been shown there.
@@ -133,9 +134,10 @@ fn finish<B: Notes, V: Sink, R: Wait>(
     }
 }
 
-/// What all threads of an evening handed back.
+/// What all threads of an evening handed back, and the pass that has heard them.
 #[derive(Drop)]
 pub struct Ran<Q, P, S, W, X> {
+    pub pass: Q,
     pub screens: Vec<ScreenEnd<Q, X>>,
     pub reporters: Vec<ReporterEnd<P, S, W>>,
 }
@@ -156,45 +158,45 @@ pub fn run_screens<
     board: &'s B,
     wakes: &'s [Wake],
     roster: &'s Roster,
-    pass: &mut B::ReaderPass,
+    pass: B::ReaderPass,
     mut screens: Vec<Looking<B::ReaderPass, Screen<B, V>>>,
     all: Vec<Enlisted<B::ReporterPass, S, W>>,
 ) -> Result<Ran<B::ReaderPass, B::ReporterPass, S, W, Screen<B, V>>, RunFault>
 where
     B::ReaderPass: 's,
     B::ReporterPass: 's,
-    requires own { B.is_reader board.now pass.old }
     requires bells { vec_len screens ≤ length wakes.now }
-    requires looking { All (IsReadyToLook B.LiveBoard board.now roster.now) screens.items }
-    requires ready { All (IsReadyToRun B.LiveBoard board.now) all.items }
-    ensures own { B.is_reader board.now pass.new }
-    ensures always { GoesOnOrStays (B.reader pass.old) (B.reader pass.new) }
+    requires lent { AreLent B.LiveBoard board.now roster.now pass screens.items all.items }
     ensures ran { IfOk result (HaveRun B.LiveBoard board.now S.Source W.Sink V.Sink roster.now
-        (B.reader pass.old).seen (B.reader pass.new).seen screens.items all.items) }
+        (B.reader pass) screens.items all.items) }
     ensures kinds { IfErr result IsOfThreads }
 {
     let Some(looking) = take_last(&mut screens) else {
         let run = run_reporters(scope, rt, alloc, board, wakes, roster, pass, all);
         end_all(wakes, Over::after(&run));
-        let reporters = run?;
+        let Reported { pass, ends } = run?;
         return Ok(Ran {
+            pass,
             screens: Vec::new(alloc),
-            reporters,
+            reporters: ends,
         });
     };
     let wake = &wakes[screens.len()];
     let worker = match start_screen(scope, rt, alloc, board, wake, roster, looking) {
         Ok(worker) => worker,
         Err(fault) => {
-            end_all(wakes, Over::after::<B::ReporterPass, S, W>(&Err(fault)));
+            end_all(
+                wakes,
+                Over::after::<B::ReaderPass, B::ReporterPass, S, W>(&Err(fault)),
+            );
             return Err(fault);
         }
     };
     let mut ran = run_screens(scope, rt, alloc, board, wakes, roster, pass, screens, all)?;
     let looked = worker.join(rt);
-    let mut end = finish(rt, alloc, board, pass, roster, looked);
+    let mut end = finish(rt, alloc, board, &mut ran.pass, roster, looked);
     let note = board.note(rt, &mut end.pass);
-    board.hear(rt, pass, note);
+    board.hear(rt, &mut ran.pass, note);
     put(&mut ran.screens, end)?;
     Ok(ran)
 }

@@ -1,13 +1,14 @@
 use Rattle.std.proofs.Common.{◌≡◌, ◌∙◌, ℕ, ◌+◌, ◌-◌, ◌<◌, ◌≤◌, List, length, map, take, get_or, set, refl, sym, ap, subst, arith, rules}
 use Rattle.std.specs.Prelude.{All, vec_len}
-use Rattle.std.proofs.lemmas.List.{length-map, length-set, take_all}
+use Rattle.std.proofs.lemmas.List.{length-map, length-set, map-set, take_all, take_more}
 use Rattle.std.proofs.lemmas.List.Elements.{All-get_or, All-set}
 use mathlib.Core.List.{IsPrefix}
 use Rattle.ucl_board.specs.declared.entry.Entry.{Entry}
 use Rattle.ucl_live_board.specs.Passes.{PassView}
 use Rattle.ucl_screen.specs.declared.night.NightEvent.{NightEvent}
 use Rattle.ucl_evenings_threads.specs.Earlier.{WereEntered, HasJustItsOwn}
-use Rattle.ucl_evenings_threads.proofs.Entering.{HaveSoFar, so_far_none, so_far_next, so_far_heard, told_next, written_back}
+use Rattle.ucl_evenings_threads.proofs.Entering.{HaveSoFar, so_far_more, so_far_none, so_far_same, told_more, written_back}
+use Rattle.ucl_evenings_threads.proofs.Zips.{view_at}
 use Rattle.ucl_evenings_threads.specs.Runs.{shares_of}
 use Rattle.ucl_evenings_threads.proofs.Splits.{map_set_same}
 use Rattle.ucl_evenings_threads.proofs.Stopped.{refused_there}
@@ -29,13 +30,11 @@ loop-event-preserved g c =
     let known = c.loop-event.invariant in
     let view = g.B.LiveBoard.reporter in
     let passes = c.loop-event.reporters.items in
+    let i = c.loop-event.event-index in
     let e = c.event-item.result in
-    let there = c.event-item.is in
     let lt = c.loop-event-test.true in
+    let high : e.reporter ≤ vec_len c.args.reporters.now = rw c.event-item.is (c.requires.enough i e lt) in
     let within = c.get.ensures.within in
-    let high : e.reporter ≤ vec_len c.args.reporters.now =
-    subst (λ (x : NightEvent). x.reporter ≤ vec_len c.args.reporters.now) (sym there)
-    (All-get_or (λ (x : NightEvent). x.reporter ≤ vec_len c.args.reporters.now) c.args.events.now c.loop-event.event-index e lt c.requires.enough) in
     let at = c.from-at.result - 1 in
     let place : e.reporter ≡ 1 + at = omega arith in
     let long : at < length passes = omega arith in
@@ -47,43 +46,41 @@ loop-event-preserved g c =
       own = c.enter_one.ensures.own.0;
       reporters = All-set (g.B.LiveBoard.is_reporter c.args.board.now) passes at _ c.enter_one.ensures.own.1 known.reporters;
       as_many = known.as_many;
-      so_far = so_far_next view _ c.args.events.now c.loop-event.event-index e passes at c.index_mut.result.now _ _ _ lt there long c.index_mut.ensures.value place
-          (c.enter_one.ensures.entered c.if-not-enter_one.false) known.so_far;
+      so_far = rw (take_more c.args.events.now i e lt, ← c.event-item.is, map-set view passes at c.enter_one.new.reporter)
+          (so_far_more _ _ e (map view passes) at (view c.index_mut.result.now) _ _ _ (view_at view passes at c.index_mut.result.now (long, c.index_mut.ensures.value))
+          place (c.enter_one.ensures.entered c.if-not-enter_one.false) known.so_far);
     }
 
 pub returns-then-not-enter_one-clause-stopped : goal.returns-then-not-enter_one-clause-stopped
 returns-then-not-enter_one-clause-stopped g c =
     let live = g.B.LiveBoard in
     let known = c.loop-event.invariant in
-    let passes = c.loop-event.reporters.items in
+    let i = c.loop-event.event-index in
     let e = c.event-item.result in
     let lt = c.loop-event-test.true in
+    let high : e.reporter ≤ vec_len c.args.reporters.now = rw c.event-item.is (c.requires.enough i e lt) in
     let within = c.get.ensures.within in
-    let high : e.reporter ≤ vec_len c.args.reporters.now =
-    subst (λ (x : NightEvent). x.reporter ≤ vec_len c.args.reporters.now) (sym c.event-item.is)
-    (All-get_or (λ (x : NightEvent). x.reporter ≤ vec_len c.args.reporters.now) c.args.events.now c.loop-event.event-index e lt c.requires.enough) in
     let at = c.from-at.result - 1 in
     let row = known.row_is in
-    refused_there live c.args.board.now (live.reader c.args.pass.now).seen c.args.events.now c.loop-event.event-index c.loop-event.row e passes at c.index_mut.result.now
-    c.enter_one.new.reporter (live.reader c.loop-event.pass) lt (omega arith) c.event-item.is (omega arith) c.index_mut.ensures.value (omega arith) c.enter_one.ensures.own.1
-    (c.enter_one.ensures.refused c.if-not-enter_one.true) known.so_far
+    refused_there live c.args.board.now (live.reader c.args.pass.now).seen c.args.events.now i c.loop-event.row e c.loop-event.reporters.items at
+    c.index_mut.result.now c.enter_one.new.reporter (live.reader c.loop-event.pass) lt (omega arith) c.event-item.is (omega arith)
+    c.index_mut.ensures.value (omega arith) c.enter_one.ensures.own.1 (c.enter_one.ensures.refused c.if-not-enter_one.true) known.so_far
 
 pub loop-reporter-init : goal.loop-reporter-init
 loop-reporter-init g c =
     let known = c.loop-event.invariant in
-    let view = g.B.LiveBoard.reporter in
     let start = (g.B.LiveBoard.reader c.args.pass.now).seen in
     let history = (g.B.LiveBoard.reader c.loop-event.pass).seen in
-    let same = sym c.deref_mut-reporter-items.ensures.value in
+    let same = c.deref_mut-reporter-items.ensures.value in
     let events = c.args.events.now in
+    let all = take_all c.loop-event.event-index events c.loop-event-test.false in
     record {
       kept = known.kept;
-      shares = subst (λ (passes : List _). shares_of g.B.LiveBoard passes ≡ shares_of g.B.LiveBoard c.args.reporters.now.items) same known.shares;
+      shares = rw same known.shares;
       own = known.own;
-      reporters = subst (All (g.B.LiveBoard.is_reporter c.args.board.now)) same known.reporters;
+      reporters = rw same known.reporters;
       as_many = c.deref_mut-reporter-items.ensures.len ∙ known.as_many;
-      so_far = subst (λ (passes : List _). HaveSoFar start events (map view passes) history) same
-          (subst (λ (done : List NightEvent). HaveSoFar start done (map view c.loop-event.reporters.items) history) (take_all c.loop-event.event-index events c.loop-event-test.false) known.so_far);
+      so_far = rw same (subst (λ done. HaveSoFar start done (map g.B.LiveBoard.reporter c.loop-event.reporters.items) history) all known.so_far);
       told = search rules;
     }
 
@@ -98,24 +95,21 @@ loop-reporter-preserved g c =
     let at = c.loop-reporter.reporter-index in
     let old = get_or passes at c.reporter-item.result in
     let new = c.hear_own.new.pass in
-    let there = ap (get_or passes at) c.reporter-item.is in
     let long : at < length passes = omega arith in
-    let same = sym c.note-all.ensures.says.unchanged in
-    let number = c.hear_own.ensures.says.always.number in
-    let mine = c.hear_own.ensures.says.heard.mine in
-    let met = subst (λ (h : List Entry). IsPrefix h (view new).seen) c.note-all.ensures.says.seen c.hear_own.ensures.says.heard.met in
+    let there = view_at view passes at old (long, ap (get_or passes at) c.reporter-item.is) in
+    let same = c.note-all.ensures.says.unchanged in
+    let one = c.hear_own.ensures.says in
     record {
-      kept = ap (λ (k : PassView). k.share) c.note-all.ensures.says.unchanged ∙ known.kept;
-      shares = map_set_same (λ pass. (view pass).share) passes at c.reporter-item.result new
-          c.hear_own.ensures.says.always.on.share ∙ known.shares;
+      kept = rw same known.kept;
+      shares = map_set_same (λ pass. (view pass).share) passes at c.reporter-item.result new one.always.on.share ∙ known.shares;
       own = c.note-all.ensures.own.0;
       reporters = All-set (g.B.LiveBoard.is_reporter c.args.board.now) passes at new c.hear_own.ensures.own known.reporters;
       as_many = length-set passes at new ∙ known.as_many;
-      so_far = subst (λ (p : PassView). HaveSoFar start events (map view (set passes at new)) p.seen) same
-          (so_far_heard view start events passes history at old new long there number mine known.so_far);
-      told = subst (λ (p : PassView). All (HasJustItsOwn p.seen) (take (at + 1) (map view (set passes at new)))) same
-          (told_next view start events passes history at old new long there
-          c.hear_own.ensures.says.always.sound number mine met known.so_far known.told);
+      so_far = rw (same, map-set view passes at new)
+          (so_far_same start events (map view passes) history at (view old) (view new) there one.always.number one.heard.mine known.so_far);
+      told = rw (same, map-set view passes at new)
+          (told_more start events (map view passes) history at (view old) (view new) there one.always.sound one.always.number one.heard.mine
+          (rw c.note-all.ensures.says.seen at one.heard.met) known.so_far known.told);
     }
 
 pub returns-clause-shares : goal.returns-clause-shares

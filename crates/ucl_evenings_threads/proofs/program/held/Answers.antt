@@ -1,5 +1,5 @@
 use Rattle.std.proofs.Common.{inr}
-use Rattle.std.specs.Prelude.{Result, Ok, Err, IfErr, IfOk}
+use Rattle.std.specs.Prelude.{⊤, Result, Ok, Err, IfErr, IfOk}
 use Rattle.ucl_evenings.specs.Showing.{IsNewScreen}
 use Rattle.ucl_evenings_threads.specs.Program.{IsAskedFor}
 use Rattle.ucl_evenings_threads.proofs.Zips.{zip_right}
@@ -11,8 +11,8 @@ if_all P Q S T f (Err e) p q s = tt
 
 pub hold_evening-requires-clause-screens : goal.hold_evening-requires-clause-screens
 hold_evening-requires-clause-screens g c κs within =
-    zip_right (IsAskedFor c.args.board.now c.args.night.now.roster c.args.title) (IsNewScreen c.args.board.now c.args.night.now.roster) (λ place screen a. a.new)
-    _ _ c.in_ok-screens.ensures.asked
+    zip_right (IsAskedFor c.args.board.now c.args.night.now.roster c.args.title) (λ x. ⊤) (IsNewScreen c.args.board.now c.args.night.now.roster)
+    (λ place screen a t. a.new) _ _ c.in_ok-screens.ensures.asked (λ k d lt. tt)
 
 pub returns-clause-held : goal.returns-clause-held
 returns-clause-held g c =

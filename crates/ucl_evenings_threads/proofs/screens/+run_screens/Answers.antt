@@ -1,28 +1,29 @@
-use Rattle.std.proofs.Common.{refl, ap, ◌∙◌, inl, length, le_refl}
+use Rattle.std.proofs.Common.{refl, ap, ◌∙◌, length, le_refl}
 use Rattle.ucl_live_board.specs.Passes.{PassView}
-use Rattle.ucl_evenings.proofs.ShownScreens.{stays_prefix}
 use Rattle.ucl_evenings_threads.specs.Runs.{HasLookedOn, IsReadyToLook}
 use Rattle.ucl_evenings_threads.proofs.Closing.{closed_on, closed_told, heard_on}
-use Rattle.ucl_evenings_threads.proofs.Ended.{goes_then, looked_few}
+use Rattle.ucl_evenings_threads.proofs.Ended.{looked_few}
 use Rattle.ucl_evenings_threads.proofs.Running.{ran_first, ran_more}
 use Rattle.ucl_evenings_threads.proofs.Zips.{all_pop}
 use Rattle.ucl_evenings_threads.proofs.screens.+run_screens.Goals as goal
 
 pub returns-in_default-clause-ran : goal.returns-in_default-clause-ran
 returns-in_default-clause-ran g t c =
-    let known = g.B.LiveBoard.reader in
-    let run = c.run_reporters-run.ensures in
-    ran_first g.B.LiveBoard c.args.board.now g.S.Source g.W.Sink g.V.Sink c.args.roster.now (known c.args.pass.now).seen (known c.run_reporters-run.new.pass).seen
-    c.args.screens.items c.args.all.items _ c.in_default.ensures.none c.new.ensures.items (stays_prefix _ _ run.always)
-    (rw c.in_ok-reporters.was at run.run) (rw c.in_ok-reporters.was at run.heard)
+    ran_first g.B.LiveBoard c.args.board.now g.S.Source g.W.Sink g.V.Sink c.args.roster.now (g.B.LiveBoard.reader c.args.pass)
+    c.args.screens.items c.args.all.items _ _ c.in_default.ensures.none c.new.ensures.items refl refl
+    (rw c.in_ok-pass.was at c.run_reporters-run.ensures.reported)
 
 pub start_screen-requires-clause-ready : goal.start_screen-requires-clause-ready
 start_screen-requires-clause-ready g t c κs within =
-    (all_pop (IsReadyToLook g.B.LiveBoard c.args.board.now c.args.roster.now) c.args.screens.items _ _ c.in-Some.ensures.some c.requires.looking).1
+    (all_pop (IsReadyToLook g.B.LiveBoard c.args.board.now c.args.roster.now) c.args.screens.items _ _ c.in-Some.ensures.some c.requires.lent.looking).1
 
-pub run_screens-requires-clause-looking : goal.run_screens-requires-clause-looking
-run_screens-requires-clause-looking g t c κs within =
-    (all_pop (IsReadyToLook g.B.LiveBoard c.args.board.now c.args.roster.now) c.args.screens.items _ _ c.in-Some.ensures.some c.requires.looking).0
+pub run_screens-requires-clause-lent : goal.run_screens-requires-clause-lent
+run_screens-requires-clause-lent g t c κs within = record {
+  own = c.requires.lent.own;
+  ready = c.requires.lent.ready;
+  looking = (all_pop (IsReadyToLook g.B.LiveBoard c.args.board.now c.args.roster.now) c.args.screens.items _ _ c.in-Some.ensures.some
+      c.requires.lent.looking).0;
+}
 
 pub finish-end-requires-clause-few : goal.finish-end-requires-clause-few
 finish-end-requires-clause-few g t c κs within =
@@ -36,24 +37,16 @@ finish-end-requires-clause-screen g t c κs within =
     rw (c.in-Ok.ensures.board, c.in-Ok.ensures.roster, c.in-Ok.ensures.looking) at c.join-looked.ensures in
     looked.of
 
-pub returns-in_err-put-clause-always : goal.returns-in_err-put-clause-always
-returns-in_err-put-clause-always g t c =
-    goes_then _ _ _ c.run_screens.ensures.always (inl (heard_on _ _ _ c.finish-end.ensures.unchanged c.hear.ensures.says.always))
-
-pub returns-clause-always : goal.returns-clause-always
-returns-clause-always g t c =
-    goes_then _ _ _ c.run_screens.ensures.always (inl (heard_on _ _ _ c.finish-end.ensures.unchanged c.hear.ensures.says.always))
-
 pub returns-clause-ran : goal.returns-clause-ran
 returns-clause-ran g t c =
     let known = g.B.LiveBoard.reader in
-    let least = length (known c.run_screens.new.pass).seen in
+    let least = length (known c.in_ok-ran.ran.pass).seen in
     let looked : HasLookedOn g.B.LiveBoard c.args.board.now g.V.Sink c.args.roster.now c.in-Some.looking c.join-looked.result =
     rw (c.in-Ok.ensures.board, c.in-Ok.ensures.roster, c.in-Ok.ensures.looking) at c.join-looked.ensures in
-    ran_more g.B.LiveBoard c.args.board.now g.S.Source g.W.Sink g.V.Sink c.args.roster.now (known c.args.pass.now).seen (known c.run_screens.new.pass).seen (known c.hear.new.pass).seen
+    ran_more g.B.LiveBoard c.args.board.now g.S.Source g.W.Sink g.V.Sink c.args.roster.now (known c.args.pass)
     _ c.args.screens.items c.in-Some.looking c.args.all.items c.in_ok-ran.ran _ _
-    c.in-Some.ensures.some c.in_ok-put.ensures.items refl
-    (heard_on _ _ _ c.finish-end.ensures.unchanged c.hear.ensures.says.always).on.seen c.in_ok-ran.ensures.ran
+    c.in-Some.ensures.some c.in_ok-put.ensures.items refl c.hear.ensures.own
+    (heard_on _ _ _ c.finish-end.ensures.unchanged c.hear.ensures.says.always) c.in_ok-ran.ensures.ran
     (closed_on g.B.LiveBoard c.args.board.now g.V.Sink c.args.roster.now (known c.finish-end.result.pass).seen (known c.hear.new.pass).seen least least c.in-Some.looking _
     (rw c.note-note.ensures.says.seen at c.hear.ensures.says.heard.met) (le_refl least)
     (closed_told g.B.LiveBoard c.args.board.now g.V.Sink c.args.roster.now (known c.finish-end.result.pass).seen least c.in-Some.looking c.finish-end.result _

@@ -1,7 +1,21 @@
-use Rattle.ucl_evenings_threads.proofs.Ended.{heard_more}
+use Rattle.std.proofs.Common.{inl, inr, refl}
+use Rattle.std.proofs.lemmas.List.{map_push}
 use Rattle.ucl_evenings_threads.specs.Runs.{IsHandedBack}
-use Rattle.ucl_evenings_threads.proofs.Zips.{map_push, zip_none, zip_push}
+use Rattle.ucl_evenings_threads.proofs.Ended.{goes_then, heard_more}
+use Rattle.ucl_evenings_threads.proofs.Zips.{zip_none, zip_push}
 use Rattle.ucl_evenings_threads.proofs.tally.+hear_all.Goals as goal
+
+pub returns-in_default-clause-always : goal.returns-in_default-clause-always
+returns-in_default-clause-always g t c = inr refl
+
+pub returns-in_err-before-clause-always : goal.returns-in_err-before-clause-always
+returns-in_err-before-clause-always g t c = c.hear_all.ensures.always
+
+pub returns-in_err-put-clause-always : goal.returns-in_err-put-clause-always
+returns-in_err-put-clause-always g t c = goes_then _ _ _ c.hear_all.ensures.always (inl c.hear_reporter.ensures.always)
+
+pub returns-clause-always : goal.returns-clause-always
+returns-clause-always g t c = goes_then _ _ _ c.hear_all.ensures.always (inl c.hear_reporter.ensures.always)
 
 pub returns-clause-heard : goal.returns-clause-heard
 returns-clause-heard g t c =
