@@ -289,7 +289,7 @@ def test_programs_of_the_pages_compile_without_a_warning(compiler):
 
 
 def test_programs_of_the_pages_print_the_screen_after_their_events(shell, tmp_path):
-    """Those of the README enter a goal that is stale, and again with the number that they are told; those of docs/C.md a kick-off alone."""
+    """Those of the README enter a kick-off and a goal, in Python after one that is stale; those of docs/C.md a kick-off alone."""
     line = re.search(r"`(cc board\.c [^`]*) && \./board`", (TOP / "README.md").read_text())[1]
     in_python = re.search(r"^    (PYTHONPATH=\S+ .*) board\.py$", (TOP / "docs/C.md").read_text(), re.M)[1]
     matches = model.fresh()
