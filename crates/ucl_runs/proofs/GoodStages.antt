@@ -1,20 +1,11 @@
 -- The stages of an evening: rosters and boards that there are.
-use Rattle.ucl_runs.proofs.Common.{All, All-cons, All-head, All-nil, AreWords, Beginning}
-use Rattle.ucl_runs.proofs.Common.{Bool, Err, Event, IsAttempt, IsClub}
-use Rattle.ucl_runs.proofs.Common.{IsRoster, List, LiveArgs, NamedClub}
-use Rattle.ucl_runs.proofs.Common.{Naming, None, Nothing, Ok, Open, Option, Other, OtherGroup, Refused}
-use Rattle.ucl_runs.proofs.Common.{Request, Restoring, Result, Row, Said, Some, Stage, Title, []}
-use Rattle.ucl_runs.proofs.Common.{after_beginning, after_club, after_row, after_title, after_word}
-use Rattle.ucl_runs.proofs.Common.{arith, attempt_of}
-use Rattle.ucl_runs.proofs.Common.{bad_slot, board_of, cases_Bool, club_said}
-use Rattle.ucl_runs.proofs.Common.{false, if◌then◌else◌, inl}
-use Rattle.ucl_runs.proofs.Common.{inr, is_as_asked, is_group_row, is_word_row, length}
-use Rattle.ucl_runs.proofs.Common.{nat_tests, next_board, next_stage}
-use Rattle.ucl_runs.proofs.Common.{opened, read_words, refl}
-use Rattle.ucl_runs.proofs.Common.{request_of, restored}
-use Rattle.ucl_runs.proofs.Common.{title_said, true, with_roster}
-use Rattle.ucl_runs.proofs.Common.{with_words, word_said, ℕ, ⊤, ◌++◌, ◌+◌, ◌==◌, ◌||◌}
-use Rattle.ucl_runs.proofs.Common.{◌∷◌, ◌≡◌}
+use Rattle.ucl_runs.proofs.Common.{All, All-cons, All-head, All-nil, AreWords, Beginning, Bool, Err, Event, IsAttempt, IsClub, IsRoster}
+use Rattle.ucl_runs.proofs.Common.{List, LiveArgs, NamedClub, Naming, None, Nothing, Ok, Open, Option, Other, OtherGroup, Refused, Request}
+use Rattle.ucl_runs.proofs.Common.{Restoring, Result, Row, Said, Some, Stage, Title, [], after_beginning, after_club, after_row}
+use Rattle.ucl_runs.proofs.Common.{after_title, after_word, arith, attempt_of, bad_slot, board_of, cases_Bool, club_said, false}
+use Rattle.ucl_runs.proofs.Common.{if◌then◌else◌, inl, inr, is_as_asked, is_group_row, is_word_row, length, nat_tests, next_board}
+use Rattle.ucl_runs.proofs.Common.{next_stage, opened, read_words, refl, request_of, restored, title_said, true, with_roster, with_words}
+use Rattle.ucl_runs.proofs.Common.{word_said, ℕ, ⊤, ◌++◌, ◌+◌, ◌==◌, ◌||◌, ◌∷◌, ◌≡◌}
 use Rattle.ucl_order.specs.Roster.{bad_slot_from, is_club}
 use Rattle.ucl_runs.proofs.Boards.{AreAttempts, asked}
 use Rattle.ucl_runs.proofs.GoodBoards.{fresh-good, good-after, read-good}

@@ -1,15 +1,12 @@
 -- An evening that reads the rows by which it goes on from a moment.
-use Rattle.ucl_runs.proofs.Common.{and_parts}
 use Rattle.ucl_runs.proofs.Common.{All, All-head, All-tail, AreWords, AwayInTie, Beginning, Bool, Evening, FourFields, IsMoment, IsRoster}
-use Rattle.ucl_runs.proofs.Common.{List, LiveArgs, Moment, NamedClub, Naming, None, Open, Option, Profile, Restoring, Row, Some}
-use Rattle.ucl_runs.proofs.Common.{Stage, Title, Uefa, [], after_bytes, after_club, answer_at}
-use Rattle.ucl_runs.proofs.Common.{answer_said, answers_to, ap, append-nil, append_assoc, arith, asked_group, asked_title}
-use Rattle.ucl_runs.proofs.Common.{bad_slot, begun_append, begun_ended, begun_line, cases_Bool, club_of, club_row, codes, ended_append}
-use Rattle.ucl_runs.proofs.Common.{ended_line, ended_lines, eqb-true, false, group_row, inl, inr, is_as_asked, is_plain_title}
-use Rattle.ucl_runs.proofs.Common.{is_same_order, length, length-append, lines_of, live_text, ne_eqb, next, opened}
-use Rattle.ucl_runs.proofs.Common.{opened_at, refl, request_of, said_by_text, said_on, shown_text, start_of, sym, take_all, title_by}
-use Rattle.ucl_runs.proofs.Common.{true, with_words, word_line, ℕ, ◌&&◌, ◌++◌, ◌+◌, ◌<◌, ◌==◌, ◌^◌}
-use Rattle.ucl_runs.proofs.Common.{◌||◌, ◌∙◌, ◌∷◌, ◌≡◌}
+use Rattle.ucl_runs.proofs.Common.{List, LiveArgs, Moment, NamedClub, Naming, None, Open, Option, Profile, Restoring, Row, Some, Stage}
+use Rattle.ucl_runs.proofs.Common.{Title, Uefa, [], after_bytes, after_club, and_parts, answer_at, answer_said, answers_to, ap, append-nil}
+use Rattle.ucl_runs.proofs.Common.{append_assoc, arith, asked_group, asked_title, bad_slot, begun_append, begun_ended, begun_line}
+use Rattle.ucl_runs.proofs.Common.{cases_Bool, club_of, club_row, codes, ended_append, ended_line, ended_lines, eqb-true, false, group_row}
+use Rattle.ucl_runs.proofs.Common.{inl, inr, is_as_asked, is_plain_title, is_same_order, length, length-append, lines_of, live_text, ne_eqb}
+use Rattle.ucl_runs.proofs.Common.{next, opened, opened_at, refl, request_of, said_by_text, said_on, shown_text, start_of, sym, take_all}
+use Rattle.ucl_runs.proofs.Common.{title_by, true, with_words, word_line, ℕ, ◌&&◌, ◌++◌, ◌+◌, ◌<◌, ◌==◌, ◌^◌, ◌||◌, ◌∙◌, ◌∷◌, ◌≡◌}
 use Rattle.ucl_runs.specs.Feed.{word_lines}
 use Rattle.ucl_runs.specs.Titles.{asked_order, is_asked_group, is_asked_order}
 use Rattle.ucl_runs.specs.Stages.{with_clubs}

@@ -7,8 +7,7 @@ use Rattle.ucl_runs.proofs.Common.{entry_of, false, filter, fold, followed_by, g
 use Rattle.ucl_runs.proofs.Common.{match_numbers, number_of_two, option_map, record_at, record_back, refl, reply_of, row_line}
 use Rattle.ucl_runs.proofs.Common.{sequential_reply, subst, suc, sym, take, true, version_of, word_of, zero, ℕ, ⊎_elim, ◌++◌, ◌+◌, ◌-◌}
 use Rattle.ucl_runs.proofs.Common.{◌==◌, ◌∙◌, ◌∷◌, ◌≡◌, ◌⊎◌}
-use Rattle.std.proofs.Common.{if◌then◌else◌, flat_map}
-use Rattle.std.proofs.Common.{count_by, All}
+use Rattle.std.proofs.Common.{if◌then◌else◌, flat_map, count_by, All}
 use Rattle.std.specs.Prelude.{sum_by, slice_get}
 use Rattle.std.proofs.lemmas.List.Sums.{sum_by-cons}
 use mathlib.Core.Path.{fun_ext}
