@@ -35,7 +35,8 @@ row-passes : {e : Evening} {text : List ℕ} {f : FourFields} → SaysRow text f
     → Passes e text (next e (Row f))
 row-passes {e} {text} {f} says none =
     let line : ended_lines 258 [] text ≡ says.front ∷ [] =
-    rw says.line (ended_line 258 [] says.front says.clean (omega arith) ∙ ap (λ (l : List ℕ). l ∷ []) (take_all 258 says.front (omega (arith, says.short)))) in
+    rw says.line (ended_line 258 [] says.front says.clean (omega arith) ∙ ap (λ (l : List ℕ). l ∷ [])
+    (take_all 258 says.front (omega (arith, says.short)))) in
     let row : said_on e.row says.front ≡ Row f = ap (said_by_text e.row) (sym says.line) ∙ says.said e.row in record {
       whole = rw says.line (begun_ended 258 [] says.front);
       silent = rw (line, answers-last, row) (none (shown_text says.front));
@@ -138,7 +139,8 @@ words-pass options title clubs word (other ∷ more) done row index here twelve 
     let says = word_row_says index word (omega arith) (All-head (λ w. w < 2 ^ 64) word (other ∷ more) bits) in
     let done_2 = done ++ word ∷ [] in
     let long = length-append done (word ∷ []) in
-    let one = rw (too-few clubs done_2 (omega arith)) at (word-passes {options = options} {title = title} {row = row} {clubs = clubs} {words = done} here says) in
+    let one = rw (too-few clubs done_2 (omega arith)) at (word-passes {options = options} {title = title} {row = row} {clubs = clubs}
+    {words = done} here says) in
     let rest = words-pass options title clubs other more done_2 (row + 1) (index + 1) (omega arith) (omega arith)
     (All-tail (λ w. w < 2 ^ 64) word (other ∷ more) bits) in
     let end : row + 1 + length (other ∷ more) ≡ row + 1 + 1 + length more = omega arith in

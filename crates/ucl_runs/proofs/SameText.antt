@@ -139,7 +139,8 @@ stage-text options row s (Row f) = rw (opened-text options s (Row f)) (row-text 
 
 stage-lines : (options : LiveArgs) (title : Title) (row : ℕ) (s : Stage) (r : Said) (shown : List ℕ) → options.format ≡ Json → IsGood s
     → AreLinesSaying (answer_at (as_text options) title row s (request_of r) shown) (answer_at options title row s (request_of r) shown)
-stage-lines options title row (Open clubs board) r shown h g = request-lines options title row clubs board (request_of r) shown h g.1 (of-request r)
+stage-lines options title row (Open clubs board) r shown h g =
+    request-lines options title row clubs board (request_of r) shown h g.1 (of-request r)
 stage-lines _ _ _ _ _ _ _ _ = no-lines
 
 abbrev text_of : Evening → Evening
@@ -151,14 +152,16 @@ with-stage e r s = record { options = as_text e.options; title = next_title e.ti
 text-next : (e : Evening) (r : Said) → next (text_of e) r ≡ text_of (next e r)
 text-next e r = cc (stage-text e.options e.row e.stage r)
 
-said-lines : (e : Evening) (r : Said) (shown : List ℕ) → e.options.format ≡ Json → IsGood e.stage → AreLinesSaying (answer_said (text_of e) r shown) (answer_said e r shown)
+said-lines : (e : Evening) (r : Said) (shown : List ℕ) → e.options.format ≡ Json → IsGood e.stage
+    → AreLinesSaying (answer_said (text_of e) r shown) (answer_said e r shown)
 said-lines e Nothing shown h g = no-lines
 said-lines e (Other eight) shown h g =
     let r = Other eight in rw (opened-text e.options e.stage r) (stage-lines e.options e.title e.row (opened e.options e.stage r) r shown h (good-opened e.options e.stage r g))
 said-lines e (Row f) shown h g =
     rw (opened-text e.options e.stage (Row f)) (stage-lines e.options e.title e.row (opened e.options e.stage (Row f)) (Row f) shown h (good-opened e.options e.stage (Row f) g))
 
-all-lines : (e : Evening) (lines : List (List ℕ)) → e.options.format ≡ Json → IsGood e.stage → AreLinesSaying (answers (text_of e) lines) (answers e lines)
+all-lines : (e : Evening) (lines : List (List ℕ)) → e.options.format ≡ Json → IsGood e.stage
+    → AreLinesSaying (answers (text_of e) lines) (answers e lines)
 unfolding answers
 all-lines e [] h g = no-lines
 all-lines e (line ∷ lines) h g =

@@ -60,19 +60,12 @@ counted_by n c = record {
 
 refusal_without : (m : MatchRecord) (expected : ℕ) (kind : Kind) → refusal_of (without m) expected kind ≡ refusal_of m expected kind
 unfolding refusal_of
-refusal_without m expected KickOff = refl
-refusal_without m expected FullTime = refl
-refusal_without m expected Reopen = refl
 refusal_without m expected (Goal Home) = refl
-refusal_without m expected (Goal Away) = refl
 refusal_without m expected (Disallow Home) = refl
-refusal_without m expected (Disallow Away) = refl
 refusal_without m expected (Yellow Home) = refl
-refusal_without m expected (Yellow Away) = refl
 refusal_without m expected (SecondYellow Home) = refl
-refusal_without m expected (SecondYellow Away) = refl
 refusal_without m expected (Red Home) = refl
-refusal_without m expected (Red Away) = refl
+refusal_without m expected _ = refl
 
 reply_without : (m : MatchRecord) (call : EventCall) → is_ok (reply_of (without m) call) ≡ is_ok (reply_of m call)
 reply_without m call = ap (λ (o : Option Refusal). is_ok (answer m.number o)) (refusal_without m call.expected call.kind)
