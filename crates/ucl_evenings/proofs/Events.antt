@@ -203,14 +203,11 @@ module _ {k m : PassView} where
 
 taken_at : (l : List Entry) (p n : ℕ) (e : Entry) → p < n → slice_get l p ≡ Some e → slice_get (take n l) p ≡ Some e
 taken_at l p zero e less at = absurd (omega arith)
-taken_at [] p (suc n) e less at = at
-taken_at (x ∷ l) zero (suc n) e less at = at
 taken_at (x ∷ l) (suc p) (suc n) e less at = taken_at l p n e (omega arith) at
+taken_at _ _ _ _ _ at = at
 
 pub moments_have : MomentsHaveTheirEvents
 unfolding GoThrough entered_in
-moments_have reporter h low high moment [] [] later g all = All-nil (IsAmong (take moment h))
-moments_have reporter h low high moment (ask ∷ asks) [] later g all = All-nil (IsAmong (take moment h))
 moments_have reporter h low high moment [] (w ∷ first) later g all = absurd g
 moments_have reporter h low high moment (Report call ∷ asks) (Entered number reading ∷ first) later g all =
     let at = g.2.read.low in
@@ -222,3 +219,4 @@ moments_have reporter h low high moment (Report call ∷ asks) (Refused refusal 
 moments_have reporter h low high moment (Look ∷ asks) (Looked reading ∷ first) later g all =
     moments_have _ _ g.0 _ _ asks first _ g.3 (All-tail (IsNoOlder moment) _ first all)
 moments_have _ _ _ _ _ (ask ∷ asks) (w ∷ first) later g all = absurd g.2
+moments_have _ h _ _ moment _ _ _ _ _ = All-nil (IsAmong (take moment h))

@@ -39,9 +39,7 @@ one_line : (s : ReplyStyle) (row n : ℕ) (shown : List ℕ) (t : Input) (outcom
     → (input_answer s row shown t (outcomes ++ later) ≡ input_answer s row shown t outcomes)
     × (outcomes_later t (outcomes ++ later) ≡ outcomes_later t outcomes ++ later) × (length (outcomes_later t outcomes) ≡ n)
 one_line s row n shown (Event call) [] later h = absurd (omega arith)
-one_line s row n shown (Event call) (w ∷ outcomes) later h = (refl, refl, omega arith)
 one_line s row n shown Matches [] later h = absurd (omega arith)
-one_line s row n shown Matches (w ∷ outcomes) later h = (refl, refl, omega arith)
 one_line s row n shown t outcomes later h = (refl, refl, omega arith)
 
 -- lines after lines, where each event of the first has gone some way

@@ -1,16 +1,14 @@
 -- Lines whose events a reporter's pass has reported, one after the other.
-use Rattle.std.proofs.Common.{◌≡◌, ℕ, ◌+◌, List, [], ◌∷◌, ◌++◌, length, refl, sym, ap, subst, append-nil, arith}
+use Rattle.std.proofs.Common.{◌≡◌, ℕ, ◌+◌, List, [], ◌∷◌, ◌++◌, length, refl, sym, subst, append-nil, arith}
 use Rattle.std.specs.Prelude.{⊤, Result, IfErr, OnOk}
 use Rattle.ucl_io.proofs.Bytes.{if_err, on_ok}
 use Rattle.ucl_live_board.specs.Passes.{IsSound, PassView, ReportsMore}
 use Rattle.ucl_runs.specs.BadRows.{shown_text}
 use Rattle.ucl_runs.specs.declared.fault.RunFault.{RunFault}
 use Rattle.ucl_runs.specs.declared.fault.RunFault.TheVariants.{OutOfMemory}
-use Rattle.ucl_order.specs.Roster.{NamedClub}
 use Rattle.ucl_evenings.specs.declared.input.Input.{Input}
-use Rattle.ucl_evenings.specs.declared.shape.Shape.{Shape}
 use Rattle.ucl_evenings.specs.Inputs.{input_on}
-use Rattle.ucl_evenings.specs.Answering.{ReplyStyle, answers_in, asks_in, asks_of, input_answer, reply_style}
+use Rattle.ucl_evenings.specs.Answering.{ReplyStyle, answers_in, asks_in, asks_of, input_answer}
 use Rattle.ucl_evenings.specs.Reporting.{EventOutcome, HasReportedRows, RangFor, reports_in}
 use Rattle.ucl_evenings.specs.Rows.{HasNoMemory, HasReportedLines, TurnsBy, TurnsLines, WantsMemory}
 use Rattle.ucl_evenings.proofs.Events.{rang_none, rang_then, rows_count, rows_none, rows_then}
@@ -55,11 +53,6 @@ module _ {s : ReplyStyle} {k m : PassView} {a b r q : ℕ → Type 0} {row : ℕ
   pub not_told : {P : RunFault → Type 0} → ((f : RunFault) → P f → (f ≡ OutOfMemory) × WantsMemory s.shape.format (input_on row line))
       → IfErr result P → IfErr result (λ f. Same × HasNoMemory s k m a b r q row line f)
   not_told wants = if_err result _ _ (λ f p. (same, record { fault_is = (wants f p).0; wants = (wants f p).1; text = _; turned = turn }))
-
--- a pass goes on under its number
-pub same_style : (shape : Shape) (clubs : List NamedClub) (k z : PassView) → z.number ≡ k.number
-    → reply_style shape clubs z ≡ reply_style shape clubs k
-same_style shape clubs k z is = ap (λ (n : ℕ). record { shape = shape; clubs = clubs; reporter = n }) is
 
 -- no line
 pub by_none : {s : ReplyStyle} {k : PassView} {a r : ℕ → Type 0} {row : ℕ} → IsSound k → TurnsBy s k k a a r r row [] [] []

@@ -8,15 +8,10 @@ use Rattle.ucl_evenings.specs.Inputs.{input_of_row, input_of_three}
 
 abbrev pub row_from : Option (List ℕ) → Option (List ℕ) → Option (List ℕ) → Option (List ℕ) → Input
 row_from (Some game) (Some expected) (Some kind) None = input_of_three game expected kind
-row_from (Some game) (Some expected) (Some kind) (Some more) = Bad Count
-row_from (Some game) (Some expected) None d = Bad Count
-row_from (Some game) None c d = Bad Count
-row_from None b c d = Bad Count
+row_from _ _ _ _ = Bad Count
 
-pub row_by : (fields : List (List ℕ)) → input_of_row fields ≡ row_from (field_at fields 0) (field_at fields 1) (field_at fields 2) (field_at fields 3)
+pub row_by : (fields : List (List ℕ)) → input_of_row fields
+    ≡ row_from (field_at fields 0) (field_at fields 1) (field_at fields 2) (field_at fields 3)
 unfolding field_at
-row_by [] = refl
-row_by (a ∷ []) = refl
-row_by (a ∷ b ∷ []) = refl
-row_by (a ∷ b ∷ c ∷ []) = refl
 row_by (a ∷ b ∷ c ∷ d ∷ fields) = refl
+row_by _ = refl

@@ -271,10 +271,9 @@ module _ {M K : Type 0} (board_of : M → K) (d : Known M) where
           })
 
       ended_badly : (f : PumpFault RunFault) → Run (Err f) → Came (Err (fault_of f))
-      ended_badly (ReadFailed count) p = let e = p.ends.1 in came_all p _ e.machine (ends_after p e, p.ends.0)
-      ended_badly TooLong p = let e = p.ends.1 in came_all p _ e.machine (ends_after p e, p.ends.0)
       ended_badly (WriteFailed written) p = came_short p written p.ends.0 p.ends.1 p.ends.2 p.ends.3
       ended_badly (Machine f) p = came_stopped p f p.ends.0 p.ends.1
+      ended_badly _ p = let e = p.ends.1 in came_all p _ e.machine (ends_after p e, p.ends.0)
 
       -- a fault of the machine is want of memory
       no_memory : IsOwn OutOfMemory

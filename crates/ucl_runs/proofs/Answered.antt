@@ -1,11 +1,10 @@
 -- What an evening answers tells its moment.
-use Rattle.ucl_runs.proofs.Common.{and_parts}
-use Rattle.ucl_runs.proofs.Common.{All, All-head, All-tail, AreWords, AwayInTie, Data, IsClub, IsGroup, IsMoment, IsRoster, List}
-use Rattle.ucl_runs.proofs.Common.{Moment, NamedClub, NightEvent, None, Ok, Option, Profile, Some, Uefa, [], ap, arith, bad_slot}
+use Rattle.ucl_runs.proofs.Common.{All, All-head, All-tail, AreWords, AwayInTie, Data, IsClub, IsGroup, IsMoment, IsRoster, List, Moment}
+use Rattle.ucl_runs.proofs.Common.{NamedClub, NightEvent, None, Ok, Option, Profile, Some, Uefa, [], and_parts, ap, arith, bad_slot}
 use Rattle.ucl_runs.proofs.Common.{club_items, codes, digit_glyph, false, hex_digits, inl, is_name, le-leb, length, letter_in, member}
 use Rattle.ucl_runs.proofs.Common.{nat_le, nat_tests, no_members, number_value, object, pow-suc, profile_name, profile_named, read_words}
-use Rattle.ucl_runs.proofs.Common.{refl, string, suc, true, unsigned, word_items, zero, ℕ, ◌%◌, ◌*◌, ◌+◌, ◌/◌, ◌<◌, ◌==◌, ◌^◌, ◌∙◌}
-use Rattle.ucl_runs.proofs.Common.{◌∷◌, ◌≡◌, ◌≤◌}
+use Rattle.ucl_runs.proofs.Common.{refl, string, suc, true, unsigned, word_items, zero, ℕ, ◌%◌, ◌*◌, ◌+◌, ◌/◌, ◌<◌, ◌==◌, ◌^◌, ◌∙◌, ◌∷◌}
+use Rattle.ucl_runs.proofs.Common.{◌≡◌, ◌≤◌}
 use Rattle.std.specs.Prelude.{option_and_then}
 use Rattle.serde_json.specs.Data.{number}
 use Rattle.serde_json.specs.Find.{get}
@@ -16,8 +15,7 @@ use Rattle.ucl_screen.proofs.ReadWords.{all-read}
 use Rattle.ucl_json.specs.Values.{accepted_value, edition_screen_value, screen_value}
 use Rattle.ucl_runs.proofs.WordDigits.{low, word-digits}
 use Rattle.ucl_json.specs.Told.{board_told, club_told, clubs_told, each_told, edition_in, edition_told, group_told, if_read, just, list_at}
-use Rattle.ucl_json.specs.Told.{listed, moment_told}
-use Rattle.ucl_json.specs.Told.{order_told, roster_told, text_at, word_told}
+use Rattle.ucl_json.specs.Told.{listed, moment_told, order_told, roster_told, text_at, word_told}
 use Rattle.ucl_runs.specs.Answered.{AnswersTellTheirMoment}
 
 -- ---- digits

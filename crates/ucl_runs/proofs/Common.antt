@@ -63,7 +63,7 @@ pub use Rattle.ucl_order.specs.Names.{profile_name, profile_named}
 pub use Rattle.ucl_order.specs.Roster.{IsClub, IsRoster, NamedClub, bad_slot, club_in, is_name, is_printed}
 pub use Rattle.ucl_order.specs.Rows.{rows_of}
 pub use Rattle.ucl_order.specs.declared.mark.Mark.{Mark}
-pub use Rattle.ucl_order.specs.declared.mark.Mark.TheVariants.{Blank, Minus, Plus}
+pub use Rattle.ucl_order.specs.declared.mark.Mark.TheVariants.{Plus}
 pub use Rattle.ucl_order.specs.declared.profile.Profile.{Profile}
 pub use Rattle.ucl_order.specs.declared.profile.Profile.TheVariants.{AwayInTie, Uefa}
 pub use Rattle.ucl_runs.specs.Answered.{HasNumbers, IsMoment}
@@ -96,7 +96,7 @@ pub use Rattle.ucl_runs.specs.Stages.{with_roster, with_words, word_said}
 pub use Rattle.ucl_runs.specs.Styles.{styled}
 pub use Rattle.ucl_runs.specs.Titles.{asked_group, asked_title, is_as_asked, is_asked, is_group_row, is_same_order, title_by, title_said}
 pub use Rattle.ucl_runs.specs.declared.fault.RunFault.{RunFault}
-pub use Rattle.ucl_runs.specs.declared.fault.RunFault.TheVariants.{Input, NoThread, NotOnDuty, OutOfMemory, Strangers, TooManyReporters}
+pub use Rattle.ucl_runs.specs.declared.fault.RunFault.TheVariants.{Strangers}
 pub use Rattle.ucl_runs.specs.declared.following.Following.{Following}
 pub use Rattle.ucl_runs.specs.declared.live_fault.BeginningFault.{BeginningFault}
 pub use Rattle.ucl_runs.specs.declared.live_fault.BeginningFault.TheVariants.{OtherGroup}

@@ -1,11 +1,10 @@
 -- What a reporter's worker has entered: no row yet, and one row more.
-use Rattle.ucl_runs.proofs.Common.{Accepted, ComesFirst, Continues, Entry, HasEntered, IsEnteredAt, IsPrefix, IsRefusedAt, List}
-use Rattle.ucl_runs.proofs.Common.{NightEvent, PassView, Refusal, Some, TakesPlace, [], ap, arith, at_below, at_within, attempted}
-use Rattle.ucl_runs.proofs.Common.{begins_length, begins_through, entries_by, entry_of, eq-eqb, followed_by, if◌then◌else◌, inl, inr}
-use Rattle.ucl_runs.proofs.Common.{length, length-append, ne_eqb, none-some, refl, slice_get, sym, take}
-use Rattle.ucl_runs.proofs.Common.{take-length, ℕ, ◌++◌, ◌<◌, ◌==◌, ◌∙◌, ◌∷◌, ◌≡◌, ◌≢◌, ◌≤◌, ◌⊎◌}
-use Rattle.std.proofs.Common.{Result, Ok, Err, IfOk, IfErr}
-use Rattle.std.proofs.Common.{le_refl}
+use Rattle.ucl_runs.proofs.Common.{Accepted, ComesFirst, Continues, Entry, HasEntered, IsEnteredAt, IsPrefix, IsRefusedAt, List, NightEvent}
+use Rattle.ucl_runs.proofs.Common.{PassView, Refusal, Some, TakesPlace, [], ap, arith, at_below, at_within, attempted, begins_length}
+use Rattle.ucl_runs.proofs.Common.{begins_through, entries_by, entry_of, eq-eqb, followed_by, if◌then◌else◌, inl, inr, length}
+use Rattle.ucl_runs.proofs.Common.{length-append, ne_eqb, none-some, refl, slice_get, sym, take, take-length, ℕ, ◌++◌, ◌<◌, ◌==◌, ◌∙◌, ◌∷◌}
+use Rattle.ucl_runs.proofs.Common.{◌≡◌, ◌≢◌, ◌≤◌, ◌⊎◌}
+use Rattle.std.proofs.Common.{Result, Ok, Err, IfOk, IfErr, le_refl}
 use Rattle.std.proofs.lemmas.List.{same_from_push}
 use Rattle.std.proofs.Math.Seq.{take-append_seam}
 use Rattle.ucl_word.proofs.Sequences.{at_longer, at_end, at_either}

@@ -1,9 +1,9 @@
 -- Whole runs of a follower, from what the driver says of them.
 use Rattle.ucl_runs.proofs.Common.{Appends, Device, Err, FollowArgs, Following, HasClosed, HasMade, IfSome, IsPromptAt, LineRules, List}
-use Rattle.ucl_runs.proofs.Common.{Machine, Ok, PumpFault, Pumped, Result, Seen, StoppedShort, StopsLast, StopsNext}
-use Rattle.ucl_runs.proofs.Common.{Turn, WriteFailed, [], after_told, ap, append-nil, append_assoc, cut_at, follow_text, inl, inr}
-use Rattle.ucl_runs.proofs.Common.{moment_on, refl, resuming_text, rules_of, stopped_first, stopped_short, sym, told_text, turns_front}
-use Rattle.ucl_runs.proofs.Common.{unseen, whole, whole_lines, ℕ, ⊤, ◌++◌, ◌+◌, ◌∙◌, ◌∷◌, ◌≡◌, ◌⊎◌}
+use Rattle.ucl_runs.proofs.Common.{Machine, Ok, PumpFault, Pumped, Result, Seen, StoppedShort, StopsLast, StopsNext, Turn, WriteFailed, []}
+use Rattle.ucl_runs.proofs.Common.{after_told, ap, append-nil, append_assoc, cut_at, follow_text, inl, inr, moment_on, refl, resuming_text}
+use Rattle.ucl_runs.proofs.Common.{rules_of, stopped_first, stopped_short, sym, told_text, turns_front, unseen, whole, whole_lines, ℕ, ⊤}
+use Rattle.ucl_runs.proofs.Common.{◌++◌, ◌+◌, ◌∙◌, ◌∷◌, ◌≡◌, ◌⊎◌}
 use Rattle.ucl_io.specs.Turns.{AreTurns, lines_in, state_after, text_in}
 use Rattle.ucl_word.specs.declared.refusal.OutOfMemory.{OutOfMemory}
 use Rattle.ucl_command.specs.declared.follow.FollowShape.{FollowShape}

@@ -1,4 +1,5 @@
 -- What is shown of lines.
+use Rattle.std.proofs.lemmas.List.Elements.{All-weaker}
 use Rattle.ucl_runs.proofs.Common.{All, All-append, All-cons, All-head, All-nil, All-tail, AwayInTie, FollowArgs, Following, IsNoNewer}
 use Rattle.ucl_runs.proofs.Common.{IsToldIn, List, Moment, None, Option, Profile, Some, Title, Uefa, [], after_told, and_parts, and_right}
 use Rattle.ucl_runs.proofs.Common.{ap, append-nil, append_assoc, ap₂, arith, cases_Bool, eqb-true, false, flat_map, inl, inr, is_asked}
@@ -53,10 +54,6 @@ told-first line lines m e = (line, ([], lines, refl), e)
 pub told-later : (line : List ℕ) (lines : Lines) (m : Moment) → IsToldIn lines m → IsToldIn (line ∷ lines) m
 told-later line lines m (l, (before, after, e), k) = (l, (line ∷ before, after, ap (λ (ls : Lines). line ∷ ls) e), k)
 
-weaker : (line : List ℕ) (lines : Lines) (ms : List Moment) → All (IsToldIn lines) ms → All (IsToldIn (line ∷ lines)) ms
-weaker line lines [] h = All-nil (IsToldIn (line ∷ lines))
-weaker line lines (m ∷ ms) h = All-cons (IsToldIn (line ∷ lines)) m ms (told-later line lines m (All-head (IsToldIn lines) m ms h)) (weaker line lines ms (All-tail (IsToldIn lines) m ms h))
-
 one-told : (f : Following) (line : List ℕ) (lines : Lines) (o : Option Moment) → moment_on line ≡ o → All (IsToldIn (line ∷ lines)) (shown_of f o)
 one-told f line lines None e = All-nil (IsToldIn (line ∷ lines))
 one-told f line lines (Some m) e = elim (cases_Bool (is_shown f m)) [
@@ -70,7 +67,7 @@ told f [] = All-nil (IsToldIn [])
 told f (line ∷ lines) =
     let now = after_told f (moment_on line) in
     All-append (IsToldIn (line ∷ lines)) (shown_of f (moment_on line)) (moments_shown now lines) (one-told f line lines (moment_on line) refl)
-    (weaker line lines (moments_shown now lines) (told now lines))
+    (All-weaker (IsToldIn lines) (IsToldIn (line ∷ lines)) (told-later line lines) (moments_shown now lines) (told now lines))
 
 -- ---- of one group and order
 
@@ -152,18 +149,12 @@ titled f (line ∷ lines) =
     let now = after_told f (moment_on line) in
     All-append (IsFollowed (followed now lines)) (shown_of f (moment_on line)) (moments_shown now lines) (first-titled f (moment_on line) lines) (titled now lines)
 
-all-asked : (f : Following) (lines : Lines) (ms : List Moment) → All (IsFollowed (followed f lines)) ms → All (IsFollowed f) ms
-all-asked f lines [] h = All-nil (IsFollowed f)
-all-asked f lines (m ∷ ms) h =
-    let P : Moment → Type 0 = IsFollowed (followed f lines) in
-    All-cons (IsFollowed f) m ms (refines f lines m (All-head P m ms h)) (all-asked f lines ms (All-tail P m ms h))
-
 pub versions : ShownVersionsRise
 versions f lines = record {
   rise = rise f lines;
   text = text f lines;
   told = told f lines;
-  asked = all-asked f lines (moments_shown f lines) (titled f lines);
+  asked = All-weaker _ (IsFollowed f) (refines f lines) (moments_shown f lines) (titled f lines);
   titled = titled f lines;
 }
 
@@ -298,12 +289,10 @@ module _ (args : FollowArgs) (m : Moment) (asked : is_asked args.group args.prof
   within (first ∷ before) line after all = within before line after (All-tail Fits first (before ++ line ∷ after) all)
 
   all-fit : (lines others : Lines) → All Fits lines → All (IsLineOfThese lines) others → All Fits others
-  all-fit lines [] all these = All-nil Fits
-  all-fit lines (line ∷ others) all these =
-      All-cons Fits line others (one-fits (All-head (IsLineOfThese lines) line others these)) (all-fit lines others all (All-tail (IsLineOfThese lines) line others these))
+  all-fit lines others all these = All-weaker (IsLineOfThese lines) Fits one-fits others these
     where
-      one-fits : IsLineOfThese lines line → Fits line
-      one-fits (before, after, e) = within before line after (subst (λ (ls : Lines). All Fits ls) e all)
+      one-fits : (line : List ℕ) → IsLineOfThese lines line → Fits line
+      one-fits line (before, after, e) = within before line after (subst (λ (ls : Lines). All Fits ls) e all)
 
   told-last : (lines : Lines) → All Fits lines → IsToldIn lines m → IsShownLast args m lines
   told-last lines all (line, (before, after, e), k) =

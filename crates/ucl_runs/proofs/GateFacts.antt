@@ -1,7 +1,7 @@
 -- What a gate is told, and how many events were reported.
-use Rattle.ucl_runs.proofs.Common.{List, NightEvent, PassView, Reading, ReportsMore, SharedReading, [], ap, append-nil, arith}
-use Rattle.ucl_runs.proofs.Common.{eq-eqb, get_or, length, length-append, ne_eqb, rows_by, subst, sym, take, take_more, ℕ, ◌++◌}
-use Rattle.ucl_runs.proofs.Common.{◌+◌, ◌<◌, ◌∙◌, ◌∷◌, ◌≡◌, ◌≢◌}
+use Rattle.ucl_runs.proofs.Common.{List, NightEvent, PassView, Reading, ReportsMore, SharedReading, [], ap, append-nil, arith, eq-eqb}
+use Rattle.ucl_runs.proofs.Common.{get_or, length, length-append, ne_eqb, rows_by, subst, sym, take, take_more, ℕ, ◌++◌, ◌+◌, ◌<◌, ◌∙◌, ◌∷◌}
+use Rattle.ucl_runs.proofs.Common.{◌≡◌, ◌≢◌}
 use Rattle.std.proofs.lemmas.List.Elements.{filter-append}
 use Rattle.ucl_runs.specs.Gates.{IsReadingOf}
 

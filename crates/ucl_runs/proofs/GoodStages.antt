@@ -1,20 +1,11 @@
 -- The stages of an evening: rosters and boards that there are.
-use Rattle.ucl_runs.proofs.Common.{All, All-cons, All-head, All-nil, AreWords, Beginning}
-use Rattle.ucl_runs.proofs.Common.{Bool, Err, Event, IsAttempt, IsClub}
-use Rattle.ucl_runs.proofs.Common.{IsRoster, List, LiveArgs, NamedClub}
-use Rattle.ucl_runs.proofs.Common.{Naming, None, Nothing, Ok, Open, Option, Other, OtherGroup, Refused}
-use Rattle.ucl_runs.proofs.Common.{Request, Restoring, Result, Row, Said, Some, Stage, Title, []}
-use Rattle.ucl_runs.proofs.Common.{after_beginning, after_club, after_row, after_title, after_word}
-use Rattle.ucl_runs.proofs.Common.{arith, attempt_of}
-use Rattle.ucl_runs.proofs.Common.{bad_slot, board_of, cases_Bool, club_said}
-use Rattle.ucl_runs.proofs.Common.{false, if◌then◌else◌, inl}
-use Rattle.ucl_runs.proofs.Common.{inr, is_as_asked, is_group_row, is_word_row, length}
-use Rattle.ucl_runs.proofs.Common.{nat_tests, next_board, next_stage}
-use Rattle.ucl_runs.proofs.Common.{opened, read_words, refl}
-use Rattle.ucl_runs.proofs.Common.{request_of, restored}
-use Rattle.ucl_runs.proofs.Common.{title_said, true, with_roster}
-use Rattle.ucl_runs.proofs.Common.{with_words, word_said, ℕ, ⊤, ◌++◌, ◌+◌, ◌==◌, ◌||◌}
-use Rattle.ucl_runs.proofs.Common.{◌∷◌, ◌≡◌}
+use Rattle.ucl_runs.proofs.Common.{All, All-cons, All-head, All-nil, AreWords, Beginning, Bool, Err, Event, IsAttempt, IsClub, IsRoster}
+use Rattle.ucl_runs.proofs.Common.{List, LiveArgs, NamedClub, Naming, None, Nothing, Ok, Open, Option, Other, OtherGroup, Refused, Request}
+use Rattle.ucl_runs.proofs.Common.{Restoring, Result, Row, Said, Some, Stage, Title, [], after_beginning, after_club, after_row}
+use Rattle.ucl_runs.proofs.Common.{after_title, after_word, arith, attempt_of, bad_slot, board_of, cases_Bool, club_said, false}
+use Rattle.ucl_runs.proofs.Common.{if◌then◌else◌, inl, inr, is_as_asked, is_group_row, is_word_row, length, nat_tests, next_board}
+use Rattle.ucl_runs.proofs.Common.{next_stage, opened, read_words, refl, request_of, restored, title_said, true, with_roster, with_words}
+use Rattle.ucl_runs.proofs.Common.{word_said, ℕ, ⊤, ◌++◌, ◌+◌, ◌==◌, ◌||◌, ◌∷◌, ◌≡◌}
 use Rattle.ucl_order.specs.Roster.{bad_slot_from, is_club}
 use Rattle.ucl_runs.proofs.Boards.{AreAttempts, asked}
 use Rattle.ucl_runs.proofs.GoodBoards.{fresh-good, good-after, read-good}
@@ -49,9 +40,11 @@ good-club : (row : ℕ) (clubs : List NamedClub) (club : Option NamedClub) → I
 good-club row clubs None = tt
 good-club row clubs (Some club) =
     let all = clubs ++ club ∷ [] in
-    either (length all == 4) (with_roster all (bad_slot all)) (Naming all) (λ e. good-roster all (bad_slot all) (same-four (length all) e) refl) tt
+    either (length all == 4) (with_roster all (bad_slot all)) (Naming all)
+    (λ e. good-roster all (bad_slot all) (same-four (length all) e) refl) tt
 
-good-restored : (clubs : List NamedClub) (words : List ℕ) (r : Result (List ℕ) ℕ) → IsRoster clubs → length words ≡ 12 → read_words 1 words ≡ r → IsGood (restored clubs r)
+good-restored : (clubs : List NamedClub) (words : List ℕ) (r : Result (List ℕ) ℕ) → IsRoster clubs → length words ≡ 12
+    → read_words 1 words ≡ r → IsGood (restored clubs r)
 good-restored clubs words (Ok board) is long e = (is, read-good words board long e)
 good-restored clubs words (Err index) is long e = tt
 
@@ -63,12 +56,14 @@ good-words clubs words is =
     either (length words == 12) (restored clubs (read_words 1 words)) (Restoring clubs words)
     (λ e. good-restored clubs words (read_words 1 words) is (same-twelve (length words) e) refl) is
 
-good-word : (row : ℕ) (clubs : List NamedClub) (words : List ℕ) (word : Option ℕ) → IsRoster clubs → IsGood (after_word row clubs words word)
+good-word : (row : ℕ) (clubs : List NamedClub) (words : List ℕ) (word : Option ℕ) → IsRoster clubs
+    → IsGood (after_word row clubs words word)
 good-word row clubs words None is = tt
 good-word row clubs words (Some word) is = good-words clubs (words ++ word ∷ []) is
 
 pub good-opened : (options : LiveArgs) (s : Stage) (r : Said) → IsGood s → IsGood (opened options s r)
-good-opened options (Restoring clubs []) r g = either (options.resumed || is_word_row r) (Restoring clubs []) (Open clubs (board_of [])) (λ _. g) (g, fresh-good)
+good-opened options (Restoring clubs []) r g =
+    either (options.resumed || is_word_row r) (Restoring clubs []) (Open clubs (board_of [])) (λ _. g) (g, fresh-good)
 good-opened options (Restoring clubs (word ∷ words)) r g = g
 good-opened options (Open clubs board) r g = g
 good-opened _ _ _ _ = tt
@@ -87,7 +82,8 @@ good-title options row (Some title) = either (is_as_asked options title) (Naming
 
 good-first : (options : LiveArgs) (row : ℕ) (r : Said) → IsGood (after_beginning options row r)
 good-first options row r =
-    either (is_group_row r) (after_title options row (title_said r)) (after_club row [] (club_said 1 r)) (λ e. good-title options row (title_said r)) (good-club row [] (club_said 1 r))
+    either (is_group_row r) (after_title options row (title_said r)) (after_club row [] (club_said 1 r))
+    (λ e. good-title options row (title_said r)) (good-club row [] (club_said 1 r))
 
 good-row : (options : LiveArgs) (row : ℕ) (s : Stage) (r : Said) → IsGood s → IsGood (after_row options row s r)
 good-row options row Beginning r g = good-first options row r
@@ -98,5 +94,6 @@ good-row options row (Refused fault) r g = tt
 
 pub good-next : (options : LiveArgs) (row : ℕ) (s : Stage) (r : Said) → IsGood s → IsGood (next_stage options row s r)
 good-next options row s Nothing g = g
-good-next options row s (Other eight) g = good-row options row (opened options s (Other eight)) (Other eight) (good-opened options s (Other eight) g)
+good-next options row s (Other eight) g =
+    good-row options row (opened options s (Other eight)) (Other eight) (good-opened options s (Other eight) g)
 good-next options row s (Row f) g = good-row options row (opened options s (Row f)) (Row f) (good-opened options s (Row f) g)

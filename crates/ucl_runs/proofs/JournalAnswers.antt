@@ -1,22 +1,19 @@
 -- What the lines of an evening's answers tell: nothing, or the moment after their line.
+use Rattle.std.proofs.lemmas.List.Elements.{All-weaker}
 use Rattle.ucl_runs.proofs.GoodStages.{IsGood, good-next, good-opened, of-request}
-use Rattle.ucl_runs.proofs.Common.{and_parts}
 use Rattle.ucl_runs.proofs.Common.{All, All-append, All-cons, All-get_or, All-head, All-nil, All-tail, AreWords, Attempt, Bad, Beginning}
-use Rattle.ucl_runs.proofs.Common.{Bool, Evening, Event, EventCall, FourFields, HasNumbers, IsAttempt, IsGroup, IsMoment}
-use Rattle.ucl_runs.proofs.Common.{IsRoster, IsValid, IsWord, Json, KickOff, Kind, List, LiveArgs, MatchRecord, Matches, Moment, NamedClub}
-use Rattle.ucl_runs.proofs.Common.{Naming, NightEvent, None, Nothing, Open, Option, Other, Profile, Refusal, Refused}
-use Rattle.ucl_runs.proofs.Common.{Request, Restoring, Row, Said, Screen, Some, Stage, Title, Words, [], accepted_value}
-use Rattle.ucl_runs.proofs.Common.{after_row, answer, answer_at, answer_of}
+use Rattle.ucl_runs.proofs.Common.{Bool, Evening, Event, EventCall, FourFields, HasNumbers, IsAttempt, IsGroup, IsMoment, IsRoster, IsValid}
+use Rattle.ucl_runs.proofs.Common.{IsWord, Json, KickOff, Kind, List, LiveArgs, MatchRecord, Matches, Moment, NamedClub, Naming, NightEvent}
+use Rattle.ucl_runs.proofs.Common.{None, Nothing, Open, Option, Other, Profile, Refusal, Refused, Request, Restoring, Row, Said, Screen}
+use Rattle.ucl_runs.proofs.Common.{Some, Stage, Title, Words, [], accepted_value, after_row, and_parts, answer, answer_at, answer_of}
 use Rattle.ucl_runs.proofs.Common.{answer_said, answers, ap, arith, asked_by, asked_group, asked_title, attempt_of, attempts_of}
-use Rattle.ucl_runs.proofs.Common.{attempts_on, begun_line, begun_none, board_after, cases_Bool}
-use Rattle.ucl_runs.proofs.Common.{edition_screen_value, ended_none, event_of, event_or_bad, false, game_at, if◌then◌else◌, in_range, inl}
-use Rattle.ucl_runs.proofs.Common.{inr, is_group_row, is_ok, json_line, kind_named, leb-true, length, letter_in}
-use Rattle.ucl_runs.proofs.Common.{moment_at, moment_now, moment_on, moment_with, nat_le, nat_tests, next, next_board}
-use Rattle.ucl_runs.proofs.Common.{next_title, no_refusal, number, number_valid, opened, profile_named, refl, refusal_of}
-use Rattle.ucl_runs.proofs.Common.{reply_answer, reply_of, reply_value, request_of, said_on, screen_after, screen_answer}
-use Rattle.ucl_runs.proofs.Common.{shown_text, start_of, subst, sym, title_by, title_said, true, version_at, version_of}
-use Rattle.ucl_runs.proofs.Common.{word_at, word_valid, ℕ, ⊤, ◌&&◌, ◌++◌, ◌+◌, ◌-◌, ◌<◌, ◌>>=◌, ◌^◌, ◌∙◌}
-use Rattle.ucl_runs.proofs.Common.{◌∷◌, ◌≡◌, ◌≤◌}
+use Rattle.ucl_runs.proofs.Common.{attempts_on, begun_line, begun_none, board_after, cases_Bool, edition_screen_value, ended_none, event_of}
+use Rattle.ucl_runs.proofs.Common.{event_or_bad, false, game_at, if◌then◌else◌, in_range, inl, inr, is_group_row, is_ok, json_line}
+use Rattle.ucl_runs.proofs.Common.{kind_named, leb-true, length, letter_in, moment_at, moment_now, moment_on, moment_with, nat_le}
+use Rattle.ucl_runs.proofs.Common.{nat_tests, next, next_board, next_title, no_refusal, number, number_valid, opened, profile_named, refl}
+use Rattle.ucl_runs.proofs.Common.{refusal_of, reply_answer, reply_of, reply_value, request_of, said_on, screen_after, screen_answer}
+use Rattle.ucl_runs.proofs.Common.{shown_text, start_of, subst, sym, title_by, title_said, true, version_at, version_of, word_at}
+use Rattle.ucl_runs.proofs.Common.{word_valid, ℕ, ⊤, ◌&&◌, ◌++◌, ◌+◌, ◌-◌, ◌<◌, ◌>>=◌, ◌^◌, ◌∙◌, ◌∷◌, ◌≡◌, ◌≤◌}
 use Rattle.ucl_runs.specs.Titles.{edition_by}
 use Rattle.ucl_command.specs.Groups.{may_be_asked}
 use Rattle.ucl_command.proofs.Letters.{asked_letter}
@@ -26,9 +23,8 @@ use Rattle.ucl_runs.proofs.Boards.{AreAttempts, asked, asked-by, event-is_attemp
 use Rattle.ucl_runs.proofs.GoodBoards.{good-after, version-after}
 use Rattle.ucl_runs.proofs.OneByOne.{after-none, after-one, answers-none, answers-one}
 use Rattle.ucl_runs.proofs.JournalLines.{IsLineThat, IsShown, TellsAlone, TellsAtMost, alone-as, alone-line, alone-none, alone-then}
-use Rattle.ucl_runs.proofs.JournalLines.{bad-line}
-use Rattle.ucl_runs.proofs.JournalLines.{begun-then, board-fits, found-fits, lines-then, lines_in, matches-line, refused-line, shown-text}
-use Rattle.ucl_runs.proofs.JournalLines.{value-line, words-line}
+use Rattle.ucl_runs.proofs.JournalLines.{bad-line, begun-then, board-fits, found-fits, lines-then, lines_in, matches-line, refused-line}
+use Rattle.ucl_runs.proofs.JournalLines.{shown-text, value-line, words-line}
 use Rattle.ucl_runs.proofs.Matches.{told-lines}
 
 abbrev pub Lines : Type 0
@@ -305,10 +301,7 @@ abbrev pub AllTold : (Option Moment → Type 0) → Lines → Type 0
 AllTold P lines = All (λ line. P (moment_on line)) lines
 
 pub weaken : (P Q : Option Moment → Type 0) → ((told : Option Moment) → P told → Q told) → (lines : Lines) → AllTold P lines → AllTold Q lines
-weaken P Q f [] h = All-nil (λ line. Q (moment_on line))
-weaken P Q f (line ∷ lines) h =
-    All-cons (λ line. Q (moment_on line)) line lines (f (moment_on line) (All-head (λ line. P (moment_on line)) line lines h))
-    (weaken P Q f lines (All-tail (λ line. P (moment_on line)) line lines h))
+weaken P Q f lines h = All-weaker (λ line. P (moment_on line)) (λ line. Q (moment_on line)) (λ line. f (moment_on line)) lines h
 
 abbrev pub begun-of : List ℕ → List ℕ
 begun-of text = begun_line 4097 [] text

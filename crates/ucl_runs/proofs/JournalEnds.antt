@@ -1,11 +1,11 @@
 -- The last moment of a journal, and what comes after a crash.
-use Rattle.ucl_runs.proofs.Common.{Evening, Event, FollowArgs, Following, FourFields, IsAnsweredIn, IsNoNewer, IsToldIn, Json, List}
-use Rattle.ucl_runs.proofs.Common.{Moment, NamedClub, NightEvent, None, Nothing, Open, Option, Other, Refusal, Request, Row, Said}
-use Rattle.ucl_runs.proofs.Common.{Some, Stage, TakesEvent, [], after_lines, answers, ap, append-nil, append_assoc, ap₂}
-use Rattle.ucl_runs.proofs.Common.{arith, asked_by, attempt_of, attempts_of, attempts_on, board_after, board_of, fold, game_at, inl, inr}
-use Rattle.ucl_runs.proofs.Common.{is_asked, length, length-append, lines_of, moment_at, moment_now, moment_with, next, next_board}
-use Rattle.ucl_runs.proofs.Common.{next_stage, opened, opened_at, refl, refusal_of, resume, resumed_row, said_on, start_of, subst, sym}
-use Rattle.ucl_runs.proofs.Common.{true, unseen, version_at, version_of, whole_lines, ℕ, ◌++◌, ◌+◌, ◌^◌, ◌∙◌, ◌∷◌, ◌≡◌, ◌≤◌, ◌⊎◌}
+use Rattle.ucl_runs.proofs.Common.{Evening, Event, FollowArgs, Following, FourFields, IsAnsweredIn, IsNoNewer, IsToldIn, Json, List, Moment}
+use Rattle.ucl_runs.proofs.Common.{NamedClub, NightEvent, None, Nothing, Open, Option, Other, Refusal, Request, Row, Said, Some, Stage}
+use Rattle.ucl_runs.proofs.Common.{TakesEvent, [], after_lines, answers, ap, append-nil, append_assoc, ap₂, arith, asked_by, attempt_of}
+use Rattle.ucl_runs.proofs.Common.{attempts_of, attempts_on, board_after, board_of, fold, game_at, inl, inr, is_asked, length}
+use Rattle.ucl_runs.proofs.Common.{length-append, lines_of, moment_at, moment_now, moment_with, next, next_board, next_stage, opened}
+use Rattle.ucl_runs.proofs.Common.{opened_at, refl, refusal_of, resume, resumed_row, said_on, start_of, subst, sym, true, unseen}
+use Rattle.ucl_runs.proofs.Common.{version_at, version_of, whole_lines, ℕ, ◌++◌, ◌+◌, ◌^◌, ◌∙◌, ◌∷◌, ◌≡◌, ◌≤◌, ◌⊎◌}
 use Rattle.ucl_board.proofs.Repeats.{go_on}
 use Rattle.ucl_runs.specs.ByHistory.{attempts_in}
 use Rattle.ucl_runs.proofs.Boards.{boards}
@@ -15,8 +15,8 @@ use Rattle.ucl_runs.specs.Latest.{IsLatest}
 use Rattle.ucl_runs.proofs.GoodStages.{IsGood}
 use Rattle.ucl_runs.proofs.JournalAnswers.{AllTold, IsOnTheWay, IsSound, Lines, good-after-lines, start-sound, weaken}
 use Rattle.ucl_runs.proofs.Journals.{HasTitle, IsPast, among, boards-rise, end_of, first-answer, greatest, in-lines, later-by-version}
-use Rattle.ucl_runs.proofs.Journals.{lines-attempts}
-use Rattle.ucl_runs.proofs.Journals.{lines-few, none-past, not-later, open-with, row-after, title-after, told-in, told-in-left, way}
+use Rattle.ucl_runs.proofs.Journals.{lines-attempts, lines-few, none-past, not-later, open-with, row-after, title-after, told-in}
+use Rattle.ucl_runs.proofs.Journals.{told-in-left, way}
 use Rattle.ucl_runs.proofs.Repeats.{all-same}
 use Rattle.ucl_runs.proofs.FollowShown.{titled-so}
 

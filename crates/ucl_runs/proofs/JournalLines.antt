@@ -1,4 +1,5 @@
 -- The lines that an evening in JSON answers, and what each tells.
+use Rattle.std.proofs.lemmas.List.Elements.{All-weaker}
 use Rattle.ucl_runs.proofs.Common.{All, All-append, All-cons, All-head, All-nil, All-tail, AreWords, Bool, Data, HasNoFeed, HasNumbers}
 use Rattle.ucl_runs.proofs.Common.{IfSome, IsRoster, IsValid, IsWord, Kind, List, MatchRecord, Moment, NamedClub, NightEvent, None, Option}
 use Rattle.ucl_runs.proofs.Common.{Refusal, Some, [], and_from, ap, arith, bad_row_value, begun_append, begun_ended, begun_line, begun_none}
@@ -241,5 +242,4 @@ word-fits : (word : ℕ) → IsWord word → word < 2 ^ 64
 word-fits word is = let high : word / 2 ^ 56 ≡ 32 = word_high word is in omega (arith, high)
 
 pub board-fits : (board : List ℕ) → All IsWord board → All (λ word. word < 2 ^ 64) board
-board-fits [] h = All-nil (λ word. word < 2 ^ 64)
-board-fits (word ∷ board) h = All-cons (λ w. w < 2 ^ 64) word board (word-fits word (All-head IsWord word board h)) (board-fits board (All-tail IsWord word board h))
+board-fits board h = All-weaker IsWord (λ word. word < 2 ^ 64) word-fits board h

@@ -1,38 +1,36 @@
 -- Journals that are cut, and what they resume.
-use Rattle.ucl_runs.proofs.Boards.{said-attempts}
-use Rattle.ucl_runs.proofs.FollowShown.{told-later}
+use Rattle.std.proofs.Math.Seq.{take-append_seam}
+use Rattle.std.proofs.lemmas.List.Elements.{All-take}
+use Rattle.ucl_runs.proofs.Boards.{said-attempts, asked, boards}
+use Rattle.ucl_runs.proofs.FollowShown.{told-later, alike, not-itself, titled-so}
 use Rattle.ucl_runs.proofs.Common.{All, All-append, All-cons, All-head, All-nil, All-tail, AreWords, Attempt, Beginning, Evening, Following}
 use Rattle.ucl_runs.proofs.Common.{IfSome, IsAnsweredIn, IsAttempt, IsMoment, IsToldIn, Json, List, LiveArgs, Moment, NamedClub, Naming}
-use Rattle.ucl_runs.proofs.Common.{None, Open, Option, Refusal, Refused, Restoring, Said, Some, Stage, TakesEvent}
-use Rattle.ucl_runs.proofs.Common.{Title, [], after_told, and_from, and_parts, and_right, answers, ap, append_assoc, arith, attempts_on}
-use Rattle.ucl_runs.proofs.Common.{begun_append, begun_none, board_after, cases_Bool, cases_lt, ended_append, ended_none, false, fold}
-use Rattle.ucl_runs.proofs.Common.{follow_text, game_at, inl, inr, is_as_asked, is_asked, is_later, is_newer, is_plain_title, is_shown}
-use Rattle.ucl_runs.proofs.Common.{last_lines, length, length-append, lines_of, live_text, moment_at, moment_now, moment_on, moment_with}
-use Rattle.ucl_runs.proofs.Common.{nat_tests, next, next_title, opened, opened_at, passed_over, refl, refusal_of, resume, resumed_row}
-use Rattle.ucl_runs.proofs.Common.{resuming_text, said_on, shown_text, shown_too, start_of, subst, sym, told_text, true, unseen, version_at}
-use Rattle.ucl_runs.proofs.Common.{version_of, whole_lines, ℕ, ⊤, ◌++◌, ◌+◌, ◌<◌, ◌^◌, ◌∙◌, ◌∷◌, ◌≡◌, ◌≤◌, ◌⊎◌}
+use Rattle.ucl_runs.proofs.Common.{None, Open, Option, Refusal, Refused, Restoring, Said, Some, Stage, TakesEvent, Title, [], after_told}
+use Rattle.ucl_runs.proofs.Common.{and_from, and_parts, and_right, answers, ap, append_assoc, arith, attempts_on, begun_append, begun_none}
+use Rattle.ucl_runs.proofs.Common.{board_after, cases_Bool, cases_lt, ended_append, ended_none, false, fold, follow_text, game_at, inl, inr}
+use Rattle.ucl_runs.proofs.Common.{is_as_asked, is_asked, is_later, is_newer, is_plain_title, is_shown, last_lines, length, length-append}
+use Rattle.ucl_runs.proofs.Common.{lines_of, live_text, moment_at, moment_now, moment_on, moment_with, nat_tests, next, next_title, opened}
+use Rattle.ucl_runs.proofs.Common.{opened_at, passed_over, refl, refusal_of, resume, resumed_row, resuming_text, said_on, shown_text}
+use Rattle.ucl_runs.proofs.Common.{shown_too, start_of, subst, sym, told_text, true, unseen, version_at, version_of, whole_lines, ℕ, ⊤}
+use Rattle.ucl_runs.proofs.Common.{◌++◌, ◌+◌, ◌<◌, ◌^◌, ◌∙◌, ◌∷◌, ◌≡◌, ◌≤◌, ◌⊎◌}
 use Rattle.ucl_io.specs.Lines.{begun_line, ended_lines}
 use Rattle.ucl_io.proofs.Cuts.{few_lines}
 use Rattle.ucl_command.specs.declared.follow.FollowShape.TheVariants.{Rows}
 use Rattle.ucl_runs.proofs.Silence.{is_open}
 use Rattle.ucl_runs.specs.ByHistory.{attempts_in}
 use Rattle.ucl_runs.specs.LiveText.{after_lines}
-use Rattle.ucl_runs.proofs.Boards.{asked, boards}
 use Rattle.ucl_runs.proofs.GoodBoards.{good-after, version-after}
 use Rattle.ucl_runs.proofs.OneByOne.{after-append, after-last, after-none, answers-append, answers-one}
-use Rattle.ucl_runs.specs.Follow.{followed}
-use Rattle.ucl_runs.specs.Follow.{sights}
-use Rattle.ucl_runs.specs.Journals.{CutJournalsResume}
-use Rattle.ucl_runs.specs.Journals.{AreStarts, GoesOnAgain, IsStart, JournalsGoOn, Start, gone_on, journal, newest_in}
+use Rattle.ucl_runs.specs.Follow.{followed, sights}
+use Rattle.ucl_runs.specs.Journals.{CutJournalsResume, AreStarts, GoesOnAgain, IsStart, JournalsGoOn, Start, gone_on, journal, newest_in}
 use Rattle.ucl_runs.specs.Resuming.{OpensTheBoard}
 use Rattle.ucl_runs.proofs.GoodStages.{IsGood}
-use Rattle.ucl_runs.proofs.JournalAnswers.{AllTold, AnswersFirst, IsOnTheWay, IsSound, Lines, answers-first, begun-of}
-use Rattle.ucl_runs.proofs.JournalAnswers.{good-after-lines, on-the-way, stage-good, start-sound}
+use Rattle.ucl_runs.proofs.JournalAnswers.{AllTold, AnswersFirst, IsOnTheWay, IsSound, Lines, answers-first, begun-of, good-after-lines}
+use Rattle.ucl_runs.proofs.JournalAnswers.{on-the-way, stage-good, start-sound}
 use Rattle.ucl_runs.proofs.JournalLines.{lines-then, lines_in}
 use Rattle.ucl_runs.proofs.CutLines.{IsCut, cut-lines}
 use Rattle.ucl_runs.proofs.JsonLines.{json-lines}
 use Rattle.ucl_runs.proofs.Resumed.{resumed}
-use Rattle.ucl_runs.proofs.FollowShown.{alike, not-itself, titled-so}
 
 -- in one edition versions tell which is later
 pub no-higher : (m n : Moment) → m.title ≡ n.title → is_later m n ≡ false → version_at m ≤ version_at n
@@ -170,9 +168,7 @@ shorter-front (x ∷ first) rest (b ∷ before) after e h =
     let k = shorter-front first rest before after more (omega arith) in (k.0, rw same (ap (λ (ls : Lines). b ∷ ls) k.1))
 
 front-told : (P : Option Moment → Type 0) (xs ys : Lines) → AllTold P (xs ++ ys) → AllTold P xs
-front-told P [] ys h = All-nil (λ line. P (moment_on line))
-front-told P (x ∷ xs) ys h =
-    All-cons (λ line. P (moment_on line)) x xs (All-head (λ line. P (moment_on line)) x (xs ++ ys) h) (front-told P xs ys (All-tail (λ line. P (moment_on line)) x (xs ++ ys) h))
+front-told P xs ys h = rw take-append_seam at (All-take (λ line. P (moment_on line)) (length xs) (xs ++ ys) h)
 
 told-at : (P : Option Moment → Type 0) (before : Lines) (line : List ℕ) (after : Lines) → AllTold P (before ++ line ∷ after) → P (moment_on line)
 told-at P [] line after h = All-head (λ l. P (moment_on l)) line after h

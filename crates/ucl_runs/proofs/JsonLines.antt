@@ -1,10 +1,10 @@
 -- In JSON an evening answers by lines of values.
-use Rattle.ucl_runs.proofs.Common.{Accepted, AreLinesOfValues, Bad, Bool, Err, Evening, Event, Format, Json, List, LiveArgs}
-use Rattle.ucl_runs.proofs.Common.{Matches, NamedClub, NightEvent, Nothing, Ok, Open, Other, Refusal, Request}
-use Rattle.ucl_runs.proofs.Common.{Result, Row, Said, Screen, Stage, Title, Words, [], answer_at, answer_of, answer_said, bad_row_value}
-use Rattle.ucl_runs.proofs.Common.{edition_screen_value, false, field_name, game_at, if◌then◌else◌, matches_value, next, next_board, opened}
-use Rattle.ucl_runs.proofs.Common.{reply_answer, reply_of, reply_value, request_of, said_on, screen_after, screen_answer, shown_text, true}
-use Rattle.ucl_runs.proofs.Common.{version_of, words_value, ℕ, ◌∷◌, ◌≡◌}
+use Rattle.ucl_runs.proofs.Common.{Accepted, AreLinesOfValues, Bad, Bool, Err, Evening, Event, Format, Json, List, LiveArgs, Matches}
+use Rattle.ucl_runs.proofs.Common.{NamedClub, NightEvent, Nothing, Ok, Open, Other, Refusal, Request, Result, Row, Said, Screen, Stage}
+use Rattle.ucl_runs.proofs.Common.{Title, Words, [], answer_at, answer_of, answer_said, bad_row_value, edition_screen_value, false}
+use Rattle.ucl_runs.proofs.Common.{field_name, game_at, if◌then◌else◌, matches_value, next, next_board, opened, reply_answer, reply_of}
+use Rattle.ucl_runs.proofs.Common.{reply_value, request_of, said_on, screen_after, screen_answer, shown_text, true, version_of, words_value}
+use Rattle.ucl_runs.proofs.Common.{ℕ, ◌∷◌, ◌≡◌}
 use Rattle.ucl_json.proofs.OneLine.{line_of_value, lines_then, no_lines}
 use Rattle.ucl_runs.specs.LiveText.{answers}
 use Rattle.ucl_runs.specs.LiveLaws.{JsonAnswersAreLines}

@@ -1,10 +1,8 @@
 -- How rows are shown.
-use Rattle.ucl_runs.proofs.Common.{and_parts}
-use Rattle.ucl_runs.proofs.Common.{IsUtf8-from_ascii, List, [], ap, arith, false, get_or, inl, inr, is_printed, length, list_all}
-use Rattle.ucl_runs.proofs.Common.{nat_le, nat_tests, refl, shown_text, suc, sym, take, take_all, true, zero, ℕ, ◌+◌, ◌<◌, ◌∙◌, ◌∷◌}
-use Rattle.ucl_runs.proofs.Common.{◌≡◌, ◌≤◌, ◌⊎◌}
+use Rattle.ucl_runs.proofs.Common.{IsUtf8-from_ascii, List, [], and_parts, ap, arith, false, get_or, inl, inr, is_printed, length, list_all}
+use Rattle.ucl_runs.proofs.Common.{nat_le, nat_tests, refl, shown_text, suc, sym, take, take_all, true, zero, ℕ, ◌+◌, ◌<◌, ◌∙◌, ◌∷◌, ◌≡◌}
+use Rattle.ucl_runs.proofs.Common.{◌≤◌, ◌⊎◌}
 use Rattle.std.specs.Str.{IsAscii, IsUtf8}
-use Rattle.std.proofs.lemmas.List.Folds.{list_all_more}
 use Rattle.std.proofs.lemmas.Str.Ascii.{IsAscii-nil, IsAscii-cons}
 use Rattle.ucl_runs.specs.BadRows.{printed}
 
@@ -29,15 +27,13 @@ shown-at at text h all e = ends-at 64 at text h all e
 printed-all : (text : List ℕ) → list_all is_printed text ≡ true → printed text ≡ text
 unfolding printed
 printed-all [] h = refl
-printed-all (b ∷ text) h = let p = and_parts (is_printed b) (list_all is_printed text) h in rw p.0 (ap (λ (l : List ℕ). b ∷ l) (printed-all text p.1))
+printed-all (b ∷ text) h =
+    let p = and_parts (is_printed b) (list_all is_printed text) h in rw p.0 (ap (λ (l : List ℕ). b ∷ l) (printed-all text p.1))
 
 pub shown-all : (at : ℕ) (text : List ℕ) → length text ≤ at → at ≤ 64 → list_all is_printed (take at text) ≡ true → take (length text) text ≡ shown_text text
 shown-all at text h few all =
     let whole = rw (take_all at text h) at all in
     take_all (length text) text (omega arith) ∙ sym (ap printed (take_all 64 text (omega (arith, h, few))) ∙ printed-all text whole)
-
-pub printed-more : (at : ℕ) (text : List ℕ) → at < length text → list_all is_printed (take at text) ≡ true → is_printed (get_or text at 0) ≡ true → list_all is_printed (take (at + 1) text) ≡ true
-printed-more at text h all one = rw (list_all_more is_printed text at 0 h, all, one) refl
 
 below : (b : ℕ) → is_printed b ≡ true → b < 128
 below b h = let e = (and_parts (nat_le 0x20 b) (nat_le b 0x7e) h).1 in grind (arith, nat_tests)

@@ -1,10 +1,10 @@
 -- The members of an answer in JSON say what it says as text.
-use Rattle.ucl_runs.proofs.Common.{Accepted, Bool, Err, List, Mark, MatchRecord, NamedClub, NightEvent, None, Ok, Option}
-use Rattle.ucl_runs.proofs.Common.{Plus, RaisesVersion, Refusal, Result, Some, Title, [], ap, arith, bad_line, bad_row_value, club_items}
-use Rattle.ucl_runs.proofs.Common.{codes, cond, decimal, false, flat_map, found_of, game_at, le-leb, line_of_reply, lt-leb, mark_name}
-use Rattle.ucl_runs.proofs.Common.{match_items, match_numbers, negsuc, of_integer, place_items, pos, refl, refusal_code, refusal_name}
-use Rattle.ucl_runs.proofs.Common.{refused_by, reply_value, row_line, rows_of, suc, true, version_of, word_items, words_value, zero, ℕ, ℤ}
-use Rattle.ucl_runs.proofs.Common.{◌++◌, ◌+◌, ◌-ℤ◌, ◌-◌, ◌<◌, ◌∙◌, ◌∷◌, ◌≡◌}
+use Rattle.ucl_runs.proofs.Common.{Accepted, Bool, Err, List, Mark, MatchRecord, NamedClub, NightEvent, None, Ok, Option, Plus}
+use Rattle.ucl_runs.proofs.Common.{RaisesVersion, Refusal, Result, Some, Title, [], ap, arith, bad_line, bad_row_value, club_items, codes}
+use Rattle.ucl_runs.proofs.Common.{cond, decimal, false, flat_map, found_of, game_at, le-leb, line_of_reply, lt-leb, mark_name, match_items}
+use Rattle.ucl_runs.proofs.Common.{match_numbers, negsuc, of_integer, place_items, pos, refl, refusal_code, refusal_name, refused_by}
+use Rattle.ucl_runs.proofs.Common.{reply_value, row_line, rows_of, suc, true, version_of, word_items, words_value, zero, ℕ, ℤ, ◌++◌, ◌+◌}
+use Rattle.ucl_runs.proofs.Common.{◌-ℤ◌, ◌-◌, ◌<◌, ◌∙◌, ◌∷◌, ◌≡◌}
 use Rattle.std.proofs.Common.{ltb}
 use Rattle.std.proofs.lemmas.List.{append_assoc}
 use Rattle.itoa.proofs.Decimal.{decimal_two}
@@ -18,8 +18,7 @@ use Rattle.ucl_runs.specs.Lines.{accepted_line}
 use Rattle.ucl_screen.specs.Lines.{difference_text, mark_text, place_line}
 use Rattle.ucl_screen.specs.Matches.{clubs_text, counts_text, match_line, matches_text, state_text}
 use Rattle.ucl_screen.specs.Screen.{screen_text}
-use Rattle.ucl_json.specs.Values.{accepted_value, bad_value, edition_screen_value, matches_value}
-use Rattle.ucl_json.specs.Values.{place_value, screen_value}
+use Rattle.ucl_json.specs.Values.{accepted_value, bad_value, edition_screen_value, matches_value, place_value, screen_value}
 use Rattle.ucl_runs.specs.Members.{mark_column, match_lines_of, place_line_of, place_lines_of, signed_text, text_told, word_lines_of}
 use Rattle.ucl_runs.specs.LiveLaws.{JsonSaysTheSame}
 
@@ -56,10 +55,8 @@ bad row field shown =
     cc (
       bad-told row 20 (codes "bad-row") field shown,
       decimal_two 20 (omega arith) (omega arith),
-      append_assoc
-          (decimal row ++ codes " refused ") (codes "20 bad-row") (codes "\n"),
-      append_assoc (decimal row) (codes " refused ")
-          (codes "20 bad-row\n"),
+      append_assoc (decimal row ++ codes " refused ") (codes "20 bad-row") (codes "\n"),
+      append_assoc (decimal row) (codes " refused ") (codes "20 bad-row\n"),
     )
 
 -- ---- words

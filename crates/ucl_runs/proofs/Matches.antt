@@ -1,11 +1,10 @@
 -- The twelve matches in JSON are plain, and their line is short; so is that of a screen, which has them.
-use Rattle.ucl_runs.proofs.Common.{All-get_or, AreWords, IsMoment, IsRoster, IsValid, IsWord, List, Mark}
-use Rattle.ucl_runs.proofs.Common.{MatchRecord, Moment, NamedClub, Plus, Profile, Scheduled, [], accepted_value, and_parts, arith}
-use Rattle.ucl_runs.proofs.Common.{array, club_items, codes, compact_text, decimal, game_at, in_play, is_in_play, length, list_all}
-use Rattle.ucl_runs.proofs.Common.{mark_name, match_items, match_numbers, nat_le, nat_tests, negsuc, number_text, number_valid}
-use Rattle.ucl_runs.proofs.Common.{number_value, of_integer, place_items, pos, profile_name, quoted, record_at, refl, rows_of, string}
-use Rattle.ucl_runs.proofs.Common.{subst, suc, true, version_of, word_at, word_items, word_valid, ℕ, ℤ, ◌*◌, ◌+◌, ◌-ℤ◌, ◌-◌, ◌<◌, ◌^◌, ◌∙◌}
-use Rattle.ucl_runs.proofs.Common.{◌∷◌, ◌≡◌, ◌≤◌}
+use Rattle.ucl_runs.proofs.Common.{All-get_or, AreWords, IsMoment, IsRoster, IsValid, IsWord, List, Mark, MatchRecord, Moment, NamedClub}
+use Rattle.ucl_runs.proofs.Common.{Plus, Profile, Scheduled, [], accepted_value, and_parts, arith, array, club_items, codes, compact_text}
+use Rattle.ucl_runs.proofs.Common.{decimal, game_at, in_play, is_in_play, length, list_all, mark_name, match_items, match_numbers, nat_le}
+use Rattle.ucl_runs.proofs.Common.{nat_tests, negsuc, number_text, number_valid, number_value, of_integer, place_items, pos, profile_name}
+use Rattle.ucl_runs.proofs.Common.{quoted, record_at, refl, rows_of, string, subst, suc, true, version_of, word_at, word_items, word_valid}
+use Rattle.ucl_runs.proofs.Common.{ℕ, ℤ, ◌*◌, ◌+◌, ◌-ℤ◌, ◌-◌, ◌<◌, ◌^◌, ◌∙◌, ◌∷◌, ◌≡◌, ◌≤◌}
 use Rattle.std.proofs.lemmas.Int.{ints}
 use Rattle.std.proofs.lemmas.List.Sums.{count_by-le-length}
 use Rattle.json.specs.Print.{escape_byte}
@@ -19,14 +18,14 @@ use Rattle.ucl_order.specs.Rows.{IsWithinTable, row_of}
 use Rattle.ucl_order.proofs.KeysFit.{words_valid}
 use Rattle.ucl_order.proofs.Limits.{rows_within}
 use Rattle.ucl_screen.specs.Matches.{state_name}
-use Rattle.ucl_json.specs.Values.{difference_value, edition_screen_value, match_value, matches_value}
-use Rattle.ucl_json.specs.Values.{place_value, screen_value, sides_value}
+use Rattle.ucl_json.specs.Values.{difference_value, edition_screen_value, match_value, matches_value, place_value, screen_value}
+use Rattle.ucl_json.specs.Values.{sides_value}
 use Rattle.ucl_runs.specs.Answered.{LinesTellTheirMoment, MatchesFitTheirLine}
 use Rattle.ucl_runs.proofs.Answered.{answered}
 use Rattle.ucl_runs.proofs.PlainAnswers.{accepted-plain, clubs-plain, group-text, order-text, slot-plain, version-fits, words-plain}
 use Rattle.ucl_runs.proofs.ReadBack.{AreShortItems, ArePlain, IsPlain, IsPlainNumber, IsShort, IsText, digits-short, first, in-quotes}
-use Rattle.ucl_runs.proofs.ReadBack.{items-short, items_size, no-item, no-member}
-use Rattle.ucl_runs.proofs.ReadBack.{short-array, short-object, size, told-by-line, told-if-short, wider, with-item, with-key, with-member}
+use Rattle.ucl_runs.proofs.ReadBack.{items-short, items_size, no-item, no-member, short-array, short-object, size, told-by-line}
+use Rattle.ucl_runs.proofs.ReadBack.{told-if-short, wider, with-item, with-key, with-member}
 
 state-text : (s : State) → IsText (state_name s) × (length (state_name s) ≤ 9)
 state-text Scheduled = (refl, omega arith)

@@ -1,8 +1,8 @@
 -- Two reporters' rows in one history that has the entries of both and no other: a merge.
-use Rattle.ucl_runs.proofs.Common.{All, All-get_or, ComesFirst, Continues, Entry, HasEntered, IsLegal, IsMerge, IsOnDuty}
-use Rattle.ucl_runs.proofs.Common.{IsPrefix, List, NightEvent, None, Option, PassView, Some, TakesPlace, ap, arith, at_below, at_within}
-use Rattle.ucl_runs.proofs.Common.{attempt_by, begins_take, entries_by, entry_of, eq-eqb, if◌then◌else◌, inl, inr, length}
-use Rattle.ucl_runs.proofs.Common.{ne_eqb, number_of_two, same_Some, slice_get, subst, sym, take, ℕ, ◌<◌, ◌==◌, ◌∙◌, ◌≡◌, ◌≢◌, ◌⊎◌}
+use Rattle.ucl_runs.proofs.Common.{All, All-get_or, ComesFirst, Continues, Entry, HasEntered, IsLegal, IsMerge, IsOnDuty, IsPrefix, List}
+use Rattle.ucl_runs.proofs.Common.{NightEvent, None, Option, PassView, Some, TakesPlace, ap, arith, at_below, at_within, attempt_by}
+use Rattle.ucl_runs.proofs.Common.{begins_take, entries_by, entry_of, eq-eqb, if◌then◌else◌, inl, inr, length, ne_eqb, number_of_two}
+use Rattle.ucl_runs.proofs.Common.{same_Some, slice_get, subst, sym, take, ℕ, ◌<◌, ◌==◌, ◌∙◌, ◌≡◌, ◌≢◌, ◌⊎◌}
 use Rattle.std.proofs.lemmas.Bool.{cases_order}
 use Rattle.std.proofs.lemmas.Option.{get_or_from_slice_get}
 use Rattle.ucl_board.proofs.HistoryLaws.{legal_take}

@@ -1,9 +1,9 @@
 -- All merges of the rows of a script have one board, where each match has one reporter.
 use Rattle.ucl_runs.proofs.Common.{Bool, EachMatchHasOneReporter, Entry, EventCall, IsEnteredAt, IsMerge, IsRefusedAt, List, MatchEntry}
 use Rattle.ucl_runs.proofs.Common.{NightEvent, Reading, Some, accepted_of, after_attempt, ap, arith, at_below, attempt_by, cases_eq}
-use Rattle.ucl_runs.proofs.Common.{cases_lt, cond, entries_of, entry_of, false, false≢true, inl, inr, is_ok, length, map}
-use Rattle.ucl_runs.proofs.Common.{match_numbers, refl, reply_of, same_Some, sequential_reply, slice_get, snapshot_at, suc, sym}
-use Rattle.ucl_runs.proofs.Common.{take, take-length, true, word_of, zero, ℕ, ◌+◌, ◌-◌, ◌<◌, ◌∙◌, ◌≡◌, ◌≢◌, ◌≤◌}
+use Rattle.ucl_runs.proofs.Common.{cases_lt, cond, entries_of, entry_of, false, false≢true, inl, inr, is_ok, length, map, match_numbers}
+use Rattle.ucl_runs.proofs.Common.{refl, reply_of, same_Some, sequential_reply, slice_get, snapshot_at, suc, sym, take, take-length, true}
+use Rattle.ucl_runs.proofs.Common.{word_of, zero, ℕ, ◌+◌, ◌-◌, ◌<◌, ◌∙◌, ◌≡◌, ◌≢◌, ◌≤◌}
 use Rattle.std.proofs.Common.{add-zero}
 use Rattle.std.proofs.lemmas.List.{map_push}
 use Rattle.std.proofs.lemmas.List.Sums.{fold_push}

@@ -1,10 +1,9 @@
 -- What a night, and a line, does with its streams, from what its calls answer.
-use Rattle.ucl_runs.proofs.Common.{Appends, Bool, EachMatchHasOneReporter, Entry, Err, HasShown, IfErr, IfSome, IsMerge, IsOnDuty}
-use Rattle.ucl_runs.proofs.Common.{IsPrefix, IsStopped, List, MeansNight, NamedClub, None, Ok, OnOk, Option}
-use Rattle.ucl_runs.proofs.Common.{PassView, Profile, Reading, Result, RunFault, Script, Some, StoppedShort, Strangers}
-use Rattle.ucl_runs.proofs.Common.{TextHas, [], ap, arith, begins_length, board_of, false, length, length-append}
-use Rattle.ucl_runs.proofs.Common.{night_text, number_of_two, refl, screen_text, snapshot_at, styled, sym, take_beginning, ℕ, ⊤, ◌∙◌, ◌∷◌}
-use Rattle.ucl_runs.proofs.Common.{◌≡◌, ◌≢◌, ◌≤◌}
+use Rattle.ucl_runs.proofs.Common.{Appends, Bool, EachMatchHasOneReporter, Entry, Err, HasShown, IfErr, IfSome, IsMerge, IsOnDuty, IsPrefix}
+use Rattle.ucl_runs.proofs.Common.{IsStopped, List, MeansNight, NamedClub, None, Ok, OnOk, Option, PassView, Profile, Reading, Result}
+use Rattle.ucl_runs.proofs.Common.{RunFault, Script, Some, StoppedShort, Strangers, TextHas, [], ap, arith, begins_length, board_of, false}
+use Rattle.ucl_runs.proofs.Common.{length, length-append, night_text, number_of_two, refl, screen_text, snapshot_at, styled, sym}
+use Rattle.ucl_runs.proofs.Common.{take_beginning, ℕ, ⊤, ◌∙◌, ◌∷◌, ◌≡◌, ◌≢◌, ◌≤◌}
 use Rattle.std.proofs.Common.{All}
 use Rattle.std.proofs.lemmas.List.Elements.{All-pop}
 use Rattle.std.specs.Prelude.{take}

@@ -1,7 +1,6 @@
 -- An output that failed in one of its parts.
-use Rattle.ucl_runs.proofs.Common.{Appends, Bool, IsStopped, List, Option, RunFault}
-use Rattle.ucl_runs.proofs.Common.{[], ap, arith, length, length-append, min, subst, suc, sym, take, take-append-le, ℕ}
-use Rattle.ucl_runs.proofs.Common.{◌++◌, ◌+◌, ◌-◌, ◌^◌, ◌∙◌, ◌∷◌, ◌≡◌}
+use Rattle.ucl_runs.proofs.Common.{Appends, Bool, IsStopped, List, Option, RunFault, [], ap, arith, length, length-append, min, subst, suc}
+use Rattle.ucl_runs.proofs.Common.{sym, take, take-append-le, ℕ, ◌++◌, ◌+◌, ◌-◌, ◌^◌, ◌∙◌, ◌∷◌, ◌≡◌}
 use Rattle.ucl_io.proofs.MovedBytes.{appends-then}
 use Rattle.ucl_runs.specs.declared.fault.RunFault.TheVariants.{WriteFailed}
 

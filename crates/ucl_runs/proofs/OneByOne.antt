@@ -1,9 +1,8 @@
 -- Lines that are answered one after the other.
-use Rattle.ucl_runs.proofs.Common.{Evening, HasNoAnswer, HasNoEnd, List, LiveArgs, LiveFault, Open, Refused, Restoring}
-use Rattle.ucl_runs.proofs.Common.{Some, Stage, [], after_bytes, answer_said, answers_to, ap, append-nil, append_assoc, arith, begun_append}
-use Rattle.ucl_runs.proofs.Common.{begun_ended, begun_line, ended_append, ended_lines, if◌then◌else◌, last_lines, lines_of, live_text, min}
-use Rattle.ucl_runs.proofs.Common.{missing, missing_after, missing_at, next, refl, said_on, shown_text, sym, ℕ, ◌++◌, ◌+◌, ◌-◌, ◌^◌, ◌∙◌}
-use Rattle.ucl_runs.proofs.Common.{◌∷◌, ◌≡◌}
+use Rattle.ucl_runs.proofs.Common.{Evening, HasNoAnswer, HasNoEnd, List, LiveArgs, LiveFault, Open, Refused, Restoring, Some, Stage, []}
+use Rattle.ucl_runs.proofs.Common.{after_bytes, answer_said, answers_to, ap, append-nil, append_assoc, arith, begun_append, begun_ended}
+use Rattle.ucl_runs.proofs.Common.{begun_line, ended_append, ended_lines, if◌then◌else◌, last_lines, lines_of, live_text, min, missing}
+use Rattle.ucl_runs.proofs.Common.{missing_after, missing_at, next, refl, said_on, shown_text, sym, ℕ, ◌++◌, ◌+◌, ◌-◌, ◌^◌, ◌∙◌, ◌∷◌, ◌≡◌}
 use Rattle.std.specs.Prelude.{None}
 use Rattle.ucl_runs.specs.declared.live_fault.BeginningFault.TheVariants.{BadRow}
 use Rattle.ucl_runs.specs.Holding.{end_of}

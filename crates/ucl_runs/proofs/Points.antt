@@ -1,8 +1,8 @@
 -- The points of attempts in a history and in one that goes on from it.
-use Rattle.ucl_runs.proofs.Common.{Attempt, Bool, ComesFirst, Entry, EventCall, IsEnteredAt, IsPrefix, List, Some, TakesPlace}
-use Rattle.ucl_runs.proofs.Common.{[], ap, arith, at_below, begins_length, cases_lt, cond, entries_by, eq-eqb, false, false≢true}
-use Rattle.ucl_runs.proofs.Common.{inl, inr, is_ok, length, length-append, none-some, refl, same_Some, sequential_reply, slice_get}
-use Rattle.ucl_runs.proofs.Common.{suc, sym, take, take_beginning, true, zero, ℕ, ◌++◌, ◌<◌, ◌==◌, ◌∙◌, ◌∷◌, ◌≡◌, ◌≢◌, ◌≤◌}
+use Rattle.ucl_runs.proofs.Common.{Attempt, Bool, ComesFirst, Entry, EventCall, IsEnteredAt, IsPrefix, List, Some, TakesPlace, [], ap}
+use Rattle.ucl_runs.proofs.Common.{arith, at_below, begins_length, cases_lt, cond, entries_by, eq-eqb, false, false≢true, inl, inr, is_ok}
+use Rattle.ucl_runs.proofs.Common.{length, length-append, none-some, refl, same_Some, sequential_reply, slice_get, suc, sym, take}
+use Rattle.ucl_runs.proofs.Common.{take_beginning, true, zero, ℕ, ◌++◌, ◌<◌, ◌==◌, ◌∙◌, ◌∷◌, ◌≡◌, ◌≢◌, ◌≤◌}
 use Rattle.std.proofs.lemmas.List.{nil_from_length}
 use Rattle.ucl_board.proofs.Beginnings.{at_beginning}
 use Rattle.ucl_live_board.proofs.Lists.{by_more}

@@ -2,8 +2,8 @@
 use Rattle.ucl_runs.proofs.Common.{All, All-append, All-cons, All-nil, Bool, Data, IsUtf8-from_ascii, List, Some, [], and_parts, ap}
 use Rattle.ucl_runs.proofs.Common.{append-nil, arith, array, cases_eq, compact_text, decimal, false, inl, inr, is_printed, length}
 use Rattle.ucl_runs.proofs.Common.{length-append, length-decimal-le, list_all, member, moment_on, nat_le, nat_tests, negsuc, no_members}
-use Rattle.ucl_runs.proofs.Common.{null, number_text, object, option_map, pos, quoted, refl, string, suc, sym, true, unsigned, ℕ, ⊤}
-use Rattle.ucl_runs.proofs.Common.{◌&&◌, ◌*◌, ◌++◌, ◌+◌, ◌<◌, ◌^◌, ◌∙◌, ◌∷◌, ◌≡◌, ◌≤◌}
+use Rattle.ucl_runs.proofs.Common.{null, number_text, object, option_map, pos, quoted, refl, string, suc, sym, true, unsigned, ℕ, ⊤, ◌&&◌}
+use Rattle.ucl_runs.proofs.Common.{◌*◌, ◌++◌, ◌+◌, ◌<◌, ◌^◌, ◌∙◌, ◌∷◌, ◌≡◌, ◌≤◌}
 use Rattle.std.proofs.lemmas.Fmt.{IsAscii-decimal}
 use Rattle.std.proofs.lemmas.Str.Ascii.{All-from_ascii, IsAscii-from_all}
 use Rattle.json.specs.Lex.{tokens}

@@ -1,4 +1,7 @@
 -- Accepted attempts that are made again, at any places and any number of times.
+use Rattle.std.proofs.Common.{length}
+use Rattle.std.proofs.Math.Seq.{take-append_seam}
+use Rattle.std.proofs.lemmas.List.Elements.{All-take}
 use Rattle.ucl_runs.proofs.Common.{All-cons, All-head, All-nil, All-push, All-tail, Attempt, Entry, IsAttempt, IsLegal, List, []}
 use Rattle.ucl_runs.proofs.Common.{after_attempt, ap, attempt_board, board_after, fold, inl, inr, refl, subst, sym, ℕ, ◌++◌, ◌∙◌, ◌∷◌, ◌≡◌}
 use Rattle.std.specs.List.{All}
@@ -11,8 +14,7 @@ use Rattle.ucl_runs.specs.Repeats.{HasRepeats, LeaveTheSame, RepeatedRowsChangeN
 -- the attempts of a part are attempts
 
 front-all : (xs ys : List Attempt) → All IsAttempt (xs ++ ys) → All IsAttempt xs
-front-all [] ys all = All-nil IsAttempt
-front-all (x ∷ xs) ys all = All-cons IsAttempt x xs (All-head IsAttempt x (xs ++ ys) all) (front-all xs ys (All-tail IsAttempt x (xs ++ ys) all))
+front-all xs ys all = rw take-append_seam at (All-take IsAttempt (length xs) (xs ++ ys) all)
 
 back-all : (xs ys : List Attempt) → All IsAttempt (xs ++ ys) → All IsAttempt ys
 back-all [] ys all = all

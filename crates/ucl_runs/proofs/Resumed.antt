@@ -1,15 +1,12 @@
 -- An evening that reads the rows by which it goes on from a moment.
-use Rattle.ucl_runs.proofs.Common.{and_parts}
 use Rattle.ucl_runs.proofs.Common.{All, All-head, All-tail, AreWords, AwayInTie, Beginning, Bool, Evening, FourFields, IsMoment, IsRoster}
-use Rattle.ucl_runs.proofs.Common.{List, LiveArgs, Moment, NamedClub, Naming, None, Open, Option, Profile, Restoring, Row, Some}
-use Rattle.ucl_runs.proofs.Common.{Stage, Title, Uefa, [], after_bytes, after_club, answer_at}
-use Rattle.ucl_runs.proofs.Common.{answer_said, answers_to, ap, append-nil, append_assoc, arith, asked_group, asked_title}
-use Rattle.ucl_runs.proofs.Common.{bad_slot, begun_append, begun_ended, begun_line, cases_Bool, club_of, club_row, codes, ended_append}
-use Rattle.ucl_runs.proofs.Common.{ended_line, ended_lines, eqb-true, false, group_row, inl, inr, is_as_asked, is_plain_title}
-use Rattle.ucl_runs.proofs.Common.{is_same_order, length, length-append, lines_of, live_text, ne_eqb, next, opened}
-use Rattle.ucl_runs.proofs.Common.{opened_at, refl, request_of, said_by_text, said_on, shown_text, start_of, sym, take_all, title_by}
-use Rattle.ucl_runs.proofs.Common.{true, with_words, word_line, ℕ, ◌&&◌, ◌++◌, ◌+◌, ◌<◌, ◌==◌, ◌^◌}
-use Rattle.ucl_runs.proofs.Common.{◌||◌, ◌∙◌, ◌∷◌, ◌≡◌}
+use Rattle.ucl_runs.proofs.Common.{List, LiveArgs, Moment, NamedClub, Naming, None, Open, Option, Profile, Restoring, Row, Some, Stage}
+use Rattle.ucl_runs.proofs.Common.{Title, Uefa, [], after_bytes, after_club, and_parts, answer_at, answer_said, answers_to, ap, append-nil}
+use Rattle.ucl_runs.proofs.Common.{append_assoc, arith, asked_group, asked_title, bad_slot, begun_append, begun_ended, begun_line}
+use Rattle.ucl_runs.proofs.Common.{cases_Bool, club_of, club_row, codes, ended_append, ended_line, ended_lines, eqb-true, false, group_row}
+use Rattle.ucl_runs.proofs.Common.{inl, inr, is_as_asked, is_plain_title, is_same_order, length, length-append, lines_of, live_text, ne_eqb}
+use Rattle.ucl_runs.proofs.Common.{next, opened, opened_at, refl, request_of, said_by_text, said_on, shown_text, start_of, sym, take_all}
+use Rattle.ucl_runs.proofs.Common.{title_by, true, with_words, word_line, ℕ, ◌&&◌, ◌++◌, ◌+◌, ◌<◌, ◌==◌, ◌^◌, ◌||◌, ◌∙◌, ◌∷◌, ◌≡◌}
 use Rattle.ucl_runs.specs.Feed.{word_lines}
 use Rattle.ucl_runs.specs.Titles.{asked_order, is_asked_group, is_asked_order}
 use Rattle.ucl_runs.specs.Stages.{with_clubs}
@@ -38,7 +35,8 @@ row-passes : {e : Evening} {text : List ℕ} {f : FourFields} → SaysRow text f
     → Passes e text (next e (Row f))
 row-passes {e} {text} {f} says none =
     let line : ended_lines 258 [] text ≡ says.front ∷ [] =
-    rw says.line (ended_line 258 [] says.front says.clean (omega arith) ∙ ap (λ (l : List ℕ). l ∷ []) (take_all 258 says.front (omega (arith, says.short)))) in
+    rw says.line (ended_line 258 [] says.front says.clean (omega arith) ∙ ap (λ (l : List ℕ). l ∷ [])
+    (take_all 258 says.front (omega (arith, says.short)))) in
     let row : said_on e.row says.front ≡ Row f = ap (said_by_text e.row) (sym says.line) ∙ says.said e.row in record {
       whole = rw says.line (begun_ended 258 [] says.front);
       silent = rw (line, answers-last, row) (none (shown_text says.front));
@@ -141,7 +139,8 @@ words-pass options title clubs word (other ∷ more) done row index here twelve 
     let says = word_row_says index word (omega arith) (All-head (λ w. w < 2 ^ 64) word (other ∷ more) bits) in
     let done_2 = done ++ word ∷ [] in
     let long = length-append done (word ∷ []) in
-    let one = rw (too-few clubs done_2 (omega arith)) at (word-passes {options = options} {title = title} {row = row} {clubs = clubs} {words = done} here says) in
+    let one = rw (too-few clubs done_2 (omega arith)) at (word-passes {options = options} {title = title} {row = row} {clubs = clubs}
+    {words = done} here says) in
     let rest = words-pass options title clubs other more done_2 (row + 1) (index + 1) (omega arith) (omega arith)
     (All-tail (λ w. w < 2 ^ 64) word (other ∷ more) bits) in
     let end : row + 1 + length (other ∷ more) ≡ row + 1 + 1 + length more = omega arith in

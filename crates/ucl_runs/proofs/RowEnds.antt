@@ -105,13 +105,5 @@ eight_from _ _ _ _ _ _ _ _ _ = None
 pub eight_by : (fs : List (List ℕ)) → eight_of fs
     ≡ eight_from (field_at fs 0) (field_at fs 1) (field_at fs 2) (field_at fs 3) (field_at fs 4) (field_at fs 5) (field_at fs 6) (field_at fs 7) (field_at fs 8)
 unfolding field_at
-eight_by [] = refl
-eight_by (a ∷ []) = refl
-eight_by (a ∷ b ∷ []) = refl
-eight_by (a ∷ b ∷ c ∷ []) = refl
-eight_by (a ∷ b ∷ c ∷ d ∷ []) = refl
-eight_by (a ∷ b ∷ c ∷ d ∷ e ∷ []) = refl
-eight_by (a ∷ b ∷ c ∷ d ∷ e ∷ f ∷ []) = refl
-eight_by (a ∷ b ∷ c ∷ d ∷ e ∷ f ∷ g ∷ []) = refl
-eight_by (a ∷ b ∷ c ∷ d ∷ e ∷ f ∷ g ∷ h ∷ []) = refl
 eight_by (a ∷ b ∷ c ∷ d ∷ e ∷ f ∷ g ∷ h ∷ i ∷ fs) = refl
+eight_by _ = refl

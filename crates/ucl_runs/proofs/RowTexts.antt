@@ -1,12 +1,12 @@
 -- The rows by which an evening goes on, byte by byte.
-use Rattle.ucl_runs.proofs.Common.{and_parts}
 use Rattle.ucl_runs.proofs.Common.{AreJoining, AwayInTie, EndsRow, FourFields, HasNoFeed, IsBehindEnds, IsClub, IsFieldBefore, IsGroup}
-use Rattle.ucl_runs.proofs.Common.{List, NamedClub, Profile, Row, Some, Title, Uefa, [], ap, append_assoc, arith, bytes_eq, cases_Bool}
-use Rattle.ucl_runs.proofs.Common.{club_in, club_of, club_row, codes, decimal, default_config, digit_glyph, eqb-true, false, fits, flat_map}
-use Rattle.ucl_runs.proofs.Common.{get_or, group_row, hex_digits, in_quotes, inl, inr, is_joining, is_name, is_printed, le-leb, leb-true}
-use Rattle.ucl_runs.proofs.Common.{length, length-append, length-decimal-le, list_all, nat_le, nat_lt, nat_tests, ne_eqb, number, of_rows}
-use Rattle.ucl_runs.proofs.Common.{profile_name, profile_named, records, refl, said_by_text, subst, suc, sym, title_by, true, word_line}
-use Rattle.ucl_runs.proofs.Common.{word_of_row, zero, ℕ, ◌%◌, ◌&&◌, ◌*◌, ◌++◌, ◌+◌, ◌-◌, ◌/◌, ◌<◌, ◌==◌, ◌^◌, ◌∙◌, ◌∷◌, ◌≡◌, ◌≤◌}
+use Rattle.ucl_runs.proofs.Common.{List, NamedClub, Profile, Row, Some, Title, Uefa, [], and_parts, ap, append_assoc, arith, bytes_eq}
+use Rattle.ucl_runs.proofs.Common.{cases_Bool, club_in, club_of, club_row, codes, decimal, default_config, digit_glyph, eqb-true, false}
+use Rattle.ucl_runs.proofs.Common.{fits, flat_map, get_or, group_row, hex_digits, in_quotes, inl, inr, is_joining, is_name, is_printed}
+use Rattle.ucl_runs.proofs.Common.{le-leb, leb-true, length, length-append, length-decimal-le, list_all, nat_le, nat_lt, nat_tests, ne_eqb}
+use Rattle.ucl_runs.proofs.Common.{number, of_rows, profile_name, profile_named, records, refl, said_by_text, subst, suc, sym, title_by}
+use Rattle.ucl_runs.proofs.Common.{true, word_line, word_of_row, zero, ℕ, ◌%◌, ◌&&◌, ◌*◌, ◌++◌, ◌+◌, ◌-◌, ◌/◌, ◌<◌, ◌==◌, ◌^◌, ◌∙◌, ◌∷◌}
+use Rattle.ucl_runs.proofs.Common.{◌≡◌, ◌≤◌}
 use Rattle.std.specs.Prelude.{not}
 use Rattle.std.proofs.lemmas.Fmt.{decimal_by_steps, decimal_digit, decimal_nonempty}
 use Rattle.std.proofs.lemmas.Slice.Eq.{bytes_eq-Decides}

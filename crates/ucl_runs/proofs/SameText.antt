@@ -1,17 +1,14 @@
 -- An evening in JSON says what it says as text.
 use Rattle.ucl_runs.proofs.GoodStages.{IsGood, good-next, good-opened, of-request}
 use Rattle.ucl_runs.proofs.Common.{Accepted, All-append, All-cons, All-head, All-nil, AreWords, Bad, Beginning, Bool, Data, Err, Evening}
-use Rattle.ucl_runs.proofs.Common.{Event, IsAttempt, Json, List, LiveArgs, Matches, NamedClub, NightEvent, None, Nothing, Ok, Open}
-use Rattle.ucl_runs.proofs.Common.{Option, Other, RaisesVersion, Refusal, Request, Result, Row, Said}
-use Rattle.ucl_runs.proofs.Common.{Screen, Some, Stage, Text, Title, Words, [], after_row, after_title}
-use Rattle.ucl_runs.proofs.Common.{answer_at, answer_of, answer_said, ap, append-nil, append_assoc, attempt_of, bad_line}
-use Rattle.ucl_runs.proofs.Common.{bad_row_value, edition_screen_value, false, field_name}
-use Rattle.ucl_runs.proofs.Common.{game_at, if◌then◌else◌, is_ok, json_line}
-use Rattle.ucl_runs.proofs.Common.{line_of_reply, lines_of, matches_value, next, next_board, next_stage, next_title, no_refusal}
-use Rattle.ucl_runs.proofs.Common.{one_line, opened, refl, refusal_of, reply_answer, reply_of, reply_value, request_of}
-use Rattle.ucl_runs.proofs.Common.{said_on, screen_after, screen_answer, screen_text, shown_text, start_of, sym, title_said, true}
-use Rattle.ucl_runs.proofs.Common.{version_of, word_lines, words_value, ℕ, ◌++◌, ◌+◌, ◌>>=◌}
-use Rattle.ucl_runs.proofs.Common.{◌∙◌, ◌∷◌, ◌≡◌}
+use Rattle.ucl_runs.proofs.Common.{Event, IsAttempt, Json, List, LiveArgs, Matches, NamedClub, NightEvent, None, Nothing, Ok, Open, Option}
+use Rattle.ucl_runs.proofs.Common.{Other, RaisesVersion, Refusal, Request, Result, Row, Said, Screen, Some, Stage, Text, Title, Words, []}
+use Rattle.ucl_runs.proofs.Common.{after_row, after_title, answer_at, answer_of, answer_said, ap, append-nil, append_assoc, attempt_of}
+use Rattle.ucl_runs.proofs.Common.{bad_line, bad_row_value, edition_screen_value, false, field_name, game_at, if◌then◌else◌, is_ok}
+use Rattle.ucl_runs.proofs.Common.{json_line, line_of_reply, lines_of, matches_value, next, next_board, next_stage, next_title, no_refusal}
+use Rattle.ucl_runs.proofs.Common.{one_line, opened, refl, refusal_of, reply_answer, reply_of, reply_value, request_of, said_on}
+use Rattle.ucl_runs.proofs.Common.{screen_after, screen_answer, screen_text, shown_text, start_of, sym, title_said, true, version_of}
+use Rattle.ucl_runs.proofs.Common.{word_lines, words_value, ℕ, ◌++◌, ◌+◌, ◌>>=◌, ◌∙◌, ◌∷◌, ◌≡◌}
 use Rattle.std.proofs.lemmas.Grind.{flat_map-append}
 use Rattle.ucl_screen.specs.Matches.{matches_text}
 use Rattle.ucl_json.specs.Lines.{IsOneLine}
@@ -142,7 +139,8 @@ stage-text options row s (Row f) = rw (opened-text options s (Row f)) (row-text 
 
 stage-lines : (options : LiveArgs) (title : Title) (row : ℕ) (s : Stage) (r : Said) (shown : List ℕ) → options.format ≡ Json → IsGood s
     → AreLinesSaying (answer_at (as_text options) title row s (request_of r) shown) (answer_at options title row s (request_of r) shown)
-stage-lines options title row (Open clubs board) r shown h g = request-lines options title row clubs board (request_of r) shown h g.1 (of-request r)
+stage-lines options title row (Open clubs board) r shown h g =
+    request-lines options title row clubs board (request_of r) shown h g.1 (of-request r)
 stage-lines _ _ _ _ _ _ _ _ = no-lines
 
 abbrev text_of : Evening → Evening
@@ -154,14 +152,16 @@ with-stage e r s = record { options = as_text e.options; title = next_title e.ti
 text-next : (e : Evening) (r : Said) → next (text_of e) r ≡ text_of (next e r)
 text-next e r = cc (stage-text e.options e.row e.stage r)
 
-said-lines : (e : Evening) (r : Said) (shown : List ℕ) → e.options.format ≡ Json → IsGood e.stage → AreLinesSaying (answer_said (text_of e) r shown) (answer_said e r shown)
+said-lines : (e : Evening) (r : Said) (shown : List ℕ) → e.options.format ≡ Json → IsGood e.stage
+    → AreLinesSaying (answer_said (text_of e) r shown) (answer_said e r shown)
 said-lines e Nothing shown h g = no-lines
 said-lines e (Other eight) shown h g =
     let r = Other eight in rw (opened-text e.options e.stage r) (stage-lines e.options e.title e.row (opened e.options e.stage r) r shown h (good-opened e.options e.stage r g))
 said-lines e (Row f) shown h g =
     rw (opened-text e.options e.stage (Row f)) (stage-lines e.options e.title e.row (opened e.options e.stage (Row f)) (Row f) shown h (good-opened e.options e.stage (Row f) g))
 
-all-lines : (e : Evening) (lines : List (List ℕ)) → e.options.format ≡ Json → IsGood e.stage → AreLinesSaying (answers (text_of e) lines) (answers e lines)
+all-lines : (e : Evening) (lines : List (List ℕ)) → e.options.format ≡ Json → IsGood e.stage
+    → AreLinesSaying (answers (text_of e) lines) (answers e lines)
 unfolding answers
 all-lines e [] h g = no-lines
 all-lines e (line ∷ lines) h g =

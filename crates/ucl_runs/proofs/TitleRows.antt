@@ -1,6 +1,6 @@
 -- Titles, which no row but the first changes.
-use Rattle.ucl_runs.proofs.Common.{LiveArgs, Restoring, Said, Stage, Title, [], ap, cases_Bool, inl, inr}
-use Rattle.ucl_runs.proofs.Common.{is_word_row, next_title, opened, refl, ◌||◌, ◌∙◌, ◌≡◌}
+use Rattle.ucl_runs.proofs.Common.{LiveArgs, Restoring, Said, Stage, Title, [], ap, cases_Bool, inl, inr, is_word_row, next_title, opened}
+use Rattle.ucl_runs.proofs.Common.{refl, ◌||◌, ◌∙◌, ◌≡◌}
 
 -- a row that opens the board says no title
 opened-title : (options : LiveArgs) (title : Title) (s : Stage) (r : Said) → next_title title (opened options s r) r ≡ next_title title s r

@@ -7,8 +7,7 @@ use Rattle.ucl_runs.proofs.Common.{entry_of, false, filter, fold, followed_by, g
 use Rattle.ucl_runs.proofs.Common.{match_numbers, number_of_two, option_map, record_at, record_back, refl, reply_of, row_line}
 use Rattle.ucl_runs.proofs.Common.{sequential_reply, subst, suc, sym, take, true, version_of, word_of, zero, ℕ, ⊎_elim, ◌++◌, ◌+◌, ◌-◌}
 use Rattle.ucl_runs.proofs.Common.{◌==◌, ◌∙◌, ◌∷◌, ◌≡◌, ◌⊎◌}
-use Rattle.std.proofs.Common.{if◌then◌else◌, flat_map}
-use Rattle.std.proofs.Common.{count_by, All}
+use Rattle.std.proofs.Common.{if◌then◌else◌, flat_map, count_by, All}
 use Rattle.std.specs.Prelude.{sum_by, slice_get}
 use Rattle.std.proofs.lemmas.List.Sums.{sum_by-cons}
 use mathlib.Core.Path.{fun_ext}
@@ -61,19 +60,12 @@ counted_by n c = record {
 
 refusal_without : (m : MatchRecord) (expected : ℕ) (kind : Kind) → refusal_of (without m) expected kind ≡ refusal_of m expected kind
 unfolding refusal_of
-refusal_without m expected KickOff = refl
-refusal_without m expected FullTime = refl
-refusal_without m expected Reopen = refl
 refusal_without m expected (Goal Home) = refl
-refusal_without m expected (Goal Away) = refl
 refusal_without m expected (Disallow Home) = refl
-refusal_without m expected (Disallow Away) = refl
 refusal_without m expected (Yellow Home) = refl
-refusal_without m expected (Yellow Away) = refl
 refusal_without m expected (SecondYellow Home) = refl
-refusal_without m expected (SecondYellow Away) = refl
 refusal_without m expected (Red Home) = refl
-refusal_without m expected (Red Away) = refl
+refusal_without m expected _ = refl
 
 reply_without : (m : MatchRecord) (call : EventCall) → is_ok (reply_of (without m) call) ≡ is_ok (reply_of m call)
 reply_without m call = ap (λ (o : Option Refusal). is_ok (answer m.number o)) (refusal_without m call.expected call.kind)
