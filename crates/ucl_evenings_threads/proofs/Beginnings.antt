@@ -1,26 +1,16 @@
 -- The events by which a board comes to given words.
-use Rattle.std.proofs.Common.{◌≡◌, ◌∙◌, ℕ, ◌+◌, ◌<◌, ◌≤◌, Bool, true, false, refl, sym, ap, subst, arith, List, [], ◌∷◌, ◌++◌, All, length, length-append}
-use Rattle.std.proofs.lemmas.List.Elements.{All-append, All-cons, All-nil}
-use Rattle.std.specs.Prelude.{Result, Ok, Err, IfOk, if◌then◌else◌}
-use Rattle.std.specs.Result.{is_ok}
+use Rattle.ucl_evenings_threads.proofs.Common.{All, All-nil, All-push, AreWords, BadRow, Bool, Entry, Err, EventCall, GainsEntry, IfOk}
+use Rattle.ucl_evenings_threads.proofs.Common.{Input, IsLegal, IsReporter, List, MayFollow, NightEvent, Ok, Result, RunFault, []}
+use Rattle.ucl_evenings_threads.proofs.Common.{after_attempt, ap, arith, attempted, board_after, board_of, entry_of, false, followed_by}
+use Rattle.ucl_evenings_threads.proofs.Common.{game_at, greatest_version, if◌then◌else◌, is_ok, length, length-append, may_none, refl}
+use Rattle.ucl_evenings_threads.proofs.Common.{reply_of, sequential_reply, subst, sym, true, ℕ, ◌++◌, ◌+◌, ◌<◌, ◌∙◌, ◌∷◌, ◌≡◌, ◌≤◌}
 use Rattle.ucl_word.specs.declared.event.Accepted.{Accepted}
-use Rattle.ucl_word.specs.declared.event.EventCall.{EventCall}
 use Rattle.ucl_word.specs.declared.refusal.Refusal.{Refusal}
-use Rattle.ucl_word.specs.Record.{IsReporter}
-use Rattle.ucl_word.specs.Rules.{reply_of}
-use Rattle.ucl_word.proofs.Sequences.{may_none}
-use Rattle.ucl_board.specs.declared.entry.Entry.{Entry}
-use Rattle.ucl_board.specs.Words.{AreWords, game_at, greatest_version}
-use Rattle.ucl_board.specs.History.{GainsEntry, IsLegal, MayFollow, after_attempt, attempted, board_after, board_of, entry_of, followed_by, sequential_reply}
 use Rattle.ucl_board.specs.Ways.{AreLed, IsReachedBoard, LeadsOn, words_under}
 use Rattle.ucl_board.proofs.Histories.{board_words}
 use Rattle.ucl_board.proofs.HistoryLaws.{versions}
 use Rattle.ucl_board.proofs.WayBoards.{boards_led}
 use Rattle.ucl_board.proofs.WaysUnder.{own_under}
-use Rattle.ucl_screen.specs.declared.fault.InputFault.TheVariants.{BadRow}
-use Rattle.ucl_screen.specs.declared.night.NightEvent.{NightEvent}
-use Rattle.ucl_runs.specs.declared.fault.RunFault.{RunFault}
-use Rattle.ucl_runs.specs.declared.fault.RunFault.TheVariants.{Input}
 use Rattle.ucl_screen.specs.Events.{attempt_of}
 use Rattle.ucl_evenings_threads.specs.Earlier.{entered_from}
 
@@ -35,20 +25,19 @@ accepted_first true rest fault history is = (refl, is)
 accepted_first false rest fault history is = absurd cc
 
 -- one event more, which is accepted after the others
-pub entered_more : (row : ℕ) (start : List Entry) (events : List NightEvent) (e : NightEvent) (history : List Entry) → entered_from row start events ≡ Ok history
-    → is_ok (sequential_reply history e.call) ≡ true → entered_from row start (events ++ e ∷ []) ≡ Ok (followed_by history (entry_of e.reporter e.call))
+pub entered_more : (row : ℕ) (start : List Entry) (events : List NightEvent) (e : NightEvent) (history : List Entry)
+    → entered_from row start events ≡ Ok history → is_ok (sequential_reply history e.call) ≡ true
+    → entered_from row start (events ++ e ∷ []) ≡ Ok (followed_by history (entry_of e.reporter e.call))
 unfolding entered_from
 entered_more row start [] e history so_far good =
     let same : start ≡ history = cc in
     let taken : is_ok (sequential_reply start e.call) ≡ true = ap (λ (h : List Entry). is_ok (sequential_reply h e.call)) same ∙ good in
-    let longer : after_attempt start (attempt_of e) ≡ followed_by start (entry_of e.reporter e.call) =
-    ap (λ (b : Bool). if b then followed_by start (entry_of e.reporter e.call) else start) taken in
-    ap (λ (b : Bool). if b then Ok (after_attempt start (attempt_of e)) else Err (Input (BadRow row))) taken
-    ∙ ap Ok (longer ∙ ap (λ (h : List Entry). followed_by h (entry_of e.reporter e.call)) same)
+    rw (taken, same) refl
 entered_more row start (x ∷ events) e history so_far good =
-    let first = accepted_first (is_ok (sequential_reply start x.call)) (entered_from (row + 1) (after_attempt start (attempt_of x)) events) (Input (BadRow row)) history so_far in
-    ap (λ (b : Bool). if b then entered_from (row + 1) (after_attempt start (attempt_of x)) (events ++ e ∷ []) else Err (Input (BadRow row))) first.0
-    ∙ entered_more (row + 1) (after_attempt start (attempt_of x)) events e history first.1 good
+    let after = after_attempt start (attempt_of x) in
+    let first = accepted_first (is_ok (sequential_reply start x.call)) (entered_from (row + 1) after events) (Input (BadRow row)) history so_far in
+    ap (λ b. if b then entered_from (row + 1) after (events ++ e ∷ []) else Err (Input (BadRow row))) first.0
+    ∙ entered_more (row + 1) after events e history first.1 good
 
 -- a board that is reached has the words of valid records
 pub reached_words : (words : List ℕ) → IsReachedBoard words → AreWords words
@@ -81,34 +70,30 @@ begun_way reporter now target fresh reached = record {
 }
 
 -- the next event, which is accepted, and the board after it
-pub next_on_way : (reporter by : ℕ) (call : EventCall) (words now after target : List ℕ) (events : List NightEvent) (reply : Result Accepted Refusal) → IsReporter reporter
-    → IsReachedBoard words → target ≡ words_under reporter words → IsUnderWay reporter now target events → LeadsOn now target (attempted by call)
-    → reply ≡ reply_of (game_at now call.game) call → ((history : List Entry) → IsLegal history → board_of history ≡ now → reply ≡ sequential_reply history call)
+pub next_on_way : (reporter by : ℕ) (call : EventCall) (words now after target : List ℕ) (events : List NightEvent)
+    (reply : Result Accepted Refusal) → IsReporter reporter → IsReachedBoard words → target ≡ words_under reporter words
+    → IsUnderWay reporter now target events → LeadsOn now target (attempted by call) → reply ≡ reply_of (game_at now call.game) call
+    → ((history : List Entry) → IsLegal history → board_of history ≡ now → reply ≡ sequential_reply history call)
     → IfOk reply (λ accepted. GainsEntry now (entry_of by call) after) → after ≡ board_after now (attempted by call)
     → IsUnderWay reporter after target (events ++ record { reporter = by; call = call } ∷ [])
 next_on_way reporter by call words now after target events reply is reached target_is way leads reply_is sequential gains after_is =
     let good : is_ok reply ≡ true = ap is_ok reply_is ∙ leads.accepted in
     let gained = if_ok (GainsEntry now (entry_of by call) after) reply good gains way.history way.legal way.board_is in
     let e : NightEvent = record { reporter = by; call = call } in
-    let one : length (way.history ++ entry_of by call ∷ []) ≡ length way.history + 1 = length-append way.history (entry_of by call ∷ []) in
-    let more : length (events ++ e ∷ []) ≡ length events + 1 = length-append events (e ∷ []) in
-    let counted = way.counted in
-    let ahead = leads.ahead in
-    let begun : 0 < (game_at target call.game).number = omega arith in
+    let begun : 0 < (game_at target call.game).number = omega (arith, leads.ahead) in
     let own : by ≡ reporter = own_under reporter by words is (reached_words words reached) call.game leads.attempt.1
-    (subst (λ (t : List ℕ). by ≡ (game_at t call.game).reporter) target_is leads.own)
-    (subst (λ (t : List ℕ). 0 < (game_at t call.game).number) target_is begun) in
+        (rw target_is at leads.own) (rw target_is at begun) in
     record {
       history = followed_by way.history (entry_of by call);
       legal = gained.1;
       board_is = sym gained.0;
-      so_far = entered_more 5 [] events e way.history way.so_far (ap is_ok (sym (sequential way.history way.legal way.board_is)) ∙ good);
-      counted = omega arith;
-      led = subst (λ (ws : List ℕ). AreLed ws target) (sym after_is) leads.led;
-      theirs = All-append (λ (event : NightEvent). event.reporter ≡ reporter) events (e ∷ []) way.theirs
-          (All-cons (λ (event : NightEvent). event.reporter ≡ reporter) e [] own (All-nil (λ (event : NightEvent). event.reporter ≡ reporter)));
+      so_far = entered_more 5 [] events e way.history way.so_far (rw (← sequential way.history way.legal way.board_is) good);
+      counted = omega (arith, way.counted, length-append way.history (entry_of by call ∷ []), length-append events (e ∷ []));
+      led = rw after_is leads.led;
+      theirs = All-push (λ (event : NightEvent). event.reporter ≡ reporter) events e way.theirs own;
     }
 
 -- a board has room for the events that lead to it
-pub room_on_way : (reporter : ℕ) (now target : List ℕ) (events : List NightEvent) → IsUnderWay reporter now target events → length events ≤ greatest_version
-room_on_way reporter now target events way = let most = (versions way.history way.legal).1 in let counted = way.counted in omega arith
+pub room_on_way : (reporter : ℕ) (now target : List ℕ) (events : List NightEvent) → IsUnderWay reporter now target events
+    → length events ≤ greatest_version
+room_on_way reporter now target events way = omega (arith, way.counted, (versions way.history way.legal).1)

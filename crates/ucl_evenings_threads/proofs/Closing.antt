@@ -1,20 +1,9 @@
 -- How a screen is closed.
-use Rattle.std.proofs.Common.{◌≡◌, ℕ, ◌+◌, ◌≤◌, List, length, Bool, Option, sym, ap, ◌∙◌, subst, true≢false, arith}
-use Rattle.std.specs.Prelude.{⊤, Result, Ok, Err, is_ok}
-use mathlib.Core.List.{IsPrefix}
-use Rattle.ucl_board.specs.declared.entry.Entry.{Entry}
-use Rattle.ucl_board.proofs.Beginnings.{begins_same}
-use Rattle.ucl_order.specs.Roster.{NamedClub}
-use Rattle.ucl_runs.specs.declared.fault.RunFault.{RunFault}
-use Rattle.ucl_evenings.specs.declared.screen.Screen.{Screen}
-use Rattle.ucl_live_board.specs.Passes.{Continues, PassView}
-use Rattle.ucl_evenings.specs.declared.shape.Shape.{Shape}
-use Rattle.ucl_evenings.specs.Showing.{EndsWithLatest, RiseWithin, ScreensEnd, Screening, ShowsFurther, ShowsSince, StaysScreen, screens_shown, standing}
+use Rattle.ucl_evenings_threads.proofs.Common.{Continues, EndsWithLatest, Entry, Err, HasLookedOn, HasShownAbove, IsPrefix, LastIsAtLeast}
+use Rattle.ucl_evenings_threads.proofs.Common.{List, Looking, NamedClub, Ok, PassView, Result, RunFault, Screen, ScreenEnd, ShowsFurther}
+use Rattle.ucl_evenings_threads.proofs.Common.{SinkServed, StaysScreen, arith, begins_same, length, standing, ℕ, ⊤, ◌∙◌, ◌≡◌, ◌≤◌}
 use Rattle.ucl_io.specs.declared.stream.Sink as sinks
 use Rattle.ucl_live_board.specs.declared.live_board.LiveBoard as boards
-use Rattle.ucl_evenings_threads.specs.declared.workers.ScreenEnd.{ScreenEnd}
-use Rattle.ucl_evenings_threads.specs.declared.workers.Looking.{Looking}
-use Rattle.ucl_evenings_threads.specs.Runs.{LastIsAtLeast, HasLookedOn, HasShownAbove, SinkServed}
 use Rattle.ucl_evenings_threads.proofs.Ended.{failed_end, screens_end, served_then, shown_on}
 
 -- a pass that changed nothing heard something

@@ -1,18 +1,10 @@
 -- Passes whose numbers rise: what they have entered is what there is, where the counts are the same.
-use Rattle.std.proofs.Common.{◌≡◌, ◌≢◌, inl, inr, ◌⊎◌, ℕ, ◌+◌, ◌<◌, ◌≤◌, Bool, true, false, cond, ◌==◌, List, [], ◌∷◌, ◌++◌, length}
-use Rattle.std.proofs.Common.{refl, sym, ap, ◌∙◌, subst, arith, append-nil, length-append, true≢false, suc, eq-eqb, ne_eqb}
-use Rattle.std.specs.Prelude.{All, filter, not}
-use Rattle.std.proofs.lemmas.Bool.{cases_eq}
-use Rattle.std.proofs.lemmas.Bool.Decides.{eqb_tells}
-use Rattle.std.proofs.lemmas.List.{nil_from_length}
-use Rattle.std.proofs.lemmas.List.Elements.{All-cons, All-nil, All-weaker}
-use Rattle.std.proofs.lemmas.List.Filters.{length-filter_both}
-use mathlib.Core.List.{IsPrefix}
-use Rattle.ucl_board.specs.declared.entry.Entry.{Entry}
-use Rattle.ucl_board.proofs.Beginnings.{begins_through}
-use Rattle.ucl_live_board.specs.Passes.{PassView, entries_by}
-use Rattle.ucl_live_board.proofs.Lists.{by_more}
-use Rattle.ucl_evenings_threads.specs.Whole.{AreAllOf, AreTallied, IsOneOf, IsSeenIn, IsTheirs, NumbersRise, accepted_by_all}
+use Rattle.ucl_evenings_threads.proofs.Common.{All, All-cons, All-nil, All-weaker, AreAllOf, AreTallied, Bool, Entry, IsPrefix, IsSeenIn}
+use Rattle.ucl_evenings_threads.proofs.Common.{IsTheirs, List, PassView, [], accepted_by_all, ap, append-nil, arith, begins_through}
+use Rattle.ucl_evenings_threads.proofs.Common.{by_more, cases_eq, cond, entries_by, eq-eqb, false, inl, inr, length, length-append, ne_eqb}
+use Rattle.ucl_evenings_threads.proofs.Common.{nil_from_length, not, refl, suc, sym, true, true≢false, ℕ, ◌++◌, ◌+◌, ◌<◌, ◌∙◌, ◌∷◌, ◌≡◌}
+use Rattle.ucl_evenings_threads.proofs.Common.{◌≢◌, ◌≤◌, ◌⊎◌}
+use Rattle.ucl_evenings_threads.specs.Whole.{IsOneOf, NumbersRise}
 use Rattle.ucl_evenings_threads.specs.declared.tally.Tally.{Tally}
 
 -- how many entries they have in a history

@@ -1,37 +1,22 @@
 -- Where each match has one reporter: an evening's board goes by the rows of its reporters.
-use Rattle.std.proofs.Common.{◌≡◌, inl, inr, ⊎_elim, ◌⊎◌, ℕ, zero, suc, ◌<◌, ◌≤◌, List, [], ◌∷◌, ◌++◌, map, length, slice_get, Some, refl, sym, ap, ◌∙◌, subst, arith}
-use Rattle.std.specs.Prelude.{⊤, All, IfOk, Result, Ok, Err}
-use Rattle.std.specs.List.{AllPairs, AllZip, Any, zip}
+use Rattle.ucl_evenings_threads.proofs.Common.{All, All-cons, All-nil, AllPairs, AllZip, Any, Device, DifferInNumber, Entering, Entry, Err}
+use Rattle.ucl_evenings_threads.proofs.Common.{EventOutcome, HadEntered, HasAnsweredRows, IfOk, IsHandedBack, IsPrefix, List, NamedClub, Ok}
+use Rattle.ucl_evenings_threads.proofs.Common.{PassView, RanOn, Reading, ReplyStyle, ReporterEnd, Result, RowsDecide, RunFault, Screen}
+use Rattle.ucl_evenings_threads.proofs.Common.{Some, WentThrough, [], ap, arith, asks_in, at_below, entries_by, get_or-append-add}
+use Rattle.ucl_evenings_threads.proofs.Common.{get_or_append_left, inl, inr, length, length-append, map, refl, slice_get, subst, suc, sym}
+use Rattle.ucl_evenings_threads.proofs.Common.{take-length, take_whole, views_of, zero, zip, ℕ, ⊎_elim, ⊤, ◌++◌, ◌+◌, ◌<◌, ◌∙◌, ◌∷◌, ◌≡◌}
+use Rattle.ucl_evenings_threads.proofs.Common.{◌≤◌, ◌⊎◌}
 use Rattle.std.proofs.lemmas.Option.{get_or_from_slice_get}
-use Rattle.std.proofs.lemmas.List.Elements.{All-cons, All-get_or, All-head, All-nil, All-tail}
-use Rattle.std.proofs.Math.Seq.{take-length}
-use mathlib.Core.List.{IsPrefix}
-use Rattle.ucl_word.proofs.Sequences.{at_below}
-use Rattle.ucl_board.specs.declared.entry.Entry.{Entry}
-use Rattle.ucl_board.specs.declared.reading.Reading.{Reading}
-use Rattle.ucl_board.proofs.Beginnings.{take_whole}
-use Rattle.ucl_order.specs.Roster.{NamedClub}
-use Rattle.ucl_io.specs.declared.stream.Source as sources
-use Rattle.ucl_io.specs.declared.stream.Sink as sinks
-use Rattle.ucl_live_board.specs.declared.live_board.LiveBoard as boards
-use Rattle.ucl_live_board.specs.Passes.{PassView, entries_by}
-use Rattle.ucl_runs.specs.declared.fault.RunFault.{RunFault}
 use Rattle.ucl_runs.specs.InputLines.{lines_of}
-use Rattle.ucl_io.specs.Calls.{Device}
-use Rattle.ucl_evenings.specs.Answering.{ReplyStyle, asks_in}
-use Rattle.ucl_evenings.specs.Reporting.{EventOutcome, entered_in}
 use Rattle.ucl_evenings.specs.Rows.{RunEnds}
 use Rattle.ucl_evenings_threads.specs.declared.evening.EveningEnd.{EveningEnd}
 use Rattle.ucl_evenings_threads.specs.declared.workers.Reporter.{Reporter}
-use Rattle.ucl_evenings_threads.specs.declared.workers.ReporterEnd.{ReporterEnd}
-use Rattle.ucl_evenings.specs.declared.screen.Screen.{Screen}
-use Rattle.ucl_evenings_threads.specs.Runs.{HasAnsweredRows, IsHandedBack, views_of}
 use Rattle.ucl_evenings_threads.specs.Whole.{IsOneOf, NumbersRise}
 use Rattle.ucl_evenings_threads.specs.Held.{HasHeld, history_of_end}
-use Rattle.ucl_evenings_threads.specs.OneReporter.{AddedBy, RanOn, DifferInNumber, Entering, HadEntered, RowsDecide, WentThrough}
+use Rattle.ucl_io.specs.declared.stream.Source as sources
+use Rattle.ucl_io.specs.declared.stream.Sink as sinks
+use Rattle.ucl_live_board.specs.declared.live_board.LiveBoard as boards
 use Rattle.ucl_evenings_threads.proofs.OneReporter.{own_at, own_from, own_next, rows_decide}
-use Rattle.std.proofs.Common.{◌+◌, length-append}
-use Rattle.std.proofs.lemmas.List.{get_or_append_left, get_or-append-add}
 use Rattle.ucl_evenings_threads.proofs.Zips.{maps_same}
 
 -- ---- numbers

@@ -1,28 +1,17 @@
 -- What reporters and screens hand back.
-use Rattle.std.proofs.Common.{◌≡◌, inl, inr, ℕ, ◌+◌, ◌<◌, ◌≤◌, Bool, List, [], ◌∷◌, ◌++◌, length, Option, refl, sym, ap, ◌∙◌, subst, arith}
-use Rattle.std.specs.Prelude.{⊤, All, Result, Ok, Err, OnOk, IfErr}
-use Rattle.std.proofs.lemmas.List.Elements.{All-push}
-use mathlib.Core.List.{IsPrefix}
-use Rattle.ucl_board.specs.declared.entry.Entry.{Entry}
-use Rattle.ucl_board.proofs.Beginnings.{begins_length, begins_through}
-use Rattle.ucl_order.specs.Roster.{NamedClub}
-use Rattle.ucl_live_board.specs.Passes.{PassView, IsSound, ReportsMore}
-use Rattle.ucl_runs.specs.declared.fault.RunFault.{RunFault}
-use Rattle.ucl_runs.specs.declared.fault.RunFault.TheVariants.{Input, OutOfMemory, WriteFailed, NotOnDuty, NoThread, TooManyReporters, Strangers}
+use Rattle.ucl_evenings_threads.proofs.Common.{All, All-push, AreFew, Bool, Device, Entry, Err, EventOutcome, GoesOnOrStays}
+use Rattle.ucl_evenings_threads.proofs.Common.{HasReportedRows, HasShownOf, IfErr, IsPrefix, IsSeenIn, IsSound, LastIs, LastIsAtLeast, List}
+use Rattle.ucl_evenings_threads.proofs.Common.{NamedClub, Ok, OnOk, Option, OutOfMemory, PassView, ReplyStyle, ReportsMore, Result}
+use Rattle.ucl_evenings_threads.proofs.Common.{RunFault, Screen, ScreenEnd, Screening, ScreensEnd, ShowsSince, SinkServed, SoFar}
+use Rattle.ucl_evenings_threads.proofs.Common.{WriteFailed, [], ap, arith, asks_in, begins_length, begins_through, goes_next, inl, inr}
+use Rattle.ucl_evenings_threads.proofs.Common.{length, refl, reports_in, rise_count, rise_upper, screens_on, screens_shown, subst, sym, ℕ}
+use Rattle.ucl_evenings_threads.proofs.Common.{⊤, ◌++◌, ◌+◌, ◌<◌, ◌∙◌, ◌∷◌, ◌≡◌}
 use Rattle.ucl_evenings.specs.declared.shape.Shape.{Shape}
 use Rattle.ucl_runs.specs.Run.{SinkFails}
-use Rattle.ucl_io.specs.Calls.{Device}
-use Rattle.ucl_evenings.specs.Answering.{ReplyStyle, asks_in}
-use Rattle.ucl_evenings.specs.Reporting.{EventOutcome, HasReportedRows, reports_in}
 use Rattle.ucl_evenings.specs.Rows.{TookRows}
-use Rattle.ucl_evenings.specs.Showing.{RiseWithin, ScreensEnd, Screening, ShowsSince, SoFar, AreFew, GoesOnOrStays, screens_shown}
-use Rattle.ucl_evenings.proofs.ShownScreens.{goes_next, rise_count, rise_lower, rise_upper, screens_on}
+use Rattle.ucl_evenings.specs.Showing.{RiseWithin}
 use Rattle.ucl_io.specs.declared.stream.Sink as sinks
 use Rattle.ucl_live_board.specs.declared.live_board.LiveBoard as boards
-use Rattle.ucl_evenings.specs.declared.screen.Screen.{Screen}
-use Rattle.ucl_evenings_threads.specs.declared.workers.ScreenEnd.{ScreenEnd}
-use Rattle.ucl_evenings_threads.specs.Runs.{LastIsAtLeast, LastIs, HasShownOf, SinkServed}
-use Rattle.ucl_evenings_threads.specs.Whole.{IsSeenIn}
 use Rattle.ucl_evenings_threads.proofs.Counting.{seen_on}
 
 -- a reporter's run, after its pass has told what it has seen

@@ -1,22 +1,14 @@
 -- Events that are entered on a live board one after the other.
-use Rattle.std.proofs.Common.{◌≡◌, ◌≢◌, ◌∙◌, ℕ, zero, suc, ◌+◌, ◌-◌, ◌==◌, ◌<◌, Bool, true, cond, refl, sym, ap, subst, List, [], ◌∷◌, ◌++◌, length, map, drop, take, get_or, set}
-use Rattle.std.proofs.Common.{append-nil, eq-eqb, ne_eqb, arith}
-use Rattle.std.specs.Prelude.{All, filter, slice_index}
-use Rattle.std.specs.Result.{is_ok}
-use Rattle.std.proofs.lemmas.List.{get_or-map, length-map, map-append, take_at, take_more_set}
+use Rattle.ucl_evenings_threads.proofs.Common.{AcceptedReport, All, All-push, All-set, All-weaker, Bool, Entry, HasJustItsOwn, Hearing}
+use Rattle.ucl_evenings_threads.proofs.Common.{IsPrefix, IsSound, List, NightEvent, PassView, WasEntered, [], ap, append-nil, arith}
+use Rattle.ucl_evenings_threads.proofs.Common.{begins_length, begins_more, begins_none, begins_same, begins_through, by_more, cond, drop}
+use Rattle.ucl_evenings_threads.proofs.Common.{entries_by, entries_for, entry_of, eq-eqb, filter, filter-append, followed_by, get_or-map}
+use Rattle.ucl_evenings_threads.proofs.Common.{is_ok, length, map, map-append, ne_eqb, numbers_of, refl, sequential_reply, set, slice_index}
+use Rattle.ucl_evenings_threads.proofs.Common.{subst, suc, sym, take, take-length, take_at, take_more_set, take_whole, true, zero, ℕ, ◌++◌}
+use Rattle.ucl_evenings_threads.proofs.Common.{◌+◌, ◌-◌, ◌==◌, ◌∙◌, ◌∷◌, ◌≡◌, ◌≢◌, ◌≤◌}
+use Rattle.ucl_evenings_threads.specs.Earlier.{HasInOrder, HaveEntered}
 use Rattle.ucl_evenings_threads.proofs.Splits.{map_set_same}
-use Rattle.ucl_evenings_threads.proofs.Zips.{IsAt, view_at}
-use Rattle.std.proofs.Common.{◌≤◌}
-use Rattle.std.proofs.lemmas.List.Elements.{All-get_or, All-head, All-push, All-set, All-tail, All-weaker, filter-append}
-use Rattle.std.proofs.Math.Seq.{take-length}
-use mathlib.Core.List.{IsPrefix}
-use Rattle.ucl_board.specs.declared.entry.Entry.{Entry}
-use Rattle.ucl_board.specs.History.{entry_of, followed_by, sequential_reply}
-use Rattle.ucl_board.proofs.Beginnings.{begins_length, begins_more, begins_none, begins_same, begins_through, take_whole}
-use Rattle.ucl_live_board.specs.Passes.{PassView, IsSound, AcceptedReport, Hearing, entries_by}
-use Rattle.ucl_live_board.proofs.Lists.{by_more}
-use Rattle.ucl_screen.specs.declared.night.NightEvent.{NightEvent}
-use Rattle.ucl_evenings_threads.specs.Earlier.{HaveEntered, HasInOrder, HasJustItsOwn, WasEntered, entries_for, numbers_of}
+use Rattle.ucl_evenings_threads.proofs.Zips.{IsAt}
 
 -- ---- the events of one reporter
 

@@ -1,33 +1,18 @@
 -- How an evening ends.
-use Rattle.std.proofs.Common.{◌≡◌, ℕ, ◌+◌, ◌≤◌, List, [], ◌∷◌, ◌++◌, length, take, sym, ap, ◌∙◌, subst, arith, length-take-le, le_refl}
-use Rattle.std.specs.Prelude.{All}
-use Rattle.std.specs.List.{AllZip}
-use Rattle.std.proofs.lemmas.List.Elements.{All-append}
-use mathlib.Core.List.{IsPrefix}
-use Rattle.ucl_board.specs.declared.entry.Entry.{Entry}
-use Rattle.ucl_board.specs.declared.reading.Reading.{Reading}
-use Rattle.ucl_board.specs.History.{entry_of, sequential_reply}
-use Rattle.ucl_board.proofs.Beginnings.{at_beginning, begins_length, begins_take, begins_through, take_beginning}
-use Rattle.ucl_order.specs.Roster.{NamedClub}
+use Rattle.ucl_evenings_threads.proofs.Common.{All, All-append, AllZip, AreAllOf, Ask, Continues, Enlisted, Entry, EventOutcome}
+use Rattle.ucl_evenings_threads.proofs.Common.{HasAnsweredRows, HasRun, HasShownAbove, HasShownOf, HasTakenRows, IsLooking, IsPrefix}
+use Rattle.ucl_evenings_threads.proofs.Common.{IsSeenIn, IsTheirs, LastIs, LastIsAtLeast, List, Looking, NamedClub, PassView, Reading}
+use Rattle.ucl_evenings_threads.proofs.Common.{ReporterEnd, RiseWithin, Screen, ScreenEnd, SharedReading, WasEnlisted, [], arith, asks_in}
+use Rattle.ucl_evenings_threads.proofs.Common.{begins_length, begins_take, begins_through, le_refl, length, length-take-le, past_point}
+use Rattle.ucl_evenings_threads.proofs.Common.{rise_lower, subst, sym, take, views_of, ℕ, ◌++◌, ◌+◌, ◌∙◌, ◌∷◌, ◌≡◌, ◌≤◌}
+use Rattle.ucl_evenings.specs.Reporting.{GoThrough}
+use Rattle.ucl_evenings.proofs.Events.{at_on}
+use Rattle.ucl_evenings_threads.specs.declared.workers.Reporter.{Reporter}
 use Rattle.ucl_io.specs.declared.stream.Source as sources
 use Rattle.ucl_io.specs.declared.stream.Sink as sinks
 use Rattle.ucl_live_board.specs.declared.live_board.LiveBoard as boards
-use Rattle.ucl_live_board.specs.Passes.{PassView, Continues, SharedReading}
-use Rattle.ucl_evenings.specs.Answering.{asks_in}
-use Rattle.ucl_evenings.specs.Reporting.{Ask, EventOutcome, GoThrough, HasReportedRows, past_point}
-use Rattle.ucl_evenings.proofs.Events.{at_on}
-use Rattle.ucl_evenings.specs.Showing.{RiseWithin, screens_shown}
-use Rattle.ucl_evenings_threads.specs.declared.workers.Reporter.{Reporter}
-use Rattle.ucl_evenings_threads.specs.declared.workers.ReporterEnd.{ReporterEnd}
-use Rattle.ucl_evenings_threads.specs.declared.workers.Enlisted.{Enlisted}
-use Rattle.ucl_evenings.specs.declared.screen.Screen.{Screen}
-use Rattle.ucl_evenings_threads.specs.declared.workers.ScreenEnd.{ScreenEnd}
-use Rattle.ucl_evenings_threads.specs.declared.workers.Looking.{Looking}
-use Rattle.ucl_evenings_threads.specs.Runs.{LastIsAtLeast, LastIs, HasAnsweredRows, HasRun, HasShownAbove, HasShownOf, HasTakenRows, WasEnlisted, IsLooking, views_of}
-use Rattle.ucl_evenings_threads.specs.Whole.{AreAllOf, IsSeenIn, IsTheirs}
 use Rattle.ucl_evenings_threads.proofs.Counting.{enough, seen_on, theirs}
 use Rattle.ucl_evenings_threads.proofs.Ended.{ends_at, screens_end, shown_on}
-use Rattle.ucl_evenings.proofs.ShownScreens.{rise_lower}
 use Rattle.ucl_evenings_threads.proofs.Zips.{zip_all, zip_then}
 
 -- the last reading, after all were heard

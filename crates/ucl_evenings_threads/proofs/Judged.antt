@@ -1,16 +1,8 @@
 -- Events that are accepted one after the other.
-use Rattle.std.proofs.Common.{◌≡◌, ◌∙◌, ℕ, ◌+◌, ◌<◌, ◌≤◌, Bool, true, false, refl, sym, ap, subst, List, ◌∷◌, length, drop, get_or}
-use Rattle.std.specs.Prelude.{Result, Ok, Err, if◌then◌else◌}
-use Rattle.std.specs.Result.{is_ok}
-use Rattle.ucl_board.specs.declared.entry.Entry.{Entry}
-use Rattle.ucl_board.specs.History.{after_attempt, entry_of, followed_by, sequential_reply}
-use Rattle.ucl_screen.specs.declared.fault.InputFault.TheVariants.{BadRow}
-use Rattle.ucl_screen.specs.declared.night.NightEvent.{NightEvent}
-use Rattle.ucl_runs.specs.declared.fault.RunFault.{RunFault}
-use Rattle.ucl_runs.specs.declared.fault.RunFault.TheVariants.{Input}
-use Rattle.ucl_screen.specs.Events.{attempt_of}
-use Rattle.ucl_evenings_threads.specs.Earlier.{IsJudgedAs, entered_from}
-use Rattle.ucl_command.proofs.Lists.{past_end}
+use Rattle.ucl_evenings_threads.proofs.Common.{BadRow, Bool, Entry, Err, Input, IsJudgedAs, List, NightEvent, Ok, Result, RunFault, drop}
+use Rattle.ucl_evenings_threads.proofs.Common.{entry_of, false, followed_by, get_or, is_ok, length, past_end, refl, sequential_reply, sym}
+use Rattle.ucl_evenings_threads.proofs.Common.{true, ℕ, ◌+◌, ◌<◌, ◌∙◌, ◌≡◌, ◌≤◌}
+use Rattle.ucl_evenings_threads.specs.Earlier.{entered_from}
 use Rattle.ucl_evenings_threads.proofs.Zips.{first_there}
 
 pub judge_step : (row i : ℕ) (events : List NightEvent) (e : NightEvent) (history : List Entry) (accepted : Bool)

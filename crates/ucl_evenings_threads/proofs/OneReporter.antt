@@ -1,37 +1,22 @@
 -- Where each match has one reporter: match by match, the history is that of its reporter's rows.
-use Rattle.std.proofs.Common.{◌≡◌, ◌≢◌, inl, inr, ◌⊎◌, ℕ, zero, suc, ◌+◌, ◌-◌, ◌<◌, ◌≤◌, ◌==◌, Bool, true, false, cond, List, [], ◌∷◌, map, length, take, slice_get, Some, Ok, ◌++◌, drop}
-use Rattle.std.proofs.Common.{refl, sym, ap, ◌∙◌, subst, arith, add-zero, length-append, eq-eqb, le_refl}
-use Rattle.std.specs.Prelude.{All}
-use Rattle.std.specs.List.{AllPairs, fold}
-use Rattle.std.specs.Result.{is_ok}
-use Rattle.std.proofs.lemmas.Bool.{cases_eq}
+use Rattle.ucl_evenings_threads.proofs.Common.{AddedBy, All, All-cons, All-nil, AllPairs, Ask, Attempt, Bool, DifferInNumber, Entered}
+use Rattle.ucl_evenings_threads.proofs.Common.{Entering, Entry, EventCall, EventOutcome, List, Look, Looked, Refused, Report}
+use Rattle.ucl_evenings_threads.proofs.Common.{RowsDecideTheBoard, Some, WentThrough, [], after_attempt, ap, arith, at_below, attempted}
+use Rattle.ucl_evenings_threads.proofs.Common.{attempts_of_all, begins_length, begins_take, by_more, by_own, cases_eq, cond, drop}
+use Rattle.ucl_evenings_threads.proofs.Common.{entries_by, entries_of, entry_of, eq-eqb, false, fold, followed_by, if◌then◌else◌, inl, inr}
+use Rattle.ucl_evenings_threads.proofs.Common.{is_ok, le_refl, length, length-append, length-take, map, refl, reply_of, reports_in}
+use Rattle.ucl_evenings_threads.proofs.Common.{sequential_reply, slice_get, subst, suc, sym, take, take-append-drop, take-length}
+use Rattle.ucl_evenings_threads.proofs.Common.{take_whole, true, zero, ℕ, ◌++◌, ◌+◌, ◌-◌, ◌<◌, ◌==◌, ◌∙◌, ◌∷◌, ◌≡◌, ◌≢◌, ◌≤◌}
 use Rattle.std.proofs.lemmas.Option.{none-some, same_Some}
-use Rattle.std.proofs.lemmas.List.Elements.{All-head, All-tail, All-cons, All-nil}
 use Rattle.std.proofs.lemmas.List.Sums.{fold-append}
-use Rattle.std.proofs.Math.Seq.{take-length}
-use Rattle.ucl_word.specs.declared.event.EventCall.{EventCall}
-use Rattle.ucl_word.specs.declared.event.Accepted.{Accepted}
 use Rattle.ucl_word.specs.Layout.{word_of}
-use Rattle.ucl_word.specs.Rules.{reply_of}
 use Rattle.ucl_word.specs.Counts.{MatchEntry, counted_match}
-use Rattle.ucl_word.proofs.EntryCounts.{entered}
-use Rattle.ucl_word.proofs.Sequences.{at_below}
-use Rattle.ucl_board.specs.declared.entry.Entry.{Entry}
 use Rattle.ucl_board.specs.Fixtures.{match_numbers}
-use Rattle.ucl_board.specs.History.{Attempt, board_of, entries_of, followed_by, sequential_reply, entry_of, attempted, after_attempt}
-use Rattle.ucl_board.proofs.Beginnings.{begins_length, take_whole}
-use Rattle.ucl_board.proofs.Histories.{entries_same, entries_else}
-use Rattle.ucl_live_board.specs.Passes.{entries_by}
-use Rattle.ucl_live_board.proofs.Lists.{by_own, by_other}
+use Rattle.ucl_board.specs.History.{board_of}
+use Rattle.ucl_board.proofs.Histories.{entries-append, entries_else}
 use Rattle.ucl_runs.proofs.Elements.{get_some, take_one}
-use Rattle.ucl_evenings.specs.Reporting.{Ask, Entered, EventOutcome, GoThrough, Look, Looked, Refused, Report, accepted_in, entered_in, reports_in}
+use Rattle.ucl_evenings.specs.Reporting.{GoThrough, accepted_in, entered_in}
 use Rattle.ucl_evenings.proofs.Events.{entered_count}
-use Rattle.ucl_evenings_threads.specs.OneReporter.{AddedBy, DifferInNumber, Entering, RowsDecideTheBoard, WentThrough, attempts_of_all}
-use Rattle.std.proofs.lemmas.List.{length-take, take-append-drop}
-use Rattle.std.specs.Prelude.{if◌then◌else◌}
-use Rattle.ucl_board.proofs.Beginnings.{begins_take}
-use Rattle.ucl_board.proofs.Histories.{entries-append}
-use Rattle.ucl_live_board.proofs.Lists.{by_more}
 
 -- ---- attempts, and the entries of one match
 

@@ -1,23 +1,12 @@
 -- Threads that have run, one screen after the other.
-use Rattle.std.proofs.Common.{◌≡◌, List, [], ◌∷◌, ◌++◌, length, le_refl, inl}
-use Rattle.std.specs.Prelude.{All}
-use Rattle.std.specs.List.{AllZip}
-use mathlib.Core.List.{IsPrefix}
-use Rattle.ucl_board.specs.declared.entry.Entry.{Entry}
-use Rattle.ucl_board.proofs.Beginnings.{begins_length, begins_same, begins_through}
-use Rattle.ucl_order.specs.Roster.{NamedClub}
+use Rattle.ucl_evenings_threads.proofs.Common.{Continues, Enlisted, HasShownAbove, HaveReported, HaveRun, KeepsShare, List, Looking}
+use Rattle.ucl_evenings_threads.proofs.Common.{NamedClub, PassView, Screen, ScreenEnd, [], begins_length, begins_same, begins_through, inl}
+use Rattle.ucl_evenings_threads.proofs.Common.{le_refl, length, stays_prefix, ◌++◌, ◌∷◌, ◌≡◌}
+use Rattle.ucl_evenings_threads.specs.declared.screens.Ran.{Ran}
+use Rattle.ucl_evenings_threads.specs.declared.reporters.Reported.{Reported}
 use Rattle.ucl_io.specs.declared.stream.Source as sources
 use Rattle.ucl_io.specs.declared.stream.Sink as sinks
-use Rattle.ucl_evenings.specs.declared.screen.Screen.{Screen}
 use Rattle.ucl_live_board.specs.declared.live_board.LiveBoard as boards
-use Rattle.ucl_evenings_threads.specs.declared.screens.Ran.{Ran}
-use Rattle.ucl_evenings_threads.specs.declared.workers.Enlisted.{Enlisted}
-use Rattle.ucl_evenings_threads.specs.declared.workers.ScreenEnd.{ScreenEnd}
-use Rattle.ucl_evenings_threads.specs.declared.workers.Looking.{Looking}
-use Rattle.ucl_evenings.proofs.ShownScreens.{stays_prefix}
-use Rattle.ucl_live_board.specs.Passes.{Continues, PassView}
-use Rattle.ucl_evenings_threads.specs.declared.reporters.Reported.{Reported}
-use Rattle.ucl_evenings_threads.specs.Runs.{HasShownAbove, HaveReported, HaveRun, KeepsShare}
 use Rattle.ucl_evenings_threads.proofs.Ended.{goes_then}
 use Rattle.ucl_evenings_threads.proofs.Closing.{closed_on}
 use Rattle.ucl_evenings_threads.proofs.Zips.{zip_map, zip_push}

@@ -1,12 +1,8 @@
 -- Shares that are split off, one after the other.
-use Rattle.std.proofs.Common.{◌≡◌, List, [], ◌∷◌, ◌++◌, ℕ, zero, suc, map, get_or, set, refl, sym, ap, ◌∙◌, subst}
-use Rattle.std.specs.List.{AllZip}
-use Rattle.ucl_live_board.specs.Passes.{PassView}
+use Rattle.ucl_evenings_threads.proofs.Common.{GoesOnOrStays, List, PassView, [], ap, get_or, inl, inr, map, map_push, refl, set, subst}
+use Rattle.ucl_evenings_threads.proofs.Common.{suc, sym, zero, ℕ, ◌++◌, ◌∙◌, ◌∷◌, ◌≡◌}
 use Rattle.ucl_live_board.specs.Shares.{Share, first_half, second_half}
-use Rattle.ucl_evenings.specs.Showing.{GoesOnOrStays}
 use Rattle.ucl_evenings_threads.specs.Runs.{WereSplitOff}
-use Rattle.std.proofs.lemmas.List.{map_push}
-use Rattle.std.proofs.Common.{inl, inr}
 
 pub split_none : {X : Type 0} (f : X → Share) (s left : Share) (xs : List X) → xs ≡ [] → left ≡ s → WereSplitOff s (map f xs) left
 unfolding WereSplitOff

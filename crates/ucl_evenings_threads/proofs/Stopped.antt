@@ -1,18 +1,10 @@
 -- Why events were not entered on a live board.
-use Rattle.std.proofs.Common.{◌≡◌, ◌∙◌, ℕ, zero, suc, ◌+◌, ◌-◌, ◌<◌, ◌≤◌, sym, ap, subst, List, [], ◌∷◌, ◌++◌, length, map, drop, take, get_or, arith}
-use Rattle.std.specs.Prelude.{slice_index}
-use Rattle.std.proofs.lemmas.List.{length-map, length-take-le, take-append-drop}
-use mathlib.Core.List.{IsPrefix}
-use Rattle.ucl_board.specs.declared.entry.Entry.{Entry}
-use Rattle.ucl_board.specs.History.{entry_of, followed_by}
-use Rattle.ucl_board.proofs.Beginnings.{begins_more, begins_same, begins_through}
+use Rattle.ucl_evenings_threads.proofs.Common.{Entry, IsOfEnlisting, IsPrefix, List, NightEvent, OutOfMemory, PassView, RunFault}
+use Rattle.ucl_evenings_threads.proofs.Common.{StopsEntering, TooManyReporters, WasNotEntered, WasRefused, [], ap, arith, begins_more}
+use Rattle.ucl_evenings_threads.proofs.Common.{begins_through, drop, entry_of, followed_by, get_or, length, length-take-le, map, numbers_of}
+use Rattle.ucl_evenings_threads.proofs.Common.{slice_index, sym, take, take-append-drop, ℕ, ◌++◌, ◌+◌, ◌-◌, ◌<◌, ◌∙◌, ◌∷◌, ◌≡◌, ◌≤◌}
+use Rattle.ucl_evenings_threads.specs.Earlier.{HasInOrder}
 use Rattle.ucl_live_board.specs.declared.live_board.LiveBoard as boards
-use Rattle.ucl_live_board.specs.Passes.{PassView}
-use Rattle.ucl_screen.specs.declared.night.NightEvent.{NightEvent}
-use Rattle.ucl_runs.specs.declared.fault.RunFault.{RunFault}
-use Rattle.ucl_runs.specs.declared.fault.RunFault.TheVariants.{Input, OutOfMemory, WriteFailed, NotOnDuty, NoThread, TooManyReporters, Strangers}
-use Rattle.ucl_evenings_threads.specs.Earlier.{HaveEntered, HasInOrder, StopsEntering, WasNotEntered, WasRefused, entries_for, numbers_of}
-use Rattle.ucl_evenings_threads.specs.Runs.{IsOfEnlisting}
 use Rattle.ucl_evenings_threads.proofs.Entering.{HaveSoFar, entered_there}
 use Rattle.ucl_evenings_threads.proofs.Zips.{first_there, view_at}
 

@@ -1,27 +1,20 @@
 -- What is told of workers' faults, and the exit status.
-use Rattle.std.proofs.Common.{◌≡◌, ◌∙◌, ℕ, suc, ◌+◌, ◌<◌, ◌≤◌, Bool, refl, sym, ap, subst, List, [], ◌∷◌, ◌++◌, length, take, drop, get_or, Option}
-use Rattle.std.proofs.Common.{None, inl, inr, length-append, arith, true}
-use Rattle.std.specs.Prelude.{⊤, Result, Ok, Err, unwrap_or}
+use Rattle.ucl_evenings_threads.proofs.Common.{Bool, Err, List, None, Ok, Option, ReporterEnd, Result, RunFault, Screen, ScreenEnd}
+use Rattle.ucl_evenings_threads.proofs.Common.{TellsEnd, TellsResult, WriteFailed, [], ap, arith, drop, get_or, inl, inr, length}
+use Rattle.ucl_evenings_threads.proofs.Common.{length-append, number_for, one_of, past_end, refl, subst, suc, sym, take, take-append-le}
+use Rattle.ucl_evenings_threads.proofs.Common.{true, unwrap_or, worker_for, zero-add, ℕ, ⊤, ◌++◌, ◌+◌, ◌<◌, ◌∙◌, ◌∷◌, ◌≡◌, ◌≤◌}
 use Rattle.std.specs.Io.KnownBytes.{Appends}
-use Rattle.std.proofs.lemmas.List.{take-append-le}
 use Rattle.ucl_io.proofs.MovedBytes.{appends-then}
-use Rattle.ucl_runs.specs.declared.fault.RunFault.TheVariants.{Input, OutOfMemory, WriteFailed, NotOnDuty, NoThread, TooManyReporters, Strangers}
 use Rattle.ucl_runs.specs.Run.{IsCutShort}
 use Rattle.ucl_runs.specs.Telling.{Tells}
 use Rattle.ucl_runs.specs.Faults.{status}
-use Rattle.ucl_runs.specs.declared.fault.RunFault.{RunFault}
-use Rattle.ucl_evenings.specs.declared.screen.Screen.{Screen}
 use Rattle.ucl_evenings_threads.specs.declared.ending.Part.{Part}
 use Rattle.ucl_evenings_threads.specs.declared.ending.Worker.{Worker}
 use Rattle.ucl_evenings_threads.specs.declared.ending.Worker.TheVariants.{Reporter}
-use Rattle.ucl_evenings_threads.specs.declared.workers.ReporterEnd.{ReporterEnd}
-use Rattle.ucl_evenings_threads.specs.declared.workers.ScreenEnd.{ScreenEnd}
 use Rattle.ucl_command.specs.declared.options.Format.{Format}
+use Rattle.ucl_evenings_threads.specs.Ending.{TellsAll, first_status, reporter_parts, screen_parts}
 use Rattle.ucl_command.specs.declared.options.Format.TheVariants as forms
-use Rattle.ucl_evenings_threads.specs.Ending.{TellsAll, TellsEnd, TellsResult, first_status, number_for, one_of, reporter_parts, screen_parts, status_at, worker_for}
-use Rattle.ucl_command.proofs.Lists.{past_end}
 use Rattle.ucl_evenings_threads.proofs.Zips.{first_there}
-use Rattle.std.proofs.Common.{zero-add}
 
 -- ---- a line of two parts
 

@@ -1,9 +1,7 @@
 -- Lists side by side.
-use Rattle.std.proofs.Common.{◌≡◌, List, [], ◌∷◌, ◌++◌, map, refl, ap, ◌∙◌, suc, arith, ℕ, ◌+◌, ◌<◌, length, drop, get_or, sym}
-use Rattle.std.proofs.lemmas.List.{drop_more, get_or-map, length-map, map_push}
-use Rattle.std.specs.Prelude.{All, Some}
-use Rattle.std.specs.List.{AllZip}
-use Rattle.std.proofs.lemmas.List.Elements.{All-cons, All-head, All-nil, All-pop, All-tail}
+use Rattle.ucl_evenings_threads.proofs.Common.{All, All-cons, All-nil, All-pop, AllZip, List, Some, [], ap, arith, drop, drop_more, get_or}
+use Rattle.ucl_evenings_threads.proofs.Common.{get_or-map, length, length-map, map, map_push, refl, suc, sym, ℕ, ◌++◌, ◌+◌, ◌<◌, ◌∙◌, ◌∷◌}
+use Rattle.ucl_evenings_threads.proofs.Common.{◌≡◌}
 
 pub zip_none : {X Y : Type 0} (P : X → Y → Type 0) (xs : List X) (ys : List Y) → xs ≡ [] → ys ≡ [] → AllZip P xs ys
 zip_none P xs ys e f = rw (e, f) tt

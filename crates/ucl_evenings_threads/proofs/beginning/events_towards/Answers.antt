@@ -1,7 +1,4 @@
-use Rattle.std.proofs.Common.{◌≡◌, ◌+◌, ◌∷◌, [], arith, rules, true, length, length-append}
-use Rattle.std.specs.Result.{is_ok}
-use Rattle.ucl_word.specs.Record.{IsReporter}
-use Rattle.ucl_screen.specs.declared.night.NightEvent.{NightEvent}
+use Rattle.ucl_evenings_threads.proofs.Common.{IsReporter, NightEvent, [], arith, is_ok, length, length-append, rules, true, ◌+◌, ◌∷◌, ◌≡◌}
 use Rattle.ucl_evenings_threads.proofs.Beginnings.{begun_way, next_on_way, room_on_way}
 use Rattle.ucl_evenings_threads.proofs.beginning.events_towards.Goals as goal
 

@@ -1,5 +1,4 @@
-use Rattle.std.proofs.Common.{◌-◌, length}
-use Rattle.ucl_board.specs.Words.{greatest_version}
+use Rattle.ucl_evenings_threads.proofs.Common.{greatest_version, length, ◌-◌}
 use Rattle.ucl_evenings_threads.proofs.Beginnings.{IsUnderWay}
 use Rattle.ucl_evenings_threads.proofs.beginning.events_towards.Given as goal
 

@@ -1,8 +1,5 @@
-use Rattle.std.proofs.Common.{[], refl, ap, rules, ◌≡◌, ◌∙◌}
-use Rattle.std.proofs.lemmas.List.Elements.{All-push}
-use Rattle.ucl_live_board.specs.Passes.{PassView}
+use Rattle.ucl_evenings_threads.proofs.Common.{All-push, PassView, [], ap, map_push, refl, rules, ◌∙◌, ◌≡◌}
 use Rattle.ucl_evenings_threads.proofs.Splits.{split_none, split_push}
-use Rattle.std.proofs.lemmas.List.{map_push}
 use Rattle.ucl_evenings_threads.proofs.earlier.enlist_up_to.Goals as goal
 
 pub enlisted-init : goal.enlisted-init

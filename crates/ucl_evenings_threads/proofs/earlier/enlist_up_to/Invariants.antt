@@ -1,6 +1,4 @@
-use Rattle.std.proofs.Common.{◌≡◌, ◌-◌, [], map, vec_len}
-use Rattle.std.specs.Prelude.{All}
-use Rattle.ucl_evenings_threads.specs.Runs.{WereSplitOff, shares_of}
+use Rattle.ucl_evenings_threads.proofs.Common.{All, WereSplitOff, [], map, shares_of, vec_len, ◌-◌, ◌≡◌}
 use Rattle.ucl_evenings_threads.proofs.earlier.enlist_up_to.Given as goal
 
 abbrev pub invariant-enlisted : goal.invariant-enlisted

@@ -1,15 +1,8 @@
-use Rattle.std.proofs.Common.{◌≡◌, ◌∙◌, ℕ, ◌+◌, ◌-◌, ◌<◌, ◌≤◌, List, length, map, take, get_or, set, refl, sym, ap, subst, arith, rules}
-use Rattle.std.specs.Prelude.{All, vec_len}
-use Rattle.std.proofs.lemmas.List.{length-map, length-set, map-set, take_all, take_more}
-use Rattle.std.proofs.lemmas.List.Elements.{All-get_or, All-set}
-use mathlib.Core.List.{IsPrefix}
-use Rattle.ucl_board.specs.declared.entry.Entry.{Entry}
-use Rattle.ucl_live_board.specs.Passes.{PassView}
-use Rattle.ucl_screen.specs.declared.night.NightEvent.{NightEvent}
-use Rattle.ucl_evenings_threads.specs.Earlier.{WereEntered, HasJustItsOwn}
+use Rattle.ucl_evenings_threads.proofs.Common.{All, All-set, HasJustItsOwn, List, WereEntered, ap, arith, get_or, length, length-map}
+use Rattle.ucl_evenings_threads.proofs.Common.{length-set, map, map-set, refl, rules, shares_of, subst, sym, take_all, take_more, vec_len}
+use Rattle.ucl_evenings_threads.proofs.Common.{ℕ, ◌+◌, ◌-◌, ◌<◌, ◌∙◌, ◌≡◌, ◌≤◌}
 use Rattle.ucl_evenings_threads.proofs.Entering.{HaveSoFar, so_far_more, so_far_none, so_far_same, told_more, written_back}
 use Rattle.ucl_evenings_threads.proofs.Zips.{view_at}
-use Rattle.ucl_evenings_threads.specs.Runs.{shares_of}
 use Rattle.ucl_evenings_threads.proofs.Splits.{map_set_same}
 use Rattle.ucl_evenings_threads.proofs.Stopped.{refused_there}
 use Rattle.ucl_evenings_threads.proofs.earlier.enter_each.Goals as goal

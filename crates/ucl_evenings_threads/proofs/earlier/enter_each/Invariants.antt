@@ -1,7 +1,4 @@
-use Rattle.std.proofs.Common.{◌≡◌, ◌+◌, length, map, take, vec_len}
-use Rattle.std.specs.Prelude.{All}
-use Rattle.ucl_evenings_threads.specs.Earlier.{HasJustItsOwn}
-use Rattle.ucl_evenings_threads.specs.Runs.{shares_of}
+use Rattle.ucl_evenings_threads.proofs.Common.{All, HasJustItsOwn, length, map, shares_of, take, vec_len, ◌+◌, ◌≡◌}
 use Rattle.ucl_evenings_threads.proofs.Entering.{HaveSoFar}
 use Rattle.ucl_evenings_threads.proofs.earlier.enter_each.Given as goal
 

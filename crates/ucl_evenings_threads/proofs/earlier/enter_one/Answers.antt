@@ -1,5 +1,4 @@
-use Rattle.std.proofs.Common.{ap, ◌∙◌}
-use Rattle.ucl_live_board.specs.Passes.{PassView}
+use Rattle.ucl_evenings_threads.proofs.Common.{PassView, ap, ◌∙◌}
 use Rattle.ucl_evenings_threads.proofs.Entering.{entered_by_calls}
 use Rattle.ucl_evenings_threads.proofs.earlier.enter_one.Goals as goal
 

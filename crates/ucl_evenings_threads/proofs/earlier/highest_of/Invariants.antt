@@ -1,5 +1,4 @@
-use Rattle.std.proofs.Common.{◌≤◌, length, take}
-use Rattle.std.specs.Prelude.{All}
+use Rattle.ucl_evenings_threads.proofs.Common.{All, length, take, ◌≤◌}
 use Rattle.ucl_evenings_threads.proofs.earlier.highest_of.Given as goal
 
 abbrev pub invariant-loop-event : goal.invariant-loop-event

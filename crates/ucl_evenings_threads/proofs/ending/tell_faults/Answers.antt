@@ -1,8 +1,8 @@
-use Rattle.std.proofs.Common.{refl, ap, ◌∙◌, ◌+◌, arith}
+use Rattle.ucl_evenings_threads.proofs.Common.{ap, arith, refl, screen_parts, ◌+◌, ◌∙◌}
 use Rattle.ucl_command.specs.declared.options.Format.TheVariants as forms
-use Rattle.ucl_evenings_threads.specs.Ending.{screen_parts}
-use Rattle.ucl_evenings_threads.proofs.Told.{reporters_done, reporters_left, screens_done, screens_left, stands_first, stands_last, stands_next}
-use Rattle.ucl_evenings_threads.proofs.ending.tell_faults.Goals.{in-Text, in-Json}
+use Rattle.ucl_evenings_threads.proofs.Told.{reporters_done, reporters_left, screens_done, screens_left, stands_first, stands_last}
+use Rattle.ucl_evenings_threads.proofs.Told.{stands_next}
+use Rattle.ucl_evenings_threads.proofs.ending.tell_faults.Goals.{in-Json, in-Text}
 use Rattle.ucl_evenings_threads.proofs.ending.tell_faults.Goals as goal
 
 pub loop-reporter-init : goal.loop-reporter-init

@@ -1,5 +1,4 @@
-use Rattle.std.proofs.Common.{◌≡◌, ◌+◌, ◌++◌, true, drop}
-use Rattle.ucl_evenings_threads.specs.Ending.{parts_of, reporter_parts, screen_parts}
+use Rattle.ucl_evenings_threads.proofs.Common.{drop, parts_of, reporter_parts, screen_parts, true, ◌++◌, ◌+◌, ◌≡◌}
 use Rattle.ucl_evenings_threads.proofs.Told.{StandsAt}
 use Rattle.ucl_evenings_threads.proofs.ending.tell_faults.Given as goal
 

@@ -1,14 +1,9 @@
-use Rattle.std.proofs.Common.{◌≡◌, List, inr, subst, sym, ◌∙◌}
-use Rattle.std.specs.Prelude.{⊤}
-use mathlib.Core.List.{IsPrefix}
-use Rattle.ucl_board.specs.declared.entry.Entry.{Entry}
-use Rattle.ucl_board.proofs.Beginnings.{begins_through}
-use Rattle.ucl_evenings.specs.Showing.{IsNewScreen}
-use Rattle.ucl_evenings.proofs.ShownScreens.{stays_prefix}
-use Rattle.ucl_evenings_threads.specs.Runs.{HasRun, IsLooking, IsReadyToLook, IsReadyToRun, KeepsShare, WasEnlisted}
+use Rattle.ucl_evenings_threads.proofs.Common.{Entry, HasRun, IsLooking, IsNewScreen, IsPrefix, IsReadyToLook, IsReadyToRun, KeepsShare}
+use Rattle.ucl_evenings_threads.proofs.Common.{List, WasEnlisted, begins_through, inr, stays_prefix, subst, sym, ⊤, ◌∙◌, ◌≡◌}
 use Rattle.ucl_evenings_threads.proofs.Counting.{seen_on}
 use Rattle.ucl_evenings_threads.proofs.Decided.{is_decided}
-use Rattle.ucl_evenings_threads.proofs.Holding.{begins_whole, early_long, heard_at_end, reported_at_end, shown_at_end, theirs_at_end, whole, whole_long}
+use Rattle.ucl_evenings_threads.proofs.Holding.{begins_whole, early_long, heard_at_end, reported_at_end, shown_at_end, theirs_at_end, whole}
+use Rattle.ucl_evenings_threads.proofs.Holding.{whole_long}
 use Rattle.ucl_evenings_threads.proofs.Splits.{split_both, stays_share}
 use Rattle.ucl_evenings_threads.proofs.Zips.{maps_same, zip_right}
 use Rattle.ucl_evenings_threads.proofs.evening.hold_evening.Goals as goal

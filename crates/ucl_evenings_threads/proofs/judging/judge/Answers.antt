@@ -1,5 +1,4 @@
-use Rattle.std.proofs.Common.{sym, arith}
-use Rattle.ucl_board.specs.History.{entry_of, followed_by}
+use Rattle.ucl_evenings_threads.proofs.Common.{arith, entry_of, followed_by, sym}
 use Rattle.ucl_evenings_threads.proofs.Judged.{judge_end, judge_refused, judge_step}
 use Rattle.ucl_evenings_threads.proofs.judging.judge.Goals as goal
 

@@ -1,7 +1,4 @@
-use Rattle.std.proofs.Common.{◌≡◌, ◌+◌, List, [], drop}
-use Rattle.ucl_board.specs.declared.entry.Entry.{Entry}
-use Rattle.ucl_board.specs.History.{IsLegal, board_of}
-use Rattle.ucl_evenings_threads.specs.Earlier.{entered_from}
+use Rattle.ucl_evenings_threads.proofs.Common.{Entry, IsLegal, List, [], board_of, drop, entered_from, ◌+◌, ◌≡◌}
 use Rattle.ucl_evenings_threads.proofs.judging.judge.Given as goal
 
 abbrev pub invariant-loop-event : goal.invariant-loop-event

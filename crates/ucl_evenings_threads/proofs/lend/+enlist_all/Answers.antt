@@ -1,5 +1,4 @@
-use Rattle.std.proofs.Common.{refl}
-use Rattle.ucl_evenings_threads.specs.Runs.{WasEnlisted}
+use Rattle.ucl_evenings_threads.proofs.Common.{WasEnlisted, refl}
 use Rattle.ucl_evenings_threads.proofs.Zips.{zip_none, zip_push}
 use Rattle.ucl_evenings_threads.proofs.Splits.{split_none, split_push}
 use Rattle.ucl_evenings_threads.proofs.lend.+enlist_all.Goals as goal

@@ -1,14 +1,16 @@
-use Rattle.std.proofs.Common.{refl, subst, sym, ap, ◌∙◌}
-use mathlib.Core.List.{IsPrefix}
-use Rattle.ucl_board.proofs.Beginnings.{begins_same}
-use Rattle.ucl_live_board.specs.Passes.{PassView}
-use Rattle.ucl_evenings_threads.specs.Runs.{IsLooking}
+use Rattle.ucl_evenings_threads.proofs.Common.{IsLooking, PassView, ap, begins_same, refl, ◌∙◌}
 use Rattle.ucl_evenings_threads.proofs.Zips.{zip_none, zip_push}
 use Rattle.ucl_evenings_threads.proofs.Splits.{split_none, split_push}
 use Rattle.ucl_evenings_threads.proofs.lend.+look_all.Goals as goal
 
 pub returns-in_default-clause-looking : goal.returns-in_default-clause-looking
 returns-in_default-clause-looking g t c = zip_none (IsLooking g.B.LiveBoard c.args.board.now (g.B.LiveBoard.reader c.args.pass.now).seen) _ _ c.in_default.ensures.none c.new.ensures.items
+
+pub returns-in_err-put-clause-seen : goal.returns-in_err-put-clause-seen
+returns-in_err-put-clause-seen g t c = ap (λ (k : PassView). k.seen) c.split-second.ensures.says.kept ∙ c.look_all.ensures.seen
+
+pub returns-clause-seen : goal.returns-clause-seen
+returns-clause-seen g t c = ap (λ (k : PassView). k.seen) c.split-second.ensures.says.kept ∙ c.look_all.ensures.seen
 
 pub returns-in_default-clause-split : goal.returns-in_default-clause-split
 returns-in_default-clause-split g t c = split_none _ _ _ _ c.new.ensures.items refl
@@ -26,7 +28,5 @@ returns-clause-looking g t c =
     (record {
       same = refl;
       own = c.split-second.ensures.own.1;
-      since = subst (IsPrefix (g.B.LiveBoard.reader c.args.pass.now).seen)
-          (sym (ap (λ (k : PassView). k.seen) c.split-second.ensures.says.given ∙ c.look_all.ensures.seen))
-          (begins_same (g.B.LiveBoard.reader c.args.pass.now).seen);
+      since = rw (c.split-second.ensures.says.given, c.look_all.ensures.seen) (begins_same (g.B.LiveBoard.reader c.args.pass.now).seen);
     }))

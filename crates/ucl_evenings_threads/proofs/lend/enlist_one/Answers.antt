@@ -1,5 +1,4 @@
-use Rattle.std.proofs.Common.{ap, ◌∙◌}
-use Rattle.ucl_live_board.specs.Passes.{PassView}
+use Rattle.ucl_evenings_threads.proofs.Common.{PassView, ap, ◌∙◌}
 use Rattle.ucl_evenings_threads.proofs.lend.enlist_one.Goals as goal
 
 pub returns-clause-ready : goal.returns-clause-ready
@@ -9,6 +8,12 @@ returns-clause-ready g c = record {
   nothing = c.in_ok-enlist.ensures.says.mine;
   reported = c.in_ok-enlist.ensures.reported;
 }
+
+pub returns-clause-seen : goal.returns-clause-seen
+returns-clause-seen g c = ap (λ (k : PassView). k.seen) c.split-second.ensures.says.kept
+
+pub returns-clause-kept : goal.returns-clause-kept
+returns-clause-kept g c = ap (λ (k : PassView). k.share) c.split-second.ensures.says.kept
 
 pub returns-clause-given : goal.returns-clause-given
 returns-clause-given g c = c.in_ok-enlist.ensures.says.on.share ∙ ap (λ (k : PassView). k.share) c.split-second.ensures.says.given

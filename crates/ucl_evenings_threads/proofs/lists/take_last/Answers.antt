@@ -1,7 +1,6 @@
-use Rattle.std.proofs.Common.{◌≡◌, ℕ, ◌+◌, ◌<◌, List, [], ◌∷◌, ◌++◌, length, Option, arith, ◌∙◌, sym}
-use Rattle.std.specs.Prelude.{Some, None, IfNone, IfSome, MatchOption}
+use Rattle.ucl_evenings_threads.proofs.Common.{IfNone, IfSome, List, MatchOption, None, Option, Some, [], arith, length, nil_from_length}
+use Rattle.ucl_evenings_threads.proofs.Common.{sym, ℕ, ◌++◌, ◌+◌, ◌<◌, ◌∙◌, ◌∷◌, ◌≡◌}
 use Rattle.std.specs.Option.{option_to_list}
-use Rattle.std.proofs.lemmas.List.{nil_from_length}
 use Rattle.ucl_evenings_threads.proofs.lists.take_last.Goals as goal
 
 last_some : {X : Type 0} (xs ys : List X) (r : Option X) → xs ≡ ys ++ option_to_list r → IfSome r (λ last. xs ≡ ys ++ last ∷ [])

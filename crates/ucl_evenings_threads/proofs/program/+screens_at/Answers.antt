@@ -1,5 +1,4 @@
-use Rattle.std.proofs.Common.{ap}
-use Rattle.ucl_evenings_threads.specs.Program.{IsAskedFor}
+use Rattle.ucl_evenings_threads.proofs.Common.{IsAskedFor, ap}
 use Rattle.ucl_evenings_threads.proofs.Zips.{zip_none, zip_push}
 use Rattle.ucl_evenings_threads.proofs.program.+screens_at.Goals as goal
 

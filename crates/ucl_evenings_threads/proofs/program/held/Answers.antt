@@ -1,7 +1,4 @@
-use Rattle.std.proofs.Common.{inr}
-use Rattle.std.specs.Prelude.{⊤, Result, Ok, Err, IfErr, IfOk}
-use Rattle.ucl_evenings.specs.Showing.{IsNewScreen}
-use Rattle.ucl_evenings_threads.specs.Program.{IsAskedFor}
+use Rattle.ucl_evenings_threads.proofs.Common.{Err, IfErr, IfOk, IsAskedFor, IsNewScreen, Ok, Result, inr, ⊤}
 use Rattle.ucl_evenings_threads.proofs.Zips.{zip_right}
 use Rattle.ucl_evenings_threads.proofs.program.held.Goals as goal
 

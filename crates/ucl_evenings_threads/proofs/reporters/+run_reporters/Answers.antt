@@ -1,9 +1,4 @@
-use Rattle.std.proofs.Common.{inl, inr, refl, subst, sym}
-use Rattle.std.specs.Prelude.{All}
-use Rattle.std.proofs.lemmas.List.Elements.{All-nil}
-use Rattle.ucl_evenings_threads.specs.Runs.{HasRun, IsReadyToRun, views_of}
-use Rattle.ucl_evenings_threads.specs.Whole.{IsSeenIn}
-use Rattle.ucl_evenings_threads.specs.declared.workers.ReporterEnd.{ReporterEnd}
+use Rattle.ucl_evenings_threads.proofs.Common.{All, All-nil, HasRun, IsReadyToRun, IsSeenIn, ReporterEnd, inl, inr, refl, subst, sym}
 use Rattle.ucl_evenings_threads.proofs.Ended.{goes_then, heard_more, took_later}
 use Rattle.ucl_evenings_threads.proofs.Zips.{all_pop, views_then, zip_none, zip_push}
 use Rattle.ucl_evenings_threads.proofs.reporters.+run_reporters.Goals as goal

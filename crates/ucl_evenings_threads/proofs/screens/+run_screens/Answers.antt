@@ -1,6 +1,4 @@
-use Rattle.std.proofs.Common.{refl, ap, ◌∙◌, length, le_refl}
-use Rattle.ucl_live_board.specs.Passes.{PassView}
-use Rattle.ucl_evenings_threads.specs.Runs.{HasLookedOn, IsReadyToLook}
+use Rattle.ucl_evenings_threads.proofs.Common.{HasLookedOn, IsReadyToLook, PassView, ap, le_refl, length, refl, ◌∙◌}
 use Rattle.ucl_evenings_threads.proofs.Closing.{closed_on, closed_told, heard_on}
 use Rattle.ucl_evenings_threads.proofs.Ended.{looked_few}
 use Rattle.ucl_evenings_threads.proofs.Running.{ran_first, ran_more}

@@ -1,5 +1,4 @@
-use Rattle.std.proofs.Common.{ap, length}
-use Rattle.ucl_board.specs.declared.entry.Entry.{Entry}
+use Rattle.ucl_evenings_threads.proofs.Common.{Entry, ap, length}
 use Rattle.ucl_evenings_threads.proofs.Closing.{closed_failed, closed_further}
 use Rattle.ucl_evenings_threads.proofs.Ended.{served_by}
 use Rattle.ucl_evenings_threads.proofs.screens.finish.Goals as goal

@@ -1,6 +1,5 @@
-use Rattle.std.proofs.Common.{[], ap, sym, subst, ◌∙◌, length, arith}
-use Rattle.ucl_evenings.specs.Showing.{AreFew, Screening, ShowsFurther, standing}
-use Rattle.ucl_evenings.proofs.ShownScreens.{so_far_none}
+use Rattle.ucl_evenings_threads.proofs.Common.{AreFew, Screening, ShowsFurther, [], ap, arith, length, so_far_none, standing, subst, sym}
+use Rattle.ucl_evenings_threads.proofs.Common.{◌∙◌}
 use Rattle.ucl_evenings_threads.proofs.Ended.{served_by}
 use Rattle.ucl_evenings_threads.proofs.screens.look.Goals as goal
 

@@ -1,6 +1,4 @@
-use Rattle.std.proofs.Common.{inl, inr, refl}
-use Rattle.std.proofs.lemmas.List.{map_push}
-use Rattle.ucl_evenings_threads.specs.Runs.{IsHandedBack}
+use Rattle.ucl_evenings_threads.proofs.Common.{IsHandedBack, inl, inr, map_push, refl}
 use Rattle.ucl_evenings_threads.proofs.Ended.{goes_then, heard_more}
 use Rattle.ucl_evenings_threads.proofs.Zips.{zip_none, zip_push}
 use Rattle.ucl_evenings_threads.proofs.tally.+hear_all.Goals as goal

@@ -1,9 +1,5 @@
-use Rattle.std.proofs.Common.{◌++◌, ◌∷◌, [], List, append_assoc, ap, arith, length, map, refl, subst, sym, take, ◌∙◌}
-use Rattle.std.proofs.lemmas.List.{take_more, take_all}
-use Rattle.ucl_live_board.specs.Passes.{PassView}
-use Rattle.ucl_evenings_threads.specs.Runs.{views_of}
-use Rattle.ucl_evenings_threads.specs.Whole.{AreTallied}
-use Rattle.ucl_evenings_threads.specs.declared.workers.ReporterEnd.{ReporterEnd}
+use Rattle.ucl_evenings_threads.proofs.Common.{AreTallied, List, PassView, ReporterEnd, [], ap, append_assoc, arith, map, refl, subst, sym}
+use Rattle.ucl_evenings_threads.proofs.Common.{take, take_all, take_more, views_of, ◌++◌, ◌∙◌, ◌∷◌}
 use Rattle.ucl_evenings_threads.proofs.Counting.{counted_all, not_false}
 use Rattle.ucl_evenings_threads.proofs.Zips.{views_then}
 use Rattle.ucl_evenings_threads.proofs.tally.are_all_of.Goals as goal

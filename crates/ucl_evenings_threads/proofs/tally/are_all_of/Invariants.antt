@@ -1,6 +1,4 @@
-use Rattle.std.proofs.Common.{◌++◌, map, take}
-use Rattle.ucl_evenings_threads.specs.Runs.{views_of}
-use Rattle.ucl_evenings_threads.specs.Whole.{AreTallied}
+use Rattle.ucl_evenings_threads.proofs.Common.{AreTallied, map, take, views_of, ◌++◌}
 use Rattle.ucl_evenings_threads.proofs.tally.are_all_of.Given as goal
 
 abbrev pub invariant-loop-pass : goal.invariant-loop-pass
