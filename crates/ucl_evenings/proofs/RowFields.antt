@@ -1,5 +1,5 @@
 -- What a row asks for, whose fields are read one at a time.
-use Rattle.std.proofs.Common.{◌≡◌, ℕ, List, [], ◌∷◌, Option, Some, None, refl}
+use Rattle.std.proofs.Common.{◌≡◌, ℕ, List, ◌∷◌, Option, Some, None, refl}
 use Rattle.csv.specs.Records.{field_at}
 use Rattle.ucl_runs.specs.declared.bad_row.BadField.TheVariants.{Count}
 use Rattle.ucl_evenings.specs.declared.input.Input.{Input}

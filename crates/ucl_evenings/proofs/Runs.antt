@@ -6,7 +6,7 @@ use Rattle.std.specs.Io.KnownBytes.{Appends}
 use mathlib.Core.List.{IsPrefix}
 use Rattle.ucl_board.proofs.Beginnings.{begins_longer}
 use Rattle.ucl_io.specs.declared.fault.PumpFault.{PumpFault}
-use Rattle.ucl_io.specs.declared.fault.PumpFault.TheVariants.{Machine, ReadFailed, TooLong, WriteFailed}
+use Rattle.ucl_io.specs.declared.fault.PumpFault.TheVariants.{Machine, WriteFailed}
 use Rattle.ucl_io.specs.Calls.{Device, HasEnded, LogsCalls}
 use Rattle.ucl_io.specs.Lines.{begun_line, ended_lines}
 use Rattle.ucl_io.specs.Output.{StoppedAt}

@@ -35,7 +35,8 @@ entered_more row start [] e history so_far good =
     rw (taken, same) refl
 entered_more row start (x ∷ events) e history so_far good =
     let after = after_attempt start (attempt_of x) in
-    let first = accepted_first (is_ok (sequential_reply start x.call)) (entered_from (row + 1) after events) (Input (BadRow row)) history so_far in
+    let first = accepted_first (is_ok (sequential_reply start x.call)) (entered_from (row + 1) after events)
+    (Input (BadRow row)) history so_far in
     ap (λ b. if b then entered_from (row + 1) after (events ++ e ∷ []) else Err (Input (BadRow row))) first.0
     ∙ entered_more (row + 1) after events e history first.1 good
 
@@ -82,7 +83,7 @@ next_on_way reporter by call words now after target events reply is reached targ
     let e : NightEvent = record { reporter = by; call = call } in
     let begun : 0 < (game_at target call.game).number = omega (arith, leads.ahead) in
     let own : by ≡ reporter = own_under reporter by words is (reached_words words reached) call.game leads.attempt.1
-        (rw target_is at leads.own) (rw target_is at begun) in
+    (rw target_is at leads.own) (rw target_is at begun) in
     record {
       history = followed_by way.history (entry_of by call);
       legal = gained.1;

@@ -38,8 +38,7 @@ pub use Rattle.ucl_evenings_threads.specs.Runs.{HasAnsweredRows, HasLookedOn, Ha
 pub use Rattle.ucl_evenings_threads.specs.Runs.{HaveRun, IsHandedBack, IsLooking, IsOfEnlisting, IsReadyToLook, IsReadyToRun, KeepsShare}
 pub use Rattle.ucl_evenings_threads.specs.Runs.{LastIs, LastIsAtLeast, SinkServed, WasEnlisted, WereSplitOff, shares_of, views_of}
 pub use Rattle.ucl_evenings_threads.specs.Whole.{AreAllOf, AreTallied, IsSeenIn, IsTheirs, accepted_by_all}
-pub use Rattle.ucl_evenings_threads.specs.declared.workers.Enlisted.{Enlisted}
-pub use Rattle.ucl_evenings_threads.specs.declared.workers.Looking.{Looking}
+pub use Rattle.ucl_evenings_threads.specs.declared.workers.Lent.{Lent}
 pub use Rattle.ucl_evenings_threads.specs.declared.workers.ReporterEnd.{ReporterEnd}
 pub use Rattle.ucl_evenings_threads.specs.declared.workers.ScreenEnd.{ScreenEnd}
 pub use Rattle.ucl_io.specs.Calls.{Device}

@@ -38,7 +38,11 @@ held_more low high (k ∷ views) e t r =
           let rest = held_below k.number high views e t r.1 (omega arith) in inr (omega arith, inl is))
       | inr ne ↦
           (let here = ap (λ b. length (cond b (e ∷ old) old)) (ne_eqb e.reporter k.number ne) in
-          elim (held_more k.number high views e t r.1) [ inl same ↦ inl (omega arith) | inr more ↦ inr ((let one = more.0 in omega arith), inr more.1) ])
+          elim (held_more k.number high views e t r.1) [
+            | inl same ↦ inl (omega arith)
+            | inr more ↦ inr
+                ((let one = more.0 in omega arith), inr more.1)
+          ])
     ]
 
 -- no more than there are, and all where there are as many
@@ -67,9 +71,11 @@ accepted_few (k ∷ views) t h =
     let is : entries_by k.number t ≡ k.mine ++ more = by_more k.number k.seen t s.1 ∙ ap (λ l. l ++ more) (sym s.0.own) in
     let long : length (entries_by k.number t) ≡ length k.mine + length more = ap length is ∙ length-append k.mine more in
     let rest = accepted_few views t (λ i d lt. h (suc i) d (omega arith)) in
-    let few = rest.0 in
-    (omega arith, λ same. All-cons (Own t) k views
-        (is ∙ ap (λ l. k.mine ++ l) (nil_from_length more (omega arith)) ∙ append-nil k.mine) (rest.1 (omega arith)))
+    let few = rest.0 in (
+      omega arith,
+      λ same. All-cons (Own t) k views
+          (is ∙ ap (λ l. k.mine ++ l) (nil_from_length more (omega arith)) ∙ append-nil k.mine) (rest.1 (omega arith)),
+    )
 
 -- ---- counted passes
 
@@ -99,7 +105,8 @@ seen_on s t views on h = All-weaker (IsSeenIn s) (IsSeenIn t) (λ k p. (p.0, beg
 
 -- one pass more
 
-rise_more : (low high : ℕ) (views : List PassView) (k : PassView) → NumbersRise low high views → high < k.number → NumbersRise low k.number (views ++ k ∷ [])
+rise_more : (low high : ℕ) (views : List PassView) (k : PassView) → NumbersRise low high views → high < k.number
+    → NumbersRise low k.number (views ++ k ∷ [])
 unfolding NumbersRise
 rise_more low high [] k r above = (omega arith, omega arith)
 rise_more low high (v ∷ views) k r above = (r.0, rise_more v.number high views k r.1 above)
@@ -109,7 +116,8 @@ accepted_more [] k = omega arith
 accepted_more (v ∷ views) k = let rest = accepted_more views k in omega arith
 
 -- all but the last of them rise, and end below it
-rise_front : (low high : ℕ) (views : List PassView) (k : PassView) → NumbersRise low high (views ++ k ∷ []) → (n : ℕ) × NumbersRise low n views × (n < k.number) × (k.number ≤ high)
+rise_front : (low high : ℕ) (views : List PassView) (k : PassView) → NumbersRise low high (views ++ k ∷ [])
+    → (n : ℕ) × NumbersRise low n views × (n < k.number) × (k.number ≤ high)
 unfolding NumbersRise
 rise_front low high [] k r = (low, omega arith, r.0, r.1)
 rise_front low high (v ∷ views) k r = let x = rise_front v.number high views k r.1 in (x.0, (r.0, x.1), x.2, x.3)
@@ -134,7 +142,8 @@ tallied_more views k a b c above small high same sum few =
       rise = λ is. rw high (rise_more 0 a.highest views k (c.rise (sym same ∙ is)) above);
       count = λ is. let n = c.count (sym same ∙ is) in let s = sum (sym same ∙ is) in omega arith;
       bound = λ is. let n = c.bound (sym same ∙ is) in let s = sum (sym same ∙ is) in omega arith;
-      falls = λ fall r. let x = rise_front 0 255 views k r in c.falls (sym same ∙ fall) (rise_wider 0 x.0 255 views x.1 (omega (arith, x.2, x.3)));
+      falls = λ fall r. let x = rise_front 0 255 views k r in c.falls (sym same ∙ fall)
+          (rise_wider 0 x.0 255 views x.1 (omega (arith, x.2, x.3)));
       least = λ n r. omega (arith, (rise_front 0 n views k r).3);
     }
 
@@ -150,7 +159,8 @@ tallied_stop views k a b c low high fall =
       least = λ n r. omega (arith, (rise_front 0 n views k r).3);
     }
 
-pub counted_all : (views : List PassView) (tally : Tally) (version : ℕ) → AreTallied views tally → tally.rises ≡ true → version ≡ tally.accepted → AreAllOf views version
+pub counted_all : (views : List PassView) (tally : Tally) (version : ℕ) → AreTallied views tally → tally.rises ≡ true
+    → version ≡ tally.accepted → AreAllOf views version
 counted_all views tally version c rise same = (rise_wider 0 tally.highest 255 views (c.rise rise) c.most, same ∙ c.count rise)
 
 pub not_false : (b : Bool) → not b ≡ false → b ≡ true

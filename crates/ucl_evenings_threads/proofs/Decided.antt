@@ -137,10 +137,13 @@ module _ {B R P S W V : Type 0} (live : boards.Ghosts B R P) (board : B) (source
       let early = map live.reporter end.entered.items in
       let late = views_of live end.reporters.items in
       let rise = rise_later 0 255 early late theirs.rise in
-      let first : All (Own h) early = (λ i d lt. rw (← get_or_append_left early late d i lt) (theirs.own i d (omega (arith, length-append early late)))) in
-      let last : All (Own h) late = (λ i d lt. rw (← get_or-append-add early late i d) (theirs.own (length early + i) d (omega (arith, length-append early late)))) in
+      let first : All (Own h) early = (λ i d lt. rw (← get_or_append_left early late d i lt)
+      (theirs.own i d (omega (arith, length-append early late)))) in
+      let last : All (Own h) late = (λ i d lt. rw (← get_or-append-add early late i d)
+      (theirs.own (length early + i) d (omega (arith, length-append early late)))) in
       let d = draw live board source replies clubs before h rise.0 255 reporters end.reporters.items held.reported last rise.1 in
-      let known : All (HadEntered before) early = rw (maps_same (IsHandedBack live board) live.reporter live.reporter (λ x y kept. kept.unchanged) entered end.entered.items held.kept) had in
+      let known : All (HadEntered before) early = rw (maps_same (IsHandedBack live board) live.reporter live.reporter
+      (λ x y kept. kept.unchanged) entered end.entered.items held.kept) had in
       let others = λ (p : ℕ) (x : Entry) (from : length before ≤ p) (at : slice_get h p ≡ Some x). ⊎_elim
       (λ is. absurd (none_of_these before h early p x held.since known first from at is))
       (λ is. d.each x.reporter is)

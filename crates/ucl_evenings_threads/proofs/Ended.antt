@@ -15,7 +15,8 @@ use Rattle.ucl_live_board.specs.declared.live_board.LiveBoard as boards
 use Rattle.ucl_evenings_threads.proofs.Counting.{seen_on}
 
 -- a reporter's run, after its pass has told what it has seen
-pub took_later : (s : ReplyStyle) (k m m2 : PassView) (a b c : ℕ → Type 0) (old new : Device) (r : Result ⊤ RunFault) (P Q : List EventOutcome → Type 0)
+pub took_later : (s : ReplyStyle) (k m m2 : PassView) (a b c : ℕ → Type 0) (old new : Device) (r : Result ⊤ RunFault)
+    (P Q : List EventOutcome → Type 0)
     → ((outcomes : List EventOutcome) → P outcomes → Q outcomes)
     → TookRows s k m a b old new r P → m2 ≡ m → ReportsMore b 0 c → TookRows s k m2 a c old new r Q
 took_later s k m m2 a b c old new r P Q f t same more = record {
@@ -48,7 +49,8 @@ screens_end failed old new text P Q (Err fault) f e = failed_end failed old new 
 
 -- what a screen has shown of a beginning it has shown of the whole
 module _ {B R P V : Type 0} (live : boards.Ghosts B R P) (board : B) (sink : sinks.Ghosts V) (clubs : List NamedClub) where
-  pub shown_on : (before s h : List Entry) (Ends More : List ℕ → Type 0) (screen : Screen B V) (end : ScreenEnd R (Screen B V)) → IsPrefix s h
+  pub shown_on : (before s h : List Entry) (Ends More : List ℕ → Type 0) (screen : Screen B V) (end : ScreenEnd R (Screen B V))
+      → IsPrefix s h
       → ((versions : List ℕ) → Ends versions → More versions)
       → HasShownOf live board sink clubs before s Ends screen end → HasShownOf live board sink clubs before h More screen end
   shown_on before s h Ends More screen end on f p =
@@ -58,9 +60,11 @@ module _ {B R P V : Type 0} (live : boards.Ghosts B R P) (board : B) (sink : sin
         seen = begins_through (live.reader end.pass).seen s h p.seen on;
         versions = p.versions;
         rise = rise_upper (length before) (length s + 1) (length h + 1) p.versions p.rise (omega arith);
-        ends = subst (λ (text : List ℕ). ScreensEnd (sink.failed end.screen.sink) (sink.taken screen.sink) (sink.taken end.screen.sink) text (More p.versions) end.result)
+        ends = subst (λ (text : List ℕ). ScreensEnd (sink.failed end.screen.sink) (sink.taken screen.sink) (sink.taken end.screen.sink) text
+            (More p.versions) end.result)
             (sym (screens_on screen.options clubs s h 1 (length before) (length s + 1) p.versions on p.rise (omega arith)))
-            (screens_end (sink.failed end.screen.sink) (sink.taken screen.sink) (sink.taken end.screen.sink) (screens_shown screen.options clubs s 1 p.versions) (Ends p.versions) (More p.versions)
+            (screens_end (sink.failed end.screen.sink) (sink.taken screen.sink) (sink.taken end.screen.sink)
+            (screens_shown screen.options clubs s 1 p.versions) (Ends p.versions) (More p.versions)
             end.result (f p.versions) p.ends);
         served = p.served;
       }
@@ -77,14 +81,16 @@ ends_at low n versions rise e =
     let same : e.version ≡ n = omega arith in
     record { before = e.before; last = e.last ∙ ap (λ (v : ℕ). e.before ++ v ∷ []) same }
 
-pub stands_few : (options : Shape) (clubs : List NamedClub) (k m : PassView) (s : Screening) (old new : Option (List ℕ)) (versions : List ℕ) → SoFar options clubs k m s old new versions → AreFew s
+pub stands_few : (options : Shape) (clubs : List NamedClub) (k m : PassView) (s : Screening) (old new : Option (List ℕ)) (versions : List ℕ)
+    → SoFar options clubs k m s old new versions → AreFew s
 stands_few options clubs k m s old new versions p =
     let n = rise_count (length k.seen) p.high versions p.rise in
     let c = p.count in
     let few = p.few in (elim p.high_is [ inl e ↦ omega arith | inr e ↦ omega arith ], omega arith)
 
 -- a screen whose thread ended well
-pub looked_few : (options : Shape) (clubs : List NamedClub) (least : ℕ) (k m : PassView) (s : Screening) (failed : Bool) (old new : Option (List ℕ)) (r : Result ⊤ RunFault)
+pub looked_few : (options : Shape) (clubs : List NamedClub) (least : ℕ) (k m : PassView) (s : Screening) (failed : Bool)
+    (old new : Option (List ℕ)) (r : Result ⊤ RunFault)
     → ShowsSince options clubs least k m s failed old new r → OnOk r (AreFew s)
 looked_few options clubs least k m s failed old new (Ok done) p = stands_few options clubs k m s old new p.versions p.stands
 looked_few options clubs least k m s failed old new (Err f) p = tt
@@ -99,7 +105,8 @@ module _ {W : Type 0} (sink : sinks.Ghosts W) where
   served_by old new (Err fault) sound fails = fails
 
   -- after a run that ended well
-  pub served_then : (old mid new : W) (r : Result ⊤ RunFault) → SinkServed sink old mid (Ok tt) → SinkServed sink mid new r → SinkServed sink old new r
+  pub served_then : (old mid new : W) (r : Result ⊤ RunFault) → SinkServed sink old mid (Ok tt) → SinkServed sink mid new r
+      → SinkServed sink old new r
   served_then old mid new (Ok done) a b = b ∙ a
   served_then old mid new (Err fault) a b = rw a at b
 
@@ -110,9 +117,12 @@ goes_then k m z a (inl b) = inl (goes_next k m z a b)
 goes_then k m z a (inr e) = subst (GoesOnOrStays k) (sym e) a
 
 -- one pass more was heard
-pub heard_more : (s h : List Entry) (views : List PassView) (k : PassView) → IsPrefix s h → All (IsSeenIn s) views → IsSound k → IsPrefix k.seen h → All (IsSeenIn h) (views ++ k ∷ [])
+pub heard_more : (s h : List Entry) (views : List PassView) (k : PassView) → IsPrefix s h → All (IsSeenIn s) views → IsSound k
+    → IsPrefix k.seen h → All (IsSeenIn h) (views ++ k ∷ [])
 heard_more s h views k on all sound seen = All-push (IsSeenIn h) views k (seen_on s h views on all) (sound, seen)
 
-pub took_plain : (s : ReplyStyle) (k m : PassView) (a b : ℕ → Type 0) (old new : Device) (r : Result ⊤ RunFault) (P : List EventOutcome → Type 0)
+pub took_plain : (s : ReplyStyle) (k m : PassView) (a b : ℕ → Type 0) (old new : Device) (r : Result ⊤ RunFault) (P : List EventOutcome
+    → Type 0)
     → TookRows s k m a b old new r P → TookRows s k m a b old new r (λ outcomes. ⊤)
-took_plain s k m a b old new r P t = took_later s k m m a b b old new r P (λ outcomes. ⊤) (λ outcomes h. tt) t refl (λ n h. subst b (omega arith) h)
+took_plain s k m a b old new r P t = took_later s k m m a b b old new r P (λ outcomes. ⊤) (λ outcomes h. tt) t refl
+    (λ n h. subst b (omega arith) h)

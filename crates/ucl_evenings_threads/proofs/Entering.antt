@@ -35,7 +35,8 @@ entered_none n [] h = tt
 entered_none n (k ∷ views) h = (h 0 k (omega arith), entered_none (n + 1) views (λ i d lt. h (suc i) d (omega arith)))
 
 -- what the pass at a place has entered
-pub entered_there : (n p : ℕ) (events : List NightEvent) (views : List PassView) (k : PassView) → IsAt views p k → HaveEntered n events views
+pub entered_there : (n p : ℕ) (events : List NightEvent) (views : List PassView) (k : PassView) → IsAt views p k
+    → HaveEntered n events views
     → k.mine ≡ entries_for (n + p) events k.number
 unfolding HaveEntered
 entered_there n zero events (v ∷ views) k (lt, is) h = let same : n + 0 ≡ n = omega arith in rw (same, is) h.0
@@ -60,9 +61,10 @@ entered_set n zero events more (v ∷ views) m same own h =
     let here : n + 0 ≡ n = omega arith in
     (rw here at own, entered_others (n + 1) events more views (λ r x le. same r x (λ is. omega arith)) h.1)
 entered_set n (suc p) events more (v ∷ views) m same own h =
-    let here : n + suc p ≡ (n + 1) + p = omega arith in
-    (h.0 ∙ same n v.number (λ is. omega arith),
-    entered_set (n + 1) p events more views m (λ r x ne. same r x (λ is. ne (is ∙ here))) (rw here at own) h.1)
+    let here : n + suc p ≡ (n + 1) + p = omega arith in (
+      h.0 ∙ same n v.number (λ is. omega arith),
+      entered_set (n + 1) p events more views m (λ r x ne. same r x (λ is. ne (is ∙ here))) (rw here at own) h.1,
+    )
 
 -- ---- their order in a history
 
@@ -73,8 +75,10 @@ order_longer numbers start [] s h on o = begins_through start s h o on
 order_longer numbers start (e ∷ events) s h on o =
     (o.0, o.1, o.2, order_longer numbers (followed_by o.0 (entry_of (slice_index numbers (e.reporter - 1)) e.call)) events s h on o.3)
 
-order_more : (numbers : List ℕ) (start : List Entry) (events : List NightEvent) (e : NightEvent) (s before h : List Entry) → IsPrefix s before
-    → is_ok (sequential_reply before e.call) ≡ true → IsPrefix (followed_by before (entry_of (slice_index numbers (e.reporter - 1)) e.call)) h
+order_more : (numbers : List ℕ) (start : List Entry) (events : List NightEvent) (e : NightEvent) (s before h : List Entry)
+    → IsPrefix s before
+    → is_ok (sequential_reply before e.call) ≡ true
+    → IsPrefix (followed_by before (entry_of (slice_index numbers (e.reporter - 1)) e.call)) h
     → HasInOrder numbers start events s → HasInOrder numbers start (events ++ e ∷ []) h
 unfolding HasInOrder
 order_more numbers start [] e s before h since ok on o = (before, begins_through start s before o since, ok, on)
@@ -119,7 +123,8 @@ so_far_none start views h = record {
 
 numbers_same : (views : List PassView) (at : ℕ) (k m : PassView) → IsAt views at k → m.number ≡ k.number
     → numbers_of (set views at m) ≡ numbers_of views
-numbers_same views at k m there number = map_set_same (λ (x : PassView). x.number) views at k m (number ∙ ap (λ (x : PassView). x.number) there.1)
+numbers_same views at k m there number = map_set_same (λ (x : PassView). x.number) views at k m
+    (number ∙ ap (λ (x : PassView). x.number) there.1)
 
 -- the pass at a place has entered the next event
 pub so_far_more : (start : List Entry) (events : List NightEvent) (e : NightEvent) (views : List PassView) (at : ℕ) (k m p q : PassView)
@@ -130,16 +135,19 @@ so_far_more start events e views at k m p q there place entered h =
     let on = begins_through p.seen last q.seen (begins_more p.seen entered.before (entry_of m.number e.call) entered.since) entered.seen in
     let spot : e.reporter - 1 ≡ at = omega arith in
     let number : slice_index (numbers_of views) (e.reporter - 1) ≡ m.number =
-    rw spot (get_or-map (λ (x : PassView). x.number) views at k 0 there.0 ∙ ap (λ (x : PassView). x.number) (sym there.1) ∙ sym entered.number) in
+    rw spot (get_or-map (λ (x : PassView). x.number) views at k 0 there.0 ∙ ap (λ (x : PassView). x.number) (sym there.1)
+    ∙ sym entered.number) in
     record {
       each = entered_set 1 at events (events ++ e ∷ []) views m (λ r x ne. other_event r events e x (λ is. ne (sym is ∙ place)))
           (entered.mine ∙ ap (λ l. followed_by l (entry_of m.number e.call))
           (entered_there 1 at events views k there h.each ∙ ap (entries_for (1 + at) events) (sym entered.number))
           ∙ sym (own_event (1 + at) events e m.number place)) h.each;
       in_order = rw (numbers_same views at k m there entered.number)
-          (order_more (numbers_of views) start events e p.seen entered.before q.seen entered.since entered.accepted (rw number entered.seen) h.in_order);
+          (order_more (numbers_of views) start events e p.seen entered.before q.seen entered.since entered.accepted
+          (rw number entered.seen) h.in_order);
       known = All-set (IsKnownIn q.seen) views at m entered.known (All-weaker (IsKnownIn p.seen) (IsKnownIn q.seen)
-          (λ x has. begins_through x.mine (entries_by x.number p.seen) (entries_by x.number q.seen) has (by_longer x.number p.seen q.seen on)) views h.known);
+          (λ x has. begins_through x.mine (entries_by x.number p.seen) (entries_by x.number q.seen) has
+          (by_longer x.number p.seen q.seen on)) views h.known);
     }
 
 -- it has entered nothing more, and has then seen all of the history
@@ -150,7 +158,8 @@ so_far_same start events views history at k m there number mine h = record {
   each = entered_set 1 at events events views m (λ r x ne. refl)
       (mine ∙ entered_there 1 at events views k there h.each ∙ ap (entries_for (1 + at) events) (sym number)) h.each;
   in_order = rw (numbers_same views at k m there number) h.in_order;
-  known = All-set (IsKnownIn history) views at m (rw (mine, number) (subst (IsKnownIn history) (sym there.1) (h.known at k there.0))) h.known;
+  known = All-set (IsKnownIn history) views at m
+      (rw (mine, number) (subst (IsKnownIn history) (sym there.1) (h.known at k there.0))) h.known;
 }
 
 pub told_more : (start : List Entry) (events : List NightEvent) (views : List PassView) (history : List Entry) (at : ℕ) (k m : PassView)

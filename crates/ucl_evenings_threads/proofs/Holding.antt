@@ -1,7 +1,7 @@
 -- How an evening ends.
-use Rattle.ucl_evenings_threads.proofs.Common.{All, All-append, AllZip, AreAllOf, Ask, Continues, Enlisted, Entry, EventOutcome}
+use Rattle.ucl_evenings_threads.proofs.Common.{All, All-append, AllZip, AreAllOf, Ask, Continues, Entry, EventOutcome}
 use Rattle.ucl_evenings_threads.proofs.Common.{HasAnsweredRows, HasRun, HasShownAbove, HasShownOf, HasTakenRows, IsLooking, IsPrefix}
-use Rattle.ucl_evenings_threads.proofs.Common.{IsSeenIn, IsTheirs, LastIs, LastIsAtLeast, List, Looking, NamedClub, PassView, Reading}
+use Rattle.ucl_evenings_threads.proofs.Common.{IsSeenIn, IsTheirs, LastIs, LastIsAtLeast, Lent, List, NamedClub, PassView, Reading}
 use Rattle.ucl_evenings_threads.proofs.Common.{ReporterEnd, RiseWithin, Screen, ScreenEnd, SharedReading, WasEnlisted, [], arith, asks_in}
 use Rattle.ucl_evenings_threads.proofs.Common.{begins_length, begins_take, begins_through, le_refl, length, length-take-le, past_point}
 use Rattle.ucl_evenings_threads.proofs.Common.{rise_lower, subst, sym, take, views_of, ℕ, ◌++◌, ◌+◌, ◌∙◌, ◌∷◌, ◌≡◌, ◌≤◌}
@@ -32,7 +32,8 @@ module _ (p z : PassView) (last : Reading) (on : Continues p z) (read : SharedRe
     pub heard_at_end : All (IsSeenIn whole) (views ++ more)
     heard_at_end =
         let later = begins_through early p.seen whole before begins_whole in
-        All-append (IsSeenIn whole) views more (seen_on s whole views (begins_through s early whole since later) heard) (seen_on early whole more later heard_more)
+        All-append (IsSeenIn whole) views more (seen_on s whole views (begins_through s early whole since later) heard)
+        (seen_on early whole more later heard_more)
 
     pub theirs_at_end : AreAllOf (views ++ more) last.version → IsTheirs (views ++ more) whole
     theirs_at_end all = theirs (views ++ more) whole all.0 heard_at_end (whole_long ∙ all.1)
@@ -40,21 +41,24 @@ module _ (p z : PassView) (last : Reading) (on : Continues p z) (read : SharedRe
     -- there was nothing after them
     pub early_long : AreAllOf (views ++ more) last.version → last.version ≡ length early
     early_long all =
-        let few = enough (views ++ more) early all.0 (All-append (IsSeenIn early) views more (seen_on s early views since heard) heard_more) in
+        let few = enough (views ++ more) early all.0
+        (All-append (IsSeenIn early) views more (seen_on s early views since heard) heard_more) in
         let many = begins_length early whole (begins_through early p.seen whole before begins_whole) in
         let long = whole_long in
         let same = all.1 in omega arith
 
 module _ {B R P V : Type 0} (live : boards.Ghosts B R P) (board : B) (sink : sinks.Ghosts V) (clubs : List NamedClub) where
-  pub shown_at_end : (first before s h : List Entry) (version least : ℕ) (screens : List (Screen B V)) (lookings : List (Looking R (Screen B V)))
+  pub shown_at_end : (first before s h : List Entry) (version least : ℕ) (screens : List (Screen B V))
+      (lookings : List (Lent R (Screen B V)))
       (ends : List (ScreenEnd R (Screen B V))) → IsPrefix first before → IsPrefix s h → length h ≡ version → version ≡ least
       → AllZip (IsLooking live board before) screens lookings → AllZip (HasShownAbove live board sink clubs s least) lookings ends
       → AllZip (HasShownOf live board sink clubs first h (LastIs version)) screens ends
   shown_at_end first before s h version least screens lookings ends early on long same looking shown =
-      zip_then (IsLooking live board before) (HasShownAbove live board sink clubs s least) (HasShownOf live board sink clubs first h (LastIs version))
+      zip_then (IsLooking live board before) (HasShownAbove live board sink clubs s least)
+      (HasShownOf live board sink clubs first h (LastIs version))
       (λ screen looking end l p.
       let seen = (live.reader looking.pass).seen in
-      let q = shown_on live board sink clubs seen s h (LastIsAtLeast least) (LastIsAtLeast version) looking.screen end on
+      let q = shown_on live board sink clubs seen s h (LastIsAtLeast least) (LastIsAtLeast version) looking.part end on
       (λ versions e. subst (λ (n : ℕ). LastIsAtLeast n versions) (sym same) e) p in
       subst (λ (x : Screen B V). HasShownOf live board sink clubs first h (LastIs version) x end) l.same
       (record {
@@ -62,7 +66,8 @@ module _ {B R P V : Type 0} (live : boards.Ghosts B R P) (board : B) (sink : sin
         options = q.options;
         seen = q.seen;
         versions = q.versions;
-        rise = rise_lower (length first) (length seen) (length h + 1) q.versions q.rise (begins_length first seen (begins_through first before seen early l.since));
+        rise = rise_lower (length first) (length seen) (length h + 1) q.versions q.rise
+            (begins_length first seen (begins_through first before seen early l.since));
         ends = screens_end _ _ _ _ _ (LastIs version q.versions) end.result
             (ends_at (length seen) version q.versions (subst (λ (n : ℕ). RiseWithin (length seen) (n + 1) q.versions) long q.rise)) q.ends;
         served = q.served;
@@ -75,13 +80,21 @@ module _ (reporter : ℕ) (s h : List Entry) (on : IsPrefix s h) where
       → GoThrough reporter s low high asks outcomes → GoThrough reporter h low2 high2 asks outcomes
   unfolding GoThrough
   through_in low low2 high high2 [] [] le more g = omega arith
-  through_in low low2 high high2 (ask ∷ asks) (w ∷ outcomes) le more (p, above, went, rest) =
-      (p, omega arith, at_on reporter s h on p ask w went, through_in (past_point p w) (past_point p w) high high2 asks outcomes (le_refl (past_point p w)) more rest)
+  through_in low low2 high high2 (ask ∷ asks) (w ∷ outcomes) le more (p, above, went, rest) = (
+    p,
+    omega arith,
+    at_on reporter s h on p ask w went,
+    through_in (past_point p w) (past_point p w) high high2 asks outcomes
+        (le_refl (past_point p w)) more rest,
+  )
   through_in low low2 high high2 _ _ le more g = absurd g
 
-module _ {B R P S W : Type 0} (live : boards.Ghosts B R P) (board : B) (source : sources.Ghosts S) (replies : sinks.Ghosts W) (clubs : List NamedClub) where
-  pub reported_at_end : (first before s h : List Entry) (reporters : List (Reporter S W)) (all : List (Enlisted P S W)) (ends : List (ReporterEnd P S W))
-      → IsPrefix first before → IsPrefix s h → AllZip (WasEnlisted live board before) reporters all → AllZip (HasRun live board source replies clubs) all ends
+module _ {B R P S W : Type 0} (live : boards.Ghosts B R P) (board : B) (source : sources.Ghosts S) (replies : sinks.Ghosts W)
+    (clubs : List NamedClub) where
+  pub reported_at_end : (first before s h : List Entry) (reporters : List (Reporter S W)) (all : List (Lent P (Reporter S W)))
+      (ends : List (ReporterEnd P S W))
+      → IsPrefix first before → IsPrefix s h → AllZip (WasEnlisted live board before) reporters all
+      → AllZip (HasRun live board source replies clubs) all ends
       → All (IsSeenIn s) (views_of live ends) → AllZip (HasAnsweredRows live board source replies clubs first h) reporters ends
   reported_at_end first before s h reporters all ends early on enlisted run heard =
       zip_then (WasEnlisted live board before) (λ x y. HasRun live board source replies clubs x y × IsSeenIn s (live.reporter y.pass))
@@ -98,7 +111,9 @@ module _ {B R P S W : Type 0} (live : boards.Ghosts B R P) (board : B) (source :
         run = q;
         through = subst (λ (n : ℕ). GoThrough n h (length first) (length h) (asks_in 1 q.took.lines) q.took.outcomes) (sym r.always.number)
             (through_in k.number m.seen h (begins_through m.seen s h p.1.1 on) _ _ _ _ _ _
-            (begins_length first k.seen (begins_through first before k.seen early l.since)) (begins_length m.seen h (begins_through m.seen s h p.1.1 on)) r.through);
+            (begins_length first k.seen (begins_through first before k.seen early l.since))
+            (begins_length m.seen h (begins_through m.seen s h p.1.1 on)) r.through);
       })
       reporters all ends enlisted
-      (zip_all (HasRun live board source replies clubs) (λ (end : ReporterEnd P S W). live.reporter end.pass) (IsSeenIn s) all ends run heard)
+      (zip_all (HasRun live board source replies clubs) (λ (end : ReporterEnd P S W). live.reporter end.pass)
+      (IsSeenIn s) all ends run heard)

@@ -34,7 +34,8 @@ take_beyond (x ∷ a) b n =
     let one : length (x ∷ a) + n ≡ suc (length a + n) = omega arith in rw one (ap (λ (l : List ℕ). x ∷ l) (take_beyond a b n))
 
 -- the first part is out, and the second was told
-pub told_second : (failed : Bool) (old between new : Option (List ℕ)) (a b : List ℕ) → Appends old between a → Tells failed between new b → Tells failed old new (a ++ b)
+pub told_second : (failed : Bool) (old between new : Option (List ℕ)) (a b : List ℕ) → Appends old between a → Tells failed between new b
+    → Tells failed old new (a ++ b)
 told_second failed old between new a b out (inl all) = inl (appends-then old between new a b out all)
 told_second failed old between new a b out (inr broke) = let short = broke.first.cut in let long = length-append a b in inr (record {
   failed_is = broke.failed_is;
@@ -49,10 +50,12 @@ told_second failed old between new a b out (inr broke) = let short = broke.first
 
 -- what is told of the parts that are left completes what was told; a sink that has failed by now has failed in the end
 abbrev pub Completes : List Part → List Part → Bool → Option (List ℕ) → Option (List ℕ) → Type 0
-Completes left parts failed now old = (end : Bool) (new : Option (List ℕ)) → (failed ≡ true → end ≡ true) → TellsAll left end now new → TellsAll parts end old new
+Completes left parts failed now old = (end : Bool) (new : Option (List ℕ)) → (failed ≡ true → end ≡ true) → TellsAll left end now new
+    → TellsAll parts end old new
 
 -- a line that broke off, where the sink has failed since
-told_later : (worker : Worker) (number : ℕ) (r : Result ⊤ RunFault) (failed end : Bool) (old new : Option (List ℕ)) → (failed ≡ true → end ≡ true)
+told_later : (worker : Worker) (number : ℕ) (r : Result ⊤ RunFault) (failed end : Bool) (old new : Option (List ℕ))
+    → (failed ≡ true → end ≡ true)
     → TellsResult worker number r failed old new → TellsResult worker number r end old new
 told_later worker number (Ok done) failed end old new stays told = told
 told_later worker number (Err fault) failed end old new stays (inl all) = inl all
@@ -78,7 +81,8 @@ pub record StandsAt (parts left : List Part) (failed : Bool) (old now : Option (
 pub stands_first : (parts : List Part) (failed : Bool) (old : Option (List ℕ)) → StandsAt parts parts failed old old None
 stands_first parts failed old = record { told = λ end new stays told. told; status = refl }
 
-pub stands_next : (parts left rest : List Part) (part : Part) (before failed : Bool) (old now next : Option (List ℕ)) (first first2 : Option ℕ) → left ≡ part ∷ rest
+pub stands_next : (parts left rest : List Part) (part : Part) (before failed : Bool) (old now next : Option (List ℕ))
+    (first first2 : Option ℕ) → left ≡ part ∷ rest
     → TellsEnd part failed now next → (before ≡ true → failed ≡ true)
     → ((rest : List Part) → unwrap_or first2 (first_status rest) ≡ unwrap_or first (first_status (part ∷ rest)))
     → StandsAt parts left before old now first → StandsAt parts rest failed old next first2
@@ -90,7 +94,8 @@ stands_next parts left rest part before failed old now next first first2 is told
   status = count rest ∙ (ap (λ (l : List Part). unwrap_or first (first_status l)) (sym is) ∙ s.status);
 }
 
-pub stands_last : (parts left : List Part) (failed : Bool) (old now : Option (List ℕ)) (first : Option ℕ) → left ≡ [] → StandsAt parts left failed old now first
+pub stands_last : (parts left : List Part) (failed : Bool) (old now : Option (List ℕ)) (first : Option ℕ) → left ≡ []
+    → StandsAt parts left failed old now first
     → TellsAll parts failed old now × (unwrap_or first 0 ≡ first_status parts)
 unfolding TellsAll first_status
 stands_last parts left failed old now first none s = (
@@ -98,11 +103,16 @@ stands_last parts left failed old now first none s = (
   ap (λ (l : List Part). unwrap_or first (first_status l)) (sym none) ∙ s.status,
 )
 
-pub tells_later : (parts : List Part) (failed end : Bool) (old now : Option (List ℕ)) → (failed ≡ true → end ≡ true) → TellsAll parts failed old now → TellsAll parts end old now
+pub tells_later : (parts : List Part) (failed end : Bool) (old now : Option (List ℕ)) → (failed ≡ true → end ≡ true)
+    → TellsAll parts failed old now → TellsAll parts end old now
 unfolding TellsAll
 tells_later [] failed end old now stays told = told
-tells_later (part ∷ parts) failed end old now stays told =
-    (told.0, told_later part.worker part.number part.result failed end old told.0 stays told.1, tells_later parts failed end told.0 now stays told.2)
+tells_later (part ∷ parts) failed end old now stays told = (
+  told.0,
+  told_later part.worker part.number part.result failed end old told.0 stays told.1,
+  tells_later parts failed end told.0 now
+      stays told.2,
+)
 
 -- ---- the workers that are left
 
@@ -117,9 +127,11 @@ pub reporters_done : {P S W : Type 0} (i number : ℕ) (ends : List (ReporterEnd
 unfolding reporter_parts
 reporters_done i number ends more h = ap (λ l. reporter_parts number l ++ more) (past_end i ends h)
 
-pub screens_left : {B R V : Type 0} (i text json : ℕ) (ends : List (ScreenEnd R (Screen B V))) (end : ScreenEnd R (Screen B V)) (form : Format)
+pub screens_left : {B R V : Type 0} (i text json : ℕ) (ends : List (ScreenEnd R (Screen B V))) (end : ScreenEnd R (Screen B V))
+    (form : Format)
     (worker : Worker) (number text2 json2 : ℕ) → i < length ends → end ≡ get_or ends i end → end.screen.options.format ≡ form
-    → worker ≡ worker_for form → number ≡ number_for form text json → text2 ≡ text + one_of forms.Text form → json2 ≡ json + one_of forms.Json form
+    → worker ≡ worker_for form → number ≡ number_for form text json → text2 ≡ text + one_of forms.Text form
+    → json2 ≡ json + one_of forms.Json form
     → screen_parts text json (drop i ends)
     ≡ record { worker = worker; number = number; result = end.result } ∷ screen_parts text2 json2 (drop (i + 1) ends)
 unfolding screen_parts

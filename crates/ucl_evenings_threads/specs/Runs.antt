@@ -20,10 +20,9 @@ use Rattle.ucl_evenings.specs.Rows.{TookRows}
 use Rattle.ucl_evenings.specs.Showing.{GoesOnOrStays, IsNewScreen, IsScreenOn, RiseWithin, ScreensEnd, ShowsSince, StaysScreen, screens_shown, standing}
 use Rattle.ucl_evenings_threads.specs.declared.workers.Reporter.{Reporter}
 use Rattle.ucl_evenings_threads.specs.declared.workers.ReporterEnd.{ReporterEnd}
-use Rattle.ucl_evenings_threads.specs.declared.workers.Enlisted.{Enlisted}
 use Rattle.ucl_evenings.specs.declared.screen.Screen.{Screen}
 use Rattle.ucl_evenings_threads.specs.declared.workers.ScreenEnd.{ScreenEnd}
-use Rattle.ucl_evenings_threads.specs.declared.workers.Looking.{Looking}
+use Rattle.ucl_evenings_threads.specs.declared.workers.Lent.{Lent}
 use Rattle.ucl_evenings_threads.specs.declared.reporters.Reported.{Reported}
 use Rattle.ucl_evenings_threads.specs.declared.screens.Ran.{Ran}
 use Rattle.ucl_evenings_threads.specs.Whole.{IsSeenIn}
@@ -42,7 +41,12 @@ IsOfEnlisting live board _ = ⊥
 
 -- a source and a sink as one device
 abbrev pub device_of : {S W : Type 0} → sources.Ghosts S → sinks.Ghosts W → S → W → Device
-device_of source sink rows replies = record { left = source.left rows; source_failed = source.failed rows; taken = sink.taken replies; sink_failed = sink.failed replies }
+device_of source sink rows replies = record {
+  left = source.left rows;
+  source_failed = source.failed rows;
+  taken = sink.taken replies;
+  sink_failed = sink.failed replies;
+}
 
 -- a run tells a failed write just where a call of its sink failed
 abbrev pub SinkServed : {W : Type 0} → sinks.Ghosts W → W → W → Result ⊤ RunFault → Type 0
@@ -81,11 +85,8 @@ WereSplitOff share (part ∷ parts) left = (part ≡ second_half share) × WereS
 abbrev pub shares_of : {B R P : Type 0} → boards.Ghosts B R P → List P → List Share
 shares_of {B} {R} {P} live passes = map (λ (pass : P). (live.reporter pass).share) passes
 
-abbrev pub shares_enlisted : {B R P S W : Type 0} → boards.Ghosts B R P → List (Enlisted P S W) → List Share
-shares_enlisted {B} {R} {P} {S} {W} live all = map (λ (enlisted : Enlisted P S W). (live.reporter enlisted.pass).share) all
-
-abbrev pub shares_looking : {B R P X : Type 0} → boards.Ghosts B R P → List (Looking R X) → List Share
-shares_looking {B} {R} {P} {X} live all = map (λ (looking : Looking R X). (live.reader looking.pass).share) all
+abbrev pub shares_lent : {P X : Type 0} → (P → PassView) → List (Lent P X) → List Share
+shares_lent {P} {X} view all = map (λ (lent : Lent P X). (view lent.pass).share) all
 
 abbrev pub shares_of_reporters : {B R P S W : Type 0} → boards.Ghosts B R P → List (ReporterEnd P S W) → List Share
 shares_of_reporters {B} {R} {P} {S} {W} live ends = map (λ (end : ReporterEnd P S W). (live.reporter end.pass).share) ends
@@ -102,94 +103,106 @@ pub record IsReady {B R P : Type 0} (live : boards.Ghosts B R P) (board : B) (pa
   pub nothing : (live.reporter pass).mine ≡ []
   pub reported : live.has_reported pass 0
 
-abbrev pub reporter_of : {P S W : Type 0} → Enlisted P S W → Reporter S W
-reporter_of enlisted = record { rows = enlisted.rows; replies = enlisted.replies; shape = enlisted.shape }
-
-abbrev pub IsReadyToRun : {B R P S W : Type 0} → boards.Ghosts B R P → B → Enlisted P S W → Type 0
+abbrev pub IsReadyToRun : {B R P S W : Type 0} → boards.Ghosts B R P → B → Lent P (Reporter S W) → Type 0
 IsReadyToRun live board enlisted = IsReady live board enlisted.pass
 
 -- a reporter was lent a pass, which has seen all that had been seen before
-pub record WasEnlisted {B R P S W : Type 0} (live : boards.Ghosts B R P) (board : B) (before : List Entry) (reporter : Reporter S W) (enlisted : Enlisted P S W) : Type 0 where
-  pub same : reporter_of enlisted ≡ reporter
+pub record WasEnlisted {B R P S W : Type 0} (live : boards.Ghosts B R P) (board : B) (before : List Entry) (reporter : Reporter S W)
+    (enlisted : Lent P (Reporter S W)) : Type 0 where
+  pub same : enlisted.part ≡ reporter
   pub ready : IsReady live board enlisted.pass
   pub since : IsPrefix before (live.reporter enlisted.pass).seen
 
--- a reporter with this pass has taken rows from its source, and answered them in its shape: a failed read is told just where the source failed
-pub record HasTakenRows {B R P S W : Type 0} (live : boards.Ghosts B R P) (board : B) (source : sources.Ghosts S) (sink : sinks.Ghosts W) (clubs : List NamedClub) (pass : P)
+-- a reporter with this pass has taken rows from its source, and answered them in its shape: a failed read is told just where the source
+-- failed
+pub record HasTakenRows {B R P S W : Type 0} (live : boards.Ghosts B R P) (board : B) (source : sources.Ghosts S) (sink : sinks.Ghosts W)
+    (clubs : List NamedClub) (pass : P)
     (reporter : Reporter S W) (end : ReporterEnd P S W) : Type 0 where
   pub own : live.is_reporter board end.pass
-  pub took : TookRows (reply_style reporter.shape clubs (live.reporter pass)) (live.reporter pass) (live.reporter end.pass) (live.has_reported pass) (live.has_reported end.pass)
+  pub took : TookRows (reply_style reporter.shape clubs (live.reporter pass)) (live.reporter pass) (live.reporter end.pass)
+      (live.has_reported pass) (live.has_reported end.pass)
       (device_of source sink reporter.rows reporter.replies) (device_of source sink end.rows end.replies) end.result (λ outcomes. ⊤)
   pub read_failed : source.failed end.rows ≡ is_read_failed end.result
   pub served : SinkServed sink reporter.replies end.replies end.result
 
-abbrev pub HasRun : {B R P S W : Type 0} → boards.Ghosts B R P → B → sources.Ghosts S → sinks.Ghosts W → List NamedClub → Enlisted P S W → ReporterEnd P S W → Type 0
-HasRun live board source sink clubs enlisted end = HasTakenRows live board source sink clubs enlisted.pass (reporter_of enlisted) end
+abbrev pub HasRun : {B R P S W : Type 0} → boards.Ghosts B R P → B → sources.Ghosts S → sinks.Ghosts W → List NamedClub
+    → Lent P (Reporter S W) → ReporterEnd P S W → Type 0
+HasRun live board source sink clubs enlisted end = HasTakenRows live board source sink clubs enlisted.pass enlisted.part end
 
 -- the same of a pass that had reported nothing before: its events went so in a history, after what had been seen before
-pub record HasAnsweredRows {B R P S W : Type 0} (live : boards.Ghosts B R P) (board : B) (source : sources.Ghosts S) (sink : sinks.Ghosts W) (clubs : List NamedClub)
+pub record HasAnsweredRows {B R P S W : Type 0} (live : boards.Ghosts B R P) (board : B) (source : sources.Ghosts S) (sink : sinks.Ghosts W)
+    (clubs : List NamedClub)
     (before history : List Entry) (reporter : Reporter S W) (end : ReporterEnd P S W) : Type 0 where
   pub pass : P
   pub ready : IsReady live board pass
   pub run : HasTakenRows live board source sink clubs pass reporter end
-  pub through : GoThrough (live.reporter end.pass).number history (length before) (length history) (asks_in 1 run.took.lines) run.took.outcomes
+  pub through : GoThrough (live.reporter end.pass).number history (length before) (length history)
+      (asks_in 1 run.took.lines) run.took.outcomes
 
 -- ---- screens
 
 -- a screen of the board that has shown nothing yet, with a pass of the board
-pub record IsReadyToLook {B R P V : Type 0} (live : boards.Ghosts B R P) (board : B) (clubs : List NamedClub) (looking : Looking R (Screen B V)) : Type 0 where
+pub record IsReadyToLook {B R P V : Type 0} (live : boards.Ghosts B R P) (board : B) (clubs : List NamedClub)
+    (looking : Lent R (Screen B V)) : Type 0 where
   pub own : live.is_reader board looking.pass
-  pub new : IsNewScreen board clubs looking.screen
+  pub new : IsNewScreen board clubs looking.part
 
 -- a screen was lent a pass, which has seen all that had been seen before
-pub record IsLooking {B R P X : Type 0} (live : boards.Ghosts B R P) (board : B) (before : List Entry) (screen : X) (looking : Looking R X) : Type 0 where
-  pub same : looking.screen ≡ screen
+pub record IsLooking {B R P X : Type 0} (live : boards.Ghosts B R P) (board : B) (before : List Entry) (screen : X)
+    (looking : Lent R X) : Type 0 where
+  pub same : looking.part ≡ screen
   pub own : live.is_reader board looking.pass
   pub since : IsPrefix before (live.reader looking.pass).seen
 
 -- a screen has shown boards, and its thread has ended
-pub record HasLookedOn {B R P V : Type 0} (live : boards.Ghosts B R P) (board : B) (sink : sinks.Ghosts V) (clubs : List NamedClub) (looking : Looking R (Screen B V))
+pub record HasLookedOn {B R P V : Type 0} (live : boards.Ghosts B R P) (board : B) (sink : sinks.Ghosts V) (clubs : List NamedClub)
+    (looking : Lent R (Screen B V))
     (end : ScreenEnd R (Screen B V)) : Type 0 where
   pub own : live.is_reader board end.pass
   pub of : IsScreenOn board clubs end.screen
-  pub same : StaysScreen looking.screen end.screen
-  pub shows : ShowsSince looking.screen.options clubs (length (live.reader looking.pass).seen) (live.reader looking.pass) (live.reader end.pass) (standing end.screen)
-      (sink.failed end.screen.sink) (sink.taken looking.screen.sink) (sink.taken end.screen.sink) end.result
-  pub served : SinkServed sink looking.screen.sink end.screen.sink end.result
+  pub same : StaysScreen looking.part end.screen
+  pub shows : ShowsSince looking.part.options clubs (length (live.reader looking.pass).seen) (live.reader looking.pass)
+      (live.reader end.pass) (standing end.screen)
+      (sink.failed end.screen.sink) (sink.taken looking.part.sink) (sink.taken end.screen.sink) end.result
+  pub served : SinkServed sink looking.part.sink end.screen.sink end.result
 
 -- a screen has shown boards of a history, of versions that rise, none below what had been seen before; they end so, where it ended well
-pub record HasShownOf {B R P V : Type 0} (live : boards.Ghosts B R P) (board : B) (sink : sinks.Ghosts V) (clubs : List NamedClub) (before history : List Entry)
+pub record HasShownOf {B R P V : Type 0} (live : boards.Ghosts B R P) (board : B) (sink : sinks.Ghosts V) (clubs : List NamedClub)
+    (before history : List Entry)
     (Ends : List ℕ → Type 0) (screen : Screen B V) (end : ScreenEnd R (Screen B V)) : Type 0 where
   pub own : live.is_reader board end.pass
   pub options : end.screen.options ≡ screen.options
   pub seen : IsPrefix (live.reader end.pass).seen history
   pub versions : List ℕ
   pub rise : RiseWithin (length before) (length history + 1) versions
-  pub ends : ScreensEnd (sink.failed end.screen.sink) (sink.taken screen.sink) (sink.taken end.screen.sink) (screens_shown screen.options clubs history 1 versions) (Ends versions)
+  pub ends : ScreensEnd (sink.failed end.screen.sink) (sink.taken screen.sink) (sink.taken end.screen.sink)
+      (screens_shown screen.options clubs history 1 versions) (Ends versions)
       end.result
   pub served : SinkServed sink screen.sink end.screen.sink end.result
 
 -- a screen with a lent pass has shown boards of a history, and the last of them is no lower than this, where it ended well
-abbrev pub HasShownAbove : {B R P V : Type 0} → boards.Ghosts B R P → B → sinks.Ghosts V → List NamedClub → List Entry → ℕ → Looking R (Screen B V) → ScreenEnd R (Screen B V) → Type 0
+abbrev pub HasShownAbove : {B R P V : Type 0} → boards.Ghosts B R P → B → sinks.Ghosts V → List NamedClub → List Entry → ℕ
+    → Lent R (Screen B V) → ScreenEnd R (Screen B V) → Type 0
 HasShownAbove live board sink clubs history least looking end =
-    HasShownOf live board sink clubs (live.reader looking.pass).seen history (LastIsAtLeast least) looking.screen end
+    HasShownOf live board sink clubs (live.reader looking.pass).seen history (LastIsAtLeast least) looking.part end
 
 -- a screen handed its share back
-abbrev pub KeepsShare : {B R P X : Type 0} → boards.Ghosts B R P → Looking R X → ScreenEnd R X → Type 0
+abbrev pub KeepsShare : {B R P X : Type 0} → boards.Ghosts B R P → Lent R X → ScreenEnd R X → Type 0
 KeepsShare live looking end = (live.reader end.pass).share ≡ (live.reader looking.pass).share
 
 -- ---- all of them
 
 -- what the threads begin with: main's pass, and what is lent
-pub record AreLent {B R P S W V : Type 0} (live : boards.Ghosts B R P) (board : B) (clubs : List NamedClub) (pass : R) (screens : List (Looking R (Screen B V)))
-    (all : List (Enlisted P S W)) : Type 0 where
+pub record AreLent {B R P S W V : Type 0} (live : boards.Ghosts B R P) (board : B) (clubs : List NamedClub) (pass : R)
+    (screens : List (Lent R (Screen B V)))
+    (all : List (Lent P (Reporter S W))) : Type 0 where
   pub own : live.is_reader board pass
   pub looking : All (IsReadyToLook live board clubs) screens
   pub ready : All (IsReadyToRun live board) all
 
 -- all reporters have run, and a reader's pass has then seen what they have: it has gone on from what was known of it
 pub record HaveReported {B R P S W : Type 0} (live : boards.Ghosts B R P) (board : B) (source : sources.Ghosts S) (replies : sinks.Ghosts W)
-    (clubs : List NamedClub) (k : PassView) (all : List (Enlisted P S W)) (reported : Reported R P S W) : Type 0 where
+    (clubs : List NamedClub) (k : PassView) (all : List (Lent P (Reporter S W))) (reported : Reported R P S W) : Type 0 where
   pub own : live.is_reader board reported.pass
   pub always : GoesOnOrStays k (live.reader reported.pass)
   pub run : AllZip (HasRun live board source replies clubs) all reported.ends.items
@@ -198,7 +211,8 @@ pub record HaveReported {B R P S W : Type 0} (live : boards.Ghosts B R P) (board
 -- all threads have run, and a reader's pass has gone on from what was known of it: what the reporters have seen is in a history that it has
 -- seen; and of all that it has seen is what each screen has shown, up to no less than that history
 pub record HaveRun {B R P S W V : Type 0} (live : boards.Ghosts B R P) (board : B) (source : sources.Ghosts S) (replies : sinks.Ghosts W)
-    (sink : sinks.Ghosts V) (clubs : List NamedClub) (k : PassView) (screens : List (Looking R (Screen B V))) (all : List (Enlisted P S W))
+    (sink : sinks.Ghosts V) (clubs : List NamedClub) (k : PassView) (screens : List (Lent R (Screen B V)))
+    (all : List (Lent P (Reporter S W)))
     (ran : Ran R P S W (Screen B V)) : Type 0 where
   pub own : live.is_reader board ran.pass
   pub always : GoesOnOrStays k (live.reader ran.pass)

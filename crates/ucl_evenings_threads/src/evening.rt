@@ -12,7 +12,7 @@ use crate::bells::{Wake, hang_bells};
 use crate::lend::{enlist_all, look_all};
 use crate::screens::{Ran, run_screens};
 use crate::tally::{are_all_of, hear_all};
-use crate::workers::{Enlisted, Looking, Reporter, ReporterEnd, ScreenEnd};
+use crate::workers::{Lent, Reporter, ReporterEnd, ScreenEnd};
 use std::alloc::Global;
 use std::sync::Wait;
 use std::thread;
@@ -53,8 +53,8 @@ fn run_threads<
     wakes: &[Wake],
     roster: &Roster,
     pass: B::ReaderPass,
-    screens: Vec<Looking<B::ReaderPass, Screen<B, V>>>,
-    all: Vec<Enlisted<B::ReporterPass, S, W>>,
+    screens: Vec<Lent<B::ReaderPass, Screen<B, V>>>,
+    all: Vec<Lent<B::ReporterPass, Reporter<S, W>>>,
 ) -> Result<Ran<B::ReaderPass, B::ReporterPass, S, W, Screen<B, V>>, RunFault>
     requires bells { vec_len screens ≤ length wakes.now }
     requires lent { AreLent B.LiveBoard board.now roster.now pass screens.items all.items }

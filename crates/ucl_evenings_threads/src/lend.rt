@@ -4,10 +4,10 @@ ghost use Rattle.std.specs.Prelude.{◌≡◌, IfErr, IfOk};
 ghost use mathlib.Core.List.{IsPrefix};
 ghost use Rattle.std.specs.List.{AllZip};
 ghost use Rattle.ucl_live_board.specs.Shares.{first_half, second_half};
-ghost use Rattle.ucl_evenings_threads.specs.Runs.{WasEnlisted, WereSplitOff, IsLooking, IsOfEnlisting, IsOfThreads, IsReady, shares_enlisted, shares_looking};
+ghost use Rattle.ucl_evenings_threads.specs.Runs.{WasEnlisted, WereSplitOff, IsLooking, IsOfEnlisting, IsOfThreads, IsReady, shares_lent};
 
 use crate::lists::{put, take_last};
-use crate::workers::{Enlisted, Looking, Reporter};
+use crate::workers::{Lent, Reporter};
 use std::alloc::Global;
 use std::sync::Wait;
 use ucl_live_board::LiveBoard;
@@ -41,7 +41,7 @@ pub fn enlist_all<B: LiveBoard, S: Drop, W: Drop, R: Wait>(
     board: &B,
     pass: &mut B::ReaderPass,
     mut reporters: Vec<Reporter<S, W>>,
-) -> Result<Vec<Enlisted<B::ReporterPass, S, W>>, RunFault>
+) -> Result<Vec<Lent<B::ReporterPass, Reporter<S, W>>>, RunFault>
     requires own { B.is_reader board.now pass.old }
     ensures own { B.is_reader board.now pass.new }
     ensures seen { (B.reader pass.new).seen ≡ (B.reader pass.old).seen }
@@ -49,28 +49,15 @@ pub fn enlist_all<B: LiveBoard, S: Drop, W: Drop, R: Wait>(
         AllZip (WasEnlisted B.LiveBoard board.now (B.reader pass.old).seen)
         reporters.items all.items) }
     ensures split { IfOk result (λ all. WereSplitOff (B.reader pass.old).share
-        (shares_enlisted B.LiveBoard all.items) (B.reader pass.new).share) }
+        (shares_lent B.reporter all.items) (B.reader pass.new).share) }
     ensures kinds { IfErr result (IsOfEnlisting B.LiveBoard board.now) }
 {
-    let Some(
-        Reporter {
-            rows,
-            replies,
-            shape,
-        },
-    ) = take_last(&mut reporters)
-    else {
+    let Some(part) = take_last(&mut reporters) else {
         return Ok(Vec::new(alloc));
     };
     let mut all = enlist_all(rt, alloc, board, pass, reporters)?;
     let second = enlist_one(rt, board, pass)?;
-    let enlisted = Enlisted {
-        pass: second,
-        rows,
-        replies,
-        shape,
-    };
-    put(&mut all, enlisted)?;
+    put(&mut all, Lent { pass: second, part })?;
     Ok(all)
 }
 
@@ -81,7 +68,7 @@ pub fn look_all<B: LiveBoard, X: Drop, R: Wait>(
     board: &B,
     pass: &mut B::ReaderPass,
     mut screens: Vec<X>,
-) -> Result<Vec<Looking<B::ReaderPass, X>>, RunFault>
+) -> Result<Vec<Lent<B::ReaderPass, X>>, RunFault>
     requires own { B.is_reader board.now pass.old }
     ensures own { B.is_reader board.now pass.new }
     ensures seen { (B.reader pass.new).seen ≡ (B.reader pass.old).seen }
@@ -89,18 +76,14 @@ pub fn look_all<B: LiveBoard, X: Drop, R: Wait>(
         AllZip (IsLooking B.LiveBoard board.now (B.reader pass.old).seen)
         screens.items all.items) }
     ensures split { IfOk result (λ all. WereSplitOff (B.reader pass.old).share
-        (shares_looking B.LiveBoard all.items) (B.reader pass.new).share) }
+        (shares_lent B.reader all.items) (B.reader pass.new).share) }
     ensures kinds { IfErr result IsOfThreads }
 {
-    let Some(screen) = take_last(&mut screens) else {
+    let Some(part) = take_last(&mut screens) else {
         return Ok(Vec::new(alloc));
     };
     let mut all = look_all(rt, alloc, board, pass, screens)?;
     let second = board.split(rt, pass);
-    let looking = Looking {
-        pass: second,
-        screen,
-    };
-    put(&mut all, looking)?;
+    put(&mut all, Lent { pass: second, part })?;
     Ok(all)
 }

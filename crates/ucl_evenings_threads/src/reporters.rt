@@ -6,12 +6,12 @@ ghost use Rattle.ucl_evenings_threads.specs.Runs.{HasRun, HaveReported, IsOfThre
 use crate::bells::{Bells, Wake};
 use crate::lists::{put, take_last};
 use crate::tally::hear_reporter;
-use crate::workers::{Enlisted, ReporterEnd};
+use crate::workers::{Lent, Reporter, ReporterEnd};
 use std::alloc::Global;
 use std::snapshot::Snapshot;
 use std::sync::Wait;
 use std::thread::{Promise, PromisedHandle, Scope, Threads};
-use ucl_evenings::{Reporter, take_rows};
+use ucl_evenings::{Reporter as RowReporter, take_rows};
 use ucl_io::Duplex;
 use ucl_live_board::{LiveBoard, Notes};
 use ucl_order::Roster;
@@ -25,19 +25,19 @@ fn report<B: LiveBoard, S: Source, W: Sink, R: Wait>(
     board: &B,
     wakes: &[Wake],
     roster: &Roster,
-    enlisted: Enlisted<B::ReporterPass, S, W>,
+    enlisted: Lent<B::ReporterPass, Reporter<S, W>>,
 ) -> ReporterEnd<B::ReporterPass, S, W>
     requires ready { IsReadyToRun B.LiveBoard board.now enlisted }
     ensures { HasRun B.LiveBoard board.entry.now S.Source W.Sink roster.entry.now
         enlisted result }
 {
-    let Enlisted {
-        pass,
+    let Lent { pass, part } = enlisted;
+    let Reporter {
         rows,
         replies,
         shape,
-    } = enlisted;
-    let mut reporter = Reporter {
+    } = part;
+    let mut reporter = RowReporter {
         rt,
         alloc,
         board,
@@ -54,7 +54,7 @@ fn report<B: LiveBoard, S: Source, W: Sink, R: Wait>(
         sink,
         log: _,
     } = duplex;
-    let Reporter {
+    let RowReporter {
         rt: _,
         alloc: _,
         board: _,
@@ -77,7 +77,7 @@ fn report<B: LiveBoard, S: Source, W: Sink, R: Wait>(
 pub struct Reporting<B: LiveBoard, S, W> {
     board: Snapshot<B>,
     roster: Snapshot<Roster>,
-    enlisted: Snapshot<Enlisted<B::ReporterPass, S, W>>,
+    enlisted: Snapshot<Lent<B::ReporterPass, Reporter<S, W>>>,
 }
 
 impl<B: LiveBoard, S: Source, W: Sink> Promise<ReporterEnd<B::ReporterPass, S, W>>
@@ -101,7 +101,7 @@ fn start_reporter<
     board: &'s B,
     wakes: &'s [Wake],
     roster: &'s Roster,
-    enlisted: Enlisted<B::ReporterPass, S, W>,
+    enlisted: Lent<B::ReporterPass, Reporter<S, W>>,
 ) -> Result<PromisedHandle<ReporterEnd<B::ReporterPass, S, W>, Reporting<B, S, W>>, RunFault>
 where
     B::ReporterPass: 's,
@@ -153,7 +153,7 @@ pub fn run_reporters<
     wakes: &'s [Wake],
     roster: &'s Roster,
     pass: B::ReaderPass,
-    mut all: Vec<Enlisted<B::ReporterPass, S, W>>,
+    mut all: Vec<Lent<B::ReporterPass, Reporter<S, W>>>,
 ) -> Result<Reported<B::ReaderPass, B::ReporterPass, S, W>, RunFault>
 where
     B::ReaderPass: 's,

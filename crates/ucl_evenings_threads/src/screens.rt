@@ -7,7 +7,7 @@ ghost use Rattle.ucl_evenings_threads.specs.Runs.{AreLent, HasLookedOn, HasShown
 use crate::bells::{Ear, Over, Wake, end_all};
 use crate::lists::{put, take_last};
 use crate::reporters::{Reported, run_reporters};
-use crate::workers::{Enlisted, Looking, ReporterEnd, ScreenEnd};
+use crate::workers::{Lent, Reporter, ReporterEnd, ScreenEnd};
 use std::alloc::Global;
 use std::snapshot::Snapshot;
 use std::sync::Wait;
@@ -25,14 +25,14 @@ fn look<B: LiveBoard, V: Sink, R: Wait>(
     board: &B,
     wake: &Wake,
     roster: &Roster,
-    looking: Looking<B::ReaderPass, Screen<B, V>>,
+    looking: Lent<B::ReaderPass, Screen<B, V>>,
 ) -> ScreenEnd<B::ReaderPass, Screen<B, V>>
     requires ready { IsReadyToLook B.LiveBoard board.now roster.now looking }
     ensures { HasLookedOn B.LiveBoard board.entry.now V.Sink roster.entry.now looking result }
 {
-    let Looking {
+    let Lent {
         mut pass,
-        mut screen,
+        part: mut screen,
     } = looking;
     let mut ear = Ear::at(wake);
     let result = show_boards(rt, alloc, board, &mut pass, &mut ear, roster, &mut screen);
@@ -48,7 +48,7 @@ fn look<B: LiveBoard, V: Sink, R: Wait>(
 pub struct LookingOn<B: LiveBoard, V> {
     board: Snapshot<B>,
     roster: Snapshot<Roster>,
-    looking: Snapshot<Looking<B::ReaderPass, Screen<B, V>>>,
+    looking: Snapshot<Lent<B::ReaderPass, Screen<B, V>>>,
 }
 
 impl<B: LiveBoard, V: Sink> Promise<ScreenEnd<B::ReaderPass, Screen<B, V>>> for LookingOn<B, V> {
@@ -64,7 +64,7 @@ fn start_screen<'s, E, B: LiveBoard, V: Sink + Send + Drop + 's, R: Wait + Sync>
     board: &'s B,
     wake: &'s Wake,
     roster: &'s Roster,
-    looking: Looking<B::ReaderPass, Screen<B, V>>,
+    looking: Lent<B::ReaderPass, Screen<B, V>>,
 ) -> Result<PromisedHandle<ScreenEnd<B::ReaderPass, Screen<B, V>>, LookingOn<B, V>>, RunFault>
 where
     B::ReaderPass: 's,
@@ -159,8 +159,8 @@ pub fn run_screens<
     wakes: &'s [Wake],
     roster: &'s Roster,
     pass: B::ReaderPass,
-    mut screens: Vec<Looking<B::ReaderPass, Screen<B, V>>>,
-    all: Vec<Enlisted<B::ReporterPass, S, W>>,
+    mut screens: Vec<Lent<B::ReaderPass, Screen<B, V>>>,
+    all: Vec<Lent<B::ReporterPass, Reporter<S, W>>>,
 ) -> Result<Ran<B::ReaderPass, B::ReporterPass, S, W, Screen<B, V>>, RunFault>
 where
     B::ReaderPass: 's,

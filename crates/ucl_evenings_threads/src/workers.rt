@@ -38,18 +38,9 @@ pub struct ScreenEnd<P, X> {
     pub result: Result<(), RunFault>,
 }
 
-/// A reporter with the pass that it is lent.
+/// A reporter or a screen with the pass that it is lent.
 #[derive(Drop)]
-pub struct Enlisted<P, S, W> {
+pub struct Lent<P, T> {
     pub pass: P,
-    pub rows: S,
-    pub replies: W,
-    pub shape: Shape,
-}
-
-/// A screen with the pass that it is lent.
-#[derive(Drop)]
-pub struct Looking<P, X> {
-    pub pass: P,
-    pub screen: X,
+    pub part: T,
 }

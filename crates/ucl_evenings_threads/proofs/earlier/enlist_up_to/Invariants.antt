@@ -6,7 +6,8 @@ invariant-enlisted g l = record {
   own : g.B.LiveBoard.is_reader l.board l.pass;
   seen : (g.B.LiveBoard.reader l.pass).seen ≡ (g.B.LiveBoard.reader l.fn.pass).seen;
   reporters : All (g.B.LiveBoard.is_reporter l.board) l.reporters.items;
-  split : WereSplitOff (g.B.LiveBoard.reader l.fn.pass).share (shares_of g.B.LiveBoard l.reporters.items) (g.B.LiveBoard.reader l.pass).share;
+  split : WereSplitOff (g.B.LiveBoard.reader l.fn.pass).share (shares_of g.B.LiveBoard l.reporters.items)
+      (g.B.LiveBoard.reader l.pass).share;
   nothing : All (λ k. k.mine ≡ []) (map g.B.LiveBoard.reporter l.reporters.items);
 }
 

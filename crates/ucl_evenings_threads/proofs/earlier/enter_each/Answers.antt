@@ -40,7 +40,8 @@ loop-event-preserved g c =
       reporters = All-set (g.B.LiveBoard.is_reporter c.args.board.now) passes at _ c.enter_one.ensures.own.1 known.reporters;
       as_many = known.as_many;
       so_far = rw (take_more c.args.events.now i e lt, ← c.event-item.is, map-set view passes at c.enter_one.new.reporter)
-          (so_far_more _ _ e (map view passes) at (view c.index_mut.result.now) _ _ _ (view_at view passes at c.index_mut.result.now (long, c.index_mut.ensures.value))
+          (so_far_more _ _ e (map view passes) at (view c.index_mut.result.now) _ _ _
+          (view_at view passes at c.index_mut.result.now (long, c.index_mut.ensures.value))
           place (c.enter_one.ensures.entered c.if-not-enter_one.false) known.so_far);
     }
 
@@ -55,7 +56,8 @@ returns-then-not-enter_one-clause-stopped g c =
     let within = c.get.ensures.within in
     let at = c.from-at.result - 1 in
     let row = known.row_is in
-    refused_there live c.args.board.now (live.reader c.args.pass.now).seen c.args.events.now i c.loop-event.row e c.loop-event.reporters.items at
+    refused_there live c.args.board.now
+    (live.reader c.args.pass.now).seen c.args.events.now i c.loop-event.row e c.loop-event.reporters.items at
     c.index_mut.result.now c.enter_one.new.reporter (live.reader c.loop-event.pass) lt (omega arith) c.event-item.is (omega arith)
     c.index_mut.ensures.value (omega arith) c.enter_one.ensures.own.1 (c.enter_one.ensures.refused c.if-not-enter_one.true) known.so_far
 
@@ -73,7 +75,8 @@ loop-reporter-init g c =
       own = known.own;
       reporters = rw same known.reporters;
       as_many = c.deref_mut-reporter-items.ensures.len ∙ known.as_many;
-      so_far = rw same (subst (λ done. HaveSoFar start done (map g.B.LiveBoard.reporter c.loop-event.reporters.items) history) all known.so_far);
+      so_far = rw same (subst (λ done. HaveSoFar start done
+          (map g.B.LiveBoard.reporter c.loop-event.reporters.items) history) all known.so_far);
       told = search rules;
     }
 
@@ -109,7 +112,8 @@ pub returns-clause-shares : goal.returns-clause-shares
 returns-clause-shares g c =
     let known = c.loop-reporter.invariant in
     let passes = c.loop-reporter.reporter-items in
-    let back = written_back c.loop-event.reporters.len passes c.loop-event.reporters.items (known.as_many ∙ sym c.loop-event.invariant.as_many) in
+    let back = written_back c.loop-event.reporters.len passes c.loop-event.reporters.items
+    (known.as_many ∙ sym c.loop-event.invariant.as_many) in
     (known.kept, ap (λ (all : List _). shares_of g.B.LiveBoard all) back ∙ known.shares)
 
 pub returns-clause-reporters : goal.returns-clause-reporters
@@ -117,7 +121,8 @@ returns-clause-reporters g c =
     let known = c.loop-reporter.invariant in
     let passes = c.loop-reporter.reporter-items in
     subst (All (g.B.LiveBoard.is_reporter c.args.board.now))
-    (sym (written_back c.loop-event.reporters.len passes c.loop-event.reporters.items (known.as_many ∙ sym c.loop-event.invariant.as_many))) known.reporters
+    (sym (written_back c.loop-event.reporters.len passes c.loop-event.reporters.items
+    (known.as_many ∙ sym c.loop-event.invariant.as_many))) known.reporters
 
 pub returns-clause-entered : goal.returns-clause-entered
 returns-clause-entered g c =
@@ -128,7 +133,8 @@ returns-clause-entered g c =
     let events = c.args.events.now in
     let passes = c.loop-reporter.reporter-items in
     let long = c.loop-reporter.auto.reporter-items in
-    let all : length (map view passes) ≤ c.loop-reporter.reporter-index = omega (arith, length-map passes view, c.loop-reporter-test.false) in
+    let all : length (map view passes) ≤ c.loop-reporter.reporter-index = omega
+    (arith, length-map passes view, c.loop-reporter-test.false) in
     subst (WereEntered g.B.LiveBoard start events c.loop-reporter.pass)
     (sym (written_back c.loop-event.reporters.len passes c.loop-event.reporters.items (known.as_many ∙ sym c.loop-event.invariant.as_many)))
     (record {

@@ -10,7 +10,8 @@ invariant-loop-event g l = record {
   own : g.B.LiveBoard.is_reader l.board l.pass;
   reporters : All (g.B.LiveBoard.is_reporter l.board) l.reporters.items;
   as_many : vec_len l.reporters ≡ vec_len l.fn.reporters;
-  so_far : HaveSoFar (g.B.LiveBoard.reader l.fn.pass).seen (take l.event-index l.events) (map g.B.LiveBoard.reporter l.reporters.items) (g.B.LiveBoard.reader l.pass).seen;
+  so_far : HaveSoFar (g.B.LiveBoard.reader l.fn.pass).seen (take l.event-index l.events) (map g.B.LiveBoard.reporter l.reporters.items)
+      (g.B.LiveBoard.reader l.pass).seen;
 }
 
 abbrev pub invariant-loop-reporter : goal.invariant-loop-reporter
@@ -20,6 +21,7 @@ invariant-loop-reporter g l = record {
   own : g.B.LiveBoard.is_reader l.board l.pass;
   reporters : All (g.B.LiveBoard.is_reporter l.board) l.reporter-items;
   as_many : length l.reporter-items ≡ vec_len l.fn.reporters;
-  so_far : HaveSoFar (g.B.LiveBoard.reader l.fn.pass).seen l.events (map g.B.LiveBoard.reporter l.reporter-items) (g.B.LiveBoard.reader l.pass).seen;
+  so_far : HaveSoFar (g.B.LiveBoard.reader l.fn.pass).seen l.events (map g.B.LiveBoard.reporter l.reporter-items)
+      (g.B.LiveBoard.reader l.pass).seen;
   told : All (HasJustItsOwn (g.B.LiveBoard.reader l.pass).seen) (take l.reporter-index (map g.B.LiveBoard.reporter l.reporter-items));
 }

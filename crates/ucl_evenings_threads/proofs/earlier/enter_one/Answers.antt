@@ -9,7 +9,8 @@ returns-clause-entered g c accepted =
     let told = c.hear_own.ensures.says in
     let said = c.in-Ok.ensures.says in
     let noted = c.note_own-after.ensures.says in
-    entered_by_calls (reader c.args.pass.now) (reporter c.args.reporter.now) (reporter c.hear_own.new.pass) (reporter c.report.new.pass) (reporter c.note_own-after.new.pass)
+    entered_by_calls (reader c.args.pass.now) (reporter c.args.reporter.now) (reporter c.hear_own.new.pass) (reporter c.report.new.pass)
+    (reporter c.note_own-after.new.pass)
     (reader c.hear.new.pass) _ _ c.args.event.now _ c.note-before.ensures.says.seen told.heard told.always.number said.accepted
     said.always.number said.always.sound noted.unchanged noted.seen c.hear.ensures.says.heard.met
 

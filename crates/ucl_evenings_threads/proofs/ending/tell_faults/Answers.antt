@@ -16,14 +16,16 @@ loop-reporter-preserved g c =
       stays = λ e. told.stays (inv.stays e);
       counted = ap (λ n. n + 1) inv.counted;
       stands = stands_next _ _ _ _ _ _ _ _ _ _ _
-          (reporters_left c.loop-reporter.reporter-index (c.loop-reporter.number + 1) c.args.end.now.reporters.items c.reporter-item.result _
+          (reporters_left c.loop-reporter.reporter-index
+          (c.loop-reporter.number + 1) c.args.end.now.reporters.items c.reporter-item.result _
           (rw same at c.loop-reporter-test.true) (rw same at c.reporter-item.is))
           told.told told.stays told.first inv.stands;
     }
 
 pub loop-screen-init : goal.loop-screen-init
 loop-screen-init g c =
-    let none = reporters_done c.loop-reporter.reporter-index (c.loop-reporter.number + 1) c.args.end.now.reporters.items (screen_parts 1 1 c.args.end.now.screens.items)
+    let none = reporters_done c.loop-reporter.reporter-index (c.loop-reporter.number + 1) c.args.end.now.reporters.items
+    (screen_parts 1 1 c.args.end.now.screens.items)
     (rw c.deref-reporter-items.ensures.value at c.loop-reporter-test.false) in record {
       stays = c.loop-reporter.invariant.stays;
       counted = refl;
@@ -36,7 +38,8 @@ loop-screen-preserved g c =
     let told = c.tell_end-first-in-loop-screen.ensures in
     let same = c.deref-screen-items.ensures.value in
     let count = inv.counted in
-    let left = screens_left c.loop-screen.screen-index (c.loop-screen.texts + 1) (c.loop-screen.jsons + 1) c.args.end.now.screens.items c.screen-item.result in
+    let left = screens_left c.loop-screen.screen-index (c.loop-screen.texts + 1)
+    (c.loop-screen.jsons + 1) c.args.end.now.screens.items c.screen-item.result in
     record {
       stays = λ e. told.stays (inv.stays e);
       counted = elim c.match-options.branch [
@@ -45,9 +48,11 @@ loop-screen-preserved g c =
       ];
       stands = stands_next _ _ _ _ _ _ _ _ _ _ _
           (elim c.match-options.branch [
-            | in-Text w ↦ (let t = w.texts-is in let j = w.jsons-is in left forms.Text _ _ _ _ (rw same at c.loop-screen-test.true) (rw same at c.screen-item.is) (rw c.options.ensures at w.in-Text.is)
+            | in-Text w ↦ (let t = w.texts-is in let j = w.jsons-is in left forms.Text _ _ _ _ (rw same at c.loop-screen-test.true)
+                (rw same at c.screen-item.is) (rw c.options.ensures at w.in-Text.is)
                 (ap (λ p. p.0) w.worker-is) (ap (λ p. p.1) w.worker-is) (omega arith) (omega arith))
-            | in-Json w ↦ (let t = w.texts-is in let j = w.jsons-is in left forms.Json _ _ _ _ (rw same at c.loop-screen-test.true) (rw same at c.screen-item.is) (rw c.options.ensures at w.in-Json.is)
+            | in-Json w ↦ (let t = w.texts-is in let j = w.jsons-is in left forms.Json _ _ _ _ (rw same at c.loop-screen-test.true)
+                (rw same at c.screen-item.is) (rw c.options.ensures at w.in-Json.is)
                 (ap (λ p. p.0) w.worker-is) (ap (λ p. p.1) w.worker-is) (omega arith) (omega arith))
           ])
           told.told told.stays told.first inv.stands;

@@ -6,7 +6,8 @@ abbrev pub invariant-loop-reporter : goal.invariant-loop-reporter
 invariant-loop-reporter g l = record {
   stays : g.E.Sink.failed l.fn.errors ≡ true → g.E.Sink.failed l.errors ≡ true;
   counted : l.number ≡ l.reporter-index;
-  stands : StandsAt (parts_of l.end) (reporter_parts (l.number + 1) (drop l.reporter-index l.end.reporters.items) ++ screen_parts 1 1 l.end.screens.items)
+  stands : StandsAt (parts_of l.end)
+      (reporter_parts (l.number + 1) (drop l.reporter-index l.end.reporters.items) ++ screen_parts 1 1 l.end.screens.items)
       (g.E.Sink.failed l.errors) (g.E.Sink.taken l.fn.errors) (g.E.Sink.taken l.errors) l.first;
 }
 

@@ -11,9 +11,15 @@ use Rattle.ucl_evenings_threads.proofs.evening.hold_evening.Goals as goal
 pub run_threads-requires-clause-lent : goal.run_threads-requires-clause-lent
 run_threads-requires-clause-lent g c κs within = record {
   own = c.enlist_all.ensures.own;
-  looking = zip_right (IsLooking g.B.LiveBoard c.args.board.now _) (IsNewScreen c.args.board.now c.args.roster.now) (IsReadyToLook g.B.LiveBoard c.args.board.now c.args.roster.now)
-      (λ screen looking l new. record { own = l.own; new = subst (IsNewScreen c.args.board.now c.args.roster.now) (sym l.same) new }) _ _ c.in_ok-screens.ensures.looking c.requires.screens;
-  ready = zip_right (WasEnlisted g.B.LiveBoard c.args.board.now _) (λ x. ⊤) (IsReadyToRun g.B.LiveBoard c.args.board.now) (λ x y l t. l.ready) _ _
+  looking = zip_right (IsLooking g.B.LiveBoard c.args.board.now _) (IsNewScreen c.args.board.now c.args.roster.now)
+      (IsReadyToLook g.B.LiveBoard c.args.board.now c.args.roster.now)
+      (λ screen looking l new. record {
+        own = l.own;
+        new = subst (IsNewScreen c.args.board.now c.args.roster.now)
+            (sym l.same) new;
+      }) _ _ c.in_ok-screens.ensures.looking c.requires.screens;
+  ready = zip_right (WasEnlisted g.B.LiveBoard c.args.board.now _) (λ x. ⊤) (IsReadyToRun g.B.LiveBoard c.args.board.now)
+      (λ x y l t. l.ready) _ _
       c.in_ok-all.ensures.enlisted (λ k d lt. tt);
 }
 
@@ -61,7 +67,8 @@ pub returns-clause-shares : goal.returns-clause-shares
 returns-clause-shares g c =
     let known = g.B.LiveBoard.reader in
     let ran = c.in_ok-pass.ensures.ran in
-    split_both (known c.args.pass).share (known c.hear_all.new.pass).share _ (known c.enlist_all.new.pass).share (known c.read-last.new.pass).share _ _ _ _
+    split_both (known c.args.pass).share (known c.hear_all.new.pass).share _ (known c.enlist_all.new.pass).share
+    (known c.read-last.new.pass).share _ _ _ _
     (stays_share _ _ c.hear_all.ensures.always) c.in_ok-screens.ensures.split c.in_ok-all.ensures.split
     (maps_same (KeepsShare g.B.LiveBoard) _ _ (λ looking end same. same) _ _ ran.kept)
     (maps_same (HasRun g.B.LiveBoard c.args.board.now g.S.Source g.W.Sink c.args.roster.now) _ _
@@ -87,10 +94,12 @@ returns-then-not-is_theirs-clause-kinds g c =
       own = c.read-last.ensures.own;
       high = read.reading.high;
       kept = c.in_ok-entered.ensures.kept;
-      reported = reported_at_end live c.args.board.now g.S.Source g.W.Sink c.args.roster.now first (known c.look_all.new.pass).seen p.seen _ _ _ _
+      reported = reported_at_end live c.args.board.now g.S.Source g.W.Sink c.args.roster.now first
+          (known c.look_all.new.pass).seen p.seen _ _ _ _
           (rw c.look_all.ensures.seen (stays_prefix _ _ c.hear_all.ensures.always))
           (begins_whole p z c.read-last.result read.always read.reading) c.in_ok-all.ensures.enlisted ran.run
           (seen_on ran.early p.seen _ ran.on ran.heard);
-      heard = heard_at_end p z c.read-last.result read.always read.reading heard ran.early _ _ since ran.on c.in_ok-entered.ensures.heard ran.heard;
+      heard = heard_at_end p z c.read-last.result read.always read.reading heard ran.early _ _ since ran.on c.in_ok-entered.ensures.heard
+          ran.heard;
       others = rw (c.deref-2.ensures.value, c.deref-3.ensures.value) at (c.are_all_of-is_theirs.ensures.others c.if-not-is_theirs.true);
     }))

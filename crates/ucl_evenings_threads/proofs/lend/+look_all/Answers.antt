@@ -4,7 +4,8 @@ use Rattle.ucl_evenings_threads.proofs.Splits.{split_none, split_push}
 use Rattle.ucl_evenings_threads.proofs.lend.+look_all.Goals as goal
 
 pub returns-in_default-clause-looking : goal.returns-in_default-clause-looking
-returns-in_default-clause-looking g t c = zip_none (IsLooking g.B.LiveBoard c.args.board.now (g.B.LiveBoard.reader c.args.pass.now).seen) _ _ c.in_default.ensures.none c.new.ensures.items
+returns-in_default-clause-looking g t c = zip_none
+    (IsLooking g.B.LiveBoard c.args.board.now (g.B.LiveBoard.reader c.args.pass.now).seen) _ _ c.in_default.ensures.none c.new.ensures.items
 
 pub returns-in_err-put-clause-seen : goal.returns-in_err-put-clause-seen
 returns-in_err-put-clause-seen g t c = ap (λ (k : PassView). k.seen) c.split-second.ensures.says.kept ∙ c.look_all.ensures.seen

@@ -11,7 +11,8 @@ last_less : {X : Type 0} (a b : ℕ) (r : Option X) → MatchOption r ((b ≡ 0)
 last_less a b (Some x) e = omega arith
 last_less a b None e = tt
 
-last_none : {X : Type 0} (xs : List X) (a b : ℕ) (r : Option X) → b ≡ length xs → MatchOption r ((b ≡ 0) × (a ≡ 0)) (λ _. a + 1 ≡ b) → IfNone r (xs ≡ [])
+last_none : {X : Type 0} (xs : List X) (a b : ℕ) (r : Option X) → b ≡ length xs → MatchOption r ((b ≡ 0) × (a ≡ 0)) (λ _. a + 1 ≡ b)
+    → IfNone r (xs ≡ [])
 last_none xs a b (Some x) long e = tt
 last_none xs a b None long e = nil_from_length xs (sym long ∙ e.0)
 

@@ -3,7 +3,8 @@ use Rattle.ucl_evenings_threads.proofs.Zips.{zip_none, zip_push}
 use Rattle.ucl_evenings_threads.proofs.program.+screens_at.Goals as goal
 
 pub returns-in_default-clause-asked : goal.returns-in_default-clause-asked
-returns-in_default-clause-asked g t c = zip_none (IsAskedFor c.args.board.now c.args.roster.now c.args.title) _ _ c.in_default.ensures.none c.new.ensures.items
+returns-in_default-clause-asked g t c = zip_none
+    (IsAskedFor c.args.board.now c.args.roster.now c.args.title) _ _ c.in_default.ensures.none c.new.ensures.items
 
 pub returns-clause-asked : goal.returns-clause-asked
 returns-clause-asked g t c =

@@ -2,13 +2,15 @@ use Rattle.ucl_evenings_threads.proofs.Common.{Err, IfErr, IfOk, IsAskedFor, IsN
 use Rattle.ucl_evenings_threads.proofs.Zips.{zip_right}
 use Rattle.ucl_evenings_threads.proofs.program.held.Goals as goal
 
-if_all : {A E : Type 0} (P Q S T : A → Type 0) → ((a : A) → P a → Q a → S a → T a) → (r : Result A E) → IfOk r P → IfOk r Q → IfOk r S → IfOk r T
+if_all : {A E : Type 0} (P Q S T : A → Type 0) → ((a : A) → P a → Q a → S a → T a) → (r : Result A E) → IfOk r P → IfOk r Q → IfOk r S
+    → IfOk r T
 if_all P Q S T f (Ok a) p q s = f a p q s
 if_all P Q S T f (Err e) p q s = tt
 
 pub hold_evening-requires-clause-screens : goal.hold_evening-requires-clause-screens
 hold_evening-requires-clause-screens g c κs within =
-    zip_right (IsAskedFor c.args.board.now c.args.night.now.roster c.args.title) (λ x. ⊤) (IsNewScreen c.args.board.now c.args.night.now.roster)
+    zip_right (IsAskedFor c.args.board.now c.args.night.now.roster c.args.title) (λ x. ⊤)
+    (IsNewScreen c.args.board.now c.args.night.now.roster)
     (λ place screen a t. a.new) _ _ c.in_ok-screens.ensures.asked (λ k d lt. tt)
 
 pub returns-clause-held : goal.returns-clause-held

@@ -4,13 +4,15 @@ use Rattle.ucl_evenings_threads.proofs.Zips.{all_pop, views_then, zip_none, zip_
 use Rattle.ucl_evenings_threads.proofs.reporters.+run_reporters.Goals as goal
 
 pub run_reporters-requires-clause-ready : goal.run_reporters-requires-clause-ready
-run_reporters-requires-clause-ready g t c κs within = (all_pop (IsReadyToRun g.B.LiveBoard c.args.board.now) _ _ _ c.in-Some.ensures.some c.requires.ready).0
+run_reporters-requires-clause-ready g t c κs within = (all_pop
+    (IsReadyToRun g.B.LiveBoard c.args.board.now) _ _ _ c.in-Some.ensures.some c.requires.ready).0
 
 pub returns-in_default-clause-reported : goal.returns-in_default-clause-reported
 returns-in_default-clause-reported g t c = record {
   own = c.requires.own;
   always = inr refl;
-  run = zip_none (HasRun g.B.LiveBoard c.args.board.now g.S.Source g.W.Sink c.args.roster.now) _ _ c.in_default.ensures.none c.new.ensures.items;
+  run = zip_none (HasRun g.B.LiveBoard c.args.board.now g.S.Source g.W.Sink c.args.roster.now) _ _ c.in_default.ensures.none
+      c.new.ensures.items;
   heard = rw c.new.ensures.items (All-nil (IsSeenIn (g.B.LiveBoard.reader c.args.pass).seen));
 }
 
@@ -31,6 +33,7 @@ returns-clause-reported g t c =
             served = run.served;
           }));
       heard = subst (All (IsSeenIn (g.B.LiveBoard.reader c.hear_reporter.new.pass).seen))
-          (sym (views_then (λ (end : ReporterEnd _ _ _). g.B.LiveBoard.reporter end.pass) c.in_ok-reported.reported.ends.items _ _ _ c.in_ok-put.ensures.items one.unchanged))
+          (sym (views_then (λ (end : ReporterEnd _ _ _). g.B.LiveBoard.reporter end.pass) c.in_ok-reported.reported.ends.items _ _ _
+          c.in_ok-put.ensures.items one.unchanged))
           (heard_more _ _ _ _ one.always.on.seen before.heard one.sound one.heard);
     }

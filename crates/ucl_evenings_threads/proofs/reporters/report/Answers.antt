@@ -8,7 +8,7 @@ returns g c =
       own = c.take_rows-result.ensures.own;
       took = took_plain _ _ _ _ _ _ _ _ _ t;
       read_failed = c.take_rows-result.ensures.read_failed;
-      served = served_by g.W.Sink c.args.enlisted.replies c.take_rows-result.new.duplex.sink c.take_rows-result.result
+      served = served_by g.W.Sink c.args.enlisted.part.replies c.take_rows-result.new.duplex.sink c.take_rows-result.result
           (rw c.new-duplex.ensures.sink at c.take_rows-result.ensures.sink_sound)
           (rw c.new-duplex.ensures.sink at c.take_rows-result.ensures.sink_fails);
     }

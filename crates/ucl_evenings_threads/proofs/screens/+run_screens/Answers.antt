@@ -13,7 +13,8 @@ returns-in_default-clause-ran g t c =
 
 pub start_screen-requires-clause-ready : goal.start_screen-requires-clause-ready
 start_screen-requires-clause-ready g t c κs within =
-    (all_pop (IsReadyToLook g.B.LiveBoard c.args.board.now c.args.roster.now) c.args.screens.items _ _ c.in-Some.ensures.some c.requires.lent.looking).1
+    (all_pop (IsReadyToLook g.B.LiveBoard c.args.board.now c.args.roster.now) c.args.screens.items _ _ c.in-Some.ensures.some
+    c.requires.lent.looking).1
 
 pub run_screens-requires-clause-lent : goal.run_screens-requires-clause-lent
 run_screens-requires-clause-lent g t c κs within = record {
@@ -45,8 +46,10 @@ returns-clause-ran g t c =
     _ c.args.screens.items c.in-Some.looking c.args.all.items c.in_ok-ran.ran _ _
     c.in-Some.ensures.some c.in_ok-put.ensures.items refl c.hear.ensures.own
     (heard_on _ _ _ c.finish-end.ensures.unchanged c.hear.ensures.says.always) c.in_ok-ran.ensures.ran
-    (closed_on g.B.LiveBoard c.args.board.now g.V.Sink c.args.roster.now (known c.finish-end.result.pass).seen (known c.hear.new.pass).seen least least c.in-Some.looking _
+    (closed_on g.B.LiveBoard c.args.board.now g.V.Sink c.args.roster.now (known c.finish-end.result.pass).seen
+    (known c.hear.new.pass).seen least least c.in-Some.looking _
     (rw c.note-note.ensures.says.seen at c.hear.ensures.says.heard.met) (le_refl least)
-    (closed_told g.B.LiveBoard c.args.board.now g.V.Sink c.args.roster.now (known c.finish-end.result.pass).seen least c.in-Some.looking c.finish-end.result _
+    (closed_told g.B.LiveBoard c.args.board.now g.V.Sink c.args.roster.now
+    (known c.finish-end.result.pass).seen least c.in-Some.looking c.finish-end.result _
     c.note-note.ensures.own.0 c.note-note.ensures.says.unchanged (c.finish-end.ensures.shown c.in-Some.looking looked)))
     (ap (λ (k : PassView). k.share) c.note-note.ensures.says.unchanged ∙ (c.finish-end.ensures.share ∙ looked.shows.risen.always.on.share))

@@ -10,6 +10,8 @@ returns-in-Err-clause-shown g c looking h =
 pub returns-clause-shown : goal.returns-clause-shown
 returns-clause-shown g c looking h =
     let run = c.show_noted-result.ensures in
-    closed_further g.B.LiveBoard c.args.board.now g.V.Sink c.args.roster.now looking c.args.looked c.show_noted-result.new.pass c.show_noted-result.new.screen
+    closed_further g.B.LiveBoard c.args.board.now g.V.Sink c.args.roster.now looking c.args.looked c.show_noted-result.new.pass
+    c.show_noted-result.new.screen
     _ _ c.show_noted-result.result c.in_default.is (ap (length {A = Entry}) c.note-news.ensures.says.seen) run.own run.same
-    (served_by g.V.Sink c.args.looked.screen.sink c.show_noted-result.new.screen.sink c.show_noted-result.result run.sink_sound run.sink_fails) h run.shows
+    (served_by g.V.Sink c.args.looked.screen.sink c.show_noted-result.new.screen.sink c.show_noted-result.result run.sink_sound
+    run.sink_fails) h run.shows

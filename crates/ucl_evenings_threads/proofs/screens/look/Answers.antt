@@ -15,15 +15,22 @@ show_boards-result-requires-clause-low g c κs within = let none = ap (λ (s : S
 pub returns : goal.returns
 returns g c =
     let k = g.B.LiveBoard.reader c.args.looking.pass in
-    let old = g.V.Sink.taken c.args.looking.screen.sink in
+    let old = g.V.Sink.taken c.args.looking.part.sink in
     let run = c.show_boards-result.ensures in
     let new = c.requires.ready.new in
     record {
       own = run.own;
-      of = record { board_is = ap (λ b. b.value) run.same.board ∙ new.of.board_is; clubs_are = ap (λ r. r.value) run.same.roster ∙ new.of.clubs_are };
+      of = record {
+        board_is = ap (λ b. b.value) run.same.board ∙ new.of.board_is;
+        clubs_are = ap (λ r. r.value) run.same.roster
+            ∙ new.of.clubs_are;
+      };
       same = run.same;
-      shows = (subst (λ (s : Screening). ShowsFurther c.args.looking.screen.options c.args.roster.now (length k.seen) k (g.B.LiveBoard.reader c.show_boards-result.new.pass) s
-          (standing c.show_boards-result.new.screen) (g.V.Sink.failed c.show_boards-result.new.screen.sink) old (g.V.Sink.taken c.show_boards-result.new.screen.sink) c.show_boards-result.result)
-          new.stands run.shows) k old [] (so_far_none c.args.looking.screen.options c.args.roster.now k old);
-      served = served_by g.V.Sink c.args.looking.screen.sink c.show_boards-result.new.screen.sink c.show_boards-result.result run.sink_sound run.sink_fails;
+      shows = (subst (λ (s : Screening). ShowsFurther c.args.looking.part.options c.args.roster.now (length k.seen) k
+          (g.B.LiveBoard.reader c.show_boards-result.new.pass) s
+          (standing c.show_boards-result.new.screen) (g.V.Sink.failed c.show_boards-result.new.screen.sink) old
+          (g.V.Sink.taken c.show_boards-result.new.screen.sink) c.show_boards-result.result)
+          new.stands run.shows) k old [] (so_far_none c.args.looking.part.options c.args.roster.now k old);
+      served = served_by g.V.Sink c.args.looking.part.sink c.show_boards-result.new.screen.sink c.show_boards-result.result run.sink_sound
+          run.sink_fails;
     }

@@ -15,7 +15,8 @@ loop-end-preserved g c =
     let views = views_then (λ (x : ReporterEnd _ _ _). known x.pass) (take i ends) _ end (known end.pass) next refl in
     subst (λ (l : List PassView). AreTallied (entered ++ l) c.and-tally-in-loop-end.result) (sym views)
     (subst (λ (l : List PassView). AreTallied l c.and-tally-in-loop-end.result) (append_assoc entered _ _)
-    (c.and-tally-in-loop-end.ensures _ (known end.pass) c.loop-end.invariant (sym (c.get-in-loop-end.ensures.value ∙ c.number_of-in-loop-end.ensures)) (sym c.accepted_of-in-loop-end.ensures)))
+    (c.and-tally-in-loop-end.ensures _ (known end.pass) c.loop-end.invariant
+    (sym (c.get-in-loop-end.ensures.value ∙ c.number_of-in-loop-end.ensures)) (sym c.accepted_of-in-loop-end.ensures)))
 
 pub returns-clause-all : goal.returns-clause-all
 returns-clause-all g c is =
@@ -25,5 +26,6 @@ returns-clause-all g c is =
     let same = c.if-tally-from.false in
     let from = c.from.ensures in
     counted_all _ c.loop-end.tally c.args.version
-    (subst (λ (l : List (ReporterEnd _ _ _)). AreTallied (map g.B.LiveBoard.reporter c.args.entered.now ++ views_of g.B.LiveBoard l) c.loop-end.tally) all c.loop-end.invariant)
+    (subst (λ (l : List (ReporterEnd _ _ _)). AreTallied
+    (map g.B.LiveBoard.reporter c.args.entered.now ++ views_of g.B.LiveBoard l) c.loop-end.tally) all c.loop-end.invariant)
     (not_false c.loop-end.tally.rises c.if-not-tally.false) (omega arith)
