@@ -64,8 +64,7 @@ TellsRefused (Err fault) (Err told) = told ≡ fault
 abbrev pub entries_for : ℕ → List NightEvent → ℕ → List Entry
 entries_for reporter events number = map (λ event. entry_of number event.call) (filter (λ event. event.reporter == reporter) events)
 
--- passes have entered just the events of a script's reporters: the first pass those of this reporter, the second those of the next, and so
--- on
+-- passes have entered just the events of a script's reporters: the first pass those of this reporter, the second those of the next, and so on
 unfoldable pub HaveEntered : ℕ → List NightEvent → List PassView → Type 0
 HaveEntered reporter events [] = ⊤
 HaveEntered reporter events (k ∷ views) = (k.mine ≡ entries_for reporter events k.number) × HaveEntered (reporter + 1) events views
@@ -74,8 +73,7 @@ HaveEntered reporter events (k ∷ views) = (k.mine ≡ entries_for reporter eve
 abbrev pub numbers_of : List PassView → List ℕ
 numbers_of views = map (λ k. k.number) views
 
--- after a beginning, a history has these events one after the other, each accepted after all before it; on the board the script's reporters
--- have these numbers
+-- after a beginning, a history has these events one after the other, each accepted after all before it; on the board the script's reporters have these numbers
 unfoldable pub HasInOrder : List ℕ → List Entry → List NightEvent → List Entry → Type 0
 HasInOrder numbers start [] history = IsPrefix start history
 HasInOrder numbers start (event ∷ events) history =
@@ -86,18 +84,15 @@ HasInOrder numbers start (event ∷ events) history =
 abbrev pub HasJustItsOwn : List Entry → PassView → Type 0
 HasJustItsOwn history k = entries_by k.number history ≡ k.mine
 
--- the events of a script were entered on a live board, on which this had been seen before: each by the pass that stands for its reporter,
--- and
+-- the events of a script were entered on a live board, on which this had been seen before: each by the pass that stands for its reporter, and
 -- these passes have entered nothing else in all that the pass which is handed back has seen
-pub record WereEntered {B R P : Type 0} (live : boards.Ghosts B R P) (before : List Entry) (events : List NightEvent) (pass : R)
-    (reporters : List P) : Type 0 where
+pub record WereEntered {B R P : Type 0} (live : boards.Ghosts B R P) (before : List Entry) (events : List NightEvent) (pass : R) (reporters : List P) : Type 0 where
   pub enough : All (λ event. event.reporter ≤ length reporters) events
   pub each : HaveEntered 1 events (map live.reporter reporters)
   pub in_order : HasInOrder (numbers_of (map live.reporter reporters)) before events (live.reader pass).seen
   pub own : All (HasJustItsOwn (live.reader pass).seen) (map live.reporter reporters)
 
--- an event was entered by a reporter's pass, k before and m after, after all that a reader's pass had seen, p before and q after; that pass
--- has then seen it
+-- an event was entered by a reporter's pass, k before and m after, after all that a reader's pass had seen, p before and q after; that pass has then seen it
 pub record WasEntered (p k : PassView) (event : NightEvent) (m q : PassView) : Type 0 where
   pub before : List Entry
   pub since : IsPrefix p.seen before
@@ -118,8 +113,7 @@ pub record WasNotEntered (p k : PassView) (event : NightEvent) (m : PassView) : 
 
 -- the event of a row was refused on a live board, on which this had been seen before: as the pass of its reporter has seen, which had
 -- entered those of its events that come before it, and nothing else
-pub record WasRefused {B R P : Type 0} (live : boards.Ghosts B R P) (board : B) (before : List Entry) (events : List NightEvent)
-    (row : ℕ) : Type 0 where
+pub record WasRefused {B R P : Type 0} (live : boards.Ghosts B R P) (board : B) (before : List Entry) (events : List NightEvent) (row : ℕ) : Type 0 where
   pub earlier : List NightEvent
   pub event : NightEvent
   pub later : List NightEvent

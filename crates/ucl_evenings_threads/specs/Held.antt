@@ -34,10 +34,8 @@ shares_of_end live end = shares_of_screens live end.screens.items ++ shares_of_r
 -- there is one history, which goes on from what had been seen before: it is that of the accepted events of the reporters and of those who
 -- entered events before, and of no others; each reporter has answered its own rows, each by its place in it, whatever became of the others;
 -- each screen has shown boards of it, and ends with the last where it ended well; and the last reading is of all of it
-pub record HasHeld {B R P S W V : Type 0} (live : boards.Ghosts B R P) (board : B) (source : sources.Ghosts S) (replies : sinks.Ghosts W)
-    (sink : sinks.Ghosts V)
-    (clubs : List NamedClub) (before : List Entry) (entered : List P) (reporters : List (Reporter S W)) (screens : List (Screen B V))
-    (end : EveningEnd R P S W (Screen B V)) : Type 0 where
+pub record HasHeld {B R P S W V : Type 0} (live : boards.Ghosts B R P) (board : B) (source : sources.Ghosts S) (replies : sinks.Ghosts W) (sink : sinks.Ghosts V)
+    (clubs : List NamedClub) (before : List Entry) (entered : List P) (reporters : List (Reporter S W)) (screens : List (Screen B V)) (end : EveningEnd R P S W (Screen B V)) : Type 0 where
   pub own : live.is_reader board end.pass
   pub sound : IsSound (live.reader end.pass)
   pub high : end.last.version ≤ length (live.reader end.pass).seen
@@ -48,8 +46,7 @@ pub record HasHeld {B R P S W V : Type 0} (live : boards.Ghosts B R P) (board : 
   pub reported : AllZip (HasAnsweredRows live board source replies clubs before (history_of_end live end)) reporters end.reporters.items
   pub shown : AllZip (HasShownOf live board sink clubs before (history_of_end live end) (LastIs end.last.version)) screens end.screens.items
 
--- all reporters of an evening have run and were heard, and then a version was read that is not that of their events and of those who
--- entered
+-- all reporters of an evening have run and were heard, and then a version was read that is not that of their events and of those who entered
 -- events before: the board has events of others, or the numbers do not rise in the order in which they were given
 pub record FoundOthers {B R P S W : Type 0} (live : boards.Ghosts B R P) (board : B) (source : sources.Ghosts S) (replies : sinks.Ghosts W)
     (clubs : List NamedClub) (before : List Entry) (entered : List P) (reporters : List (Reporter S W)) (version : ℕ) : Type 0 where
@@ -63,14 +60,11 @@ pub record FoundOthers {B R P S W : Type 0} (live : boards.Ghosts B R P) (board 
   pub heard : All (IsSeenIn (take version (live.reader pass).seen)) (map live.reporter back ++ views_of live ends)
   pub others : AreAllOf (map live.reporter back ++ views_of live ends) version → ⊥
 
-abbrev pub IsOfStrangers : {B R P S W : Type 0} → boards.Ghosts B R P → B → sources.Ghosts S → sinks.Ghosts W → List NamedClub → List Entry
-    → List P → List (Reporter S W) → RunFault → Type 0
-IsOfStrangers live board source replies clubs before entered reporters
-    (Strangers version) = FoundOthers live board source replies clubs before entered reporters version
+abbrev pub IsOfStrangers : {B R P S W : Type 0} → boards.Ghosts B R P → B → sources.Ghosts S → sinks.Ghosts W → List NamedClub → List Entry → List P → List (Reporter S W) → RunFault → Type 0
+IsOfStrangers live board source replies clubs before entered reporters (Strangers version) = FoundOthers live board source replies clubs before entered reporters version
 IsOfStrangers live board source replies clubs before entered reporters _ = ⊥
 
 -- why an evening was not held: want of memory or of a thread, no number for a reporter, or strangers
-abbrev pub IsWhyNoEvening : {B R P S W : Type 0} → boards.Ghosts B R P → B → sources.Ghosts S → sinks.Ghosts W → List NamedClub → List Entry
-    → List P → List (Reporter S W) → RunFault → Type 0
+abbrev pub IsWhyNoEvening : {B R P S W : Type 0} → boards.Ghosts B R P → B → sources.Ghosts S → sinks.Ghosts W → List NamedClub → List Entry → List P → List (Reporter S W) → RunFault → Type 0
 IsWhyNoEvening live board source replies clubs before entered reporters fault =
     IsOfThreads fault ⊎ (IsOfEnlisting live board fault ⊎ IsOfStrangers live board source replies clubs before entered reporters fault)

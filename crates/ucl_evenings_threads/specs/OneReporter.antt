@@ -48,15 +48,13 @@ attempts_of_all all = flat_map (λ (e : Entering). map (attempted e.number) (rep
 -- where each match has one reporter, it does not matter how the rows of one met those of another: the board is that of the rows of the
 -- first, and then of those of the second, and so on
 abbrev pub RowsDecideTheBoard : Type 0
-RowsDecideTheBoard = (before history : List Entry) (all : List Entering) (whose : ℕ → ℕ) → AddedBy all before history
-    → HaveMatchesOfTheirOwn whose all
+RowsDecideTheBoard = (before history : List Entry) (all : List Entering) (whose : ℕ → ℕ) → AddedBy all before history → HaveMatchesOfTheirOwn whose all
     → board_of history ≡ board_of (fold after_attempt before (attempts_of_all all))
 
 -- ---- an evening
 
 -- a reporter's run took these bytes, and its events are those of lines of them: of all, where it ended well
-pub record RanOn {B R P S W : Type 0} (live : boards.Ghosts B R P) (source : sources.Ghosts S) (run : Reporter S W × ReporterEnd P S W)
-    (e : Entering) : Type 0 where
+pub record RanOn {B R P S W : Type 0} (live : boards.Ghosts B R P) (source : sources.Ghosts S) (run : Reporter S W × ReporterEnd P S W) (e : Entering) : Type 0 where
   pub number : e.number ≡ (live.reporter run.1.pass).number
   pub bytes : List ℕ
   pub lines : List (List ℕ)
@@ -70,16 +68,12 @@ HadEntered before k = entries_by k.number before ≡ k.mine
 
 -- the reporters of an evening had these events, and where each match has one reporter, the board at its end goes by what was there before,
 -- and by these
-pub record IsDecidedByRows {B R P S W V : Type 0} (live : boards.Ghosts B R P) (source : sources.Ghosts S) (before : List Entry)
-    (reporters : List (Reporter S W))
+pub record IsDecidedByRows {B R P S W V : Type 0} (live : boards.Ghosts B R P) (source : sources.Ghosts S) (before : List Entry) (reporters : List (Reporter S W))
     (end : EveningEnd R P S W V) : Type 0 where
   pub all : List Entering
   pub came : AllZip (RanOn live source) (zip reporters end.reporters.items) all
-  pub board : (whose : ℕ → ℕ) → HaveMatchesOfTheirOwn whose all
-      → end.last.board ≡ board_of (fold after_attempt before (attempts_of_all all))
+  pub board : (whose : ℕ → ℕ) → HaveMatchesOfTheirOwn whose all → end.last.board ≡ board_of (fold after_attempt before (attempts_of_all all))
 
 -- the same, where those who entered events before had entered nothing but what had been seen
-abbrev pub RowsDecide : {B R P S W V : Type 0} → boards.Ghosts B R P → sources.Ghosts S → List Entry → List P → List (Reporter S W)
-    → EveningEnd R P S W V → Type 0
-RowsDecide live source before entered reporters end = All (HadEntered before) (map live.reporter entered)
-    → IsDecidedByRows live source before reporters end
+abbrev pub RowsDecide : {B R P S W V : Type 0} → boards.Ghosts B R P → sources.Ghosts S → List Entry → List P → List (Reporter S W) → EveningEnd R P S W V → Type 0
+RowsDecide live source before entered reporters end = All (HadEntered before) (map live.reporter entered) → IsDecidedByRows live source before reporters end
