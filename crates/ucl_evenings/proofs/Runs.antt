@@ -115,7 +115,8 @@ module _ {M K : Type 0} (board_of : M → K) (d : Known M) where
 
     -- at one time
     prompt : (now : Seen M) (turns : List (Turn M)) (p : AreRun 1 m turns) (later : List EventOutcome) → IsPromptAt 258 old now turns
-        → IsAnsweredUpTo (d.style m) (outcomes_of 1 m turns p ++ later) old.left now.left old.taken now.taken (d.rung m) (d.rung now.machine)
+        → IsAnsweredUpTo (d.style m) (outcomes_of 1 m turns p ++ later) old.left now.left old.taken now.taken
+        (d.rung m) (d.rung now.machine)
     prompt now turns p later u =
         let x = front_of m turns u.first u.later u.among p in
         let by = rw (u.lines, ← u.machine) at (turned 1 m u.first x.0 sound).by in record {
@@ -214,7 +215,8 @@ module _ {M K : Type 0} (board_of : M → K) (d : Known M) where
 
         last_stops : (line last : List ℕ) (y : Turns z n (1 + length p.turns) (last_lines line) last) {written count : ℕ}
             → length (text_in p.turns) ≤ count → StoppedAt 0 after.sink_failed old.taken new.taken (text_in p.turns ++ last) written count
-            → StopsInLast (d.style m) 1 (lines_in p.turns ++ last_lines line) (first ++ y.2.0) 0 after.sink_failed old.taken new.taken written
+            → StopsInLast (d.style m) 1 (lines_in p.turns ++ last_lines line) (first ++ y.2.0) 0 after.sink_failed
+            old.taken new.taken written
         unfolding answers_in
         last_stops [] last y out s = let less = rw (y.2.1.text_is, append-nil) at s.first.cut in absurd (omega arith)
         last_stops (b ∷ line) last y out s = stops_in (lines_in p.turns) (b ∷ line) (turns_more y.2.1) refl (rw (first_out y.2.0) out) s

@@ -126,11 +126,12 @@ Has value m = (text_at (codes "group") value ≡ Some (m.title.group ∷ [])) ×
     × (list_at (codes "clubs") value ≡ Some (listed (club_items m.roster))) × (list_at (codes "words") value ≡ Some (listed (word_items m.board)))
 
 tells : (value : Data) (m : Moment) → IsMoment m → Has value m → moment_told value ≡ Some m
-tells value m is (group, order, edition, clubs, words) =
-    cc (told-by value m (ap (option_and_then letter_in) group ∙ letter-told m.title.group is.letter)
+tells value m is (group, order, edition, clubs, words) = told-by value m
+    (ap (option_and_then letter_in) group ∙ letter-told m.title.group is.letter)
     (ap (option_and_then profile_named) order ∙ order-back m.title.profile)
     (ap edition_in edition ∙ edition-back m.title.edition is.edition)
-    (ap (option_and_then roster_told) clubs ∙ clubs-told m.roster is.clubs) (rw words (board-told m.board is.words is.bits)))
+    (ap (option_and_then roster_told) clubs ∙ clubs-told m.roster is.clubs)
+    (rw words (board-told m.board is.words is.bits))
 
 reply-has : (row : ℕ) (event : NightEvent) (event_number : ℕ) (m : Moment) → Has (accepted_value row event event_number m.title m.board m.roster) m
 unfolding accepted_value serde_json_on_literals

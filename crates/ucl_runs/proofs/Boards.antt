@@ -1,13 +1,14 @@
 -- The board of an evening as that of a legal history.
-use Rattle.ucl_runs.proofs.Common.{Accepted, All, All-append, All-head, All-tail, Attempt, Bad, Bool, Entry, Evening, Event, EventCall}
-use Rattle.ucl_runs.proofs.Common.{Format, FourFields, IsAttempt, IsLegal, Json, Kind, List, LiveArgs, Matches, NamedClub, NightEvent, None}
+use Rattle.std.proofs.lemmas.Option.{cond_some}
+use Rattle.std.proofs.lemmas.Bool.{cond_both}
+use Rattle.ucl_runs.proofs.Common.{Accepted, All, All-append, All-head, All-tail, Attempt, Bad, Entry, Evening, Event, EventCall, Format}
+use Rattle.ucl_runs.proofs.Common.{FourFields, IsAttempt, IsLegal, Json, Kind, List, LiveArgs, Matches, NamedClub, NightEvent, None}
 use Rattle.ucl_runs.proofs.Common.{Nothing, Open, Option, Other, Refusal, Request, Restoring, Result, Row, Said, Screen, Some, Stage, Text}
 use Rattle.ucl_runs.proofs.Common.{Title, Words, [], after_attempt, answer_of, answer_said, ap, append-nil, ap₂, arith, attempt_board}
-use Rattle.ucl_runs.proofs.Common.{attempt_of, attempts_of, attempts_on, board_after, board_of, bytes_eq, cases_Bool, event_of}
-use Rattle.ucl_runs.proofs.Common.{event_or_bad, false, fold, game_at, if◌then◌else◌, in_range, inl, inr, kind_named, length, line_of_reply}
-use Rattle.ucl_runs.proofs.Common.{nat_le, nat_tests, next, next_board, next_stage, next_title, number, refl, reply_answer, reply_of}
-use Rattle.ucl_runs.proofs.Common.{request_of, said_on, screen_after, sequential_reply, shown_text, sym, true, ℕ, ◌&&◌, ◌++◌, ◌+◌, ◌==◌}
-use Rattle.ucl_runs.proofs.Common.{◌>>=◌, ◌∙◌, ◌∷◌, ◌≡◌, ◌≤◌}
+use Rattle.ucl_runs.proofs.Common.{attempt_of, attempts_of, attempts_on, board_after, board_of, bytes_eq, event_of, event_or_bad, false}
+use Rattle.ucl_runs.proofs.Common.{fold, game_at, if◌then◌else◌, in_range, kind_named, length, line_of_reply, nat_le, nat_tests, next}
+use Rattle.ucl_runs.proofs.Common.{next_board, next_stage, next_title, number, refl, reply_answer, reply_of, request_of, said_on}
+use Rattle.ucl_runs.proofs.Common.{screen_after, sequential_reply, shown_text, sym, ℕ, ◌&&◌, ◌++◌, ◌+◌, ◌==◌, ◌>>=◌, ◌∙◌, ◌∷◌, ◌≡◌, ◌≤◌}
 use Rattle.std.specs.Prelude.{codes}
 use Rattle.ucl_board.proofs.HistoryLaws.{attempt_legal, versions}
 use Rattle.ucl_board.proofs.Histories.{reply_is}
@@ -22,12 +23,11 @@ use Rattle.ucl_runs.proofs.Silence.{refused-shut, silent}
 
 -- an event is of a reporter and a match that there are
 
-ranged : (low high : ℕ) (o : Option ℕ) (n : ℕ) → in_range low high o ≡ Some n → (low ≤ n) × (n ≤ high)
+pub ranged : (low high : ℕ) (o : Option ℕ) (n : ℕ) → in_range low high o ≡ Some n → (low ≤ n) × (n ≤ high)
 ranged low high None n h = cc
-ranged low high (Some m) n h = elim (cases_Bool (nat_le low m && nat_le m high)) [
-  | inl y ↦ let k : ◌≡◌ {A = Option ℕ} (Some m) (Some n) = rw y at h in let e : m ≡ n = cc in rw (← e) (grind (arith, nat_tests), grind (arith, nat_tests))
-  | inr z ↦ cc (rw z at h)
-]
+ranged low high (Some m) n h =
+    let p = cond_some (nat_le low m && nat_le m high) m n h in
+    let within = p.0 in rw (← p.1) (grind (arith, nat_tests), grind (arith, nat_tests))
 
 abbrev call_made : Option ℕ → Option ℕ → Option Kind → Option EventCall
 call_made b c d = do
@@ -50,17 +50,22 @@ abbrev game_in : Option NightEvent → Option ℕ
 game_in None = None
 game_in (Some e) = Some e.call.game
 
-parts : (a b c : Option ℕ) (d : Option Kind) (e : NightEvent) → made a b c d ≡ Some e → (a ≡ Some e.reporter) × (b ≡ Some e.call.game)
-parts (Some a) (Some b) (Some c) (Some d) e h = (ap (reporter_in) h, ap (game_in) h)
-parts None b c d e h = cc
-parts (Some a) None c d e h = cc
-parts (Some a) (Some b) None d e h = cc
-parts (Some a) (Some b) (Some c) None e h = cc
+abbrev expected_in : Option NightEvent → Option ℕ
+expected_in None = None
+expected_in (Some e) = Some e.call.expected
 
-pub event-is_attempt : (f : FourFields) (e : NightEvent) → event_of f ≡ Some e → IsAttempt (attempt_of e)
-event-is_attempt f e h =
-    let p = parts (in_range 1 255 (number 3 f.first)) (in_range 1 12 (number 2 f.second)) (in_range 0 65535 (number 5 f.third)) (kind_named f.fourth) e h in
-    (ranged 1 255 (number 3 f.first) e.reporter p.0, ranged 1 12 (number 2 f.second) e.call.game p.1)
+parts : (a b c : Option ℕ) (d : Option Kind) (e : NightEvent) → made a b c d ≡ Some e
+    → (a ≡ Some e.reporter) × (b ≡ Some e.call.game) × (c ≡ Some e.call.expected)
+parts (Some a) (Some b) (Some c) (Some d) e h = (ap reporter_in h, ap game_in h, ap expected_in h)
+parts a b c d e h = cc
+
+pub event-numbers : (f : FourFields) (e : NightEvent) → event_of f ≡ Some e → IsAttempt (attempt_of e) × (e.call.expected ≤ 65535)
+event-numbers f e h =
+    let p = parts (in_range 1 255 (number 3 f.first)) (in_range 1 12 (number 2 f.second)) (in_range 0 65535 (number 5 f.third))
+    (kind_named f.fourth) e h in (
+      (ranged 1 255 (number 3 f.first) e.reporter p.0, ranged 1 12 (number 2 f.second) e.call.game p.1),
+      (ranged 0 65535 (number 5 f.third) e.call.expected p.2).1,
+    )
 
 -- of all requests
 
@@ -79,22 +84,18 @@ by-event f (Some e) p = one (attempt_of e) (p e refl)
 
 -- what holds of each request that a row can ask for
 module _ (P : Request → Type 0) where
-  either : (b : Bool) (x y : Request) → P x → P y → P (if b then x else y)
-  either true x y p q = p
-  either false x y p q = q
-
   pub asked-by : (f : FourFields) → P Screen → P Words → P Matches → P (Bad (bad_field f)) → P (event_or_bad f (event_of f)) → P (asked_by f)
   unfolding asked_by
   asked-by f screen words matches bad event =
       let or_bad = if bytes_eq f.first (codes "matches") then Matches else Bad (bad_field f) in
       let others = if bytes_eq f.first (codes "words") then Words else or_bad in
-      either ((length f.second == 0) && (length f.third == 0) && (length f.fourth == 0)) (shown_by f) (event_or_bad f (event_of f))
-      (either (bytes_eq f.first (codes "screen")) Screen others screen
-      (either (bytes_eq f.first (codes "words")) Words or_bad words (either (bytes_eq f.first (codes "matches")) Matches (Bad (bad_field f)) matches bad)))
-      event
+      cond_both ((length f.second == 0) && (length f.third == 0) && (length f.fourth == 0)) (shown_by f) (event_or_bad f (event_of f)) P
+      (λ _. cond_both (bytes_eq f.first (codes "screen")) Screen others P (λ _. screen)
+      (λ _. cond_both (bytes_eq f.first (codes "words")) Words or_bad P (λ _. words)
+      (λ _. cond_both (bytes_eq f.first (codes "matches")) Matches (Bad (bad_field f)) P (λ _. matches) (λ _. bad)))) (λ _. event)
 
 pub asked : (f : FourFields) → AreAttempts (asked_by f)
-asked f = asked-by AreAttempts f none none none none (by-event f (event_of f) (event-is_attempt f))
+asked f = asked-by AreAttempts f none none none none (by-event f (event_of f) (λ e h. (event-numbers f e h).0))
 
 pub said-attempts : (r : Said) → All IsAttempt (attempts_on r)
 said-attempts (Row f) = asked f

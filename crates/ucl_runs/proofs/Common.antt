@@ -127,7 +127,7 @@ pub use Rattle.ucl_word.specs.Rules.{answer, is_in_play, refusal_of, reply_of}
 pub use Rattle.ucl_word.specs.declared.event.Accepted.{Accepted}
 pub use Rattle.ucl_word.specs.declared.event.EventCall.{EventCall}
 pub use Rattle.ucl_word.specs.declared.event.Kind.{Kind}
-pub use Rattle.ucl_word.specs.declared.event.Kind.TheVariants.{Disallow, FullTime, Goal, KickOff, Red, Reopen, SecondYellow, Yellow}
+pub use Rattle.ucl_word.specs.declared.event.Kind.TheVariants.{Disallow, Goal, KickOff, Red, SecondYellow, Yellow}
 pub use Rattle.ucl_word.specs.declared.event.Side.TheVariants.{Away, Home}
 pub use Rattle.ucl_word.specs.declared.record.MatchRecord.{MatchRecord}
 pub use Rattle.ucl_word.specs.declared.record.State.TheVariants.{Finished, InPlay, Scheduled}

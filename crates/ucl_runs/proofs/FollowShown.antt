@@ -1,4 +1,5 @@
 -- What is shown of lines.
+use Rattle.std.proofs.lemmas.Grind.{flat_map-append}
 use Rattle.std.proofs.lemmas.List.Elements.{All-weaker}
 use Rattle.ucl_runs.proofs.Common.{All, All-append, All-cons, All-head, All-nil, All-tail, AwayInTie, FollowArgs, Following, IsNoNewer}
 use Rattle.ucl_runs.proofs.Common.{IsToldIn, List, Moment, None, Option, Profile, Some, Title, Uefa, [], after_told, and_parts, and_right}
@@ -31,10 +32,6 @@ unfolding moments_shown
 rise f [] = tt
 rise f (line ∷ lines) = rise-told f (moment_on line) lines (λ g. rise g lines)
 
-both-parts : (xs ys : List Moment) → flat_map screen_of (xs ++ ys) ≡ flat_map screen_of xs ++ flat_map screen_of ys
-both-parts [] ys = refl
-both-parts (x ∷ xs) ys = cc (both-parts xs ys, append_assoc (screen_of x) (flat_map screen_of xs) (flat_map screen_of ys))
-
 one-text : (f : Following) (o : Option Moment) → told_text Text f o ≡ flat_map screen_of (shown_of f o)
 one-text f None = refl
 one-text f (Some m) = elim (cases_Bool (is_shown f m)) [ inl y ↦ rw y (sym (append-nil (screen_of m))) | inr n ↦ rw n refl ]
@@ -43,8 +40,7 @@ text : (f : Following) (lines : Lines) → sights Text f lines ≡ flat_map scre
 unfolding sights moments_shown
 text f [] = refl
 text f (line ∷ lines) =
-    let now = after_told f (moment_on line) in
-    ap₂ (λ (a b : List ℕ). a ++ b) (one-text f (moment_on line)) (text now lines) ∙ sym (both-parts (shown_of f (moment_on line)) (moments_shown now lines))
+    rw (one-text f (moment_on line), text (after_told f (moment_on line)) lines, flat_map-append screen_of (shown_of f (moment_on line)))
 
 -- ---- told by a line
 

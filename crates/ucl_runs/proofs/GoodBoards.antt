@@ -1,5 +1,5 @@
 -- Boards of valid words, through an evening.
-use Rattle.ucl_runs.proofs.Common.{All, All-cons, All-get_or, All-nil, AreWords, Attempt, Bool, Err, IsAttempt, IsValid, IsWord, List}
+use Rattle.ucl_runs.proofs.Common.{All, All-cons, All-get_or, All-nil, AreWords, Attempt, Bool, IsAttempt, IsValid, IsWord, List}
 use Rattle.ucl_runs.proofs.Common.{MatchRecord, None, Ok, Option, Refusal, Result, Some, [], and_parts, ap, arith, board_after, board_of}
 use Rattle.ucl_runs.proofs.Common.{false, game_at, get_or, length, nat_le, nat_tests, record_at, record_back, refl, refusal_of, set, subst}
 use Rattle.ucl_runs.proofs.Common.{true, version_of, word_of, word_valid, ℕ, ◌&&◌, ◌+◌, ◌-◌, ◌<◌, ◌==◌, ◌∙◌, ◌∷◌, ◌≡◌}
@@ -90,8 +90,6 @@ IsBoardOf words board = (length board ≡ length words) × All IsWord board
 
 before-board : (o : Option ℕ) (word index : ℕ) (words board : List ℕ) (r : Result (List ℕ) ℕ) → ((new : ℕ) → o ≡ Some new → IsWord new)
     → ((rest : List ℕ) → r ≡ Ok rest → IsBoardOf words rest) → before_words o index r ≡ Ok board → IsBoardOf (word ∷ words) board
-before-board None word index words board r one more h = cc
-before-board (Some new) word index words board (Err bad) one more h = cc
 before-board (Some new) word index words board (Ok rest) one more h =
     let same : new ∷ rest ≡ board = ok-same h in
     let tail = more rest refl in
@@ -99,6 +97,7 @@ before-board (Some new) word index words board (Ok rest) one more h =
   where
     ok-same : {E : Type 0} {x y : List ℕ} → ◌≡◌ {A = Result (List ℕ) E} (Ok x) (Ok y) → x ≡ y
     ok-same e = cc
+before-board o word index words board r one more h = cc
 
 are-good : (index : ℕ) (words board : List ℕ) → read_words index words ≡ Ok board → IsBoardOf words board
 unfolding read_words

@@ -1,11 +1,11 @@
 -- The stages of an evening: rosters and boards that there are.
-use Rattle.ucl_runs.proofs.Common.{All, All-cons, All-head, All-nil, AreWords, Beginning, Bool, Err, Event, IsAttempt, IsClub, IsRoster}
-use Rattle.ucl_runs.proofs.Common.{List, LiveArgs, NamedClub, Naming, None, Nothing, Ok, Open, Option, Other, OtherGroup, Refused, Request}
+use Rattle.std.proofs.lemmas.Bool.{cond_both, eqb-true}
+use Rattle.ucl_runs.proofs.Common.{All, All-cons, All-head, All-nil, AreWords, Beginning, Err, Event, IsAttempt, IsClub, IsRoster, List}
+use Rattle.ucl_runs.proofs.Common.{LiveArgs, NamedClub, Naming, None, Nothing, Ok, Open, Option, Other, OtherGroup, Refused, Request}
 use Rattle.ucl_runs.proofs.Common.{Restoring, Result, Row, Said, Some, Stage, Title, [], after_beginning, after_club, after_row}
-use Rattle.ucl_runs.proofs.Common.{after_title, after_word, arith, attempt_of, bad_slot, board_of, cases_Bool, club_said, false}
-use Rattle.ucl_runs.proofs.Common.{if◌then◌else◌, inl, inr, is_as_asked, is_group_row, is_word_row, length, nat_tests, next_board}
-use Rattle.ucl_runs.proofs.Common.{next_stage, opened, read_words, refl, request_of, restored, title_said, true, with_roster, with_words}
-use Rattle.ucl_runs.proofs.Common.{word_said, ℕ, ⊤, ◌++◌, ◌+◌, ◌==◌, ◌||◌, ◌∷◌, ◌≡◌}
+use Rattle.ucl_runs.proofs.Common.{after_title, after_word, attempt_of, bad_slot, board_of, cases_Bool, club_said, inl, inr, is_as_asked}
+use Rattle.ucl_runs.proofs.Common.{is_group_row, is_word_row, length, next_board, next_stage, opened, read_words, refl, request_of}
+use Rattle.ucl_runs.proofs.Common.{restored, title_said, with_roster, with_words, word_said, ℕ, ⊤, ◌++◌, ◌+◌, ◌==◌, ◌||◌, ◌∷◌, ◌≡◌}
 use Rattle.ucl_order.specs.Roster.{bad_slot_from, is_club}
 use Rattle.ucl_runs.proofs.Boards.{AreAttempts, asked}
 use Rattle.ucl_runs.proofs.GoodBoards.{fresh-good, good-after, read-good}
@@ -25,36 +25,26 @@ all-clubs slot (club ∷ clubs) h = elim (cases_Bool (is_club club)) [
   | inr n ↦ cc (rw n at h)
 ]
 
-either : (b : Bool) (s r : Stage) → (b ≡ true → IsGood s) → IsGood r → IsGood (if b then s else r)
-either true s r p q = p refl
-either false s r p q = q
-
 good-roster : (clubs : List NamedClub) (slot : Option ℕ) → length clubs ≡ 4 → bad_slot clubs ≡ slot → IsGood (with_roster clubs slot)
 good-roster clubs None four e = record { four = four; each = all-clubs 1 clubs e }
 good-roster clubs (Some slot) four e = tt
-
-same-four : (n : ℕ) → (n == 4) ≡ true → n ≡ 4
-same-four n e = grind (arith, nat_tests)
 
 good-club : (row : ℕ) (clubs : List NamedClub) (club : Option NamedClub) → IsGood (after_club row clubs club)
 good-club row clubs None = tt
 good-club row clubs (Some club) =
     let all = clubs ++ club ∷ [] in
-    either (length all == 4) (with_roster all (bad_slot all)) (Naming all)
-    (λ e. good-roster all (bad_slot all) (same-four (length all) e) refl) tt
+    cond_both (length all == 4) (with_roster all (bad_slot all)) (Naming all) IsGood
+    (λ e. good-roster all (bad_slot all) (eqb-true (length all) 4 e) refl) (λ _. tt)
 
 good-restored : (clubs : List NamedClub) (words : List ℕ) (r : Result (List ℕ) ℕ) → IsRoster clubs → length words ≡ 12
     → read_words 1 words ≡ r → IsGood (restored clubs r)
 good-restored clubs words (Ok board) is long e = (is, read-good words board long e)
 good-restored clubs words (Err index) is long e = tt
 
-same-twelve : (n : ℕ) → (n == 12) ≡ true → n ≡ 12
-same-twelve n e = grind (arith, nat_tests)
-
 good-words : (clubs : List NamedClub) (words : List ℕ) → IsRoster clubs → IsGood (with_words clubs words)
 good-words clubs words is =
-    either (length words == 12) (restored clubs (read_words 1 words)) (Restoring clubs words)
-    (λ e. good-restored clubs words (read_words 1 words) is (same-twelve (length words) e) refl) is
+    cond_both (length words == 12) (restored clubs (read_words 1 words)) (Restoring clubs words) IsGood
+    (λ e. good-restored clubs words (read_words 1 words) is (eqb-true (length words) 12 e) refl) (λ _. is)
 
 good-word : (row : ℕ) (clubs : List NamedClub) (words : List ℕ) (word : Option ℕ) → IsRoster clubs
     → IsGood (after_word row clubs words word)
@@ -63,7 +53,7 @@ good-word row clubs words (Some word) is = good-words clubs (words ++ word ∷ [
 
 pub good-opened : (options : LiveArgs) (s : Stage) (r : Said) → IsGood s → IsGood (opened options s r)
 good-opened options (Restoring clubs []) r g =
-    either (options.resumed || is_word_row r) (Restoring clubs []) (Open clubs (board_of [])) (λ _. g) (g, fresh-good)
+    cond_both (options.resumed || is_word_row r) (Restoring clubs []) (Open clubs (board_of [])) IsGood (λ _. g) (λ _. (g, fresh-good))
 good-opened options (Restoring clubs (word ∷ words)) r g = g
 good-opened options (Open clubs board) r g = g
 good-opened _ _ _ _ = tt
@@ -78,12 +68,12 @@ of-request _ = All-nil IsAttempt
 
 good-title : (options : LiveArgs) (row : ℕ) (title : Option Title) → IsGood (after_title options row title)
 good-title options row None = tt
-good-title options row (Some title) = either (is_as_asked options title) (Naming []) (Refused OtherGroup) (λ e. tt) tt
+good-title options row (Some title) = cond_both (is_as_asked options title) (Naming []) (Refused OtherGroup) IsGood (λ _. tt) (λ _. tt)
 
 good-first : (options : LiveArgs) (row : ℕ) (r : Said) → IsGood (after_beginning options row r)
 good-first options row r =
-    either (is_group_row r) (after_title options row (title_said r)) (after_club row [] (club_said 1 r))
-    (λ e. good-title options row (title_said r)) (good-club row [] (club_said 1 r))
+    cond_both (is_group_row r) (after_title options row (title_said r)) (after_club row [] (club_said 1 r)) IsGood
+    (λ _. good-title options row (title_said r)) (λ _. good-club row [] (club_said 1 r))
 
 good-row : (options : LiveArgs) (row : ℕ) (s : Stage) (r : Said) → IsGood s → IsGood (after_row options row s r)
 good-row options row Beginning r g = good-first options row r

@@ -1,25 +1,25 @@
 -- What the lines of an evening's answers tell: nothing, or the moment after their line.
+use Rattle.std.proofs.lemmas.Bool.{cond_both}
+use Rattle.ucl_runs.proofs.Boards.{ranged, AreAttempts, asked, asked-by, event-numbers}
 use Rattle.std.proofs.lemmas.List.Elements.{All-weaker}
 use Rattle.ucl_runs.proofs.GoodStages.{IsGood, good-next, good-opened, of-request}
-use Rattle.ucl_runs.proofs.Common.{All, All-append, All-cons, All-get_or, All-head, All-nil, All-tail, AreWords, Attempt, Bad, Beginning}
-use Rattle.ucl_runs.proofs.Common.{Bool, Evening, Event, EventCall, FourFields, HasNumbers, IsAttempt, IsGroup, IsMoment, IsRoster, IsValid}
-use Rattle.ucl_runs.proofs.Common.{IsWord, Json, KickOff, Kind, List, LiveArgs, MatchRecord, Matches, Moment, NamedClub, Naming, NightEvent}
-use Rattle.ucl_runs.proofs.Common.{None, Nothing, Open, Option, Other, Profile, Refusal, Refused, Request, Restoring, Row, Said, Screen}
-use Rattle.ucl_runs.proofs.Common.{Some, Stage, Title, Words, [], accepted_value, after_row, and_parts, answer, answer_at, answer_of}
-use Rattle.ucl_runs.proofs.Common.{answer_said, answers, ap, arith, asked_by, asked_group, asked_title, attempt_of, attempts_of}
-use Rattle.ucl_runs.proofs.Common.{attempts_on, begun_line, begun_none, board_after, cases_Bool, edition_screen_value, ended_none, event_of}
-use Rattle.ucl_runs.proofs.Common.{event_or_bad, false, game_at, if◌then◌else◌, in_range, inl, inr, is_group_row, is_ok, json_line}
-use Rattle.ucl_runs.proofs.Common.{kind_named, leb-true, length, letter_in, moment_at, moment_now, moment_on, moment_with, nat_le}
-use Rattle.ucl_runs.proofs.Common.{nat_tests, next, next_board, next_title, no_refusal, number, number_valid, opened, profile_named, refl}
-use Rattle.ucl_runs.proofs.Common.{refusal_of, reply_answer, reply_of, reply_value, request_of, said_on, screen_after, screen_answer}
-use Rattle.ucl_runs.proofs.Common.{shown_text, start_of, subst, sym, title_by, title_said, true, version_at, version_of, word_at}
-use Rattle.ucl_runs.proofs.Common.{word_valid, ℕ, ⊤, ◌&&◌, ◌++◌, ◌+◌, ◌-◌, ◌<◌, ◌>>=◌, ◌^◌, ◌∙◌, ◌∷◌, ◌≡◌, ◌≤◌}
+use Rattle.ucl_runs.proofs.Common.{All, All-append, All-get_or, All-head, All-nil, AreWords, Attempt, Bad, Beginning, Bool, Evening, Event}
+use Rattle.ucl_runs.proofs.Common.{FourFields, HasNumbers, IsAttempt, IsGroup, IsMoment, IsRoster, IsValid, IsWord, Json, KickOff, List}
+use Rattle.ucl_runs.proofs.Common.{LiveArgs, MatchRecord, Matches, Moment, NamedClub, Naming, NightEvent, None, Nothing, Open, Option}
+use Rattle.ucl_runs.proofs.Common.{Other, Profile, Refusal, Refused, Request, Restoring, Row, Said, Screen, Some, Stage, Title, Words, []}
+use Rattle.ucl_runs.proofs.Common.{accepted_value, after_row, and_parts, answer, answer_at, answer_of, answer_said, answers, ap, arith}
+use Rattle.ucl_runs.proofs.Common.{asked_by, asked_group, asked_title, attempt_of, attempts_of, attempts_on, begun_line, begun_none}
+use Rattle.ucl_runs.proofs.Common.{board_after, cases_Bool, edition_screen_value, ended_none, event_of, event_or_bad, game_at, inl, inr}
+use Rattle.ucl_runs.proofs.Common.{is_group_row, is_ok, json_line, leb-true, length, letter_in, moment_at, moment_now, moment_on}
+use Rattle.ucl_runs.proofs.Common.{moment_with, nat_le, next, next_board, next_title, no_refusal, number, number_valid, opened}
+use Rattle.ucl_runs.proofs.Common.{profile_named, refl, refusal_of, reply_answer, reply_of, reply_value, request_of, said_on, screen_after}
+use Rattle.ucl_runs.proofs.Common.{screen_answer, shown_text, start_of, subst, sym, title_by, title_said, true, version_at, version_of}
+use Rattle.ucl_runs.proofs.Common.{word_at, word_valid, ℕ, ⊤, ◌&&◌, ◌++◌, ◌+◌, ◌-◌, ◌<◌, ◌>>=◌, ◌^◌, ◌∙◌, ◌∷◌, ◌≡◌, ◌≤◌}
 use Rattle.ucl_runs.specs.Titles.{edition_by}
 use Rattle.ucl_command.specs.Groups.{may_be_asked}
 use Rattle.ucl_command.proofs.Letters.{asked_letter}
 use Rattle.ucl_runs.proofs.Silence.{is_open}
 use Rattle.ucl_runs.specs.LiveText.{after_lines, title_or}
-use Rattle.ucl_runs.proofs.Boards.{AreAttempts, asked, asked-by, event-is_attempt}
 use Rattle.ucl_runs.proofs.GoodBoards.{good-after, version-after}
 use Rattle.ucl_runs.proofs.OneByOne.{after-none, after-one, answers-none, answers-one}
 use Rattle.ucl_runs.proofs.JournalLines.{IsLineThat, IsShown, TellsAlone, TellsAtMost, alone-as, alone-line, alone-none, alone-then}
@@ -30,13 +30,6 @@ use Rattle.ucl_runs.proofs.Matches.{told-lines}
 abbrev pub Lines : Type 0
 Lines = List (List ℕ)
 
-ranged : (low high : ℕ) (o : Option ℕ) (n : ℕ) → in_range low high o ≡ Some n → n ≤ high
-ranged low high None n h = cc
-ranged low high (Some m) n h = elim (cases_Bool (nat_le low m && nat_le m high)) [
-  | inl y ↦ let k : ◌≡◌ {A = Option ℕ} (Some m) (Some n) = rw y at h in let e : m ≡ n = cc in rw (← e) (grind (arith, nat_tests))
-  | inr z ↦ cc (rw z at h)
-]
-
 -- and a title that there is
 
 pub record IsTitle (title : Title) : Type 0 where
@@ -44,14 +37,13 @@ pub record IsTitle (title : Title) : Type 0 where
   pub edition : title.edition ≤ 65535
 
 within : (text : List ℕ) (group : ℕ) → letter_in text ≡ Some group → IsGroup group
-within [] group e = cc
 within (b ∷ []) group e = elim (cases_Bool (nat_le 65 b && nat_le b 72)) [
   | inl y ↦
       let same : b ≡ group = cc (rw y at e) in
       let p = and_parts (nat_le 65 b) (nat_le b 72) y in subst IsGroup same (leb-true 65 b p.0, leb-true b 72 p.1)
   | inr n ↦ cc (rw n at e)
 ]
-within (b ∷ c ∷ more) group e = cc
+within text group e = cc
 
 abbrev titled : Option ℕ → Option Profile → Option ℕ → Option Title
 titled a b c = do
@@ -61,17 +53,15 @@ titled a b c = do
   Some (record { group = group; profile = profile; edition = edition })
 
 by-parts : (a : Option ℕ) (b : Option Profile) (c : Option ℕ) (title : Title) → titled a b c ≡ Some title → (a ≡ Some title.group) × (c ≡ Some title.edition)
-by-parts None b c title h = cc
-by-parts (Some a) None c title h = cc
-by-parts (Some a) (Some b) None title h = cc
 by-parts (Some a) (Some b) (Some c) title h =
     let same : ◌≡◌ {A = Title} (record { group = a; profile = b; edition = c }) title = cc in
     (ap (λ (t : Title). Some t.group) same, ap (λ (t : Title). Some t.edition) same)
+by-parts a b c title h = cc
 
 said-title : (f : FourFields) (title : Title) → title_by f ≡ Some title → IsTitle title
 said-title f title h =
     let p = by-parts (letter_in f.second) (profile_named f.third) (edition_by f.fourth) title h in
-    record { letter = within f.second title.group p.0; edition = ranged 0 65535 (number 5 f.fourth) title.edition p.1 }
+    record { letter = within f.second title.group p.0; edition = (ranged 0 65535 (number 5 f.fourth) title.edition p.1).1 }
 
 letter-of : (asked : Option ℕ) → may_be_asked asked ≡ true → IsGroup (asked_group asked)
 letter-of None h = (omega arith, omega arith)
@@ -84,16 +74,13 @@ or-title : (title : Title) (o : Option Title) → IsTitle title → ((other : Ti
 or-title title None is more = is
 or-title title (Some other) is more = more other refl
 
-either-title : (b : Bool) (x y : Title) → IsTitle x → IsTitle y → IsTitle (if b then x else y)
-either-title true x y p q = p
-either-title false x y p q = q
-
 row-title : (title : Title) (r : Said) → IsTitle title → IsTitle (title_or title (title_said r))
 row-title title (Row f) is = or-title title (title_by f) is (said-title f)
 row-title _ _ is = is
 
 next-good : (title : Title) (s : Stage) (r : Said) → IsTitle title → IsTitle (next_title title s r)
-next-good title Beginning r is = either-title (is_group_row r) (title_or title (title_said r)) title (row-title title r is) is
+next-good title Beginning r is =
+    cond_both (is_group_row r) (title_or title (title_said r)) title IsTitle (λ _. row-title title r is) (λ _. is)
 next-good _ _ _ is = is
 
 -- ---- evenings
@@ -120,44 +107,16 @@ moment-good title clubs board t is w = record { letter = t.letter; edition = t.e
 
 pub stage-good : (title : Title) (s : Stage) (m : Moment) → IsTitle title → IsGood s → moment_at title s ≡ Some m → IsMoment m
 stage-good title (Open clubs board) m t g e = let same : moment_with title clubs board ≡ m = cc in subst IsMoment same (moment-good title clubs board t g.0 g.1)
-stage-good title Beginning m t g e = cc
-stage-good title (Naming clubs) m t g e = cc
-stage-good title (Restoring clubs words) m t g e = cc
-stage-good title (Refused fault) m t g e = cc
+stage-good title s m t g e = cc
 
 -- ---- the numbers of an event that a row asks for
 
-abbrev expected_in : Option NightEvent → Option ℕ
-expected_in None = None
-expected_in (Some e) = Some e.call.expected
-
-abbrev call_made : Option ℕ → Option ℕ → Option Kind → Option EventCall
-call_made b c d = do
-  game ← b
-  expected ← c
-  kind ← d
-  Some (record { game = game; expected = expected; kind = kind })
-
-abbrev made : Option ℕ → Option ℕ → Option ℕ → Option Kind → Option NightEvent
-made a b c d = do
-  reporter ← a
-  call ← call_made b c d
-  Some (record { reporter = reporter; call = call })
-
-third : (a b c : Option ℕ) (d : Option Kind) (e : NightEvent) → made a b c d ≡ Some e → c ≡ Some e.call.expected
-third (Some a) (Some b) (Some c) (Some d) e h = ap expected_in h
-third None b c d e h = cc
-third (Some a) None c d e h = cc
-third (Some a) (Some b) None d e h = cc
-third (Some a) (Some b) (Some c) None e h = cc
-
 numbers : (f : FourFields) (e : NightEvent) → event_of f ≡ Some e → HasNumbers e
 numbers f e h =
-    let p = third (in_range 1 255 (number 3 f.first)) (in_range 1 12 (number 2 f.second)) (in_range 0 65535 (number 5 f.third)) (kind_named f.fourth) e h in
-    let expected = ranged 0 65535 (number 5 f.third) e.call.expected p in
-    let is = event-is_attempt f e h in
-    let reporter = is.0.1 in
-    let game = is.1.1 in record { reporter = omega (arith, reporter); game = omega (arith, game); expected = omega (arith, expected) }
+    let p = event-numbers f e h in
+    let reporter = p.0.0.1 in
+    let game = p.0.1.1 in
+    let expected = p.1 in record { reporter = omega (arith, reporter); game = omega (arith, game); expected = omega (arith, expected) }
 
 -- each event that is asked for has numbers that fit
 abbrev Fits : Request → Type 0
@@ -195,10 +154,6 @@ module _ (options : LiveArgs) (title : Title) (row : ℕ) (clubs : List NamedClu
   screen-tells board w =
       rw json (alone-line (edition_screen_value row title board clubs) (At board) (At board)
       ((told-lines row kick_off 0 (moment_with title clubs board) (moment-good title clubs board good is w) fits kick_off-fits (omega arith)).screen) (inr refl))
-
-  wanted : (b : Bool) (o : Option Moment) (text : List ℕ) → TellsAlone o text → TellsAlone o (if b then text else [])
-  wanted true o text p = p
-  wanted false o text p = alone-none o
 
   module _ (board : List ℕ) (w : AreWords board) (event : NightEvent) (attempted : IsAttempt (attempt_of event)) (small : HasNumbers event) where
     abbrev game_of : List ℕ → MatchRecord
@@ -241,7 +196,8 @@ module _ (options : LiveArgs) (title : Title) (row : ℕ) (clubs : List NamedClu
     reply-tells before = rw json (reply-by (refusal_of (game_of board) event.call.expected event.call.kind) refl)
 
     after-tells : (o : Option Refusal) → TellsAlone (At now) (screen_after options title row clubs (answer (game_of board).number o) now)
-    after-tells None = wanted options.screens (At now) (screen_answer options.format title row clubs now) (screen-tells now good-now)
+    after-tells None = cond_both options.screens (screen_answer options.format title row clubs now) [] (TellsAlone (At now))
+        (λ _. screen-tells now good-now) (λ _. alone-none (At now))
     after-tells (Some refusal) = alone-none (At now)
 
   request-tells : (board : List ℕ) (request : Request) (shown : List ℕ) → AreWords board → AreAttempts request → Fits request → IsShown shown
@@ -341,18 +297,13 @@ pub record AnswersFirst (e : Evening) (r : Said) (shown board : List ℕ) : Type
 
 by-request : (q : Request) (a : Attempt) → attempts_of q ≡ a ∷ [] → (event : NightEvent) × (q ≡ Event event) × (attempt_of event ≡ a)
 by-request (Event event) a h = (event, refl, cc)
-by-request (Bad field) a h = cc
-by-request Screen a h = cc
-by-request Words a h = cc
-by-request Matches a h = cc
+by-request q a h = cc
 
 abbrev is_taken : List ℕ → Attempt → Bool
 is_taken board a = is_ok (reply_of (game_at board a.call.game) a.call)
 
 pub answers-first : (e : Evening) (r : Said) (shown : List ℕ) (clubs : List NamedClub) (board : List ℕ) (a : Attempt) → e.options.format ≡ Json → e.row < 2 ^ 64 → IsSound e
     → opened e.options e.stage r ≡ Open clubs board → attempts_on r ≡ a ∷ [] → is_ok (reply_of (game_at board a.call.game) a.call) ≡ true → AnswersFirst e r shown board
-answers-first e Nothing shown clubs board a json fits g stands asks ok = cc
-answers-first e (Other eight) shown clubs board a json fits g stands asks ok = cc
 answers-first e (Row f) shown clubs board a json fits g stands asks ok =
     let q = by-request (asked_by f) a asks in
     let event = q.0 in
@@ -375,3 +326,4 @@ answers-first e (Row f) shown clubs board a json fits g stands asks ok =
       parts = ap (λ (s : Stage). answer_at e.options e.title e.row s (asked_by f) shown) stands ∙ ap (λ (q : Request). answer_of e.options e.title e.row clubs board q shown) is;
       line_is = accepted-reply e.options e.title e.row clubs json fits g.title good.0 board good.1 event attempted small (version_of board) none;
     }
+answers-first e r shown clubs board a json fits g stands asks ok = cc

@@ -4,15 +4,15 @@ use Rattle.std.proofs.lemmas.List.Elements.{All-take}
 use Rattle.ucl_runs.proofs.Boards.{said-attempts, asked, boards}
 use Rattle.ucl_runs.proofs.FollowShown.{told-later, alike, not-itself, titled-so}
 use Rattle.ucl_runs.proofs.Common.{All, All-append, All-cons, All-head, All-nil, All-tail, AreWords, Attempt, Beginning, Evening, Following}
-use Rattle.ucl_runs.proofs.Common.{IfSome, IsAnsweredIn, IsAttempt, IsMoment, IsToldIn, Json, List, LiveArgs, Moment, NamedClub, Naming}
-use Rattle.ucl_runs.proofs.Common.{None, Open, Option, Refusal, Refused, Restoring, Said, Some, Stage, TakesEvent, Title, [], after_told}
-use Rattle.ucl_runs.proofs.Common.{and_from, and_parts, and_right, answers, ap, append_assoc, arith, attempts_on, begun_append, begun_none}
-use Rattle.ucl_runs.proofs.Common.{board_after, cases_Bool, cases_lt, ended_append, ended_none, false, fold, follow_text, game_at, inl, inr}
-use Rattle.ucl_runs.proofs.Common.{is_as_asked, is_asked, is_later, is_newer, is_plain_title, is_shown, last_lines, length, length-append}
-use Rattle.ucl_runs.proofs.Common.{lines_of, live_text, moment_at, moment_now, moment_on, moment_with, nat_tests, next, next_title, opened}
-use Rattle.ucl_runs.proofs.Common.{opened_at, passed_over, refl, refusal_of, resume, resumed_row, resuming_text, said_on, shown_text}
-use Rattle.ucl_runs.proofs.Common.{shown_too, start_of, subst, sym, told_text, true, unseen, version_at, version_of, whole_lines, ℕ, ⊤}
-use Rattle.ucl_runs.proofs.Common.{◌++◌, ◌+◌, ◌<◌, ◌^◌, ◌∙◌, ◌∷◌, ◌≡◌, ◌≤◌, ◌⊎◌}
+use Rattle.ucl_runs.proofs.Common.{IfSome, IsAnsweredIn, IsAttempt, IsMoment, IsToldIn, Json, List, LiveArgs, Moment, NamedClub, None, Open}
+use Rattle.ucl_runs.proofs.Common.{Option, Refusal, Said, Some, Stage, TakesEvent, Title, [], after_told, and_from, and_parts, and_right}
+use Rattle.ucl_runs.proofs.Common.{answers, ap, append_assoc, arith, attempts_on, begun_append, begun_none, board_after, cases_Bool}
+use Rattle.ucl_runs.proofs.Common.{cases_lt, ended_append, ended_none, false, fold, follow_text, game_at, inl, inr, is_as_asked, is_asked}
+use Rattle.ucl_runs.proofs.Common.{is_later, is_newer, is_plain_title, is_shown, last_lines, length, length-append, lines_of, live_text}
+use Rattle.ucl_runs.proofs.Common.{moment_at, moment_now, moment_on, moment_with, nat_tests, next, next_title, opened, opened_at}
+use Rattle.ucl_runs.proofs.Common.{passed_over, refl, refusal_of, resume, resumed_row, resuming_text, said_on, shown_text, shown_too}
+use Rattle.ucl_runs.proofs.Common.{start_of, subst, sym, told_text, true, unseen, version_at, version_of, whole_lines, ℕ, ⊤, ◌++◌, ◌+◌, ◌<◌}
+use Rattle.ucl_runs.proofs.Common.{◌^◌, ◌∙◌, ◌∷◌, ◌≡◌, ◌≤◌, ◌⊎◌}
 use Rattle.ucl_io.specs.Lines.{begun_line, ended_lines}
 use Rattle.ucl_io.proofs.Cuts.{few_lines}
 use Rattle.ucl_command.specs.declared.follow.FollowShape.TheVariants.{Rows}
@@ -237,10 +237,7 @@ options-after e (line ∷ lines) = options-after (next e (said_on e.row line)) l
 pub open-with : (title : Title) (s : Stage) (m : Moment) → moment_at title s ≡ Some m
     → (clubs : List NamedClub) × (board : List ℕ) × (s ≡ Open clubs board) × (m.board ≡ board) × (m.title ≡ title)
 open-with title (Open clubs board) m e = let same : moment_with title clubs board ≡ m = cc in (clubs, board, refl, cc, sym (ap (λ (n : Moment). n.title) same))
-open-with title Beginning m e = cc
-open-with title (Naming clubs) m e = cc
-open-with title (Restoring clubs words) m e = cc
-open-with title (Refused fault) m e = cc
+open-with title s m e = cc
 
 -- once a board is open, its title stays
 open-title : (title : Title) (s : Stage) (r : Said) → is_open s ≡ true → next_title title s r ≡ title

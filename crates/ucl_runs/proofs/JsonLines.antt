@@ -1,10 +1,10 @@
 -- In JSON an evening answers by lines of values.
-use Rattle.ucl_runs.proofs.Common.{Accepted, AreLinesOfValues, Bad, Bool, Err, Evening, Event, Format, Json, List, LiveArgs, Matches}
-use Rattle.ucl_runs.proofs.Common.{NamedClub, NightEvent, Nothing, Ok, Open, Other, Refusal, Request, Result, Row, Said, Screen, Stage}
-use Rattle.ucl_runs.proofs.Common.{Title, Words, [], answer_at, answer_of, answer_said, bad_row_value, edition_screen_value, false}
-use Rattle.ucl_runs.proofs.Common.{field_name, game_at, if◌then◌else◌, matches_value, next, next_board, opened, reply_answer, reply_of}
-use Rattle.ucl_runs.proofs.Common.{reply_value, request_of, said_on, screen_after, screen_answer, shown_text, true, version_of, words_value}
-use Rattle.ucl_runs.proofs.Common.{ℕ, ◌∷◌, ◌≡◌}
+use Rattle.std.proofs.lemmas.Bool.{cond_both}
+use Rattle.ucl_runs.proofs.Common.{Accepted, AreLinesOfValues, Bad, Err, Evening, Event, Format, Json, List, LiveArgs, Matches, NamedClub}
+use Rattle.ucl_runs.proofs.Common.{NightEvent, Nothing, Ok, Open, Other, Refusal, Request, Result, Row, Said, Screen, Stage, Title, Words}
+use Rattle.ucl_runs.proofs.Common.{[], answer_at, answer_of, answer_said, bad_row_value, edition_screen_value, field_name, game_at}
+use Rattle.ucl_runs.proofs.Common.{matches_value, next, next_board, opened, reply_answer, reply_of, reply_value, request_of, said_on}
+use Rattle.ucl_runs.proofs.Common.{screen_after, screen_answer, shown_text, version_of, words_value, ℕ, ◌∷◌, ◌≡◌}
 use Rattle.ucl_json.proofs.OneLine.{line_of_value, lines_then, no_lines}
 use Rattle.ucl_runs.specs.LiveText.{answers}
 use Rattle.ucl_runs.specs.LiveLaws.{JsonAnswersAreLines}
@@ -12,14 +12,11 @@ use Rattle.ucl_runs.specs.LiveLaws.{JsonAnswersAreLines}
 screen-line : (format : Format) (title : Title) (row : ℕ) (clubs : List NamedClub) (board : List ℕ) → format ≡ Json → AreLinesOfValues (screen_answer format title row clubs board)
 screen-line format title row clubs board h = rw h (line_of_value (edition_screen_value row title board clubs))
 
-wanted : (b : Bool) (text : List ℕ) → AreLinesOfValues text → AreLinesOfValues (if b then text else [])
-wanted true text p = p
-wanted false text p = no_lines
-
 after-line : (options : LiveArgs) (title : Title) (row : ℕ) (clubs : List NamedClub) (reply : Result Accepted Refusal) (board : List ℕ)
     → options.format ≡ Json → AreLinesOfValues (screen_after options title row clubs reply board)
 after-line options title row clubs (Ok accepted) board h =
-    wanted options.screens (screen_answer options.format title row clubs board) (screen-line options.format title row clubs board h)
+    cond_both options.screens (screen_answer options.format title row clubs board) [] AreLinesOfValues
+    (λ _. screen-line options.format title row clubs board h) (λ _. no_lines)
 after-line options title row clubs (Err refusal) board h = no_lines
 
 reply-lines : (format : Format) (title : Title) (row : ℕ) (clubs : List NamedClub) (event : NightEvent) (before : ℕ) (reply : Result Accepted Refusal) (board : List ℕ) → format ≡ Json

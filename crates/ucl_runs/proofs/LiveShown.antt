@@ -1,7 +1,7 @@
 -- How rows are shown.
 use Rattle.ucl_runs.proofs.Common.{IsUtf8-from_ascii, List, [], and_parts, ap, arith, false, get_or, inl, inr, is_printed, length, list_all}
-use Rattle.ucl_runs.proofs.Common.{nat_le, nat_tests, refl, shown_text, suc, sym, take, take_all, true, zero, ℕ, ◌+◌, ◌<◌, ◌∙◌, ◌∷◌, ◌≡◌}
-use Rattle.ucl_runs.proofs.Common.{◌≤◌, ◌⊎◌}
+use Rattle.ucl_runs.proofs.Common.{nat_le, nat_tests, refl, shown_text, suc, sym, take, take_all, true, zero, ℕ, ◌<◌, ◌∙◌, ◌∷◌, ◌≡◌, ◌≤◌}
+use Rattle.ucl_runs.proofs.Common.{◌⊎◌}
 use Rattle.std.specs.Str.{IsAscii, IsUtf8}
 use Rattle.std.proofs.lemmas.Str.Ascii.{IsAscii-nil, IsAscii-cons}
 use Rattle.ucl_runs.specs.BadRows.{printed}

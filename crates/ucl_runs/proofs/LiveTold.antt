@@ -52,12 +52,10 @@ bad-told row code name field shown = ap Some (told-parts (decimal row ++ codes "
 
 bad : (row : ℕ) (field shown : List ℕ) → text_told (bad_row_value row field shown) ≡ Some (bad_line row)
 bad row field shown =
-    cc (
-      bad-told row 20 (codes "bad-row") field shown,
-      decimal_two 20 (omega arith) (omega arith),
-      append_assoc (decimal row ++ codes " refused ") (codes "20 bad-row") (codes "\n"),
-      append_assoc (decimal row) (codes " refused ") (codes "20 bad-row\n"),
-    )
+    let twenty = decimal_two 20 (omega arith) (omega arith) in
+    let together = append_assoc (decimal row ++ codes " refused ") (codes "20 bad-row") (codes "\n") in
+    let apart = append_assoc (decimal row) (codes " refused ") (codes "20 bad-row\n") in
+    cc (bad-told row 20 (codes "bad-row") field shown, twenty, together, apart)
 
 -- ---- words
 

@@ -1,8 +1,9 @@
 -- All merges of the rows of a script have one board, where each match has one reporter.
-use Rattle.ucl_runs.proofs.Common.{Bool, EachMatchHasOneReporter, Entry, EventCall, IsEnteredAt, IsMerge, IsRefusedAt, List, MatchEntry}
+use Rattle.std.proofs.lemmas.Bool.{cond_both}
+use Rattle.ucl_runs.proofs.Common.{EachMatchHasOneReporter, Entry, EventCall, IsEnteredAt, IsMerge, IsRefusedAt, List, MatchEntry}
 use Rattle.ucl_runs.proofs.Common.{NightEvent, Reading, Some, accepted_of, after_attempt, ap, arith, at_below, attempt_by, cases_eq}
-use Rattle.ucl_runs.proofs.Common.{cases_lt, cond, entries_of, entry_of, false, false≢true, inl, inr, is_ok, length, map, match_numbers}
-use Rattle.ucl_runs.proofs.Common.{refl, reply_of, same_Some, sequential_reply, slice_get, snapshot_at, suc, sym, take, take-length, true}
+use Rattle.ucl_runs.proofs.Common.{cases_lt, entries_of, entry_of, false, false≢true, inl, inr, is_ok, length, map, match_numbers, refl}
+use Rattle.ucl_runs.proofs.Common.{reply_of, same_Some, sequential_reply, slice_get, snapshot_at, suc, sym, take, take-length, true}
 use Rattle.ucl_runs.proofs.Common.{word_of, zero, ℕ, ◌+◌, ◌-◌, ◌<◌, ◌∙◌, ◌≡◌, ◌≢◌, ◌≤◌}
 use Rattle.std.proofs.Common.{add-zero}
 use Rattle.std.proofs.lemmas.List.{map_push}
@@ -69,14 +70,11 @@ module _ (number : ℕ → ℕ) (rows : List NightEvent) (h : List Entry) (merge
   night_next : (i : ℕ) (row : NightEvent) → slice_get rows i ≡ Some row → night_at (suc i) ≡ after_attempt (night_at i) (attempt_by number row)
   night_next i row at = rw (take_one rows i row at, map_push, fold_push)
 
-  either_way : (b : Bool) (x y : List Entry) → entries_of g x ≡ entries_of g y → entries_of g (cond b x y) ≡ entries_of g y
-  either_way true x y same = same
-  either_way false x y same = refl
-
   -- a row of another match
   night_else : (i : ℕ) (row : NightEvent) → slice_get rows i ≡ Some row → row.call.game ≢ g → entries_of g (night_at (suc i)) ≡ entries_of g (night_at i)
   night_else i row at other = rw (night_next i row at)
-      (either_way (is_ok (sequential_reply (night_at i) row.call)) _ (night_at i) (entries_else (night_at i) _ g other))
+      (cond_both (is_ok (sequential_reply (night_at i) row.call)) _ (night_at i) (λ l. entries_of g l ≡ entries_of g (night_at i))
+      (λ _. entries_else (night_at i) _ g other) (λ _. refl))
 
   -- the reply to an event of the match goes by the entries of the match
   same_reply : (x y : List Entry) (call : EventCall) → call.game ≡ g → entries_of g x ≡ entries_of g y → sequential_reply x call ≡ sequential_reply y call

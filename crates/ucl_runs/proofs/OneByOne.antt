@@ -31,10 +31,7 @@ after-one e line lines = refl
 pub answers-append : (e : Evening) (a b : List (List ℕ)) → answers e (a ++ b) ≡ answers e a ++ answers (after_lines e a) b
 unfolding answers after_lines
 answers-append e [] b = refl
-answers-append e (line ∷ a) b =
-    let r = said_on e.row line in
-    let text = answer_said e r (shown_text line) in
-    ap (λ (l : List ℕ). text ++ l) (answers-append (next e r) a b) ∙ sym (append_assoc text (answers (next e r) a) (answers (after_lines (next e r) a) b))
+answers-append e (line ∷ a) b = rw (answers-append (next e (said_on e.row line)) a b, append_assoc)
 
 pub after-append : (e : Evening) (a b : List (List ℕ)) → after_lines e (a ++ b) ≡ after_lines (after_lines e a) b
 unfolding after_lines
@@ -44,13 +41,12 @@ after-append e (line ∷ a) b = after-append (next e (said_on e.row line)) a b
 -- ---- one line
 
 pub answers-last : (e : Evening) (line : List ℕ) → answers e (line ∷ []) ≡ answer_said e (said_on e.row line) (shown_text line)
-answers-last e line =
-    let r = said_on e.row line in
-    let text = answer_said e r (shown_text line) in
-    answers-one e line [] ∙ ap (λ (k : List ℕ). text ++ k) (answers-none (next e r)) ∙ append-nil text
+unfolding answers
+answers-last e line = append-nil (answer_said e (said_on e.row line) (shown_text line))
 
 pub after-last : (e : Evening) (line : List ℕ) → after_lines e (line ∷ []) ≡ next e (said_on e.row line)
-after-last e line = after-one e line [] ∙ after-none (next e (said_on e.row line))
+unfolding after_lines
+after-last e line = refl
 
 -- ---- a beginning of an input
 

@@ -1,10 +1,10 @@
 -- What an evening answers is plain, and short: so each of its lines tells what its value tells.
-use Rattle.ucl_runs.proofs.Common.{All, All-head, All-tail, AreWords, Away, AwayInTie, Disallow, FullTime, Goal, HasNumbers, Home, IsClub}
-use Rattle.ucl_runs.proofs.Common.{IsGroup, IsMoment, IsRoster, KickOff, Kind, List, Moment, NamedClub, NightEvent, Profile, Red, Reopen}
-use Rattle.ucl_runs.proofs.Common.{SecondYellow, Uefa, Yellow, [], and_from, and_parts, arith, cases_Bool, club_in, club_items, digit_glyph}
-use Rattle.ucl_runs.proofs.Common.{false, hex_digits, inl, inr, is_name, is_printed, le-leb, length, list_all, nat_le, nat_lt, nat_tests}
-use Rattle.ucl_runs.proofs.Common.{number_valid, profile_name, record_at, refl, suc, true, version_of, word_items, word_valid, zero, ℕ, ◌%◌}
-use Rattle.ucl_runs.proofs.Common.{◌&&◌, ◌*◌, ◌+◌, ◌-◌, ◌/◌, ◌<◌, ◌^◌, ◌∷◌, ◌≡◌, ◌≤◌}
+use Rattle.ucl_runs.proofs.Common.{All, All-head, All-tail, AreWords, AwayInTie, Disallow, Goal, HasNumbers, Home, IsClub, IsGroup}
+use Rattle.ucl_runs.proofs.Common.{IsMoment, IsRoster, Kind, List, Moment, NamedClub, NightEvent, Profile, Red, SecondYellow, Uefa, Yellow}
+use Rattle.ucl_runs.proofs.Common.{[], and_from, and_parts, arith, cases_Bool, club_in, club_items, digit_glyph, false, hex_digits, inl}
+use Rattle.ucl_runs.proofs.Common.{inr, is_name, is_printed, le-leb, length, list_all, nat_le, nat_lt, nat_tests, number_valid}
+use Rattle.ucl_runs.proofs.Common.{profile_name, record_at, refl, suc, true, version_of, word_items, word_valid, zero, ℕ, ◌%◌, ◌&&◌, ◌*◌}
+use Rattle.ucl_runs.proofs.Common.{◌+◌, ◌-◌, ◌/◌, ◌<◌, ◌^◌, ◌∷◌, ◌≡◌, ◌≤◌}
 use Rattle.std.specs.Prelude.{slice_index_or}
 use Rattle.std.proofs.lemmas.List.Sums.{sum_by-le}
 use Rattle.serde_json.proofs.OnLiterals.{serde_json_on_literals}

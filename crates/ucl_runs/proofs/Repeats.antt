@@ -2,8 +2,8 @@
 use Rattle.std.proofs.Common.{length}
 use Rattle.std.proofs.Math.Seq.{take-append_seam}
 use Rattle.std.proofs.lemmas.List.Elements.{All-take}
-use Rattle.ucl_runs.proofs.Common.{All-cons, All-head, All-nil, All-push, All-tail, Attempt, Entry, IsAttempt, IsLegal, List, []}
-use Rattle.ucl_runs.proofs.Common.{after_attempt, ap, attempt_board, board_after, fold, inl, inr, refl, subst, sym, ℕ, ◌++◌, ◌∙◌, ◌∷◌, ◌≡◌}
+use Rattle.ucl_runs.proofs.Common.{All-head, All-nil, All-push, All-tail, Attempt, Entry, IsAttempt, IsLegal, List, [], after_attempt, ap}
+use Rattle.ucl_runs.proofs.Common.{attempt_board, board_after, fold, inl, inr, refl, subst, sym, ℕ, ◌++◌, ◌∙◌, ◌∷◌, ◌≡◌}
 use Rattle.std.specs.List.{All}
 use Rattle.std.proofs.lemmas.List.Sums.{fold-append}
 use Rattle.ucl_board.specs.Laws.{IsStaleAgain}

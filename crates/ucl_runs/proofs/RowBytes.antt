@@ -76,12 +76,7 @@ unfolding next_record
 between-same st.StartRecord xs h = refl
 between-same st.AfterCr [] h = refl
 between-same st.AfterCr (b ∷ xs) h = rw (as-start b) refl
-between-same st.StartField xs h = cc
-between-same st.InField xs h = cc
-between-same st.InQuoted xs h = cc
-between-same st.AfterQuote xs h = cc
-between-same st.InEscape xs h = cc
-between-same st.InComment xs h = cc
+between-same s xs h = cc
 
 pub skip-one : (b : ℕ) (xs : List ℕ) → ((b == 13) || (b == 10)) ≡ true → next_record default_config st.StartRecord [] [] (b ∷ xs) ≡ next_record default_config st.StartRecord [] [] xs
 unfolding next_record
@@ -94,10 +89,8 @@ skip-at i xs h e = rw (drop_more xs i 0 h) (skip-one (get_or xs i 0) (drop (i + 
 -- the mark at the start of a text
 pub marked : (xs : List ℕ) → 3 ≤ length xs → get_or xs 0 0 ≡ 0xEF → get_or xs 1 0 ≡ 0xBB → get_or xs 2 0 ≡ 0xBF → strip_bom xs ≡ drop 3 xs
 unfolding strip_bom
-marked [] h p q r = absurd (omega arith)
-marked (a ∷ []) h p q r = absurd (omega arith)
-marked (a ∷ b ∷ []) h p q r = absurd (omega arith)
 marked (a ∷ b ∷ c ∷ xs) h p q r = rw (p, q, r) refl
+marked xs h p q r = absurd (omega arith)
 
 pub is-end : (b : ℕ) → ((b ≡ 13 → ⊥) × (b ≡ 10)) ⊎ (b ≡ 13) → ((b == 13) || (b == 10)) ≡ true
 is-end b (inl p) = rw p.1 refl

@@ -5,10 +5,10 @@ use Rattle.ucl_runs.proofs.Common.{Event, IsAttempt, Json, List, LiveArgs, Match
 use Rattle.ucl_runs.proofs.Common.{Other, RaisesVersion, Refusal, Request, Result, Row, Said, Screen, Some, Stage, Text, Title, Words, []}
 use Rattle.ucl_runs.proofs.Common.{after_row, after_title, answer_at, answer_of, answer_said, ap, append-nil, append_assoc, attempt_of}
 use Rattle.ucl_runs.proofs.Common.{bad_line, bad_row_value, edition_screen_value, false, field_name, game_at, if◌then◌else◌, is_ok}
-use Rattle.ucl_runs.proofs.Common.{json_line, line_of_reply, lines_of, matches_value, next, next_board, next_stage, next_title, no_refusal}
-use Rattle.ucl_runs.proofs.Common.{one_line, opened, refl, refusal_of, reply_answer, reply_of, reply_value, request_of, said_on}
-use Rattle.ucl_runs.proofs.Common.{screen_after, screen_answer, screen_text, shown_text, start_of, sym, title_said, true, version_of}
-use Rattle.ucl_runs.proofs.Common.{word_lines, words_value, ℕ, ◌++◌, ◌+◌, ◌>>=◌, ◌∙◌, ◌∷◌, ◌≡◌}
+use Rattle.ucl_runs.proofs.Common.{json_line, line_of_reply, lines_of, matches_value, next, next_board, next_stage, no_refusal, one_line}
+use Rattle.ucl_runs.proofs.Common.{opened, refl, refusal_of, reply_answer, reply_of, reply_value, request_of, said_on, screen_after}
+use Rattle.ucl_runs.proofs.Common.{screen_answer, screen_text, shown_text, start_of, sym, title_said, true, version_of, word_lines}
+use Rattle.ucl_runs.proofs.Common.{words_value, ℕ, ◌++◌, ◌+◌, ◌>>=◌, ◌∙◌, ◌∷◌, ◌≡◌}
 use Rattle.std.proofs.lemmas.Grind.{flat_map-append}
 use Rattle.ucl_screen.specs.Matches.{matches_text}
 use Rattle.ucl_json.specs.Lines.{IsOneLine}
@@ -48,9 +48,8 @@ pub record InParts (o p : Option (List ℕ)) (t : List ℕ) : Type 0 where
   pub whole : first ++ more ≡ t
 
 in-parts : (o p : Option (List ℕ)) (t : List ℕ) → (o >>= λ a. p >>= λ b. Some (a ++ b)) ≡ Some t → InParts o p t
-in-parts None p t e = cc
-in-parts (Some a) None t e = cc
 in-parts (Some a) (Some b) t e = record { first = a; more = b; first_is = refl; more_is = refl; whole = some-same (a ++ b) t e }
+in-parts o p t e = cc
 
 said-both : (xs ys : List Data) (t u : List ℕ) → texts_told xs ≡ Some t → texts_told ys ≡ Some u → texts_told (xs ++ ys) ≡ Some (t ++ u)
 unfolding texts_told
@@ -145,9 +144,6 @@ stage-lines _ _ _ _ _ _ _ _ = no-lines
 
 abbrev text_of : Evening → Evening
 text_of e = record { options = as_text e.options; title = e.title; row = e.row; stage = e.stage }
-
-abbrev with-stage : Evening → Said → Stage → Evening
-with-stage e r s = record { options = as_text e.options; title = next_title e.title e.stage r; row = e.row + 1; stage = s }
 
 text-next : (e : Evening) (r : Said) → next (text_of e) r ≡ text_of (next e r)
 text-next e r = cc (stage-text e.options e.row e.stage r)

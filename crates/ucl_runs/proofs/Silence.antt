@@ -15,17 +15,11 @@ is_open (Refused fault) = false
 
 open-row : (options : LiveArgs) (row : ℕ) (s : Stage) (r : Said) → is_open s ≡ true → is_open (after_row options row s r) ≡ true
 open-row options row (Open clubs board) r h = refl
-open-row options row Beginning r h = cc
-open-row options row (Naming clubs) r h = cc
-open-row options row (Restoring clubs words) r h = cc
-open-row options row (Refused fault) r h = cc
+open-row options row s r h = cc
 
 open-opened : (options : LiveArgs) (s : Stage) (r : Said) → is_open s ≡ true → is_open (opened options s r) ≡ true
 open-opened options (Open clubs board) r h = refl
-open-opened options Beginning r h = cc
-open-opened options (Naming clubs) r h = cc
-open-opened options (Restoring clubs words) r h = cc
-open-opened options (Refused fault) r h = cc
+open-opened options s r h = cc
 
 open-next : (options : LiveArgs) (row : ℕ) (s : Stage) (r : Said) → is_open s ≡ true → is_open (next_stage options row s r) ≡ true
 open-next options row s Nothing h = h

@@ -1,12 +1,11 @@
 -- What a screen shows does not tell by whom the events were entered.
 use Rattle.ucl_runs.proofs.Common.{All-head, All-nil, All-push, All-tail, Away, Bool, Disallow, EachMatchHasOneReporter, Entry, EventCall}
-use Rattle.ucl_runs.proofs.Common.{Finished, FullTime, Goal, Home, InPlay, IsMerge, IsOnDuty, KickOff, Kind, List, MatchEntry, MatchRecord}
-use Rattle.ucl_runs.proofs.Common.{NamedClub, NightEvent, None, Option, Profile, Red, Refusal, Reopen, Scheduled, SecondYellow, Some}
-use Rattle.ucl_runs.proofs.Common.{Yellow, [], accepted_of, after_attempt, answer, ap, arith, attempt_by, attempt_of, cond, entries_of}
-use Rattle.ucl_runs.proofs.Common.{entry_of, false, filter, fold, followed_by, game_at, in_play, is_in_play, is_ok, length, map}
-use Rattle.ucl_runs.proofs.Common.{match_numbers, number_of_two, option_map, record_at, record_back, refl, reply_of, row_line}
-use Rattle.ucl_runs.proofs.Common.{sequential_reply, subst, suc, sym, take, true, version_of, word_of, zero, ℕ, ⊎_elim, ◌++◌, ◌+◌, ◌-◌}
-use Rattle.ucl_runs.proofs.Common.{◌==◌, ◌∙◌, ◌∷◌, ◌≡◌, ◌⊎◌}
+use Rattle.ucl_runs.proofs.Common.{Finished, Goal, Home, InPlay, IsMerge, IsOnDuty, Kind, List, MatchEntry, MatchRecord, NamedClub}
+use Rattle.ucl_runs.proofs.Common.{NightEvent, None, Option, Profile, Red, Refusal, Scheduled, SecondYellow, Some, Yellow, [], accepted_of}
+use Rattle.ucl_runs.proofs.Common.{after_attempt, answer, ap, arith, attempt_by, attempt_of, cond, entries_of, entry_of, false, filter}
+use Rattle.ucl_runs.proofs.Common.{fold, followed_by, game_at, in_play, is_in_play, is_ok, length, map, match_numbers, number_of_two}
+use Rattle.ucl_runs.proofs.Common.{option_map, record_at, record_back, refl, reply_of, row_line, sequential_reply, subst, suc, sym, take}
+use Rattle.ucl_runs.proofs.Common.{true, version_of, word_of, zero, ℕ, ⊎_elim, ◌++◌, ◌+◌, ◌-◌, ◌==◌, ◌∙◌, ◌∷◌, ◌≡◌, ◌⊎◌}
 use Rattle.std.proofs.Common.{if◌then◌else◌, flat_map, count_by, All}
 use Rattle.std.specs.Prelude.{sum_by, slice_get}
 use Rattle.std.proofs.lemmas.List.Sums.{sum_by-cons}
