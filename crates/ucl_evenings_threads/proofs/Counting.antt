@@ -3,7 +3,7 @@ use Rattle.ucl_evenings_threads.proofs.Common.{All, All-cons, All-nil, All-weake
 use Rattle.ucl_evenings_threads.proofs.Common.{IsTheirs, List, PassView, [], accepted_by_all, ap, append-nil, arith, begins_through}
 use Rattle.ucl_evenings_threads.proofs.Common.{by_more, cases_eq, cond, entries_by, eq-eqb, false, inl, inr, length, length-append, ne_eqb}
 use Rattle.ucl_evenings_threads.proofs.Common.{nil_from_length, not, refl, suc, sym, true, true≢false, ℕ, ◌++◌, ◌+◌, ◌<◌, ◌∙◌, ◌∷◌, ◌≡◌}
-use Rattle.ucl_evenings_threads.proofs.Common.{◌≢◌, ◌≤◌, ◌⊎◌}
+use Rattle.ucl_evenings_threads.proofs.Common.{◌≤◌, ◌⊎◌}
 use Rattle.ucl_evenings_threads.specs.Whole.{IsOneOf, NumbersRise}
 use Rattle.ucl_evenings_threads.specs.declared.tally.Tally.{Tally}
 

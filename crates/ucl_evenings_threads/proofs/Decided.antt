@@ -145,8 +145,7 @@ module _ {B R P S W V : Type 0} (live : boards.Ghosts B R P) (board : B) (source
       let known : All (HadEntered before) early = rw (maps_same (IsHandedBack live board) live.reporter live.reporter
       (λ x y kept. kept.unchanged) entered end.entered.items held.kept) had in
       let others = λ (p : ℕ) (x : Entry) (from : length before ≤ p) (at : slice_get h p ≡ Some x). ⊎_elim
-      (λ is. absurd (none_of_these before h early p x held.since known first from at is))
-      (λ is. d.each x.reporter is)
+      (λ is. absurd (none_of_these before h early p x held.since known first from at is)) (λ is. d.each x.reporter is)
       (one_of_either early late x.reporter (subst (λ (y : Entry). IsOneOf (early ++ late) y.reporter) (get_or_from_slice_get h p x x at)
       (theirs.no_other p x (at_below h p x at)))) in
       record {

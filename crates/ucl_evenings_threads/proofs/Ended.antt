@@ -1,36 +1,17 @@
 -- What reporters and screens hand back.
-use Rattle.ucl_evenings_threads.proofs.Common.{All, All-push, AreFew, Bool, Device, Entry, Err, EventOutcome, GoesOnOrStays}
-use Rattle.ucl_evenings_threads.proofs.Common.{HasReportedRows, HasShownOf, IfErr, IsPrefix, IsSeenIn, IsSound, LastIs, LastIsAtLeast, List}
-use Rattle.ucl_evenings_threads.proofs.Common.{NamedClub, Ok, OnOk, Option, OutOfMemory, PassView, ReplyStyle, ReportsMore, Result}
+use Rattle.ucl_evenings_threads.proofs.Common.{All, All-push, AreFew, Bool, Entry, Err, GoesOnOrStays}
+use Rattle.ucl_evenings_threads.proofs.Common.{HasShownOf, IfErr, IsPrefix, IsSeenIn, IsSound, LastIs, LastIsAtLeast, List}
+use Rattle.ucl_evenings_threads.proofs.Common.{NamedClub, Ok, OnOk, Option, OutOfMemory, PassView, Result}
 use Rattle.ucl_evenings_threads.proofs.Common.{RunFault, Screen, ScreenEnd, Screening, ScreensEnd, ShowsSince, SinkServed, SoFar}
-use Rattle.ucl_evenings_threads.proofs.Common.{WriteFailed, [], ap, arith, asks_in, begins_length, begins_through, goes_next, inl, inr}
-use Rattle.ucl_evenings_threads.proofs.Common.{length, refl, reports_in, rise_count, rise_upper, screens_on, screens_shown, subst, sym, ℕ}
+use Rattle.ucl_evenings_threads.proofs.Common.{WriteFailed, [], ap, arith, begins_length, begins_through, goes_next, inl, inr}
+use Rattle.ucl_evenings_threads.proofs.Common.{length, rise_count, rise_upper, screens_on, screens_shown, subst, sym, ℕ}
 use Rattle.ucl_evenings_threads.proofs.Common.{⊤, ◌++◌, ◌+◌, ◌<◌, ◌∙◌, ◌∷◌, ◌≡◌}
 use Rattle.ucl_evenings.specs.declared.shape.Shape.{Shape}
 use Rattle.ucl_runs.specs.Run.{SinkFails}
-use Rattle.ucl_evenings.specs.Rows.{TookRows}
 use Rattle.ucl_evenings.specs.Showing.{RiseWithin}
 use Rattle.ucl_io.specs.declared.stream.Sink as sinks
 use Rattle.ucl_live_board.specs.declared.live_board.LiveBoard as boards
 use Rattle.ucl_evenings_threads.proofs.Counting.{seen_on}
-
--- a reporter's run, after its pass has told what it has seen
-pub took_later : (s : ReplyStyle) (k m m2 : PassView) (a b c : ℕ → Type 0) (old new : Device) (r : Result ⊤ RunFault)
-    (P Q : List EventOutcome → Type 0)
-    → ((outcomes : List EventOutcome) → P outcomes → Q outcomes)
-    → TookRows s k m a b old new r P → m2 ≡ m → ReportsMore b 0 c → TookRows s k m2 a c old new r Q
-took_later s k m m2 a b c old new r P Q f t same more = record {
-  bytes = t.bytes;
-  lines = t.lines;
-  outcomes = t.outcomes;
-  consumed = t.consumed;
-  reported = record {
-    rows = subst (λ (x : PassView). HasReportedRows k x (asks_in 1 t.lines) t.outcomes) (sym same) t.reported.rows;
-    reports = λ n h. subst c (omega arith) (more (n + length (reports_in (asks_in 1 t.lines))) (t.reported.reports n h));
-  };
-  prompt = f t.outcomes t.prompt;
-  ends = t.ends;
-}
 
 -- ---- a screen
 
@@ -50,8 +31,7 @@ screens_end failed old new text P Q (Err fault) f e = failed_end failed old new 
 -- what a screen has shown of a beginning it has shown of the whole
 module _ {B R P V : Type 0} (live : boards.Ghosts B R P) (board : B) (sink : sinks.Ghosts V) (clubs : List NamedClub) where
   pub shown_on : (before s h : List Entry) (Ends More : List ℕ → Type 0) (screen : Screen B V) (end : ScreenEnd R (Screen B V))
-      → IsPrefix s h
-      → ((versions : List ℕ) → Ends versions → More versions)
+      → IsPrefix s h → ((versions : List ℕ) → Ends versions → More versions)
       → HasShownOf live board sink clubs before s Ends screen end → HasShownOf live board sink clubs before h More screen end
   shown_on before s h Ends More screen end on f p =
       let le = begins_length s h on in record {
@@ -90,8 +70,7 @@ stands_few options clubs k m s old new versions p =
 
 -- a screen whose thread ended well
 pub looked_few : (options : Shape) (clubs : List NamedClub) (least : ℕ) (k m : PassView) (s : Screening) (failed : Bool)
-    (old new : Option (List ℕ)) (r : Result ⊤ RunFault)
-    → ShowsSince options clubs least k m s failed old new r → OnOk r (AreFew s)
+    (old new : Option (List ℕ)) (r : Result ⊤ RunFault) → ShowsSince options clubs least k m s failed old new r → OnOk r (AreFew s)
 looked_few options clubs least k m s failed old new (Ok done) p = stands_few options clubs k m s old new p.versions p.stands
 looked_few options clubs least k m s failed old new (Err f) p = tt
 
@@ -120,9 +99,3 @@ goes_then k m z a (inr e) = subst (GoesOnOrStays k) (sym e) a
 pub heard_more : (s h : List Entry) (views : List PassView) (k : PassView) → IsPrefix s h → All (IsSeenIn s) views → IsSound k
     → IsPrefix k.seen h → All (IsSeenIn h) (views ++ k ∷ [])
 heard_more s h views k on all sound seen = All-push (IsSeenIn h) views k (seen_on s h views on all) (sound, seen)
-
-pub took_plain : (s : ReplyStyle) (k m : PassView) (a b : ℕ → Type 0) (old new : Device) (r : Result ⊤ RunFault) (P : List EventOutcome
-    → Type 0)
-    → TookRows s k m a b old new r P → TookRows s k m a b old new r (λ outcomes. ⊤)
-took_plain s k m a b old new r P t = took_later s k m m a b b old new r P (λ outcomes. ⊤) (λ outcomes h. tt) t refl
-    (λ n h. subst b (omega arith) h)

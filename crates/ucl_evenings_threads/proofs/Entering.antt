@@ -36,8 +36,7 @@ entered_none n (k ∷ views) h = (h 0 k (omega arith), entered_none (n + 1) view
 
 -- what the pass at a place has entered
 pub entered_there : (n p : ℕ) (events : List NightEvent) (views : List PassView) (k : PassView) → IsAt views p k
-    → HaveEntered n events views
-    → k.mine ≡ entries_for (n + p) events k.number
+    → HaveEntered n events views → k.mine ≡ entries_for (n + p) events k.number
 unfolding HaveEntered
 entered_there n zero events (v ∷ views) k (lt, is) h = let same : n + 0 ≡ n = omega arith in rw (same, is) h.0
 entered_there n (suc p) events (v ∷ views) k (lt, is) h =
@@ -76,8 +75,7 @@ order_longer numbers start (e ∷ events) s h on o =
     (o.0, o.1, o.2, order_longer numbers (followed_by o.0 (entry_of (slice_index numbers (e.reporter - 1)) e.call)) events s h on o.3)
 
 order_more : (numbers : List ℕ) (start : List Entry) (events : List NightEvent) (e : NightEvent) (s before h : List Entry)
-    → IsPrefix s before
-    → is_ok (sequential_reply before e.call) ≡ true
+    → IsPrefix s before → is_ok (sequential_reply before e.call) ≡ true
     → IsPrefix (followed_by before (entry_of (slice_index numbers (e.reporter - 1)) e.call)) h
     → HasInOrder numbers start events s → HasInOrder numbers start (events ++ e ∷ []) h
 unfolding HasInOrder
@@ -123,8 +121,8 @@ so_far_none start views h = record {
 
 numbers_same : (views : List PassView) (at : ℕ) (k m : PassView) → IsAt views at k → m.number ≡ k.number
     → numbers_of (set views at m) ≡ numbers_of views
-numbers_same views at k m there number = map_set_same (λ (x : PassView). x.number) views at k m
-    (number ∙ ap (λ (x : PassView). x.number) there.1)
+numbers_same views at k m there number =
+    map_set_same (λ (x : PassView). x.number) views at k m (number ∙ ap (λ (x : PassView). x.number) there.1)
 
 -- the pass at a place has entered the next event
 pub so_far_more : (start : List Entry) (events : List NightEvent) (e : NightEvent) (views : List PassView) (at : ℕ) (k m p q : PassView)
@@ -158,8 +156,8 @@ so_far_same start events views history at k m there number mine h = record {
   each = entered_set 1 at events events views m (λ r x ne. refl)
       (mine ∙ entered_there 1 at events views k there h.each ∙ ap (entries_for (1 + at) events) (sym number)) h.each;
   in_order = rw (numbers_same views at k m there number) h.in_order;
-  known = All-set (IsKnownIn history) views at m
-      (rw (mine, number) (subst (IsKnownIn history) (sym there.1) (h.known at k there.0))) h.known;
+  known =
+      All-set (IsKnownIn history) views at m (rw (mine, number) (subst (IsKnownIn history) (sym there.1) (h.known at k there.0))) h.known;
 }
 
 pub told_more : (start : List Entry) (events : List NightEvent) (views : List PassView) (history : List Entry) (at : ℕ) (k m : PassView)

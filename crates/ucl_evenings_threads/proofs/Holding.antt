@@ -55,8 +55,7 @@ module _ {B R P V : Type 0} (live : boards.Ghosts B R P) (board : B) (sink : sin
       → AllZip (HasShownOf live board sink clubs first h (LastIs version)) screens ends
   shown_at_end first before s h version least screens lookings ends early on long same looking shown =
       zip_then (IsLooking live board before) (HasShownAbove live board sink clubs s least)
-      (HasShownOf live board sink clubs first h (LastIs version))
-      (λ screen looking end l p.
+      (HasShownOf live board sink clubs first h (LastIs version)) (λ screen looking end l p.
       let seen = (live.reader looking.pass).seen in
       let q = shown_on live board sink clubs seen s h (LastIsAtLeast least) (LastIsAtLeast version) looking.part end on
       (λ versions e. subst (λ (n : ℕ). LastIsAtLeast n versions) (sym same) e) p in
@@ -92,14 +91,12 @@ module _ (reporter : ℕ) (s h : List Entry) (on : IsPrefix s h) where
 module _ {B R P S W : Type 0} (live : boards.Ghosts B R P) (board : B) (source : sources.Ghosts S) (replies : sinks.Ghosts W)
     (clubs : List NamedClub) where
   pub reported_at_end : (first before s h : List Entry) (reporters : List (Reporter S W)) (all : List (Lent P (Reporter S W)))
-      (ends : List (ReporterEnd P S W))
-      → IsPrefix first before → IsPrefix s h → AllZip (WasEnlisted live board before) reporters all
+      (ends : List (ReporterEnd P S W)) → IsPrefix first before → IsPrefix s h → AllZip (WasEnlisted live board before) reporters all
       → AllZip (HasRun live board source replies clubs) all ends
       → All (IsSeenIn s) (views_of live ends) → AllZip (HasAnsweredRows live board source replies clubs first h) reporters ends
   reported_at_end first before s h reporters all ends early on enlisted run heard =
       zip_then (WasEnlisted live board before) (λ x y. HasRun live board source replies clubs x y × IsSeenIn s (live.reporter y.pass))
-      (HasAnsweredRows live board source replies clubs first h)
-      (λ reporter enlisted end l p.
+      (HasAnsweredRows live board source replies clubs first h) (λ reporter enlisted end l p.
       let k = live.reporter enlisted.pass in
       let m = live.reporter end.pass in
       let q : HasTakenRows live board source replies clubs enlisted.pass reporter end =

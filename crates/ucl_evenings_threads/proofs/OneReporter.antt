@@ -100,8 +100,8 @@ module _ (n : ℕ) (h : List Entry) where
 
     -- events have left as many entries as were accepted; where there are no more from here on, the match is that of the history
     abbrev Decide : ℕ → ℕ → List Entry → List Entry → List Ask → Type 0
-    Decide low count s after asks = (own_at low + count ≤ own_at (length h)) × (own_at (length h) ≤ own_at low + count
-        → entries_of g s ≡ entries_at h g low
+    Decide low count s after asks =
+        (own_at low + count ≤ own_at (length h)) × (own_at (length h) ≤ own_at low + count → entries_of g s ≡ entries_at h g low
         → entries_of g (fold after_attempt after (map (attempted n) (reports_in asks))) ≡ entries_at h g (length h))
 
     -- what is not accepted leaves the match as it is
@@ -143,8 +143,7 @@ module _ (n : ℕ) (h : List Entry) where
 -- ---- the entries of reporters are those of their events
 
 entered_games : (P : Entry → Type 0) (n : ℕ) (asks : List Ask) (outcomes : List EventOutcome)
-    → All (λ (call : EventCall). P (entry_of n call)) (reports_in asks)
-    → All P (entered_in n asks outcomes)
+    → All (λ (call : EventCall). P (entry_of n call)) (reports_in asks) → All P (entered_in n asks outcomes)
 unfolding entered_in
 entered_games P n (Report call ∷ asks) (Entered number reading ∷ outcomes) all =
     All-cons P (entry_of n call) (entered_in n asks outcomes) (all 0 call (omega arith))
@@ -203,8 +202,8 @@ module _ (before h : List Entry) (whose : ℕ → ℕ) where
 
     after_first : (s : List Entry) (e : Entering) (all : List Entering) → entries_of g (after_all s (e ∷ all)) ≡ entries_of g
         (after_all (after_one s e) all)
-    after_first s e all = ap (entries_of g) (fold-append after_attempt s (map (attempted e.number) (reports_in e.asks))
-        (attempts_of_all all))
+    after_first s e all =
+        ap (entries_of g) (fold-append after_attempt s (map (attempted e.number) (reports_in e.asks)) (attempts_of_all all))
 
     one_passes : (s : List Entry) (e : Entering) → KeepsTo e → IsElse e → entries_of g (after_one s e) ≡ entries_of g s
     one_passes s e keeps other = others_pass g e.number s (reports_in e.asks) (λ k d below is. other (sym (keeps k d below) ∙ ap whose is))
@@ -223,8 +222,7 @@ module _ (before h : List Entry) (whose : ℕ → ℕ) where
         let whole : own_at e.number h (length h) ≡ length (entered_in e.number e.asks e.outcomes) = rw take-length (ap length w.own) in
         let count = entered_count e.number h (length before) (length h) e.asks e.outcomes w.through in
         (decide e.number h g (length before) (λ p x from at here. sym (theirs p x from at) ∙ (ap whose here ∙ sym is))
-        (length before) s e.asks e.outcomes
-        (le_refl (length before)) w.through).1 (omega arith) same
+        (length before) s e.asks e.outcomes (le_refl (length before)) w.through).1 (omega arith) same
 
     -- the match is as in the history, where it is there also if it is nobody's
     decided : (s : List Entry) (all : List Entering) → AllPairs DifferInNumber all → All GoesThrough all → All KeepsTo all
@@ -246,8 +244,7 @@ module _ (before h : List Entry) (whose : ℕ → ℕ) where
   match_decided all t keeps g =
       let theirs = of_their_matches all t keeps in
       let nobody = λ (none : All (IsElse g theirs) all). same_until h g (length before) (length h - length before) (length h)
-      (omega (arith, begins_length before h t.begins)) (le_refl (length h))
-      (λ r x from below at is.
+      (omega (arith, begins_length before h t.begins)) (le_refl (length h)) (λ r x from below at is.
       let o = t.no_other r x from at in
       none o.0 o.1 o.2 (ap (λ (e : Entering). e.number) o.3 ∙ o.4 ∙ sym (theirs r x from at) ∙ ap whose is)) in
       ap (entries_of g) (sym (take-length h)) ∙ sym (decided g theirs before all t.numbers t.outcomes keeps nobody
@@ -259,5 +256,5 @@ unfolding board_of
 same_boards x y same = λ i. map (λ game. word_of (counted_match (same game i))) match_numbers
 
 pub rows_decide : RowsDecideTheBoard
-rows_decide before history all whose t keeps = same_boards history (fold after_attempt before (attempts_of_all all))
-    (match_decided before history whose all t keeps)
+rows_decide before history all whose t keeps =
+    same_boards history (fold after_attempt before (attempts_of_all all)) (match_decided before history whose all t keeps)

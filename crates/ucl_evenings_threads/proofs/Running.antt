@@ -53,7 +53,7 @@ module _ {B R P S W V : Type 0} (live : boards.Ghosts B R P) (board : B) (source
         on = begins_through p.early s h p.on on.on.seen;
         run = rw same p.run;
         heard = rw same p.heard;
-        shown = rw (more, more2) (zip_push
-            (HasShownAbove live board sink clubs h least) screens ran.screens.items looking end earlier last);
+        shown =
+            rw (more, more2) (zip_push (HasShownAbove live board sink clubs h least) screens ran.screens.items looking end earlier last);
         kept = rw (more, more2) (zip_push (KeepsShare live) screens ran.screens.items looking end p.kept kept);
       }

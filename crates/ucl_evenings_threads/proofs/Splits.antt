@@ -15,8 +15,7 @@ push s mid left [] part so given kept = (given ∙ ap second_half so, kept ∙ a
 push s mid left (p ∷ parts) part so given kept = (so.0, push (first_half s) mid left parts part so.1 given kept)
 
 pub split_push : {X : Type 0} (f : X → Share) (s mid left : Share) (xs ys : List X) (y : X) → ys ≡ xs ++ y ∷ []
-    → WereSplitOff s (map f xs) mid → f y ≡ second_half mid → left ≡ first_half mid
-    → WereSplitOff s (map f ys) left
+    → WereSplitOff s (map f xs) mid → f y ≡ second_half mid → left ≡ first_half mid → WereSplitOff s (map f ys) left
 split_push f s mid left xs ys y more so given kept =
     subst (λ (parts : List Share). WereSplitOff s parts left) (sym (ap (map f) more ∙ map_push f xs y))
     (push s mid left (map f xs) (f y) so given kept)
@@ -27,10 +26,9 @@ split_then s mid left [] b so then2 = subst (λ (x : Share). WereSplitOff x b le
 split_then s mid left (p ∷ a) b so then2 = (so.0, split_then (first_half s) mid left a b so.1 then2)
 
 pub split_both : (s s1 mid left left2 : Share) (a a2 b b2 : List Share) → s1 ≡ s → WereSplitOff s1 a mid → WereSplitOff mid b left → a2 ≡ a
-    → b2 ≡ b → left2 ≡ left
-    → WereSplitOff s (a2 ++ b2) left2
-split_both s s1 mid left left2 a a2 b b2 same so then2 first second last = rw (first, second, last)
-    (subst (λ (x : Share). WereSplitOff x (a ++ b) left) same (split_then s1 mid left a b so then2))
+    → b2 ≡ b → left2 ≡ left → WereSplitOff s (a2 ++ b2) left2
+split_both s s1 mid left left2 a a2 b b2 same so then2 first second last =
+    rw (first, second, last) (subst (λ (x : Share). WereSplitOff x (a ++ b) left) same (split_then s1 mid left a b so then2))
 
 pub stays_share : (k m : PassView) → GoesOnOrStays k m → m.share ≡ k.share
 stays_share k m (inl on) = on.on.share

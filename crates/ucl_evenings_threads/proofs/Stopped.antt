@@ -40,8 +40,8 @@ refused_there live board start events i row e passes at old new p lt row_is is w
       row_is = omega arith;
       pass = new;
       own = own;
-      mine = rw (was.number, place)
-          (was.mine ∙ entered_there 1 at (take i events) (map live.reporter passes) (live.reporter old)
+      mine =
+          rw (was.number, place) (was.mine ∙ entered_there 1 at (take i events) (map live.reporter passes) (live.reporter old)
           (view_at live.reporter passes at old (within, there)) so_far.each);
       since = begins_through start p.seen (live.reporter new).seen (order_begins (numbers_of (map live.reporter passes)) start
           (take i events) p.seen so_far.in_order) was.since;

@@ -50,13 +50,12 @@ told_second failed old between new a b out (inr broke) = let short = broke.first
 
 -- what is told of the parts that are left completes what was told; a sink that has failed by now has failed in the end
 abbrev pub Completes : List Part → List Part → Bool → Option (List ℕ) → Option (List ℕ) → Type 0
-Completes left parts failed now old = (end : Bool) (new : Option (List ℕ)) → (failed ≡ true → end ≡ true) → TellsAll left end now new
-    → TellsAll parts end old new
+Completes left parts failed now old =
+    (end : Bool) (new : Option (List ℕ)) → (failed ≡ true → end ≡ true) → TellsAll left end now new → TellsAll parts end old new
 
 -- a line that broke off, where the sink has failed since
 told_later : (worker : Worker) (number : ℕ) (r : Result ⊤ RunFault) (failed end : Bool) (old new : Option (List ℕ))
-    → (failed ≡ true → end ≡ true)
-    → TellsResult worker number r failed old new → TellsResult worker number r end old new
+    → (failed ≡ true → end ≡ true) → TellsResult worker number r failed old new → TellsResult worker number r end old new
 told_later worker number (Ok done) failed end old new stays told = told
 told_later worker number (Err fault) failed end old new stays (inl all) = inl all
 told_later worker number (Err fault) failed end old new stays (inr broke) =
@@ -82,8 +81,7 @@ pub stands_first : (parts : List Part) (failed : Bool) (old : Option (List ℕ))
 stands_first parts failed old = record { told = λ end new stays told. told; status = refl }
 
 pub stands_next : (parts left rest : List Part) (part : Part) (before failed : Bool) (old now next : Option (List ℕ))
-    (first first2 : Option ℕ) → left ≡ part ∷ rest
-    → TellsEnd part failed now next → (before ≡ true → failed ≡ true)
+    (first first2 : Option ℕ) → left ≡ part ∷ rest → TellsEnd part failed now next → (before ≡ true → failed ≡ true)
     → ((rest : List Part) → unwrap_or first2 (first_status rest) ≡ unwrap_or first (first_status (part ∷ rest)))
     → StandsAt parts left before old now first → StandsAt parts rest failed old next first2
 unfolding TellsAll
@@ -95,8 +93,7 @@ stands_next parts left rest part before failed old now next first first2 is told
 }
 
 pub stands_last : (parts left : List Part) (failed : Bool) (old now : Option (List ℕ)) (first : Option ℕ) → left ≡ []
-    → StandsAt parts left failed old now first
-    → TellsAll parts failed old now × (unwrap_or first 0 ≡ first_status parts)
+    → StandsAt parts left failed old now first → TellsAll parts failed old now × (unwrap_or first 0 ≡ first_status parts)
 unfolding TellsAll first_status
 stands_last parts left failed old now first none s = (
   s.told failed now (λ e. e) (subst (λ (l : List Part). TellsAll l failed now now) (sym none) refl),
@@ -131,8 +128,7 @@ pub screens_left : {B R V : Type 0} (i text json : ℕ) (ends : List (ScreenEnd 
     (form : Format)
     (worker : Worker) (number text2 json2 : ℕ) → i < length ends → end ≡ get_or ends i end → end.screen.options.format ≡ form
     → worker ≡ worker_for form → number ≡ number_for form text json → text2 ≡ text + one_of forms.Text form
-    → json2 ≡ json + one_of forms.Json form
-    → screen_parts text json (drop i ends)
+    → json2 ≡ json + one_of forms.Json form → screen_parts text json (drop i ends)
     ≡ record { worker = worker; number = number; result = end.result } ∷ screen_parts text2 json2 (drop (i + 1) ends)
 unfolding screen_parts
 screens_left i text json ends end form worker number text2 json2 h at is w n t j =

@@ -116,8 +116,7 @@ pub record WasEnlisted {B R P S W : Type 0} (live : boards.Ghosts B R P) (board 
 -- a reporter with this pass has taken rows from its source, and answered them in its shape: a failed read is told just where the source
 -- failed
 pub record HasTakenRows {B R P S W : Type 0} (live : boards.Ghosts B R P) (board : B) (source : sources.Ghosts S) (sink : sinks.Ghosts W)
-    (clubs : List NamedClub) (pass : P)
-    (reporter : Reporter S W) (end : ReporterEnd P S W) : Type 0 where
+    (clubs : List NamedClub) (pass : P) (reporter : Reporter S W) (end : ReporterEnd P S W) : Type 0 where
   pub own : live.is_reporter board end.pass
   pub took : TookRows (reply_style reporter.shape clubs (live.reporter pass)) (live.reporter pass) (live.reporter end.pass)
       (live.has_reported pass) (live.has_reported end.pass)
@@ -131,8 +130,7 @@ HasRun live board source sink clubs enlisted end = HasTakenRows live board sourc
 
 -- the same of a pass that had reported nothing before: its events went so in a history, after what had been seen before
 pub record HasAnsweredRows {B R P S W : Type 0} (live : boards.Ghosts B R P) (board : B) (source : sources.Ghosts S) (sink : sinks.Ghosts W)
-    (clubs : List NamedClub)
-    (before history : List Entry) (reporter : Reporter S W) (end : ReporterEnd P S W) : Type 0 where
+    (clubs : List NamedClub) (before history : List Entry) (reporter : Reporter S W) (end : ReporterEnd P S W) : Type 0 where
   pub pass : P
   pub ready : IsReady live board pass
   pub run : HasTakenRows live board source sink clubs pass reporter end
@@ -156,8 +154,7 @@ pub record IsLooking {B R P X : Type 0} (live : boards.Ghosts B R P) (board : B)
 
 -- a screen has shown boards, and its thread has ended
 pub record HasLookedOn {B R P V : Type 0} (live : boards.Ghosts B R P) (board : B) (sink : sinks.Ghosts V) (clubs : List NamedClub)
-    (looking : Lent R (Screen B V))
-    (end : ScreenEnd R (Screen B V)) : Type 0 where
+    (looking : Lent R (Screen B V)) (end : ScreenEnd R (Screen B V)) : Type 0 where
   pub own : live.is_reader board end.pass
   pub of : IsScreenOn board clubs end.screen
   pub same : StaysScreen looking.part end.screen
@@ -168,8 +165,7 @@ pub record HasLookedOn {B R P V : Type 0} (live : boards.Ghosts B R P) (board : 
 
 -- a screen has shown boards of a history, of versions that rise, none below what had been seen before; they end so, where it ended well
 pub record HasShownOf {B R P V : Type 0} (live : boards.Ghosts B R P) (board : B) (sink : sinks.Ghosts V) (clubs : List NamedClub)
-    (before history : List Entry)
-    (Ends : List ℕ → Type 0) (screen : Screen B V) (end : ScreenEnd R (Screen B V)) : Type 0 where
+    (before history : List Entry) (Ends : List ℕ → Type 0) (screen : Screen B V) (end : ScreenEnd R (Screen B V)) : Type 0 where
   pub own : live.is_reader board end.pass
   pub options : end.screen.options ≡ screen.options
   pub seen : IsPrefix (live.reader end.pass).seen history
@@ -194,8 +190,7 @@ KeepsShare live looking end = (live.reader end.pass).share ≡ (live.reader look
 
 -- what the threads begin with: main's pass, and what is lent
 pub record AreLent {B R P S W V : Type 0} (live : boards.Ghosts B R P) (board : B) (clubs : List NamedClub) (pass : R)
-    (screens : List (Lent R (Screen B V)))
-    (all : List (Lent P (Reporter S W))) : Type 0 where
+    (screens : List (Lent R (Screen B V))) (all : List (Lent P (Reporter S W))) : Type 0 where
   pub own : live.is_reader board pass
   pub looking : All (IsReadyToLook live board clubs) screens
   pub ready : All (IsReadyToRun live board) all
@@ -212,8 +207,7 @@ pub record HaveReported {B R P S W : Type 0} (live : boards.Ghosts B R P) (board
 -- seen; and of all that it has seen is what each screen has shown, up to no less than that history
 pub record HaveRun {B R P S W V : Type 0} (live : boards.Ghosts B R P) (board : B) (source : sources.Ghosts S) (replies : sinks.Ghosts W)
     (sink : sinks.Ghosts V) (clubs : List NamedClub) (k : PassView) (screens : List (Lent R (Screen B V)))
-    (all : List (Lent P (Reporter S W)))
-    (ran : Ran R P S W (Screen B V)) : Type 0 where
+    (all : List (Lent P (Reporter S W))) (ran : Ran R P S W (Screen B V)) : Type 0 where
   pub own : live.is_reader board ran.pass
   pub always : GoesOnOrStays k (live.reader ran.pass)
   pub early : List Entry

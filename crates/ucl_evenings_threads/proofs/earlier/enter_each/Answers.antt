@@ -75,8 +75,8 @@ loop-reporter-init g c =
       own = known.own;
       reporters = rw same known.reporters;
       as_many = c.deref_mut-reporter-items.ensures.len ∙ known.as_many;
-      so_far = rw same (subst (λ done. HaveSoFar start done
-          (map g.B.LiveBoard.reporter c.loop-event.reporters.items) history) all known.so_far);
+      so_far =
+          rw same (subst (λ done. HaveSoFar start done (map g.B.LiveBoard.reporter c.loop-event.reporters.items) history) all known.so_far);
       told = search rules;
     }
 

@@ -25,8 +25,7 @@ loop-reporter-preserved g c =
 pub loop-screen-init : goal.loop-screen-init
 loop-screen-init g c =
     let none = reporters_done c.loop-reporter.reporter-index (c.loop-reporter.number + 1) c.args.end.now.reporters.items
-    (screen_parts 1 1 c.args.end.now.screens.items)
-    (rw c.deref-reporter-items.ensures.value at c.loop-reporter-test.false) in record {
+    (screen_parts 1 1 c.args.end.now.screens.items) (rw c.deref-reporter-items.ensures.value at c.loop-reporter-test.false) in record {
       stays = c.loop-reporter.invariant.stays;
       counted = refl;
       stands = rw none at c.loop-reporter.invariant.stands;

@@ -12,15 +12,12 @@ pub run_threads-requires-clause-lent : goal.run_threads-requires-clause-lent
 run_threads-requires-clause-lent g c κs within = record {
   own = c.enlist_all.ensures.own;
   looking = zip_right (IsLooking g.B.LiveBoard c.args.board.now _) (IsNewScreen c.args.board.now c.args.roster.now)
-      (IsReadyToLook g.B.LiveBoard c.args.board.now c.args.roster.now)
-      (λ screen looking l new. record {
+      (IsReadyToLook g.B.LiveBoard c.args.board.now c.args.roster.now) (λ screen looking l new. record {
         own = l.own;
-        new = subst (IsNewScreen c.args.board.now c.args.roster.now)
-            (sym l.same) new;
+        new = subst (IsNewScreen c.args.board.now c.args.roster.now) (sym l.same) new;
       }) _ _ c.in_ok-screens.ensures.looking c.requires.screens;
   ready = zip_right (WasEnlisted g.B.LiveBoard c.args.board.now _) (λ x. ⊤) (IsReadyToRun g.B.LiveBoard c.args.board.now)
-      (λ x y l t. l.ready) _ _
-      c.in_ok-all.ensures.enlisted (λ k d lt. tt);
+      (λ x y l t. l.ready) _ _ c.in_ok-all.ensures.enlisted (λ k d lt. tt);
 }
 
 pub returns-clause-held : goal.returns-clause-held
@@ -95,8 +92,7 @@ returns-then-not-is_theirs-clause-kinds g c =
       high = read.reading.high;
       kept = c.in_ok-entered.ensures.kept;
       reported = reported_at_end live c.args.board.now g.S.Source g.W.Sink c.args.roster.now first
-          (known c.look_all.new.pass).seen p.seen _ _ _ _
-          (rw c.look_all.ensures.seen (stays_prefix _ _ c.hear_all.ensures.always))
+          (known c.look_all.new.pass).seen p.seen _ _ _ _ (rw c.look_all.ensures.seen (stays_prefix _ _ c.hear_all.ensures.always))
           (begins_whole p z c.read-last.result read.always read.reading) c.in_ok-all.ensures.enlisted ran.run
           (seen_on ran.early p.seen _ ran.on ran.heard);
       heard = heard_at_end p z c.read-last.result read.always read.reading heard ran.early _ _ since ran.on c.in_ok-entered.ensures.heard

@@ -1,4 +1,4 @@
-use Rattle.std.proofs.Common.{rules, Bool, true, false}
+use Rattle.std.proofs.Common.{Bool, true, false}
 use mir.Syntax.{of_param}
 use denote.Exit.{if_kept, unseen}
 use denote.Param.Send.{Quiet}
@@ -22,8 +22,8 @@ scoped-requires g c = record {
         record { owned = c.type_bounds.send-B-Note.owned; leaving = λ k. quiet_kept (k (of_param 5)) },
         record { owned = c.type_bounds.send-B-ReaderPass.owned; leaving = λ k. quiet_kept (k (of_param 6)) },
         record { owned = c.type_bounds.send-B-ReporterPass.owned; leaving = λ k. quiet_kept (k (of_param 7)) },
-        search rules,
-        search rules,
+        assumption,
+        assumption,
       ),
     ),
   );

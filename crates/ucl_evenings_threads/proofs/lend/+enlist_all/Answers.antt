@@ -4,8 +4,8 @@ use Rattle.ucl_evenings_threads.proofs.Splits.{split_none, split_push}
 use Rattle.ucl_evenings_threads.proofs.lend.+enlist_all.Goals as goal
 
 pub returns-in_default-clause-enlisted : goal.returns-in_default-clause-enlisted
-returns-in_default-clause-enlisted g t c = zip_none
-    (WasEnlisted g.B.LiveBoard c.args.board.now
+returns-in_default-clause-enlisted g t c =
+    zip_none (WasEnlisted g.B.LiveBoard c.args.board.now
     (g.B.LiveBoard.reader c.args.pass.now).seen) _ _ c.in_default.ensures.none c.new.ensures.items
 
 pub returns-in_default-clause-split : goal.returns-in_default-clause-split

@@ -19,8 +19,7 @@ returns-in_default-clause-split g t c = split_none _ _ _ _ c.new.ensures.items r
 pub returns-clause-split : goal.returns-clause-split
 returns-clause-split g t c =
     split_push _ _ _ _ _ _ _ c.in_ok-put.ensures.items c.in_ok-all.ensures.split
-    (ap (λ (k : PassView). k.share) c.split-second.ensures.says.given)
-    (ap (λ (k : PassView). k.share) c.split-second.ensures.says.kept)
+    (ap (λ (k : PassView). k.share) c.split-second.ensures.says.given) (ap (λ (k : PassView). k.share) c.split-second.ensures.says.kept)
 
 pub returns-clause-looking : goal.returns-clause-looking
 returns-clause-looking g t c =

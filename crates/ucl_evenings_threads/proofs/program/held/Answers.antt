@@ -10,8 +10,7 @@ if_all P Q S T f (Err e) p q s = tt
 pub hold_evening-requires-clause-screens : goal.hold_evening-requires-clause-screens
 hold_evening-requires-clause-screens g c κs within =
     zip_right (IsAskedFor c.args.board.now c.args.night.now.roster c.args.title) (λ x. ⊤)
-    (IsNewScreen c.args.board.now c.args.night.now.roster)
-    (λ place screen a t. a.new) _ _ c.in_ok-screens.ensures.asked (λ k d lt. tt)
+    (IsNewScreen c.args.board.now c.args.night.now.roster) (λ place screen a t. a.new) _ _ c.in_ok-screens.ensures.asked (λ k d lt. tt)
 
 pub returns-clause-held : goal.returns-clause-held
 returns-clause-held g c =

@@ -1,11 +1,12 @@
 use Rattle.ucl_evenings_threads.proofs.Common.{All, All-nil, HasRun, IsReadyToRun, IsSeenIn, ReporterEnd, inl, inr, refl, subst, sym}
-use Rattle.ucl_evenings_threads.proofs.Ended.{goes_then, heard_more, took_later}
+use Rattle.ucl_evenings_threads.proofs.Common.{arith, asks_in, length, reports_in, ◌+◌}
+use Rattle.ucl_evenings_threads.proofs.Ended.{goes_then, heard_more}
 use Rattle.ucl_evenings_threads.proofs.Zips.{all_pop, views_then, zip_none, zip_push}
 use Rattle.ucl_evenings_threads.proofs.reporters.+run_reporters.Goals as goal
 
 pub run_reporters-requires-clause-ready : goal.run_reporters-requires-clause-ready
-run_reporters-requires-clause-ready g t c κs within = (all_pop
-    (IsReadyToRun g.B.LiveBoard c.args.board.now) _ _ _ c.in-Some.ensures.some c.requires.ready).0
+run_reporters-requires-clause-ready g t c κs within =
+    (all_pop (IsReadyToRun g.B.LiveBoard c.args.board.now) _ _ _ c.in-Some.ensures.some c.requires.ready).0
 
 pub returns-in_default-clause-reported : goal.returns-in_default-clause-reported
 returns-in_default-clause-reported g t c = record {
@@ -28,7 +29,19 @@ returns-clause-reported g t c =
       run = rw (c.in-Some.ensures.some, c.in_ok-put.ensures.items)
           (zip_push (HasRun g.B.LiveBoard c.args.board.now g.S.Source g.W.Sink c.args.roster.now) _ _ _ _ before.run (record {
             own = one.own.1;
-            took = took_later _ _ _ _ _ _ _ _ _ _ _ _ (λ outcomes h. h) run.took one.unchanged one.reported;
+            took = record {
+              bytes = run.took.bytes;
+              lines = run.took.lines;
+              outcomes = run.took.outcomes;
+              consumed = run.took.consumed;
+              reported = record {
+                rows = rw one.unchanged run.took.reported.rows;
+                reports = λ n h. subst (g.B.LiveBoard.has_reported c.hear_reporter.new.reporter) (omega arith)
+                    (one.reported (n + length (reports_in (asks_in 1 run.took.lines))) (run.took.reported.reports n h));
+              };
+              prompt = run.took.prompt;
+              ends = run.took.ends;
+            };
             read_failed = run.read_failed;
             served = run.served;
           }));

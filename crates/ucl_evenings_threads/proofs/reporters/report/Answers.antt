@@ -1,4 +1,4 @@
-use Rattle.ucl_evenings_threads.proofs.Ended.{served_by, took_plain}
+use Rattle.ucl_evenings_threads.proofs.Ended.{served_by}
 use Rattle.ucl_evenings_threads.proofs.reporters.report.Goals as goal
 
 pub returns : goal.returns
@@ -6,7 +6,15 @@ returns g c =
     let t = rw (c.new-duplex.ensures.source, c.new-duplex.ensures.sink) at c.take_rows-result.ensures.took in
     record {
       own = c.take_rows-result.ensures.own;
-      took = took_plain _ _ _ _ _ _ _ _ _ t;
+      took = record {
+        bytes = t.bytes;
+        lines = t.lines;
+        outcomes = t.outcomes;
+        consumed = t.consumed;
+        reported = t.reported;
+        prompt = tt;
+        ends = t.ends;
+      };
       read_failed = c.take_rows-result.ensures.read_failed;
       served = served_by g.W.Sink c.args.enlisted.part.replies c.take_rows-result.new.duplex.sink c.take_rows-result.result
           (rw c.new-duplex.ensures.sink at c.take_rows-result.ensures.sink_sound)

@@ -1,4 +1,4 @@
-use Rattle.ucl_evenings_threads.proofs.Common.{AreFew, Screening, ShowsFurther, [], ap, arith, length, so_far_none, standing, subst, sym}
+use Rattle.ucl_evenings_threads.proofs.Common.{AreFew, Screening, [], ap, arith, so_far_none, subst, sym}
 use Rattle.ucl_evenings_threads.proofs.Common.{◌∙◌}
 use Rattle.ucl_evenings_threads.proofs.Ended.{served_by}
 use Rattle.ucl_evenings_threads.proofs.screens.look.Goals as goal
@@ -18,19 +18,15 @@ returns g c =
     let old = g.V.Sink.taken c.args.looking.part.sink in
     let run = c.show_boards-result.ensures in
     let new = c.requires.ready.new in
+    let further = rw new.stands at run.shows in
     record {
       own = run.own;
       of = record {
         board_is = ap (λ b. b.value) run.same.board ∙ new.of.board_is;
-        clubs_are = ap (λ r. r.value) run.same.roster
-            ∙ new.of.clubs_are;
+        clubs_are = ap (λ r. r.value) run.same.roster ∙ new.of.clubs_are;
       };
       same = run.same;
-      shows = (subst (λ (s : Screening). ShowsFurther c.args.looking.part.options c.args.roster.now (length k.seen) k
-          (g.B.LiveBoard.reader c.show_boards-result.new.pass) s
-          (standing c.show_boards-result.new.screen) (g.V.Sink.failed c.show_boards-result.new.screen.sink) old
-          (g.V.Sink.taken c.show_boards-result.new.screen.sink) c.show_boards-result.result)
-          new.stands run.shows) k old [] (so_far_none c.args.looking.part.options c.args.roster.now k old);
+      shows = further k old [] (so_far_none c.args.looking.part.options c.args.roster.now k old);
       served = served_by g.V.Sink c.args.looking.part.sink c.show_boards-result.new.screen.sink c.show_boards-result.result run.sink_sound
           run.sink_fails;
     }

@@ -23,8 +23,8 @@ returns-clause-heard g t c =
     (heard_more _ _ _ _ one.always.on.seen c.in_ok-before.ensures.heard one.sound one.heard)
 
 pub returns-in_default-clause-kept : goal.returns-in_default-clause-kept
-returns-in_default-clause-kept g t c = zip_none
-    (IsHandedBack g.B.LiveBoard c.args.board.now) _ _ c.in_default.ensures.none c.new.ensures.items
+returns-in_default-clause-kept g t c =
+    zip_none (IsHandedBack g.B.LiveBoard c.args.board.now) _ _ c.in_default.ensures.none c.new.ensures.items
 
 pub returns-clause-kept : goal.returns-clause-kept
 returns-clause-kept g t c =
