@@ -4,8 +4,8 @@
  * nothing. At any other status whatever a call writes to is as it was, but for what the call says that it tells then.
  *
  * What a caller owes: a pointer points to as many elements as are passed beside it, one where no number stands beside it, and is aligned as their
- * type is. It is not null, not even where that number is 0: for a length call uclboard_screen_length. What a call writes to overlaps nothing else
- * that it is given. Any other input has its status. No call keeps a pointer to the caller's memory.
+ * type is. It is never null, also where that number is 0; uclboard_screen_length tells a length without a buffer. What a call writes to overlaps
+ * nothing else that it is given. Any other input has its status. No call keeps a pointer to the caller's memory.
  *
  * Any thread may make any call at any time, but a handle is in one call at a time. Make no call in a signal handler, or in the forked child of a
  * process with threads. uclboard_script takes up to 64 KiB of stack, each other call less than 8 (measured).

@@ -13,8 +13,9 @@ pub fn boards_have_one_history()
 {}
 
 /// That history over time: wherever steps of the passes lead from one state of a board to another, whichever steps of whichever passes,
-/// the run of the later state of a word board begins with that of the earlier one, and that of a cell board goes on from it. So the order
-/// of the calls of passes that never met is that of real time, and once it is there, it never changes.
+/// the run of the later state of a word board begins with that of the earlier one. So there the order of the calls of passes that never met
+/// is that of real time, and once it is there, it never changes. The run of the later state of a cell board has the earlier entries first,
+/// and of each pass the earlier calls.
 pub fn histories_go_on()
     ensures { HistoriesGoOn }
 {}
