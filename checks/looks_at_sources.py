@@ -74,9 +74,9 @@ TWICE = {"taken_by", "club_at", "rows_of", "words_after", "IsTheRule", "LogsOneS
 # option of one has. A roster and a club hold names, each of which came on one line.
 TYPE = re.compile(r"^(?:pub(?:\(crate\))? )?(?:struct|enum) (\w+)(?:<[^>]*>)? \{\n(.*?)^\}", re.M | re.S)
 PART = re.compile(r"^ *(?:pub(?:\(crate\))? )?\w+: (.*),$|^ *\w+\((.*)\),$", re.M)
-FIXED = {"u8", "u16", "u32", "u64", "usize", "bool", "ArrayVec", "Board", "Club", "FollowArgs", "FollowShape", "Global", "LiveArgs", "Moment", "Option", "Profile", "Roster", "Title"}
+FIXED = {"u8", "u16", "u32", "u64", "usize", "bool", "ArrayVec", "Board", "Club", "FollowArgs", "FollowShape", "Global", "LineReader", "LiveArgs", "Moment", "Option", "Profile", "Roster", "Title"}
 # What is kept from one line to the next: the crate, the type, and types that have to be found among its parts.
-KEPT = [("ucl_runs", "Evening", {"LineReader", "Stage", "Table"}), ("ucl_runs", "Follower", {"Following"}), ("ucl_io", "Lines", {"Output"})]
+KEPT = [("ucl_rows", "LineReader", {"Fields"}), ("ucl_runs", "Evening", {"Stage", "Table"}), ("ucl_runs", "Follower", {"Following"}), ("ucl_io", "Lines", {"Output"})]
 # Where a lemma begins, or a module with parameters, in which lemmas stand two columns further in.
 LEMMA = re.compile(r"( *)(?:(module _)\b|(?:pub )?([^\s:(){}]+) :(?: |$))")
 

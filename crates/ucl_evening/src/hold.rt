@@ -8,7 +8,7 @@ use std::sync::Wait;
 use std::thread::Threads;
 use ucl_board::Board;
 use ucl_evenings_threads::run_evening_of;
-use ucl_runs::{RunFault, tell};
+use ucl_rows::{RunFault, tell};
 use ucl_screen::{NightEvent, Sink, Source};
 use ucl_words::WordBoard;
 

@@ -15,7 +15,7 @@ use ready::ready_for;
 use std::process::ExitCode;
 use ucl_command::words_of;
 pub use ucl_command::{LineFault, evening_args};
-use ucl_runs::ended_unasked;
+use ucl_rows::ended_unasked;
 use ucl_screen::ToWrite;
 
 /// Runs the program. Standard output has no buffer, so that nothing is left to flush.

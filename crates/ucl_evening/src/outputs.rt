@@ -7,7 +7,7 @@ use std::fs::{Files, Metadata};
 use std::path::Path;
 use ucl_command::{BrokenRule, EveningArgs, broken_rule};
 use ucl_evenings_threads::NoBeginning;
-use ucl_runs::{RunFault, put_text, tell, tell_refusal};
+use ucl_rows::{RunFault, put_text, tell, tell_refusal};
 use ucl_screen::{InputFault, Sink};
 
 /// What is told after the line of a word that no course of events leads to.

@@ -15,7 +15,8 @@ use ucl_evenings::Shape;
 use ucl_evenings_threads::{Place, Reporter, night_towards};
 use ucl_io::first_line;
 use ucl_json::Title;
-use ucl_runs::{OTHER_GROUP, RunFault, first_group, title_for};
+use ucl_rows::RunFault;
+use ucl_runs::{OTHER_GROUP, first_group, title_for};
 use ucl_screen::{
     FIRST_EVENT_ROW, FromRead, InputFault, Night, NightEvent, ToWrite, read_all, read_night,
     read_words,

@@ -14,7 +14,7 @@ use Rattle.ucl_board.specs.History.{board_of}
 use Rattle.ucl_board.proofs.Beginnings.{at_beginning, begins_length, take_beginning, take_whole}
 use Rattle.ucl_live_board.specs.Passes.{PassView, IsSound, Continues, ReportsMore, AcceptedReport, RefusedReport, SharedReading}
 use Rattle.ucl_live_board.proofs.Lists.{unchanged}
-use Rattle.ucl_runs.proofs.EnteredRows.{goes_on}
+use Rattle.ucl_live_board.proofs.Lists.{goes_on}
 use Rattle.ucl_evenings.specs.Reporting.{Ask, Entered, EventOutcome, GoThrough, HasReportedRows, IsAmong, IsNoOlder, IsOutcomeAt}
 use Rattle.ucl_evenings.specs.Reporting.{IsReadingFrom, Look, Looked, MomentsHaveTheirEvents, RangFor, Refused, Report, accepted_in}
 use Rattle.ucl_evenings.specs.Reporting.{entered_in, past_point}

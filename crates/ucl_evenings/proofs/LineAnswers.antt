@@ -10,9 +10,9 @@ use Rattle.ucl_screen.specs.declared.night.NightEvent.{NightEvent}
 use Rattle.ucl_command.specs.declared.options.Format.{Format}
 use Rattle.ucl_command.specs.declared.options.Format.TheVariants.{Text, Json}
 use Rattle.ucl_json.specs.declared.title.Title.{Title}
-use Rattle.ucl_runs.specs.BadRows.{shown_text}
-use Rattle.ucl_runs.specs.Lines.{accepted_line}
-use Rattle.ucl_runs.specs.LiveText.{reply_answer}
+use Rattle.ucl_rows.specs.BadRows.{shown_text}
+use Rattle.ucl_rows.specs.Lines.{accepted_line}
+use Rattle.ucl_rows.specs.Answers.{reply_answer}
 use Rattle.ucl_evenings.specs.declared.shape.Shape.{Shape}
 use Rattle.ucl_evenings.specs.declared.input.Input.{Input}
 use Rattle.ucl_evenings.specs.declared.input.Input.TheVariants.{Event, Matches}

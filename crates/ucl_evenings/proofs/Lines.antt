@@ -3,9 +3,9 @@ use Rattle.std.proofs.Common.{◌≡◌, ℕ, ◌+◌, List, [], ◌∷◌, ◌+
 use Rattle.std.specs.Prelude.{⊤, Result, IfErr, OnOk}
 use Rattle.ucl_io.proofs.Bytes.{if_err, on_ok}
 use Rattle.ucl_live_board.specs.Passes.{IsSound, PassView, ReportsMore}
-use Rattle.ucl_runs.specs.BadRows.{shown_text}
-use Rattle.ucl_runs.specs.declared.fault.RunFault.{RunFault}
-use Rattle.ucl_runs.specs.declared.fault.RunFault.TheVariants.{OutOfMemory}
+use Rattle.ucl_rows.specs.BadRows.{shown_text}
+use Rattle.ucl_rows.specs.declared.fault.RunFault.{RunFault}
+use Rattle.ucl_rows.specs.declared.fault.RunFault.TheVariants.{OutOfMemory}
 use Rattle.ucl_evenings.specs.declared.input.Input.{Input}
 use Rattle.ucl_evenings.specs.Inputs.{input_on}
 use Rattle.ucl_evenings.specs.Answering.{ReplyStyle, answers_in, asks_in, asks_of, input_answer}

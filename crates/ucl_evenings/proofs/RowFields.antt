@@ -1,7 +1,7 @@
 -- What a row asks for, whose fields are read one at a time.
 use Rattle.std.proofs.Common.{◌≡◌, ℕ, List, ◌∷◌, Option, Some, None, refl}
 use Rattle.csv.specs.Records.{field_at}
-use Rattle.ucl_runs.specs.declared.bad_row.BadField.TheVariants.{Count}
+use Rattle.ucl_rows.specs.declared.bad_row.BadField.TheVariants.{Count}
 use Rattle.ucl_evenings.specs.declared.input.Input.{Input}
 use Rattle.ucl_evenings.specs.declared.input.Input.TheVariants.{Bad}
 use Rattle.ucl_evenings.specs.Inputs.{input_of_row, input_of_three}

@@ -15,11 +15,11 @@ use Rattle.ucl_io.specs.Turns.{AreTurns, StopsNext, Turn, lines_in, state_after,
 use Rattle.ucl_io.proofs.Calls.{logs-as}
 use Rattle.ucl_io.proofs.Turns.{lines_count as turns_count}
 use Rattle.ucl_live_board.specs.Passes.{PassView, IsSound}
-use Rattle.ucl_runs.specs.declared.fault.RunFault.{RunFault}
-use Rattle.ucl_runs.specs.declared.fault.RunFault.TheVariants.{OutOfMemory}
-use Rattle.ucl_runs.specs.InputLines.{last_lines, lines_of}
-use Rattle.ucl_runs.specs.Run.{fault_of}
-use Rattle.ucl_runs.proofs.Driven.{IfMachine, IsOwn}
+use Rattle.ucl_rows.specs.declared.fault.RunFault.{RunFault}
+use Rattle.ucl_rows.specs.declared.fault.RunFault.TheVariants.{OutOfMemory}
+use Rattle.ucl_rows.specs.InputLines.{last_lines, lines_of}
+use Rattle.ucl_rows.specs.Run.{fault_of}
+use Rattle.ucl_rows.proofs.Driven.{IfMachine, IsOwn}
 use Rattle.ucl_evenings.specs.Answering.{ReplyStyle, answers_in}
 use Rattle.ucl_evenings.specs.Reporting.{EventOutcome, RangFor}
 use Rattle.ucl_evenings.specs.Rows.{EndsAfter, HasNoMemory, IsAnsweredUpTo, RunEnds, StopsInLast, TookRows, TurnsBy, TurnsLines}

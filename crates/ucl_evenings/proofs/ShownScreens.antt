@@ -9,10 +9,10 @@ use Rattle.ucl_board.proofs.HistoryLaws.{versions as versions_are}
 use Rattle.ucl_board.proofs.Beginnings.{begins_length, begins_same, take_beginning}
 use Rattle.ucl_order.specs.Roster.{NamedClub}
 use Rattle.ucl_io.proofs.MovedBytes.{appends-none, appends-then}
-use Rattle.ucl_runs.specs.declared.fault.RunFault.TheVariants.{WriteFailed}
+use Rattle.ucl_rows.specs.declared.fault.RunFault.TheVariants.{WriteFailed}
 use Rattle.ucl_io.specs.Output.{StoppedShort}
-use Rattle.ucl_runs.proofs.EnteredRows.{goes_on}
-use Rattle.ucl_runs.proofs.NightParts.{stopped_second}
+use Rattle.ucl_live_board.proofs.Lists.{goes_on}
+use Rattle.ucl_rows.proofs.NightParts.{stopped_second}
 use Rattle.ucl_live_board.specs.Passes.{PassView, Continues, SharedReading}
 use Rattle.ucl_evenings.specs.declared.shape.Shape.{Shape}
 use Rattle.ucl_evenings.specs.Showing.{EndsWithLatest, GoesOnOrStays, HasRisen, HasShownReading, IsLastBefore, RiseWithin, Screening}

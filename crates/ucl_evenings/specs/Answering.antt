@@ -13,9 +13,9 @@ use Rattle.ucl_command.specs.declared.options.Format.TheVariants.{Text, Json}
 use Rattle.ucl_json.specs.declared.title.Title.{Title}
 use Rattle.ucl_json.specs.Lines.{json_line}
 use Rattle.ucl_json.specs.Values.{accepted_value, refused_value}
-use Rattle.ucl_runs.specs.Lines.{accepted_line, refused_line}
-use Rattle.ucl_runs.specs.BadRows.{shown_text}
-use Rattle.ucl_runs.specs.LiveText.{bad_answer, matches_answer}
+use Rattle.ucl_rows.specs.Lines.{accepted_line, refused_line}
+use Rattle.ucl_rows.specs.BadRows.{shown_text}
+use Rattle.ucl_rows.specs.Answers.{bad_answer, matches_answer}
 use Rattle.ucl_evenings.specs.declared.input.Input.{Input}
 use Rattle.ucl_evenings.specs.declared.input.Input.TheVariants.{Nothing, Bad, Event, Matches}
 use Rattle.ucl_evenings.specs.declared.shape.Shape.{Shape}

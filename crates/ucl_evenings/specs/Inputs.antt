@@ -5,10 +5,10 @@ use Rattle.std.specs.Str.{bytes_eq}
 use Rattle.ucl_word.specs.declared.event.EventCall.{EventCall}
 use Rattle.ucl_screen.specs.Rows.{Fields}
 use Rattle.ucl_screen.specs.Events.{call_in}
-use Rattle.ucl_runs.specs.BadRows.{bad_field_of_call}
-use Rattle.ucl_runs.specs.Rows.{LineRow, NoRow, Unread, OneRow, row_on}
-use Rattle.ucl_runs.specs.declared.bad_row.BadField.{BadField}
-use Rattle.ucl_runs.specs.declared.bad_row.BadField.TheVariants.{Count}
+use Rattle.ucl_rows.specs.BadRows.{bad_field_of_call}
+use Rattle.ucl_rows.specs.Rows.{LineRow, NoRow, Unread, OneRow, row_on}
+use Rattle.ucl_rows.specs.declared.bad_row.BadField.{BadField}
+use Rattle.ucl_rows.specs.declared.bad_row.BadField.TheVariants.{Count}
 use Rattle.ucl_evenings.specs.declared.input.Input.{Input}
 use Rattle.ucl_evenings.specs.declared.input.Input.TheVariants.{Nothing, Bad, Event, Matches}
 

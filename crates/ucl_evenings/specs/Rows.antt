@@ -3,14 +3,14 @@ use Rattle.std.specs.Prelude.{◌≡◌, ◌⊎◌, ⊤, ℕ, ◌+◌, ◌^◌, 
 use Rattle.std.specs.Io.KnownBytes.{Appends, Consumes}
 use mathlib.Core.List.{IsPrefix}
 use Rattle.ucl_screen.specs.declared.fault.InputFault.TheVariants.{ReadFailed, TooLong}
-use Rattle.ucl_runs.specs.declared.fault.RunFault.{RunFault}
-use Rattle.ucl_runs.specs.declared.fault.RunFault.TheVariants.{Input, OutOfMemory, WriteFailed}
+use Rattle.ucl_rows.specs.declared.fault.RunFault.{RunFault}
+use Rattle.ucl_rows.specs.declared.fault.RunFault.TheVariants.{Input, OutOfMemory, WriteFailed}
 use Rattle.ucl_io.specs.Output.{StoppedShort}
 use Rattle.ucl_live_board.specs.Passes.{PassView, ReportsMore}
 use Rattle.ucl_command.specs.declared.options.Format.{Format}
 use Rattle.ucl_command.specs.declared.options.Format.TheVariants.{Json}
 use Rattle.ucl_io.specs.Lines.{ended_lines}
-use Rattle.ucl_runs.specs.InputLines.{lines_of}
+use Rattle.ucl_rows.specs.InputLines.{lines_of}
 use Rattle.ucl_io.specs.Calls.{Device, HasEnded}
 use Rattle.ucl_evenings.specs.declared.input.Input.{Input as Asked}
 use Rattle.ucl_evenings.specs.declared.input.Input.TheVariants.{Matches}

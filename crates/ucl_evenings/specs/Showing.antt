@@ -5,12 +5,12 @@ use Rattle.ucl_board.specs.declared.entry.Entry.{Entry}
 use Rattle.ucl_board.specs.declared.reading.Reading.{Reading}
 use Rattle.ucl_board.specs.History.{board_of}
 use Rattle.ucl_order.specs.Roster.{NamedClub}
-use Rattle.ucl_runs.specs.declared.fault.RunFault.{RunFault}
-use Rattle.ucl_runs.specs.declared.fault.RunFault.TheVariants.{OutOfMemory, WriteFailed}
+use Rattle.ucl_rows.specs.declared.fault.RunFault.{RunFault}
+use Rattle.ucl_rows.specs.declared.fault.RunFault.TheVariants.{OutOfMemory, WriteFailed}
 use Rattle.ucl_io.specs.Output.{StoppedShort}
 use Rattle.ucl_live_board.specs.Passes.{PassView, Continues}
 use Rattle.ucl_evenings.specs.declared.shape.Shape.{Shape}
-use Rattle.ucl_runs.specs.LiveText.{screen_answer}
+use Rattle.ucl_rows.specs.Answers.{screen_answer}
 use Rattle.ucl_evenings.specs.declared.screen.Screen.{Screen}
 
 -- versions rise strictly, from one that is no lower than the first bound to one that is lower than the second

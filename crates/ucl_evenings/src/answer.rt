@@ -2,10 +2,10 @@
 
 ghost use Rattle.std.specs.Prelude.{◌≡◌, ◌<◌, IfErr, IfOk, OnOk};
 ghost use Rattle.ucl_command.specs.declared.options.Format.TheVariants.{Json};
-ghost use Rattle.ucl_runs.specs.declared.fault.RunFault.TheVariants.{OutOfMemory};
-ghost use Rattle.ucl_runs.specs.BadRows.{shown_text};
-ghost use Rattle.ucl_runs.specs.Seen.{bytes_of};
-ghost use Rattle.ucl_runs.specs.LiveText.{bad_answer, matches_answer};
+ghost use Rattle.ucl_rows.specs.declared.fault.RunFault.TheVariants.{OutOfMemory};
+ghost use Rattle.ucl_rows.specs.BadRows.{shown_text};
+ghost use Rattle.ucl_rows.specs.Answers.{bytes_of};
+ghost use Rattle.ucl_rows.specs.Answers.{bad_answer, matches_answer};
 ghost use Rattle.ucl_evenings.specs.Answering.{outcome_answer, event_outcome};
 ghost use Rattle.ucl_evenings.specs.Reporting.{Report};
 
@@ -14,7 +14,7 @@ use std::alloc::Global;
 use ucl_board::Reading;
 use ucl_command::Format;
 use ucl_order::Roster;
-use ucl_runs::{Answer, BadField, RunFault, bad_answer, matches_answer, reply_answer};
+use ucl_rows::{Answer, BadField, RunFault, bad_answer, matches_answer, reply_answer};
 use ucl_screen::NightEvent;
 use ucl_word::{Accepted, Refusal};
 

@@ -1,10 +1,10 @@
 //! What a reporter's line asks for.
 
 ghost use Rattle.std.specs.Prelude.{◌≡◌};
-ghost use Rattle.ucl_runs.specs.Reading.{HoldsRow, fields_read};
+ghost use Rattle.ucl_rows.specs.Reading.{HoldsRow, fields_read};
 ghost use Rattle.ucl_evenings.specs.Inputs.{input_of_row, input_on};
 
-use ucl_runs::{BadField, LineReader, RowCount, bad_field_of_call};
+use ucl_rows::{BadField, LineReader, RowCount, bad_field_of_call};
 use ucl_screen::call_of_fields;
 use ucl_word::EventCall;
 

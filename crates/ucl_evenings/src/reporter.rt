@@ -2,7 +2,7 @@
 
 ghost use Rattle.std.specs.Prelude.{◌≡◌, ◌∷◌, []};
 ghost use Rattle.ucl_live_board.specs.Passes.{IsSound};
-ghost use Rattle.ucl_runs.specs.InputLines.{last_lines};
+ghost use Rattle.ucl_rows.specs.InputLines.{last_lines};
 ghost use Rattle.ucl_evenings.specs.Answering.{reply_style};
 ghost use Rattle.ucl_evenings.specs.Rows.{HasNoMemory, TurnsLines};
 
@@ -15,7 +15,7 @@ use std::sync::Wait;
 use ucl_io::LineMachine;
 use ucl_live_board::LiveBoard;
 use ucl_order::Roster;
-use ucl_runs::{Answer, LineReader, RunFault};
+use ucl_rows::{Answer, LineReader, RunFault};
 use ucl_screen::NightEvent;
 
 /// A reporter: the board, its pass, what it rings, and how it is answered.

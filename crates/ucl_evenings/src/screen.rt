@@ -1,8 +1,8 @@
 //! A screen of an evening: where it goes, how it is written, and how far it is.
 
 ghost use Rattle.std.specs.Prelude.{◌≡◌, ◌-◌, ◌^◌, ◌<◌, ◌≤◌, IfErr, IfOk, OnOk, string_bytes};
-ghost use Rattle.ucl_runs.specs.Gates.{IsReadingOf};
-ghost use Rattle.ucl_runs.specs.Run.{SinkFails};
+ghost use Rattle.ucl_live_board.specs.Passes.{IsReadingOf};
+ghost use Rattle.ucl_rows.specs.Run.{SinkFails};
 ghost use Rattle.ucl_evenings.specs.Showing.{FailsToShowReading, HasShownReading, IsNewScreen, StaysScreen, screen_in_shape, standing};
 
 use crate::shape::Shape;
@@ -13,7 +13,7 @@ use ucl_command::Format;
 use ucl_json::edition_screen_json;
 use ucl_live_board::LiveBoard;
 use ucl_order::Roster;
-use ucl_runs::{RunFault, put_bytes};
+use ucl_rows::{RunFault, put_bytes};
 use ucl_screen::{Sink, screen};
 
 /// The text of a screen, which has this number.

@@ -2,7 +2,7 @@
 
 ghost use Rattle.std.specs.Prelude.{◌≡◌, ◌+◌, ◌≤◌, IfErr, None, OnOk, length};
 ghost use Rattle.ucl_live_board.specs.Passes.{Continues};
-ghost use Rattle.ucl_runs.specs.Run.{SinkFails};
+ghost use Rattle.ucl_rows.specs.Run.{SinkFails};
 ghost use Rattle.ucl_evenings.specs.Showing.{AreFew, EndWasTold, IsScreenOn, ShowsFurther, StaysScreen, standing};
 
 use crate::screen::Screen;
@@ -10,7 +10,7 @@ use std::alloc::Global;
 use std::sync::Wait;
 use ucl_live_board::{LiveBoard, Notes};
 use ucl_order::Roster;
-use ucl_runs::RunFault;
+use ucl_rows::RunFault;
 use ucl_screen::Sink;
 
 /// What a screen waits for between two readings.

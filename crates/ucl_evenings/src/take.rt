@@ -2,7 +2,7 @@
 
 ghost use Rattle.std.specs.Prelude.{◌≡◌, IfErr, OnOk};
 ghost use Rattle.ucl_live_board.specs.Passes.{IsSound};
-ghost use Rattle.ucl_runs.specs.Run.{SinkFails, is_read_failed};
+ghost use Rattle.ucl_rows.specs.Run.{SinkFails, is_read_failed};
 ghost use Rattle.ucl_io.specs.Calls.{LogsCalls, device};
 ghost use Rattle.ucl_evenings.specs.Answering.{reply_style};
 ghost use Rattle.ucl_evenings.specs.Reporting.{RangFor};
@@ -13,7 +13,7 @@ use crate::ring::Ring;
 use std::sync::Wait;
 use ucl_io::{Duplex, pump};
 use ucl_live_board::LiveBoard;
-use ucl_runs::{MOST_LINE_BYTES, RunFault};
+use ucl_rows::{MOST_LINE_BYTES, RunFault};
 use ucl_screen::{Sink, Source};
 
 /// Each answer is written before the next row is entered.

@@ -45,8 +45,8 @@ pub use Rattle.ucl_io.specs.Calls.{Device}
 pub use Rattle.ucl_live_board.proofs.Lists.{by_more, by_own}
 pub use Rattle.ucl_live_board.specs.Passes.{AcceptedReport, Continues, Hearing, IsSound, PassView, ReportsMore, SharedReading, entries_by}
 pub use Rattle.ucl_order.specs.Roster.{NamedClub}
-pub use Rattle.ucl_runs.specs.declared.fault.RunFault.{RunFault}
-pub use Rattle.ucl_runs.specs.declared.fault.RunFault.TheVariants.{Input, OutOfMemory, TooManyReporters, WriteFailed}
+pub use Rattle.ucl_rows.specs.declared.fault.RunFault.{RunFault}
+pub use Rattle.ucl_rows.specs.declared.fault.RunFault.TheVariants.{Input, OutOfMemory, TooManyReporters, WriteFailed}
 pub use Rattle.ucl_screen.specs.declared.fault.InputFault.TheVariants.{BadRow}
 pub use Rattle.ucl_screen.specs.declared.night.NightEvent.{NightEvent}
 pub use Rattle.ucl_word.proofs.Sequences.{at_below, may_none}

@@ -7,7 +7,7 @@ use Rattle.ucl_evenings_threads.proofs.Common.{get_or_append_left, inl, inr, len
 use Rattle.ucl_evenings_threads.proofs.Common.{take-length, take_whole, views_of, zero, zip, ℕ, ⊎_elim, ⊤, ◌++◌, ◌+◌, ◌<◌, ◌∙◌, ◌∷◌, ◌≡◌}
 use Rattle.ucl_evenings_threads.proofs.Common.{◌≤◌, ◌⊎◌}
 use Rattle.std.proofs.lemmas.Option.{get_or_from_slice_get}
-use Rattle.ucl_runs.specs.InputLines.{lines_of}
+use Rattle.ucl_rows.specs.InputLines.{lines_of}
 use Rattle.ucl_evenings.specs.Rows.{RunEnds}
 use Rattle.ucl_evenings_threads.specs.declared.evening.EveningEnd.{EveningEnd}
 use Rattle.ucl_evenings_threads.specs.declared.workers.Reporter.{Reporter}

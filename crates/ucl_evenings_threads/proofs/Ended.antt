@@ -7,7 +7,7 @@ use Rattle.ucl_evenings_threads.proofs.Common.{WriteFailed, [], ap, arith, begin
 use Rattle.ucl_evenings_threads.proofs.Common.{length, rise_count, rise_upper, screens_on, screens_shown, subst, sym, ℕ}
 use Rattle.ucl_evenings_threads.proofs.Common.{⊤, ◌++◌, ◌+◌, ◌<◌, ◌∙◌, ◌∷◌, ◌≡◌}
 use Rattle.ucl_evenings.specs.declared.shape.Shape.{Shape}
-use Rattle.ucl_runs.specs.Run.{SinkFails}
+use Rattle.ucl_rows.specs.Run.{SinkFails}
 use Rattle.ucl_evenings.specs.Showing.{RiseWithin}
 use Rattle.ucl_io.specs.declared.stream.Sink as sinks
 use Rattle.ucl_live_board.specs.declared.live_board.LiveBoard as boards

@@ -14,7 +14,7 @@ use Rattle.ucl_word.specs.Counts.{MatchEntry, counted_match}
 use Rattle.ucl_board.specs.Fixtures.{match_numbers}
 use Rattle.ucl_board.specs.History.{board_of}
 use Rattle.ucl_board.proofs.Histories.{entries-append, entries_else}
-use Rattle.ucl_runs.proofs.Elements.{get_some, take_one}
+use Rattle.ucl_rows.proofs.Elements.{get_some, take_one}
 use Rattle.ucl_evenings.specs.Reporting.{GoThrough, accepted_in, entered_in}
 use Rattle.ucl_evenings.proofs.Events.{entered_count}
 

@@ -5,9 +5,9 @@ use Rattle.ucl_evenings_threads.proofs.Common.{length-append, number_for, one_of
 use Rattle.ucl_evenings_threads.proofs.Common.{true, unwrap_or, worker_for, zero-add, ℕ, ⊤, ◌++◌, ◌+◌, ◌<◌, ◌∙◌, ◌∷◌, ◌≡◌, ◌≤◌}
 use Rattle.std.specs.Io.KnownBytes.{Appends}
 use Rattle.ucl_io.proofs.MovedBytes.{appends-then}
-use Rattle.ucl_runs.specs.Run.{IsCutShort}
-use Rattle.ucl_runs.specs.Telling.{Tells}
-use Rattle.ucl_runs.specs.Faults.{status}
+use Rattle.ucl_rows.specs.Run.{IsCutShort}
+use Rattle.ucl_rows.specs.Telling.{Tells}
+use Rattle.ucl_rows.specs.Faults.{status}
 use Rattle.ucl_evenings_threads.specs.declared.ending.Part.{Part}
 use Rattle.ucl_evenings_threads.specs.declared.ending.Worker.{Worker}
 use Rattle.ucl_evenings_threads.specs.declared.ending.Worker.TheVariants.{Reporter}

@@ -15,10 +15,10 @@ use Rattle.ucl_screen.specs.declared.sheet.Sheet.{Sheet}
 use Rattle.ucl_evenings_threads.specs.declared.beginning.NoBeginning.{NoBeginning}
 use Rattle.ucl_evenings_threads.specs.declared.beginning.NoBeginning.TheVariants.{Unreachable}
 use Rattle.ucl_screen.specs.Script.{first_event_row}
-use Rattle.ucl_runs.specs.declared.fault.RunFault.{RunFault}
-use Rattle.ucl_runs.specs.declared.fault.RunFault.TheVariants.{Input, OutOfMemory, TooManyReporters}
+use Rattle.ucl_rows.specs.declared.fault.RunFault.{RunFault}
+use Rattle.ucl_rows.specs.declared.fault.RunFault.TheVariants.{Input, OutOfMemory, TooManyReporters}
 use Rattle.ucl_evenings_threads.specs.declared.beginning.NoBeginning.TheVariants as no_beginning
-use Rattle.ucl_runs.specs.Faults.{HasNoNumberLeft}
+use Rattle.ucl_rows.specs.Faults.{HasNoNumberLeft}
 use Rattle.ucl_screen.specs.Events.{attempt_of}
 
 -- the history after events, the first of which is in this row, where each is accepted; or the first row whose event is refused

@@ -1,8 +1,8 @@
 -- How an evening ends: what is told of its faults, and the exit status.
 use Rattle.std.specs.Prelude.{◌≡◌, ℕ, ◌+◌, ⊤, Bool, List, [], ◌∷◌, ◌++◌, Option, Some, None, unwrap_or, codes, decimal, Result, Ok, Err}
-use Rattle.ucl_runs.specs.declared.fault.RunFault.{RunFault}
-use Rattle.ucl_runs.specs.Faults.{status}
-use Rattle.ucl_runs.specs.Telling.{Tells, fault_line}
+use Rattle.ucl_rows.specs.declared.fault.RunFault.{RunFault}
+use Rattle.ucl_rows.specs.Faults.{status}
+use Rattle.ucl_rows.specs.Telling.{Tells, fault_line}
 use Rattle.ucl_command.specs.declared.options.Format.{Format}
 use Rattle.ucl_command.specs.declared.options.Format.TheVariants as forms
 use Rattle.ucl_evenings.specs.declared.screen.Screen as shown

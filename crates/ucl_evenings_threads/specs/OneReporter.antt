@@ -9,7 +9,7 @@ use Rattle.ucl_board.specs.History.{Attempt, after_attempt, attempted, board_of}
 use Rattle.ucl_io.specs.declared.stream.Source as sources
 use Rattle.ucl_live_board.specs.declared.live_board.LiveBoard as boards
 use Rattle.ucl_live_board.specs.Passes.{PassView, entries_by}
-use Rattle.ucl_runs.specs.InputLines.{lines_of}
+use Rattle.ucl_rows.specs.InputLines.{lines_of}
 use Rattle.ucl_evenings.specs.Answering.{asks_in}
 use Rattle.ucl_evenings.specs.Reporting.{Ask, EventOutcome, GoThrough, entered_in, reports_in}
 use Rattle.ucl_evenings_threads.specs.declared.evening.EveningEnd.{EveningEnd}

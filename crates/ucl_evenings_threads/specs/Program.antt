@@ -7,10 +7,10 @@ use Rattle.ucl_order.specs.Roster.{NamedClub}
 use Rattle.ucl_evenings.specs.Showing.{IsNewScreen}
 use Rattle.ucl_io.specs.declared.stream.Source as sources
 use Rattle.ucl_io.specs.declared.stream.Sink as sinks
-use Rattle.ucl_runs.specs.declared.fault.RunFault.{RunFault}
-use Rattle.ucl_runs.specs.declared.fault.RunFault.TheVariants.{OutOfMemory}
-use Rattle.ucl_runs.specs.Ending.{Ends, WritesText}
-use Rattle.ucl_runs.specs.Feed.{word_lines}
+use Rattle.ucl_rows.specs.declared.fault.RunFault.{RunFault}
+use Rattle.ucl_rows.specs.declared.fault.RunFault.TheVariants.{OutOfMemory}
+use Rattle.ucl_rows.specs.Ending.{Ends, WritesText}
+use Rattle.ucl_rows.specs.Lines.{word_lines}
 use Rattle.ucl_screen.specs.declared.night.Night.{Night}
 use Rattle.ucl_live_board.specs.declared.live_board.LiveBoard as boards
 use Rattle.ucl_evenings_threads.specs.declared.earlier.Earlier.{Earlier}

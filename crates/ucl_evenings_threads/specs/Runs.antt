@@ -9,10 +9,10 @@ use Rattle.ucl_io.specs.declared.stream.Sink as sinks
 use Rattle.ucl_live_board.specs.declared.live_board.LiveBoard as boards
 use Rattle.ucl_live_board.specs.Passes.{PassView, IsSound, ReportsMore}
 use Rattle.ucl_live_board.specs.Shares.{Share, first_half, second_half}
-use Rattle.ucl_runs.specs.declared.fault.RunFault.{RunFault}
-use Rattle.ucl_runs.specs.declared.fault.RunFault.TheVariants.{OutOfMemory, NoThread, TooManyReporters}
-use Rattle.ucl_runs.specs.Faults.{HasNoNumberLeft}
-use Rattle.ucl_runs.specs.Run.{SinkFails, is_read_failed}
+use Rattle.ucl_rows.specs.declared.fault.RunFault.{RunFault}
+use Rattle.ucl_rows.specs.declared.fault.RunFault.TheVariants.{OutOfMemory, NoThread, TooManyReporters}
+use Rattle.ucl_rows.specs.Faults.{HasNoNumberLeft}
+use Rattle.ucl_rows.specs.Run.{SinkFails, is_read_failed}
 use Rattle.ucl_io.specs.Calls.{Device}
 use Rattle.ucl_evenings.specs.Answering.{asks_in, reply_style}
 use Rattle.ucl_evenings.specs.Reporting.{GoThrough}

@@ -11,7 +11,7 @@ use std::sync::{OnceLock, OnceToken, Wait};
 use std::thread::Parker;
 use ucl_evenings::{Bell, Ring, Screen};
 use ucl_live_board::LiveBoard;
-use ucl_runs::RunFault;
+use ucl_rows::RunFault;
 
 /// What shows that no reporter of an evening runs any more.
 #[derive(Clone, Copy)]

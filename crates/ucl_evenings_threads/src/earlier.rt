@@ -11,7 +11,7 @@ use crate::lists::put;
 use std::alloc::Global;
 use std::sync::Wait;
 use ucl_live_board::{LiveBoard, Notes};
-use ucl_runs::RunFault;
+use ucl_rows::RunFault;
 use ucl_screen::{FIRST_EVENT_ROW, InputFault, NightEvent};
 
 /// The passes of a board on which the events of an earlier evening were entered: `Q` is a reader's and `P` a reporter's.

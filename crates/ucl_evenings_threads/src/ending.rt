@@ -2,10 +2,10 @@
 
 ghost use Rattle.std.specs.Prelude.{◌≡◌, ◌∷◌, true, List, OnOk, IfErr, unwrap_or};
 ghost use Rattle.std.specs.Io.KnownBytes.{Appends};
-ghost use Rattle.ucl_runs.specs.Faults.{status};
-ghost use Rattle.ucl_runs.specs.Feed.{word_lines};
-ghost use Rattle.ucl_runs.specs.Run.{IsCutShort};
-ghost use Rattle.ucl_runs.specs.Telling.{Tells};
+ghost use Rattle.ucl_rows.specs.Faults.{status};
+ghost use Rattle.ucl_rows.specs.Lines.{word_lines};
+ghost use Rattle.ucl_rows.specs.Run.{IsCutShort};
+ghost use Rattle.ucl_rows.specs.Telling.{Tells};
 ghost use Rattle.ucl_evenings_threads.specs.Ending.{TellsAll, TellsEnd, first_status, part_heading, part_line, parts_of, worker_name};
 ghost use Rattle.ucl_evenings_threads.specs.declared.ending.Part.{Part};
 
@@ -16,7 +16,7 @@ use ucl_board::Board;
 use ucl_command::Format;
 use ucl_evenings::Screen;
 use ucl_live_board::LiveBoard;
-use ucl_runs::{RunFault, put_text, status_of, tell, word_lines};
+use ucl_rows::{RunFault, put_text, status_of, tell, word_lines};
 use ucl_screen::{Sink, give_all};
 
 /// What a worker of an evening is.

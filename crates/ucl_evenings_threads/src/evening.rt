@@ -21,7 +21,7 @@ use ucl_board::Reading;
 use ucl_evenings::Screen;
 use ucl_live_board::Notes;
 use ucl_order::Roster;
-use ucl_runs::RunFault;
+use ucl_rows::RunFault;
 use ucl_screen::{Sink, Source};
 
 /// How an evening ended: `Q` is a reader's pass, `P` a reporter's, and `X` a screen, all of the board that was lent.

@@ -9,7 +9,7 @@ ghost use Rattle.ucl_screen.specs.Script.{first_event_row};
 ghost use Rattle.ucl_evenings_threads.specs.Earlier.{IsJudgedAs, entered_from};
 
 use ucl_board::Board;
-use ucl_runs::RunFault;
+use ucl_rows::RunFault;
 use ucl_screen::{FIRST_EVENT_ROW, InputFault, NightEvent};
 
 /// Enters an event on a board of one thread, and says whether it was accepted.

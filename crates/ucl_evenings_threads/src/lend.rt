@@ -11,7 +11,7 @@ use crate::workers::{Lent, Reporter};
 use std::alloc::Global;
 use std::sync::Wait;
 use ucl_live_board::LiveBoard;
-use ucl_runs::RunFault;
+use ucl_rows::RunFault;
 
 /// Splits a pass off for a reporter, and enlists it.
 fn enlist_one<B: LiveBoard, R: Wait>(

@@ -2,8 +2,8 @@
 
 ghost use Rattle.std.specs.Prelude.{◌≡◌, ◌≤◌, [], true, IfErr, IfOk, length};
 ghost use Rattle.std.specs.List.{AllZip};
-ghost use Rattle.ucl_runs.specs.declared.fault.RunFault.TheVariants as RunFault;
-ghost use Rattle.ucl_runs.specs.Ending.{Ends};
+ghost use Rattle.ucl_rows.specs.declared.fault.RunFault.TheVariants as RunFault;
+ghost use Rattle.ucl_rows.specs.Ending.{Ends};
 ghost use Rattle.ucl_screen.specs.Screen.{IsGroup};
 ghost use Rattle.ucl_screen.specs.Input.{most_bytes};
 ghost use Rattle.ucl_live_board.specs.Passes.{opening_pass};
@@ -22,7 +22,7 @@ use ucl_evenings::{Screen, Shape};
 use ucl_json::Title;
 use ucl_live_board::{LiveBoard, Notes};
 use ucl_order::Roster;
-use ucl_runs::{RunFault, tell};
+use ucl_rows::{RunFault, tell};
 use ucl_screen::{Night, Sink, Source};
 
 /// Where a screen goes.

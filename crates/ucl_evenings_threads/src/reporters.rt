@@ -15,7 +15,7 @@ use ucl_evenings::{Reporter as RowReporter, take_rows};
 use ucl_io::Duplex;
 use ucl_live_board::{LiveBoard, Notes};
 use ucl_order::Roster;
-use ucl_runs::{LineReader, RunFault};
+use ucl_rows::{LineReader, RunFault};
 use ucl_screen::{Sink, Source};
 
 /// What the thread of a reporter does: it takes the rows of its source, and answers them.

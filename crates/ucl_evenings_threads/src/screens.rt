@@ -15,7 +15,7 @@ use std::thread::{Promise, PromisedHandle, Scope, Threads};
 use ucl_evenings::{Screen, show_boards, show_noted};
 use ucl_live_board::{LiveBoard, Notes};
 use ucl_order::Roster;
-use ucl_runs::RunFault;
+use ucl_rows::RunFault;
 use ucl_screen::{Sink, Source};
 
 /// What the thread of a screen does: it shows the board until the evening is over.

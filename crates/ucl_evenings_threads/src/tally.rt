@@ -13,7 +13,7 @@ use crate::workers::ReporterEnd;
 use std::alloc::Global;
 use std::sync::Wait;
 use ucl_live_board::{LiveBoard, Notes};
-use ucl_runs::RunFault;
+use ucl_rows::RunFault;
 
 /// Whether the numbers of some reporters rise, the last of them, and where they rise how many events were accepted.
 #[derive(Clone, Copy, Debug)]

@@ -1,7 +1,7 @@
 //! Who takes part in an evening, and how each ended.
 
 use ucl_evenings::Shape;
-use ucl_runs::RunFault;
+use ucl_rows::RunFault;
 
 /// A reporter of an evening.
 #[derive(Drop)]

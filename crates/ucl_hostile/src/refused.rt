@@ -12,7 +12,8 @@ use std::thread::Threads;
 use ucl_board::Board;
 use ucl_order::Profile;
 use ucl_pass::{CellBoard, LiveBoard};
-use ucl_runs::{OpenGate, RunFault, feed_run, night_run, show_run};
+use ucl_rows::RunFault;
+use ucl_runs::{OpenGate, feed_run, night_run, show_run};
 use ucl_screen::{
     FromRead, InputFault, Night, NightEvent, ToWrite, night_of_bytes, read_night, read_words,
     screen,

@@ -9,7 +9,8 @@ use std::io::{Read, Stderr, Write};
 use std::{io, mem};
 use ucl_command::{Format, LiveArgs, broken_rule};
 use ucl_io::{LineMachine, Text, first_line};
-use ucl_runs::{Evening, MOST_LINE_BYTES, Parts};
+use ucl_rows::MOST_LINE_BYTES;
+use ucl_runs::{Evening, Parts};
 
 /// The most bytes that are taken at once.
 const PAGE: usize = 4096;

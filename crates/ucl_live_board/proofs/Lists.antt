@@ -1,6 +1,6 @@
 -- The entries of one reporter.
 use Rattle.ucl_live_board.proofs.Common.{◌≡◌, ◌≢◌, ℕ, ◌≤◌, Bool, cond, ◌==◌, List, ◌∷◌, ◌++◌, length, refl, sym, ap, ◌∙◌, subst, arith, append-nil, eq-eqb, ne_eqb, le_refl, [], not, filter-append}
-use Rattle.ucl_live_board.proofs.Common.{IsPrefix, may_induction, Entry, greatest_version, MayFollow, IsLegal, followed_by, begins_same, PassView, IsSound, Continues, entries_by}
+use Rattle.ucl_live_board.proofs.Common.{IsPrefix, may_induction, Entry, greatest_version, MayFollow, IsLegal, followed_by, begins_same, begins_through, PassView, IsSound, Continues, entries_by}
 use Rattle.std.proofs.lemmas.List.Filters.{length-filter_both}
 use Rattle.ucl_board.proofs.HistoryLaws.{versions}
 
@@ -29,3 +29,11 @@ few_mine k s =
 -- a pass that no call changed
 pub unchanged : (k m : PassView) → IsSound k → m ≡ k → Continues k m
 unchanged k m sound same = subst (Continues k) (sym same) (record { sound = sound; on = record { seen = begins_same k.seen; listed = le_refl k.listed; share = refl }; number = refl })
+
+-- what always holds of a pass holds over two calls
+pub goes_on : (k m z : PassView) → Continues k m → Continues m z → Continues k z
+goes_on k m z a b = record {
+  sound = b.sound;
+  on = record { seen = begins_through k.seen m.seen z.seen a.on.seen b.on.seen; listed = (let x = a.on.listed in let y = b.on.listed in omega arith); share = b.on.share ∙ a.on.share };
+  number = b.number ∙ a.number;
+}

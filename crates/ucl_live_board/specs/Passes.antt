@@ -77,6 +77,13 @@ pub record SharedReading (k : PassView) (reading : Reading) (m : PassView) : Typ
   pub mine : m.mine ≡ k.mine
   pub shown : m.shown ≡ k.shown ++ reading.version ∷ []
 
+-- a reading is the last of a pass, and the board after so many first entries of what that has seen
+pub record IsReadingOf (m : PassView) (reading : Reading) : Type 0 where
+  pub before : List ℕ
+  pub last : m.shown ≡ before ++ reading.version ∷ []
+  pub high : reading.version ≤ length m.seen
+  pub snapshot : reading ≡ snapshot_at m.seen reading.version
+
 -- a pass that another was split off: it has the first half of its share, and is else as it was
 abbrev pub kept_pass : PassView → PassView
 kept_pass k = record k { share = first_half k.share }

@@ -14,7 +14,8 @@ use ucl_devices::{
     CLUBS, Cut, Full, Given, STORED, STORED_REPLIES, STORED_SCREEN, STORED_WORDS, Shelf,
 };
 use ucl_order::Profile;
-use ucl_runs::{RunFault, feed_run, status_of};
+use ucl_rows::{RunFault, status_of};
+use ucl_runs::feed_run;
 use ucl_screen::{FromRead, InputFault, read_night, screen};
 use ucl_steps::{Call, Caller, Cast, Reply, Step, run_steps};
 use ucl_word::{EventCall, Kind, MatchNo, ReporterNo};

@@ -13,7 +13,7 @@ use Rattle.ucl_order.specs.Roster.{bad_slot_from, is_club}
 use Rattle.ucl_screen.specs.Numbers.{hex_after, hex_digit, hex_word}
 use Rattle.ucl_screen.proofs.ReadWords.{all-read}
 use Rattle.ucl_json.specs.Values.{accepted_value, edition_screen_value, screen_value}
-use Rattle.ucl_runs.proofs.WordDigits.{low, word-digits}
+use Rattle.ucl_rows.proofs.WordDigits.{low, word-digits}
 use Rattle.ucl_json.specs.Told.{board_told, club_told, clubs_told, each_told, edition_in, edition_told, group_told, if_read, just, list_at}
 use Rattle.ucl_json.specs.Told.{listed, moment_told, order_told, roster_told, text_at, word_told}
 use Rattle.ucl_runs.specs.Answered.{AnswersTellTheirMoment}

@@ -13,7 +13,7 @@ use Rattle.std.specs.Prelude.{codes}
 use Rattle.ucl_board.proofs.HistoryLaws.{attempt_legal, versions}
 use Rattle.ucl_board.proofs.Histories.{reply_is}
 use Rattle.ucl_runs.specs.Feed.{reply_line}
-use Rattle.ucl_runs.specs.BadRows.{bad_field}
+use Rattle.ucl_rows.specs.BadRows.{bad_field}
 use Rattle.ucl_runs.specs.Requests.{asked_by, shown_by}
 use Rattle.ucl_runs.specs.LiveText.{after_lines, answers}
 use Rattle.ucl_runs.specs.ByHistory.{answer_by_history, answers_by_history, attempts_in, line_by_history, reply_by_history}

@@ -1,7 +1,5 @@
 -- The words and lemmas from elsewhere that the proofs of this crate share.
-pub use Rattle.csv.specs.Machine.{Read, after_end, ends_at_end, in_field, next_record, step}
 pub use Rattle.csv.specs.Reading.{default_config, records}
-pub use Rattle.csv.specs.declared.parser.State.{State}
 pub use Rattle.json.specs.Print.{quoted}
 pub use Rattle.serde_json.specs.Data.{Data, array, member, no_members, null, object, string, unsigned}
 pub use Rattle.serde_json.specs.Find.{of_integer}
@@ -11,11 +9,11 @@ pub use Rattle.std.proofs.Common.{false, filter, get_or, inl, inr, le-leb, leb-t
 pub use Rattle.std.proofs.Common.{refl, rules, set, slice_get, subst, suc, sym, take, true, zero, ℕ, ℤ, ⊎_elim, ◌%◌, ◌&&◌, ◌*◌, ◌++◌, ◌+◌}
 pub use Rattle.std.proofs.Common.{◌-ℤ◌, ◌-◌, ◌/◌, ◌<◌, ◌==◌, ◌^◌, ◌∙◌, ◌∷◌, ◌≡◌, ◌≢◌, ◌≤◌, ◌⊎◌}
 pub use Rattle.std.proofs.Math.Nat.{pow-suc}
-pub use Rattle.std.proofs.Math.Seq.{drop-length, take-length}
+pub use Rattle.std.proofs.Math.Seq.{take-length}
 pub use Rattle.std.proofs.lemmas.Bool.{and_from, and_parts, and_right, cases_Bool, cases_eq, cases_lt, eqb-true, false≢true, lt-leb}
 pub use Rattle.std.proofs.lemmas.Bool.Decides.{nat_tests}
 pub use Rattle.std.proofs.lemmas.Fmt.{length-decimal-le}
-pub use Rattle.std.proofs.lemmas.List.{drop_more, take-append-drop, take-append-le, take_all, take_more}
+pub use Rattle.std.proofs.lemmas.List.{take-append-drop, take-append-le, take_all, take_more}
 pub use Rattle.std.proofs.lemmas.List.Elements.{All-append, All-cons, All-get_or, All-head, All-nil, All-push, All-tail}
 pub use Rattle.std.proofs.lemmas.Option.{none-some, same_Some}
 pub use Rattle.std.proofs.lemmas.Result.{err_from_is_err_and}
@@ -67,46 +65,45 @@ pub use Rattle.ucl_order.specs.declared.mark.Mark.TheVariants.{Plus}
 pub use Rattle.ucl_order.specs.declared.profile.Profile.{Profile}
 pub use Rattle.ucl_order.specs.declared.profile.Profile.TheVariants.{AwayInTie, Uefa}
 pub use Rattle.ucl_runs.specs.Answered.{HasNumbers, IsMoment}
-pub use Rattle.ucl_runs.specs.BadRows.{field_name, shown_text}
+pub use Rattle.ucl_rows.specs.BadRows.{field_name, shown_text}
 pub use Rattle.ucl_runs.specs.ByHistory.{attempts_of, attempts_on}
-pub use Rattle.ucl_runs.specs.Feed.{IsFed, line_of_reply, word_lines}
+pub use Rattle.ucl_runs.specs.Feed.{IsFed}
+pub use Rattle.ucl_rows.specs.Lines.{line_of_reply, word_lines}
 pub use Rattle.ucl_runs.specs.Follow.{after_told, club_row, follow_text, group_row, in_quotes, is_later, is_newer, is_plain_title, is_shown}
 pub use Rattle.ucl_runs.specs.Follow.{passed_over, resuming_text, shown_too, told_text, unseen, version_at, whole_lines}
 pub use Rattle.ucl_runs.specs.Gates.{rows_by}
 pub use Rattle.ucl_runs.specs.Holding.{HasNoAnswer, HasNoEnd, after_bytes, answers_to, evening_of, missing_at}
-pub use Rattle.ucl_runs.specs.InputLines.{last_lines, lines_of}
+pub use Rattle.ucl_rows.specs.InputLines.{last_lines, lines_of}
 pub use Rattle.ucl_runs.specs.Journals.{IsAnsweredIn, TakesEvent, moment_at, moment_now, moment_with, resume}
 pub use Rattle.ucl_runs.specs.Latest.{IsNoNewer, IsToldIn}
-pub use Rattle.ucl_runs.specs.Lines.{word_line}
+pub use Rattle.ucl_rows.specs.Lines.{word_line}
 pub use Rattle.ucl_runs.specs.LiveLaws.{RaisesVersion}
-pub use Rattle.ucl_runs.specs.LiveText.{Evening, after_lines, answer_at, answer_of, answer_said, answers, bad_line, live_text}
-pub use Rattle.ucl_runs.specs.LiveText.{missing_after, next, next_title, reply_answer, screen_after, screen_answer, start_of}
+pub use Rattle.ucl_runs.specs.LiveText.{Evening, after_lines, answer_at, answer_of, answer_said, answers, live_text}
+pub use Rattle.ucl_rows.specs.Answers.{bad_line}
+pub use Rattle.ucl_runs.specs.LiveText.{missing_after, next, next_title, screen_after, start_of}
+pub use Rattle.ucl_rows.specs.Answers.{reply_answer, screen_answer}
 pub use Rattle.ucl_runs.specs.Nights.{ComesFirst, EachMatchHasOneReporter, HasEntered, HasShown, IsEnteredAt, IsMerge, IsOnDuty}
 pub use Rattle.ucl_runs.specs.Nights.{IsRefusedAt, TakesPlace, attempt_by, last_shown, night_text, number_of_two}
-pub use Rattle.ucl_runs.specs.Reading.{AreJoining, EndsRow, IsBehindEnds, IsFieldBefore, after_action, begins_row, csv_state_of, field_in}
-pub use Rattle.ucl_runs.specs.Reading.{is_joining, made}
+pub use Rattle.ucl_rows.specs.Reading.{AreJoining, EndsRow, IsBehindEnds, IsFieldBefore}
+pub use Rattle.ucl_rows.specs.Reading.{is_joining}
 pub use Rattle.ucl_runs.specs.Requests.{asked_by, event_or_bad, request_of}
 pub use Rattle.ucl_runs.specs.Resuming.{opened_at, resumed_row}
-pub use Rattle.ucl_runs.specs.Rows.{Nothing, Other, Row, Said, fits, of_rows, said_by_text, said_on}
-pub use Rattle.ucl_runs.specs.Run.{IsStopped, TextHas}
+pub use Rattle.ucl_rows.specs.Rows.{Nothing, Other, Row, Said, fits, of_rows, said_by_text, said_on}
+pub use Rattle.ucl_rows.specs.Run.{IsStopped, TextHas}
 pub use Rattle.ucl_runs.specs.Show.{IsShown}
 pub use Rattle.ucl_runs.specs.Stages.{Beginning, Naming, Open, Refused, Restoring, Stage, after_beginning, after_club, after_row}
 pub use Rattle.ucl_runs.specs.Stages.{after_title, after_word, club_said, is_word_row, missing, next_board, next_stage, opened, restored}
 pub use Rattle.ucl_runs.specs.Stages.{with_roster, with_words, word_said}
 pub use Rattle.ucl_runs.specs.Styles.{styled}
 pub use Rattle.ucl_runs.specs.Titles.{asked_group, asked_title, is_as_asked, is_asked, is_group_row, is_same_order, title_by, title_said}
-pub use Rattle.ucl_runs.specs.declared.fault.RunFault.{RunFault}
-pub use Rattle.ucl_runs.specs.declared.fault.RunFault.TheVariants.{Strangers}
+pub use Rattle.ucl_rows.specs.declared.fault.RunFault.{RunFault}
+pub use Rattle.ucl_rows.specs.declared.fault.RunFault.TheVariants.{Strangers}
 pub use Rattle.ucl_runs.specs.declared.following.Following.{Following}
 pub use Rattle.ucl_runs.specs.declared.live_fault.BeginningFault.{BeginningFault}
 pub use Rattle.ucl_runs.specs.declared.live_fault.BeginningFault.TheVariants.{OtherGroup}
 pub use Rattle.ucl_runs.specs.declared.live_fault.LiveFault.{LiveFault}
 pub use Rattle.ucl_runs.specs.declared.request.Request.{Request}
 pub use Rattle.ucl_runs.specs.declared.request.Request.TheVariants.{Bad, Event, Matches, Screen, Words}
-pub use Rattle.ucl_runs.specs.declared.row.RowAction.{RowAction}
-pub use Rattle.ucl_runs.specs.declared.row.RowAction.TheVariants.{EndRecord}
-pub use Rattle.ucl_runs.specs.declared.row.RowState.{RowState}
-pub use Rattle.ucl_runs.specs.declared.row.RowState.TheVariants.{InField, StartField}
 pub use Rattle.ucl_screen.proofs.EventsInTurn.{first-event}
 pub use Rattle.ucl_screen.specs.Events.{attempt_of, event_of, ◌>>=◌}
 pub use Rattle.ucl_screen.specs.Numbers.{hex_digits, in_range, number}

@@ -9,7 +9,7 @@ use Rattle.std.proofs.lemmas.List.{same_from_push}
 use Rattle.std.proofs.Math.Seq.{take-append_seam}
 use Rattle.ucl_word.proofs.Sequences.{at_longer, at_end, at_either}
 use Rattle.ucl_live_board.specs.Passes.{IsSound, AcceptedReport, RefusedReport}
-use Rattle.ucl_live_board.proofs.Lists.{by_own, unchanged}
+use Rattle.ucl_live_board.proofs.Lists.{by_own, goes_on, unchanged}
 use Rattle.ucl_runs.specs.Nights.{IsOwnRow}
 use Rattle.ucl_runs.proofs.Points.{entered_on, place_on, entered_before, first_on, entered_within, place_within, none_by, stands_before}
 
@@ -130,14 +130,6 @@ module _ {k m : PassView} (z : PassView) {reporter : ℕ} {rows : List NightEven
     in_order = each_order;
     entries = λ p x at is. each_entry theirs p x at is (either p x at is);
   }
-
--- what always holds of a pass holds over two calls
-pub goes_on : (k m z : PassView) → Continues k m → Continues m z → Continues k z
-goes_on k m z a b = record {
-  sound = b.sound;
-  on = record { seen = begins_through k.seen m.seen z.seen a.on.seen b.on.seen; listed = (let x = a.on.listed in let y = b.on.listed in omega arith); share = b.on.share ∙ a.on.share };
-  number = b.number ∙ a.number;
-}
 
 module _ {k m z : PassView} {reporter : ℕ} {rows : List NightEvent} (row : NightEvent) (e : HasEntered k m reporter rows)
     (theirs : row.reporter ≡ reporter) (always : Continues m z) where

@@ -3,7 +3,7 @@ use Rattle.ucl_runs.proofs.Common.{List, NightEvent, PassView, Reading, ReportsM
 use Rattle.ucl_runs.proofs.Common.{get_or, length, length-append, ne_eqb, rows_by, subst, sym, take, take_more, ℕ, ◌++◌, ◌+◌, ◌<◌, ◌∙◌, ◌∷◌}
 use Rattle.ucl_runs.proofs.Common.{◌≡◌, ◌≢◌}
 use Rattle.std.proofs.lemmas.List.Elements.{filter-append}
-use Rattle.ucl_runs.specs.Gates.{IsReadingOf}
+use Rattle.ucl_live_board.specs.Passes.{IsReadingOf}
 
 -- the rows up to the next one
 module _ (reporter i : ℕ) (rows : List NightEvent) (row : NightEvent) (below : i < length rows) (is : row ≡ get_or rows i row) where

@@ -15,9 +15,9 @@ use Rattle.ucl_word.specs.declared.refusal.Refusal.TheVariants.{NoGoal, NoCautio
 use Rattle.ucl_word.specs.Rules.{refusal_of}
 use Rattle.ucl_word.proofs.Words.{word_high}
 use Rattle.ucl_json.specs.Values.{coded_value, matches_value, numbered_value, refused_value}
-use Rattle.ucl_runs.specs.BadRows.{printed}
-use Rattle.ucl_runs.specs.declared.bad_row.BadField.{BadField}
-use Rattle.ucl_runs.specs.declared.bad_row.BadField.TheVariants.{Count}
+use Rattle.ucl_rows.specs.BadRows.{printed}
+use Rattle.ucl_rows.specs.declared.bad_row.BadField.{BadField}
+use Rattle.ucl_rows.specs.declared.bad_row.BadField.TheVariants.{Count}
 use Rattle.ucl_json.specs.Told.{moment_told}
 use Rattle.ucl_json.proofs.Members.{too-long}
 use Rattle.ucl_runs.proofs.Matches.{match-plain, matches-plain, matches-short}

@@ -1,11 +1,8 @@
 pub mod Common
-pub mod Elements
 pub mod Texts
 pub mod RunFacts
 pub mod ShownVersions
 pub mod Points
-pub mod NightParts
-pub mod Driven
 pub mod Duty
 pub mod GateFacts
 pub mod EnteredRows
@@ -14,17 +11,12 @@ pub mod Merges
 pub mod Unsigned
 mod NightOutput
 mod Unasked
-pub mod WordDigits
-pub mod RowBytes
-pub mod RowEnds
-pub mod PlainRows
 pub mod OneByOne
 pub mod Silence
 pub mod LiveRuns
 pub mod ReadWords
 pub mod Boards
 pub mod JsonLines
-pub mod LiveShown
 pub mod Uncut
 pub mod LiveTold
 pub mod GoodBoards

@@ -13,8 +13,8 @@ use Rattle.serde_json.specs.Find.{as_integer}
 use Rattle.serde_json.proofs.OnLiterals.{serde_json_on_literals}
 use Rattle.ucl_word.specs.Names.{found_text}
 use Rattle.ucl_order.specs.declared.table.Row.{Row}
-use Rattle.ucl_runs.specs.Feed.{word_lines}
-use Rattle.ucl_runs.specs.Lines.{accepted_line}
+use Rattle.ucl_rows.specs.Lines.{word_lines}
+use Rattle.ucl_rows.specs.Lines.{accepted_line}
 use Rattle.ucl_screen.specs.Lines.{difference_text, mark_text, place_line}
 use Rattle.ucl_screen.specs.Matches.{clubs_text, counts_text, match_line, matches_text, state_text}
 use Rattle.ucl_screen.specs.Screen.{screen_text}

@@ -7,7 +7,7 @@ use Rattle.std.proofs.lemmas.Bool.{cases_order}
 use Rattle.std.proofs.lemmas.Option.{get_or_from_slice_get}
 use Rattle.ucl_board.proofs.HistoryLaws.{legal_take}
 use Rattle.ucl_live_board.specs.Settling.{Settled, IsOfBoth}
-use Rattle.ucl_runs.proofs.Elements.{get_some}
+use Rattle.ucl_rows.proofs.Elements.{get_some}
 use Rattle.ucl_runs.specs.Nights.{IsOfRow}
 use Rattle.ucl_runs.proofs.Points.{entered_on, place_on, first_on, stands_before}
 

@@ -8,7 +8,7 @@ use Rattle.std.proofs.Common.{All}
 use Rattle.std.proofs.lemmas.List.Elements.{All-pop}
 use Rattle.std.specs.Prelude.{take}
 use Rattle.ucl_command.specs.declared.night.Line.TheVariants.{Night}
-use Rattle.ucl_runs.specs.declared.fault.RunFault.TheVariants.{WriteFailed}
+use Rattle.ucl_rows.specs.declared.fault.RunFault.TheVariants.{WriteFailed}
 use Rattle.ucl_runs.specs.Program.{HasLooked, IsPlayed, IsScriptOnDuty, Obeys, streams}
 use Rattle.ucl_runs.proofs.Unsigned.{screen_of_script}
 

@@ -12,7 +12,7 @@ use Rattle.ucl_word.specs.Names.{kind_name}
 use Rattle.ucl_board.specs.Fixtures.{IsSlot}
 use Rattle.ucl_order.specs.Roster.{is_club, named}
 use Rattle.ucl_json.specs.Values.{accepted_value, club_value}
-use Rattle.ucl_runs.proofs.WordDigits.{low, word-digits}
+use Rattle.ucl_rows.proofs.WordDigits.{low, word-digits}
 use Rattle.ucl_runs.proofs.Answered.{long}
 use Rattle.ucl_runs.proofs.ReadBack.{ArePlain, IsPlain, IsText, items_size, size}
 

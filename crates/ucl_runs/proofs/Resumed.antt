@@ -7,7 +7,7 @@ use Rattle.ucl_runs.proofs.Common.{cases_Bool, club_of, club_row, codes, ended_a
 use Rattle.ucl_runs.proofs.Common.{inl, inr, is_as_asked, is_plain_title, is_same_order, length, length-append, lines_of, live_text, ne_eqb}
 use Rattle.ucl_runs.proofs.Common.{next, opened, opened_at, refl, request_of, said_by_text, said_on, shown_text, start_of, sym, take_all}
 use Rattle.ucl_runs.proofs.Common.{title_by, true, with_words, word_line, ℕ, ◌&&◌, ◌++◌, ◌+◌, ◌<◌, ◌==◌, ◌^◌, ◌||◌, ◌∙◌, ◌∷◌, ◌≡◌}
-use Rattle.ucl_runs.specs.Feed.{word_lines}
+use Rattle.ucl_rows.specs.Lines.{word_lines}
 use Rattle.ucl_runs.specs.Titles.{asked_order, is_asked_group, is_asked_order}
 use Rattle.ucl_runs.specs.Stages.{with_clubs}
 use Rattle.ucl_runs.proofs.Boards.{sequential}

@@ -17,10 +17,10 @@ use Rattle.csv.specs.Writing.{default_writer, escaped}
 use Rattle.ucl_order.specs.Roster.{is_club}
 use Rattle.ucl_screen.specs.Numbers.{digits_after, is_digit}
 use Rattle.ucl_screen.proofs.Digits.{number-is}
-use Rattle.ucl_runs.specs.Rows.{row_by_text}
-use Rattle.ucl_runs.proofs.PlainRows.{at-ends, before-comma, plain_row}
-use Rattle.ucl_runs.proofs.RowBytes.{between-same, skip-one}
-use Rattle.ucl_runs.proofs.WordDigits.{low, word-digits}
+use Rattle.ucl_rows.specs.Rows.{row_by_text}
+use Rattle.ucl_rows.proofs.PlainRows.{at-ends, before-comma, plain_row}
+use Rattle.ucl_rows.proofs.RowBytes.{between-same, skip-one}
+use Rattle.ucl_rows.proofs.WordDigits.{low, word-digits}
 use Rattle.ucl_runs.proofs.Answered.{long, word-back}
 use Rattle.csv.specs.declared.parser.State.TheVariants as st
 

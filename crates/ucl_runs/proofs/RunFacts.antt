@@ -5,9 +5,9 @@ use Rattle.std.specs.Prelude.{Bool}
 use Rattle.ucl_screen.specs.Script.{WrittenSheet}
 use Rattle.ucl_screen.specs.Parsing.{MeansSheet}
 use Rattle.ucl_runs.specs.Feed.{feed_text}
-use Rattle.ucl_runs.specs.declared.fault.RunFault.TheVariants.{WriteFailed}
+use Rattle.ucl_rows.specs.declared.fault.RunFault.TheVariants.{WriteFailed}
 use Rattle.ucl_io.specs.Stream.{WroteFirst}
-use Rattle.ucl_runs.specs.Run.{IfWriteFailed, IsCutShort}
+use Rattle.ucl_rows.specs.Run.{IfWriteFailed, IsCutShort}
 
 -- a script's text, and a sheet's screen
 pub fed : (known : Option (List ℕ)) (night : Script) (text : List ℕ) → IfSome known (λ bytes. MeansNight bytes (Ok night)) → text ≡ feed_text night.events → IfSome known (λ bytes. IsFed bytes text)

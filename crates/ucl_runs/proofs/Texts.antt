@@ -1,21 +1,9 @@
 -- Texts written one line at a time.
 use Rattle.ucl_runs.proofs.Common.{Entry, List, NightEvent, after_attempt, append_assoc, attempt_of, drop, first-event, get_or, length, sym}
-use Rattle.ucl_runs.proofs.Common.{word_line, ℕ, ◌++◌, ◌+◌, ◌<◌, ◌∙◌, ◌∷◌, ◌≡◌, ◌≤◌}
-use Rattle.std.proofs.Common.{add-one, drop-cons}
+use Rattle.ucl_runs.proofs.Common.{ℕ, ◌++◌, ◌+◌, ◌<◌, ◌∙◌, ◌∷◌, ◌≡◌, ◌≤◌}
 use Rattle.std.proofs.lemmas.List.{append-nil}
 use Rattle.ucl_screen.proofs.EventsInTurn.{past}
-use Rattle.ucl_runs.specs.Feed.{reply_lines, reply_line, word_lines}
-
-pub words-step : (index i : ℕ) (words out new whole : List ℕ) → i < length words → out ++ word_lines index (drop i words) ≡ whole
-    → new ≡ out ++ word_line index (get_or words i 0) → new ++ word_lines (index + 1) (drop (i + 1) words) ≡ whole
-unfolding word_lines
-words-step index i words out new whole h so_far line =
-    let split : drop i words ≡ get_or words i 0 ∷ drop (i + 1) words = rw (add-one i) (drop-cons words i 0 h) in
-    rw (line, append_assoc out (word_line index (get_or words i 0)) (word_lines (index + 1) (drop (i + 1) words))) (rw split at so_far)
-
-pub words-end : (index i : ℕ) (words out whole : List ℕ) → length words ≤ i → out ++ word_lines index (drop i words) ≡ whole → out ≡ whole
-unfolding word_lines
-words-end index i words out whole h so_far = sym (append-nil out) ∙ (rw (past i words h) at so_far)
+use Rattle.ucl_runs.specs.Feed.{reply_lines, reply_line}
 
 pub replies-step : (row i : ℕ) (events : List NightEvent) (e : NightEvent) (history : List Entry) (out new whole : List ℕ) → i < length events → e ≡ get_or events i e
     → out ++ reply_lines row history (drop i events) ≡ whole → new ≡ out ++ reply_line row history e.call

@@ -2,7 +2,7 @@
 use Rattle.ucl_runs.proofs.Common.{Bool, List, Option, ap, ℕ}
 use Rattle.ucl_command.specs.declared.fault.LineFault.{LineFault}
 use Rattle.ucl_command.specs.declared.fault.LineFault.TheVariants.{Help, Refused, OutOfMemory}
-use Rattle.ucl_runs.specs.Ending.{EndsUnasked}
+use Rattle.ucl_rows.specs.Ending.{EndsUnasked}
 use Rattle.ucl_runs.specs.Program.{Streams, streams_at}
 use Rattle.ucl_io.specs.declared.stream.Source as reads
 use Rattle.ucl_io.specs.declared.stream.Sink as writes

@@ -5,8 +5,8 @@ use Rattle.ucl_runs.proofs.Common.{sym, take, take-append-le, ℕ, ⊤, ◌++◌
 use Rattle.std.specs.Prelude.{◌⊎◌}
 use Rattle.ucl_io.specs.Lines.{begun_line, ended_lines, longer}
 use Rattle.ucl_runs.specs.UncutLines.{uncut_after, uncut_lines}
-use Rattle.ucl_runs.specs.BadRows.{printed}
-use Rattle.ucl_runs.specs.Rows.{row_by_text}
+use Rattle.ucl_rows.specs.BadRows.{printed}
+use Rattle.ucl_rows.specs.Rows.{row_by_text}
 use Rattle.ucl_runs.specs.LiveText.{after_lines, answers}
 use Rattle.ucl_runs.specs.LiveLaws.{LinesAreReadWhole}
 

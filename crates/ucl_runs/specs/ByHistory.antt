@@ -15,10 +15,11 @@ use Rattle.ucl_command.specs.declared.options.Format.TheVariants.{Text, Json}
 use Rattle.ucl_command.specs.declared.live.LiveArgs.{LiveArgs}
 use Rattle.ucl_runs.specs.declared.request.Request.{Request}
 use Rattle.ucl_runs.specs.declared.request.Request.TheVariants.{Bad, Event, Screen, Words, Matches}
-use Rattle.ucl_runs.specs.Rows.{Said, Nothing, Other, Row, said_on}
-use Rattle.ucl_runs.specs.BadRows.{shown_text}
+use Rattle.ucl_rows.specs.Rows.{Said, Nothing, Other, Row, said_on}
+use Rattle.ucl_rows.specs.BadRows.{shown_text}
 use Rattle.ucl_runs.specs.Requests.{request_of}
-use Rattle.ucl_runs.specs.LiveText.{bad_answer, matches_answer, screen_after, screen_answer, words_answer}
+use Rattle.ucl_runs.specs.LiveText.{screen_after}
+use Rattle.ucl_rows.specs.Answers.{bad_answer, matches_answer, screen_answer, words_answer}
 
 -- ---- the events that lines ask for, with who enters them, where the first line has this number and the board is open
 

@@ -1,20 +1,13 @@
 -- The text of `feed`: a reply line for each event, and then the twelve word lines.
-use Rattle.std.specs.Prelude.{◌≡◌, ℕ, ◌+◌, List, [], ◌∷◌, ◌++◌, length, map, Result, Ok, Err}
+use Rattle.std.specs.Prelude.{◌≡◌, ℕ, ◌+◌, List, [], ◌∷◌, ◌++◌, length, map, Ok}
 use Rattle.ucl_word.specs.declared.event.EventCall.{EventCall}
-use Rattle.ucl_word.specs.declared.event.Accepted.{Accepted}
-use Rattle.ucl_word.specs.declared.refusal.Refusal.{Refusal}
 use Rattle.ucl_board.specs.declared.entry.Entry.{Entry}
 use Rattle.ucl_board.specs.History.{after_attempt, accepted_of, board_of, sequential_reply}
 use Rattle.ucl_screen.specs.declared.night.NightEvent.{NightEvent}
 use Rattle.ucl_screen.specs.Events.{attempt_of}
 use Rattle.ucl_screen.specs.Script.{Script, first_event_row}
 use Rattle.ucl_screen.specs.Parsing.{MeansNight}
-use Rattle.ucl_runs.specs.Lines.{accepted_line, refused_line, word_line}
-
--- the line of a reply, where so many events were accepted before: an accepted one raises the version by one
-abbrev pub line_of_reply : ℕ → ℕ → ℕ → Result Accepted Refusal → List ℕ
-line_of_reply row game before (Ok accepted) = accepted_line row game accepted.number (before + 1)
-line_of_reply row game before (Err refusal) = refused_line row refusal
+use Rattle.ucl_rows.specs.Lines.{line_of_reply, word_lines}
 
 -- the line of an event after a history: the reply of the board of one thread
 unfoldable pub reply_line : ℕ → List Entry → EventCall → List ℕ
@@ -24,11 +17,6 @@ reply_line row history call = line_of_reply row call.game (length history) (sequ
 unfoldable pub reply_lines : ℕ → List Entry → List NightEvent → List ℕ
 reply_lines row history [] = []
 reply_lines row history (event ∷ events) = reply_line row history event.call ++ reply_lines (row + 1) (after_attempt history (attempt_of event)) events
-
--- the lines of words, the first of which has this index
-unfoldable pub word_lines : ℕ → List ℕ → List ℕ
-word_lines index [] = []
-word_lines index (word ∷ words) = word_line index word ++ word_lines (index + 1) words
 
 -- the events of a script begin in row 5
 abbrev pub feed_text : List NightEvent → List ℕ

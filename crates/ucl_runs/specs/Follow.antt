@@ -5,7 +5,7 @@ use Rattle.ucl_board.specs.Words.{version_of}
 use Rattle.ucl_order.specs.declared.profile.Profile.TheVariants.{Uefa}
 use Rattle.ucl_order.specs.Names.{profile_name}
 use Rattle.ucl_order.specs.Roster.{NamedClub, coefficient_of, name_of}
-use Rattle.ucl_runs.specs.Feed.{word_lines}
+use Rattle.ucl_rows.specs.Lines.{word_lines}
 use Rattle.ucl_screen.specs.Matches.{matches_text}
 use Rattle.ucl_screen.specs.Screen.{screen_text}
 use Rattle.ucl_json.specs.Lines.{json_line}

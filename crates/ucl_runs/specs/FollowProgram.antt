@@ -3,20 +3,20 @@ use Rattle.std.specs.Prelude.{◌≡◌, ◌-◌, ◌==◌, ℕ, Bool, false, if
 use Rattle.std.specs.Io.KnownBytes.{Appends}
 use Rattle.ucl_io.specs.declared.stream.Source as reads
 use Rattle.ucl_io.specs.declared.stream.Sink as writes
-use Rattle.ucl_runs.specs.declared.fault.RunFault.{RunFault}
-use Rattle.ucl_runs.specs.Faults.{status}
-use Rattle.ucl_runs.specs.declared.fault.RunFault.TheVariants as run
+use Rattle.ucl_rows.specs.declared.fault.RunFault.{RunFault}
+use Rattle.ucl_rows.specs.Faults.{status}
+use Rattle.ucl_rows.specs.declared.fault.RunFault.TheVariants as run
 use Rattle.ucl_screen.specs.declared.fault.InputFault.TheVariants as input
 use Rattle.ucl_word.specs.declared.refusal.OutOfMemory.{OutOfMemory}
 use Rattle.ucl_io.specs.declared.fault.PumpFault.{PumpFault}
 use Rattle.ucl_io.specs.declared.fault.PumpFault.TheVariants.{Machine, ReadFailed, TooLong, WriteFailed}
 use Rattle.ucl_io.specs.Output.{SinkEnds}
 use Rattle.ucl_io.specs.Pumping.{is_source_failed}
-use Rattle.ucl_runs.specs.Telling.{Tells, fault_line}
+use Rattle.ucl_rows.specs.Telling.{Tells, fault_line}
 use Rattle.ucl_io.specs.declared.duplex.Duplex.{Duplex}
 use Rattle.ucl_io.specs.Calls.{LogsCalls, device}
 use Rattle.ucl_command.specs.declared.fault.LineFault.{LineFault}
-use Rattle.ucl_runs.specs.Ending.{AnsweredAlone}
+use Rattle.ucl_rows.specs.Ending.{AnsweredAlone}
 use Rattle.ucl_order.specs.Names.{profile_name}
 use Rattle.ucl_json.specs.declared.title.Title.{Title}
 use Rattle.ucl_runs.specs.declared.follow.Followed.{Followed}

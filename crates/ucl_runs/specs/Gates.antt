@@ -4,7 +4,6 @@ use Rattle.ucl_board.specs.declared.entry.Entry.{Entry}
 use Rattle.ucl_board.specs.declared.reading.Reading.{Reading}
 use Rattle.ucl_board.specs.History.{IsLegal, snapshot_at}
 use Rattle.ucl_screen.specs.declared.night.NightEvent.{NightEvent}
-use Rattle.ucl_live_board.specs.Passes.{PassView}
 use Rattle.ucl_runs.specs.Styles.{Style, styled_screen}
 
 -- a reading is of a beginning of a legal history, and a text is the screen of its board in some style
@@ -15,13 +14,6 @@ pub record IsScreenOf (reading : Reading) (text : List ℕ) : Type 0 where
   pub snapshot : reading ≡ snapshot_at history reading.version
   pub style : Style
   pub text_is : text ≡ styled_screen style reading.board
-
--- a reading is the last of a pass, and the board after so many first entries of what that has seen
-pub record IsReadingOf (m : PassView) (reading : Reading) : Type 0 where
-  pub before : List ℕ
-  pub last : m.shown ≡ before ++ reading.version ∷ []
-  pub high : reading.version ≤ length m.seen
-  pub snapshot : reading ≡ snapshot_at m.seen reading.version
 
 -- how many rows of a script are of a reporter
 abbrev pub rows_by : ℕ → List NightEvent → ℕ

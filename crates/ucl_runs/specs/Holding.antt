@@ -12,7 +12,7 @@ use Rattle.ucl_io.specs.Output.{StoppedShort}
 use Rattle.ucl_json.specs.declared.title.Title.{Title}
 use Rattle.ucl_command.specs.declared.options.Format.TheVariants.{Json}
 use Rattle.ucl_command.specs.declared.live.LiveArgs.{LiveArgs}
-use Rattle.ucl_runs.specs.declared.answer.Answer.{Answer}
+use Rattle.ucl_rows.specs.declared.answer.Answer.{Answer}
 use Rattle.ucl_runs.specs.declared.evening.Evening.{Evening as Held}
 use Rattle.ucl_runs.specs.declared.live_fault.BeginningFault.{BeginningFault}
 use Rattle.ucl_runs.specs.declared.live_fault.LiveFault.{LiveFault}
@@ -20,10 +20,11 @@ use Rattle.ucl_runs.specs.declared.live_fault.LiveFault.TheVariants as live
 use Rattle.ucl_runs.specs.declared.request.Request.{Request}
 use Rattle.ucl_runs.specs.declared.request.Request.TheVariants.{Bad, Event, Screen, Words, Matches}
 use Rattle.ucl_runs.specs.declared.parts.Parts.{Parts}
-use Rattle.ucl_runs.specs.InputLines.{last_lines}
+use Rattle.ucl_rows.specs.InputLines.{last_lines}
 use Rattle.ucl_runs.specs.Requests.{request_of}
-use Rattle.ucl_runs.specs.Rows.{Said, Nothing, Other, Row, said_on}
-use Rattle.ucl_runs.specs.Seen.{bytes_of, stage_seen}
+use Rattle.ucl_rows.specs.Rows.{Said, Nothing, Other, Row, said_on}
+use Rattle.ucl_runs.specs.Seen.{stage_seen}
+use Rattle.ucl_rows.specs.Answers.{bytes_of}
 use Rattle.ucl_runs.specs.Stages.{Stage, Beginning, Naming, Restoring, Open, Refused, opened}
 use Rattle.ucl_runs.specs.LiveText.{Evening, after_lines, answers, live_text, missing_after, missing_now, next}
 

@@ -11,8 +11,8 @@ use Rattle.ucl_command.specs.declared.follow.FollowShape.TheVariants.{Rows}
 use Rattle.ucl_command.specs.declared.live.LiveArgs.{LiveArgs}
 use Rattle.ucl_command.specs.declared.options.Format.TheVariants.{Json}
 use Rattle.ucl_runs.specs.ByHistory.{attempts_in, attempts_on}
-use Rattle.ucl_runs.specs.InputLines.{lines_of}
-use Rattle.ucl_runs.specs.Rows.{said_on}
+use Rattle.ucl_rows.specs.InputLines.{lines_of}
+use Rattle.ucl_rows.specs.Rows.{said_on}
 use Rattle.ucl_runs.specs.Stages.{Stage, Beginning, Naming, Open, Refused, Restoring, opened}
 use Rattle.ucl_runs.specs.LiveText.{Evening, after_lines, answers, live_text, start_of}
 use Rattle.ucl_json.specs.declared.title.Title.{Title}

@@ -5,7 +5,8 @@ use Rattle.serde_json.specs.Data.{Data}
 use Rattle.ucl_board.specs.declared.entry.Entry.{Entry}
 use Rattle.ucl_board.specs.History.{IsLegal, after_attempt, board_after, board_of}
 use Rattle.ucl_order.specs.Roster.{NamedClub}
-use Rattle.ucl_runs.specs.Feed.{line_of_reply, reply_line, word_lines}
+use Rattle.ucl_runs.specs.Feed.{reply_line}
+use Rattle.ucl_rows.specs.Lines.{line_of_reply, word_lines}
 use Rattle.ucl_screen.specs.declared.night.NightEvent.{NightEvent}
 use Rattle.ucl_screen.specs.Matches.{matches_text}
 use Rattle.ucl_screen.specs.Screen.{screen_text}
@@ -21,12 +22,13 @@ use Rattle.ucl_command.specs.declared.options.Format.TheVariants.{Text, Json}
 use Rattle.ucl_command.specs.declared.live.LiveArgs.{LiveArgs}
 use Rattle.ucl_runs.specs.declared.live_fault.BeginningFault.{BeginningFault}
 use Rattle.ucl_runs.specs.ByHistory.{answers_by_history, attempts_in}
-use Rattle.ucl_runs.specs.InputLines.{lines_of}
+use Rattle.ucl_rows.specs.InputLines.{lines_of}
 use Rattle.ucl_runs.specs.Members.{text_told, texts_told}
 use Rattle.ucl_runs.specs.UncutLines.{uncut_lines}
-use Rattle.ucl_runs.specs.Rows.{Said, Nothing, Other, Row, said_on}
+use Rattle.ucl_rows.specs.Rows.{Said, Nothing, Other, Row, said_on}
 use Rattle.ucl_runs.specs.Stages.{Open, Refused, Restoring, is_word_row}
-use Rattle.ucl_runs.specs.LiveText.{Evening, after_lines, answers, bad_line, live_text, reply_answer, start_of}
+use Rattle.ucl_runs.specs.LiveText.{Evening, after_lines, answers, live_text, start_of}
+use Rattle.ucl_rows.specs.Answers.{bad_line, reply_answer}
 
 -- some bytes and the end of a line
 abbrev pub ended : List ℕ → List ℕ

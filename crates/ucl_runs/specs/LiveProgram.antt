@@ -3,9 +3,9 @@ use Rattle.std.specs.Prelude.{◌≡◌, ℕ, ⊤, Bool, List, Option, Some, Non
 use Rattle.std.specs.Io.KnownBytes.{Appends}
 use Rattle.ucl_io.specs.declared.stream.Source as reads
 use Rattle.ucl_io.specs.declared.stream.Sink as writes
-use Rattle.ucl_runs.specs.declared.fault.RunFault.{RunFault}
-use Rattle.ucl_runs.specs.Faults.{status}
-use Rattle.ucl_runs.specs.Telling.{Tells, fault_line}
+use Rattle.ucl_rows.specs.declared.fault.RunFault.{RunFault}
+use Rattle.ucl_rows.specs.Faults.{status}
+use Rattle.ucl_rows.specs.Telling.{Tells, fault_line}
 use Rattle.ucl_command.specs.declared.live.LiveArgs.{LiveArgs}
 use Rattle.ucl_io.specs.declared.duplex.Duplex.{Duplex}
 use Rattle.ucl_io.specs.Calls.{LogsCalls, device}
@@ -18,7 +18,7 @@ use Rattle.ucl_runs.specs.LiveFaults.{other_group_text, run_fault}
 use Rattle.ucl_runs.specs.Holding.{IsAnsweredSoFar, LiveFails}
 use Rattle.ucl_runs.specs.LiveText.{live_text, missing_after, start_of}
 use Rattle.ucl_command.specs.declared.fault.LineFault.{LineFault}
-use Rattle.ucl_runs.specs.Ending.{AnsweredAlone}
+use Rattle.ucl_rows.specs.Ending.{AnsweredAlone}
 
 -- an evening was held over a device for both ways, or has the fault r: what `live_run` says
 pub record HoldsEvening {S W : Type 0} (source : reads.Ghosts S) (sink : writes.Ghosts W) (options : LiveArgs) (before after : Duplex S W Held) (r : Result ⊤ (PumpFault LiveFault)) : Type 0 where

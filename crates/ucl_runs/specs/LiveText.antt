@@ -5,7 +5,7 @@ use Rattle.ucl_word.specs.declared.refusal.Refusal.{Refusal}
 use Rattle.ucl_word.specs.Rules.{reply_of}
 use Rattle.ucl_board.specs.Words.{game_at, version_of}
 use Rattle.ucl_order.specs.Roster.{NamedClub}
-use Rattle.ucl_runs.specs.Feed.{line_of_reply, word_lines}
+use Rattle.ucl_rows.specs.Lines.{line_of_reply, word_lines}
 use Rattle.ucl_screen.specs.declared.night.NightEvent.{NightEvent}
 use Rattle.ucl_screen.specs.Matches.{matches_text}
 use Rattle.ucl_screen.specs.Screen.{screen_text}
@@ -18,12 +18,12 @@ use Rattle.ucl_command.specs.declared.live.LiveArgs.{LiveArgs}
 use Rattle.ucl_runs.specs.declared.live_fault.BeginningFault.{BeginningFault}
 use Rattle.ucl_runs.specs.declared.request.Request.{Request}
 use Rattle.ucl_runs.specs.declared.request.Request.TheVariants.{Bad, Event, Screen, Words, Matches}
-use Rattle.ucl_runs.specs.InputLines.{lines_of}
-use Rattle.ucl_runs.specs.Rows.{Said, Nothing, Other, Row, said_on}
-use Rattle.ucl_runs.specs.BadRows.{field_name, shown_text}
+use Rattle.ucl_rows.specs.InputLines.{lines_of}
+use Rattle.ucl_rows.specs.Rows.{Said, Nothing, Other, Row, said_on}
+use Rattle.ucl_rows.specs.BadRows.{field_name, shown_text}
 use Rattle.ucl_runs.specs.Requests.{request_of}
 use Rattle.ucl_runs.specs.Titles.{asked_title, is_group_row, title_said}
-use Rattle.ucl_runs.specs.declared.bad_row.BadField.{BadField}
+use Rattle.ucl_rows.specs.declared.bad_row.BadField.{BadField}
 use Rattle.ucl_runs.specs.Stages.{Stage, Beginning, Naming, Restoring, Open, Refused, missing, next_board, next_stage, opened}
 
 -- between two lines: how it answers, what its board is told under, which line comes next, counted from 1, and how far it is
@@ -36,36 +36,6 @@ pub record Evening : Type 0 where
 -- before the first line
 abbrev pub start_of : LiveArgs → Evening
 start_of options = record { options = options; title = asked_title options; row = 1; stage = Beginning }
-
--- ---- single answers, each in its format
-
--- the reply to an event, where so many events were accepted before, with the board after it
-abbrev pub reply_answer : Format → Title → ℕ → List NamedClub → NightEvent → ℕ → Result Accepted Refusal → List ℕ → List ℕ
-reply_answer Text title row clubs event before reply board = line_of_reply row event.call.game before reply
-reply_answer Json title row clubs event before reply board = json_line (reply_value row event reply title board clubs)
-
-abbrev pub bad_line : ℕ → List ℕ
-bad_line row = decimal row ++ codes " refused 20 bad-row\n"
-
--- the answer to a row that asks for nothing that there is, for this field, and is shown so
-abbrev pub bad_answer : Format → ℕ → BadField → List ℕ → List ℕ
-bad_answer Text row field shown = bad_line row
-bad_answer Json row field shown = json_line (bad_row_value row (field_name field) shown)
-
--- the screen of a board
-abbrev pub screen_answer : Format → Title → ℕ → List NamedClub → List ℕ → List ℕ
-screen_answer Text title row clubs board = screen_text title.profile board clubs title.group
-screen_answer Json title row clubs board = json_line (edition_screen_value row title board clubs)
-
--- the words of a board
-abbrev pub words_answer : Format → ℕ → List ℕ → List ℕ
-words_answer Text row board = word_lines 1 board
-words_answer Json row board = json_line (words_value row board)
-
--- the matches of a board
-abbrev pub matches_answer : Format → ℕ → List NamedClub → List ℕ → List ℕ
-matches_answer Text row clubs board = matches_text board clubs
-matches_answer Json row clubs board = json_line (matches_value row board clubs)
 
 -- ---- the answer to a line
 

@@ -5,7 +5,7 @@ use Rattle.serde_json.specs.Data.{Data, Items, item, no_items}
 use Rattle.serde_json.specs.Find.{as_array, as_integer, as_number, as_str, as_u64, get}
 use Rattle.ucl_word.specs.Names.{found_text}
 use Rattle.ucl_board.specs.Fixtures.{fixture_of}
-use Rattle.ucl_runs.specs.Lines.{accepted_line}
+use Rattle.ucl_rows.specs.Lines.{accepted_line}
 use Rattle.ucl_screen.specs.Events.{◌>>=◌}
 use Rattle.ucl_screen.specs.Lines.{header, left, right, zeros_before}
 use Rattle.ucl_screen.specs.Matches.{sides_text}

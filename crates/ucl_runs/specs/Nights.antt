@@ -10,8 +10,8 @@ use Rattle.ucl_screen.specs.Script.{first_event_row}
 use Rattle.ucl_live_board.specs.Passes.{PassView, IsSound, SeesOn, Continues, kept_pass, split_pass}
 use Rattle.ucl_live_board.specs.Shares.{first_half, second_half}
 use Rattle.ucl_live_board.specs.declared.errors.Strangers.{Strangers}
-use Rattle.ucl_runs.specs.declared.fault.RunFault.{RunFault}
-use Rattle.ucl_runs.specs.Run.{MatchDuty}
+use Rattle.ucl_rows.specs.declared.fault.RunFault.{RunFault}
+use Rattle.ucl_rows.specs.Run.{MatchDuty}
 use Rattle.ucl_runs.specs.Styles.{Style, styled_screen}
 
 -- the numbers on the board that stand for reporters 1 and 2 of the script

@@ -14,17 +14,17 @@ use Rattle.ucl_screen.specs.Screen.{screen_text}
 use Rattle.ucl_command.specs.declared.night.Line.{Line}
 use Rattle.ucl_command.specs.declared.night.Line.TheVariants.{Feed, Show, Night}
 use Rattle.ucl_command.specs.declared.fault.LineFault.{LineFault}
-use Rattle.ucl_runs.specs.declared.fault.RunFault.{RunFault}
-use Rattle.ucl_runs.specs.declared.fault.RunFault.TheVariants.{Input, OutOfMemory, WriteFailed, NotOnDuty, NoThread, TooManyReporters, Strangers}
-use Rattle.ucl_runs.specs.Ending.{Ends, EndsUnasked}
-use Rattle.ucl_runs.specs.Faults.{IsOfOneThread}
+use Rattle.ucl_rows.specs.declared.fault.RunFault.{RunFault}
+use Rattle.ucl_rows.specs.declared.fault.RunFault.TheVariants.{Input, OutOfMemory, WriteFailed, NotOnDuty, NoThread, TooManyReporters, Strangers}
+use Rattle.ucl_rows.specs.Ending.{Ends, EndsUnasked}
+use Rattle.ucl_rows.specs.Faults.{IsOfOneThread}
 use Rattle.ucl_runs.specs.Feed.{IsFed}
 use Rattle.ucl_screen.specs.Events.{attempt_of}
 use Rattle.ucl_runs.specs.Show.{IsShown}
 use Rattle.ucl_runs.specs.Nights.{EachMatchHasOneReporter, IsFirstOffDuty, IsMerge, IsOnDuty, night_text, number_of_two}
 use Rattle.ucl_io.specs.Stream.{WroteFirst}
 use Rattle.ucl_io.specs.Output.{StoppedShort}
-use Rattle.ucl_runs.specs.Run.{BlamesOutput, IfInput, IfWriteFailed, TellsMemoryApart, TextHas, WritesAll, WritesNothing, is_read_failed}
+use Rattle.ucl_rows.specs.Run.{BlamesOutput, IfInput, IfWriteFailed, TellsMemoryApart, TextHas, WritesAll, WritesNothing, is_read_failed}
 
 -- The text that a line calls for. --
 

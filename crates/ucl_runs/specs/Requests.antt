@@ -4,9 +4,9 @@ use Rattle.std.specs.Str.{bytes_eq}
 use Rattle.ucl_screen.specs.declared.night.NightEvent.{NightEvent}
 use Rattle.ucl_screen.specs.Rows.{FourFields}
 use Rattle.ucl_screen.specs.Events.{event_of}
-use Rattle.ucl_runs.specs.Rows.{Said, Nothing, Other, Row}
-use Rattle.ucl_runs.specs.BadRows.{bad_field}
-use Rattle.ucl_runs.specs.declared.bad_row.BadField.TheVariants.{Count}
+use Rattle.ucl_rows.specs.Rows.{Said, Nothing, Other, Row}
+use Rattle.ucl_rows.specs.BadRows.{bad_field}
+use Rattle.ucl_rows.specs.declared.bad_row.BadField.TheVariants.{Count}
 use Rattle.ucl_runs.specs.declared.request.Request.{Request}
 use Rattle.ucl_runs.specs.declared.request.Request.TheVariants.{Bad, Event, Screen, Words, Matches}
 

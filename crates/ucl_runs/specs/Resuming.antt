@@ -4,7 +4,7 @@ use Rattle.ucl_board.specs.declared.entry.Entry.{Entry}
 use Rattle.ucl_board.specs.History.{IsLegal, board_of}
 use Rattle.ucl_command.specs.declared.live.LiveArgs.{LiveArgs}
 use Rattle.ucl_runs.specs.LiveLaws.{IsSequential}
-use Rattle.ucl_runs.specs.InputLines.{lines_of}
+use Rattle.ucl_rows.specs.InputLines.{lines_of}
 use Rattle.ucl_runs.specs.Stages.{Open}
 use Rattle.ucl_runs.specs.LiveText.{Evening, after_lines, answers, live_text, start_of}
 use Rattle.ucl_json.specs.declared.title.Title.{Title}

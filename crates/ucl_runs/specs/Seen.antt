@@ -1,8 +1,6 @@
 -- What the code's values stand for.
-use Rattle.std.specs.Prelude.{◌≡◌, ⊤, ℕ, List, [], ◌∷◌, string_bytes, Result, Ok, Err}
+use Rattle.std.specs.Prelude.{◌≡◌, ⊤, ℕ, List, [], ◌∷◌, Result, Ok, Err}
 use Rattle.ucl_order.specs.Roster.{NamedClub, club_seen}
-use Rattle.ucl_runs.specs.declared.answer.Answer.{Answer}
-use Rattle.ucl_runs.specs.declared.answer.Answer.TheVariants.{Short, Long}
 use Rattle.ucl_runs.specs.declared.live_fault.BeginningFault.{BeginningFault}
 use Rattle.ucl_runs.specs.declared.live_fault.LiveFault.{LiveFault}
 use Rattle.ucl_runs.specs.declared.live_fault.LiveFault.TheVariants as live
@@ -34,8 +32,3 @@ abbrev pub BecomesIfMemory : Stage → Result Reached LiveFault → Type 0
 BecomesIfMemory stage (Ok s) = stage_seen s ≡ stage
 BecomesIfMemory stage (Err (live.Beginning why)) = stage ≡ Refused why
 BecomesIfMemory stage (Err live.OutOfMemory) = ⊤
-
--- the bytes of an answer
-abbrev pub bytes_of : Answer → List ℕ
-bytes_of (Short line) = line.bytes
-bytes_of (Long text) = string_bytes text

@@ -12,7 +12,7 @@ use Rattle.ucl_runs.specs.declared.live_fault.BeginningFault.{BeginningFault}
 use Rattle.ucl_runs.specs.declared.live_fault.BeginningFault.TheVariants.{BadRow, BadRoster, BadWordAt, OtherGroup}
 use Rattle.ucl_json.specs.declared.title.Title.{Title}
 use Rattle.ucl_runs.specs.Titles.{is_as_asked, is_group_row, title_said}
-use Rattle.ucl_runs.specs.Rows.{Said, Nothing, Other, Row}
+use Rattle.ucl_rows.specs.Rows.{Said, Nothing, Other, Row}
 use Rattle.ucl_runs.specs.declared.request.Request.{Request}
 use Rattle.ucl_runs.specs.declared.request.Request.TheVariants.{Bad, Event, Screen, Words, Matches}
 use Rattle.ucl_runs.specs.Requests.{request_of}

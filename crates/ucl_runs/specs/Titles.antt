@@ -10,7 +10,7 @@ use Rattle.ucl_screen.specs.Rows.{FourFields}
 use Rattle.ucl_screen.specs.Screen.{letter_in}
 use Rattle.ucl_json.specs.declared.title.Title.{Title}
 use Rattle.ucl_command.specs.declared.live.LiveArgs.{LiveArgs}
-use Rattle.ucl_runs.specs.Rows.{Said, Nothing, Other, Row}
+use Rattle.ucl_rows.specs.Rows.{Said, Nothing, Other, Row}
 
 -- ---- the row
 

@@ -1,6 +1,6 @@
 -- The lines of an input as they came, of any length.
 use Rattle.std.specs.Prelude.{ℕ, ◌==◌, if◌then◌else◌, List, [], ◌∷◌, ◌++◌}
-use Rattle.ucl_runs.specs.InputLines.{last_lines}
+use Rattle.ucl_rows.specs.InputLines.{last_lines}
 
 -- bytes cut at line feeds, where this line has begun. A last line needs no end
 unfoldable pub uncut_after : List ℕ → List ℕ → List (List ℕ)

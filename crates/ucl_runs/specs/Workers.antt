@@ -5,9 +5,9 @@ use Rattle.ucl_screen.specs.declared.night.NightEvent.{NightEvent}
 use Rattle.ucl_live_board.specs.declared.live_board.LiveBoard as boards
 use Rattle.ucl_live_board.specs.Passes.{PassView, ReportsMore}
 use Rattle.ucl_live_board.specs.Settling.{AreAlone}
-use Rattle.ucl_runs.specs.declared.fault.RunFault.{RunFault}
-use Rattle.ucl_runs.specs.declared.fault.RunFault.TheVariants.{Input, WriteFailed, TooManyReporters, Strangers}
-use Rattle.ucl_runs.specs.Faults.{HasNoNumberLeft}
+use Rattle.ucl_rows.specs.declared.fault.RunFault.{RunFault}
+use Rattle.ucl_rows.specs.declared.fault.RunFault.TheVariants.{Input, WriteFailed, TooManyReporters, Strangers}
+use Rattle.ucl_rows.specs.Faults.{HasNoNumberLeft}
 use Rattle.ucl_runs.specs.declared.plan.Plan.{Plan}
 use Rattle.ucl_runs.specs.declared.workers.Shown.{Shown}
 use Rattle.ucl_runs.specs.Gates.{rows_by}

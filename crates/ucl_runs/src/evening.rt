@@ -1,26 +1,25 @@
 //! An evening, which answers lines.
 
 ghost use Rattle.std.specs.Prelude.{◌≡◌, ◌+◌, ⊤, IfErr, IfOk, OnOk};
-ghost use Rattle.ucl_runs.specs.BadRows.{shown_text};
+ghost use Rattle.ucl_rows.specs.BadRows.{shown_text};
 ghost use Rattle.ucl_runs.specs.Holding.{AsksAt, Closes, HasNoAnswer, HasNoEnd, StopsAt, evening_at, evening_of, parts_bytes};
 ghost use Rattle.ucl_runs.specs.Requests.{request_of};
-ghost use Rattle.ucl_runs.specs.Rows.{fields_seen, said_on};
+ghost use Rattle.ucl_rows.specs.Rows.{fields_seen, said_on};
 ghost use Rattle.ucl_runs.specs.Seen.{stage_seen};
 ghost use Rattle.ucl_runs.specs.Stages.{after_row, next_stage};
 ghost use Rattle.ucl_runs.specs.LiveText.{answer_at, answer_said, next, next_title, start_of};
 
 use crate::headed::Headed;
-use crate::line::{LineReader, plain_row};
 use crate::live_fault::LiveFault;
 use crate::parts::Parts;
 use crate::request::request_of;
-use crate::row::{RowCount, RowFields};
 use crate::stage::{Stage, with_club, with_first};
 use crate::title::asked_title;
 use std::alloc::Global;
 use std::mem;
 use ucl_command::LiveArgs;
 use ucl_io::LineMachine;
+use ucl_rows::{LineReader, RowCount, RowFields, plain_row};
 
 /// An evening between two lines: how it answers, what its board is told under, how far it is, and what it reads lines by.
 #[derive(Drop)]

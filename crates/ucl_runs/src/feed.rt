@@ -7,16 +7,16 @@ ghost use Rattle.ucl_board.specs.History.{after_attempt, accepted_of, board_of};
 ghost use Rattle.ucl_screen.specs.Input.{most_bytes};
 ghost use Rattle.ucl_screen.specs.Script.{first_event_row};
 ghost use Rattle.ucl_screen.specs.Parsing.{MeansNight, night_seen};
-ghost use Rattle.ucl_runs.specs.Faults.{IsOfOneThread};
-ghost use Rattle.ucl_runs.specs.Feed.{IsFed, feed_text, reply_line, reply_lines, word_lines};
+ghost use Rattle.ucl_rows.specs.Faults.{IsOfOneThread};
+ghost use Rattle.ucl_runs.specs.Feed.{IsFed, feed_text, reply_line, reply_lines};
+ghost use Rattle.ucl_rows.specs.Lines.{word_lines};
 ghost use Rattle.ucl_screen.specs.Events.{IsBoardAfter, attempt_of};
-ghost use Rattle.ucl_runs.specs.Run.{BlamesInput, BlamesOutput, CallsWithin, TellsMemoryApart, WritesAll, WritesFirst, WritesNothing, is_read_failed};
+ghost use Rattle.ucl_rows.specs.Run.{BlamesInput, BlamesOutput, CallsWithin, TellsMemoryApart, WritesAll, WritesFirst, WritesNothing, is_read_failed};
 
-use crate::RunFault;
 use crate::lines::{push_accepted, push_refused, push_word};
-use crate::output::put_text;
 use std::alloc::{AllocError, Global};
 use ucl_board::Board;
+use ucl_rows::{RunFault, put_text};
 use ucl_screen::{FIRST_EVENT_ROW, InputFault, NightEvent, Sink, Source, read_night};
 
 /// Enters the event of a row on a board of this version, and writes its reply line. Gives the version afterwards.

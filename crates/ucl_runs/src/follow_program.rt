@@ -2,18 +2,18 @@
 
 ghost use Rattle.std.specs.Prelude.{◌≡◌};
 ghost use Rattle.ucl_screen.specs.Screen.{IsGroup};
-ghost use Rattle.ucl_runs.specs.Telling.{Tells};
+ghost use Rattle.ucl_rows.specs.Telling.{Tells};
 ghost use Rattle.ucl_runs.specs.FollowProgram.{EndsFollowing, RunsFollowing, counts_line, end_line, end_status, is_in_vain, other_line, told_fault, vain_line};
 
 use crate::follow::{Followed, follow_run};
 use crate::follower::Follower;
-use crate::{RunFault, ended_unasked, put_text, tell};
 use arrayvec::ArrayString;
 use itoa::Buffer;
 use std::alloc::Global;
 use ucl_command::{FollowArgs, FollowShape, LineFault};
 use ucl_io::{Duplex, PumpFault};
 use ucl_json::Title;
+use ucl_rows::{RunFault, ended_unasked, put_text, tell};
 use ucl_screen::{InputFault, Sink, Source};
 use ucl_word::OutOfMemory;
 

@@ -5,11 +5,7 @@
 //! `run`, `run_evening` and `run_following` do what the arguments of `ucl_night`, `ucl_live` and `ucl_follow` ask for.
 #![tactic(auto)]
 
-mod answer;
-mod bad_row;
-mod ending;
 mod evening;
-mod fault;
 mod feed;
 mod follow;
 mod follow_laws;
@@ -18,7 +14,7 @@ mod follower;
 mod following;
 mod gate;
 mod headed;
-mod line;
+mod last_screens;
 mod lines;
 mod live;
 mod live_fault;
@@ -26,30 +22,21 @@ mod live_laws;
 mod live_program;
 mod night;
 mod night_laws;
-mod output;
 mod parts;
-mod plain;
 mod plan;
 mod program;
 mod request;
-mod row;
 mod rows;
 mod show;
 mod some_words;
 mod stage;
 mod table;
-mod telling;
 mod telling_screens;
 mod threads;
 mod title;
-mod words;
 mod workers;
 
-pub use answer::{Answer, ReplyLine, bad_answer, matches_answer, reply_answer};
-pub use bad_row::{BadField, bad_field_of_call};
-pub use ending::{ended, ended_unasked, tell_refusal};
 pub use evening::Evening;
-pub use fault::{RunFault, status_of};
 pub use feed::feed_run;
 pub use follow::{Followed, follow_run};
 pub use follow_laws::{
@@ -61,7 +48,6 @@ pub use follow_laws::{
 pub use follow_program::run_following;
 pub use follower::{Follower, Sight};
 pub use gate::{Gate, OpenGate};
-pub use line::LineReader;
 pub use live::live_run;
 pub use live_fault::{BeginningFault, LiveFault};
 pub use live_laws::{
@@ -72,12 +58,8 @@ pub use live_laws::{
 pub use live_program::{OTHER_GROUP, run_evening};
 pub use night::{NightEnd, meet_readers, night_run, put_night};
 pub use night_laws::schedule_does_not_matter;
-pub use output::{put_bytes, put_text};
 pub use parts::Parts;
 pub use program::{obey, run};
-pub use row::{MOST_LINE_BYTES, RowCount};
 pub use show::show_run;
-pub use telling::tell;
 pub use telling_screens::{ToldScreen, report_and_show};
 pub use title::{first_group, is_asked, title_for};
-pub use words::{Lines, word_lines};

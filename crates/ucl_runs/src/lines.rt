@@ -2,7 +2,7 @@
 
 ghost use Rattle.std.specs.Prelude.{◌≡◌, ◌++◌, OnOk, codes, decimal, string_bytes};
 ghost use Rattle.ucl_word.specs.Names.{refusal_text};
-ghost use Rattle.ucl_runs.specs.Lines.{accepted_line, refused_line, word_line};
+ghost use Rattle.ucl_rows.specs.Lines.{accepted_line, refused_line, word_line};
 
 use itoa::Buffer;
 use std::alloc::AllocError;

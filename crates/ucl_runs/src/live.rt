@@ -10,10 +10,10 @@ ghost use Rattle.ucl_runs.specs.LiveText.{live_text, missing_after, start_of};
 
 use crate::evening::Evening;
 use crate::live_fault::LiveFault;
-use crate::row::MOST_LINE_BYTES;
 use std::alloc::Global;
 use ucl_command::LiveArgs;
 use ucl_io::{Duplex, PumpFault, pump};
+use ucl_rows::MOST_LINE_BYTES;
 use ucl_screen::{Sink, Source};
 
 /// The most bytes that are gathered before they are written.

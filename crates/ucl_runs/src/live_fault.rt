@@ -4,9 +4,9 @@ ghost use Rattle.std.specs.Prelude.{◌≡◌};
 ghost use Rattle.ucl_runs.specs.LiveFaults.{input_fault, run_fault};
 ghost use Rattle.ucl_runs.specs.declared.live_fault.LiveFault.TheVariants.{Beginning, OutOfMemory};
 
-use crate::RunFault;
 use std::alloc::AllocError;
 use ucl_io::PumpFault;
+use ucl_rows::RunFault;
 use ucl_screen::InputFault;
 
 /// Why an evening is refused: its group, its clubs or its words have a fault.

@@ -5,10 +5,10 @@ ghost use Rattle.ucl_runs.specs.LiveProgram.{EndsHeld, RunsEvening};
 use crate::evening::Evening;
 use crate::live::live_run;
 use crate::live_fault::{LiveFault, run_fault};
-use crate::{ended_unasked, tell, tell_refusal};
 use std::alloc::Global;
 use ucl_command::{LineFault, LiveArgs};
 use ucl_io::{Duplex, PumpFault};
+use ucl_rows::{ended_unasked, tell, tell_refusal};
 use ucl_screen::{Sink, Source};
 
 /// What is told where the first row says another group or order than was asked for.

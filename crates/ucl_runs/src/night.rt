@@ -8,13 +8,12 @@ ghost use Rattle.ucl_screen.specs.Screen.{IsGroup, screen_text};
 ghost use Rattle.ucl_live_board.specs.Passes.{Continues, ReportsMore};
 ghost use Rattle.ucl_runs.specs.Gates.{rows_by};
 ghost use Rattle.ucl_runs.specs.Nights.{HasShown, HaveEnteredAll, HaveMerged, HaveNightBoard, HaveRead, HaveShares, IsDutyTold, IsFirstOffDuty, IsOnDuty, last_shown, night_history, night_output, pass_of_reader_1, pass_of_reader_2, version_met};
-ghost use Rattle.ucl_runs.specs.Run.{IsStopped, MatchDuty};
+ghost use Rattle.ucl_rows.specs.Run.{IsStopped, MatchDuty};
 ghost use Rattle.ucl_runs.specs.Styles.{styled};
 ghost use Rattle.ucl_runs.specs.Workers.{IsWhyNoNight};
 
-use crate::RunFault;
 use crate::gate::Gate;
-use crate::output::{put_lasts, put_under};
+use crate::last_screens::put_lasts;
 use crate::plan::{Onlooker, Plan};
 use crate::threads::{Workers, work};
 use std::alloc::Global;
@@ -23,6 +22,7 @@ use std::thread::Threads;
 use ucl_board::Reading;
 use ucl_live_board::{LiveBoard, Notes, Strangers, settle};
 use ucl_order::Profile;
+use ucl_rows::{RunFault, put_under};
 use ucl_screen::{FIRST_EVENT_ROW, Night, NightEvent, Sink, screen};
 
 /// The reporters of a night are 1 and this one.

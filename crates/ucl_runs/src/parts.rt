@@ -1,14 +1,13 @@
 //! What a line is answered.
 
 ghost use Rattle.std.specs.Prelude.{◌≡◌, [], ◌++◌};
-ghost use Rattle.ucl_runs.specs.Feed.{word_lines};
-ghost use Rattle.ucl_runs.specs.Seen.{bytes_of};
+ghost use Rattle.ucl_rows.specs.Lines.{word_lines};
+ghost use Rattle.ucl_rows.specs.Answers.{bytes_of};
 ghost use Rattle.ucl_runs.specs.Holding.{parts_bytes, parts_front};
 
-use crate::answer::Answer;
-use crate::words::{Lines, word_lines};
 use ucl_board::Board;
 use ucl_io::Text;
+use ucl_rows::{Answer, Lines, word_lines};
 
 /// What a line is answered: an answer, with another behind it where there is one; or the words of a board.
 #[derive(Drop)]

@@ -2,7 +2,7 @@
 
 ghost use Rattle.std.specs.Prelude.{◌≡◌};
 ghost use Rattle.ucl_live_board.specs.Passes.{IsSound};
-ghost use Rattle.ucl_runs.specs.Gates.{IsReadingOf};
+ghost use Rattle.ucl_live_board.specs.Passes.{IsReadingOf};
 ghost use Rattle.ucl_runs.specs.Styles.{styled_screen};
 ghost use Rattle.ucl_runs.specs.Workers.{style_of};
 

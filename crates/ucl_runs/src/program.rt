@@ -5,8 +5,6 @@ ghost use Rattle.ucl_screen.specs.Screen.{IsGroup};
 ghost use Rattle.ucl_command.specs.Arguments.{IsInRange};
 ghost use Rattle.ucl_runs.specs.Program.{Obeys, Runs, streams_at};
 
-use crate::ending::{ended, ended_unasked};
-use crate::fault::RunFault;
 use crate::feed::feed_run;
 use crate::gate::OpenGate;
 use crate::night::{meet_readers, night_run, put_night};
@@ -17,6 +15,7 @@ use std::thread::Threads;
 use ucl_command::{Line, LineFault};
 use ucl_live_board::Notes;
 use ucl_order::Profile;
+use ucl_rows::{RunFault, ended, ended_unasked};
 use ucl_screen::{Sink, Source, read_night};
 use ucl_word::OutOfMemory;
 

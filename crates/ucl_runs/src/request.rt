@@ -3,10 +3,9 @@
 ghost use Rattle.std.specs.Prelude.{◌≡◌};
 ghost use Rattle.ucl_screen.specs.Rows.{four_seen};
 ghost use Rattle.ucl_runs.specs.Requests.{asked_by, request_of};
-ghost use Rattle.ucl_runs.specs.Rows.{fields_seen};
+ghost use Rattle.ucl_rows.specs.Rows.{fields_seen};
 
-use crate::bad_row::{BadField, bad_field};
-use crate::row::RowFields;
+use ucl_rows::{BadField, RowFields, bad_field};
 use ucl_screen::{Four, NightEvent, event_of_fields};
 
 /// What a row asks for, once there is a board.

@@ -4,11 +4,11 @@ ghost use Rattle.std.specs.Prelude.{◌≡◌, ◌≤◌, ◌++◌, [], ◌∷�
 ghost use Rattle.ucl_board.specs.Fixtures.{IsSlot};
 ghost use Rattle.ucl_runs.specs.Follow.{club_row, group_row, in_quotes, is_plain_title, resuming_rows, title_rows};
 
-use crate::word_lines;
 use itoa::Buffer;
 use std::alloc::{AllocError, Global};
 use ucl_json::{Moment, Title};
 use ucl_order::{Profile, Roster};
+use ucl_rows::word_lines;
 
 /// Writes a name for a field between quotes: a quote in it twice.
 fn push_name(out: &mut Vec<u8>, name: &[u8]) -> Result<(), AllocError>

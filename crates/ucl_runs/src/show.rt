@@ -3,14 +3,13 @@
 ghost use Rattle.std.specs.Prelude.{◌≡◌, IfErr};
 ghost use Rattle.ucl_screen.specs.Parsing.{MeansSheet, sheet_seen};
 ghost use Rattle.ucl_screen.specs.Screen.{IsGroup};
-ghost use Rattle.ucl_runs.specs.Faults.{IsOfOneThread};
+ghost use Rattle.ucl_rows.specs.Faults.{IsOfOneThread};
 ghost use Rattle.ucl_runs.specs.Show.{IsShown};
-ghost use Rattle.ucl_runs.specs.Run.{BlamesInput, BlamesOutput, CallsWithin, TellsMemoryApart, WritesAll, WritesFirst, WritesNothing, is_read_failed};
+ghost use Rattle.ucl_rows.specs.Run.{BlamesInput, BlamesOutput, CallsWithin, TellsMemoryApart, WritesAll, WritesFirst, WritesNothing, is_read_failed};
 
-use crate::RunFault;
-use crate::output::put_text;
 use std::alloc::Global;
 use ucl_order::Profile;
+use ucl_rows::{RunFault, put_text};
 use ucl_screen::{InputFault, Sink, Source, read_words, screen};
 
 /// Reads a sheet from the source, and writes the screen of its board to the sink, for a group, `A` to `H`, in the order of the

@@ -2,14 +2,13 @@
 
 ghost use Rattle.std.specs.Prelude.{◌≡◌, ◌+◌, ◌-◌, ◌^◌, ◌<◌, ◌≤◌, ◌++◌, [], ◌∷◌, IfOk, OnOk, length, map, option_map};
 ghost use Rattle.ucl_order.specs.Roster.{bad_slot, club_seen};
-ghost use Rattle.ucl_runs.specs.Rows.{fields_seen};
+ghost use Rattle.ucl_rows.specs.Rows.{fields_seen};
 ghost use Rattle.ucl_runs.specs.Stages.{Beginning, Restoring, after_beginning, club_said, is_word_row, missing, opened, told_row, after_club, with_clubs, with_roster, after_word, with_words, word_said};
 ghost use Rattle.ucl_runs.specs.LiveText.{next_title};
 ghost use Rattle.ucl_runs.specs.Seen.{Becomes, BecomesIfMemory, clubs_seen, stage_seen};
 
 use crate::headed::Headed;
 use crate::live_fault::{BeginningFault, LiveFault};
-use crate::row::RowFields;
 use crate::some_words::SomeWords;
 use crate::title::{is_as_asked, is_group_row, title_said};
 use arrayvec::ArrayVec;
@@ -17,6 +16,7 @@ use std::alloc::{AllocError, Global};
 use ucl_board::Board;
 use ucl_command::LiveArgs;
 use ucl_order::{Club, Roster};
+use ucl_rows::RowFields;
 use ucl_screen::{club_of_fields, result_of_eight, result_of_fields, word_of_fields};
 
 /// The clubs that are named so far, fewer than four.

@@ -2,19 +2,19 @@
 
 ghost use Rattle.std.specs.Prelude.{◌≡◌, IfErr, OnOk};
 ghost use Rattle.ucl_screen.specs.Screen.{IsGroup};
-ghost use Rattle.ucl_runs.specs.BadRows.{shown_text};
+ghost use Rattle.ucl_rows.specs.BadRows.{shown_text};
 ghost use Rattle.ucl_runs.specs.Holding.{AsksOf, parts_bytes};
 ghost use Rattle.ucl_runs.specs.Stages.{next_board};
 ghost use Rattle.ucl_runs.specs.LiveText.{answer_of, event_answer};
 ghost use Rattle.ucl_runs.specs.declared.request.Request.TheVariants.{Event};
 
-use crate::answer::{Answer, bad_answer, matches_answer, reply_answer, screen_answer};
 use crate::parts::Parts;
 use crate::request::Request;
 use crate::stage::Table;
 use std::alloc::Global;
 use ucl_command::{Format, LiveArgs};
 use ucl_json::{Title, words_json};
+use ucl_rows::{Answer, bad_answer, matches_answer, reply_answer, screen_answer};
 use ucl_screen::NightEvent;
 use ucl_word::OutOfMemory;
 
@@ -51,7 +51,7 @@ impl Table {
             &self.roster,
         )?;
         if options.screens && reply.is_ok() {
-            let screen = screen_answer(alloc, options.format, title, row, self)?;
+            let screen = screen_answer(alloc, options.format, title, row, &self.board, &self.roster)?;
             parts.put_both(line, screen);
         } else {
             parts.put(line);

@@ -47,6 +47,14 @@ impl<'n, B: LiveBoard, G: Gate> Promise<Result<Shown<B::ReaderPass>, OutOfMemory
 #[derive(Clone, Copy, Debug, PartialEq, Eq)]
 pub struct NoThread;
 
+impl From<NoThread> for RunFault {
+    ghost from_gives = { λ _ f. f ≡ RunFault.NoThread };
+
+    fn from(_error: NoThread) -> RunFault {
+        RunFault::NoThread
+    }
+}
+
 /// Starts the thread of a reporter, who enters its rows of the script.
 fn start_reporter<'s, E, B: LiveBoard, G: Gate, R: Wait + Sync>(
     scope: &Scope<'s, E>,

@@ -5,14 +5,13 @@ ghost use Rattle.ucl_order.specs.Names.{profile_named};
 ghost use Rattle.ucl_screen.specs.Rows.{four_seen};
 ghost use Rattle.ucl_screen.specs.Screen.{IsGroup};
 ghost use Rattle.ucl_command.specs.Groups.{may_be_asked};
-ghost use Rattle.ucl_runs.specs.Rows.{fields_seen, said_on};
+ghost use Rattle.ucl_rows.specs.Rows.{fields_seen, said_on};
 ghost use Rattle.ucl_runs.specs.Titles.{asked_group, asked_order, asked_title, group_said, is_as_asked, is_asked, is_asked_group, is_asked_order, is_group_row, is_same_order, title_by, title_for, title_said};
 
-use crate::line::LineReader;
-use crate::row::{RowCount, RowFields};
 use ucl_command::LiveArgs;
 use ucl_json::Title;
 use ucl_order::Profile;
+use ucl_rows::{LineReader, RowCount, RowFields};
 use ucl_screen::{Four, expected_of_field, letter_in};
 
 /// The order that a field names.

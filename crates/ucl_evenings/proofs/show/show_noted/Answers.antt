@@ -1,6 +1,6 @@
 use Rattle.std.proofs.Common.{arith}
 use Rattle.ucl_board.proofs.Beginnings.{begins_length}
-use Rattle.ucl_runs.proofs.EnteredRows.{goes_on}
+use Rattle.ucl_live_board.proofs.Lists.{goes_on}
 use Rattle.ucl_evenings.proofs.ScreenRuns.{run_shown}
 use Rattle.ucl_evenings.proofs.ShownScreens.{so_far_on}
 use Rattle.ucl_evenings.proofs.show.show_noted.Goals as goal

@@ -3,7 +3,7 @@ use Rattle.std.specs.Prelude.{⊤}
 use Rattle.std.proofs.lemmas.Result.{err_from_is_err_and}
 use Rattle.ucl_io.specs.Calls.{device}
 use Rattle.ucl_io.specs.Pumping.{seen}
-use Rattle.ucl_runs.proofs.Driven.{reads, sinks}
+use Rattle.ucl_rows.proofs.Driven.{reads, sinks}
 use Rattle.ucl_evenings.specs.Answering.{reply_style}
 use Rattle.ucl_evenings.specs.declared.reporter.Reporter.{Reporter}
 use Rattle.ucl_evenings.proofs.Runs.{Known, came_badly, came_well}

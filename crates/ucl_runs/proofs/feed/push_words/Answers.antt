@@ -1,5 +1,5 @@
 use Rattle.ucl_runs.proofs.Common.{arith}
-use Rattle.ucl_runs.proofs.Texts.{words-step, words-end}
+use Rattle.ucl_rows.proofs.Texts.{words-step, words-end}
 use Rattle.ucl_runs.proofs.feed.push_words.Goals as goal
 
 pub loop-word-preserved : goal.loop-word-preserved

@@ -1,7 +1,7 @@
 use Rattle.ucl_runs.proofs.Common.{arith, codes, last_shown, ◌++◌}
 use Rattle.std.proofs.Common.{string_bytes}
 use Rattle.ucl_runs.specs.Nights.{lasts_text}
-use Rattle.ucl_runs.proofs.NightParts.{stopped_second}
+use Rattle.ucl_rows.proofs.NightParts.{stopped_second}
 use Rattle.ucl_runs.proofs.night.put_night.Goals as goal
 
 pub returns-in-Err-clause-part : goal.returns-in-Err-clause-part

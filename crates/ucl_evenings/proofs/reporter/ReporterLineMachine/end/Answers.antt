@@ -1,6 +1,6 @@
 use Rattle.std.proofs.Common.{[], ap, refl}
 use Rattle.ucl_io.proofs.Cuts.{empty_list}
-use Rattle.ucl_runs.specs.InputLines.{last_lines}
+use Rattle.ucl_rows.specs.InputLines.{last_lines}
 use Rattle.ucl_evenings.proofs.Lines.{by_none}
 use Rattle.ucl_evenings.proofs.reporter.ReporterLineMachine.end.Goals as goal
 

@@ -1,6 +1,6 @@
 use Rattle.ucl_runs.proofs.Common.{err_from_is_err_and, evening_of, sym, ◌∙◌}
 use Rattle.ucl_runs.proofs.OneByOne.{none-answers, none-missing, some-answers, some-missing, some-stops}
-use Rattle.ucl_runs.proofs.RowEnds.{empty-list, full-list}
+use Rattle.ucl_rows.proofs.RowEnds.{empty-list, full-list}
 use Rattle.ucl_runs.proofs.evening.EveningLineMachine.end.Goals as goal
 
 pub returns-in-Some-clause-stops : goal.returns-in-Some-clause-stops

@@ -1,5 +1,5 @@
 use Rattle.ucl_runs.proofs.Common.{ap, opened, ◌∙◌}
-use Rattle.ucl_runs.specs.Rows.{fields_seen}
+use Rattle.ucl_rows.specs.Rows.{fields_seen}
 use Rattle.ucl_runs.specs.Seen.{stage_seen}
 use Rattle.ucl_runs.proofs.TitleRows.{title_opened}
 use Rattle.ucl_runs.proofs.stage.Stage.answered.Goals as goal

@@ -1,0 +1,37 @@
+-- The words and lemmas from elsewhere that the proofs of this crate share.
+pub use Rattle.csv.specs.Machine.{Read, after_end, ends_at_end, in_field, next_record, step}
+pub use Rattle.csv.specs.Reading.{default_config, records}
+pub use Rattle.csv.specs.declared.parser.State.{State}
+pub use Rattle.std.proofs.Common.{Bool, List, None, Option, Some, [], ap, append-nil, append_assoc, arith, drop}
+pub use Rattle.std.proofs.Common.{false, get_or, inl, inr, length, length-append, min}
+pub use Rattle.std.proofs.Common.{refl, set, subst, suc, sym, take, true, zero, ℕ, ◌%◌, ◌*◌, ◌++◌, ◌+◌}
+pub use Rattle.std.proofs.Common.{◌-◌, ◌/◌, ◌<◌, ◌==◌, ◌^◌, ◌∙◌, ◌∷◌, ◌≡◌, ◌≤◌, ◌⊎◌}
+pub use Rattle.std.proofs.Math.Nat.{pow-suc}
+pub use Rattle.std.proofs.Math.Seq.{drop-length}
+pub use Rattle.std.proofs.lemmas.Bool.{and_parts, cases_Bool}
+pub use Rattle.std.proofs.lemmas.Bool.Decides.{nat_tests}
+pub use Rattle.std.proofs.lemmas.List.{drop_more, take-append-drop, take-append-le, take_all, take_more}
+pub use Rattle.std.proofs.lemmas.Option.{none-some, same_Some}
+pub use Rattle.std.proofs.lemmas.Str.{IsUtf8-from_ascii}
+pub use Rattle.std.specs.Fmt.{digit_glyph}
+pub use Rattle.std.specs.Io.KnownBytes.{Appends}
+pub use Rattle.std.specs.List.{list_all}
+pub use Rattle.std.specs.Prelude.{Err, nat_le}
+pub use Rattle.std.specs.Prelude.{⊤}
+pub use Rattle.ucl_io.specs.declared.fault.PumpFault.{PumpFault}
+pub use Rattle.ucl_io.specs.declared.fault.PumpFault.TheVariants.{Machine}
+pub use Rattle.ucl_order.specs.Roster.{is_printed}
+pub use Rattle.ucl_rows.specs.BadRows.{shown_text}
+pub use Rattle.ucl_rows.specs.Lines.{word_lines}
+pub use Rattle.ucl_rows.specs.Lines.{word_line}
+pub use Rattle.ucl_rows.specs.Reading.{AreJoining, EndsRow, IsBehindEnds, IsFieldBefore, after_action, begins_row, csv_state_of, field_in}
+pub use Rattle.ucl_rows.specs.Reading.{is_joining, made}
+pub use Rattle.ucl_rows.specs.Rows.{Row, fits, of_rows, said_on}
+pub use Rattle.ucl_rows.specs.Run.{IsStopped}
+pub use Rattle.ucl_rows.specs.declared.fault.RunFault.{RunFault}
+pub use Rattle.ucl_rows.specs.declared.row.RowAction.{RowAction}
+pub use Rattle.ucl_rows.specs.declared.row.RowAction.TheVariants.{EndRecord}
+pub use Rattle.ucl_rows.specs.declared.row.RowState.{RowState}
+pub use Rattle.ucl_rows.specs.declared.row.RowState.TheVariants.{InField, StartField}
+pub use Rattle.ucl_screen.specs.Numbers.{hex_digits}
+pub use Rattle.ucl_screen.specs.Rows.{FourFields}

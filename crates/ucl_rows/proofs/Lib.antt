@@ -1,0 +1,10 @@
+pub mod Common
+pub mod Elements
+pub mod Texts
+pub mod NightParts
+pub mod Driven
+pub mod WordDigits
+pub mod RowBytes
+pub mod RowEnds
+pub mod PlainRows
+pub mod LiveShown

@@ -1,0 +1,90 @@
+-- A word in sixteen hexadecimal digits, made from its last digit on.
+use Rattle.ucl_rows.proofs.Common.{List, [], ap, append-nil, append_assoc, arith, cases_Bool, digit_glyph, drop, false, hex_digits, inl}
+use Rattle.ucl_rows.proofs.Common.{inr, length, length-append, nat_tests, pow-suc, refl, set, subst, suc, sym, true, zero, ℕ, ◌%◌, ◌++◌}
+use Rattle.ucl_rows.proofs.Common.{◌+◌, ◌-◌, ◌/◌, ◌<◌, ◌==◌, ◌^◌, ◌∙◌, ◌∷◌, ◌≡◌, ◌≤◌}
+use Rattle.std.proofs.Common.{replicate}
+use Rattle.std.proofs.lemmas.List.{drop-set}
+use Rattle.std.specs.Fmt.{char_count, digits, digits_onto, padded_integral}
+
+-- the last k digits of a number, before others
+abbrev pub low : ℕ → ℕ → List ℕ → List ℕ
+low zero n rest = rest
+low (suc k) n rest = low k (n / 16) (digit_glyph false (n % 16) ∷ rest)
+
+pub low-step : (k n : ℕ) (rest : List ℕ) → 0 < k → low k n rest ≡ low (k - 1) (n / 16) (digit_glyph false (n % 16) ∷ rest)
+low-step zero n rest h = absurd (omega arith)
+low-step (suc k) n rest h = let e : suc k - 1 ≡ k = omega arith in rw e refl
+
+zeros-then : (k : ℕ) (rest : List ℕ) → replicate k 48 ++ 48 ∷ rest ≡ 48 ∷ (replicate k 48 ++ rest)
+zeros-then zero rest = refl
+zeros-then (suc k) rest = ap (λ (l : List ℕ). 48 ∷ l) (zeros-then k rest)
+
+low-zero : (k : ℕ) (rest : List ℕ) → low k 0 rest ≡ replicate k 48 ++ rest
+low-zero zero rest = refl
+low-zero (suc k) rest = low-zero k (48 ∷ rest) ∙ zeros-then k rest
+
+-- the digits of a number before others, and as many zeros before them as make them so many
+record Spelled (k n : ℕ) (rest text : List ℕ) : Type 0 where
+  spelt : List ℕ
+  same : text ≡ spelt ++ rest
+  short : length spelt ≤ suc k
+  filled : replicate (suc k - length spelt) 48 ++ (spelt ++ rest) ≡ low (suc k) n rest
+
+alone : (k j n : ℕ) (rest : List ℕ) → (n / 16 == 0) ≡ true → Spelled k n rest (digits_onto (suc j) 16 false n rest)
+alone k j n rest y =
+    let none : n / 16 ≡ 0 = grind (arith, nat_tests) in
+    let count : suc k - 1 ≡ k = omega arith in
+    record {
+      spelt = digit_glyph false (n % 16) ∷ [];
+      same = rw y refl;
+      short = omega arith;
+      filled = rw (count, none) (sym (low-zero k (digit_glyph false (n % 16) ∷ rest)));
+    }
+
+spelled : (k j n : ℕ) (rest : List ℕ) → k ≤ j → n < 16 ^ suc k → Spelled k n rest (digits_onto (suc j) 16 false n rest)
+spelled zero j n rest h small = alone zero j n rest (let none : n / 16 ≡ 0 = omega arith in rw none refl)
+spelled (suc k) zero n rest h small = absurd (omega arith)
+spelled (suc k) (suc j) n rest h small = elim (cases_Bool (n / 16 == 0)) [
+  | inl y ↦ alone (suc k) (suc j) n rest y
+  | inr further ↦
+      let few : n / 16 < 16 ^ suc k = omega (arith, pow-suc 16 (suc k)) in
+      let last = digit_glyph false (n % 16) in
+      let s = spelled k j (n / 16) (last ∷ rest) (omega arith) few in
+      let long = length-append s.spelt (last ∷ []) in
+      let count : suc (suc k) - length (s.spelt ++ last ∷ []) ≡ suc k - length s.spelt = omega arith in
+      record {
+        spelt = s.spelt ++ last ∷ [];
+        same = rw further (s.same ∙ sym (append_assoc s.spelt (last ∷ []) rest));
+        short = let k = s.short in omega arith;
+        filled = rw (count, append_assoc s.spelt (last ∷ []) rest) s.filled;
+      }
+]
+
+digits-at : (k n : ℕ) → k ≡ 64 → digits_onto k 16 false n [] ≡ digits 16 false n
+unfolding digits
+digits-at k n e = rw e refl
+
+spelled-word : (j n : ℕ) → suc j ≡ 64 → n < 2 ^ 64 → Spelled 15 n [] (digits 16 false n)
+spelled-word j n e small = subst (Spelled 15 n []) (digits-at (suc j) n e) (spelled 15 j n [] (omega arith) (omega arith))
+
+-- a word in sixteen digits
+pub word-digits : (n : ℕ) → n < 2 ^ 64 → hex_digits n ≡ low 16 n []
+unfolding padded_integral char_count
+word-digits n small =
+    let s = spelled-word 63 n refl small in
+    let e : digits 16 false n ≡ s.spelt = s.same ∙ append-nil s.spelt in
+    let count : 16 - length s.spelt - 0 - 0 ≡ 16 - length s.spelt = omega arith in
+    rw (e, count) s.filled
+
+-- one digit more, of the sixteen
+pub digits-step : (word place rest : ℕ) (old new : List ℕ) (digit : ℕ) → 0 < place → place ≤ length old → digit ≡ digit_glyph false (rest % 16)
+    → new ≡ set old (place - 1) digit → low place rest (drop place old) ≡ low 16 word [] → low (place - 1) (rest / 16) (drop (place - 1) new) ≡ low 16 word []
+digits-step word place rest old new digit some short is e so_far =
+    let within : place - 1 < length old = omega arith in
+    let back : place - 1 + 1 ≡ place = omega arith in
+    let tail : drop (place - 1) new ≡ digit_glyph false (rest % 16) ∷ drop place old =
+    ap (drop (place - 1)) e ∙ drop-set old (place - 1) digit within ∙ ap (λ (n : ℕ). digit ∷ drop n old) back ∙ ap (λ (d : ℕ). d ∷ drop place old) is in
+    ap (low (place - 1) (rest / 16)) tail ∙ sym (low-step place rest (drop place old) some) ∙ so_far
+
+pub digits-end : (word place rest : ℕ) (digits : List ℕ) → place ≡ 0 → word < 2 ^ 64 → low place rest (drop place digits) ≡ low 16 word [] → digits ≡ hex_digits word
+digits-end word place rest digits none small so_far = (rw none at so_far) ∙ sym (word-digits word small)

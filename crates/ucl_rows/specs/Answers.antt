@@ -1,0 +1,51 @@
+-- Single answers, each in its format.
+use Rattle.std.specs.Prelude.{ℕ, List, ◌++◌, codes, decimal, string_bytes, Result}
+use Rattle.ucl_word.specs.declared.event.Accepted.{Accepted}
+use Rattle.ucl_word.specs.declared.refusal.Refusal.{Refusal}
+use Rattle.ucl_order.specs.Roster.{NamedClub}
+use Rattle.ucl_screen.specs.declared.night.NightEvent.{NightEvent}
+use Rattle.ucl_screen.specs.Matches.{matches_text}
+use Rattle.ucl_screen.specs.Screen.{screen_text}
+use Rattle.ucl_json.specs.Lines.{json_line}
+use Rattle.ucl_json.specs.declared.title.Title.{Title}
+use Rattle.ucl_json.specs.Values.{bad_row_value, edition_screen_value, matches_value, reply_value, words_value}
+use Rattle.ucl_command.specs.declared.options.Format.{Format}
+use Rattle.ucl_command.specs.declared.options.Format.TheVariants.{Text, Json}
+use Rattle.ucl_rows.specs.BadRows.{field_name}
+use Rattle.ucl_rows.specs.Lines.{line_of_reply, word_lines}
+use Rattle.ucl_rows.specs.declared.answer.Answer.{Answer}
+use Rattle.ucl_rows.specs.declared.answer.Answer.TheVariants.{Short, Long}
+use Rattle.ucl_rows.specs.declared.bad_row.BadField.{BadField}
+
+-- the bytes of an answer
+abbrev pub bytes_of : Answer → List ℕ
+bytes_of (Short line) = line.bytes
+bytes_of (Long text) = string_bytes text
+
+-- the reply to an event, where so many events were accepted before, with the board after it
+abbrev pub reply_answer : Format → Title → ℕ → List NamedClub → NightEvent → ℕ → Result Accepted Refusal → List ℕ → List ℕ
+reply_answer Text title row clubs event before reply board = line_of_reply row event.call.game before reply
+reply_answer Json title row clubs event before reply board = json_line (reply_value row event reply title board clubs)
+
+abbrev pub bad_line : ℕ → List ℕ
+bad_line row = decimal row ++ codes " refused 20 bad-row\n"
+
+-- the answer to a row that asks for nothing that there is, for this field, and is shown so
+abbrev pub bad_answer : Format → ℕ → BadField → List ℕ → List ℕ
+bad_answer Text row field shown = bad_line row
+bad_answer Json row field shown = json_line (bad_row_value row (field_name field) shown)
+
+-- the screen of a board
+abbrev pub screen_answer : Format → Title → ℕ → List NamedClub → List ℕ → List ℕ
+screen_answer Text title row clubs board = screen_text title.profile board clubs title.group
+screen_answer Json title row clubs board = json_line (edition_screen_value row title board clubs)
+
+-- the words of a board
+abbrev pub words_answer : Format → ℕ → List ℕ → List ℕ
+words_answer Text row board = word_lines 1 board
+words_answer Json row board = json_line (words_value row board)
+
+-- the matches of a board
+abbrev pub matches_answer : Format → ℕ → List NamedClub → List ℕ → List ℕ
+matches_answer Text row clubs board = matches_text board clubs
+matches_answer Json row clubs board = json_line (matches_value row board clubs)

@@ -1,0 +1,36 @@
+-- How a program ends: what it wrote, and its exit status.
+use Rattle.std.specs.Prelude.{◌≡◌, ℕ, ⊤, Bool, List, Option, Result, Ok, Err, IfErr, OnOk, string_bytes}
+use Rattle.std.specs.Io.KnownBytes.{Appends}
+use Rattle.ucl_io.specs.declared.duplex.Duplex.{Duplex}
+use Rattle.ucl_io.specs.declared.stream.Sink as writes
+use Rattle.ucl_rows.specs.declared.fault.RunFault.{RunFault}
+use Rattle.ucl_rows.specs.declared.fault.RunFault.TheVariants.{OutOfMemory}
+use Rattle.ucl_rows.specs.Faults.{status}
+use Rattle.ucl_rows.specs.Run.{IsCutShort}
+use Rattle.ucl_rows.specs.Telling.{Tells, fault_line}
+use Rattle.ucl_command.specs.declared.fault.LineFault.{LineFault}
+use Rattle.ucl_command.specs.declared.fault.LineFault.TheVariants as words
+
+-- status 0 and nothing is told; or the line of the fault is told, and its status
+abbrev pub Ends : Result ⊤ RunFault → ℕ → Bool → Option (List ℕ) → Option (List ℕ) → Type 0
+Ends (Ok done) code failed old new = (code ≡ 0) × (new ≡ old)
+Ends (Err fault) code failed old new = (code ≡ status fault) × Tells failed old new (fault_line fault)
+
+-- a text was written whole, or has the fault r
+pub record WritesText (text : List ℕ) (failed : Bool) (old new : Option (List ℕ)) (r : Result ⊤ RunFault) : Type 0 where
+  pub all : OnOk r (Appends old new text)
+  pub part : IfErr r (IsCutShort failed old new text)
+
+-- what a program does whose words name nothing to do: help is written on its output, a refusal is told as it is, and want of memory by its
+-- line. Of the output it is known whether it has failed, and what it took
+module _ {W : Type 0} (failed_of : W → Bool) (taken_of : W → Option (List ℕ)) where
+  abbrev pub EndsUnasked : LineFault → W → W → ℕ → Bool → Option (List ℕ) → Option (List ℕ) → Type 0
+  EndsUnasked (words.Help text) before after code failed old new =
+      (r : Result ⊤ RunFault) × WritesText (string_bytes text) (failed_of after) (taken_of before) (taken_of after) r × Ends r code failed old new
+  EndsUnasked (words.Refused text) before after code failed old new = (after ≡ before) × (code ≡ 2) × Tells failed old new (string_bytes text)
+  EndsUnasked words.OutOfMemory before after code failed old new = (after ≡ before) × Ends (Err OutOfMemory) code failed old new
+
+-- nothing was read, and it was answered that the words name nothing to do
+abbrev pub AnsweredAlone : {S W M : Type 0} → writes.Ghosts W → LineFault → Duplex S W M → Duplex S W M → ℕ → Bool → Option (List ℕ) → Option (List ℕ) → Type 0
+AnsweredAlone sink fault before after code failed old new =
+    (after ≡ record before { sink = after.sink }) × EndsUnasked sink.failed sink.taken fault before.sink after.sink code failed old new

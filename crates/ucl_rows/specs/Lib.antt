@@ -1,0 +1,10 @@
+pub mod Faults
+pub mod Run
+pub mod Telling
+pub mod Ending
+pub mod Lines
+pub mod InputLines
+pub mod Rows
+pub mod BadRows
+pub mod Reading
+pub mod Answers

@@ -1,0 +1,28 @@
+-- The lines of replies, and those of words.
+use Rattle.std.specs.Prelude.{ℕ, ◌+◌, List, [], ◌∷◌, ◌++◌, codes, decimal, Result, Ok, Err}
+use Rattle.ucl_word.specs.declared.event.Accepted.{Accepted}
+use Rattle.ucl_screen.specs.Numbers.{hex_digits}
+use Rattle.ucl_word.specs.declared.refusal.Refusal.{Refusal}
+use Rattle.ucl_word.specs.Names.{refusal_text}
+
+-- ROW ok MATCH NUMBER VERSION
+abbrev pub accepted_line : ℕ → ℕ → ℕ → ℕ → List ℕ
+accepted_line row game number version = decimal row ++ codes " ok " ++ decimal game ++ codes " " ++ decimal number ++ codes " " ++ decimal version ++ codes "\n"
+
+-- ROW refused CODE NAME
+abbrev pub refused_line : ℕ → Refusal → List ℕ
+refused_line row refusal = decimal row ++ codes " refused " ++ refusal_text refusal ++ codes "\n"
+
+-- the line of a reply, where so many events were accepted before: an accepted one raises the version by one
+abbrev pub line_of_reply : ℕ → ℕ → ℕ → Result Accepted Refusal → List ℕ
+line_of_reply row game before (Ok accepted) = accepted_line row game accepted.number (before + 1)
+line_of_reply row game before (Err refusal) = refused_line row refusal
+
+-- word,INDEX,HEX,
+abbrev pub word_line : ℕ → ℕ → List ℕ
+word_line index word = codes "word," ++ decimal index ++ codes "," ++ hex_digits word ++ codes ",\n"
+
+-- the lines of words, the first of which has this index
+unfoldable pub word_lines : ℕ → List ℕ → List ℕ
+word_lines index [] = []
+word_lines index (word ∷ words) = word_line index word ++ word_lines (index + 1) words

@@ -1,0 +1,75 @@
+-- What a line says, as a row of its own.
+-- With its line feed a line is a text that is read by the rules of scripts. So a quote that is not closed takes in the line feed, which
+-- stands in no field that is good.
+use Rattle.std.specs.Prelude.{ℕ, ◌-◌, ◌==◌, nat_le, if◌then◌else◌, Bool, List, [], ◌∷◌, ◌++◌, length, get_or, Option, Some, None}
+use Rattle.csv.specs.Reading.{default_config, records}
+use Rattle.ucl_screen.specs.Rows.{Fields, FourFields, four_of, four_seen, rows_of}
+use Rattle.ucl_rows.specs.declared.row.RowFields.{RowFields}
+use Rattle.ucl_rows.specs.declared.row.RowFields.TheVariants as seen
+
+-- what a line has: no row; or several, or what is too long to be read; or one
+pub data LineRow : Type 0 where
+  NoRow : LineRow
+  Unread : LineRow
+  OneRow : (fields : Fields) → LineRow
+
+abbrev pub only_row : List Fields → LineRow
+only_row [] = NoRow
+only_row (row ∷ []) = OneRow row
+only_row (row ∷ other ∷ rows) = Unread
+
+-- a byte order mark is passed over at the start of the first line, which is that of the input
+abbrev pub rows_at : Bool → List ℕ → List Fields
+rows_at first text = if first then rows_of text else records default_config text
+
+-- at most 256 bytes, and the end: a line feed, or a carriage return and a line feed
+abbrev pub fits : List ℕ → Bool
+fits text = nat_le (length text) (if get_or text (length text - 2) 0 == 13 then 258 else 257)
+
+-- what a line with its line feed has, where it has this number
+unfoldable pub row_by_text : ℕ → List ℕ → LineRow
+row_by_text row text = if fits text then only_row (rows_at (row == 1) text) else Unread
+
+-- what a line has
+abbrev pub row_on : ℕ → List ℕ → LineRow
+row_on row line = row_by_text row (line ++ 10 ∷ [])
+
+-- ---- rows of four fields, and of eight
+
+-- the fields of a row that has eight: the first four, and the last
+abbrev pub eight_of : Fields → Option (FourFields × FourFields)
+eight_of (a ∷ b ∷ c ∷ d ∷ e ∷ f ∷ g ∷ h ∷ []) =
+    Some (record { first = a; second = b; third = c; fourth = d }, record { first = e; second = f; third = g; fourth = h })
+eight_of _ = None
+
+-- nothing; or no row of four fields, or what is too long: of eight fields, these; or a row of four
+pub data Said : Type 0 where
+  Nothing : Said
+  Other : (eight : Option (FourFields × FourFields)) → Said
+  Row : (fields : FourFields) → Said
+
+abbrev pub of_row : Option FourFields → Option (FourFields × FourFields) → Said
+of_row None eight = Other eight
+of_row (Some f) eight = Row f
+
+-- the same, as the code borrows them
+abbrev pub fields_seen : RowFields → Said
+fields_seen (seen.Four f) = Row (four_seen f)
+fields_seen (seen.Eight f g) = Other (Some (four_seen f, four_seen g))
+fields_seen seen.Neither = Other None
+
+abbrev pub said_of : LineRow → Said
+said_of NoRow = Nothing
+said_of Unread = Other None
+said_of (OneRow row) = of_row (four_of row) (eight_of row)
+
+abbrev pub of_rows : List Fields → Said
+of_rows rows = said_of (only_row rows)
+
+-- what a line with its line feed says, where it has this number
+abbrev pub said_by_text : ℕ → List ℕ → Said
+said_by_text row text = said_of (row_by_text row text)
+
+-- what a line says
+abbrev pub said_on : ℕ → List ℕ → Said
+said_on row line = said_of (row_on row line)

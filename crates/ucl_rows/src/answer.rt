@@ -1,0 +1,234 @@
+//! Single answers, each in its format.
+
+ghost use Rattle.std.specs.Prelude.{◌≡◌, ◌<◌, ◌≤◌, ◌-◌, ◌^◌, ◌++◌, [], IfErr, IfOk};
+ghost use Rattle.arrayvec.specs.ArrayString.{array_string_len};
+ghost use Rattle.ucl_word.specs.Names.{refusal_text};
+ghost use Rattle.ucl_screen.specs.Screen.{IsGroup};
+ghost use Rattle.ucl_rows.specs.Lines.{line_of_reply};
+ghost use Rattle.ucl_rows.specs.Lines.{accepted_line, refused_line};
+ghost use Rattle.ucl_rows.specs.BadRows.{shown_text};
+ghost use Rattle.ucl_rows.specs.Answers.{bytes_of};
+ghost use Rattle.ucl_rows.specs.Answers.{bad_answer, bad_line, matches_answer, reply_answer, screen_answer};
+
+use crate::bad_row::{BadField, shown_text};
+use arrayvec::ArrayString;
+use itoa::Buffer;
+use std::alloc::{AllocError, Global};
+use ucl_board::Board;
+use ucl_command::Format;
+use ucl_io::Text;
+use ucl_json::{Title, bad_row_json, edition_screen_json, matches_json, reply_json};
+use ucl_order::Roster;
+use ucl_screen::{NightEvent, matches, screen};
+use ucl_word::{Accepted, OutOfMemory, Refusal};
+
+/// The line of a reply, which takes no memory.
+pub type ReplyLine = ArrayString<64>;
+
+/// An answer.
+#[derive(Drop)]
+pub enum Answer {
+    /// The line of a reply.
+    Short(ReplyLine),
+    /// Any text.
+    Long(String),
+}
+
+impl Text for Answer {
+    ghost bytes = { bytes_of };
+
+    ghost front = { bytes_of };
+
+    fn new() -> Answer {
+        Answer::nothing()
+    }
+
+    fn front(&self) -> &[u8] {
+        self.bytes()
+    }
+
+    fn back(&self) -> &[u8] {
+        b"".as_slice()
+    }
+}
+
+impl Answer {
+    /// No answer.
+    pub fn nothing() -> Answer
+        ensures { bytes_of result ≡ [] }
+    {
+        Answer::Short(ReplyLine::new())
+    }
+
+    /// The bytes of the answer.
+    pub fn bytes(&self) -> &[u8]
+        ensures { result.now ≡ bytes_of self.now }
+    {
+        match self {
+            Answer::Short(line) => line.as_str().as_bytes(),
+            Answer::Long(text) => text.as_str().as_bytes(),
+        }
+    }
+}
+
+/// The line of an event that was entered.
+fn accepted_line(row: u64, game: u8, number: u16, version: u16) -> ReplyLine
+    ensures { result.bytes ≡ accepted_line row game number version }
+{
+    let mut line = ArrayString::new();
+    line.push_str(Buffer::new().format(row));
+    line.push_str(" ok ");
+    line.push_str(Buffer::new().format(game));
+    line.push_str(" ");
+    line.push_str(Buffer::new().format(number));
+    line.push_str(" ");
+    line.push_str(Buffer::new().format(version));
+    line.push_str("\n");
+    line
+}
+
+/// Writes the number of a refusal and its name.
+fn push_refusal(line: &mut ReplyLine, refusal: Refusal)
+    requires { array_string_len line.old ≤ 30 }
+    ensures text { line.new.bytes ≡ line.old.bytes ++ refusal_text refusal }
+    ensures short { array_string_len line.new ≤ 60 }
+{
+    line.push_str(Buffer::new().format(refusal.code()));
+    line.push_str(" ");
+    line.push_str(refusal.name());
+    if let Some(found) = refusal.found() {
+        line.push_str(" ");
+        line.push_str(Buffer::new().format(found));
+    }
+}
+
+/// The line of an event that was refused.
+fn refused_line(row: u64, refusal: Refusal) -> ReplyLine
+    ensures { result.bytes ≡ refused_line row refusal }
+{
+    let mut line = ArrayString::new();
+    line.push_str(Buffer::new().format(row));
+    line.push_str(" refused ");
+    push_refusal(&mut line, refusal);
+    line.push_str("\n");
+    line
+}
+
+/// The line of a row that asks for nothing that there is.
+fn bad_line(row: u64) -> ReplyLine
+    ensures { result.bytes ≡ bad_line row }
+{
+    let mut line = ArrayString::new();
+    line.push_str(Buffer::new().format(row));
+    line.push_str(" refused 20 bad-row\n");
+    line
+}
+
+/// The line of a reply, where so many events were accepted before.
+fn reply_line(row: u64, game: u8, before: u16, reply: Result<Accepted, Refusal>) -> ReplyLine
+    requires { before < 2 ^ 16 - 1 }
+    ensures { result.bytes ≡ line_of_reply row game before reply }
+{
+    match reply {
+        Ok(accepted) => accepted_line(row, game, accepted.number, before + 1),
+        Err(refusal) => refused_line(row, refusal),
+    }
+}
+
+/// The reply to an event, where so many events were accepted before, and the board is one after it.
+///
+/// # Errors
+///
+/// Where there is no memory for an answer in JSON.
+pub fn reply_answer(
+    alloc: Global,
+    format: Format,
+    title: Title,
+    row: u64,
+    event: &NightEvent,
+    before: u16,
+    reply: Result<Accepted, Refusal>,
+    board: &Board,
+    roster: &Roster,
+) -> Result<Answer, AllocError>
+    requires few { before < 2 ^ 16 - 1 }
+    requires letter { IsGroup title.group }
+    ensures text { IfOk result (λ answer. bytes_of answer
+        ≡ reply_answer format title row roster.now event.now before reply board.now) }
+    ensures memory { IfErr result (λ _. format ≡ Format.Json) }
+{
+    match format {
+        Format::Text => Ok(Answer::Short(reply_line(row, event.call.game.get(), before, reply))),
+        Format::Json => Ok(Answer::Long(reply_json(
+            alloc, row, event, reply, board, roster, title,
+        )?)),
+    }
+}
+
+/// The answer to a row that asks for nothing that there is, for this field.
+///
+/// # Errors
+///
+/// Where there is no memory for an answer in JSON.
+pub fn bad_answer(
+    alloc: Global,
+    format: Format,
+    row: u64,
+    field: BadField,
+    text: &[u8],
+) -> Result<Answer, AllocError>
+    ensures text { IfOk result
+        (λ answer. bytes_of answer ≡ bad_answer format row field (shown_text text.now)) }
+    ensures memory { IfErr result (λ _. format ≡ Format.Json) }
+{
+    match format {
+        Format::Text => Ok(Answer::Short(bad_line(row))),
+        Format::Json => Ok(Answer::Long(bad_row_json(alloc, row, field.name(), shown_text(text))?)),
+    }
+}
+
+/// The screen of a board.
+///
+/// # Errors
+///
+/// Where there is no memory.
+pub fn screen_answer(
+    alloc: Global,
+    format: Format,
+    title: Title,
+    row: u64,
+    board: &Board,
+    roster: &Roster,
+) -> Result<Answer, OutOfMemory>
+    requires { IsGroup title.group }
+    ensures { IfOk result (λ answer.
+        bytes_of answer ≡ screen_answer format title row roster.now board.now) }
+{
+    let text = match format {
+        Format::Text => screen(alloc, board, roster, title.group, title.profile)?,
+        Format::Json => edition_screen_json(alloc, row, board, roster, title)?,
+    };
+    Ok(Answer::Long(text))
+}
+
+/// The matches of a board.
+///
+/// # Errors
+///
+/// Where there is no memory.
+pub fn matches_answer(
+    alloc: Global,
+    format: Format,
+    row: u64,
+    board: &Board,
+    roster: &Roster,
+) -> Result<Answer, OutOfMemory>
+    ensures { IfOk result (λ answer.
+        bytes_of answer ≡ matches_answer format row roster.now board.now) }
+{
+    let text = match format {
+        Format::Text => matches(alloc, board, roster)?,
+        Format::Json => matches_json(alloc, row, board, roster)?,
+    };
+    Ok(Answer::Long(text))
+}

@@ -1,0 +1,49 @@
+//! How a program ends: what it tells on the error sink, and its exit status.
+
+ghost use Rattle.std.specs.Prelude.{◌≡◌};
+ghost use Rattle.ucl_rows.specs.Telling.{Tells};
+ghost use Rattle.ucl_rows.specs.Ending.{Ends, EndsUnasked};
+
+use crate::fault::RunFault;
+use crate::output::put_text;
+use crate::telling::tell;
+use ucl_command::LineFault;
+use ucl_screen::Sink;
+
+/// The exit status where the arguments are refused.
+const REFUSED_ARGUMENTS: u8 = 2;
+
+/// Tells why the arguments are refused, as far as the error sink takes it, and gives the exit status.
+pub fn tell_refusal<E: Sink>(errors: &mut E, text: &str) -> u8
+    ensures status { result ≡ 2 }
+    ensures told { Tells (E.failed errors.new) (E.taken errors.old) (E.taken errors.new) text.now }
+{
+    let _ = put_text(errors, text);
+    REFUSED_ARGUMENTS
+}
+
+/// The exit status of what was done, where a fault is told by its line.
+pub fn ended<E: Sink>(errors: &mut E, done: Result<(), RunFault>) -> u8
+    ensures { Ends done result (E.failed errors.new) (E.taken errors.old) (E.taken errors.new) }
+{
+    match done {
+        Ok(()) => 0,
+        Err(fault) => tell(errors, fault),
+    }
+}
+
+/// The exit status where the arguments name nothing to do. Help goes to the output, where it ends as what was done; a refusal, or want of
+/// memory, is told on the error sink.
+pub fn ended_unasked<W: Sink, E: Sink>(sink: &mut W, errors: &mut E, fault: LineFault) -> u8
+    ensures { EndsUnasked W.failed W.taken fault sink.old sink.new result
+        (E.failed errors.new) (E.taken errors.old) (E.taken errors.new) }
+{
+    match fault {
+        LineFault::Help(text) => {
+            let done = put_text(sink, text.as_str());
+            ended(errors, done)
+        }
+        LineFault::Refused(text) => tell_refusal(errors, text.as_str()),
+        LineFault::OutOfMemory => tell(errors, RunFault::OutOfMemory),
+    }
+}

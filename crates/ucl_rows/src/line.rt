@@ -1,0 +1,93 @@
+//! What a line says.
+
+ghost use Rattle.std.specs.Prelude.{◌≡◌, ◌∷◌, [], ◌++◌, option_map, IfSome};
+ghost use Rattle.csv.specs.Records.{field_at};
+ghost use Rattle.ucl_screen.specs.Rows.{four_seen};
+ghost use Rattle.ucl_rows.specs.Reading.{HoldsRow, fields_read, row_in};
+ghost use Rattle.ucl_rows.specs.Rows.{OneRow, Row, fields_seen, fits, row_on, said_of, said_on};
+
+use crate::plain::plain_four;
+use crate::row::{Fields, MOST_LINE_BYTES, RowCount, RowFields, without_mark};
+use arrayvec::ArrayVec;
+use ucl_screen::Four;
+
+/// The most bytes of a line before its end.
+const MOST_ROW_BYTES: usize = 256;
+
+/// Reads lines, one after the other, as the crate `csv` reads in its default dialect.
+#[derive(Drop)]
+pub struct LineReader {
+    text: ArrayVec<u8, MOST_LINE_BYTES>,
+    fields: Fields,
+}
+
+/// Whether a line has at most 256 bytes before its end. Its line feed is not with it.
+fn fits(line: &[u8]) -> bool
+    ensures { result ≡ fits (line.now ++ 10 ∷ []) }
+{
+    let len = line.len();
+    if len > 0 && line[len - 1] == b'\r' {
+        len <= MOST_ROW_BYTES + 1
+    } else {
+        len <= MOST_ROW_BYTES
+    }
+}
+
+/// The fields of a line that has this number, where it is a row of four fields of which none is in quotes. The first line may begin with
+/// a byte order mark, and is not looked at.
+#[tactic(auto, using(crate::proofs::PlainRows::said_plain))]
+pub fn plain_row(row: u64, line: &[u8]) -> Option<Four<'_>>
+    ensures { IfSome result (λ four. said_on row line.now ≡ Row (four_seen four)) }
+{
+    if row > 1 && fits(line) {
+        plain_four(line)
+    } else {
+        None
+    }
+}
+
+impl LineReader {
+    /// Nothing was read.
+    pub fn new() -> LineReader {
+        LineReader {
+            text: ArrayVec::new(),
+            fields: Fields::new(),
+        }
+    }
+
+    /// Reads a line that has this number, with the line feed that it comes without.
+    #[tactic(auto, unfolding(crate::specs::Rows::row_by_text))]
+    pub fn read(&mut self, row: u64, line: &[u8]) -> RowCount
+        ensures read { HoldsRow self.new }
+        ensures row { row_in result (fields_read self.new) ≡ row_on row line.now }
+    {
+        if !fits(line) {
+            self.fields.clear();
+            return RowCount::More;
+        }
+        self.text.clear();
+        let _room = self.text.try_extend_from_slice(line);
+        self.text.push(b'\n');
+        if row == 1 {
+            self.fields.read(without_mark(self.text.as_slice()))
+        } else {
+            self.fields.read(self.text.as_slice())
+        }
+    }
+
+    /// A field of the row that was read, counted from 0.
+    pub fn field(&self, index: usize) -> Option<&[u8]>
+        requires { HoldsRow self.now }
+        ensures { option_map (λ f. f.now) result ≡ field_at (fields_read self.now) index }
+    {
+        self.fields.field(index)
+    }
+
+    /// The fields of the row that was read.
+    pub fn row(&self) -> RowFields<'_>
+        requires { HoldsRow self.now }
+        ensures { fields_seen result ≡ said_of (OneRow (fields_read self.now)) }
+    {
+        self.fields.row()
+    }
+}

@@ -1,0 +1,321 @@
+//! The fields of a row, read byte by byte.
+
+ghost use Rattle.std.specs.Prelude.{◌≡◌, ℕ, List, ◌+◌, ◌-◌, ◌<◌, ◌≤◌, ◌++◌, [], ◌∷◌, length, drop, take, Some, option_map};
+ghost use Rattle.csv.specs.Machine.{next_record, step};
+ghost use Rattle.csv.specs.Reading.{default_config, records, strip_bom};
+ghost use Rattle.csv.specs.Records.{Rising, field_at, prev};
+ghost use Rattle.csv.specs.declared.parser.State.{State};
+ghost use Rattle.csv.specs.declared.parser.State.TheVariants as st;
+ghost use Rattle.ucl_screen.specs.Rows.{four_of, four_seen};
+ghost use Rattle.ucl_rows.specs.Rows.{OneRow, eight_of, fields_seen, said_of};
+ghost use Rattle.ucl_rows.specs.Reading.{AreFound, IsBehindEnds, after_action, field_in, fields_in, made, read_on, csv_state_of};
+
+use arrayvec::ArrayVec;
+use ucl_screen::Four;
+
+/// The most bytes that are read of a line: 256, and the two of its end.
+pub const MOST_LINE_BYTES: usize = 258;
+
+/// The most fields that so many bytes have.
+const MOST_FIELDS: usize = 259;
+
+/// Where the reading of a row stands.
+#[derive(Clone, Copy, Debug, PartialEq, Eq)]
+pub(crate) enum RowState {
+    StartField,
+    InField,
+    InQuoted,
+    AfterQuote,
+}
+
+/// What a byte does.
+#[derive(Clone, Copy, Debug, PartialEq, Eq)]
+pub(crate) enum RowAction {
+    /// It joins the field at hand.
+    Copy(RowState),
+    /// It is passed over.
+    Skip(RowState),
+    /// It ends a field.
+    EndField,
+    /// It ends the record.
+    EndRecord,
+}
+
+/// The fields of a row.
+#[derive(Clone, Copy)]
+pub enum RowFields<'a> {
+    /// They are four.
+    Four(Four<'a>),
+    /// They are eight: the first four, and the last.
+    Eight(Four<'a>, Four<'a>),
+    /// They are neither.
+    Neither,
+}
+
+/// How many rows a line has.
+#[derive(Clone, Copy, Debug, PartialEq, Eq)]
+pub enum RowCount {
+    /// None.
+    Nothing,
+    /// One.
+    One,
+    /// Several, or a line that is too long to be read.
+    More,
+}
+
+/// What a byte does.
+fn action_of(state: RowState, b: u8) -> RowAction
+    ensures { step default_config (csv_state_of state) b ≡ made b result }
+{
+    match state {
+        RowState::InQuoted if b == b'"' => RowAction::Skip(RowState::AfterQuote),
+        RowState::InQuoted => RowAction::Copy(RowState::InQuoted),
+        RowState::StartField if b == b'"' => RowAction::Skip(RowState::InQuoted),
+        RowState::AfterQuote if b == b'"' => RowAction::Copy(RowState::InQuoted),
+        _ => match b {
+            b',' => RowAction::EndField,
+            b'\r' | b'\n' => RowAction::EndRecord,
+            _ => RowAction::Copy(RowState::InField),
+        },
+    }
+}
+
+/// A line without a byte order mark at its start.
+pub(crate) fn without_mark(line: &[u8]) -> &[u8]
+    ensures text { result.now ≡ strip_bom line.now }
+    ensures shorter { length result.now ≤ length line.now }
+{
+    if line.len() >= 3 && line[0] == 0xef && line[1] == 0xbb && line[2] == 0xbf {
+        &line[3..]
+    } else {
+        line
+    }
+}
+
+/// The bytes of a text from one place to another.
+fn part(bytes: &[u8], start: u16, end: u16) -> &[u8]
+    requires { (start ≤ end) × (end ≤ length bytes.now) }
+    ensures { result.now ≡ take (end - start) (drop start bytes.now) }
+{
+    &bytes[usize::from(start)..usize::from(end)]
+}
+
+/// Where the field at a place begins, of fields that end at these.
+fn start_of(ends: &[u16], index: usize) -> u16
+    requires { index < length ends.now }
+    ensures { result ≡ prev 0 ends.now index }
+{
+    if index == 0 {
+        return 0;
+    }
+    ends[index - 1]
+}
+
+/// What comes after the line ends at the start of a text.
+pub(crate) fn without_ends(text: &[u8]) -> &[u8]
+    ensures behind { IsBehindEnds text.now result.now }
+    ensures shorter { length result.now ≤ length text.now }
+{
+    for at in 0..text.len() {
+        let b = text[at];
+        if b != b'\r' && b != b'\n' {
+            return &text[at..];
+        }
+    }
+    &text[text.len()..]
+}
+
+/// The fields of a row: their bytes, and where each ends.
+#[derive(Drop)]
+pub(crate) struct Fields {
+    bytes: ArrayVec<u8, MOST_LINE_BYTES>,
+    ends: ArrayVec<u16, MOST_FIELDS>,
+}
+
+impl Fields {
+    /// No field.
+    pub(crate) fn new() -> Fields {
+        Fields {
+            bytes: ArrayVec::new(),
+            ends: ArrayVec::new(),
+        }
+    }
+
+    /// Forgets the fields.
+    pub(crate) fn clear(&mut self)
+        ensures { Rising 0 self.new.ends.items (length self.new.bytes.items) }
+    {
+        self.bytes.clear();
+        self.ends.clear();
+    }
+
+    /// Ends the field at hand.
+    fn end_field(&mut self)
+        requires room { length self.old.ends.items < 259 }
+        requires rising { Rising 0 self.old.ends.items (length self.old.bytes.items) }
+        ensures fields { fields_in self.new ≡ fields_in self.old ++ field_in self.old ∷ [] }
+        ensures field { field_in self.new ≡ [] }
+        ensures bytes { self.new.bytes.items ≡ self.old.bytes.items }
+        ensures rising { Rising 0 self.new.ends.items (length self.new.bytes.items) }
+        ensures count { length self.new.ends.items ≡ length self.old.ends.items + 1 }
+    {
+        let end = self.bytes.len() as u16;
+        self.ends.push(end);
+    }
+
+    /// Puts a byte after the field at hand.
+    fn push(&mut self, b: u8)
+        requires room { length self.old.bytes.items < 258 }
+        requires rising { Rising 0 self.old.ends.items (length self.old.bytes.items) }
+        ensures fields { fields_in self.new ≡ fields_in self.old }
+        ensures field { field_in self.new ≡ field_in self.old ++ b ∷ [] }
+        ensures ends { self.new.ends.items ≡ self.old.ends.items }
+        ensures rising { Rising 0 self.new.ends.items (length self.new.bytes.items) }
+        ensures count { length self.new.bytes.items ≡ length self.old.bytes.items + 1 }
+    {
+        self.bytes.push(b);
+    }
+
+    /// Does what a byte does, and says where the reading stands then: nowhere, where the record has ended.
+    fn act(&mut self, action: RowAction, b: u8) -> Option<RowState>
+        requires ends { length self.old.ends.items < 259 }
+        requires bytes { length self.old.bytes.items < 258 }
+        requires rising { Rising 0 self.old.ends.items (length self.old.bytes.items) }
+        ensures reads { (rest : List ℕ) → after_action action b (fields_in self.old) (field_in self.old)
+            rest ≡ read_on result b (fields_in self.new) (field_in self.new) rest }
+        ensures rising { Rising 0 self.new.ends.items (length self.new.bytes.items) }
+        ensures ends { length self.new.ends.items ≤ length self.old.ends.items + 1 }
+        ensures bytes { length self.new.bytes.items ≤ length self.old.bytes.items + 1 }
+    {
+        match action {
+            RowAction::Copy(next) => {
+                self.push(b);
+                Some(next)
+            }
+            RowAction::Skip(next) => Some(next),
+            RowAction::EndField => {
+                self.end_field();
+                Some(RowState::StartField)
+            }
+            RowAction::EndRecord => {
+                self.end_field();
+                None
+            }
+        }
+    }
+
+    /// Reads the first record of a text, which begins with a field, and says how many bytes it has with its end.
+    fn fill(&mut self, text: &[u8]) -> usize
+        requires { length text.now ≤ 258 }
+        ensures within { result ≤ length text.now }
+        ensures rising { Rising 0 self.new.ends.items (length self.new.bytes.items) }
+        ensures record { (s : State) × (next_record default_config st.StartField
+            [] [] text.now ≡ Some (fields_in self.new, s, drop result text.now)) }
+    {
+        self.bytes.clear();
+        self.ends.clear();
+        let mut state = RowState::StartField;
+        for at in 0..text.len() {
+            let b = text[at];
+            match self.act(action_of(state, b), b) {
+                Some(next) => state = next,
+                None => return at + 1,
+            }
+        }
+        self.end_field();
+        text.len()
+    }
+
+    /// Reads the rows of a text, of which only the first is kept.
+    pub(crate) fn read(&mut self, text: &[u8]) -> RowCount
+        requires { length text.now ≤ 258 }
+        ensures rising { Rising 0 self.new.ends.items (length self.new.bytes.items) }
+        ensures found { AreFound result (fields_in self.new) (records default_config text.now) }
+    {
+        let text = without_ends(text);
+        if text.is_empty() {
+            self.bytes.clear();
+            self.ends.clear();
+            return RowCount::Nothing;
+        }
+        let at = self.fill(text);
+        if without_ends(&text[at..]).is_empty() {
+            RowCount::One
+        } else {
+            RowCount::More
+        }
+    }
+
+    /// A field, counted from 0.
+    pub(crate) fn field(&self, index: usize) -> Option<&[u8]>
+        requires { Rising 0 self.now.ends.items (length self.now.bytes.items) }
+        ensures { option_map (λ f. f.now) result ≡ field_at (fields_in self.now) index }
+    {
+        let ends = self.ends.as_slice();
+        if index >= ends.len() {
+            return None;
+        }
+        let start = start_of(ends, index);
+        Some(part(self.bytes.as_slice(), start, ends[index]))
+    }
+
+    /// The fields, where they are four.
+    #[tactic(auto, using(ucl_screen::proofs::FourFacts::four_by))]
+    fn four(&self) -> Option<Four<'_>>
+        requires { Rising 0 self.now.ends.items (length self.now.bytes.items) }
+        ensures { option_map four_seen result ≡ four_of (fields_in self.now) }
+    {
+        let first = self.field(0)?;
+        let second = self.field(1)?;
+        let third = self.field(2)?;
+        let fourth = self.field(3)?;
+        match self.field(4) {
+            Some(_) => None,
+            None => Some(Four {
+                first,
+                second,
+                third,
+                fourth,
+            }),
+        }
+    }
+
+    /// The fields, where they are eight: the first four, and the last.
+    #[tactic(auto, using(crate::proofs::RowEnds::eight_by))]
+    fn eight(&self) -> Option<(Four<'_>, Four<'_>)>
+        requires { Rising 0 self.now.ends.items (length self.now.bytes.items) }
+        ensures { option_map (λ p. (four_seen p.0, four_seen p.1)) result
+            ≡ eight_of (fields_in self.now) }
+    {
+        let first = Four {
+            first: self.field(0)?,
+            second: self.field(1)?,
+            third: self.field(2)?,
+            fourth: self.field(3)?,
+        };
+        let last = Four {
+            first: self.field(4)?,
+            second: self.field(5)?,
+            third: self.field(6)?,
+            fourth: self.field(7)?,
+        };
+        match self.field(8) {
+            Some(_) => None,
+            None => Some((first, last)),
+        }
+    }
+
+    /// The fields, where they are four or eight.
+    pub(crate) fn row(&self) -> RowFields<'_>
+        requires { Rising 0 self.now.ends.items (length self.now.bytes.items) }
+        ensures { fields_seen result ≡ said_of (OneRow (fields_in self.now)) }
+    {
+        if let Some(four) = self.four() {
+            return RowFields::Four(four);
+        }
+        let Some(eight) = self.eight() else {
+            return RowFields::Neither;
+        };
+        RowFields::Eight(eight.0, eight.1)
+    }
+}

@@ -1,9 +1,0 @@
-use Rattle.ucl_runs.proofs.PlainRows.{row-ends}
-use Rattle.ucl_runs.proofs.RowEnds.{empty-list, rest-of}
-use Rattle.ucl_runs.proofs.plain.last_field.Goals as goal
-
-pub returns-then-is_empty : goal.returns-then-is_empty
-returns-then-is_empty c =
-    let none = empty-list c.is_empty.result _ c.is_empty.ensures c.if-is_empty.true in
-    let behind = rw (rest-of c.field_length-at.result c.args.text.now, none) at c.without_ends.ensures.behind in
-    row-ends c.args.text.now c.field_length-at.result c.field_length-at.ensures.joining behind

@@ -1,6 +1,0 @@
-use Rattle.ucl_runs.proofs.Common.{[], ◌++◌, ◌∷◌}
-use Rattle.ucl_runs.proofs.PlainRows.{plain_row}
-use Rattle.ucl_runs.proofs.plain.plain_four.Goals as goal
-
-pub returns : goal.returns
-returns c = plain_row (c.args.text.now ++ 10 ∷ []) _ _ _ _ _ _ _ c.in_ok-first.ensures c.in_ok-second.ensures c.in_ok-third.ensures c.in_ok-fourth.ensures
