@@ -8,7 +8,10 @@ use std::process::ExitCode;
 use ucl_command::words_of;
 pub use ucl_command::{Line, LineFault, line_of};
 pub use ucl_rows::{RunFault, status_of};
-pub use ucl_runs::{Gate, NightEnd, OpenGate, feed_run, night_run, obey, put_night, run, schedule_does_not_matter, show_run};
+pub use ucl_runs::{
+    Gate, NightEnd, OpenGate, feed_run, night_run, obey, put_night, run, schedule_does_not_matter,
+    show_run,
+};
 use ucl_screen::{FromRead, ToWrite};
 use ucl_words::WordBoard;
 

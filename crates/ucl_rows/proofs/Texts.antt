@@ -1,8 +1,9 @@
 -- Word lines, written one at a time.
-use Rattle.ucl_rows.proofs.Common.{List, append_assoc, drop, get_or, length, sym, word_line, word_lines, ℕ, ◌++◌, ◌+◌, ◌<◌, ◌∙◌, ◌∷◌, ◌≡◌, ◌≤◌}
+use Rattle.ucl_rows.proofs.Common.{List, append_assoc, drop, get_or, length, sym, word_line, ℕ, ◌++◌, ◌+◌, ◌<◌, ◌∙◌, ◌∷◌, ◌≡◌, ◌≤◌}
 use Rattle.std.proofs.Common.{add-one, drop-cons}
 use Rattle.std.proofs.lemmas.List.{append-nil}
 use Rattle.ucl_screen.proofs.EventsInTurn.{past}
+use Rattle.ucl_rows.specs.Lines.{word_lines}
 
 pub words-step : (index i : ℕ) (words out new whole : List ℕ) → i < length words → out ++ word_lines index (drop i words) ≡ whole
     → new ≡ out ++ word_line index (get_or words i 0) → new ++ word_lines (index + 1) (drop (i + 1) words) ≡ whole

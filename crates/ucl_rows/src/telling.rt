@@ -4,8 +4,8 @@ ghost use Rattle.std.specs.Prelude.{◌≡◌, true};
 ghost use Rattle.ucl_rows.specs.Faults.{status};
 ghost use Rattle.ucl_rows.specs.Telling.{Tells, fault_line};
 
-use crate::output::put_line;
 use crate::fault::{RunFault, status_of};
+use crate::output::put_line;
 use itoa::Buffer;
 use ucl_screen::Sink;
 

@@ -1,6 +1,6 @@
 -- Texts written one line at a time.
 use Rattle.ucl_runs.proofs.Common.{Entry, List, NightEvent, after_attempt, append_assoc, attempt_of, drop, first-event, get_or, length, sym}
-use Rattle.ucl_runs.proofs.Common.{ℕ, ◌++◌, ◌+◌, ◌<◌, ◌∙◌, ◌∷◌, ◌≡◌, ◌≤◌}
+use Rattle.ucl_runs.proofs.Common.{ℕ, ◌++◌, ◌+◌, ◌<◌, ◌∙◌, ◌≡◌, ◌≤◌}
 use Rattle.std.proofs.lemmas.List.{append-nil}
 use Rattle.ucl_screen.proofs.EventsInTurn.{past}
 use Rattle.ucl_runs.specs.Feed.{reply_lines, reply_line}

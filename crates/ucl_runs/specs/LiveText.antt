@@ -1,29 +1,22 @@
 -- The text of an evening: the answers to its lines.
-use Rattle.std.specs.Prelude.{ℕ, ◌+◌, if◌then◌else◌, List, [], ◌∷◌, ◌++◌, codes, decimal, Option, None, Some, Result, Ok, Err}
+use Rattle.std.specs.Prelude.{ℕ, ◌+◌, if◌then◌else◌, List, [], ◌∷◌, ◌++◌, Option, None, Some, Result, Ok, Err}
 use Rattle.ucl_word.specs.declared.event.Accepted.{Accepted}
 use Rattle.ucl_word.specs.declared.refusal.Refusal.{Refusal}
 use Rattle.ucl_word.specs.Rules.{reply_of}
 use Rattle.ucl_board.specs.Words.{game_at, version_of}
 use Rattle.ucl_order.specs.Roster.{NamedClub}
-use Rattle.ucl_rows.specs.Lines.{line_of_reply, word_lines}
+use Rattle.ucl_rows.specs.Answers.{bad_answer, matches_answer, reply_answer, screen_answer, words_answer}
 use Rattle.ucl_screen.specs.declared.night.NightEvent.{NightEvent}
-use Rattle.ucl_screen.specs.Matches.{matches_text}
-use Rattle.ucl_screen.specs.Screen.{screen_text}
-use Rattle.ucl_json.specs.Lines.{json_line}
 use Rattle.ucl_json.specs.declared.title.Title.{Title}
-use Rattle.ucl_json.specs.Values.{bad_row_value, edition_screen_value, matches_value, reply_value, words_value}
-use Rattle.ucl_command.specs.declared.options.Format.{Format}
-use Rattle.ucl_command.specs.declared.options.Format.TheVariants.{Text, Json}
 use Rattle.ucl_command.specs.declared.live.LiveArgs.{LiveArgs}
 use Rattle.ucl_runs.specs.declared.live_fault.BeginningFault.{BeginningFault}
 use Rattle.ucl_runs.specs.declared.request.Request.{Request}
 use Rattle.ucl_runs.specs.declared.request.Request.TheVariants.{Bad, Event, Screen, Words, Matches}
 use Rattle.ucl_rows.specs.InputLines.{lines_of}
 use Rattle.ucl_rows.specs.Rows.{Said, Nothing, Other, Row, said_on}
-use Rattle.ucl_rows.specs.BadRows.{field_name, shown_text}
+use Rattle.ucl_rows.specs.BadRows.{shown_text}
 use Rattle.ucl_runs.specs.Requests.{request_of}
 use Rattle.ucl_runs.specs.Titles.{asked_title, is_group_row, title_said}
-use Rattle.ucl_rows.specs.declared.bad_row.BadField.{BadField}
 use Rattle.ucl_runs.specs.Stages.{Stage, Beginning, Naming, Restoring, Open, Refused, missing, next_board, next_stage, opened}
 
 -- between two lines: how it answers, what its board is told under, which line comes next, counted from 1, and how far it is

@@ -31,7 +31,7 @@ pub fn put_last<W: Sink>(
 }
 
 /// Writes the last screens of both readers, where there are any, and tells how many bytes are out then.
-#[tactic(auto, using(Rattle.ucl_rows.proofs.NightParts.stopped_first, Rattle.ucl_rows.proofs.NightParts.stopped_second))]
+#[tactic(auto, using(ucl_rows::proofs::NightParts::stopped_first, ucl_rows::proofs::NightParts::stopped_second))]
 pub fn put_lasts<W: Sink>(sink: &mut W, last: &[Option<String>; 2]) -> Result<usize, RunFault>
     ensures all { OnOk result (Appends (W.taken sink.old) (W.taken sink.new)
         (lasts_text (last_shown last.now 0) (last_shown last.now 1))) }

@@ -51,7 +51,14 @@ impl Table {
             &self.roster,
         )?;
         if options.screens && reply.is_ok() {
-            let screen = screen_answer(alloc, options.format, title, row, &self.board, &self.roster)?;
+            let screen = screen_answer(
+                alloc,
+                options.format,
+                title,
+                row,
+                &self.board,
+                &self.roster,
+            )?;
             parts.put_both(line, screen);
         } else {
             parts.put(line);
@@ -82,7 +89,14 @@ impl Table {
             Request::Event(event) => return self.entered(alloc, options, title, row, event, parts),
             Request::Bad(field) => parts.put(bad_answer(alloc, options.format, row, *field, text)?),
             Request::Screen => {
-                parts.put(screen_answer(alloc, options.format, title, row, self)?);
+                parts.put(screen_answer(
+                    alloc,
+                    options.format,
+                    title,
+                    row,
+                    &self.board,
+                    &self.roster,
+                )?);
             }
             Request::Matches => parts.put(matches_answer(
                 alloc,

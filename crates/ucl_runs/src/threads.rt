@@ -2,6 +2,7 @@
 
 ghost use Rattle.std.specs.Prelude.{◌≡◌, IfOk};
 ghost use Rattle.ucl_screen.specs.Screen.{IsGroup};
+ghost use Rattle.ucl_rows.specs.declared.fault.RunFault.TheVariants as RunFault;
 ghost use Rattle.ucl_runs.specs.Workers.{IsFreshOn, IsNewOn, HasEnteredOn, HasShownOn};
 
 use crate::gate::Gate;
@@ -13,6 +14,7 @@ use std::sync::Wait;
 use std::thread;
 use std::thread::{Promise, PromisedHandle, Scope, Threads};
 use ucl_live_board::LiveBoard;
+use ucl_rows::RunFault;
 use ucl_word::OutOfMemory;
 
 /// What a reporter's thread promises of the pass that it hands back.
