@@ -3,7 +3,7 @@
  * Every call answers a status: 0 (UCLBOARD_DONE) where it was done, and else why not; but uclboard_version answers a number, and uclboard_pass_drop
  * nothing. At any other status whatever a call writes to is as it was, but for what the call says that it tells then.
  *
- * What a caller owes: a pointer points to as many elements as are passed beside it, one where no number stands beside it, and is aligned as their
+ * What a caller owes: a pointer points to as many elements as the number beside it says, to one where there is none, and is aligned as their
  * type is. It is never null, also where that number is 0; uclboard_screen_length tells a length without a buffer. What a call writes to overlaps
  * nothing else that it is given. Any other input has its status. No call keeps a pointer to the caller's memory.
  *
@@ -62,7 +62,7 @@ enum {
     UCLBOARD_NO_GROUP = 53,       /* not a letter from 'A' to 'H' */
     UCLBOARD_NOT_TWELVE = 54,     /* not twelve words */
     UCLBOARD_NOT_FOUR = 55,       /* not four clubs, or coefficients */
-    UCLBOARD_NO_ROOM = 56,        /* no room for the text and a zero, or for the replies: its length without that, or how many they are, is told */
+    UCLBOARD_NO_ROOM = 56,        /* too small for the text and its zero, or for the replies: the length of the text, or the number of replies, is told */
     UCLBOARD_NOT_FOUR_ROWS = 57,  /* not room for exactly four rows */
     UCLBOARD_NO_STATUS = 58,      /* no status has this number */
     UCLBOARD_IN_USE = 59,         /* the handle that was to be given a pass is not null */
@@ -157,7 +157,7 @@ uint32_t uclboard_version(void);
 UCLBOARD_NEEDS_LOOK uclboard_status uclboard_next_word(uint64_t word, uint32_t reporter, uint32_t expected, uint32_t kind, uint64_t *next,
                                                        uint32_t *found);
 
-/* The word of today's layout, in `read`, of the record of a word of today's or the first layout, as any version wrote it. Or UCLBOARD_BAD_WORD. */
+/* Reads a word that was saved, of today's layout or of the first: the word of the same record in today's goes to `read`. Or UCLBOARD_BAD_WORD. */
 UCLBOARD_NEEDS_LOOK uclboard_status uclboard_read_word(uint64_t word, uint64_t *read);
 
 /* The record of a word of today's layout, in `match`. Or UCLBOARD_BAD_WORD. */
