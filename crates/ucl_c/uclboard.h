@@ -211,7 +211,7 @@ UCLBOARD_NEEDS_LOOK uclboard_status uclboard_text_of_status(uint32_t status, cha
    overtake at most k + 1 tries of 24 loads. The loop by which a split and an enlistment count one handle more has no such bound. A reading that
    begins after a report has returned has its event. A board is of one process: after a fork parent and child have one each.
 
-   What a caller owes: a handle that is not NULL was given by this library and not yet dropped. It is not copied, it is in one call at a time, and the
+   What a caller owes: a handle that is not NULL was given by this library and not yet dropped. It stands in one variable, it is in one call at a time, and the
    caller neither reads nor writes what it points to. A call takes the pass out of its variable while it runs, so no other thread reads the variable
    then. A handle may go to another thread, by that thread's start or end, by a lock, or by an atomic, with release and acquire or stronger. Several
    handles of one board are used at once, each in a thread of its own. */
