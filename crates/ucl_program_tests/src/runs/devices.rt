@@ -4,7 +4,8 @@ use std::alloc::Global;
 use std::io;
 use ucl_devices::{Full, Out};
 use ucl_order::Profile;
-use ucl_runs::{RunFault, feed_run, show_run};
+use ucl_rows::RunFault;
+use ucl_runs::{feed_run, show_run};
 use ucl_screen::{FromRead, InputFault, ToWrite};
 
 /// The answer of a run, and what it wrote.

@@ -12,7 +12,7 @@ use ucl_evenings::{Reporter, Ring, take_rows};
 use ucl_io::Duplex;
 use ucl_live_board::LiveBoard;
 use ucl_order::Roster;
-use ucl_runs::{LineReader, RunFault};
+use ucl_rows::{LineReader, RunFault};
 use ucl_screen::{FromRead, InputFault, ToWrite};
 use ucl_words::WordBoard;
 

@@ -12,7 +12,7 @@ use ucl_devices::{Full, Out};
 use ucl_evenings::{Bell, Screen, Shape, show_boards};
 use ucl_json::Title;
 use ucl_order::{Club, Profile, Roster};
-use ucl_runs::RunFault;
+use ucl_rows::RunFault;
 use ucl_screen::ToWrite;
 use ucl_word::{EventCall, Kind, MatchNo};
 use ucl_words::{WordBoard, WordReaderPass, WordReporterPass};
