@@ -199,7 +199,7 @@ def held(program, folder, script, texts, screens, group, order):
     before = [match_of(row.split(",")[2]) for row in text_of(place(script)).splitlines()[4:]]
     for match in before:
         match.reporter = min(match.number, 1)
-    history = History([replies_of(*pair) for pair in zip(texts, answers)], before or None, min(len(before), 1))
+    history = History([replies_of(*pair) for pair in zip(texts, answers)], before or None, max((match.reporter for match in before), default=0))
     assert output == sheet(history.matches)
     for at, kind in enumerate(screens):
         seen = text_of(place(f"{at}.screen"))

@@ -188,9 +188,13 @@ fn names_are_escaped(rt: HostRuntime) -> Result<(), Fail> {
     Ok(())
 }
 
-/// Asserts that an evening in JSON, with the screen after each accepted event, writes just the front of its text that fits.
+/// Asserts that an evening in JSON, with the screen after each accepted event, writes just the front of its text that fits: where its lines
+/// begin and end, and at each eleventh byte.
 fn assert_stops(rt: &impl Abort, alloc: Global, text: &str, wanted: &str, full: Full) {
-    for room in 0..wanted.len() {
+    for (room, byte) in wanted.bytes().enumerate() {
+        if room % 11 != 0 && byte != b'\n' && byte != b'{' {
+            continue;
+        }
         let evening = held_with(alloc, (Format::Json, true), text.as_bytes(), room, full);
         assert!(rt; has_stopped(&evening, wanted, room), "{full:?} at {room}");
     }

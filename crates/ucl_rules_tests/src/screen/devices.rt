@@ -1,4 +1,4 @@
-//! Devices that fail, and inputs that are too long.
+//! Devices that fail.
 
 ghost use Rattle.std.specs.Prelude.{◌≤◌, IfOk};
 
@@ -51,53 +51,6 @@ fn source_stays_failed(rt: HostRuntime) {
     assert_eq!(rt; source.take(&mut buf), Some(1));
     assert_eq!(rt; source.take(&mut buf), None);
     assert_eq!(rt; source.take(&mut []), None);
-}
-
-/// A reader of the club rows and then of one row of a script again and again, a row at a time.
-#[derive(Drop)]
-struct Repeated {
-    given: usize,
-    length: usize,
-}
-
-impl Read for Repeated {
-    fn read(&mut self, buf: &mut [u8]) -> io::Result<usize> {
-        let row = match self.given {
-            0 => CLUB_ROWS,
-            78 | 96 => b"1,1,00000,kickoff\n".as_slice(),
-            _ => b"1,1,0,kickoff\n".as_slice(),
-        };
-        let n = row
-            .len()
-            .min(buf.len())
-            .min(self.length - self.given.min(self.length));
-        buf[..n].copy_from_slice(&row[..n]);
-        self.given = self.given.saturating_add(n);
-        Ok(n)
-    }
-}
-
-#[test]
-fn longest_script(rt: HostRuntime) -> Result<(), Fail> {
-    let mut source = FromRead::new(Repeated {
-        given: 0,
-        length: 4_194_304,
-    });
-    let night = read_night(rt.alloc(), &mut source)?;
-    assert_eq!(rt; night.events.len(), 299_587);
-    Ok(())
-}
-
-#[test]
-fn too_long(rt: HostRuntime) {
-    for length in [4_194_305, usize::MAX] {
-        let mut source = FromRead::new(Repeated { given: 0, length });
-        let fault = read_night(rt.alloc(), &mut source).err();
-        assert_eq!(rt; fault, Some(InputFault::TooLong));
-        let mut source = FromRead::new(Repeated { given: 0, length });
-        let fault = read_words(rt.alloc(), &mut source).err();
-        assert_eq!(rt; fault, Some(InputFault::TooLong));
-    }
 }
 
 /// A writer with room for so many bytes, which takes four at a time. Where it is full it fails, or takes none.
