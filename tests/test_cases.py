@@ -127,7 +127,7 @@ def test_largest_input(run):
     output = "5 ok 1 1 1\n" + stale + "word,1,2001000000001001,\n" + "".join(FRESH[1:])
     assert run("ucl_night", "feed", input=LARGEST) == (0, output, "")
     night = run("ucl_night", "night", input=LARGEST)
-    assert night.status == 0 and night.output.startswith("GROUP A v00001 IN PLAY 1\n")
+    assert night.status == 0 and night.output.startswith("FINAL\nGROUP A v00001 IN PLAY 1\n")
     for words in ["feed", "night", "show"]:
         assert run("ucl_night", words, input=LARGEST + "\n") == (3, "", "input refused 24: too long\n")
 
