@@ -48,7 +48,7 @@ fn text_of(alloc: Global, bytes: &[u8]) -> anyhow::Result<String> {
 
 /// The night of a script.
 fn night_of(alloc: Global, input: &[u8]) -> anyhow::Result<Night> {
-    night_of_bytes(alloc, input).ok().context("no night")
+    Ok(night_of_bytes(alloc, input)?)
 }
 
 /// The board after the rows of a script.
@@ -100,9 +100,7 @@ fn sheets(alloc: Global, input: &[u8]) -> anyhow::Result<Outcome<InputFault>> {
     begins(alloc)?;
     let first = read_words(alloc, &mut FromRead::new(input));
     ends(alloc)?;
-    let sheet = read_words(alloc, &mut FromRead::new(input))
-        .ok()
-        .context("no sheet")?;
+    let sheet = read_words(alloc, &mut FromRead::new(input))?;
     let is_kept = match &first {
         Ok(done) => done.board == sheet.board,
         Err(_) => true,

@@ -177,10 +177,8 @@ fn is_refused(one: &Entered, refusal: Refusal, board: &Board) -> bool {
         Refusal::Stale { found } => found == record.number,
         _ => one.call.expected == record.number,
     };
-    match apply(&record, one.reporter, one.call.expected, one.call.kind) {
-        Ok(_) => !is_here,
-        Err(by_rules) => !is_here || by_rules == refusal,
-    }
+    let by_rules = apply(&record, one.reporter, one.call.expected, one.call.kind);
+    !is_here || by_rules.err() == Some(refusal)
 }
 
 /// Whether each event of a match that was refused after so many is refused by the rules there.
