@@ -18,12 +18,15 @@ module _ (reporter i : ℕ) (rows : List NightEvent) (row : NightEvent) (below :
   pub rows_other : row.reporter ≢ reporter → rows_by reporter (take (i + 1) rows) ≡ rows_by reporter (take i rows)
   rows_other other = rw (next_rows, filter-append, ne_eqb row.reporter reporter other, append-nil)
 
--- nothing was reported yet, and one event more
+-- nothing was reported yet; one event more; and twice none
 pub none_more : (A : ℕ → Type 0) → ReportsMore A 0 A
 none_more A n before = subst A (omega arith) before
 
 pub one_more : (A B C : ℕ → Type 0) (more : ℕ) → ReportsMore A more B → ReportsMore B 1 C → ReportsMore A (more + 1) C
 one_more A B C more first second n before = subst C (omega arith) (second (n + more) (first n before))
+
+pub none_after : (A B C : ℕ → Type 0) → ReportsMore A 0 B → ReportsMore B 0 C → ReportsMore A 0 C
+none_after A B C first second n before = subst C (omega arith) (second (n + 0) (first n before))
 
 -- from no report, so many, and none after them
 pub reported_in_all : (A B C : ℕ → Type 0) (more : ℕ) → A 0 → ReportsMore A more B → ReportsMore B 0 C → C more

@@ -191,7 +191,6 @@ pub(crate) fn with_first(
 
 impl SomeWords {
     /// The stage with one word more.
-    #[tactic(auto, using(crate::proofs::ReadWords::words_read, crate::proofs::ReadWords::words_bad))]
     fn with(self, word: u64) -> Result<Stage, BeginningFault>
         ensures { Becomes (with_words self.roster (self.words.items ++ word ∷ [])) result }
     {
