@@ -24,3 +24,9 @@ enlisted-preserved g c =
           (ap (λ (k : PassView). k.share) c.split-part.ensures.says.kept);
       nothing = rw (more, map_push g.B.LiveBoard.reporter _ _) (All-push (λ (k : PassView). k.mine ≡ []) _ _ known.nothing one.says.mine);
     }
+
+pub returns-in_err-enlisted-clause-seen : goal.returns-in_err-enlisted-clause-seen
+returns-in_err-enlisted-clause-seen g c = ap (λ (k : PassView). k.seen) c.split-part.ensures.says.kept ∙ c.enlisted.invariant.seen
+
+pub returns-in_err-put-clause-seen : goal.returns-in_err-put-clause-seen
+returns-in_err-put-clause-seen g c = ap (λ (k : PassView). k.seen) c.split-part.ensures.says.kept ∙ c.enlisted.invariant.seen

@@ -45,6 +45,11 @@ loop-event-preserved g c =
           place (c.enter_one.ensures.entered c.if-not-enter_one.false) known.so_far);
     }
 
+pub returns-then-not-enter_one-clause-reporters : goal.returns-then-not-enter_one-clause-reporters
+returns-then-not-enter_one-clause-reporters g c =
+    All-set (g.B.LiveBoard.is_reporter c.args.board.now) c.loop-event.reporters.items (c.from-at.result - 1) _ c.enter_one.ensures.own.1
+    c.loop-event.invariant.reporters
+
 pub returns-then-not-enter_one-clause-stopped : goal.returns-then-not-enter_one-clause-stopped
 returns-then-not-enter_one-clause-stopped g c =
     let live = g.B.LiveBoard in

@@ -8,6 +8,14 @@ pub run_reporters-requires-clause-ready : goal.run_reporters-requires-clause-rea
 run_reporters-requires-clause-ready g t c κs within =
     (all_pop (IsReadyToRun g.B.LiveBoard c.args.board.now) _ _ _ c.in-Some.ensures.some c.requires.ready).0
 
+pub start_reporter-requires-clause-ready : goal.start_reporter-requires-clause-ready
+start_reporter-requires-clause-ready g t c κs within =
+    (all_pop (IsReadyToRun g.B.LiveBoard c.args.board.now) _ _ _ c.in-Some.ensures.some c.requires.ready).1
+
+pub hear_reporter-requires-clause-own : goal.hear_reporter-requires-clause-own
+hear_reporter-requires-clause-own g t c κs within =
+    (c.in_ok-reported.ensures.reported.own, rw c.in_ok-worker.ensures.board at c.join-end.ensures.own)
+
 pub returns-in_default-clause-reported : goal.returns-in_default-clause-reported
 returns-in_default-clause-reported g t c = record {
   own = c.requires.own;

@@ -1,7 +1,15 @@
 use Rattle.ucl_evenings_threads.proofs.Common.{IsHandedBack, inl, inr, map_push, refl}
 use Rattle.ucl_evenings_threads.proofs.Ended.{goes_then, heard_more}
-use Rattle.ucl_evenings_threads.proofs.Zips.{zip_none, zip_push}
+use Rattle.ucl_evenings_threads.proofs.Zips.{all_pop, zip_none, zip_push}
 use Rattle.ucl_evenings_threads.proofs.tally.+hear_all.Goals as goal
+
+pub hear_all-requires-clause-entered : goal.hear_all-requires-clause-entered
+hear_all-requires-clause-entered g t c κs within =
+    (all_pop (g.B.LiveBoard.is_reporter c.args.board.now) _ _ _ c.in-Some.ensures.some c.requires.entered).0
+
+pub hear_reporter-requires-clause-own : goal.hear_reporter-requires-clause-own
+hear_reporter-requires-clause-own g t c κs within =
+    (c.hear_all.ensures.own, (all_pop (g.B.LiveBoard.is_reporter c.args.board.now) _ _ _ c.in-Some.ensures.some c.requires.entered).1)
 
 pub returns-in_default-clause-always : goal.returns-in_default-clause-always
 returns-in_default-clause-always g t c = inr refl

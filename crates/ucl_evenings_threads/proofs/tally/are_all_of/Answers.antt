@@ -4,6 +4,17 @@ use Rattle.ucl_evenings_threads.proofs.Counting.{counted_all, not_false}
 use Rattle.ucl_evenings_threads.proofs.Zips.{views_then}
 use Rattle.ucl_evenings_threads.proofs.tally.are_all_of.Goals as goal
 
+pub loop-pass-preserved : goal.loop-pass-preserved
+loop-pass-preserved g c =
+    let known = g.B.LiveBoard.reporter in
+    let entered = c.args.entered.now in
+    let i = c.loop-pass.pass-index in
+    let pass = c.pass-item.result in
+    let next = take_more entered i pass c.loop-pass-test.true ∙ ap (λ x. take i entered ++ x ∷ []) (sym c.pass-item.is) in
+    let views = views_then known (take i entered) _ pass (known pass) next refl in
+    subst (λ (l : List PassView). AreTallied l c.and-tally.result) (sym views)
+    (c.and-tally.ensures _ (known pass) c.loop-pass.invariant (sym (c.get.ensures.value ∙ c.number_of.ensures)) (sym c.accepted_of.ensures))
+
 pub loop-end-preserved : goal.loop-end-preserved
 loop-end-preserved g c =
     let known = g.B.LiveBoard.reporter in
