@@ -188,8 +188,8 @@ fn names_are_escaped(rt: HostRuntime) -> Result<(), Fail> {
     Ok(())
 }
 
-/// Asserts that an evening in JSON, with the screen after each accepted event, writes just the front of its text that fits: where its lines
-/// begin and end, and at each eleventh byte.
+/// Asserts that an evening in JSON, with the screen after each accepted event, writes just the front of its text that fits: before each object
+/// and each line feed, and at each eleventh byte.
 fn assert_stops(rt: &impl Abort, alloc: Global, text: &str, wanted: &str, full: Full) {
     for (room, byte) in wanted.bytes().enumerate() {
         if room % 11 != 0 && byte != b'\n' && byte != b'{' {
