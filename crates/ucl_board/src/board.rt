@@ -1,18 +1,17 @@
 //! The board as one thread sees it.
 
-ghost use Rattle.std.specs.Prelude.{◌≡◌, ℕ, ◌+◌, ◌-◌, ◌≤◌, List, [], ◌↔◌, Ok, IsOk, IfOk, IfErr, IfSome, IfNone};
+ghost use Rattle.std.specs.Prelude.{◌≡◌, ℕ, ◌+◌, ◌-◌, ◌≤◌, List, [], ◌↔◌, Ok, IsOk, IfOk, IfErr};
 ghost use Rattle.ucl_word.specs.Record.{IsValid};
 ghost use Rattle.ucl_word.specs.Rules.{reply_of};
 ghost use Rattle.ucl_board.specs.declared.entry.Entry.{Entry};
 ghost use Rattle.ucl_board.specs.Words.{AreWords, AreReadable, AreReadAs, IsFirstBad, game_at, greatest_version, version_of};
 ghost use Rattle.ucl_board.specs.History.{GainsEntry, IsLegal, board_of, board_after, sequential_reply, attempted, entry_of};
-ghost use Rattle.ucl_board.specs.Ways.{IsReachedBoard, IsFirstUnreached, AreLed, LeadsOn, words_under};
 
 use std::marker::Model;
 use thiserror::Error;
 use ucl_word::{
-    Accepted, EventCall, Kind, MatchNo, MatchRecord, Refusal, ReporterNo, migrate,
-    next_event_towards, next_word, number_of, pack, record_of,
+    Accepted, EventCall, MatchNo, MatchRecord, Refusal, ReporterNo, migrate, next_word, number_of,
+    pack, record_of,
 };
 
 /// 10: the first of twelve words that is the packing of no valid record, in neither layout.
@@ -109,79 +108,6 @@ impl Board {
             version += number_of(*word);
         }
         version
-    }
-
-    /// The first match that no course of events leads to, where there is one; else some legal history leads to this board.
-    pub fn first_unreachable(&self) -> Option<MatchNo>
-        ensures reached { IfNone result (IsReachedBoard self.now) }
-        ensures unreached { IfSome result (IsFirstUnreached self.now) }
-    {
-        let _ = &self.words;
-        for number in 1..13u8 {
-            if let Some(game) = MatchNo::new(number) {
-                if !self.game(game).is_reachable() {
-                    return Some(game);
-                }
-            }
-        }
-        None
-    }
-
-    /// This board as it were, had one reporter entered all events.
-    pub fn under(&self, reporter: ReporterNo) -> Board
-        ensures value { result ≡ words_under reporter self.now }
-        ensures reached { IsReachedBoard self.now → IsReachedBoard result }
-    {
-        let _own = reporter.get();
-        let mut words = [0; 12];
-        for at in 0..12u8 {
-            let game = record_of(self.words[usize::from(at)]);
-            words[usize::from(at)] = pack(&game.under(reporter));
-        }
-        Board { words }
-    }
-
-    /// The event that comes next on the way from this board to another, and who enters it: the reporter of its match on the other. None where
-    /// the boards are one. The matches come in their order, each from its number here to its number there.
-    pub fn next_event_towards(&self, target: &Board) -> Option<(ReporterNo, EventCall)>
-        requires { AreLed self.now target.now }
-        ensures there { IfNone result (self.now ≡ target.now) }
-        ensures next { IfSome result (λ x. LeadsOn self.now target.now (attempted x.0 x.1)) }
-    {
-        let _ = &self.words;
-        let _ = &target.words;
-        for number in 1..13u8 {
-            if let Some(game) = MatchNo::new(number) {
-                let next = self.next_in_match(target, game);
-                if next.is_some() {
-                    return next;
-                }
-            }
-        }
-        None
-    }
-
-    #[tactic(auto, using(ucl_word::proofs::ValidRecords::begun_reported))]
-    fn next_in_match(&self, target: &Board, game: MatchNo) -> Option<(ReporterNo, EventCall)>
-        requires { AreLed self.now target.now }
-        ensures there { IfNone result (game_at self.now game ≡ game_at target.now game) }
-        ensures next { IfSome result (λ x. LeadsOn self.now target.now (attempted x.0 x.1)) }
-    {
-        let _ = &self.words;
-        let (now, then) = (self.game(game), target.game(game));
-        let kind = next_event_towards(&now, &then)?;
-        let reporter = ReporterNo::new(then.reporter)?;
-        let expected = now.number;
-        let _within = game.get();
-        let _own = reporter.get();
-        Some((
-            reporter,
-            EventCall {
-                game,
-                expected,
-                kind,
-            },
-        ))
     }
 
     /// Enters an event in its match by the rules of events, or answers the first rule that refuses it. The other eleven

@@ -12,8 +12,8 @@ pub use entry::Entry;
 pub use fixtures::{away_of, home_of};
 pub use laws::{
     accepted_events_go_stale, added_entry_is_known, attempts_are_counted, beginnings_are_legal,
-    boards_are_counted, boards_are_reached, boards_go_on, each_pair_meets_once, one_word_changes,
-    reached_boards_are_led, repeated_events_change_nothing, same_number_same_word,
-    same_word_same_entries, versions_are_lengths,
+    boards_are_counted, boards_go_on, each_pair_meets_once, one_word_changes,
+    repeated_events_change_nothing, same_number_same_word, same_word_same_entries,
+    versions_are_lengths,
 };
 pub use reading::Reading;

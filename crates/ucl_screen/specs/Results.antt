@@ -1,11 +1,11 @@
 -- What the row of a result says: the word of a match that is over, or of one that was not played.
-use Rattle.std.specs.Prelude.{ℕ, ◌==◌, ◌&&◌, if◌then◌else◌, Bool, List, [], ◌∷◌, length, codes, Option, Some, None, option_map}
+use Rattle.std.specs.Prelude.{ℕ, ◌+◌, ◌==◌, ◌&&◌, if◌then◌else◌, Bool, List, [], ◌∷◌, length, codes, Option, Some, None, option_map}
 use Rattle.std.specs.Str.{bytes_eq}
 use Rattle.ucl_word.specs.declared.record.MatchRecord.{MatchRecord}
-use Rattle.ucl_word.specs.declared.record.State.TheVariants.{Finished}
+use Rattle.ucl_word.specs.declared.record.State.{State}
+use Rattle.ucl_word.specs.declared.record.State.TheVariants.{Scheduled, InPlay, Finished}
 use Rattle.ucl_word.specs.Layout.{word_of}
 use Rattle.ucl_word.specs.Record.{scheduled}
-use Rattle.ucl_word.specs.Ways.{fewest_events}
 use Rattle.ucl_screen.specs.Events.{◌>>=◌}
 use Rattle.ucl_screen.specs.Numbers.{in_range, is_number, number}
 use Rattle.ucl_screen.specs.Rows.{FourFields}
@@ -19,6 +19,16 @@ yellows_in text = in_range 0 63 (number 2 text)
 
 abbrev pub expulsions_in : List ℕ → Option ℕ
 expulsions_in text = in_range 0 31 (number 2 text)
+
+-- kick-off, and full time of a match that is over
+abbrev pub turns : State → ℕ
+turns Scheduled = 0
+turns InPlay = 1
+turns Finished = 2
+
+-- the fewest events that a match with this record has had
+abbrev pub fewest_events : MatchRecord → ℕ
+fewest_events m = turns m.state + m.home_goals + m.away_goals + m.home_yellows + m.away_yellows + m.home_expulsions + m.away_expulsions
 
 -- the match after the fewest events that lead to its state, its goals and its cards
 abbrev pub in_fewest : MatchRecord → MatchRecord

@@ -60,15 +60,6 @@ reporter_within Finished m h b = (grind (arith, nat_tests), grind (arith, nat_te
 pub reported : (m : MatchRecord) → IsValid m → (m.state ≡ Scheduled → ⊥) → IsReporter m.reporter
 reported m v b = reporter_within m.state m (parts m v).1 b
 
--- with an event there is a reporter
-numbered : (s : State) (m : MatchRecord) → suits_state s m ≡ true → 0 < m.number → 1 ≤ m.reporter
-numbered Scheduled m h some = grind (arith, nat_tests)
-numbered InPlay m h some = grind (arith, nat_tests)
-numbered Finished m h some = grind (arith, nat_tests)
-
-pub begun_reported : (m : MatchRecord) → IsValid m → 0 < m.number → 1 ≤ m.reporter
-begun_reported m v some = numbered m.state m (parts m v).1 some
-
 -- ---- before kick-off
 
 pub scheduled_valid : IsValid scheduled

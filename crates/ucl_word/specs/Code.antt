@@ -2,4 +2,3 @@
 pub mod Changes
 pub mod Moving
 pub mod Reading
-pub mod Going

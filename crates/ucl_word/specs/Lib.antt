@@ -7,4 +7,3 @@ pub mod Migration
 pub mod Laws
 pub mod Names
 pub mod Code
-pub mod Ways

@@ -10,14 +10,13 @@ mod record;
 mod refusal;
 mod reporter_no;
 mod rules;
-mod ways;
 mod word;
 
 pub use event::{Accepted, EventCall, Kind, Side};
 pub use laws::{
     a_match_in_play_can_be_ended, a_reopened_match_can_be_ended, counts_are_balanced,
-    counts_are_valid, layouts_differ, one_case_holds, reached_records_add_up, ways_are_counted,
-    ways_are_numbered, words_are_read, words_are_read_one_way, words_differ,
+    counts_are_valid, layouts_differ, one_case_holds, words_are_read, words_are_read_one_way,
+    words_differ,
 };
 pub use match_no::MatchNo;
 pub use migration::migrate;
@@ -25,5 +24,4 @@ pub use record::{MatchRecord, State};
 pub use refusal::{BadWord, OutOfMemory, Refusal};
 pub use reporter_no::ReporterNo;
 pub use rules::{apply, next_word};
-pub use ways::next_event_towards;
 pub use word::{number_of, pack, record_of, unpack};
