@@ -32,7 +32,7 @@ impl From<AllocError> for LineFault {
 }
 
 /// A refusal with this text, where there is memory for it.
-pub(crate) fn refusal(alloc: Global, text: &str) -> LineFault {
+fn refusal(alloc: Global, text: &str) -> LineFault {
     match String::from_str(alloc, text) {
         Ok(text) => LineFault::Refused(text),
         Err(_) => LineFault::OutOfMemory,

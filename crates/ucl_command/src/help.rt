@@ -1,6 +1,5 @@
 //! The texts of help and of refusals: what all programs share here, and each program's own in a module.
 
-pub(crate) mod evening;
 pub(crate) mod follow;
 pub(crate) mod live;
 pub(crate) mod night;
@@ -16,17 +15,6 @@ pub(crate) const UNREAD: &str = "error: the words of the command line cannot be 
 
 /// What `--group` is.
 pub(crate) const GROUP: &str = "The letter of the group";
-
-/// What `--group` is where a row may say it too.
-pub(crate) const ROW_GROUP: &str = "\
-The letter of the group; A, where no first row says
-one";
-
-/// What `--order` is where a row may say it too.
-pub(crate) const ROW_ORDER: &str = "\
-The order of the clubs: that of the Regulations, or
-with away goals among tied clubs; uefa, where no first
-row says one";
 
 /// What `--order` is.
 pub(crate) const ORDER: &str = "\

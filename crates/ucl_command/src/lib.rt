@@ -4,20 +4,15 @@
 #![tactic(auto)]
 
 mod clubs;
-mod evening;
 mod fault;
-mod files;
 mod follow;
 mod help;
 mod live;
-mod names;
 mod night;
 mod options;
 
 pub use clubs::{BrokenRule, broken_rule};
-pub use evening::evening_args;
 pub use fault::{LineFault, words_of};
-pub use files::{EveningArgs, ReporterFiles, ScreenFile};
 pub use follow::{FollowArgs, FollowShape, follow_args};
 pub use live::{LiveArgs, asks_explanations, live_args};
 pub use night::{Line, line_of};

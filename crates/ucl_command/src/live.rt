@@ -4,7 +4,7 @@ ghost use Rattle.std.specs.Prelude.{◌≡◌, true};
 ghost use Rattle.ucl_command.specs.Groups.{may_be_asked};
 
 use crate::fault::{LineFault, matches_from, read};
-use crate::help::{FORMAT, ROW_GROUP, ROW_ORDER, live as help};
+use crate::help::{FORMAT, live as help};
 use crate::options::{
     Format, flag_option, format_of, format_option, group_of, group_option, order_of, order_option,
     program,
@@ -36,8 +36,8 @@ const EXPLAIN: &str = "explain";
 /// The program's command.
 fn command<'a>(alloc: Global) -> Result<Command<'a>, AllocError> {
     program(alloc, "ucl_live", help::PROGRAM, help::PROGRAM_MORE)
-        .arg(group_option(alloc, ROW_GROUP))?
-        .arg(order_option(alloc, ROW_ORDER))?
+        .arg(group_option(alloc, help::GROUP))?
+        .arg(order_option(alloc, help::ORDER))?
         .arg(flag_option(alloc, "resumed", help::RESUMED))?
         .arg(flag_option(alloc, "screens", help::SCREENS))?
         .arg(format_option(alloc, FORMAT))?

@@ -84,16 +84,6 @@ pub(crate) fn flag_option<'a>(alloc: Global, name: &'a str, says: &'a str) -> Ar
         .help(says)
 }
 
-/// An option of one value, which may be there several times.
-pub(crate) fn several_option<'a>(
-    alloc: Global,
-    name: &'a str,
-    value: &'a str,
-    says: &'a str,
-) -> Arg<'a> {
-    option(alloc, name, value, says).action(ArgAction::Append)
-}
-
 /// The group that was named.
 #[tactic(auto, using(crate::proofs::Letters::letter_asked))]
 pub(crate) fn group_of(matches: &ArgMatches<'_>) -> Option<u8>

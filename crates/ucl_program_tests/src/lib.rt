@@ -1,4 +1,4 @@
-//! What no clause says of the runs, of evenings and of their threads: texts, statuses, nights, what words ask for, and each call once with ample
+//! What no clause says of the runs and of evenings: texts, statuses, nights, what words ask for, and each call once with ample
 //! memory.
 #![tactic(auto)]
 
@@ -18,8 +18,6 @@ mod live_command;
 mod rows;
 #[cfg(test)]
 mod runs;
-#[cfg(test)]
-mod threads;
 
 #[cfg(test)]
 use std::alloc::{AllocError, Global};

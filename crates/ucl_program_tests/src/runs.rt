@@ -3,7 +3,6 @@
 mod bare;
 mod devices;
 mod nights;
-mod told;
 
 use crate::joined;
 use devices::{fed, has_refused, has_stopped, has_written, shown};

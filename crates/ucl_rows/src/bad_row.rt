@@ -43,7 +43,7 @@ impl BadField {
 }
 
 /// The first field that is none of an event, of those after the reporter. Where the first two are, it is the event.
-pub fn bad_field_of_call(game: &[u8], expected: &[u8]) -> BadField
+fn bad_field_of_call(game: &[u8], expected: &[u8]) -> BadField
     ensures { result ≡ bad_field_of_call game.now expected.now }
 {
     if match_of_field(game).is_none() {

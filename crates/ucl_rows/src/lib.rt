@@ -15,7 +15,7 @@ mod telling;
 mod words;
 
 pub use answer::{Answer, ReplyLine, bad_answer, matches_answer, reply_answer, screen_answer};
-pub use bad_row::{BadField, bad_field, bad_field_of_call};
+pub use bad_row::{BadField, bad_field};
 pub use ending::{ended, ended_unasked, tell_refusal};
 pub use fault::{RunFault, status_of};
 pub use line::{LineReader, plain_row};

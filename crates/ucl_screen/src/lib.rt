@@ -17,7 +17,7 @@ mod transfer;
 
 pub use fault::InputFault;
 pub use fault_line::FaultLine;
-pub use fields::{call_of_fields, expected_of_field, hex_word, match_of_field, reporter_of_field};
+pub use fields::{expected_of_field, hex_word, match_of_field, reporter_of_field};
 pub use games::{matches, state_name};
 pub use laws::lines_have_53_columns;
 pub use night::{Night, NightEvent};
@@ -29,5 +29,4 @@ pub use result::{result_of_eight, result_of_fields};
 pub use rows::Four;
 pub use sheet::Sheet;
 pub use text::{is_group, letter_in, matches_in_play, screen, text_of};
-pub use transfer::read_all;
 pub use ucl_io::{FromRead, Sink, Source, ToWrite, give_all};

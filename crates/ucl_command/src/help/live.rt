@@ -64,6 +64,17 @@ Examples:
 
 docs/ROWS.md has rows, answers and all codes; docs/RULES.md has the rules.";
 
+/// What `--group` is.
+pub(crate) const GROUP: &str = "\
+The letter of the group; A, where no first row says
+one";
+
+/// What `--order` is.
+pub(crate) const ORDER: &str = "\
+The order of the clubs: that of the Regulations, or
+with away goals among tied clubs; uefa, where no first
+row says one";
+
 /// What `--resumed` does.
 pub(crate) const RESUMED: &str = "Refuses an input without words or results";
 
