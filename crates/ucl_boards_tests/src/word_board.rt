@@ -36,7 +36,7 @@ fn kicked_off(
     board.report_now(pass, &call)
 }
 
-/// What two reporters of one kick-off are answered, and what the second and a reader read afterwards: all eleven calls of the board, and
+/// What two reporters of one kick-off are answered, and what the second and a reader read afterwards: all six own calls of the board, and
 /// nothing that could wait.
 fn one_kick_off_by_two(
     board: &WordBoard,
@@ -52,11 +52,6 @@ fn one_kick_off_by_two(
         kicked_off(board, &mut second, game),
     ];
     board.meet_now(&mut first, &mut second);
-    board.meet_reader_now(reader, &mut second);
-    let note = board.note_own_now(&mut first);
-    board.hear_now(reader, note);
-    let note = board.note_now(reader);
-    board.hear_own_now(&mut second, note);
     let own = board.read_own_now(&mut second);
     Some((answers, own, board.read_now(reader)))
 }

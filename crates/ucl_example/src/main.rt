@@ -1,110 +1,134 @@
-//! A board in a program of one's own: two reporters enter events from threads of their own. Each hands the screen a note, so that the screen has
-//! both goals.
+//! A board in a program of one's own: two reporters enter the rows of two files, each in a thread of its own, while a third thread shows the table
+//! on standard error whenever an event has come. At the end the table goes to standard output.
+//!
+//! Usage: `ucl_example CLUBS ROWS ROWS`, as `ucl_example clubs.csv north.csv south.csv`. The files have the rows of a script: the first its four
+//! club rows, the others its event rows, of which the first field is passed over. A row that is wrong or refused is told and passed over.
 #![tactic(auto)]
 
-ghost use Rattle.std.specs.Prelude.{◌≡◌, IfOk};
+ghost use Rattle.std.specs.Prelude.{◌≡◌};
 
 use anyhow::Context;
 use std::alloc::Global;
-use std::thread;
-use ucl_order::{Club, Profile, Roster};
-use ucl_screen::screen;
-use ucl_word::{Accepted, EventCall, Kind, MatchNo, Refusal, Side};
-use ucl_words::{WordBoard, WordNote, WordReporterPass};
+use std::io::Eprint;
+use std::sync::Wait;
+use std::sync::atomic::{AtomicBool, Ordering};
+use std::time::{Clock, Duration};
+use std::{env, fs, thread};
+use ucl_board::Reading;
+use ucl_order::{Profile, Roster};
+use ucl_screen::{FromRead, call_of_fields, read_night, screen};
+use ucl_word::EventCall;
+use ucl_words::{WordBoard, WordReaderPass, WordReporterPass};
 
-/// The four clubs of the group, in slots 1 to 4.
-fn clubs(alloc: Global) -> anyhow::Result<Roster> {
-    let club = |name: &str, coefficient| -> anyhow::Result<Club> {
-        Ok(Club {
-            name: Vec::from_slice(alloc, name.as_bytes())?,
-            coefficient,
-        })
-    };
-    Roster::new([
-        club("Alpha", 60_000)?,
-        club("Bravo", 95_000)?,
-        club("Charlie", 60_000)?,
-        club("Delta", 81_500)?,
-    ])
-    .ok()
-    .context("no roster")
+/// The group that the table is of.
+const GROUP: u8 = b'A';
+
+/// How many milliseconds the screen sleeps between two readings.
+const PAUSE: u64 = 20;
+
+/// The clubs that a file names.
+fn clubs_in(rt: &HostRuntime, path: &str) -> anyhow::Result<Roster> {
+    let rows = fs::read(rt, path)?;
+    let night = read_night(rt.alloc(), &mut FromRead::new(rows.as_slice()));
+    Ok(night.ok().context("no four club rows")?.roster)
 }
 
-/// Enters an event of a match. It names the event number that was last seen of the match: where another reporter was faster, the answer tells
-/// the number that is there, and the event is entered once more, from that one.
-fn enter(
-    board: &WordBoard,
-    pass: &mut WordReporterPass,
-    event: &EventCall,
-) -> Result<Accepted, Refusal>
-    requires { pass.old.board ≡ board.now }
-    ensures { pass.new.board ≡ board.now }
-{
-    match board.report_now(pass, event) {
-        Err(Refusal::Stale { found }) => {
-            let again = EventCall {
-                expected: found,
-                ..*event
-            };
-            board.report_now(pass, &again)
-        }
-        reply => reply,
+/// The event that a row asks for: the match, the event number that was last seen of it, and the event.
+fn call_in(row: &str) -> Option<EventCall> {
+    let mut fields = row.split(',').skip(1);
+    let (game, expected, kind) = (fields.next()?, fields.next()?, fields.next()?);
+    if fields.next().is_some() {
+        return None;
     }
+    call_of_fields(game.as_bytes(), expected.as_bytes(), kind.as_bytes())
 }
 
-/// Enters an event, and answers a note that has it.
-fn note_of(
+/// Enters the rows of a text, in their order.
+fn enter(
+    rt: &HostRuntime,
     board: &WordBoard,
     pass: &mut WordReporterPass,
-    event: &EventCall,
-) -> Result<WordNote, Refusal>
+    rows: &str,
+) -> anyhow::Result<()>
     requires { pass.old.board ≡ board.now }
-    ensures { IfOk result (λ note. note.board ≡ board.now) }
 {
-    enter(board, pass, event)?;
-    Ok(board.note_own_now(pass))
+    for row in rows.lines() {
+        match call_in(row).map(|call| board.report_now(pass, &call)) {
+            None => eprintln!(rt; "no event: {row}")?,
+            Some(Err(refusal)) => eprintln!(rt; "refused: {row}: {refusal}")?,
+            Some(Ok(_)) => {}
+        }
+    }
+    Ok(())
+}
+
+/// Shows the table on standard error whenever the version has risen, until the reporters have ended. Answers the last reading.
+fn watch<R: Wait + Clock + Eprint>(
+    rt: &R,
+    alloc: Global,
+    board: &WordBoard,
+    pass: &mut WordReaderPass,
+    roster: &Roster,
+    have_ended: &AtomicBool,
+) -> anyhow::Result<Reading>
+    requires { pass.old.board ≡ board.now }
+{
+    let mut shown = None;
+    for _ in rt.forever() {
+        let is_last = have_ended.load(Ordering::SeqCst);
+        let reading = board.read_now(pass);
+        if shown != Some(reading.version) {
+            eprint!(rt; "{}", table(alloc, &reading, roster)?)?;
+        }
+        if is_last {
+            return Ok(reading);
+        }
+        shown = Some(reading.version);
+        thread::sleep(rt, Duration::from_millis(PAUSE));
+    }
+    unreachable!()
+}
+
+/// The table of a reading.
+fn table(alloc: Global, reading: &Reading, roster: &Roster) -> anyhow::Result<String> {
+    Ok(screen(alloc, &reading.board, roster, GROUP, Profile::Uefa)?)
 }
 
 fn main(rt: HostRuntime) -> anyhow::Result<()> {
-    let roster = clubs(rt.alloc())?;
-    let (board, mut pass) = WordBoard::open(&rt, rt.alloc())?;
-    let mut stadium = board.split_now(&mut pass);
-    let other = board.split_now(&mut pass);
-    let mut north = board.enlist_now(pass).ok().context("no number is left")?;
-    let mut south = board.enlist_now(other).ok().context("no number is left")?;
-    let game = MatchNo::new(1).context("no match 1")?;
-    let event = |expected, kind| EventCall {
-        game,
-        expected,
-        kind,
+    let words = env::args(&rt)?.collect::<Vec<String>>(rt.alloc())?;
+    let [_, clubs, north_rows, south_rows] = words.as_slice() else {
+        return Err(anyhow::anyhow!("usage: ucl_example CLUBS ROWS ROWS"));
     };
-    let kick_off = event(0, Kind::KickOff);
-    enter(&board, &mut north, &kick_off)
-        .ok()
-        .context("no kick-off")?;
-    let (home, away) = (
-        event(1, Kind::Goal(Side::Home)),
-        event(1, Kind::Goal(Side::Away)),
-    );
-    let (north_says, south_says) = thread::join(
+    let roster = clubs_in(&rt, clubs.as_str())?;
+    let north_rows = fs::read_to_string(&rt, north_rows.as_str())?;
+    let south_rows = fs::read_to_string(&rt, south_rows.as_str())?;
+    let (board, mut pass) = WordBoard::open(&rt, rt.alloc())?;
+    let (north, south) = (board.split_now(&mut pass), board.split_now(&mut pass));
+    let mut north = board.enlist_now(north).ok().context("no number is left")?;
+    let mut south = board.enlist_now(south).ok().context("no number is left")?;
+    let have_ended = AtomicBool::new(false);
+    let (entered, last) = thread::join(
         &rt,
-        || -> Result<WordNote, Refusal>
-            requires { north.board ≡ board }
-            ensures { IfOk result (λ note. note.board ≡ board) }
-        { note_of(&board, &mut north, &home) },
-        || -> Result<WordNote, Refusal>
-            requires { south.board ≡ board }
-            ensures { IfOk result (λ note. note.board ≡ board) }
-        { note_of(&board, &mut south, &away) },
+        || -> anyhow::Result<()>
+            requires { (north.board ≡ board) × (south.board ≡ board) }
+        {
+            let (first, second) = thread::join(
+                &rt,
+                || -> anyhow::Result<()>
+                    requires { north.board ≡ board }
+                { enter(&rt, &board, &mut north, north_rows.as_str()) },
+                || -> anyhow::Result<()>
+                    requires { south.board ≡ board }
+                { enter(&rt, &board, &mut south, south_rows.as_str()) },
+            );
+            have_ended.store(true, Ordering::SeqCst);
+            first.and(second)
+        },
+        || -> anyhow::Result<Reading>
+            requires { pass.board ≡ board }
+        { watch(&rt, rt.alloc(), &board, &mut pass, &roster, &have_ended) },
     );
-    let home_goal = north_says.ok().context("no goal of the home side")?;
-    let away_goal = south_says.ok().context("no goal of the visitors")?;
-    board.hear_now(&mut stadium, home_goal);
-    board.hear_now(&mut stadium, away_goal);
-    let reading = board.read_now(&mut stadium);
-    print!(&rt;
-        "{}",
-        screen(rt.alloc(), &reading.board, &roster, b'A', Profile::Uefa)?
-    )?;
+    entered?;
+    print!(&rt; "{}", table(rt.alloc(), &last?, &roster)?)?;
     Ok(())
 }

@@ -11,7 +11,7 @@ use std::thread::Threads;
 use ucl_command::{Line, LineFault, line_of};
 use ucl_devices::{CLUBS, Full, Out};
 use ucl_order::Profile;
-use ucl_pass::{CellBoard, Notes};
+use ucl_pass::{CellBoard, LiveBoard};
 use ucl_rows::RunFault;
 use ucl_runs::{obey, run};
 use ucl_screen::{FromRead, ToWrite};
@@ -385,7 +385,7 @@ fn faults_are_told(rt: HostRuntime) -> Result<(), Fail> {
 }
 
 /// What a night of the script comes to on the board that was opened for it, with so much room for its output, and how much of that was taken.
-fn played_on<B: Notes + Drop, R: Threads + Wait + Sync>(
+fn played_on<B: LiveBoard + Drop, R: Threads + Wait + Sync>(
     rt: &R,
     alloc: Global,
     opened: Result<(B, B::ReaderPass), OutOfMemory>,

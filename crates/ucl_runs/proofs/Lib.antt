@@ -8,7 +8,6 @@ pub mod GateFacts
 pub mod EnteredRows
 pub mod MergedRows
 pub mod Merges
-pub mod Unsigned
 mod NightOutput
 mod Unasked
 pub mod OneByOne

@@ -4,7 +4,6 @@ pub mod Nights
 pub mod Gates
 pub mod Workers
 pub mod Show
-pub mod TellingScreens
 pub mod Program
 pub mod Requests
 pub mod Titles

@@ -1,17 +1,19 @@
 -- A night: the rows of a script, entered by two reporters in threads of their own while readers look on.
-use Rattle.std.specs.Prelude.{◌≡◌, ◌⊎◌, ℕ, ◌+◌, ◌<◌, ◌≤◌, ◌==◌, true, false, List, [], ◌∷◌, ◌++◌}
-use Rattle.std.specs.Prelude.{⊤, Result, Ok, Err, All, length, map, take, slice_get, slice_index_or, Option, Some, None, option_map, if◌then◌else◌, codes, String, string_bytes}
+use Rattle.std.specs.Prelude.{◌≡◌, ◌≢◌, ◌⊎◌, ℕ, ◌+◌, ◌<◌, ◌≤◌, ◌==◌, true, false, List, [], ◌∷◌, ◌++◌}
+use Rattle.std.specs.Prelude.{⊤, All, length, map, take, slice_get, slice_index_or, Option, Some, None, option_map, if◌then◌else◌, codes, String, string_bytes}
+use mathlib.Core.List.{IsPrefix}
 use Rattle.std.specs.List.Sorted.{IsNonDecreasing}
 use Rattle.std.specs.Result.{is_ok}
 use Rattle.ucl_board.specs.declared.entry.Entry.{Entry}
-use Rattle.ucl_board.specs.History.{IsLegal, Attempt, attempted, entry_of, sequential_reply, accepted_of, board_of}
+use Rattle.ucl_board.specs.History.{IsLegal, Attempt, attempted, entry_of, sequential_reply, accepted_of, board_of, snapshot_at}
 use Rattle.ucl_screen.specs.declared.night.NightEvent.{NightEvent}
 use Rattle.ucl_screen.specs.Script.{first_event_row}
+use Rattle.ucl_live_board.specs.declared.live_board.LiveBoard as boards
 use Rattle.ucl_live_board.specs.Passes.{PassView, IsSound, SeesOn, Continues, kept_pass, split_pass}
 use Rattle.ucl_live_board.specs.Shares.{first_half, second_half}
-use Rattle.ucl_live_board.specs.declared.errors.Strangers.{Strangers}
 use Rattle.ucl_rows.specs.declared.fault.RunFault.{RunFault}
 use Rattle.ucl_rows.specs.Run.{MatchDuty}
+use Rattle.ucl_runs.specs.declared.night.NightEnd.{NightEnd}
 use Rattle.ucl_runs.specs.Styles.{Style, styled_screen}
 
 -- the numbers on the board that stand for reporters 1 and 2 of the script
@@ -83,11 +85,6 @@ HaveEnteredAll first second version = (version ≤ length second.seen) × (lengt
 -- of two reporters' passes the first has shown nothing, and the second this version alone
 abbrev pub HaveRead : PassView → PassView → ℕ → Type 0
 HaveRead first second version = (first.shown ≡ []) × (second.shown ≡ version ∷ [])
-
--- the version that was read once more, after that which was settled
-abbrev pub version_met : ℕ → Result ⊤ Strangers → ℕ
-version_met settled (Ok _) = settled
-version_met settled (Err strangers) = strangers.version
 
 -- rows of one match are all of one reporter
 abbrev pub EachMatchHasOneReporter : List NightEvent → Type 0
@@ -202,3 +199,28 @@ night_text first second closing = lasts_text first second ++ (codes "FINAL\n" ++
 -- the output of a night whose readers had these last screens, and whose closing screen is this
 abbrev pub night_output : {Y Z : Type 0} → List (Option (String Y)) → String Z → List ℕ
 night_output last closing = night_text (last_shown last 0) (last_shown last 1) (string_bytes closing)
+
+-- what a night on a live board promises of its end: the rows of the script, the style of its screens, and how many readings each reader takes
+module _ {B R P : Type 0} (live : boards.Ghosts B R P) (board : B) (pass : R) (rows : List NightEvent) (style : Style) (readings : ℕ) where
+  pub record IsNightEnd (end : NightEnd R P) : Type 0 where
+    -- the four passes are of the board that was lent, and the reporters' numbers differ
+    pub readers : live.is_reader board end.reader_1 × live.is_reader board end.reader_2
+    pub reporters : live.is_reporter board end.reporter_1 × live.is_reporter board end.reporter_2
+    pub apart : (live.reporter end.reporter_1).number ≢ (live.reporter end.reporter_2).number
+    -- the history that was settled is a merge of the rows, the settled reading is of it, and the closing screen is of that
+    pub merge : HaveMerged (live.reporter end.reporter_1) (live.reporter end.reporter_2) rows end.settled.version
+    pub settled : end.settled ≡ snapshot_at (live.reporter end.reporter_2).seen end.settled.version
+    pub closing : string_bytes end.closing ≡ styled_screen style end.settled.board
+    -- reporter 2's pass has seen it, both have entered just its events, and what reporter 1's pass and the lent one had seen are beginnings of it
+    pub count : HaveEnteredAll (live.reporter end.reporter_1) (live.reporter end.reporter_2) end.settled.version
+    pub beginning : IsPrefix (live.reporter end.reporter_1).seen (night_history (live.reporter end.reporter_2) end.settled.version)
+    pub since : IsPrefix (live.reader pass).seen (night_history (live.reporter end.reporter_2) end.settled.version)
+    -- reporter 1's pass has shown nothing, and that of reporter 2 the settled version alone
+    pub readings : HaveRead (live.reporter end.reporter_1) (live.reporter end.reporter_2) end.settled.version
+    -- where each match has one reporter, the schedule does not matter
+    pub board : HaveNightBoard (live.reporter end.reporter_1) (live.reporter end.reporter_2) rows end.settled.board
+    -- the four passes have the whole share of the lent one
+    pub shares : HaveShares (live.reader pass) (live.reporter end.reporter_1) (live.reporter end.reporter_2) (live.reader end.reader_1) (live.reader end.reader_2)
+    -- what a reader showed are versions of the history that it has seen, none before what the lent pass had seen
+    pub shown_1 : HasShown style (pass_of_reader_1 (live.reader pass)) (live.reader end.reader_1) readings (last_shown end.last 0)
+    pub shown_2 : HasShown style (pass_of_reader_2 (live.reader pass)) (live.reader end.reader_2) readings (last_shown end.last 1)

@@ -1,5 +1,5 @@
 -- What the first row may say of the board: its group, the order of its clubs, and its edition.
-use Rattle.std.specs.Prelude.{ℕ, ◌==◌, ◌&&◌, if◌then◌else◌, Bool, true, false, List, codes, Option, Some, None}
+use Rattle.std.specs.Prelude.{ℕ, ◌==◌, ◌&&◌, Bool, true, false, List, codes, Option, Some, None}
 use Rattle.std.specs.Str.{bytes_eq}
 use Rattle.ucl_order.specs.declared.profile.Profile.{Profile}
 use Rattle.ucl_order.specs.declared.profile.Profile.TheVariants.{Uefa, AwayInTie}
@@ -36,10 +36,6 @@ title_said (Row f) = title_by f
 title_said (Other eight) = None
 title_said Nothing = None
 
--- what a row says of its group, where it is that of one: a title, or none
-abbrev pub group_said : Said → Option (Option Title)
-group_said said = if is_group_row said then Some (title_said said) else None
-
 -- ---- what was asked for
 
 abbrev pub is_asked_group : Option ℕ → ℕ → Bool
@@ -74,8 +70,3 @@ asked_order (Some profile) = profile
 
 abbrev pub asked_title : LiveArgs → Title
 asked_title options = record { group = asked_group options.group; profile = asked_order options.profile; edition = 0 }
-
--- the title of a board whose input says this one, or none: that, where it is as asked, else none; or what was asked for
-abbrev pub title_for : Option ℕ → Option Profile → Option Title → Option Title
-title_for group profile None = Some (record { group = asked_group group; profile = asked_order profile; edition = 0 })
-title_for group profile (Some title) = if is_asked group profile title then Some title else None

@@ -3,14 +3,13 @@ use Rattle.std.specs.Prelude.{⊤, ℕ, ◌≤◌, List, length, take, option_ma
 use mathlib.Core.List.{IsPrefix}
 use Rattle.ucl_screen.specs.declared.night.NightEvent.{NightEvent}
 use Rattle.ucl_live_board.specs.declared.live_board.LiveBoard as boards
-use Rattle.ucl_live_board.specs.Passes.{PassView, ReportsMore}
+use Rattle.ucl_live_board.specs.Passes.{PassView}
 use Rattle.ucl_live_board.specs.Settling.{AreAlone}
 use Rattle.ucl_rows.specs.declared.fault.RunFault.{RunFault}
 use Rattle.ucl_rows.specs.declared.fault.RunFault.TheVariants.{Input, WriteFailed, TooManyReporters, Strangers}
 use Rattle.ucl_rows.specs.Faults.{HasNoNumberLeft}
 use Rattle.ucl_runs.specs.declared.plan.Plan.{Plan}
 use Rattle.ucl_runs.specs.declared.workers.Shown.{Shown}
-use Rattle.ucl_runs.specs.Gates.{rows_by}
 use Rattle.ucl_runs.specs.Nights.{IsFresh, IsNew, HasEntered, HasShown}
 use Rattle.ucl_runs.specs.Styles.{Style, styled}
 
@@ -31,10 +30,9 @@ module _ {B R P : Type 0} (live : boards.Ghosts B R P) (board : B) where
   abbrev pub IsNewOn : R → Type 0
   IsNewOn pass = live.is_reader board pass × IsNew (live.reader pass)
 
-  -- a reporter's pass of the board has entered its rows of a script, and has reported each of them once
+  -- a reporter's pass of the board has entered its rows of a script
   abbrev pub HasEnteredOn : {G : Type 0} → Plan G → P → ℕ → P → Type 0
   HasEnteredOn plan before reporter after = live.is_reporter board after × HasEntered (live.reporter before) (live.reporter after) reporter (rows_of_plan plan)
-      × ReportsMore (live.has_reported before) (rows_by reporter (rows_of_plan plan)) (live.has_reported after)
 
   -- a reader's pass of the board has shown its readings
   abbrev pub HasShownOn : {G : Type 0} → Plan G → R → Shown R → Type 0

@@ -31,7 +31,6 @@ mod show;
 mod some_words;
 mod stage;
 mod table;
-mod telling_screens;
 mod threads;
 mod title;
 mod workers;
@@ -55,11 +54,9 @@ pub use live_laws::{
     first_rows_open_the_board, json_answers_are_lines, json_says_the_same, lines_are_read_whole,
     refused_evenings_are_silent, replies_are_those_of_feed,
 };
-pub use live_program::{OTHER_GROUP, run_evening};
-pub use night::{NightEnd, meet_readers, night_run, put_night};
+pub use live_program::run_evening;
+pub use night::{NightEnd, night_run, put_night};
 pub use night_laws::schedule_does_not_matter;
 pub use parts::Parts;
 pub use program::{obey, run};
 pub use show::show_run;
-pub use telling_screens::{ToldScreen, report_and_show};
-pub use title::{first_group, is_asked, title_for};

@@ -12,7 +12,7 @@ use ucl_rows::{ended_unasked, tell, tell_refusal};
 use ucl_screen::{Sink, Source};
 
 /// What is told where the first row says another group or order than was asked for.
-pub const OTHER_GROUP: &str = "error: the row of the group differs from --group or --order\n";
+const OTHER_GROUP: &str = "error: the row of the group differs from --group or --order\n";
 
 /// Tells the fault of an evening, where it has one, and gives the exit status.
 fn told<E: Sink>(errors: &mut E, done: Result<(), PumpFault<LiveFault>>) -> u8

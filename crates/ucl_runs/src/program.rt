@@ -7,21 +7,20 @@ ghost use Rattle.ucl_runs.specs.Program.{Obeys, Runs, streams_at};
 
 use crate::feed::feed_run;
 use crate::gate::OpenGate;
-use crate::night::{meet_readers, night_run, put_night};
+use crate::night::{night_run, put_night};
 use crate::show::show_run;
 use std::alloc::Global;
 use std::sync::Wait;
 use std::thread::Threads;
 use ucl_command::{Line, LineFault};
-use ucl_live_board::Notes;
+use ucl_live_board::LiveBoard;
 use ucl_order::Profile;
 use ucl_rows::{RunFault, ended, ended_unasked};
 use ucl_screen::{Sink, Source, read_night};
 use ucl_word::OutOfMemory;
 
-/// Reads a script from the source, runs its night on the board that was opened for it, makes sure that the readers showed the history
-/// that was settled, and writes the output to the sink.
-fn play<B: Notes + Drop, S: Source, W: Sink, R: Threads + Wait + Sync>(
+/// Reads a script from the source, runs its night on the board that was opened for it, and writes the output to the sink.
+fn play<B: LiveBoard + Drop, S: Source, W: Sink, R: Threads + Wait + Sync>(
     rt: &R,
     alloc: Global,
     opened: Result<(B, B::ReaderPass), OutOfMemory>,
@@ -33,23 +32,15 @@ fn play<B: Notes + Drop, S: Source, W: Sink, R: Threads + Wait + Sync>(
 ) -> Result<(), RunFault>
     requires own { IfOk opened (λ it. B.is_reader it.0 it.1) }
     requires group { IsGroup group }
-    ensures { Obeys (Line.Night group readings profile)
+    ensures { Obeys B.LiveBoard opened (Line.Night group readings profile)
         (streams_at S.Source W.Sink source.old sink.old)
         (streams_at S.Source W.Sink source.new sink.new) result }
 {
     let night = read_night(alloc, source)?;
     let (board, pass) = opened?;
     let gate = &OpenGate;
-    let mut end = night_run(
+    let end = night_run(
         rt, alloc, &board, pass, &night, group, readings, gate, profile,
-    )?;
-    meet_readers(
-        &board,
-        rt,
-        &mut end.reader_1,
-        &mut end.reader_2,
-        &mut end.reporter_2,
-        end.settled.version,
     )?;
     put_night(&end, sink)
 }
@@ -59,9 +50,9 @@ fn play<B: Notes + Drop, S: Source, W: Sink, R: Threads + Wait + Sync>(
 ///
 /// # Errors
 ///
-/// Those of `feed_run` and of `show_run`; for a night those of `read_night`, want of memory for the board, and those of `night_run`, of
-/// `meet_readers` and of `put_night`. Where the source has failed, the input is refused or there is no memory, nothing is written.
-pub fn obey<B: Notes + Drop, S: Source, W: Sink, R: Threads + Wait + Sync>(
+/// Those of `feed_run` and of `show_run`; for a night those of `read_night`, want of memory for the board, and those of `night_run` and of
+/// `put_night`. Where the source has failed, the input is refused or there is no memory, nothing is written.
+pub fn obey<B: LiveBoard + Drop, S: Source, W: Sink, R: Threads + Wait + Sync>(
     rt: &R,
     alloc: Global,
     line: Line,
@@ -71,7 +62,7 @@ pub fn obey<B: Notes + Drop, S: Source, W: Sink, R: Threads + Wait + Sync>(
 ) -> Result<(), RunFault>
     requires own { IfOk opened (λ it. B.is_reader it.0 it.1) }
     requires in_range { IsInRange line }
-    ensures { Obeys line (streams_at S.Source W.Sink source.old sink.old)
+    ensures { Obeys B.LiveBoard opened line (streams_at S.Source W.Sink source.old sink.old)
         (streams_at S.Source W.Sink source.new sink.new) result }
 {
     match line {
@@ -88,7 +79,7 @@ pub fn obey<B: Notes + Drop, S: Source, W: Sink, R: Threads + Wait + Sync>(
 /// Does what the arguments asked for, as `line_of` answered it, and gives the exit status: 0 where it was done, 2 where the arguments are
 /// refused, by the text of `clap`, and else that of the fault, which is told by its line. Help goes to the output. A night takes place on the
 /// board that was opened for it.
-pub fn run<B: Notes + Drop, S: Source, W: Sink, E: Sink, R: Threads + Wait + Sync>(
+pub fn run<B: LiveBoard + Drop, S: Source, W: Sink, E: Sink, R: Threads + Wait + Sync>(
     rt: &R,
     alloc: Global,
     asked: Result<Line, LineFault>,
@@ -99,7 +90,7 @@ pub fn run<B: Notes + Drop, S: Source, W: Sink, E: Sink, R: Threads + Wait + Syn
 ) -> u8
     requires own { IfOk opened (λ it. B.is_reader it.0 it.1) }
     requires in_range { IfOk asked IsInRange }
-    ensures { Runs asked (streams_at S.Source W.Sink source.old sink.old)
+    ensures { Runs B.LiveBoard opened asked (streams_at S.Source W.Sink source.old sink.old)
         (streams_at S.Source W.Sink source.new sink.new) result
         (E.failed errors.new) (E.taken errors.old) (E.taken errors.new) }
 {

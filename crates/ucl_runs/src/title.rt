@@ -5,13 +5,13 @@ ghost use Rattle.ucl_order.specs.Names.{profile_named};
 ghost use Rattle.ucl_screen.specs.Rows.{four_seen};
 ghost use Rattle.ucl_screen.specs.Screen.{IsGroup};
 ghost use Rattle.ucl_command.specs.Groups.{may_be_asked};
-ghost use Rattle.ucl_rows.specs.Rows.{fields_seen, said_on};
-ghost use Rattle.ucl_runs.specs.Titles.{asked_group, asked_order, asked_title, group_said, is_as_asked, is_asked, is_asked_group, is_asked_order, is_group_row, is_same_order, title_by, title_for, title_said};
+ghost use Rattle.ucl_rows.specs.Rows.{fields_seen};
+ghost use Rattle.ucl_runs.specs.Titles.{asked_group, asked_order, asked_title, is_as_asked, is_asked, is_asked_group, is_asked_order, is_group_row, is_same_order, title_by, title_said};
 
 use ucl_command::LiveArgs;
 use ucl_json::Title;
 use ucl_order::Profile;
-use ucl_rows::{LineReader, RowCount, RowFields};
+use ucl_rows::RowFields;
 use ucl_screen::{Four, expected_of_field, letter_in};
 
 /// The order that a field names.
@@ -101,7 +101,7 @@ fn is_asked_order(asked: Option<Profile>, order: Profile) -> bool
 }
 
 /// Whether the group and the order of a title are those that were asked for, where some were.
-pub fn is_asked(group: Option<u8>, profile: Option<Profile>, title: Title) -> bool
+pub(crate) fn is_asked(group: Option<u8>, profile: Option<Profile>, title: Title) -> bool
     ensures { result ≡ is_asked group profile title }
 {
     is_asked_group(group, title.group) && is_asked_order(profile, title.profile)
@@ -146,53 +146,5 @@ pub(crate) fn asked_title(options: &LiveArgs) -> Title
         group: asked_group(options.group),
         profile: asked_order(options.profile),
         edition: 0,
-    }
-}
-
-/// What a row says of its group, where it is that of one: a title, or none where the row is bad.
-fn group_said(row: &RowFields<'_>) -> Option<Option<Title>>
-    ensures told { result ≡ group_said (fields_seen row.now) }
-    ensures letter { IfSome result (λ said. IfSome said (λ title. IsGroup title.group)) }
-{
-    if is_group_row(row) {
-        Some(title_said(row))
-    } else {
-        None
-    }
-}
-
-/// What the first line of an input says, where it is the row of a group: a title, or none where the row is bad.
-pub fn first_group(line: &[u8]) -> Option<Option<Title>>
-    ensures told { result ≡ group_said (said_on 1 line.now) }
-    ensures letter { IfSome result (λ said. IfSome said (λ title. IsGroup title.group)) }
-{
-    let mut reader = LineReader::new();
-    match reader.read(1, line) {
-        RowCount::Nothing | RowCount::More => None,
-        RowCount::One => {
-            let row = reader.row();
-            group_said(&row)
-        }
-    }
-}
-
-/// The title of a board whose input says this one, or none: that, where it is as asked, or what was asked for.
-pub fn title_for(group: Option<u8>, profile: Option<Profile>, said: Option<Title>) -> Option<Title>
-    requires asked { may_be_asked group ≡ true }
-    requires said { IfSome said (λ title. IsGroup title.group) }
-    ensures told { result ≡ title_for group profile said }
-    ensures letter { IfSome result (λ title. IsGroup title.group) }
-{
-    let Some(title) = said else {
-        return Some(Title {
-            group: asked_group(group),
-            profile: asked_order(profile),
-            edition: 0,
-        });
-    };
-    if is_asked(group, profile, title) {
-        Some(title)
-    } else {
-        None
     }
 }

@@ -2,8 +2,6 @@
 
 ghost use Rattle.std.specs.Prelude.{IfOk, option_map, string_bytes};
 ghost use Rattle.ucl_screen.specs.Screen.{IsGroup};
-ghost use Rattle.ucl_live_board.specs.Passes.{ReportsMore};
-ghost use Rattle.ucl_runs.specs.Gates.{rows_by};
 ghost use Rattle.ucl_runs.specs.Nights.{IsFresh, IsNew, HasEntered, HasShown};
 ghost use Rattle.ucl_runs.specs.Workers.{style_of};
 
@@ -29,8 +27,6 @@ pub fn enter_rows<B: LiveBoard, G: Gate, R: Wait>(
     requires fresh { IsFresh (B.reporter pass) }
     ensures own { B.is_reporter board.entry.now result }
     ensures entered { HasEntered (B.reporter pass) (B.reporter result) reporter rows.entry.now }
-    ensures reported { ReportsMore (B.has_reported pass) (rows_by reporter rows.entry.now)
-        (B.has_reported result) }
 {
     let mut call: u32 = 0;
     for row in rows {

@@ -17,7 +17,7 @@ mod transfer;
 
 pub use fault::InputFault;
 pub use fault_line::FaultLine;
-pub use fields::{expected_of_field, hex_word, match_of_field, reporter_of_field};
+pub use fields::{call_of_fields, expected_of_field, hex_word, match_of_field, reporter_of_field};
 pub use games::{matches, state_name};
 pub use laws::lines_have_53_columns;
 pub use night::{Night, NightEvent};

@@ -1,7 +1,7 @@
 //! The examples of the doc comments, each a test.
 
 use std::test::Fail;
-use ucl_pass::{CellBoard, LiveBoard, Notes, TooManyReporters, settle};
+use ucl_pass::{CellBoard, LiveBoard, TooManyReporters, settle};
 use ucl_word::{Accepted, EventCall, Kind, MatchNo};
 
 #[test]
@@ -78,60 +78,6 @@ fn meet(rt: HostRuntime) -> Result<(), Fail> {
     let mut second = board.enlist(&rt, other).ok().ok_or("no number")?;
     board.meet(&rt, &mut first, &mut second);
     assert_eq!(rt; board.read_own(&rt, &mut second).version, 0);
-    Ok(())
-}
-
-#[test]
-fn meet_reader(rt: HostRuntime) -> Result<(), Fail> {
-    let (board, mut pass) = CellBoard::open(&rt, rt.alloc())?;
-    let mut reader = board.split(&rt, &mut pass);
-    let mut reporter = board.enlist(&rt, pass).ok().ok_or("no number")?;
-    board.meet_reader(&rt, &mut reader, &mut reporter);
-    assert_eq!(rt; board.read_own(&rt, &mut reporter).version, 0);
-    Ok(())
-}
-
-#[test]
-fn note(rt: HostRuntime) -> Result<(), Fail> {
-    let (board, mut reader) = CellBoard::open(&rt, rt.alloc())?;
-    let mut screen = board.split(&rt, &mut reader);
-    let note = board.note(&rt, &mut reader);
-    board.hear(&rt, &mut screen, note);
-    assert_eq!(rt; board.read(&rt, &mut screen).version, 0);
-    Ok(())
-}
-
-#[test]
-fn note_own(rt: HostRuntime) -> Result<(), Fail> {
-    let (board, mut pass) = CellBoard::open(&rt, rt.alloc())?;
-    let mut screen = board.split(&rt, &mut pass);
-    let mut reporter = board.enlist(&rt, pass).ok().ok_or("no number")?;
-    let note = board.note_own(&rt, &mut reporter);
-    board.hear(&rt, &mut screen, note);
-    assert_eq!(rt; board.read(&rt, &mut screen).version, 0);
-    Ok(())
-}
-
-#[test]
-fn hear(rt: HostRuntime) -> Result<(), Fail> {
-    let (board, mut pass) = CellBoard::open(&rt, rt.alloc())?;
-    let mut screen = board.split(&rt, &mut pass);
-    let mut reporter = board.enlist(&rt, pass).ok().ok_or("no number")?;
-    let note = board.note_own(&rt, &mut reporter);
-    board.hear(&rt, &mut screen, note);
-    let reading = board.read(&rt, &mut screen);
-    assert_eq!(rt; board.read_own(&rt, &mut reporter), reading);
-    Ok(())
-}
-
-#[test]
-fn hear_own(rt: HostRuntime) -> Result<(), Fail> {
-    let (board, mut pass) = CellBoard::open(&rt, rt.alloc())?;
-    let mut reader = board.split(&rt, &mut pass);
-    let mut reporter = board.enlist(&rt, pass).ok().ok_or("no number")?;
-    let note = board.note(&rt, &mut reader);
-    board.hear_own(&rt, &mut reporter, note);
-    assert_eq!(rt; board.read_own(&rt, &mut reporter).version, 0);
     Ok(())
 }
 

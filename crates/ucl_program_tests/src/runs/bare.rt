@@ -29,8 +29,6 @@ impl LiveBoard for Bare {
 
     ghost reporter = { ⟦<CellBoard as LiveBoard>⟧.reporter };
 
-    ghost has_reported = { ⟦<CellBoard as LiveBoard>⟧.has_reported };
-
     fn report<R: Wait>(
         &self,
         rt: &R,

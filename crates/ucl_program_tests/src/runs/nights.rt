@@ -11,9 +11,9 @@ use std::thread::Threads;
 use ucl_board::{Board, Reading};
 use ucl_devices::{Full, Idle, Out};
 use ucl_order::{Profile, Roster};
-use ucl_pass::{CellBoard, CellReaderPass, LiveBoard, Notes, Strangers};
+use ucl_pass::{CellBoard, CellReaderPass, LiveBoard};
 use ucl_rows::RunFault;
-use ucl_runs::{Gate, NightEnd, OpenGate, meet_readers, night_run, put_night};
+use ucl_runs::{Gate, NightEnd, OpenGate, night_run, put_night};
 use ucl_screen::{FromRead, Night, ToWrite, read_night, screen};
 use ucl_word::{EventCall, Kind, MatchNo};
 use ucl_words::WordBoard;
@@ -571,72 +571,6 @@ fn board_with_an_event_of_a_third_reporter(rt: HostRuntime) -> Result<(), Fail> 
         [in_cell, in_words],
         [Err(RunFault::Strangers { version: 1 }); 2]
     );
-    Ok(())
-}
-
-/// What the readers of a night have seen is of the settled history; then an event of a third reporter is met.
-fn met_after_a_night<B: Notes, R: Threads + Wait + Sync>(
-    rt: &R,
-    alloc: Global,
-    board: &B,
-    mut pass: B::ReaderPass,
-) -> Result<[Result<(), Strangers>; 2], Fail>
-    requires { B.is_reader board.now pass }
-{
-    let night = night_of(alloc, head_to_head_script(alloc)?.as_str())?;
-    let reader = board.split(rt, &mut pass);
-    let profile = Profile::Uefa;
-    let NightEnd {
-        settled,
-        mut reader_1,
-        mut reader_2,
-        mut reporter_2,
-        ..
-    } = night_run(rt, alloc, board, pass, &night, b'A', 3, &OpenGate, profile)?;
-    let version = settled.version;
-    let alone = meet_readers(
-        board,
-        rt,
-        &mut reader_1,
-        &mut reader_2,
-        &mut reporter_2,
-        version,
-    );
-    let Ok(mut third) = board.enlist(rt, reader) else {
-        return Err("no number is left".into());
-    };
-    let game = MatchNo::new(12).ok_or("no such match")?;
-    let expected = settled.board.game(game).number;
-    let kind = Kind::Reopen;
-    let call = EventCall {
-        game,
-        expected,
-        kind,
-    };
-    if board.report(rt, &mut third, &call).is_err() {
-        return Err("match 12 is not opened again".into());
-    }
-    let beside = meet_readers(
-        board,
-        rt,
-        &mut reader_1,
-        &mut reader_2,
-        &mut reporter_2,
-        version,
-    );
-    Ok([alone, beside])
-}
-
-#[test]
-fn readers_that_are_met(rt: HostRuntime) -> Result<(), Fail> {
-    let alloc = rt.alloc();
-    let (board, pass) = CellBoard::open(&rt, alloc)?;
-    let in_cell = met_after_a_night(&rt, alloc, &board, pass)?;
-    let (board, pass) = WordBoard::open(&rt, alloc)?;
-    let in_words = met_after_a_night(&rt, alloc, &board, pass)?;
-    let met = [Ok(()), Err(Strangers { version: 41 })];
-    assert_eq!(rt; in_cell, met);
-    assert_eq!(rt; in_words, met);
     Ok(())
 }
 
