@@ -17,17 +17,16 @@ KINDS = {
     "ucl_words": "Play Look, Play First, Play Second, Play CountEnlisted, Play Swap, Play Enlist, Split SecondPass, Split Note, Join Note",
     "ucl_pass": "Outcome LooksAt, Outcome Adds, Outcome Reads, Outcome Counts, Outcome Enlists, Split SecondPass, Split Note, Join Note",
 }
-# What a board, its passes and its notes have, and what that is of.
+# What a board and its passes have, and what that is of.
 PARTS = {
     "ucl_words": [
         "pub struct WordBoard { table: Table, }", "pub type Table = atomic_table::Table<Entry, WordView, (), OneHistory, Global>;",
         "pub type Seat = atomic_table::Seat<Entry, WordView>;", "pub struct WordReaderPass { pub(crate) seat: Seat, }",
-        "pub struct WordNote { pub(crate) seat: Seat, }",
         "pub struct WordReporterPass { pub(crate) seat: Seat, pub(crate) number: ReporterNo, pub(crate) accepted: u16, }",
     ],
     "ucl_pass": [
         "pub struct CellBoard { cell: Cell, }", "pub type Cell = RuledSeqCell<[u64; 13], CellView, OneHistory, 13>;",
-        "pub type Seat = Pass<[u64; 13], CellView>;", "pub struct CellReaderPass { pub(crate) seat: Seat, }", "pub struct CellNote { pub(crate) seat: Seat, }",
+        "pub type Seat = Pass<[u64; 13], CellView>;", "pub struct CellReaderPass { pub(crate) seat: Seat, }",
         "pub struct CellReporterPass { pub(crate) seat: Seat, pub(crate) number: ReporterNo, pub(crate) accepted: u16, }",
     ],
 }
@@ -38,20 +37,20 @@ TRAITS = {
     "ucl_word": {
         **dict.fromkeys(["Accepted", "EventCall", "Kind", "Side"], PLAIN),
         **dict.fromkeys(["MatchRecord", "State"], "Clone Copy Debug Default Eq PartialEq"),
-        **dict.fromkeys(["MatchNo", "ReporterNo"], f"{PLAIN} | Model"), "BadWord": "Clone Copy Debug Eq Error PartialEq", "Tally": "Clone Copy",
+        **dict.fromkeys(["MatchNo", "ReporterNo"], f"{PLAIN} | Model"), "BadWord": "Clone Copy Debug Eq Error PartialEq",
         "OutOfMemory": "Clone Copy Debug Eq Error PartialEq | From<AllocError> From<AllocFailed<T>>", "Refusal": f"{PLAIN} | error::Error fmt::Display",
     },
     "ucl_board": {"BadWordAt": "Clone Copy Debug Eq Error PartialEq", "Board": f"{PLAIN} | Model", "Entry": PLAIN, "Reading": PLAIN},
     "ucl_live_board": {"Brand": "| Asking", "Strangers": "Clone Copy Debug Eq Error PartialEq", "TooManyReporters": "Drop Error", "View": "| Model"},
     "ucl_pass": {
         **dict.fromkeys(["Adds<K>", "Counts<K>", "Enlists<K>", "LooksAt<K>", "Reads<K>"], "| Outcome<[u64; 13], CellView>"),
-        **dict.fromkeys(["CellNote", "CellReaderPass", "CellReporterPass"], "Drop | Model"), "CellBoard": "Drop | LiveBoard Model Notes",
+        **dict.fromkeys(["CellReaderPass", "CellReporterPass"], "Drop | Model"), "CellBoard": "Drop | LiveBoard Model",
         "CellView": "| Model", "Note": "| Join<CellView> Split<CellView>", "OneHistory": "| Protocol<[u64; 13], CellView>",
         "SecondPass": "| Split<CellView>",
     },
     "ucl_words": {
         **dict.fromkeys(["CountEnlisted<K>", "Enlist<K>", "First", "Look<K>", "Second<K>", "Swap<K>"], "| Play<Entry, WordView>"),
-        **dict.fromkeys(["WordNote", "WordReaderPass", "WordReporterPass"], "Drop | Model"), "WordBoard": "Drop | LiveBoard Model Notes",
+        **dict.fromkeys(["WordReaderPass", "WordReporterPass"], "Drop | Model"), "WordBoard": "Drop | LiveBoard Model",
         "WordView": "| Model", "Note": "| Join<WordView> Split<WordView>", "OneHistory": "Clone Copy | TableRule<Entry, WordView, ()>",
         "SecondPass": "| Split<WordView>",
     },
@@ -134,13 +133,13 @@ def traits_are_listed(top):
 
 def nothing_acts_when_let_go(top):
     """No type of nights and of evenings does anything when it is let go, but let go of its parts; and a handle does so alone."""
-    found = [f"{crate}: {it}" for crate in (*TRAITS, "ucl_runs", "ucl_evenings", "ucl_evenings_threads") for it in LETS_GO.findall(code_of(top, crate))]
+    found = [f"{crate}: {it}" for crate in (*TRAITS, "ucl_runs") for it in LETS_GO.findall(code_of(top, crate))]
     handles = text_of(top, "ucl_c_handles", "src").split("fn let_go(")
     return found + ([] if len(handles) == 2 and LET_GO in handles[1] else ["ucl_c_handles: a handle does something else when it is let go"])
 
 
 def boards_hold_words_alone(top):
-    """A board has its words, and nothing else: no lock, and no copy; and a pass or a note has its seat, and of a reporter the number and a count."""
+    """A board has its words, and nothing else: no lock, and no copy; and a pass has its seat, and of a reporter the number and a count."""
     texts = {crate: " ".join(code_of(top, crate).split()) for crate in PARTS}
     found = [f"{crate}: not there: {part}" for crate, parts in PARTS.items() for part in parts if part not in texts[crate]]
     return found + [f"{crate}: a static, which all boards have" for crate, text in texts.items() if re.search(r"(?<!')\bstatic\b", text)]

@@ -144,8 +144,6 @@ READINGS = ["\n      --readings <NUMBER> ", ", 0 to 1,000 [default: 0]\n"]
 STATUSES = ["\n  0  done", "\n  2  the words", "\n  3  the input", "\n  4  reading or writing", "\n  5  there is no memory", "\n  6  the board"]
 STARTS = ["\n  ucl_night feed < ", "\n  ucl_night show --group B < ", "\n  ucl_night night --readings 3 < "]
 SUBCOMMANDS = ["\n  feed ", "\n  show ", "\n  night ", "\n  -V, --version "]
-WAYS = ["\n      --reporter <IN=OUT> ", "\n      --screen <OUT> ", "\n      --json <OUT> ", "\n  mkfifo north.rows north.replies\n"]
-WAYS += [EVENT_ROW, "\n  MATCH,EXPECTED,EVENT ", "\n  LINE ok MATCH NUMBER VERSION "]
 
 # What a good name and a good coefficient are, and where the codes are.
 RULES = ["club,1,", "printable", "up to 999,999", "docs/ROWS.md has"]
@@ -158,10 +156,7 @@ test_helps = tabled({line: (line, "", Has("", *parts)) for line, parts in {
     "ucl_night night --help": ["Usage: ucl_night night [OPTIONS]\n", *GROUP, *ORDER, *READINGS, STARTS[2]],
     "ucl_live --help": ["Usage: ucl_live [OPTIONS]", *RULES, "1,1,0,kickoff", "matches,,,", "result,7,2,1", *ASKED, "--resumed", "--screens", "--explain", "--format <FORMAT>"],
     "ucl_follow --help": ["Usage: ucl_follow [OPTIONS]", *RULES, "--group <GROUP>", "--order <ORDER>", "--matches", "--resume", "--format <FORMAT>"],
-    "ucl_evening --help": ["Usage: ucl_evening ", *RULES, "1,0,kickoff", *WAYS, *ASKED, STATUSES[1]],
 }.items()})
-
-SEVENTEEN = " ".join(f"--reporter {number}.rows={number}.replies" for number in range(17))
 
 test_words_that_are_refused = tabled({line or "no words": (line, "", "", 2, Has("error: ", reason)) for line, reason in {
     "ucl_night show --version": "", "ucl_night": "subcommand", "ucl_night other": "'other'", "ucl_night show --group I": "'I'",
@@ -172,12 +167,10 @@ test_words_that_are_refused = tabled({line or "no words": (line, "", "", 2, Has(
     "ucl_live --group": "", "ucl_live --scren": "'--screens'", "ucl_live --format jsn": "'json'", "ucl_night fed": "'feed'",
     "ucl_follow --group I": "'I'", "ucl_follow --order": "", "ucl_follow --format xml": "", "ucl_follow evening.jsonl": "", "ucl_follow --resume=1": "", "ucl_follow --format": "",
     "ucl_follow --matches --format json": "--format", "ucl_follow --resume --matches": "--matches",
-    "ucl_evening": "required", "ucl_evening clubs.csv": "--reporter", f"ucl_evening clubs.csv {SEVENTEEN}": "1 to 16 reporters",
-    "ucl_evening clubs.csv --reporter rows": "IN=OUT", "ucl_evening clubs.csv --reporter clubs.csv=replies": "twice",
 }.items()})
 
 
-VERSIONS = ["ucl_night --version", "ucl_night -V", "ucl_night -V feed", "ucl_live --version", "ucl_live -V", "ucl_follow -V", "ucl_evening -V"]
+VERSIONS = ["ucl_night --version", "ucl_night -V", "ucl_night -V feed", "ucl_live --version", "ucl_live -V", "ucl_follow -V"]
 
 
 @pytest.mark.parametrize("line", VERSIONS)

@@ -192,7 +192,7 @@ def hall(tmp_path, program):
 
 @pytest.mark.quick
 def test_each_line_of_the_page_is_tried():
-    assert TYPED.keys() == MEANT.keys() and LINES.keys() == {*AGAIN, "The journal of group A", "`ucl_evening --format json`"}
+    assert TYPED.keys() == MEANT.keys() and LINES.keys() == {*AGAIN, "The journal of group A"}
 
 
 @pytest.mark.parametrize("mistake", AGAIN)
@@ -207,24 +207,3 @@ def test_a_board_begun_again(hall, mistake):
     hall("".join(begin), "8,12,0,kickoff\n")
     assert hall("./ucl_follow <evening.jsonl | tail -n 12") == screen(after(*meant), roster) + screen(after(*meant, "8,12,0,kickoff\n"), roster)
     assert hall("./ucl_follow --resume <evening.jsonl | head -n 1") == "group,A,uefa,1\n"
-
-
-def test_an_evening_of_threads_begun_again(hall, program, tmp_path):
-    (tmp_path / "ucl_evening").symlink_to(program("ucl_evening"))
-    for name, text in ("clubs.csv", CLUBS), ("north.typed", "".join(row[2:] for row in ROWS[:-1])), ("south.typed", ROWS[-1][2:]), ("more", "12,0,kickoff\n"):
-        (tmp_path / name).write_text(text)
-    hall("./ucl_evening clubs.csv --reporter north.typed=north.replies --reporter south.typed=south.replies --format json")
-    hall(LINES["`ucl_evening --format json`"])
-    without = after(*(row.replace("7,", "1,", 1) for row in AGAIN["A card in match 1"][3]))
-    assert (tmp_path / "next.csv").read_text() == "group,A,uefa,1\n" + QUOTED + sheet(without)
-    told = hall("./ucl_evening next.csv --reporter more=replies --json screens; tail -n 1 screens | ./ucl_follow --resume")
-    assert told.startswith("word,1,") and "group,A,uefa,1\n" in told
-
-
-def test_answers_of_several_reporters_are_put_in_order(hall, tmp_path):
-    """Events of one match whose answers went to two reporters, in turn."""
-    lines = journal_of(NIGHT).splitlines(True)
-    for name, answers in ("north", lines[::2]), ("south", lines[1::2]):
-        (tmp_path / f"{name}.replies").write_text("".join(answers))
-    hall(LINES["`ucl_evening --format json`"])
-    assert (tmp_path / "next.csv").read_text() == "group,A,uefa,1\n" + QUOTED + sheet(after(*AGAIN["A card in match 1"][3]))

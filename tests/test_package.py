@@ -18,7 +18,7 @@ import model
 import pytest
 from conftest import EXAMPLES, TOP, command, needs, text_of
 
-PROGRAMS = "ucl_live ucl_evening ucl_follow ucl_night".split()
+PROGRAMS = "ucl_live ucl_follow ucl_night".split()
 PACKAGES = "ucl-board libuclboard1 libuclboard-dev python3-uclboard".split()
 DOC = "/usr/share/doc/ucl-board/examples"
 NIGHT = f"python3 /usr/share/doc/python3-uclboard/examples/night.py A <{DOC}/first_night.csv"

@@ -5,16 +5,14 @@
 
 import contextlib
 import copy
-import os
 import random
 import tempfile
 
 import pytest
-from conftest import Started, command, decoded, encoded, faults_alone, text_of
+from conftest import Started, command, decoded, encoded, faults_alone
 from hypothesis import given, settings
 from hypothesis import strategies as st
-from model import CLUBS, FINISHED, IN_PLAY, ROSTER, SCHEDULED, WORDS, Evening, Match, followed, fresh, match_of, night, sheet
-from threads import History, faults_of, replies_of
+from model import CLUBS, FINISHED, IN_PLAY, SCHEDULED, WORDS, Evening, Match, followed, fresh, night, sheet
 
 pytestmark = pytest.mark.limit(600)
 NAMES = st.text(st.sampled_from('AZaz09 ,"\\~'), min_size=1, max_size=20)
@@ -181,55 +179,6 @@ def test_journals(program, data):
             some[at] = some[at].rstrip("\n")[:end] + more
     words, text = draw(st.sampled_from([[], ["--format", "json"], ["--matches"], ["--resume"]])) + draw(GROUPS) + draw(ORDERS), "".join(some)
     assert fed(program("ucl_follow"), words, text, draw(PIECES)) == followed(words, text)
-
-
-def held(program, folder, script, texts, screens, group, order):
-    """Holds an evening of threads, each at a file, and compares it with one history. Gives the words of its board."""
-    place = lambda name: os.path.join(folder, name)
-    for name in set(os.listdir(folder)) - {"clubs.csv", "next.csv"}:
-        os.remove(place(name))
-    ways = [f"{who}.rows={who}.replies" for who in range(len(texts))]
-    for who, text in enumerate(texts):
-        with open(place(f"{who}.rows"), "w", newline="") as file:
-            file.write(text)
-    words = [word for way in ways for word in ("--reporter", way)] + [word for at, kind in enumerate(screens) for word in (kind, f"{at}.screen")]
-    status, output, errors = command([program("ucl_evening"), script, *words, "--group", group, "--order", order], cwd=folder)
-    assert (status, faults_of(errors)) == (0, "")
-    answers = [text_of(place(f"{who}.replies")) if os.path.exists(place(f"{who}.replies")) else "" for who in range(len(texts))]
-    before = [match_of(row.split(",")[2]) for row in text_of(place(script)).splitlines()[4:]]
-    for match in before:
-        match.reporter = min(match.number, 1)
-    history = History([replies_of(*pair) for pair in zip(texts, answers)], before or None, max((match.reporter for match in before), default=0))
-    assert output == sheet(history.matches)
-    for at, kind in enumerate(screens):
-        seen = text_of(place(f"{at}.screen"))
-        history.check_json(seen, group, order) if kind == "--json" else history.check_text(seen, ROSTER, group, order != "uefa")
-    return output
-
-
-REPORTERS = st.lists(PICKS, min_size=1, max_size=5)
-SCREENS = st.lists(st.sampled_from(["--screen", "--json"]), max_size=5)
-BAD_LINES = ["\n", "bad\n", "1,0\n", "13,0,kickoff\n", "1,0,kickoff\r\n", '"1",0,"kickoff"\n', '1,0,"kickoff\n', "\ufeff1,0,kickoff\n"]
-
-
-@settings(max_examples=settings.default.max_examples // 5)
-@given(st.data())
-def test_evenings_of_threads(program, data):
-    """`ucl_evening`: two evenings, of which the second goes on from the first."""
-    draw, script = data.draw, "clubs.csv"
-    with tempfile.TemporaryDirectory() as folder:
-        with open(os.path.join(folder, script), "w") as file:
-            file.write(CLUBS)
-        for _ in range(2):
-            texts = []
-            for picks in draw(REPORTERS):
-                rows = [row.split(",", 1)[1] for row in event_rows(picks)]
-                odd = draw(st.lists(st.tuples(st.integers(0, len(rows)), st.sampled_from(BAD_LINES)), max_size=4))
-                texts.append("".join(row for _, row in sorted([*enumerate(rows), *odd], key=lambda it: it[0])))
-            words = held(program, folder, script, texts, draw(SCREENS), draw(st.sampled_from("ABH")), draw(st.sampled_from(["uefa", "away-in-tie"])))
-            script = "next.csv"
-            with open(os.path.join(folder, script), "w") as file:
-                file.write(CLUBS + words)
 
 
 def test_nights_on_both_boards(program):

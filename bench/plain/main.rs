@@ -2,7 +2,6 @@
 //! what docs/RULES.md says, without a proof. `rustc -O --edition 2021 main.rs` builds them; bench/compare does so, and compares.
 
 mod boards;
-mod evening;
 mod events;
 mod feed;
 mod live;
@@ -32,7 +31,6 @@ plain check record_table standings|screen FILE
 plain boards KIND                       1,000 boards: mixed, evening, finished, goalless or fresh; 20,000: narrow
 plain feed                              enters a script of events from standard input
 plain live                              an evening: answers each row of standard input as it comes
-plain evening IN=OUT.. [--screen OUT..] an evening of threads, on a board behind a mutex
 plain echo                              writes each line of standard input back as it comes
 plain trips ROW COUNT PROGRAM [WORD..]  a row to an evening's program and its answer back: the least time and the median, in nanoseconds";
 
@@ -160,11 +158,6 @@ fn obey(words: &[&str]) -> Result<(), Failure> {
                 .map_err(|error| (4, error.to_string()))?;
         }
         ["live"] => live::live().map_err(failure_of)?,
-        ["evening", words @ ..] if !words.is_empty() => {
-            let (reporters, screens): (Vec<&str>, Vec<&str>) = words.iter().partition(|word| word.contains('='));
-            let screens: Vec<&str> = screens.into_iter().filter(|word| *word != "--screen").collect();
-            evening::evening(&reporters, &screens).map_err(|error| (4, error.to_string()))?;
-        }
         ["echo"] => live::echo().map_err(failure_of)?,
         ["trips", row, count, program @ ..] if !program.is_empty() => {
             let count = count.parse().map_err(|_| usage())?;

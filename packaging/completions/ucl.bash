@@ -5,4 +5,4 @@ _ucl() {
     line=$("$1" "${command[@]}" --help 2>/dev/null | awk -v before="$3" -f "/usr/share/ucl-board/words.awk")
     mapfile -t COMPREPLY < <(compgen -W "$line" -- "$2")
 }
-complete -o default -F _ucl ucl_evening ucl_follow ucl_live ucl_night
+complete -o default -F _ucl ucl_follow ucl_live ucl_night
