@@ -1,7 +1,6 @@
 -- Beginnings of lists: what holds of a list and of one that goes on from it.
 use Rattle.std.proofs.Common.{◌≡◌, ℕ, zero, suc, ◌<◌, ◌≤◌, List, [], ◌∷◌, ◌++◌, length, take, slice_get, Some, refl, sym, ap, ◌∙◌, arith, append-nil, append_assoc, length-append}
 use Rattle.std.proofs.lemmas.List.{take-append-le}
-use Rattle.std.proofs.Math.Seq.{take-length}
 use mathlib.Core.List.{IsPrefix}
 use Rattle.ucl_word.proofs.Sequences.{at_longer}
 
@@ -35,9 +34,6 @@ module _ {X : Type 0} where
   -- within the beginning, the lists agree
   pub take_beginning : (s h : List X) (k : ℕ) → IsPrefix s h → k ≤ length s → take k h ≡ take k s
   take_beginning s h k p le = ap (take k) (sym p.1) ∙ take-append-le k s p.0 le
-
-  pub take_whole : (s h : List X) → IsPrefix s h → take (length s) h ≡ s
-  take_whole s h p = take_beginning s h (length s) p (omega arith) ∙ take-length s
 
   pub at_beginning : (s h : List X) (k : ℕ) (e : X) → IsPrefix s h → slice_get s k ≡ Some e → slice_get h k ≡ Some e
   at_beginning s h k e p at = ap (λ (z : List X). slice_get z k) (sym p.1) ∙ at_longer s p.0 k e at

@@ -1,6 +1,6 @@
 -- The versions that a reader shows, and the history that they are of.
 use Rattle.ucl_runs.proofs.Common.{All-push, Continues, Entry, HasShown, IsPrefix, List, Option, PassView, Reading, SharedReading, Some, []}
-use Rattle.ucl_runs.proofs.Common.{ap, arith, begins_length, begins_take, begins_through, length, length-append, subst, sym, take, ℕ, ◌++◌}
+use Rattle.ucl_runs.proofs.Common.{ap, arith, begins_length, begins_through, length, length-append, subst, sym, ℕ, ◌++◌}
 use Rattle.ucl_runs.proofs.Common.{◌+◌, ◌-◌, ◌∙◌, ◌∷◌, ◌≡◌, ◌≤◌}
 use Rattle.std.proofs.Common.{All}
 use Rattle.std.specs.List.Sorted.{IsNonDecreasing}
@@ -30,10 +30,3 @@ shown_more style k m z reading readings last text h on read is =
           (All-push (λ v. v ≤ length z.seen) m.shown reading.version (λ i d below. (let a = h.high i d below in let b = read.low in let c = read.high in omega arith)) read.high);
       last_is = record { before = m.shown; version = reading.version; last = read.shown; text_is = is ∙ ap (λ (r : Reading). styled_screen style r.board) read.snapshot };
     }
-
--- what a pass that was met had seen is of the history that is read then
-pub met_before : (s : List Entry) (m z : PassView) (reading : Reading) → IsPrefix s m.seen → Continues m z → SharedReading m reading z → IsPrefix s (take reading.version z.seen)
-met_before s m z reading met on read =
-    let longer = begins_length s m.seen met in
-    let low = read.low in
-    begins_take s z.seen reading.version (begins_through s m.seen z.seen met on.on.seen) (omega arith)
