@@ -1,6 +1,6 @@
 //! The clubs of a group, by their slots.
 
-ghost use Rattle.std.specs.Prelude.{◌≡◌, ◌≤◌, None, Some, true, false, IfOk, IfErr, length, map};
+ghost use Rattle.std.specs.Prelude.{◌≡◌, ◌-◌, ◌≤◌, None, Some, true, false, IfOk, IfErr, OnOk, length, map, set};
 ghost use Rattle.std.specs.List.{list_all};
 ghost use Rattle.ucl_board.specs.Fixtures.{IsSlot};
 ghost use Rattle.ucl_order.specs.Roster.{club_lent, club_seen, named, is_printed, is_name, is_club, IsClub, bad_slot, name_of, coefficient_of};
@@ -173,6 +173,20 @@ impl Roster {
                 member_lent(4, &clubs[3])?,
             ],
         })
+    }
+
+    /// Puts a club, whose name is lent, in a slot from 1 to 4. It takes no memory: the name is copied.
+    ///
+    /// A club that `new` refuses is refused, and the roster stays as it was.
+    pub fn put(&mut self, slot: u8, club: &LentClub<'_>) -> Result<(), BadRoster>
+        requires { IsSlot slot }
+        ensures taken { OnOk result ((self.new ≡ set self.old (slot - 1) (club_lent club.now))
+            × (is_club (club_lent club.now) ≡ true)) }
+        ensures refused { IfErr result (λ bad. (is_club (club_lent club.now) ≡ false)
+            × (bad.slot ≡ slot) × (self.new ≡ self.old)) }
+    {
+        self.members[usize::from(slot - 1)] = member_lent(slot, club)?;
+        Ok(())
     }
 
     /// The name of the club in a slot from 1 to 4: 1 to 20 bytes of printed ASCII.

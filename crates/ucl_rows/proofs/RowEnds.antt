@@ -5,7 +5,6 @@ use Rattle.ucl_rows.proofs.Common.{ends_at_end, false, get_or, inl, inr, length,
 use Rattle.ucl_rows.proofs.Common.{take_all, true, ℕ, ◌++◌, ◌+◌, ◌-◌, ◌<◌, ◌==◌, ◌∙◌, ◌∷◌, ◌≡◌, ◌≤◌}
 use Rattle.csv.specs.Machine.{next_record}
 use Rattle.csv.specs.Records.{Rising, cut_from, field_at, last_end}
-use Rattle.ucl_rows.specs.Rows.{eight_of}
 use Rattle.csv.proofs.RecordFacts.{last-append, rising-last}
 use Rattle.std.proofs.lemmas.List.{drop-append-le, drop_all, length-drop}
 use Rattle.ucl_screen.specs.Rows.{Fields as Row, rows_from}
@@ -94,16 +93,3 @@ fill-step state d o i text fields fields2 field field2 h e reads =
 pub fill-end : (state : RowState) (i : ℕ) (text : List ℕ) (fields : Row) (field : List ℕ) → length text ≤ i
     → next_record default_config (csv_state_of state) fields field (drop i text) ≡ Some (fields ++ field ∷ [], st.StartRecord, [])
 fill-end state i text fields field h = rw (drop_all i text h) (at-end state fields field)
-
--- ---- a row of eight fields, read one at a time
-
-abbrev pub eight_from : (a b c d e f g h i : Option (List ℕ)) → Option (FourFields × FourFields)
-eight_from (Some a) (Some b) (Some c) (Some d) (Some e) (Some f) (Some g) (Some h) None =
-    Some (record { first = a; second = b; third = c; fourth = d }, record { first = e; second = f; third = g; fourth = h })
-eight_from _ _ _ _ _ _ _ _ _ = None
-
-pub eight_by : (fs : List (List ℕ)) → eight_of fs
-    ≡ eight_from (field_at fs 0) (field_at fs 1) (field_at fs 2) (field_at fs 3) (field_at fs 4) (field_at fs 5) (field_at fs 6) (field_at fs 7) (field_at fs 8)
-unfolding field_at
-eight_by (a ∷ b ∷ c ∷ d ∷ e ∷ f ∷ g ∷ h ∷ i ∷ fs) = refl
-eight_by _ = refl

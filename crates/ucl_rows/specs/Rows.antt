@@ -34,34 +34,27 @@ row_by_text row text = if fits text then only_row (rows_at (row == 1) text) else
 abbrev pub row_on : ℕ → List ℕ → LineRow
 row_on row line = row_by_text row (line ++ 10 ∷ [])
 
--- ---- rows of four fields, and of eight
+-- ---- rows of four fields
 
--- the fields of a row that has eight: the first four, and the last
-abbrev pub eight_of : Fields → Option (FourFields × FourFields)
-eight_of (a ∷ b ∷ c ∷ d ∷ e ∷ f ∷ g ∷ h ∷ []) =
-    Some (record { first = a; second = b; third = c; fourth = d }, record { first = e; second = f; third = g; fourth = h })
-eight_of _ = None
-
--- nothing; or no row of four fields, or what is too long: of eight fields, these; or a row of four
+-- nothing; or no row of four fields, or what is too long to be read; or a row of four
 pub data Said : Type 0 where
   Nothing : Said
-  Other : (eight : Option (FourFields × FourFields)) → Said
+  Other : Said
   Row : (fields : FourFields) → Said
 
-abbrev pub of_row : Option FourFields → Option (FourFields × FourFields) → Said
-of_row None eight = Other eight
-of_row (Some f) eight = Row f
+abbrev pub of_row : Option FourFields → Said
+of_row None = Other
+of_row (Some f) = Row f
 
 -- the same, as the code borrows them
 abbrev pub fields_seen : RowFields → Said
 fields_seen (seen.Four f) = Row (four_seen f)
-fields_seen (seen.Eight f g) = Other (Some (four_seen f, four_seen g))
-fields_seen seen.Neither = Other None
+fields_seen seen.Other = Other
 
 abbrev pub said_of : LineRow → Said
 said_of NoRow = Nothing
-said_of Unread = Other None
-said_of (OneRow row) = of_row (four_of row) (eight_of row)
+said_of Unread = Other
+said_of (OneRow row) = of_row (four_of row)
 
 abbrev pub of_rows : List Fields → Said
 of_rows rows = said_of (only_row rows)

@@ -7,7 +7,7 @@ ghost use Rattle.csv.specs.Records.{Rising, field_at, prev};
 ghost use Rattle.csv.specs.declared.parser.State.{State};
 ghost use Rattle.csv.specs.declared.parser.State.TheVariants as st;
 ghost use Rattle.ucl_screen.specs.Rows.{four_of, four_seen};
-ghost use Rattle.ucl_rows.specs.Rows.{OneRow, eight_of, fields_seen, said_of};
+ghost use Rattle.ucl_rows.specs.Rows.{OneRow, fields_seen, said_of};
 ghost use Rattle.ucl_rows.specs.Reading.{AreFound, IsBehindEnds, after_action, field_in, fields_in, made, read_on, csv_state_of};
 
 use arrayvec::ArrayVec;
@@ -46,10 +46,8 @@ pub(crate) enum RowAction {
 pub enum RowFields<'a> {
     /// They are four.
     Four(Four<'a>),
-    /// They are eight: the first four, and the last.
-    Eight(Four<'a>, Four<'a>),
-    /// They are neither.
-    Neither,
+    /// They are fewer, or more.
+    Other,
 }
 
 /// How many rows a line has.
@@ -280,42 +278,14 @@ impl Fields {
         }
     }
 
-    /// The fields, where they are eight: the first four, and the last.
-    #[tactic(auto, using(crate::proofs::RowEnds::eight_by))]
-    fn eight(&self) -> Option<(Four<'_>, Four<'_>)>
-        requires { Rising 0 self.now.ends.items (length self.now.bytes.items) }
-        ensures { option_map (λ p. (four_seen p.0, four_seen p.1)) result
-            ≡ eight_of (fields_in self.now) }
-    {
-        let first = Four {
-            first: self.field(0)?,
-            second: self.field(1)?,
-            third: self.field(2)?,
-            fourth: self.field(3)?,
-        };
-        let last = Four {
-            first: self.field(4)?,
-            second: self.field(5)?,
-            third: self.field(6)?,
-            fourth: self.field(7)?,
-        };
-        match self.field(8) {
-            Some(_) => None,
-            None => Some((first, last)),
-        }
-    }
-
-    /// The fields, where they are four or eight.
+    /// The fields, where they are four.
     pub(crate) fn row(&self) -> RowFields<'_>
         requires { Rising 0 self.now.ends.items (length self.now.bytes.items) }
         ensures { fields_seen result ≡ said_of (OneRow (fields_in self.now)) }
     {
-        if let Some(four) = self.four() {
-            return RowFields::Four(four);
+        match self.four() {
+            Some(four) => RowFields::Four(four),
+            None => RowFields::Other,
         }
-        let Some(eight) = self.eight() else {
-            return RowFields::Neither;
-        };
-        RowFields::Eight(eight.0, eight.1)
     }
 }

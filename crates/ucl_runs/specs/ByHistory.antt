@@ -32,7 +32,7 @@ attempts_of Matches = []
 
 abbrev pub attempts_on : Said → List Attempt
 attempts_on Nothing = []
-attempts_on (Other eight) = []
+attempts_on Other = []
 attempts_on (Row f) = attempts_of (request_of (Row f))
 
 unfoldable pub attempts_in : ℕ → List (List ℕ) → List Attempt
@@ -60,7 +60,7 @@ answer_by_history options title row clubs history Matches shown = matches_answer
 -- the answer to what a line says that is shown so
 abbrev pub line_by_history : LiveArgs → Title → ℕ → List NamedClub → List Entry → Said → List ℕ → List ℕ
 line_by_history options title row clubs history Nothing shown = []
-line_by_history options title row clubs history (Other eight) shown = answer_by_history options title row clubs history (request_of (Other eight)) shown
+line_by_history options title row clubs history Other shown = answer_by_history options title row clubs history (request_of Other) shown
 line_by_history options title row clubs history (Row f) shown = answer_by_history options title row clubs history (request_of (Row f)) shown
 
 -- the answers to lines, each after the history of the events that were accepted before it

@@ -1,61 +1,29 @@
--- What a follower shows, and the rows by which an evening goes on.
-use Rattle.std.specs.Prelude.{ℕ, ◌+◌, ◌-◌, ◌^◌, ◌==◌, ◌||◌, ◌&&◌, min, nat_lt, if◌then◌else◌, Bool, true, List, [], ◌∷◌, ◌++◌, codes, decimal, flat_map, Option, Some, None}
+-- What a follower shows.
+use Rattle.std.specs.Prelude.{ℕ, ◌+◌, ◌-◌, ◌^◌, ◌==◌, ◌||◌, ◌&&◌, min, nat_lt, if◌then◌else◌, Bool, true, List, [], ◌∷◌, ◌++◌, Option, Some, None}
 use Rattle.ucl_io.specs.Lines.{ended_lines}
 use Rattle.ucl_board.specs.Words.{version_of}
-use Rattle.ucl_order.specs.declared.profile.Profile.TheVariants.{Uefa}
-use Rattle.ucl_order.specs.Names.{profile_name}
-use Rattle.ucl_order.specs.Roster.{NamedClub, coefficient_of, name_of}
-use Rattle.ucl_rows.specs.Lines.{word_lines}
 use Rattle.ucl_screen.specs.Matches.{matches_text}
 use Rattle.ucl_screen.specs.Screen.{screen_text}
 use Rattle.ucl_json.specs.Lines.{json_line}
 use Rattle.ucl_json.specs.Values.{edition_screen_value}
-use Rattle.ucl_json.specs.declared.title.Title.{Title}
-use Rattle.ucl_runs.specs.Titles.{is_asked, is_same_order}
+use Rattle.ucl_runs.specs.Titles.{is_asked}
 use Rattle.ucl_json.specs.declared.moment.Moment.{Moment}
 use Rattle.ucl_runs.specs.declared.following.Following.{Following}
 use Rattle.ucl_command.specs.declared.follow.FollowArgs.{FollowArgs}
 use Rattle.ucl_command.specs.declared.follow.FollowShape.{FollowShape}
-use Rattle.ucl_command.specs.declared.follow.FollowShape.TheVariants.{Text, Json, Matches, Rows}
+use Rattle.ucl_command.specs.declared.follow.FollowShape.TheVariants.{Text, Json, Matches}
 use Rattle.ucl_json.specs.Told.{moment_on}
 
 abbrev pub version_at : Moment → ℕ
 version_at moment = version_of moment.board
 
--- ---- the rows by which an evening goes on from a moment
-
--- group A, in the order of the Regulations, in edition 0
-abbrev pub is_plain_title : Title → Bool
-is_plain_title title = (title.group == 65) && is_same_order title.profile Uefa && (title.edition == 0)
-
-abbrev pub group_row : Title → List ℕ
-group_row title = codes "group," ++ (title.group ∷ []) ++ codes "," ++ profile_name title.profile ++ codes "," ++ decimal title.edition ++ codes "\n"
-
--- the row of the group, where an evening would not have that title without it
-abbrev pub title_rows : Title → List ℕ
-title_rows title = if is_plain_title title then [] else group_row title
-
--- a byte in a field between quotes, where a quote stands twice
-abbrev pub in_quotes : ℕ → List ℕ
-in_quotes b = if b == 34 then 34 ∷ 34 ∷ [] else b ∷ []
-
-abbrev pub club_row : List NamedClub → ℕ → List ℕ
-club_row clubs slot =
-    codes "club," ++ decimal slot ++ codes ",\"" ++ flat_map in_quotes (name_of clubs slot) ++ codes "\"," ++ decimal (coefficient_of clubs slot) ++ codes "\n"
-
--- the row of the group, where there is one, those of the four clubs, and those of the twelve words
-abbrev pub resuming_rows : Moment → List ℕ
-resuming_rows moment =
-    title_rows moment.title ++ club_row moment.roster 1 ++ club_row moment.roster 2 ++ club_row moment.roster 3 ++ club_row moment.roster 4 ++ word_lines 1 moment.board
-
 -- ---- what is shown
 
--- the screen of a moment, or its matches, worked out from its words, where the line of this number told it. A follower that resumes shows none
+-- the screen of a moment, or its matches, worked out from its words, where the line of this number told it
 abbrev pub sight_text : FollowShape → ℕ → Moment → List ℕ
 sight_text Text row moment = screen_text moment.title.profile moment.board moment.roster moment.title.group
 sight_text Json row moment = json_line (edition_screen_value row moment.title moment.board moment.roster)
 sight_text Matches row moment = matches_text moment.board moment.roster
-sight_text Rows row moment = []
 
 -- whether a moment is of a later edition than another, or of the same one and of a higher version
 abbrev pub is_later : Moment → Moment → Bool
@@ -104,14 +72,6 @@ unfoldable pub sights : FollowShape → Following → List (List ℕ) → List �
 sights shape f [] = []
 sights shape f (line ∷ lines) = told_text shape f (moment_on line) ++ sights shape (after_told f (moment_on line)) lines
 
--- a follower that resumes writes the rows of the newest moment, once its input has ended
-abbrev pub resuming_text : FollowShape → Option Moment → List ℕ
-resuming_text Rows (Some moment) = resuming_rows moment
-resuming_text Rows None = []
-resuming_text Text newest = []
-resuming_text Json newest = []
-resuming_text Matches newest = []
-
 -- the lines that have an end, each without its line feed. What comes after the 4,097th byte of a line is passed over: it is too long by
 -- then. A line that is torn off, last, is none
 abbrev pub whole_lines : List ℕ → List (List ℕ)
@@ -119,7 +79,7 @@ whole_lines bytes = ended_lines 4097 [] bytes
 
 -- the text of a follower that has this whole input
 abbrev pub follow_text : FollowArgs → List ℕ → List ℕ
-follow_text args bytes = sights args.shape (unseen args) (whole_lines bytes) ++ resuming_text args.shape (followed (unseen args) (whole_lines bytes)).newest
+follow_text args bytes = sights args.shape (unseen args) (whole_lines bytes)
 
 -- what it has followed by then
 abbrev pub follow_end : FollowArgs → List ℕ → Following

@@ -8,7 +8,7 @@ use Rattle.ucl_io.specs.declared.fault.PumpFault.TheVariants.{Machine, ReadFaile
 use Rattle.ucl_word.specs.declared.refusal.OutOfMemory.{OutOfMemory}
 use Rattle.ucl_runs.specs.declared.follower.Follower.{Follower}
 use Rattle.ucl_runs.specs.declared.follower.Sight.{Sight}
-use Rattle.ucl_runs.specs.declared.follower.Sight.TheVariants.{Nothing, Screen, Rows}
+use Rattle.ucl_runs.specs.declared.follower.Sight.TheVariants.{Nothing, Screen}
 use Rattle.ucl_runs.specs.declared.following.Following.{Following}
 use Rattle.ucl_json.specs.declared.moment.Moment.{Moment}
 use Rattle.ucl_runs.specs.declared.follow.Followed.{Followed}
@@ -19,7 +19,6 @@ use Rattle.ucl_runs.specs.Follow.{after_told, follow_text, sights, unseen, whole
 abbrev pub sight_bytes : Sight → List ℕ
 sight_bytes Nothing = []
 sight_bytes (Screen text) = string_bytes text
-sight_bytes (Rows rows) = rows.items
 
 abbrev pub shape_of : {T : Type 0} → Follower T → FollowShape
 shape_of f = f.shape
@@ -62,7 +61,7 @@ pub record HeardFirst (args : FollowArgs) (bytes : List ℕ) (old new : Option (
   pub out : Appends old new (heard_text args front)
 
 -- why a follower fails that has taken these bytes: the source failed after them, they are more than any input has, the sink failed, or
--- there was no memory for a line, or for the rows of the end
+-- there was no memory for a line
 abbrev pub FollowFailsAfter : FollowArgs → List ℕ → Device → Device → PumpFault OutOfMemory → Type 0
 FollowFailsAfter args bytes old new (ReadFailed count) = (count ≡ length bytes) × Appends old.taken new.taken (heard_text args bytes)
 FollowFailsAfter args bytes old new TooLong = (2 ^ 62 < length bytes) × Appends old.taken new.taken (heard_text args bytes)

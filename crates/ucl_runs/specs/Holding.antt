@@ -9,7 +9,7 @@ use Rattle.ucl_io.specs.declared.fault.PumpFault.TheVariants.{Machine, ReadFaile
 use Rattle.ucl_io.specs.Calls.{Device, HasEnded}
 use Rattle.ucl_io.specs.Lines.{begun_line, ended_lines}
 use Rattle.ucl_io.specs.Output.{StoppedShort}
-use Rattle.ucl_json.specs.declared.title.Title.{Title}
+use Rattle.ucl_runs.specs.declared.heading.Heading.{Heading}
 use Rattle.ucl_command.specs.declared.options.Format.TheVariants.{Json}
 use Rattle.ucl_command.specs.declared.live.LiveArgs.{LiveArgs}
 use Rattle.ucl_rows.specs.declared.answer.Answer.{Answer}
@@ -25,8 +25,9 @@ use Rattle.ucl_runs.specs.Requests.{request_of}
 use Rattle.ucl_rows.specs.Rows.{Said, Nothing, Other, Row, said_on}
 use Rattle.ucl_runs.specs.Seen.{stage_seen}
 use Rattle.ucl_rows.specs.Answers.{bytes_of}
-use Rattle.ucl_runs.specs.Stages.{Stage, Beginning, Naming, Restoring, Open, Refused, opened}
-use Rattle.ucl_runs.specs.LiveText.{Evening, after_lines, answers, live_text, missing_after, missing_now, next}
+use Rattle.ucl_runs.specs.Stages.{Stage, Beginning, Naming, Open, Refused}
+use Rattle.ucl_runs.specs.NewBoards.{NewBoard}
+use Rattle.ucl_runs.specs.LiveText.{Evening, after_lines, again, answers, live_text, missing_after, missing_now, next}
 
 -- ---- want of memory
 
@@ -39,18 +40,22 @@ AsksOf options board Screen = ⊤
 AsksOf options board Words = options.format ≡ Json
 AsksOf options board Matches = ⊤
 
--- a club's name asks for memory, and a word does not
+-- a club's name asks for memory
 abbrev pub AsksAt : LiveArgs → Stage → Request → Type 0
 AsksAt options Beginning request = ⊤
 AsksAt options (Naming clubs) request = ⊤
-AsksAt options (Restoring clubs words) request = ⊥
 AsksAt options (Open clubs board) request = AsksOf options board request
 AsksAt options (Refused fault) request = ⊥
 
+-- a row that begins the board again asks for none
+abbrev pub AsksBy : Evening → Option NewBoard → Said → Type 0
+AsksBy e (Some new) said = ⊥
+AsksBy e None Nothing = ⊥
+AsksBy e None Other = AsksAt e.options e.stage (request_of Other)
+AsksBy e None (Row f) = AsksAt e.options e.stage (request_of (Row f))
+
 abbrev pub AsksForMemory : Evening → Said → Type 0
-AsksForMemory e Nothing = ⊥
-AsksForMemory e (Other eight) = AsksAt e.options (opened e.options e.stage (Other eight)) (request_of (Other eight))
-AsksForMemory e (Row f) = AsksAt e.options (opened e.options e.stage (Row f)) (request_of (Row f))
+AsksForMemory e said = AsksBy e (again e said) said
 
 -- ---- the machine
 
@@ -67,11 +72,12 @@ abbrev pub parts_bytes : Parts → List ℕ
 parts_bytes p = with_second (parts_front p) p.second
 
 -- the evening before a line of this number
-abbrev pub evening_at : LiveArgs → Title → ℕ → Stage → Evening
-evening_at options title row stage = record { options = options; title = title; row = row; stage = stage }
+abbrev pub evening_at : LiveArgs → Heading → ℕ → Stage → Evening
+evening_at options heading row stage =
+    record { options = options; title = heading.title; row = row; stage = stage; is_new = heading.is_new }
 
 abbrev pub evening_of : Held → ℕ → Evening
-evening_of e row = evening_at e.options e.title.title row (stage_seen e.stage)
+evening_of e row = evening_at e.options e.heading row (stage_seen e.stage)
 
 -- a row has no answer: there was no memory for it, which it asks for, or the stage after it is refused
 abbrev pub StopsAt : Type 0 → Stage → LiveFault → Type 0

@@ -7,6 +7,7 @@ pub mod Show
 pub mod Program
 pub mod Requests
 pub mod Titles
+pub mod NewBoards
 pub mod Stages
 pub mod LiveText
 pub mod LiveFaults
@@ -22,6 +23,5 @@ pub mod Hearing
 pub mod Latest
 pub mod Answered
 pub mod Repeats
-pub mod Resuming
-pub mod Journals
+pub mod Records
 pub mod FollowProgram

@@ -7,7 +7,7 @@ use Rattle.ucl_screen.specs.declared.fault.InputFault.TheVariants as input
 use Rattle.ucl_rows.specs.declared.fault.RunFault.{RunFault}
 use Rattle.ucl_rows.specs.declared.fault.RunFault.TheVariants as run
 use Rattle.ucl_runs.specs.declared.live_fault.BeginningFault.{BeginningFault}
-use Rattle.ucl_runs.specs.declared.live_fault.BeginningFault.TheVariants.{BadRow, BadRoster, BadWordAt, OtherGroup}
+use Rattle.ucl_runs.specs.declared.live_fault.BeginningFault.TheVariants.{BadRow, BadRoster, OtherGroup}
 use Rattle.ucl_runs.specs.declared.live_fault.LiveFault.{LiveFault}
 use Rattle.ucl_runs.specs.declared.live_fault.LiveFault.TheVariants.{Beginning, OutOfMemory}
 
@@ -15,7 +15,6 @@ use Rattle.ucl_runs.specs.declared.live_fault.LiveFault.TheVariants.{Beginning, 
 abbrev pub input_fault : BeginningFault → Option InputFault
 input_fault (BadRow row) = Some (input.BadRow row)
 input_fault (BadRoster slot) = Some (input.BadRoster slot)
-input_fault (BadWordAt index) = Some (input.BadWordAt index)
 input_fault OtherGroup = None
 
 abbrev pub run_fault : PumpFault LiveFault → Option RunFault

@@ -1,5 +1,5 @@
 -- What holds of all evenings.
-use Rattle.std.specs.Prelude.{◌≡◌, ⊤, ℕ, ◌+◌, false, List, [], ◌∷◌, ◌++◌, All, flat_map, Some, Result, Ok, Err}
+use Rattle.std.specs.Prelude.{◌≡◌, ⊤, ℕ, ◌+◌, List, [], ◌∷◌, ◌++◌, All, flat_map, Some, None, Result, Ok, Err}
 use Rattle.std.specs.List.{fold}
 use Rattle.serde_json.specs.Data.{Data}
 use Rattle.ucl_board.specs.declared.entry.Entry.{Entry}
@@ -25,9 +25,10 @@ use Rattle.ucl_runs.specs.ByHistory.{answers_by_history, attempts_in}
 use Rattle.ucl_rows.specs.InputLines.{lines_of}
 use Rattle.ucl_runs.specs.Members.{text_told, texts_told}
 use Rattle.ucl_runs.specs.UncutLines.{uncut_lines}
-use Rattle.ucl_rows.specs.Rows.{Said, Nothing, Other, Row, said_on}
-use Rattle.ucl_runs.specs.Stages.{Open, Refused, Restoring, is_word_row}
-use Rattle.ucl_runs.specs.LiveText.{Evening, after_lines, answers, live_text, start_of}
+use Rattle.ucl_rows.specs.Rows.{said_on}
+use Rattle.ucl_runs.specs.NewBoards.{NewBoard}
+use Rattle.ucl_runs.specs.Stages.{Open, Refused}
+use Rattle.ucl_runs.specs.LiveText.{Evening, after_lines, again, answers, begun_again, live_text, next, start_of}
 use Rattle.ucl_rows.specs.Answers.{bad_line, reply_answer}
 
 -- some bytes and the end of a line
@@ -39,9 +40,14 @@ abbrev pub BeginningsAreAnswered : Type 0
 BeginningsAreAnswered = (e : Evening) (bytes more : List ℕ)
     → live_text e (ended bytes ++ more) ≡ live_text e (ended bytes) ++ live_text (after_lines e (lines_of (ended bytes))) more
 
+-- no line of these begins the board again
+unfoldable pub StayOnTheBoard : Evening → List (List ℕ) → Type 0
+StayOnTheBoard e [] = ⊤
+StayOnTheBoard e (line ∷ lines) = (again e (said_on e.row line) ≡ None) × StayOnTheBoard (next e (said_on e.row line)) lines
+
 -- an open board becomes the board after the events that were asked for: whatever else comes, and whatever board it was
 abbrev pub BoardsTakeEvents : Type 0
-BoardsTakeEvents = (e : Evening) (lines : List (List ℕ)) (clubs : List NamedClub) (board : List ℕ) → e.stage ≡ Open clubs board
+BoardsTakeEvents = (e : Evening) (lines : List (List ℕ)) (clubs : List NamedClub) (board : List ℕ) → e.stage ≡ Open clubs board → StayOnTheBoard e lines
     → (after_lines e lines).stage ≡ Open clubs (fold board_after board (attempts_in e.row lines))
 
 -- this history with the events that were accepted after it is legal, the board is its board, and each reply and each screen that went
@@ -51,28 +57,18 @@ pub record IsSequential (e : Evening) (lines : List (List ℕ)) (clubs : List Na
   pub stage : (after_lines e lines).stage ≡ Open clubs (board_of (fold after_attempt history (attempts_in e.row lines)))
   pub text : answers e lines ≡ answers_by_history e.options e.title e.row clubs history lines
 
--- so it is after any lines of an evening on the board of a legal history: of no event, or of any whose words were given
+-- so it is after any lines of an edition, on the board of a legal history
 abbrev pub EveningsAreSequential : Type 0
 EveningsAreSequential = (e : Evening) (lines : List (List ℕ)) (clubs : List NamedClub) (history : List Entry) → IsLegal history → e.stage ≡ Open clubs (board_of history)
-    → IsSequential e lines clubs history
+    → StayOnTheBoard e lines → IsSequential e lines clubs history
 
--- a row that is neither that of a word nor of a result
-abbrev pub IsOtherRow : Said → Type 0
-IsOtherRow Nothing = ⊥
-IsOtherRow (Other eight) = is_word_row (Other eight) ≡ false
-IsOtherRow (Row f) = is_word_row (Row f) ≡ false
+-- a line begins the board again: it is answered by nothing, and all that comes after it as on the fresh board
+pub record GoesOnAgain (e : Evening) (line : List ℕ) (lines : List (List ℕ)) (new : NewBoard) : Type 0 where
+  pub text : answers e (line ∷ lines) ≡ answers (begun_again e new) lines
+  pub after : after_lines e (line ∷ lines) ≡ after_lines (begun_again e new) lines
 
-abbrev pub fresh_at : Evening → List NamedClub → Evening
-fresh_at e clubs = record e { stage = Open clubs (board_of []) }
-
--- four clubs were named: where the first row after them is that of neither, all goes on as on the open board of no event
-pub record GoesOnFresh (e : Evening) (lines : List (List ℕ)) (clubs : List NamedClub) : Type 0 where
-  pub text : answers e lines ≡ answers (fresh_at e clubs) lines
-  pub after : after_lines e lines ≡ after_lines (fresh_at e clubs) lines
-
-abbrev pub FirstRowsOpenTheBoard : Type 0
-FirstRowsOpenTheBoard = (e : Evening) (clubs : List NamedClub) (line : List ℕ) (lines : List (List ℕ)) → e.options.resumed ≡ false → e.stage ≡ Restoring clubs [] → IsOtherRow (said_on e.row line)
-    → GoesOnFresh e (line ∷ lines) clubs
+abbrev pub BoardsBeginAgain : Type 0
+BoardsBeginAgain = (e : Evening) (line : List ℕ) (lines : List (List ℕ)) (new : NewBoard) → again e (said_on e.row line) ≡ Some new → GoesOnAgain e line lines new
 
 -- on the board of a legal history the reply to an event is the line that `feed` writes of it
 abbrev pub RepliesAreThoseOfFeed : Type 0

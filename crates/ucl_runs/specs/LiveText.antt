@@ -1,5 +1,5 @@
 -- The text of an evening: the answers to its lines.
-use Rattle.std.specs.Prelude.{ℕ, ◌+◌, if◌then◌else◌, List, [], ◌∷◌, ◌++◌, Option, None, Some, Result, Ok, Err}
+use Rattle.std.specs.Prelude.{ℕ, ◌+◌, ◌&&◌, if◌then◌else◌, Bool, true, List, [], ◌∷◌, ◌++◌, Option, None, Some, Result, Ok, Err}
 use Rattle.ucl_word.specs.declared.event.Accepted.{Accepted}
 use Rattle.ucl_word.specs.declared.refusal.Refusal.{Refusal}
 use Rattle.ucl_word.specs.Rules.{reply_of}
@@ -15,20 +15,25 @@ use Rattle.ucl_runs.specs.declared.request.Request.TheVariants.{Bad, Event, Scre
 use Rattle.ucl_rows.specs.InputLines.{lines_of}
 use Rattle.ucl_rows.specs.Rows.{Said, Nothing, Other, Row, said_on}
 use Rattle.ucl_rows.specs.BadRows.{shown_text}
-use Rattle.ucl_runs.specs.Requests.{request_of}
+use Rattle.ucl_screen.specs.Rows.{FourFields}
+use Rattle.ucl_board.specs.History.{board_of}
+use Rattle.ucl_runs.specs.NewBoards.{NewBoard, begins_again}
+use Rattle.ucl_runs.specs.Requests.{is_bad, request_of}
 use Rattle.ucl_runs.specs.Titles.{asked_title, is_group_row, title_said}
-use Rattle.ucl_runs.specs.Stages.{Stage, Beginning, Naming, Restoring, Open, Refused, missing, next_board, next_stage, opened}
+use Rattle.ucl_runs.specs.Stages.{Stage, Beginning, Naming, Open, Refused, missing, next_board, next_stage}
 
--- between two lines: how it answers, what its board is told under, which line comes next, counted from 1, and how far it is
+-- between two lines: how it answers, what its board is told under, which line comes next, counted from 1, how far it is, and whether nothing
+-- but the row of its edition and rows of its clubs has come in that edition
 pub record Evening : Type 0 where
   pub options : LiveArgs
   pub title : Title
   pub row : ℕ
   pub stage : Stage
+  pub is_new : Bool
 
 -- before the first line
 abbrev pub start_of : LiveArgs → Evening
-start_of options = record { options = options; title = asked_title options; row = 1; stage = Beginning }
+start_of options = record { options = options; title = asked_title options; row = 1; stage = Beginning; is_new = true }
 
 -- ---- the answer to a line
 
@@ -57,14 +62,31 @@ abbrev pub answer_at : LiveArgs → Title → ℕ → Stage → Request → List
 answer_at options title row (Open clubs board) request shown = answer_of options title row clubs board request shown
 answer_at options title row Beginning request shown = []
 answer_at options title row (Naming clubs) request shown = []
-answer_at options title row (Restoring clubs words) request shown = []
 answer_at options title row (Refused fault) request shown = []
 
--- the answer to what a line says that is shown so
+-- the board that a line begins again, where it does
+abbrev pub again_at : Title → Bool → Stage → FourFields → Option NewBoard
+again_at title is_new (Open clubs board) f = begins_again title is_new clubs f
+again_at title is_new Beginning f = None
+again_at title is_new (Naming clubs) f = None
+again_at title is_new (Refused fault) f = None
+
+abbrev pub again : Evening → Said → Option NewBoard
+again e Nothing = None
+again e Other = None
+again e (Row f) = again_at e.title e.is_new e.stage f
+
+-- the answer to what a line says that is shown so: a row that begins the board again has none
+abbrev pub answer_by : Evening → Option NewBoard → Said → List ℕ → List ℕ
+answer_by e (Some new) said shown = []
+answer_by e None Nothing shown = []
+answer_by e None Other shown = answer_at e.options e.title e.row e.stage (request_of Other) shown
+answer_by e None (Row f) shown = answer_at e.options e.title e.row e.stage (request_of (Row f)) shown
+
 abbrev pub answer_said : Evening → Said → List ℕ → List ℕ
-answer_said e Nothing shown = []
-answer_said e (Other eight) shown = answer_at e.options e.title e.row (opened e.options e.stage (Other eight)) (request_of (Other eight)) shown
-answer_said e (Row f) shown = answer_at e.options e.title e.row (opened e.options e.stage (Row f)) (request_of (Row f)) shown
+answer_said e said shown = answer_by e (again e said) said shown
+
+-- ---- the evening after a line
 
 -- the first row may say what the board is told under
 abbrev pub title_or : Title → Option Title → Title
@@ -74,12 +96,37 @@ title_or title (Some other) = other
 abbrev pub next_title : Title → Stage → Said → Title
 next_title title Beginning said = if is_group_row said then title_or title (title_said said) else title
 next_title title (Naming clubs) said = title
-next_title title (Restoring clubs words) said = title
 next_title title (Open clubs board) said = title
 next_title title (Refused fault) said = title
 
+-- a line that asks for nothing that there is leaves an edition new
+abbrev pub leaves_new : Said → Bool
+leaves_new Nothing = true
+leaves_new Other = true
+leaves_new (Row f) = is_bad (request_of (Row f))
+
+abbrev pub stays_new : Bool → Stage → Said → Bool
+stays_new is_new (Open clubs board) said = is_new && leaves_new said
+stays_new is_new Beginning said = is_new
+stays_new is_new (Naming clubs) said = is_new
+stays_new is_new (Refused fault) said = is_new
+
+-- the fresh board is open in place of the one that stood
+abbrev pub begun_again : Evening → NewBoard → Evening
+begun_again e new = record { options = e.options; title = new.title; row = e.row + 1; stage = Open new.clubs (board_of []); is_new = true }
+
+abbrev pub next_by : Evening → Option NewBoard → Said → Evening
+next_by e None said = record {
+  options = e.options;
+  title = next_title e.title e.stage said;
+  row = e.row + 1;
+  stage = next_stage e.options e.row e.stage said;
+  is_new = stays_new e.is_new e.stage said;
+}
+next_by e (Some new) said = begun_again e new
+
 abbrev pub next : Evening → Said → Evening
-next e said = record { options = e.options; title = next_title e.title e.stage said; row = e.row + 1; stage = next_stage e.options e.row e.stage said }
+next e said = next_by e (again e said) said
 
 -- ---- the answers to lines, one after the other
 
@@ -98,7 +145,7 @@ live_text e bytes = answers e (lines_of bytes)
 
 -- why an evening is refused that ends here
 abbrev pub missing_now : Evening → Option BeginningFault
-missing_now e = missing e.options e.row e.stage
+missing_now e = missing e.row e.stage
 
 -- why an evening is refused that begins here and has this whole input
 abbrev pub missing_after : Evening → List ℕ → Option BeginningFault

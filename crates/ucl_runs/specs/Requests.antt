@@ -1,5 +1,5 @@
 -- What a row asks for, once there is a board.
-use Rattle.std.specs.Prelude.{◌==◌, ◌&&◌, if◌then◌else◌, length, codes, Option, Some, None}
+use Rattle.std.specs.Prelude.{◌==◌, ◌&&◌, if◌then◌else◌, Bool, true, false, length, codes, Option, Some, None}
 use Rattle.std.specs.Str.{bytes_eq}
 use Rattle.ucl_screen.specs.declared.night.NightEvent.{NightEvent}
 use Rattle.ucl_screen.specs.Rows.{FourFields}
@@ -27,5 +27,13 @@ asked_by f =
 
 abbrev pub request_of : Said → Request
 request_of Nothing = Bad Count
-request_of (Other eight) = Bad Count
+request_of Other = Bad Count
 request_of (Row f) = asked_by f
+
+-- whether it asks for nothing that there is
+abbrev pub is_bad : Request → Bool
+is_bad (Bad field) = true
+is_bad (Event event) = false
+is_bad Screen = false
+is_bad Words = false
+is_bad Matches = false

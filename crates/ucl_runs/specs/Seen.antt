@@ -6,9 +6,10 @@ use Rattle.ucl_runs.specs.declared.live_fault.LiveFault.{LiveFault}
 use Rattle.ucl_runs.specs.declared.live_fault.LiveFault.TheVariants as live
 use Rattle.ucl_runs.specs.declared.stage.Clubs.{Clubs}
 use Rattle.ucl_runs.specs.declared.stage.Clubs.TheVariants.{NoClub, One, Two, Three}
+use Rattle.ucl_runs.specs.declared.stage.Table.{Table}
 use Rattle.ucl_runs.specs.declared.stage.Stage.{Stage as Reached}
 use Rattle.ucl_runs.specs.declared.stage.Stage.TheVariants as reached
-use Rattle.ucl_runs.specs.Stages.{Stage, Beginning, Naming, Restoring, Open, Refused}
+use Rattle.ucl_runs.specs.Stages.{Stage, Beginning, Naming, Open, Refused}
 
 abbrev pub clubs_seen : Clubs → List NamedClub
 clubs_seen NoClub = []
@@ -16,11 +17,13 @@ clubs_seen (One a) = club_seen a ∷ []
 clubs_seen (Two a b) = club_seen a ∷ club_seen b ∷ []
 clubs_seen (Three a b c) = club_seen a ∷ club_seen b ∷ club_seen c ∷ []
 
+abbrev pub table_seen : Table → Stage
+table_seen table = Open table.roster table.board
+
 abbrev pub stage_seen : Reached → Stage
 stage_seen reached.Beginning = Beginning
 stage_seen (reached.Naming clubs) = Naming (clubs_seen clubs)
-stage_seen (reached.Restoring some) = Restoring some.roster some.words.items
-stage_seen (reached.Open table) = Open table.roster table.board
+stage_seen (reached.Open table) = table_seen table
 
 -- what became of a stage is this one
 abbrev pub Becomes : Stage → Result Reached BeginningFault → Type 0

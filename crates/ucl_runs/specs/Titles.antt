@@ -1,5 +1,5 @@
 -- What the first row may say of the board: its group, the order of its clubs, and its edition.
-use Rattle.std.specs.Prelude.{ℕ, ◌==◌, ◌&&◌, Bool, true, false, List, codes, Option, Some, None}
+use Rattle.std.specs.Prelude.{ℕ, ◌==◌, ◌&&◌, nat_lt, if◌then◌else◌, Bool, true, false, List, codes, Option, Some, None}
 use Rattle.std.specs.Str.{bytes_eq}
 use Rattle.ucl_order.specs.declared.profile.Profile.{Profile}
 use Rattle.ucl_order.specs.declared.profile.Profile.TheVariants.{Uefa, AwayInTie}
@@ -28,12 +28,12 @@ title_by f = do
 
 abbrev pub is_group_row : Said → Bool
 is_group_row (Row f) = bytes_eq f.first (codes "group")
-is_group_row (Other eight) = false
+is_group_row Other = false
 is_group_row Nothing = false
 
 abbrev pub title_said : Said → Option Title
 title_said (Row f) = title_by f
-title_said (Other eight) = None
+title_said Other = None
 title_said Nothing = None
 
 -- ---- what was asked for
@@ -70,3 +70,17 @@ asked_order (Some profile) = profile
 
 abbrev pub asked_title : LiveArgs → Title
 asked_title options = record { group = asked_group options.group; profile = asked_order options.profile; edition = 0 }
+
+-- ---- a later edition
+
+-- of the same group and order, and of a later edition
+abbrev pub is_later_edition : Title → Title → Bool
+is_later_edition title other = is_asked (Some title.group) (Some title.profile) other && nat_lt title.edition other.edition
+
+abbrev pub later_title : Title → Option Title → Option Title
+later_title title None = None
+later_title title (Some other) = if is_later_edition title other then Some other else None
+
+-- the title of a later edition than this, where a row says one
+abbrev pub edition_said : Title → Said → Option Title
+edition_said title said = if is_group_row said then later_title title (title_said said) else None

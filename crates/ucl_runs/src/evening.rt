@@ -1,75 +1,65 @@
 //! An evening, which answers lines.
 
-ghost use Rattle.std.specs.Prelude.{◌≡◌, ◌+◌, ⊤, IfErr, IfOk, OnOk};
+ghost use Rattle.std.specs.Prelude.{◌≡◌, ◌+◌, ⊤, IfErr, OnOk};
 ghost use Rattle.ucl_rows.specs.BadRows.{shown_text};
-ghost use Rattle.ucl_runs.specs.Holding.{AsksAt, Closes, HasNoAnswer, HasNoEnd, StopsAt, evening_at, evening_of, parts_bytes};
-ghost use Rattle.ucl_runs.specs.Requests.{request_of};
+ghost use Rattle.ucl_runs.specs.Holding.{AsksForMemory, Closes, HasNoAnswer, HasNoEnd, evening_at, evening_of, parts_bytes};
 ghost use Rattle.ucl_rows.specs.Rows.{fields_seen, said_on};
-ghost use Rattle.ucl_runs.specs.Seen.{stage_seen};
-ghost use Rattle.ucl_runs.specs.Stages.{after_row, next_stage};
-ghost use Rattle.ucl_runs.specs.LiveText.{answer_at, answer_said, next, next_title, start_of};
+ghost use Rattle.ucl_runs.specs.Seen.{stage_seen, table_seen};
+ghost use Rattle.ucl_runs.specs.LiveText.{answer_said, next, start_of};
 
-use crate::headed::Headed;
+use crate::heading::Heading;
 use crate::live_fault::LiveFault;
 use crate::parts::Parts;
 use crate::request::request_of;
-use crate::stage::{Stage, with_club, with_first};
+use crate::stage::{Stage, Table, with_club, with_first};
 use crate::title::asked_title;
 use std::alloc::Global;
 use std::mem;
 use ucl_command::LiveArgs;
 use ucl_io::LineMachine;
 use ucl_rows::{LineReader, RowCount, RowFields, plain_row};
+use ucl_word::OutOfMemory;
 
 /// An evening between two lines: how it answers, what its board is told under, how far it is, and what it reads lines by.
 #[derive(Drop)]
 pub struct Evening {
     alloc: Global,
     options: LiveArgs,
-    title: Headed,
+    heading: Heading,
     stage: Stage,
     reader: LineReader,
 }
 
-/// Answers a row, whose text is this, at the stage in which it is read, and gives the stage after it.
-fn after_row(
-    alloc: Global,
-    options: &LiveArgs,
-    title: &mut Headed,
-    row: u64,
-    stage: Stage,
-    said: &RowFields<'_>,
-    text: &[u8],
-    parts: &mut Parts,
-) -> Result<Stage, LiveFault>
-    ensures title { OnOk result (title.new.title ≡ next_title title.old.title (stage_seen stage)
-        (fields_seen said.now)) }
-    ensures next { IfOk result (λ after. stage_seen after
-        ≡ after_row options.now row (stage_seen stage) (fields_seen said.now)) }
-    ensures text { OnOk result (parts_bytes parts.new ≡ answer_at options.now title.old.title row (stage_seen stage)
-        (request_of (fields_seen said.now)) (shown_text text.now)) }
-    ensures stops { IfErr result (StopsAt
-        (AsksAt options.now (stage_seen stage) (request_of (fields_seen said.now)))
-        (after_row options.now row (stage_seen stage) (fields_seen said.now))) }
-{
-    parts.put_nothing();
-    match stage {
-        Stage::Beginning => with_first(alloc, options, row, said, title),
-        Stage::Naming(clubs) => with_club(alloc, row, clubs, said),
-        Stage::Restoring(some) => Ok(some.with_row(row, said)?),
-        Stage::Open(table) => {
-            let mut table = table;
-            table.answered(
-                alloc,
-                options,
-                title.title,
-                row,
-                &request_of(said),
-                text,
-                parts,
-            )?;
-            Ok(Stage::Open(table))
+impl Table {
+    /// Answers a row of this number, whose text is this, on the open board, which a row may begin again.
+    fn row_answered(
+        &mut self,
+        alloc: Global,
+        options: &LiveArgs,
+        heading: &mut Heading,
+        row: u64,
+        said: &RowFields<'_>,
+        text: &[u8],
+        parts: &mut Parts,
+    ) -> Result<(), OutOfMemory>
+        ensures next { OnOk result (evening_at options.now heading.new (row + 1) (table_seen self.new)
+            ≡ next (evening_at options.now heading.old row (table_seen self.old)) (fields_seen said.now)) }
+        ensures text { OnOk result (parts_bytes parts.new
+            ≡ answer_said (evening_at options.now heading.old row (table_seen self.old))
+            (fields_seen said.now) (shown_text text.now)) }
+        ensures memory { IfErr result (λ _. AsksForMemory
+            (evening_at options.now heading.old row (table_seen self.old)) (fields_seen said.now)) }
+    {
+        if let RowFields::Four(four) = said {
+            if self.begins_again(heading, four) {
+                parts.put_nothing();
+                return Ok(());
+            }
         }
+        let request = request_of(said);
+        self.answered(alloc, options, heading.title, row, &request, text, parts)?;
+        heading.is_new = heading.is_new && request.is_bad();
+        Ok(())
     }
 }
 
@@ -79,37 +69,31 @@ impl Stage {
         &mut self,
         alloc: Global,
         options: &LiveArgs,
-        title: &mut Headed,
+        heading: &mut Heading,
         row: u64,
         said: &RowFields<'_>,
         text: &[u8],
         parts: &mut Parts,
     ) -> Result<(), LiveFault>
-        ensures title { OnOk result (title.new.title ≡ next_title title.old.title (stage_seen self.old)
-            (fields_seen said.now)) }
-        ensures next { OnOk result (stage_seen self.new
-            ≡ next_stage options.now row (stage_seen self.old) (fields_seen said.now)) }
+        ensures next { OnOk result (evening_at options.now heading.new (row + 1) (stage_seen self.new)
+            ≡ next (evening_at options.now heading.old row (stage_seen self.old)) (fields_seen said.now)) }
         ensures text { OnOk result (parts_bytes parts.new
-            ≡ answer_said (evening_at options.now title.old.title row (stage_seen self.old))
+            ≡ answer_said (evening_at options.now heading.old row (stage_seen self.old))
             (fields_seen said.now) (shown_text text.now)) }
         ensures stops { IfErr result
-            (HasNoAnswer (evening_at options.now title.old.title row (stage_seen self.old))
+            (HasNoAnswer (evening_at options.now heading.old row (stage_seen self.old))
             (fields_seen said.now)) }
     {
         if let Stage::Open(table) = self {
-            table.answered(
-                alloc,
-                options,
-                title.title,
-                row,
-                &request_of(said),
-                text,
-                parts,
-            )?;
+            table.row_answered(alloc, options, heading, row, said, text, parts)?;
             return Ok(());
         }
-        let stage = mem::replace(self, Stage::Beginning).opened(options, said);
-        *self = after_row(alloc, options, title, row, stage, said, text, parts)?;
+        parts.put_nothing();
+        *self = match mem::replace(self, Stage::Beginning) {
+            Stage::Beginning => with_first(alloc, options, row, said, heading)?,
+            Stage::Naming(clubs) => with_club(alloc, row, clubs, said)?,
+            Stage::Open(table) => Stage::Open(table),
+        };
         Ok(())
     }
 }
@@ -119,13 +103,14 @@ impl Evening {
     pub fn new(alloc: Global, options: LiveArgs) -> Evening
         ensures { evening_of result 1 ≡ start_of options }
     {
-        let title = Headed {
+        let heading = Heading {
             title: asked_title(&options),
+            is_new: true,
         };
         Evening {
             alloc,
             options,
-            title,
+            heading,
             stage: Stage::Beginning,
             reader: LineReader::new(),
         }
@@ -154,7 +139,7 @@ impl LineMachine for Evening {
             return self.stage.answered(
                 self.alloc,
                 &self.options,
-                &mut self.title,
+                &mut self.heading,
                 row,
                 &RowFields::Four(four),
                 line,
@@ -169,9 +154,9 @@ impl LineMachine for Evening {
             RowCount::More => self.stage.answered(
                 self.alloc,
                 &self.options,
-                &mut self.title,
+                &mut self.heading,
                 row,
-                &RowFields::Neither,
+                &RowFields::Other,
                 line,
                 text,
             ),
@@ -180,7 +165,7 @@ impl LineMachine for Evening {
                 self.stage.answered(
                     self.alloc,
                     &self.options,
-                    &mut self.title,
+                    &mut self.heading,
                     row,
                     &said,
                     line,
@@ -193,13 +178,13 @@ impl LineMachine for Evening {
     fn end(&mut self, row: u64, begun: &[u8], text: &mut Parts) -> Result<(), LiveFault> {
         if begun.is_empty() {
             text.put_nothing();
-            return match self.stage.missing(&self.options, row) {
+            return match self.stage.missing(row) {
                 Some(fault) => Err(LiveFault::Beginning(fault)),
                 None => Ok(()),
             };
         }
         self.answer(row, begun, text)?;
-        match self.stage.missing(&self.options, row.saturating_add(1)) {
+        match self.stage.missing(row.saturating_add(1)) {
             Some(fault) => Err(LiveFault::Beginning(fault)),
             None => Ok(()),
         }

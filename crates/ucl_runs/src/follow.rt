@@ -29,7 +29,7 @@ pub struct Followed {
 
 /// Follows the lines of a source until it ends: each moment that is newer than all that was shown is shown at once, before more is asked
 /// for, and each other line is passed over. The group and the order are those that were asked for, else those of the first moment; a moment of another
-/// one is passed over, and `others` takes a line of each such group and order, at once. At the end come the rows of the newest moment, where these are wanted.
+/// one is passed over, and `others` takes a line of each such group and order, at once.
 ///
 /// A line tells a moment where it is JSON of at most 4,096 bytes whose members `group`, `order`, `clubs` and `words` are those of a board;
 /// so does each answer of an evening to an accepted event, and each screen. It takes memory for one line at a time, and keeps none.
@@ -37,7 +37,7 @@ pub struct Followed {
 /// # Errors
 ///
 /// Nothing that comes in is an error. Where the source fails, all lines that had an end are followed. Where the sink fails, a first part of
-/// the text is out, and how many bytes. Where there is no memory for a line, or for the rows of the end, the lines before are followed.
+/// the text is out, and how many bytes. Where there is no memory for a line, the lines before are followed.
 /// `TooLong` comes after more than 2^62 bytes, which no input has.
 pub fn follow_run<S: Source, W: Sink, T: Sink + Drop>(
     alloc: Global,

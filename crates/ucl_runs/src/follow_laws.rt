@@ -1,10 +1,9 @@
 //! What holds of all that is followed. The functions do nothing: they are there for their contracts.
 
 ghost use Rattle.ucl_runs.specs.Answered.{AnswersTellTheirMoment, LinesTellTheirMoment, MatchesFitTheirLine};
-ghost use Rattle.ucl_runs.specs.Journals.{CrashesChangeNothing, CutJournalsResume, JournalsEndWithTheBoard, JournalsGoOn};
+ghost use Rattle.ucl_runs.specs.Records.{FollowersEndWithTheBoard, SameRowsSameTable};
 ghost use Rattle.ucl_runs.specs.Latest.{LatestIsShownLast, OthersDoNotMatter, ShownVersionsRise};
 ghost use Rattle.ucl_runs.specs.Repeats.{RepeatedRowsChangeNothing};
-ghost use Rattle.ucl_runs.specs.Resuming.{ResumedRowsOpenTheBoard};
 
 /// What is shown are moments that lines told, each newer than all before, in the order of their lines; as text, each by its screen.
 pub fn versions_rise()
@@ -44,33 +43,14 @@ pub fn repeated_rows_change_nothing()
     ensures { RepeatedRowsChangeNothing }
 {}
 
-/// An evening that has read the rows which a follower writes of a moment has answered nothing, and stands on the clubs and the board of that
-/// moment: what comes next is answered on that board.
-pub fn resumed_rows_open_the_board()
-    ensures { ResumedRowsOpenTheBoard }
+/// The moments of a record's answers rise by edition and version: where they tell one of the last edition, the latest is the board of the record. So a
+/// follower shows that last.
+pub fn followers_end_with_the_board()
+    ensures { FollowersEndWithTheBoard }
 {}
 
-/// Wherever the output of an evening in JSON is cut, by a crash or a kill, `--resume` writes of what is left the rows of the board after so many
-/// lines of the input, and those open it again; each accepted event whose answer is whole is among these lines. Where no moment is left, it
-/// writes nothing.
-pub fn cut_journals_resume()
-    ensures { CutJournalsResume }
-{}
-
-/// Through any number of crashes: what each start left, and an end of line, make a journal, and the next start goes on from its newest moment. What
-/// `--resume` writes of the whole are the rows of the board to which the last start came by so many lines of its input, among them each accepted
-/// event whose answer is whole.
-pub fn journals_go_on()
-    ensures { JournalsGoOn }
-{}
-
-/// The moments of an evening's lines rise: where its output was not cut, and tells a moment, the latest is its board. So a follower shows that last.
-pub fn journals_end_with_the_board()
-    ensures { JournalsEndWithTheBoard }
-{}
-
-/// After a crash: entered on the board that was resumed, the events of the lines after it, and in any places events again that had been accepted,
-/// leave the board of the evening without a crash.
-pub fn crashes_change_nothing()
-    ensures { CrashesChangeNothing }
+/// Of any copy of a record's answers, in any order and any number of times, as long as the last moment is among them, the last table that any
+/// follower shows is that of the board of the record.
+pub fn same_rows_same_table()
+    ensures { SameRowsSameTable }
 {}

@@ -1,15 +1,14 @@
 //! A follower, which answers lines with screens.
 
-ghost use Rattle.std.specs.Prelude.{◌≡◌, ⊤, IfOk};
+ghost use Rattle.std.specs.Prelude.{◌≡◌, ⊤, [], IfOk};
 ghost use Rattle.ucl_screen.specs.Screen.{IsGroup};
-ghost use Rattle.ucl_runs.specs.Follow.{resuming_text, sight_text, told_text, unseen};
+ghost use Rattle.ucl_runs.specs.Follow.{sight_text, told_text, unseen};
 ghost use Rattle.ucl_runs.specs.Hearing.{IsHeard, following_of, shape_of, sight_bytes};
 ghost use Rattle.ucl_json.specs.Told.{moment_on};
 
 use crate::follow_program::other_line;
 use crate::following::{Following, is_newer};
-use crate::is_asked;
-use crate::rows::resuming_rows;
+use crate::title::is_asked;
 use std::alloc::Global;
 use ucl_command::{FollowArgs, FollowShape};
 use ucl_io::{LineMachine, Text};
@@ -25,8 +24,6 @@ pub enum Sight {
     Nothing,
     /// A screen, or the matches in its place.
     Screen(String),
-    /// The rows by which an evening goes on.
-    Rows(Vec<u8>),
 }
 
 impl Text for Sight {
@@ -42,7 +39,6 @@ impl Text for Sight {
         match self {
             Sight::Nothing => b"".as_slice(),
             Sight::Screen(text) => text.as_str().as_bytes(),
-            Sight::Rows(rows) => rows.as_slice(),
         }
     }
 
@@ -72,7 +68,6 @@ fn show(alloc: Global, shape: FollowShape, row: u64, moment: &Moment) -> Result<
             moment.title,
         )?)),
         FollowShape::Matches => Ok(Sight::Screen(matches(alloc, &moment.board, &moment.roster)?)),
-        FollowShape::Rows => Ok(Sight::Nothing),
     }
 }
 
@@ -129,8 +124,7 @@ impl<T: Sink> LineMachine for Follower<T> {
     ghost stops = { λ _ _ _ _ _. ⊤ };
 
     ghost ends = { λ m row begun n text. (shape_of n ≡ shape_of m)
-        × (following_of n ≡ following_of m)
-        × (text ≡ resuming_text (shape_of m) (following_of m).newest) };
+        × (following_of n ≡ following_of m) × (text ≡ []) };
 
     ghost stops_at_end = { λ _ _ _ _ _. ⊤ };
 
@@ -164,10 +158,7 @@ impl<T: Sink> LineMachine for Follower<T> {
     }
 
     fn end(&mut self, _row: u64, _begun: &[u8], text: &mut Sight) -> Result<(), OutOfMemory> {
-        *text = match (self.shape, &self.following.newest) {
-            (FollowShape::Rows, Some(moment)) => Sight::Rows(resuming_rows(self.alloc, moment)?),
-            _ => Sight::Nothing,
-        };
+        *text = Sight::Nothing;
         Ok(())
     }
 }

@@ -13,22 +13,21 @@ mod follow_program;
 mod follower;
 mod following;
 mod gate;
-mod headed;
+mod heading;
 mod last_screens;
 mod lines;
 mod live;
 mod live_fault;
 mod live_laws;
 mod live_program;
+mod new_board;
 mod night;
 mod night_laws;
 mod parts;
 mod plan;
 mod program;
 mod request;
-mod rows;
 mod show;
-mod some_words;
 mod stage;
 mod table;
 mod threads;
@@ -39,10 +38,9 @@ pub use evening::Evening;
 pub use feed::feed_run;
 pub use follow::{Followed, follow_run};
 pub use follow_laws::{
-    answers_tell_their_moment, crashes_change_nothing, cut_journals_resume,
-    journals_end_with_the_board, journals_go_on, latest_is_shown_last, lines_tell_their_moment,
-    matches_fit_their_line, others_do_not_matter, repeated_rows_change_nothing,
-    resumed_rows_open_the_board, versions_rise,
+    answers_tell_their_moment, followers_end_with_the_board, latest_is_shown_last,
+    lines_tell_their_moment, matches_fit_their_line, others_do_not_matter,
+    repeated_rows_change_nothing, same_rows_same_table, versions_rise,
 };
 pub use follow_program::run_following;
 pub use follower::{Follower, Sight};
@@ -50,8 +48,9 @@ pub use gate::{Gate, OpenGate};
 pub use live::live_run;
 pub use live_fault::{BeginningFault, LiveFault};
 pub use live_laws::{
-    beginnings_are_answered, boards_take_events, evenings_are_sequential, evenings_say_the_same,
-    first_rows_open_the_board, json_answers_are_lines, json_says_the_same, lines_are_read_whole,
+    beginnings_are_answered, boards_begin_again, boards_take_events, evenings_are_sequential,
+    evenings_say_the_same,
+    json_answers_are_lines, json_says_the_same, lines_are_read_whole,
     refused_evenings_are_silent, replies_are_those_of_feed,
 };
 pub use live_program::run_evening;

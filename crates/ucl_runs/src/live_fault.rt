@@ -9,7 +9,7 @@ use ucl_io::PumpFault;
 use ucl_rows::RunFault;
 use ucl_screen::InputFault;
 
-/// Why an evening is refused: its group, its clubs or its words have a fault.
+/// Why an evening is refused: its group or its clubs have a fault.
 #[derive(Clone, Copy, Debug, PartialEq, Eq)]
 pub enum BeginningFault {
     /// 20: the first row that is missing or is not as its place demands.
@@ -21,11 +21,6 @@ pub enum BeginningFault {
     BadRoster {
         /// The least slot with such a club.
         slot: u8,
-    },
-    /// 10: the word of no valid record.
-    BadWordAt {
-        /// The least match with such a word.
-        index: u8,
     },
     /// The first row says another group or order than was asked for.
     OtherGroup,
@@ -71,7 +66,6 @@ fn input_fault(fault: BeginningFault) -> Option<InputFault>
     match fault {
         BeginningFault::BadRow { row } => Some(InputFault::BadRow { row }),
         BeginningFault::BadRoster { slot } => Some(InputFault::BadRoster { slot }),
-        BeginningFault::BadWordAt { index } => Some(InputFault::BadWordAt { index }),
         BeginningFault::OtherGroup => None,
     }
 }

@@ -1,6 +1,6 @@
 //! What holds of all evenings. The functions do nothing: they are there for their contracts.
 
-ghost use Rattle.ucl_runs.specs.LiveLaws.{BeginningsAreAnswered, BoardsTakeEvents, EveningsAreSequential, EveningsSayTheSame, FirstRowsOpenTheBoard, JsonAnswersAreLines, JsonSaysTheSame, LinesAreReadWhole, RefusedEveningsAreSilent, RepliesAreThoseOfFeed};
+ghost use Rattle.ucl_runs.specs.LiveLaws.{BeginningsAreAnswered, BoardsBeginAgain, BoardsTakeEvents, EveningsAreSequential, EveningsSayTheSame, JsonAnswersAreLines, JsonSaysTheSame, LinesAreReadWhole, RefusedEveningsAreSilent, RepliesAreThoseOfFeed};
 
 /// The text of a longer input begins with the text of any beginning of it that ends with a line, and goes on as the text of the rest, from
 /// where the evening stood.
@@ -8,28 +8,27 @@ pub fn beginnings_are_answered()
     ensures { BeginningsAreAnswered }
 {}
 
-/// After any lines an open board is the board after the events that they asked for, one after the other, also where it was written down
-/// before.
+/// After any lines of an edition an open board is the board after the events that they asked for, one after the other.
 pub fn boards_take_events()
     ensures { BoardsTakeEvents }
 {}
 
-/// After any lines of an evening that opened on the board of a legal history, the history with the accepted events is legal and the board
-/// is its board; each reply that went out is the reply of the board of one thread, and each screen the text of the order of its board, after
-/// the events that were accepted in the lines before. So it is as text and in JSON, from the board of no event and from words.
+/// After any lines of an edition, on the board of a legal history, the history with the accepted events is legal and the board is its board; each
+/// reply that went out is the reply of the board of one thread, and each screen the text of the order of its board, after the events that were
+/// accepted in the lines before. So it is as text and in JSON.
 pub fn evenings_are_sequential()
     ensures { EveningsAreSequential }
+{}
+
+/// What comes after the row of a later edition, or after one that puts a club in its slot, is answered as on the fresh board.
+pub fn boards_begin_again()
+    ensures { BoardsBeginAgain }
 {}
 
 /// In JSON the answers of an evening are the lines of values, each one line, whose members say, one after the other, just the text of the same
 /// evening with answers as text.
 pub fn evenings_say_the_same()
     ensures { EveningsSayTheSame }
-{}
-
-/// The first row after the clubs that is not that of a word is answered on the open board of no event, and so is all that comes after it.
-pub fn first_rows_open_the_board()
-    ensures { FirstRowsOpenTheBoard }
 {}
 
 /// In JSON the answers are the lines of values, and none of these has a line feed but its last byte.
@@ -53,7 +52,7 @@ pub fn replies_are_those_of_feed()
     ensures { RepliesAreThoseOfFeed }
 {}
 
-/// Where the clubs or the words have a fault, nothing was answered before.
+/// Where the clubs have a fault, nothing was answered before.
 pub fn refused_evenings_are_silent()
     ensures { RefusedEveningsAreSilent }
 {}

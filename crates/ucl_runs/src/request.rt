@@ -2,7 +2,7 @@
 
 ghost use Rattle.std.specs.Prelude.{◌≡◌};
 ghost use Rattle.ucl_screen.specs.Rows.{four_seen};
-ghost use Rattle.ucl_runs.specs.Requests.{asked_by, request_of};
+ghost use Rattle.ucl_runs.specs.Requests.{asked_by, is_bad, request_of};
 ghost use Rattle.ucl_rows.specs.Rows.{fields_seen};
 
 use ucl_rows::{BadField, RowFields, bad_field};
@@ -21,6 +21,15 @@ pub enum Request {
     Words,
     /// The twelve matches of the board as it stands.
     Matches,
+}
+
+impl Request {
+    /// Whether it asks for nothing that there is.
+    pub(crate) fn is_bad(&self) -> bool
+        ensures { result ≡ is_bad self.now }
+    {
+        matches!(self, Request::Bad(_))
+    }
 }
 
 /// What a row of four fields asks for.
@@ -51,7 +60,7 @@ pub(crate) fn request_of(row: &RowFields<'_>) -> Request
     ensures { result ≡ request_of (fields_seen row.now) }
 {
     match row {
-        RowFields::Eight(_, _) | RowFields::Neither => Request::Bad(BadField::Count),
+        RowFields::Other => Request::Bad(BadField::Count),
         RowFields::Four(four) => asked_by(four),
     }
 }

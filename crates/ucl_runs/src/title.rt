@@ -5,8 +5,8 @@ ghost use Rattle.ucl_order.specs.Names.{profile_named};
 ghost use Rattle.ucl_screen.specs.Rows.{four_seen};
 ghost use Rattle.ucl_screen.specs.Screen.{IsGroup};
 ghost use Rattle.ucl_command.specs.Groups.{may_be_asked};
-ghost use Rattle.ucl_rows.specs.Rows.{fields_seen};
-ghost use Rattle.ucl_runs.specs.Titles.{asked_group, asked_order, asked_title, is_as_asked, is_asked, is_asked_group, is_asked_order, is_group_row, is_same_order, title_by, title_said};
+ghost use Rattle.ucl_rows.specs.Rows.{Row, fields_seen};
+ghost use Rattle.ucl_runs.specs.Titles.{asked_group, asked_order, asked_title, edition_said, is_as_asked, is_asked, is_asked_group, is_asked_order, is_group_row, is_same_order, title_by, title_said};
 
 use ucl_command::LiveArgs;
 use ucl_json::Title;
@@ -48,7 +48,7 @@ pub(crate) fn is_group_row(row: &RowFields<'_>) -> bool
     ensures { result ≡ is_group_row (fields_seen row.now) }
 {
     match row {
-        RowFields::Eight(_, _) | RowFields::Neither => false,
+        RowFields::Other => false,
         RowFields::Four(four) => four.first == b"group".as_slice(),
     }
 }
@@ -59,7 +59,7 @@ pub(crate) fn title_said(row: &RowFields<'_>) -> Option<Title>
     ensures letter { IfSome result (λ title. IsGroup title.group) }
 {
     match row {
-        RowFields::Eight(_, _) | RowFields::Neither => None,
+        RowFields::Other => None,
         RowFields::Four(four) => title_by(four),
     }
 }
@@ -146,5 +146,21 @@ pub(crate) fn asked_title(options: &LiveArgs) -> Title
         group: asked_group(options.group),
         profile: asked_order(options.profile),
         edition: 0,
+    }
+}
+
+/// The title of a later edition of the same group and order, where a row says one.
+pub(crate) fn later_edition(title: Title, four: &Four<'_>) -> Option<Title>
+    ensures told { result ≡ edition_said title (Row (four_seen four.now)) }
+    ensures letter { IfSome result (λ later. IsGroup later.group) }
+{
+    if four.first != b"group".as_slice() {
+        return None;
+    }
+    let later = title_by(four)?;
+    if is_asked(Some(title.group), Some(title.profile), later) && title.edition < later.edition {
+        Some(later)
+    } else {
+        None
     }
 }

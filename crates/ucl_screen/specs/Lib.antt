@@ -1,5 +1,4 @@
 pub mod Input
-pub mod Results
 pub mod Rows
 pub mod Numbers
 pub mod Events

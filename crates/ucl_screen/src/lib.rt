@@ -9,7 +9,6 @@ mod laws;
 mod lines;
 mod night;
 mod reading;
-mod result;
 mod rows;
 mod sheet;
 mod text;
@@ -22,10 +21,9 @@ pub use games::{matches, state_name};
 pub use laws::lines_have_53_columns;
 pub use night::{Night, NightEvent};
 pub use reading::{
-    FIRST_EVENT_ROW, club_of_fields, event_of_fields, night_of_bytes, read_night, read_words,
-    word_of_fields,
+    FIRST_EVENT_ROW, club_of_fields, event_of_fields, lent_club, night_of_bytes, read_night,
+    read_words,
 };
-pub use result::{result_of_eight, result_of_fields};
 pub use rows::Four;
 pub use sheet::Sheet;
 pub use text::{is_group, letter_in, matches_in_play, screen, text_of};

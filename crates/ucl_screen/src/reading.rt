@@ -2,7 +2,7 @@
 
 ghost use Rattle.std.specs.Prelude.{◌≡◌, ◌+◌, ◌≤◌, length, Some, option_map, IfErr, IfOk, OnOk};
 ghost use Rattle.csv.specs.Records.{fields_of};
-ghost use Rattle.ucl_order.specs.Roster.{club_seen};
+ghost use Rattle.ucl_order.specs.Roster.{club_lent, club_seen};
 ghost use Rattle.ucl_screen.specs.Input.{Reads, CallsRead, most_bytes};
 ghost use Rattle.ucl_screen.specs.Rows.{IsReading, four_seen, rows_left, rows_of};
 ghost use Rattle.ucl_screen.specs.Events.{event_of};
@@ -19,25 +19,36 @@ use csv::{ByteRecord, Reader};
 use std::alloc::{AllocError, Global};
 use ucl_board::Board;
 use ucl_io::Source;
-use ucl_order::{Club, Roster};
+use ucl_order::{Club, LentClub, Roster};
 
 /// The row of the first event of a script: rows 1 to 4 are its clubs.
 pub const FIRST_EVENT_ROW: u8 = 5;
 
-/// The club that four fields say, in a row with this number.
+/// The club of a row of this number, with a name that is lent.
+pub fn lent_club<'f>(row: u8, fields: &Four<'f>) -> Option<LentClub<'f>>
+    requires { row ≤ 9 }
+    ensures { option_map club_lent result ≡ club_of row (four_seen fields.now) }
+{
+    if fields.first != b"club".as_slice() || fields.second != [b'0' + row].as_slice() {
+        return None;
+    }
+    Some(LentClub {
+        name: fields.third,
+        coefficient: number(fields.fourth, 9)?,
+    })
+}
+
+/// The club of a row of this number.
 pub fn club_of_fields(alloc: Global, row: u8, fields: &Four<'_>) -> Result<Option<Club>, AllocError>
     requires { row ≤ 9 }
     ensures { IfOk result (λ club. option_map club_seen club ≡ club_of row (four_seen fields.now)) }
 {
-    if fields.first != b"club".as_slice() || fields.second != [b'0' + row].as_slice() {
-        return Ok(None);
-    }
-    let Some(coefficient) = number(fields.fourth, 9) else {
+    let Some(club) = lent_club(row, fields) else {
         return Ok(None);
     };
     Ok(Some(Club {
-        name: Vec::from_slice(alloc, fields.third)?,
-        coefficient,
+        name: Vec::from_slice(alloc, club.name)?,
+        coefficient: club.coefficient,
     }))
 }
 
@@ -175,7 +186,7 @@ pub fn read_night<S: Source>(alloc: Global, source: &mut S) -> Result<Night, Inp
 }
 
 /// The word that four fields say, in the row of this match.
-pub fn word_of_fields(game: u8, fields: &Four<'_>) -> Option<u64>
+fn word_of_fields(game: u8, fields: &Four<'_>) -> Option<u64>
     ensures { result ≡ word_of_row game (four_seen fields.now) }
 {
     if fields.first != b"word".as_slice() || !fields.fourth.is_empty() {
