@@ -30,15 +30,11 @@ pub enum FollowShape {
     Json,
     /// The twelve matches as lines of text, in place of each screen.
     Matches,
-    /// No screen, but at the end the rows by which an evening goes on from the newest moment.
-    Rows,
 }
 
-/// `--matches`, which is text, and shows moments: it goes with neither `--format` nor `--resume`.
+/// `--matches`, which is text: it does not go with `--format`.
 fn matches_option<'a>(alloc: Global) -> Result<Arg<'a>, AllocError> {
-    flag_option(alloc, "matches", help::MATCHES)
-        .conflicts_with("format")?
-        .conflicts_with("resume")
+    flag_option(alloc, "matches", help::MATCHES).conflicts_with("format")
 }
 
 /// The program's command.
@@ -47,16 +43,12 @@ fn command<'a>(alloc: Global) -> Result<Command<'a>, AllocError> {
         .arg(group_option(alloc, help::GROUP))?
         .arg(order_option(alloc, help::ORDER))?
         .arg(format_option(alloc, FORMAT))?
-        .arg(flag_option(alloc, "resume", help::RESUME))?
         .arg(matches_option(alloc)?)
 }
 
 /// What was named to be written.
 fn shape_in(matches: &ArgMatches<'_>) -> Option<FollowShape> {
     let format = format_of(matches)?;
-    if matches.get_flag("resume") {
-        return Some(FollowShape::Rows);
-    }
     if matches.get_flag("matches") {
         return Some(FollowShape::Matches);
     }
@@ -78,8 +70,7 @@ fn args_in(matches: &ArgMatches<'_>) -> Option<FollowArgs> {
 /// What the words ask of `ucl_follow`. The first word is the program's name.
 ///
 /// The options are `--group` with a letter from `A` to `H`; `--order` with `uefa` or `away-in-tie`; `--format` with `text` or `json`, which is
-/// `text` where it is left out; `--matches`, which asks for the matches in place of screens, and goes with neither `--format` nor `--resume`; and
-/// `--resume`, which asks for rows in place of screens.
+/// `text` where it is left out; and `--matches`, which asks for the matches in place of screens, and does not go with `--format`.
 ///
 /// # Errors
 ///

@@ -3,7 +3,6 @@
 //! `clap` reads the words. What it makes of them, and the texts of help and refusals, is tested; proved is what the answers keep to.
 #![tactic(auto)]
 
-mod clubs;
 mod fault;
 mod follow;
 mod help;
@@ -11,9 +10,8 @@ mod live;
 mod night;
 mod options;
 
-pub use clubs::{BrokenRule, broken_rule};
 pub use fault::{LineFault, words_of};
 pub use follow::{FollowArgs, FollowShape, follow_args};
-pub use live::{LiveArgs, asks_explanations, live_args};
+pub use live::{LiveArgs, live_args};
 pub use night::{Line, line_of};
 pub use options::Format;

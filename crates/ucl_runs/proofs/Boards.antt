@@ -1,13 +1,14 @@
 -- The board of an evening as that of a legal history.
+use Rattle.ucl_runs.proofs.Common.{stage_with, title_with}
 use Rattle.std.proofs.lemmas.Option.{cond_some}
 use Rattle.std.proofs.lemmas.Bool.{cond_both}
 use Rattle.ucl_runs.proofs.Common.{Accepted, All, All-append, All-head, All-tail, Attempt, Bad, Entry, Evening, Event, EventCall, Format}
 use Rattle.ucl_runs.proofs.Common.{FourFields, IsAttempt, IsLegal, Json, Kind, List, LiveArgs, Matches, NamedClub, NightEvent, None}
-use Rattle.ucl_runs.proofs.Common.{Nothing, Open, Option, Other, Refusal, Request, Restoring, Result, Row, Said, Screen, Some, Stage, Text}
+use Rattle.ucl_runs.proofs.Common.{Nothing, Open, Option, Other, Refusal, Request, Result, Row, Said, Screen, Some, Stage, Text, NewBoard}
 use Rattle.ucl_runs.proofs.Common.{Title, Words, [], after_attempt, answer_of, answer_said, ap, append-nil, ap₂, arith, attempt_board}
 use Rattle.ucl_runs.proofs.Common.{attempt_of, attempts_of, attempts_on, board_after, board_of, bytes_eq, event_of, event_or_bad, false}
 use Rattle.ucl_runs.proofs.Common.{fold, game_at, if◌then◌else◌, in_range, kind_named, length, line_of_reply, nat_le, nat_tests, next}
-use Rattle.ucl_runs.proofs.Common.{next_board, next_stage, next_title, number, refl, reply_answer, reply_of, request_of, said_on}
+use Rattle.ucl_runs.proofs.Common.{next_board, next_stage, next_title, number, refl, reply_answer, reply_of, request_of, said_on, again}
 use Rattle.ucl_runs.proofs.Common.{screen_after, sequential_reply, shown_text, sym, ℕ, ◌&&◌, ◌++◌, ◌+◌, ◌==◌, ◌>>=◌, ◌∙◌, ◌∷◌, ◌≡◌, ◌≤◌}
 use Rattle.std.specs.Prelude.{codes}
 use Rattle.ucl_board.proofs.HistoryLaws.{attempt_legal, versions}
@@ -17,9 +18,9 @@ use Rattle.ucl_rows.specs.BadRows.{bad_field}
 use Rattle.ucl_runs.specs.Requests.{asked_by, shown_by}
 use Rattle.ucl_runs.specs.LiveText.{after_lines, answers}
 use Rattle.ucl_runs.specs.ByHistory.{answer_by_history, answers_by_history, attempts_in, line_by_history, reply_by_history}
-use Rattle.ucl_runs.specs.LiveLaws.{BoardsTakeEvents, EveningsAreSequential, FirstRowsOpenTheBoard, IsOtherRow, RefusedEveningsAreSilent}
-use Rattle.ucl_runs.specs.LiveLaws.{RepliesAreThoseOfFeed, fresh_at}
+use Rattle.ucl_runs.specs.LiveLaws.{BoardsTakeEvents, EveningsAreSequential, RefusedEveningsAreSilent, RepliesAreThoseOfFeed, StayOnTheBoard}
 use Rattle.ucl_runs.proofs.Silence.{refused-shut, silent}
+use Rattle.ucl_runs.proofs.Common.{answer_by}
 
 -- an event is of a reporter and a match that there are
 
@@ -112,9 +113,9 @@ fold-request : (board : List ℕ) (r : Request) (more : List Attempt) → fold b
 fold-request board (Event e) more = refl
 fold-request _ _ _ = refl
 
-abbrev board_on : List ℕ → Said → List ℕ
+abbrev pub board_on : List ℕ → Said → List ℕ
 board_on board Nothing = board
-board_on board (Other eight) = board
+board_on board Other = board
 board_on board (Row f) = next_board board (request_of (Row f))
 
 fold-said : (board : List ℕ) (r : Said) (more : List Attempt) → fold board_after board (attempts_on r ++ more) ≡ fold board_after (board_on board r) more
@@ -125,13 +126,20 @@ next-open : (options : LiveArgs) (row : ℕ) (clubs : List NamedClub) (board : L
 next-open options row clubs board Nothing = refl
 next-open _ _ _ _ _ = refl
 
+-- the stage after a line that does not begin the board again
+pub stage-stays : (e : Evening) (r : Said) (clubs : List NamedClub) (board : List ℕ) → e.stage ≡ Open clubs board → again e r ≡ None
+    → (next e r).stage ≡ Open clubs (board_on board r)
+stage-stays e r clubs board h none =
+    ap (λ (o : Option NewBoard). stage_with o (next_stage e.options e.row e.stage r)) none ∙ ap (λ (s : Stage). next_stage e.options e.row s r) h
+    ∙ next-open e.options e.row clubs board r
+
 pub boards : BoardsTakeEvents
-unfolding after_lines attempts_in
-boards e [] clubs board h = h
-boards e (line ∷ lines) clubs board h =
+unfolding after_lines attempts_in StayOnTheBoard
+boards e [] clubs board h stay = h
+boards e (line ∷ lines) clubs board h stay =
     let r = said_on e.row line in
-    let there : next_stage e.options e.row e.stage r ≡ Open clubs (board_on board r) = ap (λ (s : Stage). next_stage e.options e.row s r) h ∙ next-open e.options e.row clubs board r in
-    boards (next e r) lines clubs (board_on board r) there ∙ ap (λ (b : List ℕ). Open clubs b) (sym (fold-said board r (attempts_in (e.row + 1) lines)))
+    boards (next e r) lines clubs (board_on board r) (stage-stays e r clubs board h stay.0) stay.1
+    ∙ ap (λ (b : List ℕ). Open clubs b) (sym (fold-said board r (attempts_in (e.row + 1) lines)))
 
 -- ---- the history
 
@@ -185,9 +193,9 @@ request-answer options title row clubs history (Event event) shown legal all = e
 request-answer _ _ _ _ _ _ _ _ _ = refl
 
 said-answer : (e : Evening) (clubs : List NamedClub) (history : List Entry) (r : Said) (shown : List ℕ) → IsLegal history → e.stage ≡ Open clubs (board_of history)
-    → answer_said e r shown ≡ line_by_history e.options e.title e.row clubs history r shown
+    → answer_by e None r shown ≡ line_by_history e.options e.title e.row clubs history r shown
 said-answer e clubs history Nothing shown legal h = refl
-said-answer e clubs history (Other eight) shown legal h = rw h refl
+said-answer e clubs history Other shown legal h = rw h refl
 said-answer e clubs history (Row f) shown legal h = rw h (request-answer e.options e.title e.row clubs history (request_of (Row f)) shown legal (asked f))
 
 -- the board that a line leaves
@@ -197,52 +205,33 @@ said-board history r legal = sym (fold-said (board_of history) r []) ∙ whole h
     whole : (h : List Entry) (r : Said) → IsLegal h → fold board_after (board_of h) (attempts_on r ++ []) ≡ board_of (fold after_attempt h (attempts_on r))
     whole h r legal = rw (append-nil (attempts_on r)) (attempts-board h (attempts_on r) legal (said-attempts r))
 
-said-stage : (e : Evening) (clubs : List NamedClub) (history : List Entry) (r : Said) → IsLegal history → e.stage ≡ Open clubs (board_of history)
+said-stage : (e : Evening) (clubs : List NamedClub) (history : List Entry) (r : Said) → IsLegal history → e.stage ≡ Open clubs (board_of history) → again e r ≡ None
     → (next e r).stage ≡ Open clubs (board_of (fold after_attempt history (attempts_on r)))
-said-stage e clubs history r legal h = cc (h, next-open e.options e.row clubs (board_of history) r, said-board history r legal)
+said-stage e clubs history r legal h none =
+    stage-stays e r clubs (board_of history) h none ∙ ap (λ (b : List ℕ). Open clubs b) (said-board history r legal)
 
--- an open board keeps its title
-open-title : (title : Title) (s : Stage) (r : Said) (clubs : List NamedClub) (board : List ℕ) → s ≡ Open clubs board → next_title title s r ≡ title
-open-title title s r clubs board h = rw h refl
+-- an open board keeps its title, where it is not begun again
+pub title-stays : (e : Evening) (r : Said) (clubs : List NamedClub) (board : List ℕ) → e.stage ≡ Open clubs board → again e r ≡ None → (next e r).title ≡ e.title
+title-stays e r clubs board h none = ap (λ (o : Option NewBoard). title_with o (next_title e.title e.stage r)) none ∙ rw h refl
 
 text-by-history : (e : Evening) (lines : List (List ℕ)) (clubs : List NamedClub) (history : List Entry) → IsLegal history → e.stage ≡ Open clubs (board_of history)
-    → answers e lines ≡ answers_by_history e.options e.title e.row clubs history lines
-unfolding answers answers_by_history
-text-by-history e [] clubs history legal h = refl
-text-by-history e (line ∷ lines) clubs history legal h =
+    → StayOnTheBoard e lines → answers e lines ≡ answers_by_history e.options e.title e.row clubs history lines
+unfolding answers answers_by_history StayOnTheBoard
+text-by-history e [] clubs history legal h stay = refl
+text-by-history e (line ∷ lines) clubs history legal h stay =
     let r = said_on e.row line in
     let later = fold after_attempt history (attempts_on r) in
-    ap₂ (λ (a b : List ℕ). a ++ b) (said-answer e clubs history r (shown_text line) legal h)
-    (text-by-history (next e r) lines clubs later (attempts-legal history (attempts_on r) legal (said-attempts r)) (said-stage e clubs history r legal h)
-    ∙ ap (λ (t : Title). answers_by_history e.options t (e.row + 1) clubs later lines) (open-title e.title e.stage r clubs (board_of history) h))
+    let one = ap (λ (o : Option NewBoard). answer_by e o r (shown_text line)) stay.0 ∙ said-answer e clubs history r (shown_text line) legal h in
+    ap₂ (λ (a b : List ℕ). a ++ b) one
+    (text-by-history (next e r) lines clubs later (attempts-legal history (attempts_on r) legal (said-attempts r)) (said-stage e clubs history r legal h stay.0) stay.1
+    ∙ ap (λ (t : Title). answers_by_history e.options t (e.row + 1) clubs later lines) (title-stays e r clubs (board_of history) h stay.0))
 
 pub sequential : EveningsAreSequential
-sequential e lines clubs history legal h =
+sequential e lines clubs history legal h stay =
     let all = all-attempts e.row lines in record {
       legal = attempts-legal history (attempts_in e.row lines) legal all;
-      stage = boards e lines clubs (board_of history) h ∙ ap (λ (b : List ℕ). Open clubs b) (attempts-board history (attempts_in e.row lines) legal all);
-      text = text-by-history e lines clubs history legal h;
-    }
-
--- ---- the first row
-
-first-answer : (e : Evening) (clubs : List NamedClub) (r : Said) (shown : List ℕ) → e.options.resumed ≡ false → e.stage ≡ Restoring clubs [] → IsOtherRow r
-    → answer_said e r shown ≡ answer_said (fresh_at e clubs) r shown
-first-answer e clubs Nothing shown new h k = absurd k
-first-answer _ _ _ _ new h k = rw (h, new, k) refl
-
-first-next : (e : Evening) (clubs : List NamedClub) (r : Said) → e.options.resumed ≡ false → e.stage ≡ Restoring clubs [] → IsOtherRow r
-    → next e r ≡ next (fresh_at e clubs) r
-first-next e clubs Nothing new h k = absurd k
-first-next _ _ _ new h k = rw (h, new, k) refl
-
-pub first-rows : FirstRowsOpenTheBoard
-unfolding answers after_lines
-first-rows e clubs line lines new h k =
-    let r = said_on e.row line in
-    let there = first-next e clubs r new h k in record {
-      text = ap₂ (λ (a b : List ℕ). a ++ b) (first-answer e clubs r (shown_text line) new h k) (ap (λ (f : Evening). answers f lines) there);
-      after = ap (λ (f : Evening). after_lines f lines) there;
+      stage = boards e lines clubs (board_of history) h stay ∙ ap (λ (b : List ℕ). Open clubs b) (attempts-board history (attempts_in e.row lines) legal all);
+      text = text-by-history e lines clubs history legal h stay;
     }
 
 pub silence : RefusedEveningsAreSilent

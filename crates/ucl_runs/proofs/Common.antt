@@ -56,7 +56,7 @@ pub use Rattle.ucl_json.specs.Values.{accepted_value, bad_row_value, club_items,
 pub use Rattle.ucl_json.specs.Values.{matches_value, number_value, place_items, refused_by, reply_value, word_items, words_value}
 pub use Rattle.ucl_json.specs.declared.moment.Moment.{Moment}
 pub use Rattle.ucl_json.specs.declared.title.Title.{Title}
-pub use Rattle.ucl_live_board.specs.Passes.{Continues, PassView, ReportsMore, SharedReading, entries_by}
+pub use Rattle.ucl_live_board.specs.Passes.{Continues, PassView, SharedReading, entries_by}
 pub use Rattle.ucl_order.specs.Names.{profile_name, profile_named}
 pub use Rattle.ucl_order.specs.Roster.{IsClub, IsRoster, NamedClub, bad_slot, club_in, is_name, is_printed}
 pub use Rattle.ucl_order.specs.Rows.{rows_of}
@@ -69,12 +69,11 @@ pub use Rattle.ucl_rows.specs.BadRows.{field_name, shown_text}
 pub use Rattle.ucl_runs.specs.ByHistory.{attempts_of, attempts_on}
 pub use Rattle.ucl_runs.specs.Feed.{IsFed}
 pub use Rattle.ucl_rows.specs.Lines.{line_of_reply, word_lines}
-pub use Rattle.ucl_runs.specs.Follow.{after_told, club_row, follow_text, group_row, in_quotes, is_later, is_newer, is_plain_title, is_shown}
-pub use Rattle.ucl_runs.specs.Follow.{passed_over, resuming_text, shown_too, told_text, unseen, version_at, whole_lines}
-pub use Rattle.ucl_runs.specs.Gates.{rows_by}
+pub use Rattle.ucl_runs.specs.Follow.{after_told, follow_text, is_later, is_newer, is_shown}
+pub use Rattle.ucl_runs.specs.Follow.{passed_over, shown_too, told_text, unseen, version_at, whole_lines}
 pub use Rattle.ucl_runs.specs.Holding.{HasNoAnswer, HasNoEnd, after_bytes, answers_to, evening_of, missing_at}
 pub use Rattle.ucl_rows.specs.InputLines.{last_lines, lines_of}
-pub use Rattle.ucl_runs.specs.Journals.{IsAnsweredIn, TakesEvent, moment_at, moment_now, moment_with, resume}
+pub use Rattle.ucl_runs.specs.Records.{moment_at, moment_now, moment_with}
 pub use Rattle.ucl_runs.specs.Latest.{IsNoNewer, IsToldIn}
 pub use Rattle.ucl_rows.specs.Lines.{word_line}
 pub use Rattle.ucl_runs.specs.LiveLaws.{RaisesVersion}
@@ -87,13 +86,15 @@ pub use Rattle.ucl_runs.specs.Nights.{IsRefusedAt, TakesPlace, attempt_by, last_
 pub use Rattle.ucl_rows.specs.Reading.{AreJoining, EndsRow, IsBehindEnds, IsFieldBefore}
 pub use Rattle.ucl_rows.specs.Reading.{is_joining}
 pub use Rattle.ucl_runs.specs.Requests.{asked_by, event_or_bad, request_of}
-pub use Rattle.ucl_runs.specs.Resuming.{opened_at, resumed_row}
 pub use Rattle.ucl_rows.specs.Rows.{Nothing, Other, Row, Said, fits, of_rows, said_by_text, said_on}
 pub use Rattle.ucl_rows.specs.Run.{IsStopped, TextHas}
 pub use Rattle.ucl_runs.specs.Show.{IsShown}
-pub use Rattle.ucl_runs.specs.Stages.{Beginning, Naming, Open, Refused, Restoring, Stage, after_beginning, after_club, after_row}
-pub use Rattle.ucl_runs.specs.Stages.{after_title, after_word, club_said, is_word_row, missing, next_board, next_stage, opened, restored}
-pub use Rattle.ucl_runs.specs.Stages.{with_roster, with_words, word_said}
+pub use Rattle.ucl_runs.specs.Stages.{Beginning, Naming, Open, Refused, Stage, after_beginning, after_club, after_row}
+pub use Rattle.ucl_runs.specs.Stages.{after_title, club_said, missing, next_board, next_stage}
+pub use Rattle.ucl_runs.specs.Stages.{with_roster}
+pub use Rattle.ucl_runs.specs.NewBoards.{NewBoard, begins_again}
+pub use Rattle.ucl_runs.specs.LiveText.{again, again_at, answer_by, begun_again, newness_with, next_by, stage_with, stays_new, title_with}
+pub use Rattle.ucl_runs.specs.Requests.{is_bad}
 pub use Rattle.ucl_runs.specs.Styles.{styled}
 pub use Rattle.ucl_runs.specs.Titles.{asked_group, asked_title, is_as_asked, is_asked, is_group_row, is_same_order, title_by, title_said}
 pub use Rattle.ucl_rows.specs.declared.fault.RunFault.{RunFault}

@@ -1,7 +1,7 @@
 -- Whole runs of a follower, from what the driver says of them.
 use Rattle.ucl_runs.proofs.Common.{Appends, Device, Err, FollowArgs, Following, HasClosed, HasMade, IfSome, IsPromptAt, LineRules, List}
 use Rattle.ucl_runs.proofs.Common.{Machine, Ok, PumpFault, Pumped, Result, Seen, StoppedShort, StopsLast, StopsNext, Turn, WriteFailed, []}
-use Rattle.ucl_runs.proofs.Common.{after_told, ap, append-nil, append_assoc, cut_at, follow_text, inl, inr, moment_on, refl, resuming_text}
+use Rattle.ucl_runs.proofs.Common.{after_told, ap, append-nil, append_assoc, cut_at, follow_text, inl, inr, moment_on, refl}
 use Rattle.ucl_runs.proofs.Common.{rules_of, stopped_first, stopped_short, sym, told_text, turns_front, unseen, whole, whole_lines, ℕ, ⊤}
 use Rattle.ucl_runs.proofs.Common.{◌++◌, ◌+◌, ◌∙◌, ◌∷◌, ◌≡◌, ◌⊎◌}
 use Rattle.ucl_io.specs.Turns.{AreTurns, lines_in, state_after, text_in}
@@ -24,7 +24,7 @@ module _ (T : Type 0) where
   abbrev Rules : LineRules M OutOfMemory
   Rules = rules_of (λ m row line n text. IsHeard m n (moment_on line) × (text ≡ told_text m.shape m.following (moment_on line)))
       (λ m row line n fault. ⊤)
-      (λ m row begun n text. (n.shape ≡ m.shape) × (n.following ≡ m.following) × (text ≡ resuming_text m.shape m.following.newest))
+      (λ m row begun n text. (n.shape ≡ m.shape) × (n.following ≡ m.following) × (text ≡ []))
       (λ m row begun n fault. ⊤)
 
   -- what turns come to
@@ -77,7 +77,7 @@ module _ (T : Type 0) where
 
         whole_text : {last : List ℕ} → HasClosed Rules 4097 old new p.bytes p.turns p.rest last
             → text_in p.turns ++ last ≡ follow_text args p.bytes
-        whole_text e = cc (all_text e.all, e.last.2, (turns_are 1 m p.turns p.given.turned).0, same, reaches e.all)
+        whole_text e = ap (λ (l : List ℕ). text_in p.turns ++ l) e.last.2 ∙ append-nil (text_in p.turns) ∙ all_text e.all
 
         runs_out : {fault : OutOfMemory}
             → (StopsNext Rules.Stops 1 m n p.turns p.rest fault ⊎ StopsLast Rules 4097 old new p.bytes p.turns p.rest fault)

@@ -1,18 +1,20 @@
 -- The stages of an evening: rosters and boards that there are.
+use Rattle.ucl_runs.proofs.Common.{next}
+use Rattle.ucl_runs.proofs.Common.{Evening, NewBoard, again, stage_with, subst}
 use Rattle.std.proofs.lemmas.Bool.{cond_both, eqb-true}
 use Rattle.ucl_runs.proofs.Common.{All, All-cons, All-head, All-nil, AreWords, Beginning, Err, Event, IsAttempt, IsClub, IsRoster, List}
 use Rattle.ucl_runs.proofs.Common.{LiveArgs, NamedClub, Naming, None, Nothing, Ok, Open, Option, Other, OtherGroup, Refused, Request}
-use Rattle.ucl_runs.proofs.Common.{Restoring, Result, Row, Said, Some, Stage, Title, [], after_beginning, after_club, after_row}
-use Rattle.ucl_runs.proofs.Common.{after_title, after_word, attempt_of, bad_slot, board_of, cases_Bool, club_said, inl, inr, is_as_asked}
-use Rattle.ucl_runs.proofs.Common.{is_group_row, is_word_row, length, next_board, next_stage, opened, read_words, refl, request_of}
-use Rattle.ucl_runs.proofs.Common.{restored, title_said, with_roster, with_words, word_said, ℕ, ⊤, ◌++◌, ◌+◌, ◌==◌, ◌||◌, ◌∷◌, ◌≡◌}
+use Rattle.ucl_runs.proofs.Common.{Result, Row, Said, Some, Stage, Title, [], after_beginning, after_club, after_row}
+use Rattle.ucl_runs.proofs.Common.{after_title, attempt_of, bad_slot, board_of, cases_Bool, club_said, inl, inr, is_as_asked}
+use Rattle.ucl_runs.proofs.Common.{is_group_row, length, next_board, next_stage, read_words, refl, request_of}
+use Rattle.ucl_runs.proofs.Common.{title_said, with_roster, ℕ, ⊤, ◌++◌, ◌+◌, ◌==◌, ◌||◌, ◌∷◌, ◌≡◌}
 use Rattle.ucl_order.specs.Roster.{bad_slot_from, is_club}
 use Rattle.ucl_runs.proofs.Boards.{AreAttempts, asked}
-use Rattle.ucl_runs.proofs.GoodBoards.{fresh-good, good-after, read-good}
+use Rattle.ucl_runs.proofs.BegunAgain.{renewed}
+use Rattle.ucl_runs.proofs.GoodBoards.{fresh-good, good-after}
 
 abbrev pub IsGood : Stage → Type 0
 IsGood (Open clubs board) = IsRoster clubs × AreWords board
-IsGood (Restoring clubs words) = IsRoster clubs
 IsGood Beginning = ⊤
 IsGood (Naming clubs) = ⊤
 IsGood (Refused fault) = ⊤
@@ -26,7 +28,7 @@ all-clubs slot (club ∷ clubs) h = elim (cases_Bool (is_club club)) [
 ]
 
 good-roster : (clubs : List NamedClub) (slot : Option ℕ) → length clubs ≡ 4 → bad_slot clubs ≡ slot → IsGood (with_roster clubs slot)
-good-roster clubs None four e = record { four = four; each = all-clubs 1 clubs e }
+good-roster clubs None four e = (record { four = four; each = all-clubs 1 clubs e }, fresh-good)
 good-roster clubs (Some slot) four e = tt
 
 good-club : (row : ℕ) (clubs : List NamedClub) (club : Option NamedClub) → IsGood (after_club row clubs club)
@@ -35,28 +37,6 @@ good-club row clubs (Some club) =
     let all = clubs ++ club ∷ [] in
     cond_both (length all == 4) (with_roster all (bad_slot all)) (Naming all) IsGood
     (λ e. good-roster all (bad_slot all) (eqb-true (length all) 4 e) refl) (λ _. tt)
-
-good-restored : (clubs : List NamedClub) (words : List ℕ) (r : Result (List ℕ) ℕ) → IsRoster clubs → length words ≡ 12
-    → read_words 1 words ≡ r → IsGood (restored clubs r)
-good-restored clubs words (Ok board) is long e = (is, read-good words board long e)
-good-restored clubs words (Err index) is long e = tt
-
-good-words : (clubs : List NamedClub) (words : List ℕ) → IsRoster clubs → IsGood (with_words clubs words)
-good-words clubs words is =
-    cond_both (length words == 12) (restored clubs (read_words 1 words)) (Restoring clubs words) IsGood
-    (λ e. good-restored clubs words (read_words 1 words) is (eqb-true (length words) 12 e) refl) (λ _. is)
-
-good-word : (row : ℕ) (clubs : List NamedClub) (words : List ℕ) (word : Option ℕ) → IsRoster clubs
-    → IsGood (after_word row clubs words word)
-good-word row clubs words None is = tt
-good-word row clubs words (Some word) is = good-words clubs (words ++ word ∷ []) is
-
-pub good-opened : (options : LiveArgs) (s : Stage) (r : Said) → IsGood s → IsGood (opened options s r)
-good-opened options (Restoring clubs []) r g =
-    cond_both (options.resumed || is_word_row r) (Restoring clubs []) (Open clubs (board_of [])) IsGood (λ _. g) (λ _. (g, fresh-good))
-good-opened options (Restoring clubs (word ∷ words)) r g = g
-good-opened options (Open clubs board) r g = g
-good-opened _ _ _ _ = tt
 
 good-board : (board : List ℕ) (request : Request) → AreWords board → AreAttempts request → AreWords (next_board board request)
 good-board board (Event event) w all = good-after board (attempt_of event) w (All-head IsAttempt (attempt_of event) [] all)
@@ -78,12 +58,19 @@ good-first options row r =
 good-row : (options : LiveArgs) (row : ℕ) (s : Stage) (r : Said) → IsGood s → IsGood (after_row options row s r)
 good-row options row Beginning r g = good-first options row r
 good-row options row (Naming clubs) r g = good-club row clubs (club_said (length clubs + 1) r)
-good-row options row (Restoring clubs words) r g = good-word row clubs words (word_said (length words + 1) r) g
 good-row options row (Open clubs board) r g = (g.0, good-board board (request_of r) g.1 (of-request r))
 good-row options row (Refused fault) r g = tt
 
-pub good-next : (options : LiveArgs) (row : ℕ) (s : Stage) (r : Said) → IsGood s → IsGood (next_stage options row s r)
+good-next : (options : LiveArgs) (row : ℕ) (s : Stage) (r : Said) → IsGood s → IsGood (next_stage options row s r)
 good-next options row s Nothing g = g
-good-next options row s (Other eight) g =
-    good-row options row (opened options s (Other eight)) (Other eight) (good-opened options s (Other eight) g)
-good-next options row s (Row f) g = good-row options row (opened options s (Row f)) (Row f) (good-opened options s (Row f) g)
+good-next options row s Other g = good-row options row s Other g
+good-next options row s (Row f) g = good-row options row s (Row f) g
+
+good-again : (e : Evening) (r : Said) (o : Option NewBoard) → again e r ≡ o → IsGood e.stage → IsGood (stage_with o (next_stage e.options e.row e.stage r))
+good-again e r None is g = good-next e.options e.row e.stage r g
+good-again e r (Some new) is g =
+    let x = renewed e r new is in
+    let good : IsGood (Open x.clubs x.board) = subst IsGood x.stands g in (x.renews.good good.0, fresh-good)
+
+pub good-after-line : (e : Evening) (r : Said) → IsGood e.stage → IsGood (next e r).stage
+good-after-line e r g = good-again e r (again e r) refl g

@@ -1,9 +1,10 @@
 -- In JSON an evening answers by lines of values.
+use Rattle.ucl_runs.proofs.Common.{NewBoard, None, Option, Some, again, answer_by}
 use Rattle.std.proofs.lemmas.Bool.{cond_both}
 use Rattle.ucl_runs.proofs.Common.{Accepted, AreLinesOfValues, Bad, Err, Evening, Event, Format, Json, List, LiveArgs, Matches, NamedClub}
 use Rattle.ucl_runs.proofs.Common.{NightEvent, Nothing, Ok, Open, Other, Refusal, Request, Result, Row, Said, Screen, Stage, Title, Words}
 use Rattle.ucl_runs.proofs.Common.{[], answer_at, answer_of, answer_said, bad_row_value, edition_screen_value, field_name, game_at}
-use Rattle.ucl_runs.proofs.Common.{matches_value, next, next_board, opened, reply_answer, reply_of, reply_value, request_of, said_on}
+use Rattle.ucl_runs.proofs.Common.{matches_value, next, next_board, reply_answer, reply_of, reply_value, request_of, said_on}
 use Rattle.ucl_runs.proofs.Common.{screen_after, screen_answer, shown_text, version_of, words_value, ℕ, ◌∷◌, ◌≡◌}
 use Rattle.ucl_json.proofs.OneLine.{line_of_value, lines_then, no_lines}
 use Rattle.ucl_runs.specs.LiveText.{answers}
@@ -40,14 +41,15 @@ stage-lines : (options : LiveArgs) (title : Title) (row : ℕ) (stage : Stage) (
 stage-lines options title row (Open clubs board) request shown h = request-lines options title row clubs board request shown h
 stage-lines _ _ _ _ _ _ _ = no_lines
 
-said-lines : (e : Evening) (said : Said) (shown : List ℕ) → e.options.format ≡ Json → AreLinesOfValues (answer_said e said shown)
-said-lines e Nothing shown h = no_lines
-said-lines e (Other eight) shown h = stage-lines e.options e.title e.row (opened e.options e.stage (Other eight)) (request_of (Other eight)) shown h
-said-lines e (Row f) shown h = stage-lines e.options e.title e.row (opened e.options e.stage (Row f)) (request_of (Row f)) shown h
+said-lines : (e : Evening) (new : Option NewBoard) (said : Said) (shown : List ℕ) → e.options.format ≡ Json → AreLinesOfValues (answer_by e new said shown)
+said-lines e (Some new) said shown h = no_lines
+said-lines e None Nothing shown h = no_lines
+said-lines e None Other shown h = stage-lines e.options e.title e.row e.stage (request_of Other) shown h
+said-lines e None (Row f) shown h = stage-lines e.options e.title e.row e.stage (request_of (Row f)) shown h
 
 pub json-lines : JsonAnswersAreLines
 unfolding answers
 json-lines e [] h = no_lines
 json-lines e (line ∷ lines) h =
     let said = said_on e.row line in
-    let shown = shown_text line in lines_then (answer_said e said shown) (answers (next e said) lines) (said-lines e said shown h) (json-lines (next e said) lines h)
+    let shown = shown_text line in lines_then (answer_said e said shown) (answers (next e said) lines) (said-lines e (again e said) said shown h) (json-lines (next e said) lines h)

@@ -10,6 +10,7 @@ pub mod MergedRows
 pub mod Merges
 mod NightOutput
 mod Unasked
+pub mod BegunAgain
 pub mod OneByOne
 pub mod Silence
 pub mod LiveRuns
@@ -25,7 +26,8 @@ pub mod Answered
 pub mod ReadBack
 pub mod PlainAnswers
 pub mod Repeats
-pub mod JournalLines
+pub mod AnswerLines
 pub mod Matches
 pub mod GoodStages
-pub mod JournalAnswers
+pub mod AnswerMoments
+pub mod RecordEnds

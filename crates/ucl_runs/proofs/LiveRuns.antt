@@ -108,7 +108,7 @@ module _ (before : Device) (m : Held) where
         end_silent none h =
             let last = after_lines (after_bytes start p.bytes) (last_lines begun) in
             all_text none ∙ silent start (ended_lines 258 [] p.bytes) (shut-lines (after_bytes start p.bytes) (last_lines begun)
-            (missing-shut last.options last.row last.stage fault (rw (all_reached none) at h)))
+            (missing-shut last.row last.stage fault (rw (all_reached none) at h)))
 
       line_asks : StopsNext Rules.Stops 1 m n p.turns p.rest OutOfMemory → Appends old.taken new.taken (text_in p.turns)
           → RanOut start p.bytes before after

@@ -1,12 +1,13 @@
 -- Lines that are answered one after the other.
-use Rattle.ucl_runs.proofs.Common.{Evening, HasNoAnswer, HasNoEnd, List, LiveArgs, LiveFault, Open, Refused, Restoring, Some, Stage, []}
+use Rattle.ucl_runs.proofs.Common.{NewBoard, answer_by, next_by}
+use Rattle.ucl_runs.proofs.Common.{Evening, HasNoAnswer, HasNoEnd, List, LiveArgs, LiveFault, Open, Refused, Some, Stage, []}
 use Rattle.ucl_runs.proofs.Common.{after_bytes, answer_said, answers_to, ap, append-nil, append_assoc, arith, begun_append, begun_ended}
 use Rattle.ucl_runs.proofs.Common.{begun_line, ended_append, ended_lines, if◌then◌else◌, last_lines, lines_of, live_text, min, missing}
 use Rattle.ucl_runs.proofs.Common.{missing_after, missing_at, next, refl, said_on, shown_text, sym, ℕ, ◌++◌, ◌+◌, ◌-◌, ◌^◌, ◌∙◌, ◌∷◌, ◌≡◌}
-use Rattle.std.specs.Prelude.{None}
+use Rattle.std.specs.Prelude.{None, Option}
 use Rattle.ucl_runs.specs.declared.live_fault.BeginningFault.TheVariants.{BadRow}
 use Rattle.ucl_runs.specs.Holding.{end_of}
-use Rattle.ucl_runs.specs.LiveLaws.{BeginningsAreAnswered, ended}
+use Rattle.ucl_runs.specs.LiveLaws.{BeginningsAreAnswered, BoardsBeginAgain, ended}
 use Rattle.ucl_runs.specs.Stages.{told_row}
 use Rattle.ucl_runs.specs.LiveText.{after_lines, answers, missing_now}
 use Rattle.ucl_runs.proofs.Silence.{refused-missing}
@@ -78,7 +79,7 @@ whole-missing e bytes = ap missing_now (whole-end e bytes)
 pub none-answers : (e : Evening) (begun : List ℕ) → begun ≡ [] → answers e (last_lines begun) ≡ []
 none-answers e begun none = ap (λ (l : List ℕ). answers e (last_lines l)) none ∙ answers-none e
 
-pub none-missing : (e : Evening) (begun : List ℕ) → begun ≡ [] → missing_at e begun ≡ missing e.options e.row e.stage
+pub none-missing : (e : Evening) (begun : List ℕ) → begun ≡ [] → missing_at e begun ≡ missing e.row e.stage
 none-missing e begun none = ap (λ (l : List ℕ). missing_at e l) none ∙ ap missing_now (after-none e)
 
 pub some-answers : (e : Evening) (begun : List ℕ) → (begun ≡ [] → ⊥) → answers e (last_lines begun) ≡ answer_said e (said_on e.row begun) (shown_text begun)
@@ -90,19 +91,27 @@ some-end e [] some = absurd (some refl)
 some-end e (b ∷ line) some = after-last e (b ∷ line)
 
 -- a greater row is told as the greatest that can be told
-told-alike : (options : LiveArgs) (a b : ℕ) (s : Stage) → told_row a ≡ told_row b → missing options a s ≡ missing options b s
-told-alike options a b (Restoring clubs []) e = ap (λ (n : ℕ). if options.resumed then Some (BadRow n) else None) e
-told-alike options a b (Open clubs board) e = refl
-told-alike options a b (Refused fault) e = refl
-told-alike _ _ _ _ e = ap (λ (n : ℕ). Some (BadRow n)) e
+told-alike : (a b : ℕ) (s : Stage) → told_row a ≡ told_row b → missing a s ≡ missing b s
+told-alike a b (Open clubs board) e = refl
+told-alike a b (Refused fault) e = refl
+told-alike _ _ _ e = ap (λ (n : ℕ). Some (BadRow n)) e
 
 -- the evening after the line is this one
-pub some-missing : (e f : Evening) (begun : List ℕ) → (begun ≡ [] → ⊥) → f ≡ next e (said_on e.row begun) → missing_at e begun ≡ missing f.options (min (e.row + 1) (2 ^ 64 - 1)) f.stage
+pub some-missing : (e f : Evening) (begun : List ℕ) → (begun ≡ [] → ⊥) → f ≡ next e (said_on e.row begun) → missing_at e begun ≡ missing (min (e.row + 1) (2 ^ 64 - 1)) f.stage
 some-missing e f begun some is =
-    ap missing_now (some-end e begun some ∙ sym is) ∙ ap (λ (k : Evening). missing f.options k.row f.stage) is
-    ∙ told-alike f.options (e.row + 1) (min (e.row + 1) (2 ^ 64 - 1)) f.stage (omega arith)
+    ap missing_now (some-end e begun some ∙ sym is) ∙ ap (λ (k : Evening). missing k.row f.stage) is
+    ∙ told-alike (e.row + 1) (min (e.row + 1) (2 ^ 64 - 1)) f.stage (omega arith)
 
 pub some-stops : (e : Evening) (begun : List ℕ) (fault : LiveFault) → (begun ≡ [] → ⊥) → HasNoAnswer e (said_on e.row begun) fault → HasNoEnd e begun fault
 some-stops e begun live.OutOfMemory some h = h
 some-stops e begun (live.Beginning why) some h =
-    ap missing_now (some-end e begun some) ∙ refused-missing e.options (e.row + 1) (next e (said_on e.row begun)).stage why h
+    ap missing_now (some-end e begun some) ∙ refused-missing (e.row + 1) (next e (said_on e.row begun)).stage why h
+
+-- ---- a board that is begun again
+
+pub begins-again : BoardsBeginAgain
+unfolding answers after_lines
+begins-again e line lines new is = record {
+  text = ap (λ (o : Option NewBoard). answer_by e o (said_on e.row line) (shown_text line) ++ answers (next_by e o (said_on e.row line)) lines) is;
+  after = ap (λ (o : Option NewBoard). after_lines (next_by e o (said_on e.row line)) lines) is;
+}

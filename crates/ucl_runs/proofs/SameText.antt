@@ -1,12 +1,13 @@
 -- An evening in JSON says what it says as text.
-use Rattle.ucl_runs.proofs.GoodStages.{IsGood, good-next, good-opened, of-request}
+use Rattle.ucl_runs.proofs.Common.{NewBoard, again, answer_by, stage_with}
+use Rattle.ucl_runs.proofs.GoodStages.{IsGood, good-after-line, of-request}
 use Rattle.ucl_runs.proofs.Common.{Accepted, All-append, All-cons, All-head, All-nil, AreWords, Bad, Beginning, Bool, Data, Err, Evening}
 use Rattle.ucl_runs.proofs.Common.{Event, IsAttempt, Json, List, LiveArgs, Matches, NamedClub, NightEvent, None, Nothing, Ok, Open, Option}
 use Rattle.ucl_runs.proofs.Common.{Other, RaisesVersion, Refusal, Request, Result, Row, Said, Screen, Some, Stage, Text, Title, Words, []}
 use Rattle.ucl_runs.proofs.Common.{after_row, after_title, answer_at, answer_of, answer_said, ap, append-nil, append_assoc, attempt_of}
 use Rattle.ucl_runs.proofs.Common.{bad_line, bad_row_value, edition_screen_value, false, field_name, game_at, if◌then◌else◌, is_ok}
 use Rattle.ucl_runs.proofs.Common.{json_line, line_of_reply, lines_of, matches_value, next, next_board, next_stage, no_refusal, one_line}
-use Rattle.ucl_runs.proofs.Common.{opened, refl, refusal_of, reply_answer, reply_of, reply_value, request_of, said_on, screen_after}
+use Rattle.ucl_runs.proofs.Common.{refl, refusal_of, reply_answer, reply_of, reply_value, request_of, said_on, screen_after}
 use Rattle.ucl_runs.proofs.Common.{screen_answer, screen_text, shown_text, start_of, sym, title_said, true, version_of, word_lines}
 use Rattle.ucl_runs.proofs.Common.{words_value, ℕ, ◌++◌, ◌+◌, ◌>>=◌, ◌∙◌, ◌∷◌, ◌≡◌}
 use Rattle.std.proofs.lemmas.Grind.{flat_map-append}
@@ -119,10 +120,6 @@ request-lines options title row clubs board Matches shown h w all =
 
 -- ---- the form of the answers changes no stage
 
-opened-text : (options : LiveArgs) (s : Stage) (r : Said) → opened (as_text options) s r ≡ opened options s r
-opened-text options Beginning r = refl
-opened-text _ _ _ = refl
-
 title-text : (options : LiveArgs) (row : ℕ) (title : Option Title) → after_title (as_text options) row title ≡ after_title options row title
 title-text options row None = refl
 title-text options row (Some title) = refl
@@ -133,8 +130,8 @@ row-text _ _ _ _ = refl
 
 stage-text : (options : LiveArgs) (row : ℕ) (s : Stage) (r : Said) → next_stage (as_text options) row s r ≡ next_stage options row s r
 stage-text options row s Nothing = refl
-stage-text options row s (Other eight) = rw (opened-text options s (Other eight)) (row-text options row (opened options s (Other eight)) (Other eight))
-stage-text options row s (Row f) = rw (opened-text options s (Row f)) (row-text options row (opened options s (Row f)) (Row f))
+stage-text options row s Other = row-text options row s Other
+stage-text options row s (Row f) = row-text options row s (Row f)
 
 stage-lines : (options : LiveArgs) (title : Title) (row : ℕ) (s : Stage) (r : Said) (shown : List ℕ) → options.format ≡ Json → IsGood s
     → AreLinesSaying (answer_at (as_text options) title row s (request_of r) shown) (answer_at options title row s (request_of r) shown)
@@ -143,18 +140,17 @@ stage-lines options title row (Open clubs board) r shown h g =
 stage-lines _ _ _ _ _ _ _ _ = no-lines
 
 abbrev text_of : Evening → Evening
-text_of e = record { options = as_text e.options; title = e.title; row = e.row; stage = e.stage }
+text_of e = record { options = as_text e.options; title = e.title; row = e.row; stage = e.stage; is_new = e.is_new }
 
 text-next : (e : Evening) (r : Said) → next (text_of e) r ≡ text_of (next e r)
-text-next e r = cc (stage-text e.options e.row e.stage r)
+text-next e r = cc (ap (λ (s : Stage). stage_with (again e r) s) (stage-text e.options e.row e.stage r))
 
-said-lines : (e : Evening) (r : Said) (shown : List ℕ) → e.options.format ≡ Json → IsGood e.stage
-    → AreLinesSaying (answer_said (text_of e) r shown) (answer_said e r shown)
-said-lines e Nothing shown h g = no-lines
-said-lines e (Other eight) shown h g =
-    let r = Other eight in rw (opened-text e.options e.stage r) (stage-lines e.options e.title e.row (opened e.options e.stage r) r shown h (good-opened e.options e.stage r g))
-said-lines e (Row f) shown h g =
-    rw (opened-text e.options e.stage (Row f)) (stage-lines e.options e.title e.row (opened e.options e.stage (Row f)) (Row f) shown h (good-opened e.options e.stage (Row f) g))
+said-lines : (e : Evening) (new : Option NewBoard) (r : Said) (shown : List ℕ) → e.options.format ≡ Json → IsGood e.stage
+    → AreLinesSaying (answer_by (text_of e) new r shown) (answer_by e new r shown)
+said-lines e (Some new) r shown h g = no-lines
+said-lines e None Nothing shown h g = no-lines
+said-lines e None Other shown h g = stage-lines e.options e.title e.row e.stage Other shown h g
+said-lines e None (Row f) shown h g = stage-lines e.options e.title e.row e.stage (Row f) shown h g
 
 all-lines : (e : Evening) (lines : List (List ℕ)) → e.options.format ≡ Json → IsGood e.stage
     → AreLinesSaying (answers (text_of e) lines) (answers e lines)
@@ -163,9 +159,9 @@ all-lines e [] h g = no-lines
 all-lines e (line ∷ lines) h g =
     let r = said_on e.row line in
     let shown = shown_text line in
-    let later = all-lines (next e r) lines h (good-next e.options e.row e.stage r g) in
+    let later = all-lines (next e r) lines h (good-after-line e r g) in
     both-lines (answer_said (text_of e) r shown) (answers (next (text_of e) r) lines) (answer_said e r shown) (answers (next e r) lines)
-    (said-lines e r shown h g) (rw (text-next e r) later)
+    (said-lines e (again e r) r shown h g) (rw (text-next e r) later)
 
 pub evenings : EveningsSayTheSame
 evenings options bytes h = all-lines (start_of options) (lines_of bytes) h tt

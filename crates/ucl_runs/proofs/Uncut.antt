@@ -40,7 +40,7 @@ no-room text h = elim (cases_Bool (get_or text (length text - 2) 0 == 13)) [
   | inr n ↦ rw n (lt-leb (length text) 257 (omega (arith, h)))
 ]
 
-too-long : (row : ℕ) (line : List ℕ) → 258 ≤ length line → said_on row line ≡ Other None
+too-long : (row : ℕ) (line : List ℕ) → 258 ≤ length line → said_on row line ≡ Other
 unfolding row_by_text
 too-long row line h = rw (no-room (line ++ 10 ∷ []) (let m = longer-by line 10 in omega (arith, h, m))) refl
 

@@ -1,5 +1,5 @@
 -- What the program does with what its words ask for.
-use Rattle.std.specs.Prelude.{◌≡◌, ◌-◌, ◌==◌, ℕ, Bool, false, if◌then◌else◌, List, [], ◌∷◌, ◌++◌, Option, IfSome, codes, decimal, Result, Ok, Err, IfErr, IfOk, OnOk}
+use Rattle.std.specs.Prelude.{◌≡◌, ◌-◌, ℕ, Bool, List, [], ◌∷◌, ◌++◌, Option, IfSome, codes, decimal, Result, Ok, Err, IfErr, IfOk, OnOk}
 use Rattle.std.specs.Io.KnownBytes.{Appends}
 use Rattle.ucl_io.specs.declared.stream.Source as reads
 use Rattle.ucl_io.specs.declared.stream.Sink as writes
@@ -21,8 +21,6 @@ use Rattle.ucl_order.specs.Names.{profile_name}
 use Rattle.ucl_json.specs.declared.title.Title.{Title}
 use Rattle.ucl_runs.specs.declared.follow.Followed.{Followed}
 use Rattle.ucl_command.specs.declared.follow.FollowArgs.{FollowArgs}
-use Rattle.ucl_command.specs.declared.follow.FollowShape.{FollowShape}
-use Rattle.ucl_command.specs.declared.follow.FollowShape.TheVariants.{Text, Json, Matches, Rows}
 use Rattle.ucl_runs.specs.Follow.{follow_end, follow_text}
 use Rattle.ucl_runs.specs.Hearing.{FollowFails, IsFollowedSoFar, counts_of}
 
@@ -41,28 +39,10 @@ abbrev pub counts_line : Followed → List ℕ
 counts_line followed =
     decimal followed.lines ++ codes " lines, " ++ decimal followed.shown ++ codes " shown, " ++ decimal (followed.lines - followed.shown) ++ codes " passed over\n"
 
--- rows were wanted, and no line told a moment
-abbrev pub is_in_vain : FollowShape → Followed → Bool
-is_in_vain Rows followed = followed.shown == 0
-is_in_vain Text followed = false
-is_in_vain Json followed = false
-is_in_vain Matches followed = false
-
--- how many lines came, where none of them told a moment
-abbrev pub vain_line : Followed → List ℕ
-vain_line followed = codes "no moment in " ++ decimal followed.lines ++ codes " lines: there is nothing to go on from\n"
-
 -- that the moment of a line is passed over, for its group or order
 abbrev pub other_line : ℕ → Title → List ℕ
 other_line line title =
     codes "line " ++ decimal line ++ codes ": group " ++ (title.group ∷ []) ++ codes ", order " ++ profile_name title.profile ++ codes ", is passed over\n"
-
--- what is told, and the exit status, where the input has ended
-abbrev pub end_line : FollowShape → Followed → List ℕ
-end_line shape followed = if is_in_vain shape followed then vain_line followed else counts_line followed
-
-abbrev pub end_status : FollowShape → Followed → ℕ
-end_status shape followed = if is_in_vain shape followed then 3 else 0
 
 -- the fault of a program that follows
 abbrev pub told_fault : PumpFault OutOfMemory → RunFault
@@ -72,14 +52,14 @@ told_fault (WriteFailed written) = run.WriteFailed written
 told_fault (Machine fault) = run.OutOfMemory
 
 -- the input has ended; or the line of the fault is told, and its status
-abbrev pub EndsFollowing : FollowShape → Result Followed (PumpFault OutOfMemory) → ℕ → Bool → Option (List ℕ) → Option (List ℕ) → Type 0
-EndsFollowing shape (Ok followed) code failed old new = (code ≡ end_status shape followed) × Tells failed old new (end_line shape followed)
-EndsFollowing shape (Err fault) code failed old new = (code ≡ status (told_fault fault)) × Tells failed old new (fault_line (told_fault fault))
+abbrev pub EndsFollowing : Result Followed (PumpFault OutOfMemory) → ℕ → Bool → Option (List ℕ) → Option (List ℕ) → Type 0
+EndsFollowing (Ok followed) code failed old new = (code ≡ 0) × Tells failed old new (counts_line followed)
+EndsFollowing (Err fault) code failed old new = (code ≡ status (told_fault fault)) × Tells failed old new (fault_line (told_fault fault))
 
 -- what the program does where its words ask it to follow, ask for help, are refused, or could not be read for want of memory; and its
 -- exit status, and what it tells on the error sink
 abbrev pub RunsFollowing : {S W M : Type 0} → reads.Ghosts S → writes.Ghosts W → Result FollowArgs LineFault → Duplex S W M → Duplex S W M
     → ℕ → Bool → Option (List ℕ) → Option (List ℕ) → Type 0
 RunsFollowing source sink (Ok args) before after code failed old new =
-    (r : Result Followed (PumpFault OutOfMemory)) × FollowsLines source sink args before after r × EndsFollowing args.shape r code failed old new
+    (r : Result Followed (PumpFault OutOfMemory)) × FollowsLines source sink args before after r × EndsFollowing r code failed old new
 RunsFollowing source sink (Err fault) before after code failed old new = AnsweredAlone sink fault before after code failed old new

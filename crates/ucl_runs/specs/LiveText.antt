@@ -100,33 +100,40 @@ next_title title (Open clubs board) said = title
 next_title title (Refused fault) said = title
 
 -- a line that asks for nothing that there is leaves an edition new
-abbrev pub leaves_new : Said → Bool
-leaves_new Nothing = true
-leaves_new Other = true
-leaves_new (Row f) = is_bad (request_of (Row f))
-
 abbrev pub stays_new : Bool → Stage → Said → Bool
-stays_new is_new (Open clubs board) said = is_new && leaves_new said
+stays_new is_new (Open clubs board) said = is_new && is_bad (request_of said)
 stays_new is_new Beginning said = is_new
 stays_new is_new (Naming clubs) said = is_new
 stays_new is_new (Refused fault) said = is_new
 
--- the fresh board is open in place of the one that stood
-abbrev pub begun_again : Evening → NewBoard → Evening
-begun_again e new = record { options = e.options; title = new.title; row = e.row + 1; stage = Open new.clubs (board_of []); is_new = true }
+-- a line that begins the board again puts the fresh one in place of that which stood
+abbrev pub title_with : Option NewBoard → Title → Title
+title_with None title = title
+title_with (Some new) title = new.title
+
+abbrev pub stage_with : Option NewBoard → Stage → Stage
+stage_with None stage = stage
+stage_with (Some new) stage = Open new.clubs (board_of [])
+
+abbrev pub newness_with : Option NewBoard → Bool → Bool
+newness_with None is_new = is_new
+newness_with (Some new) is_new = true
 
 abbrev pub next_by : Evening → Option NewBoard → Said → Evening
-next_by e None said = record {
+next_by e new said = record {
   options = e.options;
-  title = next_title e.title e.stage said;
+  title = title_with new (next_title e.title e.stage said);
   row = e.row + 1;
-  stage = next_stage e.options e.row e.stage said;
-  is_new = stays_new e.is_new e.stage said;
+  stage = stage_with new (next_stage e.options e.row e.stage said);
+  is_new = newness_with new (stays_new e.is_new e.stage said);
 }
-next_by e (Some new) said = begun_again e new
 
 abbrev pub next : Evening → Said → Evening
 next e said = next_by e (again e said) said
+
+-- the fresh board of an edition, in place of the one that stood
+abbrev pub begun_again : Evening → NewBoard → Evening
+begun_again e new = record { options = e.options; title = new.title; row = e.row + 1; stage = Open new.clubs (board_of []); is_new = true }
 
 -- ---- the answers to lines, one after the other
 

@@ -4,7 +4,7 @@ use Rattle.ucl_order.specs.Roster.{NamedClub, is_club}
 use Rattle.ucl_screen.specs.Rows.{FourFields}
 use Rattle.ucl_screen.specs.Script.{club_of}
 use Rattle.ucl_json.specs.declared.title.Title.{Title}
-use Rattle.ucl_rows.specs.Rows.{Row}
+use Rattle.ucl_rows.specs.Rows.{Said, Nothing, Other, Row}
 use Rattle.ucl_board.specs.History.{board_of}
 use Rattle.ucl_runs.specs.declared.heading.Heading.{Heading}
 use Rattle.ucl_runs.specs.declared.stage.Table.{Table}
@@ -47,6 +47,12 @@ by_edition title is_new clubs f None = if is_new then of_clubs title (clubs_said
 
 abbrev pub begins_again : Title → Bool → List NamedClub → FourFields → Option NewBoard
 begins_again title is_new clubs f = by_edition title is_new clubs f (edition_said title (Row f))
+
+-- the board that a line begins again, on an open board
+abbrev pub again_on : Title → Bool → List NamedClub → Said → Option NewBoard
+again_on title is_new clubs Nothing = None
+again_on title is_new clubs Other = None
+again_on title is_new clubs (Row f) = begins_again title is_new clubs f
 
 -- ---- what the code does
 

@@ -50,15 +50,13 @@ impl Table {
         ensures memory { IfErr result (λ _. AsksForMemory
             (evening_at options.now heading.old row (table_seen self.old)) (fields_seen said.now)) }
     {
-        if let RowFields::Four(four) = said {
-            if self.begins_again(heading, four) {
-                parts.put_nothing();
-                return Ok(());
-            }
+        if self.is_begun_again(heading, said) {
+            parts.put_nothing();
+            return Ok(());
         }
         let request = request_of(said);
         self.answered(alloc, options, heading.title, row, &request, text, parts)?;
-        heading.is_new = heading.is_new && request.is_bad();
+        heading.goes_on(&request);
         Ok(())
     }
 }

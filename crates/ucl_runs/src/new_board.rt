@@ -4,14 +4,15 @@ ghost use Rattle.std.specs.Prelude.{◌≡◌, ⊤, false, true, Some, None, IfS
 ghost use Rattle.ucl_board.specs.Fixtures.{IsSlot};
 ghost use Rattle.ucl_board.specs.History.{board_of};
 ghost use Rattle.ucl_screen.specs.Rows.{four_seen};
-ghost use Rattle.ucl_runs.specs.NewBoards.{BeginsAgain, Puts, begins_again, clubs_said, new_board, slot_in};
+ghost use Rattle.ucl_runs.specs.NewBoards.{BeginsAgain, Puts, again_on, begins_again, clubs_said, slot_in};
 ghost use Rattle.ucl_runs.specs.Titles.{edition_said};
-ghost use Rattle.ucl_rows.specs.Rows.{Row};
+ghost use Rattle.ucl_rows.specs.Rows.{Row, fields_seen};
 
 use crate::heading::Heading;
 use crate::stage::Table;
 use crate::title::later_edition;
 use ucl_board::Board;
+use ucl_rows::RowFields;
 use ucl_screen::{Four, lent_club};
 
 /// The slot that a field names.
@@ -39,8 +40,8 @@ impl Table {
         }
     }
 
-    /// Puts the fresh board in place of this one, where a row begins it again, and says whether it did.
-    pub(crate) fn begins_again(&mut self, heading: &mut Heading, four: &Four<'_>) -> bool
+    /// Puts the fresh board in place of this one, where a row of four fields begins it again, and says whether it did.
+    fn begun_by(&mut self, heading: &mut Heading, four: &Four<'_>) -> bool
         ensures { BeginsAgain
             (begins_again heading.old.title heading.old.is_new self.old.roster (four_seen four.now))
             result heading.old heading.new self.old self.new }
@@ -58,5 +59,17 @@ impl Table {
             return true;
         }
         false
+    }
+
+    /// Puts the fresh board in place of this one, where a row begins it again, and says whether it did.
+    pub(crate) fn is_begun_again(&mut self, heading: &mut Heading, said: &RowFields<'_>) -> bool
+        ensures { BeginsAgain
+            (again_on heading.old.title heading.old.is_new self.old.roster (fields_seen said.now))
+            result heading.old heading.new self.old self.new }
+    {
+        match said {
+            RowFields::Other => false,
+            RowFields::Four(four) => self.begun_by(heading, four),
+        }
     }
 }

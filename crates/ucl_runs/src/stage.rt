@@ -152,7 +152,10 @@ pub(crate) fn with_first(
     match title_said(said) {
         None => Err(LiveFault::Beginning(bad_row(row))),
         Some(other) if is_as_asked(options, other) => {
-            *heading = Heading { title: other, is_new: heading.is_new };
+            *heading = Heading {
+                title: other,
+                is_new: heading.is_new,
+            };
             Ok(Stage::Naming(Clubs::NoClub))
         }
         Some(_) => Err(LiveFault::Beginning(BeginningFault::OtherGroup)),

@@ -21,28 +21,19 @@ error tells it at once, by its line: once for each such group and order.
 Output: the screen of each moment that is newer than all before, worked out
 from its words, by its order; each other line is passed over. No text of a line
 is handed on. With --matches the twelve matches in place of the screen, a line
-each. With --resume no screen, but at the end of the input the rows from
-which ucl_live goes on at the newest moment: its group, as group,C,uefa,1, where
-this is not group,A,uefa,0; four clubs, as club,1,\"Alpha\",60000; and twelve
-words, as word,1,2001000000001001,
-A name is 1 to 20 printable ASCII characters, and a coefficient in thousandths 1
-to 9 digits, up to 999,999.
+each.
 
 At the end of the input standard error tells how many lines came, were shown
-and were passed over; with --resume that no line told a moment, if none did.
+and were passed over.
 
 Exit status:
   0  the input has ended, or help or the version was asked for
   2  the words of the command line are refused
-  3  with --resume: no line told a moment, and nothing was written
   4  reading or writing failed
   5  there is no memory
 
 Examples:
-  ucl_live --format json < rows >> evening.jsonl
-  tail -n +1 -F evening.jsonl | ucl_follow
-  ucl_follow --resume < evening.jsonl > start &&
-    cat start rows | ucl_live --resumed --format json
+  tail -n +1 -F evening.csv | ucl_live --format json | ucl_follow
 
 docs/ROWS.md has rows, answers and all codes; docs/RULES.md has the rules.";
 
@@ -58,9 +49,5 @@ of the first moment without it";
 
 /// What `--matches` does.
 pub(crate) const MATCHES: &str = "\
-Writes the twelve matches in place of each screen; goes
-with neither --format nor --resume";
-
-/// What `--resume` does.
-pub(crate) const RESUME: &str = "\
-Writes the rows of the newest moment, and no screen";
+Writes the twelve matches in place of each screen; does
+not go with --format";

@@ -16,21 +16,17 @@ bytes; a line with nothing on it is passed over and counted
                                  club,1,Alpha,60000; a name is 1 to 20 printable
                                  ASCII characters, and a coefficient in
                                  thousandths 1 to 9 digits, up to 999,999
-  word,MATCH,WORD,               then, where a board was written down, the word
-                                 of each match, 1 to 12; the board goes on there
-  result,MATCH,HOME,AWAY         or in its place the result, as result,7,2,1; it
-                                 may go on with the standing yellows of both
-                                 sides, and their expulsions, as
-                                 result,7,2,1,0,1,0,0; a match that was not
-                                 played is result,8,,
   REPORTER,MATCH,EXPECTED,EVENT  then, in any order and without an end: who
                                  enters the event, 1 to 255; the match, 1 to 12;
                                  the event number last seen of it; the event; as
                                  1,1,0,kickoff where nothing was seen of match 1
   screen,,,                      the table as it stands
   matches,,,                     the twelve matches as they stand, a line each
-  words,,,                       the twelve words as they stand; the club rows
-                                 and these begin the next evening
+  words,,,                       the twelve words as they stand
+  group,GROUP,ORDER,EDITION      the same group and order in a later edition: the
+                                 fresh board takes the place of the old one, and
+                                 nothing is answered; rows of clubs right after it
+                                 put clubs in their slots
 
 Events:
   kickoff, goal-home, goal-away, disallow-home, disallow-away, yellow-home,
@@ -48,19 +44,16 @@ Output: once the clubs are named, each row is answered before the next is read
 With --format json each answer is one object on one line, whose member reply is
 ok, refused, words, matches or screen.
 
-With --explain standard error has a sentence for each refused row: what is wrong,
-and what to do.
-
 Exit status, with a text on standard error where it is not 0:
   0  the input has ended, or help or the version was asked for
   2  the words of the command line are refused, or differ from the row of a group
-  3  the clubs, the words or the results have a fault; nothing was written
+  3  the clubs have a fault; nothing was written
   4  reading or writing failed
   5  there is no memory
 
 Examples:
   ucl_live < examples/one_goal.csv
-  cat clubs.csv - | ucl_live --screens      to type rows, up to Ctrl-D
+  tail -n +1 -F evening.csv | ucl_live --screens    follows a record of rows
 
 docs/ROWS.md has rows, answers and all codes; docs/RULES.md has the rules.";
 
@@ -75,11 +68,5 @@ The order of the clubs: that of the Regulations, or
 with away goals among tied clubs; uefa, where no first
 row says one";
 
-/// What `--resumed` does.
-pub(crate) const RESUMED: &str = "Refuses an input without words or results";
-
 /// What `--screens` does.
 pub(crate) const SCREENS: &str = "Writes the screen after each accepted event";
-
-/// What `--explain` does.
-pub(crate) const EXPLAIN: &str = "Explains each refusal in a sentence on standard error";

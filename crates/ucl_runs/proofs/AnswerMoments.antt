@@ -1,17 +1,19 @@
 -- What the lines of an evening's answers tell: nothing, or the moment after their line.
+use Rattle.ucl_runs.proofs.Common.{NewBoard, again, answer_by, false, is_bad, next_by, stays_new, title_with}
 use Rattle.std.proofs.lemmas.Bool.{cond_both}
 use Rattle.ucl_runs.proofs.Boards.{ranged, AreAttempts, asked, asked-by, event-numbers}
 use Rattle.std.proofs.lemmas.List.Elements.{All-weaker}
-use Rattle.ucl_runs.proofs.GoodStages.{IsGood, good-next, good-opened, of-request}
+use Rattle.ucl_runs.proofs.GoodStages.{IsGood, good-after-line, of-request}
+use Rattle.ucl_runs.proofs.BegunAgain.{renewed}
 use Rattle.ucl_runs.proofs.Common.{All, All-append, All-get_or, All-head, All-nil, AreWords, Attempt, Bad, Beginning, Bool, Evening, Event}
 use Rattle.ucl_runs.proofs.Common.{FourFields, HasNumbers, IsAttempt, IsGroup, IsMoment, IsRoster, IsValid, IsWord, Json, KickOff, List}
 use Rattle.ucl_runs.proofs.Common.{LiveArgs, MatchRecord, Matches, Moment, NamedClub, Naming, NightEvent, None, Nothing, Open, Option}
-use Rattle.ucl_runs.proofs.Common.{Other, Profile, Refusal, Refused, Request, Restoring, Row, Said, Screen, Some, Stage, Title, Words, []}
+use Rattle.ucl_runs.proofs.Common.{Other, Profile, Refusal, Refused, Request, Row, Said, Screen, Some, Stage, Title, Words, []}
 use Rattle.ucl_runs.proofs.Common.{accepted_value, after_row, and_parts, answer, answer_at, answer_of, answer_said, answers, ap, arith}
 use Rattle.ucl_runs.proofs.Common.{asked_by, asked_group, asked_title, attempt_of, attempts_of, attempts_on, begun_line, begun_none}
 use Rattle.ucl_runs.proofs.Common.{board_after, cases_Bool, edition_screen_value, ended_none, event_of, event_or_bad, game_at, inl, inr}
 use Rattle.ucl_runs.proofs.Common.{is_group_row, is_ok, json_line, leb-true, length, letter_in, moment_at, moment_now, moment_on}
-use Rattle.ucl_runs.proofs.Common.{moment_with, nat_le, next, next_board, next_title, no_refusal, number, number_valid, opened}
+use Rattle.ucl_runs.proofs.Common.{moment_with, nat_le, next, next_board, next_title, no_refusal, number, number_valid}
 use Rattle.ucl_runs.proofs.Common.{profile_named, refl, refusal_of, reply_answer, reply_of, reply_value, request_of, said_on, screen_after}
 use Rattle.ucl_runs.proofs.Common.{screen_answer, shown_text, start_of, subst, sym, title_by, title_said, true, version_at, version_of}
 use Rattle.ucl_runs.proofs.Common.{word_at, word_valid, ℕ, ⊤, ◌&&◌, ◌++◌, ◌+◌, ◌-◌, ◌<◌, ◌>>=◌, ◌^◌, ◌∙◌, ◌∷◌, ◌≡◌, ◌≤◌}
@@ -22,9 +24,9 @@ use Rattle.ucl_runs.proofs.Silence.{is_open}
 use Rattle.ucl_runs.specs.LiveText.{after_lines, title_or}
 use Rattle.ucl_runs.proofs.GoodBoards.{good-after, version-after}
 use Rattle.ucl_runs.proofs.OneByOne.{after-none, after-one, answers-none, answers-one}
-use Rattle.ucl_runs.proofs.JournalLines.{IsLineThat, IsShown, TellsAlone, TellsAtMost, alone-as, alone-line, alone-none, alone-then}
-use Rattle.ucl_runs.proofs.JournalLines.{bad-line, begun-then, board-fits, found-fits, lines-then, lines_in, matches-line, refused-line}
-use Rattle.ucl_runs.proofs.JournalLines.{shown-text, value-line, words-line}
+use Rattle.ucl_runs.proofs.AnswerLines.{IsLineThat, IsShown, TellsAlone, TellsAtMost, alone-as, alone-line, alone-none, alone-then}
+use Rattle.ucl_runs.proofs.AnswerLines.{bad-line, begun-then, board-fits, found-fits, lines-then, lines_in, matches-line, refused-line}
+use Rattle.ucl_runs.proofs.AnswerLines.{shown-text, value-line, words-line}
 use Rattle.ucl_runs.proofs.Matches.{told-lines}
 
 abbrev pub Lines : Type 0
@@ -89,8 +91,15 @@ pub record IsSound (e : Evening) : Type 0 where
   pub stage : IsGood e.stage
   pub title : IsTitle e.title
 
+title-again : (e : Evening) (r : Said) (o : Option NewBoard) → again e r ≡ o → IsTitle e.title → IsTitle (title_with o (next_title e.title e.stage r))
+title-again e r None is t = next-good e.title e.stage r t
+title-again e r (Some new) is t = elim (renewed e r new is).renews.titled [
+  | inl later ↦ said-title (renewed e r new is).fields new.title later.1
+  | inr same ↦ subst IsTitle (sym same.1) t
+]
+
 pub sound-next : (e : Evening) (r : Said) → IsSound e → IsSound (next e r)
-sound-next e r g = record { stage = good-next e.options e.row e.stage r g.stage; title = next-good e.title e.stage r g.title }
+sound-next e r g = record { stage = good-after-line e r g.stage; title = title-again e r (again e r) refl g.title }
 
 pub good-after-lines : (e : Evening) (lines : Lines) → IsSound e → IsSound (after_lines e lines)
 unfolding after_lines
@@ -119,7 +128,7 @@ numbers f e h =
     let expected = p.1 in record { reporter = omega (arith, reporter); game = omega (arith, game); expected = omega (arith, expected) }
 
 -- each event that is asked for has numbers that fit
-abbrev Fits : Request → Type 0
+abbrev pub Fits : Request → Type 0
 Fits (Event event) = HasNumbers event
 Fits (Bad field) = ⊤
 Fits Screen = ⊤
@@ -130,10 +139,10 @@ fits-event : (f : FourFields) (o : Option NightEvent) → ((e : NightEvent) → 
 fits-event f None p = tt
 fits-event f (Some e) p = p e refl
 
-fits-asked : (f : FourFields) → Fits (asked_by f)
+pub fits-asked : (f : FourFields) → Fits (asked_by f)
 fits-asked f = asked-by Fits f tt tt tt tt (fits-event f (event_of f) (numbers f))
 
-fits-request : (r : Said) → Fits (request_of r)
+pub fits-request : (r : Said) → Fits (request_of r)
 fits-request (Row f) = fits-asked f
 fits-request _ = tt
 
@@ -213,117 +222,48 @@ module _ (options : LiveArgs) (title : Title) (row : ℕ) (clubs : List NamedClu
   request-tells board Words shown w all small short = rw json (words-line (At board) row board fits w.twelve (board-fits board w.each))
   request-tells board Matches shown w all small short = rw json (matches-line (At board) row board clubs fits is w)
 
-stage-tells : (options : LiveArgs) (title other : Title) (row : ℕ) (s : Stage) (r : Said) (shown : List ℕ) → options.format ≡ Json → row < 2 ^ 64 → IsTitle title → IsGood s → IsShown shown
-    → (is_open s ≡ true → other ≡ title) → TellsAlone (moment_at other (after_row options row s r)) (answer_at options title row s (request_of r) shown)
-stage-tells options title other row Beginning r shown json fits t g short same = alone-none (moment_at other (after_row options row Beginning r))
-stage-tells options title other row (Naming clubs) r shown json fits t g short same = alone-none (moment_at other (after_row options row (Naming clubs) r))
-stage-tells options title other row (Restoring clubs words) r shown json fits t g short same = alone-none (moment_at other (after_row options row (Restoring clubs words) r))
-stage-tells options title other row (Open clubs board) r shown json fits t g short same =
-    rw (same refl) (request-tells options title row clubs json fits t g.0 board (request_of r) shown g.1 (of-request r) (fits-request r) short)
-stage-tells options title other row (Refused fault) r shown json fits t g short same = alone-none None
+-- what the board stands at, once something but the rows of its heading has come
+abbrev pub told_now : Bool → Title → Stage → Option Moment
+told_now true title s = None
+told_now false title s = moment_at title s
 
--- a line that opens the board, or finds it open, says no title
-same-title : (options : LiveArgs) (title : Title) (s : Stage) (r : Said) → is_open (opened options s r) ≡ true → next_title title s r ≡ title
-same-title options title Beginning r h = cc
-same-title _ _ _ _ _ = refl
+never : (b : Bool) → (b && false) ≡ false
+never true = refl
+never false = refl
 
-line-tells : (e : Evening) (r : Said) (shown : List ℕ) → e.options.format ≡ Json → e.row < 2 ^ 64 → IsSound e → IsShown shown
-    → TellsAlone (moment_now (next e r)) (answer_said e r shown)
-line-tells e Nothing shown json fits g short = alone-none (moment_now (next e Nothing))
-line-tells e (Other eight) shown json fits g short =
-    let r = Other eight in stage-tells e.options e.title (next_title e.title e.stage r) e.row (opened e.options e.stage r) r shown json fits g.title (good-opened e.options e.stage r g.stage) short
-    (same-title e.options e.title e.stage r)
-line-tells e (Row f) shown json fits g short =
-    stage-tells e.options e.title (next_title e.title e.stage (Row f)) e.row (opened e.options e.stage (Row f)) (Row f) shown json fits g.title (good-opened e.options e.stage (Row f) g.stage) short
-    (same-title e.options e.title e.stage (Row f))
+-- a row that asks for nothing that there is tells nothing, and any other the moment after it
+said-tells : (options : LiveArgs) (title : Title) (row : ℕ) (is_new : Bool) (clubs : List NamedClub) (board : List ℕ) (request : Request) (shown : List ℕ) → options.format ≡ Json
+    → row < 2 ^ 64 → IsTitle title → IsRoster clubs → AreWords board → AreAttempts request → Fits request → IsShown shown
+    → TellsAlone (told_now (is_new && is_bad request) title (Open clubs (next_board board request))) (answer_of options title row clubs board request shown)
+said-tells options title row is_new clubs board (Bad field) shown json fits t g w all small short =
+    rw json (bad-line (told_now (is_new && true) title (Open clubs board)) row field shown fits short)
+said-tells options title row is_new clubs board (Event event) shown json fits t g w all small short =
+    rw (never is_new) (request-tells options title row clubs json fits t g board (Event event) shown w all small short)
+said-tells options title row is_new clubs board Screen shown json fits t g w all small short =
+    rw (never is_new) (request-tells options title row clubs json fits t g board Screen shown w all small short)
+said-tells options title row is_new clubs board Words shown json fits t g w all small short =
+    rw (never is_new) (request-tells options title row clubs json fits t g board Words shown w all small short)
+said-tells options title row is_new clubs board Matches shown json fits t g w all small short =
+    rw (never is_new) (request-tells options title row clubs json fits t g board Matches shown w all small short)
 
--- ---- on the way
+stage-tells : (e : Evening) (r : Said) (shown : List ℕ) → e.options.format ≡ Json → e.row < 2 ^ 64 → IsSound e → IsShown shown → (s : Stage) → e.stage ≡ s
+    → TellsAlone (told_now (stays_new e.is_new s r) (next_title e.title s r) (after_row e.options e.row s r)) (answer_at e.options e.title e.row s (request_of r) shown)
+stage-tells e r shown json fits g short (Open clubs board) is =
+    let good : IsGood (Open clubs board) = subst IsGood is g.stage in
+    said-tells e.options e.title e.row e.is_new clubs board (request_of r) shown json fits g.title good.0 good.1 (of-request r) (fits-request r) short
+stage-tells e r shown json fits g short s is = alone-none (told_now (stays_new e.is_new s r) (next_title e.title s r) (after_row e.options e.row s r))
 
-abbrev pub IsOnTheWay : Evening → Lines → Option Moment → Type 0
-IsOnTheWay e lines None = ⊤
-IsOnTheWay e lines (Some m) = (first rest : Lines) × (lines ≡ first ++ rest) × (moment_now (after_lines e first) ≡ Some m)
+-- a line tells nothing, or the moment after it, and then the edition is new no more
+abbrev pub told_after : Evening → Option Moment
+told_after e = told_now e.is_new e.title e.stage
 
-here : (e : Evening) (line : List ℕ) (lines : Lines) (told : Option Moment) → TellsAtMost (moment_now (next e (said_on e.row line))) told → IsOnTheWay e (line ∷ lines) told
-here e line lines None h = tt
-here e line lines (Some m) (inl h) = cc
-here e line lines (Some m) (inr h) =
-    (line ∷ [], lines, refl, ap moment_now (after-one e line [] ∙ after-none (next e (said_on e.row line))) ∙ sym h)
+line-by : (e : Evening) (o : Option NewBoard) (r : Said) (shown : List ℕ) → e.options.format ≡ Json → e.row < 2 ^ 64 → IsSound e → IsShown shown
+    → TellsAlone (told_after (next_by e o r)) (answer_by e o r shown)
+line-by e (Some new) r shown json fits g short = alone-none None
+line-by e None Nothing shown json fits g short = alone-none (told_after (next_by e None Nothing))
+line-by e None Other shown json fits g short = stage-tells e Other shown json fits g short e.stage refl
+line-by e None (Row f) shown json fits g short = stage-tells e (Row f) shown json fits g short e.stage refl
 
-later : (e : Evening) (line : List ℕ) (lines : Lines) (told : Option Moment) → IsOnTheWay (next e (said_on e.row line)) lines told → IsOnTheWay e (line ∷ lines) told
-later e line lines None h = tt
-later e line lines (Some m) (first, rest, parts, is) = (line ∷ first, rest, ap (λ (ls : Lines). line ∷ ls) parts, ap moment_now (after-one e line first) ∙ is)
-
-abbrev pub AllTold : (Option Moment → Type 0) → Lines → Type 0
-AllTold P lines = All (λ line. P (moment_on line)) lines
-
-pub weaken : (P Q : Option Moment → Type 0) → ((told : Option Moment) → P told → Q told) → (lines : Lines) → AllTold P lines → AllTold Q lines
-weaken P Q f lines h = All-weaker (λ line. P (moment_on line)) (λ line. Q (moment_on line)) (λ line. f (moment_on line)) lines h
-
-abbrev pub begun-of : List ℕ → List ℕ
-begun-of text = begun_line 4097 [] text
-
-pub record AreOnTheWay (e : Evening) (lines : Lines) : Type 0 where
-  pub begun : begun-of (answers e lines) ≡ []
-  pub each : AllTold (IsOnTheWay e lines) (lines_in (answers e lines))
-
-pub on-the-way : (e : Evening) (lines : Lines) → e.options.format ≡ Json → e.row + length lines ≤ 2 ^ 64 → IsSound e → AreOnTheWay e lines
-on-the-way e [] json fits g = record {
-  begun = ap begun-of (answers-none e) ∙ begun_none 4097 [];
-  each = subst (AllTold (IsOnTheWay e [])) (sym (ap lines_in (answers-none e) ∙ ended_none 4097 [])) (All-nil (λ line. IsOnTheWay e [] (moment_on line)));
-}
-on-the-way e (line ∷ lines) json fits g =
-    let r = said_on e.row line in
-    let shown = shown_text line in
-    let one = line-tells e r shown json (omega arith) g (shown-text line) in
-    let more = on-the-way (next e r) lines json (omega arith) (sound-next e r g) in
-    let text = answers-one e line lines in record {
-      begun = ap begun-of text ∙ begun-then (answer_said e r shown) (answers (next e r) lines) one.begun more.begun;
-      each = subst (AllTold (IsOnTheWay e (line ∷ lines))) (sym (ap lines_in text ∙ lines-then (answer_said e r shown) (answers (next e r) lines) one.begun))
-          (All-append (λ l. IsOnTheWay e (line ∷ lines) (moment_on l)) (lines_in (answer_said e r shown)) (lines_in (answers (next e r) lines))
-          (weaken (TellsAtMost (moment_now (next e r))) (IsOnTheWay e (line ∷ lines)) (here e line lines) (lines_in (answer_said e r shown)) one.each)
-          (weaken (IsOnTheWay (next e r) lines) (IsOnTheWay e (line ∷ lines)) (later e line lines) (lines_in (answers (next e r) lines)) more.each));
-    }
-
--- ---- the first line of the answer to an accepted event
-
-pub record AnswersFirst (e : Evening) (r : Said) (shown board : List ℕ) : Type 0 where
-  pub told : Moment
-  pub now : moment_now (next e r) ≡ Some told
-  pub newer : version_of board < version_at told
-  pub reply : List ℕ
-  pub more : List ℕ
-  pub parts : answer_said e r shown ≡ reply ++ more
-  pub line_is : IsLineThat (Some told) reply
-
-by-request : (q : Request) (a : Attempt) → attempts_of q ≡ a ∷ [] → (event : NightEvent) × (q ≡ Event event) × (attempt_of event ≡ a)
-by-request (Event event) a h = (event, refl, cc)
-by-request q a h = cc
-
-abbrev is_taken : List ℕ → Attempt → Bool
-is_taken board a = is_ok (reply_of (game_at board a.call.game) a.call)
-
-pub answers-first : (e : Evening) (r : Said) (shown : List ℕ) (clubs : List NamedClub) (board : List ℕ) (a : Attempt) → e.options.format ≡ Json → e.row < 2 ^ 64 → IsSound e
-    → opened e.options e.stage r ≡ Open clubs board → attempts_on r ≡ a ∷ [] → is_ok (reply_of (game_at board a.call.game) a.call) ≡ true → AnswersFirst e r shown board
-answers-first e (Row f) shown clubs board a json fits g stands asks ok =
-    let q = by-request (asked_by f) a asks in
-    let event = q.0 in
-    let is : asked_by f ≡ Event event = q.1 in
-    let same : attempt_of event ≡ a = q.2 in
-    let b = attempt_of event in
-    let m = game_at board b.call.game in
-    let good : IsGood (Open clubs board) = subst IsGood stands (good-opened e.options e.stage (Row f) g.stage) in
-    let attempted : IsAttempt b = All-head IsAttempt b [] (subst AreAttempts is (asked f)) in
-    let small : HasNumbers event = subst Fits is (fits-asked f) in
-    let taken : is_taken board b ≡ true = subst (λ (c : Attempt). is_taken board c ≡ true) (sym same) ok in
-    let none = no_refusal m.number (refusal_of m b.call.expected b.call.kind) taken in
-    let version = version-after board b good.1 attempted none in record {
-      told = moment_with e.title clubs (board_after board b);
-      now = ap (λ (t : Title). moment_at t (after_row e.options e.row (opened e.options e.stage (Row f)) (Row f))) (same-title e.options e.title e.stage (Row f) (ap is_open stands))
-          ∙ ap (λ (s : Stage). moment_at e.title (after_row e.options e.row s (Row f))) stands ∙ ap (λ (q : Request). Some (moment_with e.title clubs (next_board board q))) is;
-      newer = omega (arith, version);
-      reply = reply_answer e.options.format e.title e.row clubs event (version_of board) (reply_of m b.call) (board_after board b);
-      more = screen_after e.options e.title e.row clubs (reply_of m b.call) (board_after board b);
-      parts = ap (λ (s : Stage). answer_at e.options e.title e.row s (asked_by f) shown) stands ∙ ap (λ (q : Request). answer_of e.options e.title e.row clubs board q shown) is;
-      line_is = accepted-reply e.options e.title e.row clubs json fits g.title good.0 board good.1 event attempted small (version_of board) none;
-    }
-answers-first e r shown clubs board a json fits g stands asks ok = cc
+pub line-tells : (e : Evening) (r : Said) (shown : List ℕ) → e.options.format ≡ Json → e.row < 2 ^ 64 → IsSound e → IsShown shown
+    → TellsAlone (told_after (next e r)) (answer_said e r shown)
+line-tells e r shown json fits g short = line-by e (again e r) r shown json fits g short
