@@ -56,7 +56,7 @@ pub use Rattle.ucl_json.specs.Values.{accepted_value, bad_row_value, club_items,
 pub use Rattle.ucl_json.specs.Values.{matches_value, number_value, place_items, refused_by, reply_value, word_items, words_value}
 pub use Rattle.ucl_json.specs.declared.moment.Moment.{Moment}
 pub use Rattle.ucl_json.specs.declared.title.Title.{Title}
-pub use Rattle.ucl_live_board.specs.Passes.{Continues, PassView, ReportsMore, SharedReading, entries_by}
+pub use Rattle.ucl_live_board.specs.Passes.{Continues, PassView, SharedReading, entries_by}
 pub use Rattle.ucl_order.specs.Names.{profile_name, profile_named}
 pub use Rattle.ucl_order.specs.Roster.{IsClub, IsRoster, NamedClub, bad_slot, club_in, is_name, is_printed}
 pub use Rattle.ucl_order.specs.Rows.{rows_of}
@@ -71,7 +71,6 @@ pub use Rattle.ucl_runs.specs.Feed.{IsFed}
 pub use Rattle.ucl_rows.specs.Lines.{line_of_reply, word_lines}
 pub use Rattle.ucl_runs.specs.Follow.{after_told, club_row, follow_text, group_row, in_quotes, is_later, is_newer, is_plain_title, is_shown}
 pub use Rattle.ucl_runs.specs.Follow.{passed_over, resuming_text, shown_too, told_text, unseen, version_at, whole_lines}
-pub use Rattle.ucl_runs.specs.Gates.{rows_by}
 pub use Rattle.ucl_runs.specs.Holding.{HasNoAnswer, HasNoEnd, after_bytes, answers_to, evening_of, missing_at}
 pub use Rattle.ucl_rows.specs.InputLines.{last_lines, lines_of}
 pub use Rattle.ucl_runs.specs.Journals.{IsAnsweredIn, TakesEvent, moment_at, moment_now, moment_with, resume}

@@ -1,6 +1,6 @@
 -- How a night ends, from what its calls answer.
 use Rattle.ucl_runs.proofs.Common.{Appends, Bool, Err, IfErr, IfSome, IsOnDuty, IsStopped, List, MeansNight, None, Ok, OnOk, Option, Profile}
-use Rattle.ucl_runs.proofs.Common.{Result, RunFault, Script, Some, StoppedShort, TextHas, false, styled, ℕ, ⊤, ◌≡◌}
+use Rattle.ucl_runs.proofs.Common.{Result, RunFault, Script, Some, StoppedShort, TextHas, false, refl, styled, ℕ, ⊤, ◌≡◌}
 use Rattle.std.proofs.Common.{All}
 use Rattle.ucl_command.specs.declared.night.Line.TheVariants.{Night}
 use Rattle.ucl_live_board.specs.declared.live_board.LiveBoard as boards

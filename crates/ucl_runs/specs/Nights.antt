@@ -201,11 +201,11 @@ abbrev pub night_output : {Y Z : Type 0} → List (Option (String Y)) → String
 night_output last closing = night_text (last_shown last 0) (last_shown last 1) (string_bytes closing)
 
 -- what a night on a live board promises of its end: the rows of the script, the style of its screens, and how many readings each reader takes
-module _ {B R P : Type 0} (live : boards.Ghosts B R P) (board : B) (pass : R) (rows : List NightEvent) (style : Style) (readings : ℕ) where
+module _ {B R P : Type 0} (live : boards.Ghosts B R P) (lent : B) (pass : R) (rows : List NightEvent) (style : Style) (asked : ℕ) where
   pub record IsNightEnd (end : NightEnd R P) : Type 0 where
     -- the four passes are of the board that was lent, and the reporters' numbers differ
-    pub readers : live.is_reader board end.reader_1 × live.is_reader board end.reader_2
-    pub reporters : live.is_reporter board end.reporter_1 × live.is_reporter board end.reporter_2
+    pub readers : live.is_reader lent end.reader_1 × live.is_reader lent end.reader_2
+    pub reporters : live.is_reporter lent end.reporter_1 × live.is_reporter lent end.reporter_2
     pub apart : (live.reporter end.reporter_1).number ≢ (live.reporter end.reporter_2).number
     -- the history that was settled is a merge of the rows, the settled reading is of it, and the closing screen is of that
     pub merge : HaveMerged (live.reporter end.reporter_1) (live.reporter end.reporter_2) rows end.settled.version
@@ -222,5 +222,5 @@ module _ {B R P : Type 0} (live : boards.Ghosts B R P) (board : B) (pass : R) (r
     -- the four passes have the whole share of the lent one
     pub shares : HaveShares (live.reader pass) (live.reporter end.reporter_1) (live.reporter end.reporter_2) (live.reader end.reader_1) (live.reader end.reader_2)
     -- what a reader showed are versions of the history that it has seen, none before what the lent pass had seen
-    pub shown_1 : HasShown style (pass_of_reader_1 (live.reader pass)) (live.reader end.reader_1) readings (last_shown end.last 0)
-    pub shown_2 : HasShown style (pass_of_reader_2 (live.reader pass)) (live.reader end.reader_2) readings (last_shown end.last 1)
+    pub shown_1 : HasShown style (pass_of_reader_1 (live.reader pass)) (live.reader end.reader_1) asked (last_shown end.last 0)
+    pub shown_2 : HasShown style (pass_of_reader_2 (live.reader pass)) (live.reader end.reader_2) asked (last_shown end.last 1)

@@ -8,8 +8,8 @@ ghost use Rattle.ucl_json.specs.Told.{moment_on};
 
 use crate::follow_program::other_line;
 use crate::following::{Following, is_newer};
-use crate::is_asked;
 use crate::rows::resuming_rows;
+use crate::title::is_asked;
 use std::alloc::Global;
 use ucl_command::{FollowArgs, FollowShape};
 use ucl_io::{LineMachine, Text};

@@ -29,18 +29,18 @@ returns-clause-night g c =
     let given_2 = c.split-reader_2.ensures.says.given ∙ ap split_pass (c.split-reader_1.ensures.says.kept ∙ ap kept_pass c.split-reporter_2.ensures.says.kept) in
     let halved = c.split-reader_2.ensures.says.kept ∙ ap kept_pass (c.split-reader_1.ensures.says.kept ∙ ap kept_pass c.split-reporter_2.ensures.says.kept) in
     let merge = merged_by_settlers worked.reporter_1.1 worked.reporter_2.1 settling.always.0 settling.always.1 (settling.exactly.0 refl).0
-        (each_on_duty rows (rw (← c.deref.ensures.value) c.in_ok-check_duty.ensures)) settled settling.of_both in
+    (each_on_duty rows (rw (← c.deref.ensures.value) c.in_ok-check_duty.ensures)) settled settling.of_both in
     let shown_1 = subst (λ (k : PassView). HasShown style k (reader c.in_ok-reader_1.reader_1.pass) c.args.readings (option_map string_bytes c.in_ok-reader_1.reader_1.last))
-        given_1 (rw c.in_ok-reader_1.was at worked.reader_1).1 in
+    given_1 (rw c.in_ok-reader_1.was at worked.reader_1).1 in
     let shown_2 = subst (λ (k : PassView). HasShown style k (reader c.in_ok-reader_2.reader_2.pass) c.args.readings (option_map string_bytes c.in_ok-reader_2.reader_2.last))
-        given_2 (rw c.in_ok-reader_2.was at worked.reader_2).1 in
+    given_2 (rw c.in_ok-reader_2.was at worked.reader_2).1 in
     record {
       readers = ((rw c.in_ok-reader_1.was at worked.reader_1).0, (rw c.in_ok-reader_2.was at worked.reader_2).0);
       reporters = c.in_ok-settled.ensures.own;
-      apart = (settling.exactly.0 refl).0;
+      apart = λ same. (settling.exactly.0 refl).0 (sym settling.always.0.number ∙ same ∙ settling.always.1.number);
       merge = merge;
       settled = settling.reading;
-      closing = c.in_ok-closing.ensures.text;
+      closing = c.in_ok-closing.ensures;
       count = (settled.high, rw (settled.mine_first, settled.mine_second) (sym (settling.exactly.0 refl).1));
       beginning = subst (λ (k : PassView). IsPrefix k.seen (night_history d version)) (sym settling.unchanged)
           (begins_take a.seen d.seen version settled.first settled.low_first);

@@ -11,6 +11,6 @@ returns g c =
     let end = c.in_ok-end.end in
     let told = c.in_ok-end.ensures in
     let reads = c.in_ok-night.ensures.reads in
-    let is = played live args.opened args.profile args.group args.readings known (night_seen c.in_ok-night.night) _ _ end reads.1 told.duty refl told.night in
+    let is = played live args.opened args.profile args.group args.readings known (night_seen c.in_ok-night.night) _ _ end reads.1 told.duty c.in_ok-board.was told.night in
     put live args.opened args.profile args.group args.readings known _ (g.W.Sink.taken args.sink.now) _ _ (night_output end.last end.closing)
-        _ _ _ c.put_night.result reads.0 is c.put_night.ensures.all c.put_night.ensures.part
+    _ _ _ c.put_night.result reads.0 is c.put_night.ensures.all c.put_night.ensures.part
