@@ -1,7 +1,7 @@
 -- What a call leaves after its steps, on any shared board.
-use Rattle.ucl_live_board.proofs.Common.{◌≡◌, ℕ, ◌+◌, ◌≤◌, List, ◌∷◌, ◌++◌, length, refl, sym, ap, ◌∙◌, subst, arith, le_refl, true≢false, true, false, length-append, append-nil, append_assoc, []}
+use Rattle.ucl_live_board.proofs.Common.{◌≡◌, ℕ, ◌+◌, ◌≤◌, List, ◌∷◌, ◌++◌, length, refl, sym, ap, ◌∙◌, arith, le_refl, true≢false, true, false, length-append, append-nil, append_assoc, []}
 use Rattle.ucl_live_board.proofs.Common.{Result, Ok, Err, is_ok, Option, None, IfSome, IfOk, greatest_version, Enlisted, Taken, step_taken, begins_same, begins_through, View, PassView}
-use Rattle.ucl_live_board.proofs.Common.{IsSound, SeesOn, AcceptedReport, Enlistment, pass_view_of, count_of, Takes, kept_of, second_of, note_of, IsNote, Goes, IsOnEnlisted, EnlistSteps}
+use Rattle.ucl_live_board.proofs.Common.{IsSound, SeesOn, AcceptedReport, Enlistment, pass_view_of, count_of, Takes, kept_of, second_of, Goes, IsOnEnlisted, EnlistSteps}
 use Rattle.std.specs.List.{AllByRecursion}
 use Rattle.ucl_word.specs.declared.event.EventCall.{EventCall}
 use Rattle.ucl_word.specs.declared.event.Accepted.{Accepted}
@@ -45,13 +45,6 @@ one_more v w u found at s t =
 pub number_told : (u v : View) (r : Option ℕ) (n : ℕ) → Enlistment (pass_view_of u) (pass_view_of v) → v.number ≡ n → IfSome r (λ k. k ≡ n)
     → IfSome r (λ k. Enlistment (pass_view_of u) (pass_view_of v) × (v.number ≡ k))
 number_told u v r n e is told = search arith
-
--- what was split off as a note is one
-pub note_is : (a n : View) → n ≡ note_of a → IsNote n
-note_is a n is = subst IsNote (sym is) refl
-
-pub note_seen : (a n : View) → n ≡ note_of a → n.seen ≡ a.seen
-note_seen a n is = ap (λ (v : View). v.seen) is
 
 pub sound_second : (v : View) → IsSound (pass_view_of v) → IsSound (pass_view_of (second_of v))
 sound_second v s = record { legal = s.legal; own = sym (none_by_zero v.seen s.legal); few = s.few; acts = half_acts true v.share s.acts; alone = λ is. absurd (half_not_whole true v.share is) }

@@ -17,7 +17,7 @@ pub use Rattle.ucl_live_board.specs.OneHistory.{BoardsOpenFresh, DidAllAlone, Fi
 pub use Rattle.ucl_live_board.specs.Passes.{AcceptedReport, Continues, Enlistment, IsAlone, IsSound, Meeting, PassView, SeesOn, SharedReading, entries_by}
 pub use Rattle.ucl_live_board.specs.Shares.{Overlap, Share, first_half, half_of, second_half, whole}
 pub use Rattle.ucl_live_board.specs.Steps.{Adds, Enlists, Goes, Sees}
-pub use Rattle.ucl_live_board.specs.Views.{IsNote, Takes, count_of, kept_of, newcomer, note_of, opener, pass_view_of, second_of, told_by}
+pub use Rattle.ucl_live_board.specs.Views.{Takes, count_of, kept_of, newcomer, note_of, opener, pass_view_of, second_of, told_by}
 pub use Rattle.ucl_live_board.specs.declared.view.View.{View}
 pub use Rattle.ucl_word.proofs.Sequences.{may_induction, may_none}
 pub use lib.ListN.{get_elem?}

@@ -1,12 +1,11 @@
 -- What each call on any shared board says of its passes, in one record.
 -- The pass was k and is m.
-use Rattle.std.specs.Prelude.{◌≡◌, List, Result, IfOk, IfErr}
+use Rattle.std.specs.Prelude.{◌≡◌, Result, IfOk, IfErr}
 use Rattle.ucl_word.specs.declared.event.EventCall.{EventCall}
 use Rattle.ucl_word.specs.declared.event.Accepted.{Accepted}
 use Rattle.ucl_word.specs.declared.refusal.Refusal.{Refusal}
-use Rattle.ucl_board.specs.declared.entry.Entry.{Entry}
 use Rattle.ucl_board.specs.declared.reading.Reading.{Reading}
-use Rattle.ucl_live_board.specs.Passes.{PassView, IsSound, Continues, AcceptedReport, RefusedReport, SharedReading, FullBoard, Hearing, Meeting, kept_pass, split_pass}
+use Rattle.ucl_live_board.specs.Passes.{PassView, IsSound, Continues, AcceptedReport, RefusedReport, SharedReading, FullBoard, Meeting, kept_pass, split_pass}
 
 -- an event was entered or refused
 pub record LiveReported (k : PassView) (call : EventCall) (reply : Result Accepted Refusal) (m : PassView) : Type 0 where
@@ -30,20 +29,9 @@ pub record LiveFull (k m : PassView) : Type 0 where
   pub always : Continues k m
   pub full : FullBoard k m
 
--- a note of this history was heard
-pub record LiveHeard (noted : List Entry) (k m : PassView) : Type 0 where
-  pub always : Continues k m
-  pub heard : Hearing noted k m
-
 -- the pass met another, which was a and is b
 pub record LiveMet (a b k m : PassView) : Type 0 where
   pub sound : IsSound a
   pub always : Continues k m
   pub unchanged : b ≡ a
   pub meeting : Meeting a k m
-
--- the pass gave a note of this history, which is all that it has seen
-pub record LiveNoted (k m : PassView) (noted : List Entry) : Type 0 where
-  pub sound : IsSound k
-  pub unchanged : m ≡ k
-  pub seen : noted ≡ k.seen

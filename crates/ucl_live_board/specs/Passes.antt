@@ -1,6 +1,6 @@
 -- What contracts know of a pass, and what each call on a shared board says of it.
 -- Every shared board, settling and the night cite these.
-use Rattle.std.specs.Prelude.{◌≡◌, ℕ, ◌+◌, ◌==◌, ◌<◌, ◌≤◌, List, [], ◌∷◌, ◌++◌, length, filter, IsSome, Ok, Err}
+use Rattle.std.specs.Prelude.{◌≡◌, ℕ, ◌==◌, ◌<◌, ◌≤◌, List, [], ◌∷◌, ◌++◌, length, filter, IsSome, Ok, Err}
 use mathlib.Core.List.{IsPrefix}
 use Rattle.ucl_word.specs.declared.event.EventCall.{EventCall}
 use Rattle.ucl_word.specs.declared.event.Accepted.{Accepted}
@@ -108,19 +108,11 @@ pub record FullBoard (k m : PassView) : Type 0 where
   pub mine : m.mine ≡ k.mine
   pub shown : m.shown ≡ k.shown
 
--- a note was heard: the pass, k before and m after, has seen all that the note tells
-pub record Hearing (noted : List Entry) (k m : PassView) : Type 0 where
-  pub met : IsPrefix noted m.seen
+-- a meeting: the second pass, k before and m after, has seen all that the first had seen
+pub record Meeting (first k m : PassView) : Type 0 where
+  pub met : IsPrefix first.seen m.seen
   pub mine : m.mine ≡ k.mine
   pub shown : m.shown ≡ k.shown
-
--- a meeting: the second pass, k before and m after, has seen all that the first had seen
-abbrev pub Meeting : PassView → PassView → PassView → Type 0
-Meeting first k m = Hearing first.seen k m
-
--- from one moment to another so many events more were reported, whatever their replies
-abbrev pub ReportsMore : (ℕ → Type 0) → ℕ → (ℕ → Type 0) → Type 0
-ReportsMore before more after = (n : ℕ) → before n → after (n + more)
 
 -- a reporter's figures: its number, and how many of its events were accepted
 pub record Figures : Type 0 where

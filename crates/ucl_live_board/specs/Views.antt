@@ -1,21 +1,10 @@
 -- What contracts read off the view of a pass; the views of new passes and of notes.
 use Rattle.std.specs.Prelude.{◌≡◌, ℕ, List, [], ◌∷◌, ◌++◌, None, length, nat_lt, if◌then◌else◌}
-use Rattle.atomic_table.specs.Seated.{TableId}
 use Rattle.ucl_board.specs.declared.entry.Entry.{Entry}
 use Rattle.ucl_board.specs.Log.{Access, Taken, accesses_in}
 use Rattle.ucl_live_board.specs.declared.view.View.{View}
 use Rattle.ucl_live_board.specs.Shares.{whole, first_half, second_half}
 use Rattle.ucl_live_board.specs.Passes.{PassView}
-
--- what contracts see of a pass: the board that it is of, and what it knows
-pub record Pass : Type 0 where
-  pub board : TableId
-  pub view : View
-
--- what contracts see of a note: the board that it is of, and the history that its pass had seen
-pub record Noted : Type 0 where
-  pub board : TableId
-  pub seen : List Entry
 
 abbrev pub pass_view_of : View → PassView
 pass_view_of v = record { seen = v.seen; mine = v.mine; number = v.number; listed = v.listed; shown = v.shown; share = v.share }
@@ -57,10 +46,6 @@ second_of v = record { seen = v.seen; told = []; mine = []; number = 0; listed =
 -- a note of what a pass has seen, and of nothing else: it has no share
 abbrev pub note_of : View → View
 note_of v = record { seen = v.seen; told = []; mine = []; number = 0; listed = 0; shown = []; share = None; copied = []; own = []; log = [] }
-
--- a note knows a history, and nothing else
-abbrev pub IsNote : View → Type 0
-IsNote v = v ≡ note_of v
 
 abbrev pub longer_of : List Entry → List Entry → List Entry
 longer_of xs ys = if nat_lt (length xs) (length ys) then ys else xs

@@ -6,7 +6,6 @@ mod asking;
 mod errors;
 mod laws;
 mod live_board;
-mod notes;
 mod settling;
 mod view;
 
@@ -14,6 +13,5 @@ pub use asking::Asking;
 pub use errors::{Strangers, TooManyReporters};
 pub use laws::{holders_did_all, last_steps_see_all, steps_come_last, whole_is_alone};
 pub use live_board::{LiveBoard, MOST_REPORTERS};
-pub use notes::Notes;
 pub use settling::settle;
 pub use view::View;

@@ -1,8 +1,8 @@
 //! What every shared board is.
 
-ghost use Rattle.std.specs.Prelude.{◌≡◌, ℕ, IfOk, MatchResult};
+ghost use Rattle.std.specs.Prelude.{◌≡◌, MatchResult};
 ghost use Rattle.ucl_live_board.specs.LiveRecords.{LiveReported, LiveRead, LiveSplit, LiveFull, LiveMet};
-ghost use Rattle.ucl_live_board.specs.Passes.{PassView, ReportsMore, Enlistment, reporter_figures};
+ghost use Rattle.ucl_live_board.specs.Passes.{PassView, Enlistment, reporter_figures};
 
 use crate::errors::TooManyReporters;
 use std::sync::Wait;
@@ -34,9 +34,6 @@ pub trait LiveBoard: Sync {
 
     ghost reporter: { Self.ReporterPass → PassView };
 
-    // How many events a reporter's pass has reported, whatever the replies: one more by each report, and by nothing else.
-    ghost has_reported: { Self.ReporterPass → ℕ → Type 0 };
-
     /// Enters an event under the number of the pass. An accepted event is the last that the pass has seen; a refusal is the reply
     /// of a board of one thread after all that the pass has then seen, enters nothing, and may leave the pass having seen more.
     ///
@@ -59,8 +56,7 @@ pub trait LiveBoard: Sync {
     ) -> Result<Accepted, Refusal>
         requires { is_reporter self.now pass.old }
         ensures own { is_reporter self.now pass.new }
-        ensures says { LiveReported (reporter pass.old) call.now result (reporter pass.new) }
-        ensures reported { ReportsMore (has_reported pass.old) 1 (has_reported pass.new) };
+        ensures says { LiveReported (reporter pass.old) call.now result (reporter pass.new) };
 
     /// The board after a prefix of the history that has all that the pass had seen, and its version.
     ///
@@ -92,8 +88,7 @@ pub trait LiveBoard: Sync {
     fn read_own<R: Wait>(&self, rt: &R, pass: &mut Self::ReporterPass) -> Reading
         requires { is_reporter self.now pass.old }
         ensures own { is_reporter self.now pass.new }
-        ensures says { LiveRead (reporter pass.old) result (reporter pass.new) }
-        ensures reported { ReportsMore (has_reported pass.old) 0 (has_reported pass.new) };
+        ensures says { LiveRead (reporter pass.old) result (reporter pass.new) };
 
     /// A second pass, which has seen as much as the lent one, for another thread.
     ///
@@ -129,8 +124,7 @@ pub trait LiveBoard: Sync {
             (λ full. is_reader self.now full.0) }
         ensures says { MatchResult result
             (λ enlisted. Enlistment (reader pass) (reporter enlisted))
-            (λ full. LiveFull (reader pass) (reader full.0)) }
-        ensures reported { IfOk result (λ enlisted. has_reported enlisted 0) };
+            (λ full. LiveFull (reader pass) (reader full.0)) };
 
     /// Afterwards the second pass has seen all that either had seen. The first is as it was.
     ///
@@ -146,9 +140,7 @@ pub trait LiveBoard: Sync {
         requires { is_reporter self.now first.old × is_reporter self.now second.old }
         ensures own { is_reporter self.now first.new × is_reporter self.now second.new }
         ensures says { LiveMet (reporter first.old) (reporter first.new) (reporter second.old)
-            (reporter second.new) }
-        ensures reported { ReportsMore (has_reported first.old) 0 (has_reported first.new)
-            × ReportsMore (has_reported second.old) 0 (has_reported second.new) };
+            (reporter second.new) };
 
     /// The number of a reporter's pass.
     ///

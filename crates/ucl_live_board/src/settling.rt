@@ -1,6 +1,5 @@
 //! Two reporters who make sure that they are alone.
 
-ghost use Rattle.ucl_live_board.specs.Passes.{ReportsMore};
 ghost use Rattle.ucl_live_board.specs.Settling.{LiveSettled};
 
 use crate::errors::Strangers;
@@ -29,8 +28,6 @@ pub fn settle<B: LiveBoard, R: Wait>(
 ) -> Result<Reading, Strangers>
     requires { B.is_reporter board.now first.old × B.is_reporter board.now second.old }
     ensures own { B.is_reporter board.now first.new × B.is_reporter board.now second.new }
-    ensures reported { ReportsMore (B.has_reported first.old) 0 (B.has_reported first.new)
-        × ReportsMore (B.has_reported second.old) 0 (B.has_reported second.new) }
     ensures says { LiveSettled (B.reporter first.old) (B.reporter second.old)
         (B.reporter first.new) (B.reporter second.new) result }
 {

@@ -3,10 +3,10 @@ use Rattle.ucl_pass.proofs.Common.{◌≡◌, ◌≢◌, ℕ, ◌+◌, ◌<◌, 
 use Rattle.ucl_pass.proofs.Common.{slice_index, Result, Ok, Err, IsOk, MatchResult, is_ok, AllByRecursion, flat_map, take_all, nil_from_length, All-head, All-tail, filter-append, IsPrefix}
 use Rattle.ucl_pass.proofs.Common.{EventCall, Accepted, Refusal, refusal_of, answer, reply_of, record_at, Entry, IsMatch, AreWords, word_at, version_of, board_of, IsLegal, followed_by, entry_of}
 use Rattle.ucl_pass.proofs.Common.{reading_of, sequential_reply, Look, Swap, Match, Enlisted, access, Taken, step_taken, board_words, word_after, versions, begins_length, begins_through, View}
-use Rattle.ucl_pass.proofs.Common.{IsSound, Continues, AcceptedReport, RefusedReport, SharedReading, Enlistment, Hearing, pass_view_of, count_of, Takes, note_of, told_by, Goes, Answer, CellView}
+use Rattle.ucl_pass.proofs.Common.{IsSound, Continues, AcceptedReport, RefusedReport, SharedReading, Enlistment, Meeting, pass_view_of, Takes, note_of, told_by, Goes, Answer, CellView}
 use Rattle.ucl_pass.proofs.Common.{words_after, IsNextBoard, word_looked_at, HasSeenAll, StoresEntry, StoresReporter, LooksOnly, LooksAtMatch, LooksAtEnlisted, LooksAndShows, after_load}
 use Rattle.ucl_pass.proofs.Common.{HasAccepted, AreAccepting, LookOfCell, ReadOfCell, MeetingSteps, CellMissed, no_event_between, WereLost, CellReport, CellEnlistMissed, CellReading, FinishesReport}
-use Rattle.ucl_pass.proofs.Common.{FinishesReading, takes_none, takes_on, takes_count, Stays, stays_none, stays_more, all_more}
+use Rattle.ucl_pass.proofs.Common.{FinishesReading, takes_none, takes_on, Stays, stays_none, stays_more, all_more}
 use Rattle.std.specs.Prelude.{Option, Some, None}
 use Rattle.std.proofs.lemmas.Bool.{eqb-true}
 use Rattle.std.proofs.lemmas.Grind.{flat_map-append}
@@ -151,9 +151,6 @@ module _ (call : EventCall) (v w u : View) (x : List ℕ) (tried : TriedReport c
           };
         }
 
-pub report_counts : (v w : View) (call : EventCall) (r : Result Accepted Refusal) → CellReport v call r w → count_of v < count_of w
-report_counts v w call r s = search (arith, takes_count, length-append)
-
 -- the words of the next board, with the number of the enlisted
 pub next_words : (x board next : List ℕ) (e : Entry)
     → ((history : List Entry) → IsLegal history → board_of history ≡ take 12 x → (board ≡ board_of (followed_by history e)) × IsLegal (followed_by history e))
@@ -220,12 +217,12 @@ module _ (v w u : View) (x : List ℕ) (tried : TriedEnlist v w) (looked : Looks
     pub new_number : z.number ≡ slice_index x 12 + 1
     new_number = stored.enlists.number ∙ stored.enlists.next
 
--- a note was heard
+-- a note of a pass was joined to another, which then loaded the words
 module _ (a v w : View) (x : List ℕ) (looked : LooksAtEnlisted (told_by v (note_of a)) x x w) where
   own_first : IsPrefix v.seen w.seen
   own_first = All-head (λ l. IsPrefix l w.seen) v.seen (a.seen ∷ v.told) looked.sees.goes.heard
 
-  pub met_says : Hearing a.seen (pass_view_of v) (pass_view_of w)
+  pub met_says : Meeting (pass_view_of a) (pass_view_of v) (pass_view_of w)
   met_says = record {
     met = All-head (λ l. IsPrefix l w.seen) a.seen v.told (All-tail (λ l. IsPrefix l w.seen) v.seen (a.seen ∷ v.told) looked.sees.goes.heard);
     mine = looked.sees.mine;

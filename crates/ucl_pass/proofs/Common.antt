@@ -2,7 +2,7 @@
 pub use Rattle.atomic_table.proofs.Lists.{at_last, at_longer, at_map, set_again, set_else, set_here}
 pub use Rattle.crossbeam_utils.specs.Register.{Forks, Merges, Turns}
 pub use Rattle.crossbeam_utils.specs.Seq.{cell_view}
-pub use Rattle.std.proofs.Common.{Bool, List, None, Option, Some, [], ap, append-nil, append_assoc, arith, cond, eq-eqb, false, filter, get_or, if◌then◌else◌, inl, inr, le_refl, length}
+pub use Rattle.std.proofs.Common.{Bool, List, None, Option, Some, [], ap, append-nil, append_assoc, arith, cond, eq-eqb, false, get_or, if◌then◌else◌, inl, inr, le_refl, length}
 pub use Rattle.std.proofs.Common.{length-append, map, nat_eq, ne_eqb, refl, rules, set, subst, suc, sym, take, true, true≢false, zero, ℕ, ⊎_elim, ◌++◌, ◌+◌, ◌-◌, ◌<◌, ◌∙◌, ◌∷◌, ◌≡◌, ◌≢◌, ◌≤◌}
 pub use Rattle.std.proofs.lemmas.List.{length-take-le, map-append, map-set, nil_from_length, take_all}
 pub use Rattle.std.proofs.lemmas.List.Elements.{All-head, All-tail, filter-append}
@@ -16,25 +16,25 @@ pub use Rattle.ucl_board.specs.History.{IsLegal, attempted, board_of, entry_of, 
 pub use Rattle.ucl_board.specs.Log.{Access, AccessKind, Enlisted, IsThere, Log, Logged, Look, Match, Swap, Taken, Target, Whole, access, entry_list, history_of, step_taken}
 pub use Rattle.ucl_board.specs.Words.{AreWords, game_at, greatest_version, version_of, word_at}
 pub use Rattle.ucl_board.specs.declared.entry.Entry.{Entry}
-pub use Rattle.ucl_pass.specs.CellCalls.{CellAnswered, CellEnlistAnswered, CellEnlistMissed, CellEnlistment, CellHasReported, CellMissed, CellReading, CellReport, FinishesReading, FinishesReport}
+pub use Rattle.ucl_pass.specs.CellCalls.{CellEnlistMissed, CellMissed, CellReading, CellReport, FinishesReading, FinishesReport}
 pub use Rattle.ucl_pass.specs.CellCalls.{WereLost, no_event_between}
 pub use Rattle.ucl_pass.specs.CellRule.{CellKeepsOneHistory, CellMeetsItsRule, CellStandAfterSplit, CellStands, CellState, IsUpToDate, words_after}
 pub use Rattle.ucl_pass.specs.CellSteps.{AddOfCell, AddsOrLooks, AreAccepting, CountOfCell, DecidesReport, EnlistOfCell, EnlistsOrLooks, HasAccepted, HasSeenAll, IsNextBoard, LogsOneStep}
 pub use Rattle.ucl_pass.specs.CellSteps.{LookOfCell, Looks, LooksAndShows, LooksAtEnlisted, LooksAtMatch, LooksOnly, ReadOfCell, StoresEntry, StoresReporter, TellsAndStands, after_load}
 pub use Rattle.ucl_pass.specs.CellSteps.{finished_too, with_one_more, word_looked_at}
-pub use Rattle.ucl_pass.specs.CellViews.{CellPass, IsCellNote, actor_of, actors_of, all_finished, calls_at, first_cell_pass, known_of, knows, left_cell_pass, new_cell_pass, note_cell_pass}
+pub use Rattle.ucl_pass.specs.CellViews.{CellPass, actor_of, actors_of, all_finished, calls_at, first_cell_pass, known_of, knows, left_cell_pass, new_cell_pass, note_cell_pass}
 pub use Rattle.ucl_pass.specs.CellViews.{second_cell_pass, told_cell_pass, views_known}
 pub use Rattle.ucl_pass.specs.Laws.{CellBoardsAreRuns, CellGoesOnWith, CellNumbersRise, CellRunsGrow, IsRunOfCell, LaterCellsGoOn}
 pub use Rattle.ucl_pass.specs.declared.view.CellView.{CellView}
-pub use Rattle.ucl_live_board.proofs.CallsBySteps.{Stays, all_more, number_told, room, sound_kept, sound_second, stays_more, stays_none, takes_count, takes_none, takes_on}
+pub use Rattle.ucl_live_board.proofs.CallsBySteps.{Stays, all_more, number_told, room, sound_kept, sound_second, stays_more, stays_none, takes_none, takes_on}
 pub use Rattle.ucl_live_board.proofs.KeptBoards.{there_is}
 pub use Rattle.ucl_live_board.proofs.KeptRule.{RuleWith, add_keeps, add_tells, enlist_keeps, enlist_tells, enlisted_as}
 pub use Rattle.ucl_live_board.proofs.KeptRule.{entered, longer_history, look_keeps, look_tells, looked, note_added, note_joined}
 pub use Rattle.ucl_live_board.proofs.KeptRule.{opens, same_history, second_added, unchanged_history}
-pub use Rattle.ucl_live_board.specs.CallSteps.{MeetingSteps, steps_with}
-pub use Rattle.ucl_live_board.specs.Passes.{AcceptedReport, Continues, Enlistment, Hearing, IsSound, RefusedReport, ReportsMore, SharedReading}
+pub use Rattle.ucl_live_board.specs.CallSteps.{MeetingSteps}
+pub use Rattle.ucl_live_board.specs.Passes.{AcceptedReport, Continues, Enlistment, IsSound, Meeting, RefusedReport, SharedReading}
 pub use Rattle.ucl_live_board.specs.Steps.{Goes, no_call}
-pub use Rattle.ucl_live_board.specs.Views.{Takes, count_of, note_of, opener, pass_view_of, told_by}
+pub use Rattle.ucl_live_board.specs.Views.{Takes, note_of, opener, pass_view_of, told_by}
 pub use Rattle.ucl_live_board.specs.declared.view.View.{View}
 pub use Rattle.ucl_steps.proofs.ActorRuns.{Apart, Burst, one_turn, run_begins, run_burst, run_enlisted, run_more}
 pub use Rattle.ucl_steps.proofs.Runs.{kept_at_start, linearizable_run, run_kept, words_of_run}

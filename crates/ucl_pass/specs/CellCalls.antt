@@ -1,13 +1,12 @@
 -- Which steps a call on the cell takes, and what it leaves among its pass's finished calls.
 -- The pass was v and is w.
-use Rattle.std.specs.Prelude.{◌≡◌, ℕ, ◌+◌, ◌==◌, ◌≤◌, Bool, true, false, List, [], ◌∷◌, ◌++◌, length, filter, if◌then◌else◌, Option, None, Result, Ok, Err}
+use Rattle.std.specs.Prelude.{◌≡◌, ℕ, ◌+◌, ◌==◌, ◌≤◌, Bool, true, false, List, [], ◌∷◌, ◌++◌, length, filter, if◌then◌else◌, None, Result, Ok, Err}
 use Rattle.std.specs.List.{AllByRecursion, flat_map}
 use Rattle.ucl_word.specs.declared.event.EventCall.{EventCall}
 use Rattle.ucl_word.specs.declared.event.Accepted.{Accepted}
 use Rattle.ucl_word.specs.declared.refusal.Refusal.{Refusal}
 use Rattle.ucl_board.specs.declared.reading.Reading.{Reading}
-use Rattle.ucl_board.specs.declared.entry.Entry.{Entry}
-use Rattle.ucl_board.specs.Log.{Look, Swap, Target, Match, Enlisted, Whole, Access, Taken, step_taken}
+use Rattle.ucl_board.specs.Log.{Enlisted, Whole, Access, Taken, step_taken}
 use Rattle.ucl_steps.specs.Trails.{LookRefused, StoredNothing, SwapWon}
 use Rattle.ucl_steps.specs.Protocol.{report_reply}
 use Rattle.ucl_steps.specs.declared.step.Call.{Call}
@@ -80,20 +79,6 @@ pub record CellEnlistment (v : View) (given : Bool) (w : View) : Type 0 where
   pub missed : AllByRecursion CellEnlistMissed tries
   pub lost : WereLost (v.listed + (if given then 1 else 0)) tries w.listed
   pub answered : CellEnlistAnswered given w last
-
--- a load for a report
-abbrev pub looks_for_report : Target → Bool
-looks_for_report (Match Look game found) = true
-looks_for_report _ = false
-
--- an exchange for a report that stored nothing
-abbrev pub was_missed : Target → Option Entry → Bool
-was_missed (Match Swap game found) None = true
-was_missed _ _ = false
-
--- so many events were reported by these steps: a load for each, and one more for each exchange that was missed
-abbrev pub CellHasReported : List Taken → ℕ → Type 0
-CellHasReported steps n = length (filter (λ x. looks_for_report x.target) steps) ≡ length (filter (λ x. was_missed x.target x.entry) steps) + n
 
 -- a reading of the cell is one load, at its version
 abbrev pub CellReading : View → Reading → View → Type 0

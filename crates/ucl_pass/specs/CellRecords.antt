@@ -1,16 +1,15 @@
 -- What each call of the board in one cell says of its passes, in one record.
 -- The pass was k and is m.
-use Rattle.std.specs.Prelude.{◌≡◌, ℕ, ◌+◌, ◌<◌, List, [], length, true, false, Result}
+use Rattle.std.specs.Prelude.{◌≡◌, ℕ, ◌+◌, ◌<◌, [], length, true, false, Result}
 use Rattle.ucl_word.specs.declared.event.EventCall.{EventCall}
 use Rattle.ucl_word.specs.declared.event.Accepted.{Accepted}
 use Rattle.ucl_word.specs.declared.refusal.Refusal.{Refusal}
-use Rattle.ucl_board.specs.declared.entry.Entry.{Entry}
 use Rattle.ucl_board.specs.declared.reading.Reading.{Reading}
-use Rattle.ucl_live_board.specs.LiveRecords.{LiveReported, LiveRead, LiveSplit, LiveFull, LiveHeard, LiveMet, LiveNoted}
-use Rattle.ucl_live_board.specs.Passes.{Enlistment, ReportsMore, opening_pass}
-use Rattle.ucl_live_board.specs.Views.{Noted, count_of, kept_of, pass_view_of}
+use Rattle.ucl_live_board.specs.LiveRecords.{LiveReported, LiveRead, LiveSplit, LiveFull, LiveMet}
+use Rattle.ucl_live_board.specs.Passes.{Enlistment, opening_pass}
+use Rattle.ucl_live_board.specs.Views.{count_of, kept_of, pass_view_of}
 use Rattle.ucl_live_board.specs.CallSteps.{HasCopyOf, MeetingSteps}
-use Rattle.ucl_pass.specs.CellCalls.{CellHasReported, CellReport, CellEnlistment, CellReading, FinishesReport, FinishesReading}
+use Rattle.ucl_pass.specs.CellCalls.{CellReport, CellEnlistment, CellReading, FinishesReport, FinishesReading}
 use Rattle.ucl_pass.specs.CellRule.{CellStands, CellStandAfterSplit, IsUpToDate, PassStands}
 use Rattle.ucl_pass.specs.CellViews.{CellPass, HasDoneNothing, KeepsCalls, known_of}
 
@@ -25,7 +24,6 @@ pub record CellReported (k : CellPass) (call : EventCall) (reply : Result Accept
   pub own : m.board ≡ k.board
   pub seat : m.seat ≡ k.seat
   pub says : LiveReported (pass_view_of k.view) call reply (pass_view_of m.view)
-  pub reported : ReportsMore (CellHasReported k.view.own) 1 (CellHasReported m.view.own)
   pub acts : count_of k.view < count_of m.view
   pub steps : CellReport k.view call reply m.view
   pub answers : FinishesReport (known_of k) call reply (known_of m)
@@ -37,7 +35,6 @@ pub record CellRead (k : CellPass) (read : Reading) (m : CellPass) : Type 0 wher
   pub own : m.board ≡ k.board
   pub seat : m.seat ≡ k.seat
   pub says : LiveRead (pass_view_of k.view) read (pass_view_of m.view)
-  pub reported : ReportsMore (CellHasReported k.view.own) 0 (CellHasReported m.view.own)
   pub version : read.version ≡ length m.view.seen
   pub acts : count_of m.view ≡ count_of k.view + 1
   pub steps : CellReading k.view read m.view
@@ -62,7 +59,6 @@ pub record CellEnlisted (k m : CellPass) : Type 0 where
   pub own : m.board ≡ k.board
   pub seat : m.seat ≡ k.seat
   pub enlisted : Enlistment (pass_view_of k.view) (pass_view_of m.view)
-  pub reported : CellHasReported m.view.own 0
   pub acts : count_of k.view < count_of m.view
   pub steps : CellEnlistment k.view true m.view
   pub does : KeepsCalls k m
@@ -80,35 +76,14 @@ pub record CellFull (k m : CellPass) : Type 0 where
   pub up_to_date : IsUpToDate m.view
   pub stands : PassStands m
 
--- a note of this history was heard
-pub record CellHeard (noted : List Entry) (k m : CellPass) : Type 0 where
-  pub own : m.board ≡ k.board
-  pub seat : m.seat ≡ k.seat
-  pub says : LiveHeard noted (pass_view_of k.view) (pass_view_of m.view)
-  pub reported : ReportsMore (CellHasReported k.view.own) 0 (CellHasReported m.view.own)
-  pub acts : count_of m.view ≡ count_of k.view + 1
-  pub steps : MeetingSteps k.view m.view
-  pub does : KeepsCalls k m
-  pub up_to_date : IsUpToDate m.view
-  pub stands : PassStands m
-
 -- the pass met another, which was a and is b
 pub record CellMet (a b k m : CellPass) : Type 0 where
   pub own : (b.board ≡ a.board) × (m.board ≡ k.board)
   pub seat : m.seat ≡ k.seat
   pub says : LiveMet (pass_view_of a.view) (pass_view_of b.view) (pass_view_of k.view) (pass_view_of m.view)
   pub unchanged : b ≡ a
-  pub reported : ReportsMore (CellHasReported a.view.own) 0 (CellHasReported b.view.own)
-      × ReportsMore (CellHasReported k.view.own) 0 (CellHasReported m.view.own)
   pub acts : count_of m.view ≡ count_of k.view + 1
   pub steps : MeetingSteps k.view m.view
   pub does : KeepsCalls k m
   pub up_to_date : IsUpToDate m.view
   pub stands : PassStands m
-
--- the pass gave this note of all that it has seen
-pub record CellNoted (k m : CellPass) (note : Noted) : Type 0 where
-  pub own : (m.board ≡ k.board) × (note.board ≡ k.board)
-  pub says : LiveNoted (pass_view_of k.view) (pass_view_of m.view) note.seen
-  pub unchanged : m ≡ k
-  pub reported : ReportsMore (CellHasReported k.view.own) 0 (CellHasReported m.view.own)

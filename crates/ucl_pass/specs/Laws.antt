@@ -1,5 +1,5 @@
 -- What holds of every running cell board.
-use Rattle.std.specs.Prelude.{◌≡◌, ◌↔◌, ℕ, ◌<◌, ◌∷◌, ◌++◌, [], length}
+use Rattle.std.specs.Prelude.{◌≡◌, ℕ, ◌<◌, ◌∷◌, ◌++◌, [], length}
 use mathlib.Core.List.{IsPrefix}
 use mathlib.Core.Option.{some}
 use lib.ListN.{get_elem?}
@@ -10,8 +10,7 @@ use Rattle.ucl_steps.specs.Actors.{IsRunOfActors}
 use Rattle.ucl_steps.specs.Growing.{HaveGoneOn, GoesOnFrom}
 use Rattle.ucl_live_board.specs.Numbers.{IsGivenAfter}
 use Rattle.ucl_pass.specs.declared.view.CellView.{CellView}
-use Rattle.ucl_pass.specs.CellViews.{CellPass, actors_of, views_known}
-use Rattle.ucl_pass.specs.CellCalls.{CellHasReported}
+use Rattle.ucl_pass.specs.CellViews.{actors_of, views_known}
 use Rattle.ucl_pass.specs.CellRule.{CellState, CellMeetsItsRule}
 use Rattle.ucl_pass.specs.CellLater.{CellLater}
 
@@ -49,7 +48,3 @@ CellNumbersRise =
     (s t : CellState) (r : CellMeetsItsRule s) → CellMeetsItsRule t → CellLater s t
     → (seat : ℕ) (v w : CellView) → get_elem? s.views seat ≡ some v → v.pass.number ≡ 0 → get_elem? t.views seat ≡ some w → 0 < w.pass.number
     → IsGivenAfter r.shared.enlisted (views_known s.views) w.pass.number
-
--- a pass is said to have reported so many events where its steps show so many reports, and nowhere else
-abbrev pub CellCountsReports : (CellPass → ℕ → Type 0) → Type 0
-CellCountsReports reported = (pass : CellPass) (n : ℕ) → reported pass n ↔ CellHasReported pass.view.own n

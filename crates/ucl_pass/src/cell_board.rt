@@ -5,11 +5,11 @@ ghost use Rattle.atomic_table.specs.Seated.{TableId};
 ghost use Rattle.crossbeam_utils.specs.Seq.{cell_view};
 ghost use Rattle.ucl_board.specs.Fixtures.{IsMatch};
 ghost use Rattle.ucl_board.specs.Words.{AreWords};
-ghost use Rattle.ucl_live_board.specs.Passes.{Continues, AcceptedReport, RefusedReport, SharedReading, Enlistment, FullBoard, Hearing, Meeting};
+ghost use Rattle.ucl_live_board.specs.Passes.{Continues, AcceptedReport, RefusedReport, SharedReading, Enlistment, FullBoard, Meeting};
 ghost use Rattle.ucl_live_board.specs.Views.{pass_view_of, count_of};
 ghost use Rattle.ucl_live_board.specs.OneHistory.{BoardsOpenFresh};
 ghost use Rattle.ucl_pass.specs.CellRule.{words_after, IsTheRule, IsUpToDate, CellStandAfterSplit, SeatStands};
-ghost use Rattle.ucl_pass.specs.CellViews.{knows, calls_at, left_cell_pass, second_cell_pass, note_cell_pass, IsCellNote};
+ghost use Rattle.ucl_pass.specs.CellViews.{knows, calls_at, left_cell_pass, second_cell_pass};
 ghost use Rattle.ucl_pass.specs.CellSteps.{ExchangesReporter, IsNextBoard, AreAccepting, entry_at, exchange, StoresOrLooks, DecidesReport, with_one_more, LooksAtMatch, LooksAtEnlisted, LooksAndShows, LookOfCell, ReadOfCell};
 ghost use Rattle.ucl_live_board.specs.CallSteps.{MeetingSteps};
 ghost use Rattle.ucl_pass.specs.CellRecords.{CellOpened};
@@ -308,38 +308,7 @@ impl CellBoard {
         self.cell.split_pass::<SecondPass>(seat)
     }
 
-    /// A note of what a seat has seen.
-    pub(crate) fn note_by(&self, seat: &mut Seat) -> Seat
-        requires { seat.old.table_id ≡ self.now }
-        ensures own { seat.new.table_id ≡ seat.old.table_id }
-        ensures seat { seat.new.id ≡ seat.old.id }
-        ensures unchanged { cell_view seat.new ≡ cell_view seat.old }
-        ensures given { (result.table_id ≡ seat.old.table_id)
-            × (cell_view result ≡ note_cell_pass (cell_view seat.old)) × (result.me.1 ≡ []) }
-    {
-        self.cell.split_pass::<Note>(seat)
-    }
-
-    /// A note is joined to a seat, which then loads the words.
-    pub(crate) fn hear_by<R: Wait>(&self, rt: &R, seat: &mut Seat, note: Seat)
-        requires cell { (seat.old.table_id ≡ self.now) × (note.table_id ≡ self.now) }
-        requires acts { IsSome (knows seat.old).share }
-        requires note { IsCellNote (cell_view note) × (note.me.1 ≡ []) }
-        ensures own { seat.new.table_id ≡ seat.old.table_id }
-        ensures seat { seat.new.id ≡ seat.old.id }
-        ensures always { Continues (pass_view_of (knows seat.old)) (pass_view_of (knows seat.new)) }
-        ensures heard { Hearing (knows note).seen (pass_view_of (knows seat.old))
-            (pass_view_of (knows seat.new)) }
-        ensures steps { MeetingSteps (knows seat.old) (knows seat.new) }
-        ensures does { calls_at seat.new ≡ calls_at seat.old }
-        ensures up_to_date { IsUpToDate (knows seat.new) }
-        ensures stands { SeatStands seat.new }
-    {
-        self.cell.join_pass::<Note>(seat, note);
-        self.count::<Brand, R>(rt, seat);
-    }
-
-    /// The second hears a note of the first.
+    /// A note of what the first has seen is joined to the second, which then loads the words.
     pub(crate) fn meet_by<R: Wait>(&self, rt: &R, first: &mut Seat, second: &mut Seat)
         requires cell { (first.old.table_id ≡ self.now) × (second.old.table_id ≡ self.now) }
         requires acts { IsSome (knows second.old).share }
@@ -356,7 +325,8 @@ impl CellBoard {
         ensures up_to_date { IsUpToDate (knows second.new) }
         ensures stands { SeatStands second.new }
     {
-        let note = self.note_by(first);
-        self.hear_by(rt, second, note);
+        let note = self.cell.split_pass::<Note>(first);
+        self.cell.join_pass::<Note>(second, note);
+        self.count::<Brand, R>(rt, second);
     }
 }

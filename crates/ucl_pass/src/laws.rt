@@ -2,13 +2,11 @@
 
 ghost use Rattle.ucl_pass.specs.CellSteps.{LogsOneStep};
 ghost use Rattle.ucl_pass.specs.CellLater.{LetsPassGoOn, CellStepsLeadOn, CellFindsEnlisted};
-ghost use Rattle.ucl_pass.specs.Laws.{CellBoardsAreRuns, LaterCellsGoOn, CellRunsGrow, CellNumbersRise, CellCountsReports};
+ghost use Rattle.ucl_pass.specs.Laws.{CellBoardsAreRuns, LaterCellsGoOn, CellRunsGrow, CellNumbersRise};
 
-use crate::cell_board::CellBoard;
 use crate::rule::{Adds, Asking, Counts, Enlists, LooksAt, Reads};
 use crate::view::CellView;
 use crossbeam_utils::rule::Outcome;
-use ucl_live_board::LiveBoard;
 
 /// Each kind of step on the cell, whatever it finds, is one step in the log, of the pass that took it: so what a call's clause says of the
 /// steps of its pass counts all its loads and exchanges of these kinds, and there are no others.
@@ -71,9 +69,4 @@ pub fn cell_numbers_rise_in_time()
 pub fn cell_numbers_are_there<K: Asking>()
     ensures counts { CellFindsEnlisted ⟦<Counts<K> as Outcome<[u64; 13], CellView>>⟧.then }
     ensures enlists { CellFindsEnlisted ⟦<Enlists<K> as Outcome<[u64; 13], CellView>>⟧.then }
-{}
-
-/// How many events `LiveBoard` says that a pass has reported is how many reports its steps show.
-pub fn cell_reports_are_counted()
-    ensures { CellCountsReports ⟦<CellBoard as LiveBoard>⟧.has_reported }
 {}

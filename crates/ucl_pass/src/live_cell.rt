@@ -3,14 +3,13 @@
 ghost use Rattle.std.specs.Prelude.{◌≡◌, MatchResult};
 ghost use Rattle.ucl_live_board.specs.Passes.{reporter_figures};
 ghost use Rattle.ucl_live_board.specs.Views.{pass_view_of};
-ghost use Rattle.ucl_pass.specs.CellRecords.{CellReported, CellRead, CellSplit, CellEnlisted, CellFull, CellMet, CellNoted, CellHeard};
-ghost use Rattle.ucl_pass.specs.CellCalls.{CellHasReported};
+ghost use Rattle.ucl_pass.specs.CellRecords.{CellReported, CellRead, CellSplit, CellEnlisted, CellFull, CellMet};
 
 use crate::cell_board::CellBoard;
-use crate::passes::{CellNote, CellReaderPass, CellReporterPass};
+use crate::passes::{CellReaderPass, CellReporterPass};
 use std::sync::Wait;
 use ucl_board::Reading;
-use ucl_live_board::{LiveBoard, Notes, TooManyReporters};
+use ucl_live_board::{LiveBoard, TooManyReporters};
 use ucl_word::{Accepted, EventCall, Refusal, ReporterNo};
 
 /// What a call says is one record (`CellReported` and others): in `says`, what every live board says; in `steps`, which steps the call
@@ -29,8 +28,6 @@ impl LiveBoard for CellBoard {
     ghost reader = { λ pass. pass_view_of pass.view };
 
     ghost reporter = { λ pass. pass_view_of pass.view };
-
-    ghost has_reported = { λ pass. CellHasReported pass.view.own };
 
     fn report<R: Wait>(
         &self,
@@ -108,59 +105,5 @@ impl LiveBoard for CellBoard {
         ensures { result ≡ (reporter_figures (pass_view_of pass.now.view)).accepted }
     {
         pass.accepted
-    }
-}
-
-/// The same of what passes tell one another: by `steps` a note that is heard, and a meeting, is one step; a note that is taken is none.
-impl Notes for CellBoard {
-    type Note = CellNote;
-
-    ghost is_note = { λ board note. note.board ≡ board };
-
-    ghost noted = { λ note. note.seen };
-
-    fn meet_reader<R: Wait>(
-        &self,
-        rt: &R,
-        first: &mut CellReaderPass,
-        second: &mut CellReporterPass,
-    )
-        requires { (first.old.board ≡ self.now) × (second.old.board ≡ self.now) }
-        ensures { CellMet first.old first.new second.old second.new }
-    {
-        let reader = &mut first.seat;
-        self.meet_by(rt, reader, &mut second.seat);
-    }
-
-    fn note<R: Wait>(&self, _rt: &R, pass: &mut CellReaderPass) -> CellNote
-        requires { pass.old.board ≡ self.now }
-        ensures { CellNoted pass.old pass.new result }
-    {
-        let seat = self.note_by(&mut pass.seat);
-        CellNote { seat }
-    }
-
-    fn note_own<R: Wait>(&self, _rt: &R, pass: &mut CellReporterPass) -> CellNote
-        requires { pass.old.board ≡ self.now }
-        ensures { CellNoted pass.old pass.new result }
-    {
-        let noted = &mut pass.seat;
-        let seat = self.note_by(noted);
-        CellNote { seat }
-    }
-
-    fn hear<R: Wait>(&self, rt: &R, pass: &mut CellReaderPass, note: CellNote)
-        requires { (pass.old.board ≡ self.now) × (note.board ≡ self.now) }
-        ensures { CellHeard note.seen pass.old pass.new }
-    {
-        self.hear_by(rt, &mut pass.seat, note.seat);
-    }
-
-    fn hear_own<R: Wait>(&self, rt: &R, pass: &mut CellReporterPass, note: CellNote)
-        requires { (pass.old.board ≡ self.now) × (note.board ≡ self.now) }
-        ensures { CellHeard note.seen pass.old pass.new }
-    {
-        let reporter = &mut pass.seat;
-        self.hear_by(rt, reporter, note.seat);
     }
 }

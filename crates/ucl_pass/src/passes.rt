@@ -1,11 +1,9 @@
-//! The passes of the cell board, and its notes.
+//! The passes of the cell board.
 
-ghost use Rattle.std.specs.Prelude.{◌≡◌, [], length};
-ghost use Rattle.crossbeam_utils.specs.Seq.{cell_view};
-ghost use Rattle.ucl_pass.specs.CellCalls.{CellHasReported};
+ghost use Rattle.std.specs.Prelude.{◌≡◌, length};
 ghost use Rattle.ucl_live_board.specs.Passes.{IsSound};
-ghost use Rattle.ucl_live_board.specs.Views.{Noted, pass_view_of};
-ghost use Rattle.ucl_pass.specs.CellViews.{CellPass, cell_pass_of, IsCellNote, knows};
+ghost use Rattle.ucl_live_board.specs.Views.{pass_view_of};
+ghost use Rattle.ucl_pass.specs.CellViews.{CellPass, cell_pass_of, knows};
 
 use crate::rule::Seat;
 use std::marker::Model;
@@ -23,7 +21,7 @@ impl Model for CellReaderPass {
     ghost view = { λ reader. cell_pass_of reader.seat };
 
     ghost invariant = { λ reader. IsSound (pass_view_of (knows reader.seat))
-        × ((knows reader.seat).number ≡ 0) × CellHasReported (knows reader.seat).own 0 };
+        × ((knows reader.seat).number ≡ 0) };
 }
 
 impl CellReaderPass {
@@ -60,19 +58,4 @@ impl CellReporterPass {
     {
         &self.seat
     }
-}
-
-/// A note of what a pass has seen, which another thread can take in. Contracts see which cell it is of, and the history that the pass had
-/// seen.
-#[derive(Drop)]
-pub struct CellNote {
-    pub(crate) seat: Seat,
-}
-
-impl Model for CellNote {
-    ghost Value = { Noted };
-
-    ghost view = { λ note. record { board = note.seat.table_id; seen = (knows note.seat).seen } };
-
-    ghost invariant = { λ note. IsCellNote (cell_view note.seat) × (note.seat.me.1 ≡ []) };
 }

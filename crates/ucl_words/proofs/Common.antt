@@ -23,7 +23,7 @@ pub use Rattle.ucl_live_board.proofs.KeptRule.{RuleWith, add, add_keeps, add_tel
 pub use Rattle.ucl_live_board.proofs.KeptRule.{enlisted_as, entered, logged, longer_history, look, look_keeps, look_tells, looked}
 pub use Rattle.ucl_live_board.proofs.KeptRule.{note_added, note_joined, same_history, second_added, unchanged_history}
 pub use Rattle.ucl_live_board.specs.CallSteps.{EnlistSteps, FoundEnlisted, IsOnEnlisted, MeetingSteps, steps_with}
-pub use Rattle.ucl_live_board.specs.Passes.{AcceptedReport, Continues, Enlistment, Hearing, RefusedReport, SeesOn, SharedReading}
+pub use Rattle.ucl_live_board.specs.Passes.{AcceptedReport, Continues, Enlistment, Meeting, RefusedReport, SeesOn, SharedReading}
 pub use Rattle.ucl_live_board.specs.Steps.{no_call}
 pub use Rattle.ucl_live_board.specs.Views.{Takes, count_of, kept_of, note_of, opener, pass_view_of, second_of, steps_of, told_by, trail_of}
 pub use Rattle.ucl_live_board.specs.declared.view.View.{View}
@@ -50,11 +50,11 @@ pub use Rattle.ucl_word.specs.declared.refusal.Refusal.TheVariants.{Stale}
 pub use Rattle.ucl_words.specs.Code.{Collects, FindsAgain, FindsAnother, HasFirsts, IsBegun, IsHoldingFor, MayCollect, Walks, begins_anew, has_copied}
 pub use Rattle.ucl_words.specs.Laws.{BoardsAreRuns, GoesOnWith, IsRunOfBoard, LaterBoardsGoOn, NumbersRiseInTime, PassesTookFew, RunsGrow, SomeCallFinishes, WordsTellTheEntry}
 pub use Rattle.ucl_words.specs.WordCalls.{EnlistTries, Enlisting, HasTrail, IsSteady, KeepsTrail, ReadingSteps, ReportSteps}
-pub use Rattle.ucl_words.specs.WordDoings.{AnswersCall, GoesAlong, WordHasReported}
+pub use Rattle.ucl_words.specs.WordDoings.{AnswersCall, GoesAlong}
 pub use Rattle.ucl_words.specs.WordRule.{StandAfterSplit, Stands, TableKeepsOneHistory, known, word_actor, word_actors, words_after}
 pub use Rattle.ucl_words.specs.WordSteps.{EnlistStep, EnlistWon, EnlistedStep, ExchangeMissed, ExchangeStep, ExchangeWon, FirstStep, IsNextWord, Loads, LoadsEnlisted, LoadsMatch, LogsOneStep}
 pub use Rattle.ucl_words.specs.WordSteps.{LookStep, SecondStep, WonFor, point_shown}
-pub use Rattle.ucl_words.specs.WordViews.{IsNotePass, WordPass, first_pass, left_pass, new_pass, note_pass, second_pass, told_pass, view_of}
+pub use Rattle.ucl_words.specs.WordViews.{WordPass, first_pass, left_pass, new_pass, note_pass, second_pass, told_pass, view_of}
 pub use Rattle.ucl_words.specs.declared.view.WordView.{WordView}
 pub use lib.ListN.{get_elem?}
 pub use mathlib.Core.List.{IsPrefix}

@@ -1,9 +1,8 @@
 -- What an enlistment and a meeting leave a pass with.
 use Rattle.ucl_words.proofs.Common.{◌≡◌, ◌≢◌, ℕ, ◌+◌, ◌<◌, ◌≤◌, ◌∷◌, ◌++◌, length, List, Some, None, inl, inr, refl, sym, ap, ◌∙◌, subst, arith, le_refl, append-nil, [], All-head, All-tail, IfSome}
 use Rattle.ucl_words.proofs.Common.{IsSome, false≢true, IsPrefix, Access, Enlisted, Taken, step_taken, accesses_in, begins_same, begins_through, Follows, View, SeesOn, Continues, Enlistment}
-use Rattle.ucl_words.proofs.Common.{Hearing, pass_view_of, steps_of, count_of, trail_of, Takes, kept_of, second_of, note_of, told_by, FoundEnlisted, IsOnEnlisted, EnlistSteps, MeetingSteps}
-use Rattle.ucl_words.proofs.Common.{all_more, takes_none, takes_on, takes_count, one_more, sound_kept, LoadsEnlisted, EnlistWon, HasTrail, IsSteady, Enlisting, EnlistTries, KeepsTrail, WordView}
-use Rattle.ucl_words.proofs.Common.{note_pass, IsNotePass}
+use Rattle.ucl_words.proofs.Common.{Meeting, pass_view_of, steps_of, count_of, trail_of, Takes, kept_of, second_of, note_of, told_by, FoundEnlisted, IsOnEnlisted, EnlistSteps, MeetingSteps}
+use Rattle.ucl_words.proofs.Common.{all_more, takes_none, takes_on, takes_count, one_more, sound_kept, LoadsEnlisted, EnlistWon, HasTrail, IsSteady, Enlisting, EnlistTries, KeepsTrail}
 use Rattle.std.specs.Prelude.{Option}
 use Rattle.ucl_live_board.proofs.Lists.{none_by_zero}
 use Rattle.ucl_live_board.proofs.Halves.{half_acts, half_not_whole}
@@ -134,15 +133,12 @@ second_steps v = (ap length (append-nil (steps_of v)), second_trail v)
 pub counted_steady : (v w : View) (n : ℕ) → LoadsEnlisted v n w → IsSteady v → IsSteady w
 counted_steady v w n loads steady = search (arith, trail_kept, no_access)
 
--- what was split off as a note is one
-pub note_is : (a n : WordView) → n ≡ note_pass a → IsNotePass n
-note_is a n is = subst IsNotePass (sym is) refl
+-- a note of a pass was joined to another, which then loaded the enlist word
+module _ (a v b x w : View) (n : ℕ) (noted : b ≡ note_of a) (told : x ≡ told_by v b) (steady : IsSteady v)
+    (counted : LoadsEnlisted x n w) where
+  loads : LoadsEnlisted (told_by v (note_of a)) n w
+  loads = subst (λ (u : View). LoadsEnlisted u n w) (told ∙ ap (told_by v) noted) counted
 
-pub note_seen : (a n : WordView) → n ≡ note_pass a → n.pass.seen ≡ a.pass.seen
-note_seen a n is = ap (λ (v : WordView). v.pass.seen) is
-
--- a note was joined to a pass, which then loaded the enlist word
-module _ (a v w : View) (n : ℕ) (steady : IsSteady v) (loads : LoadsEnlisted (told_by v (note_of a)) n w) where
   own_first : IsPrefix v.seen w.seen
   own_first = All-head (λ l. IsPrefix l w.seen) v.seen (a.seen ∷ v.told) loads.sees.goes.heard
 
@@ -158,11 +154,8 @@ module _ (a v w : View) (n : ℕ) (steady : IsSteady v) (loads : LoadsEnlisted (
   pub met_continues : Continues (pass_view_of v) (pass_view_of w)
   met_continues = search (arith, met_steady, own_first)
 
-  pub met_says : Hearing a.seen (pass_view_of v) (pass_view_of w)
+  pub met_says : Meeting (pass_view_of a) (pass_view_of v) (pass_view_of w)
   met_says = search (arith, All-head, All-tail)
 
   pub met_trail : KeepsTrail v w
   met_trail = search (arith, met_takes, no_access, met_steady)
-
-pub after_told : (a v x w : View) (n : ℕ) → x ≡ told_by v a → LoadsEnlisted x n w → LoadsEnlisted (told_by v (note_of a)) n w
-after_told a v x w n told loads = subst (λ (u : View). LoadsEnlisted u n w) told loads

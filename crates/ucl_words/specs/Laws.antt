@@ -1,5 +1,5 @@
 -- What holds of all exchanges of match words, and of every running board.
-use Rattle.std.specs.Prelude.{◌≡◌, ◌↔◌, ℕ, ◌<◌, ◌≤◌, ◌*◌, List, ◌∷◌, ◌++◌, length, map}
+use Rattle.std.specs.Prelude.{◌≡◌, ℕ, ◌<◌, ◌≤◌, ◌*◌, List, ◌∷◌, ◌++◌, length, map}
 use mathlib.Core.List.{IsPrefix}
 use mathlib.Core.Option.{some}
 use lib.ListN.{get_elem?}
@@ -15,8 +15,6 @@ use Rattle.ucl_steps.specs.Growing.{HaveGoneOn}
 use Rattle.ucl_steps.specs.Progress.{most_between, finished_by}
 use Rattle.ucl_words.specs.declared.view.WordView.{WordView}
 use Rattle.ucl_live_board.specs.Numbers.{IsGivenAfter}
-use Rattle.ucl_words.specs.WordViews.{WordPass}
-use Rattle.ucl_words.specs.WordDoings.{WordHasReported}
 use Rattle.ucl_words.specs.WordRule.{known, word_actors, TableKeepsOneHistory}
 use Rattle.ucl_words.specs.WordSteps.{IsNextWord}
 use Rattle.ucl_words.specs.Later.{Later}
@@ -70,7 +68,3 @@ NumbersRiseInTime =
     (s t : State Entry WordView) (r : TableKeepsOneHistory s) → TableKeepsOneHistory t → Later s t
     → (seat : ℕ) (v w : WordView) → get_elem? s.views seat ≡ some v → v.pass.number ≡ 0 → get_elem? t.views seat ≡ some w → 0 < w.pass.number
     → IsGivenAfter r.shared.enlisted (known s.views) w.pass.number
-
--- a pass is said to have reported so many events where so many of its finished calls are reports, and nowhere else
-abbrev pub CountsReports : (WordPass → ℕ → Type 0) → Type 0
-CountsReports reported = (pass : WordPass) (n : ℕ) → reported pass n ↔ WordHasReported pass.doing n

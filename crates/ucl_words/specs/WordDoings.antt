@@ -1,9 +1,8 @@
 -- What calls of the word board leave among the finished calls of their pass.
-use Rattle.std.specs.Prelude.{◌≡◌, ℕ, ◌≤◌, Bool, true, false, List, filter, length}
+use Rattle.std.specs.Prelude.{◌≡◌, ℕ, ◌≤◌, List, length}
 use Rattle.ucl_steps.specs.declared.step.Call.{Call}
-use Rattle.ucl_steps.specs.declared.step.Call.TheVariants.{Event, Reading}
 use Rattle.ucl_steps.specs.declared.trace.Reply.{Reply}
-use Rattle.ucl_steps.specs.Protocol.{Doing, ends, along}
+use Rattle.ucl_steps.specs.Protocol.{ends, along}
 use Rattle.ucl_board.specs.Log.{Taken}
 use Rattle.ucl_live_board.specs.Views.{Takes}
 use Rattle.ucl_words.specs.declared.view.WordView.{WordView}
@@ -21,12 +20,3 @@ pub record GoesAlong (v : WordView) (call : Call) (w : WordView) : Type 0 where
   pub steps : List Taken
   pub takes : Takes v.pass steps w.pass
   pub does : w.doing ≡ along v.pass.number call steps v.doing
-
--- a call that reports an event
-abbrev pub reports : Call → Bool
-reports (Event e) = true
-reports Reading = false
-
--- so many of the finished calls are reports
-abbrev pub WordHasReported : Doing → ℕ → Type 0
-WordHasReported d n = length (filter (λ f. reports f.call) d.calls) ≡ n

@@ -1,21 +1,20 @@
 -- What each call of the word board says of its passes, in one record.
 -- The pass was k and is m.
-use Rattle.std.specs.Prelude.{◌≡◌, ◌+◌, ◌≤◌, List, [], None, Some, Result}
+use Rattle.std.specs.Prelude.{◌≡◌, ◌+◌, ◌≤◌, [], None, Some, Result}
 use Rattle.ucl_word.specs.declared.event.EventCall.{EventCall}
 use Rattle.ucl_word.specs.declared.event.Accepted.{Accepted}
 use Rattle.ucl_word.specs.declared.refusal.Refusal.{Refusal}
-use Rattle.ucl_board.specs.declared.entry.Entry.{Entry}
 use Rattle.ucl_board.specs.declared.reading.Reading.{Reading}
 use Rattle.ucl_steps.specs.declared.step.Call.TheVariants as calls
 use Rattle.ucl_steps.specs.declared.trace.Reply.TheVariants as replies
 use Rattle.ucl_steps.specs.Protocol.{nothing_done, report_reply}
 use Rattle.ucl_steps.specs.Trails.{most_loads}
-use Rattle.ucl_live_board.specs.LiveRecords.{LiveReported, LiveRead, LiveSplit, LiveFull, LiveHeard, LiveMet, LiveNoted}
-use Rattle.ucl_live_board.specs.Passes.{Enlistment, ReportsMore, opening_pass}
-use Rattle.ucl_live_board.specs.Views.{Noted, count_of, kept_of, pass_view_of, trail_of}
+use Rattle.ucl_live_board.specs.LiveRecords.{LiveReported, LiveRead, LiveSplit, LiveFull, LiveMet}
+use Rattle.ucl_live_board.specs.Passes.{Enlistment, opening_pass}
+use Rattle.ucl_live_board.specs.Views.{count_of, kept_of, pass_view_of, trail_of}
 use Rattle.ucl_live_board.specs.CallSteps.{HasCopyOf, MeetingSteps}
 use Rattle.ucl_words.specs.WordCalls.{EnlistTries, KeepsTrail, ReportSteps, ReadingSteps}
-use Rattle.ucl_words.specs.WordDoings.{AnswersCall, GoesAlong, WordHasReported}
+use Rattle.ucl_words.specs.WordDoings.{AnswersCall, GoesAlong}
 use Rattle.ucl_words.specs.WordRule.{Stands, StandAfterSplit}
 use Rattle.ucl_words.specs.WordViews.{WordPass, view_of}
 
@@ -30,7 +29,6 @@ pub record WordReported (k : WordPass) (call : EventCall) (reply : Result Accept
   pub own : m.board ≡ k.board
   pub seat : m.seat ≡ k.seat
   pub says : LiveReported (pass_view_of k.view) call reply (pass_view_of m.view)
-  pub reported : ReportsMore (WordHasReported k.doing) 1 (WordHasReported m.doing)
   pub steps : ReportSteps k.view call reply m.view
   pub answers : AnswersCall (view_of k) (calls.Event call) (report_reply reply) (view_of m)
   pub along : GoesAlong (view_of k) (calls.Event call) (view_of m)
@@ -42,7 +40,6 @@ pub record WordRead (k : WordPass) (read : Reading) (m : WordPass) : Type 0 wher
   pub own : m.board ≡ k.board
   pub seat : m.seat ≡ k.seat
   pub says : LiveRead (pass_view_of k.view) read (pass_view_of m.view)
-  pub reported : ReportsMore (WordHasReported k.doing) 0 (WordHasReported m.doing)
   pub steps : ReadingSteps k.view read m.view
   pub answers : AnswersCall (view_of k) calls.Reading (replies.Copied read) (view_of m)
   pub along : GoesAlong (view_of k) calls.Reading (view_of m)
@@ -70,7 +67,6 @@ pub record WordEnlisted (k m : WordPass) : Type 0 where
   pub trail : KeepsTrail k.view m.view
   pub tries : EnlistTries k.view (Some m.view.number) m.view
   pub does : m.doing ≡ k.doing
-  pub reported : WordHasReported m.doing 0
   pub most : count_of m.view ≤ count_of k.view + 255
   pub stands : Stands m.seat (view_of m)
 
@@ -85,35 +81,14 @@ pub record WordFull (k m : WordPass) : Type 0 where
   pub most : count_of m.view ≤ count_of k.view + 255
   pub stands : Stands m.seat (view_of m)
 
--- a note of this history was heard
-pub record WordHeard (noted : List Entry) (k m : WordPass) : Type 0 where
-  pub own : m.board ≡ k.board
-  pub seat : m.seat ≡ k.seat
-  pub says : LiveHeard noted (pass_view_of k.view) (pass_view_of m.view)
-  pub reported : ReportsMore (WordHasReported k.doing) 0 (WordHasReported m.doing)
-  pub trail : KeepsTrail k.view m.view
-  pub does : m.doing ≡ k.doing
-  pub steps : MeetingSteps k.view m.view
-  pub taken : count_of m.view ≡ count_of k.view + 1
-  pub stands : Stands m.seat (view_of m)
-
 -- the pass met another, which was a and is b
 pub record WordMet (a b k m : WordPass) : Type 0 where
   pub own : (b.board ≡ a.board) × (m.board ≡ k.board)
   pub seat : m.seat ≡ k.seat
   pub says : LiveMet (pass_view_of a.view) (pass_view_of b.view) (pass_view_of k.view) (pass_view_of m.view)
   pub unchanged : b ≡ a
-  pub reported : ReportsMore (WordHasReported a.doing) 0 (WordHasReported b.doing)
-      × ReportsMore (WordHasReported k.doing) 0 (WordHasReported m.doing)
   pub trail : KeepsTrail k.view m.view
   pub does : m.doing ≡ k.doing
   pub steps : MeetingSteps k.view m.view
   pub taken : count_of m.view ≡ count_of k.view + 1
   pub stands : Stands m.seat (view_of m)
-
--- the pass gave this note of all that it has seen
-pub record WordNoted (k m : WordPass) (note : Noted) : Type 0 where
-  pub own : (m.board ≡ k.board) × (note.board ≡ k.board)
-  pub says : LiveNoted (pass_view_of k.view) (pass_view_of m.view) note.seen
-  pub unchanged : m ≡ k
-  pub reported : ReportsMore (WordHasReported k.doing) 0 (WordHasReported m.doing)

@@ -5,7 +5,7 @@ ghost use Rattle.atomic_table.specs.Seated.{TableId};
 ghost use Rattle.ucl_board.specs.Fixtures.{IsMatch};
 ghost use Rattle.ucl_board.specs.Log as trails;
 ghost use Rattle.ucl_steps.specs.Trails.{most_loads};
-ghost use Rattle.ucl_live_board.specs.Passes.{Continues, AcceptedReport, RefusedReport, SharedReading, Enlistment, FullBoard, Hearing, Meeting};
+ghost use Rattle.ucl_live_board.specs.Passes.{Continues, AcceptedReport, RefusedReport, SharedReading, Enlistment, FullBoard, Meeting};
 ghost use Rattle.ucl_live_board.specs.Views.{pass_view_of, count_of};
 ghost use Rattle.ucl_live_board.specs.CallSteps.{MeetingSteps};
 ghost use Rattle.ucl_live_board.specs.OneHistory.{BoardsOpenFresh};
@@ -13,15 +13,15 @@ ghost use Rattle.ucl_words.specs.WordRule.{words_after, IsTheRule, Stands, Stand
 ghost use Rattle.ucl_words.specs.WordSteps.{Loads, LoadsMatch, LoadsEnlisted, point_shown, ExchangeWon, ExchangeMissed, IsNextWord, EnlistWon};
 ghost use Rattle.ucl_words.specs.Code.{Collects, FindsAgain, FindsAnother, IsHoldingFor, MayCollect, HasFirsts, has_copied, begins_anew};
 ghost use Rattle.ucl_words.specs.WordCalls.{IsSteady, ReportSteps, ReadingSteps, EnlistTries, KeepsTrail};
-ghost use Rattle.ucl_words.specs.WordRecords.{WordOpened, WordReported, WordRead, WordSplit, WordEnlisted, WordFull, WordMet, WordNoted, WordHeard};
-ghost use Rattle.ucl_words.specs.WordViews.{left_pass, second_pass, note_pass, IsNotePass};
+ghost use Rattle.ucl_words.specs.WordRecords.{WordOpened, WordReported, WordRead, WordSplit, WordEnlisted, WordFull, WordMet};
+ghost use Rattle.ucl_words.specs.WordViews.{left_pass, second_pass};
 ghost use Rattle.ucl_words.specs.WordDoings.{AnswersCall, GoesAlong};
 ghost use Rattle.ucl_word.specs.Record.{IsReporter};
 ghost use Rattle.ucl_steps.specs.Protocol.{Nothing, Checking, IsNext, after_look, after_swap, after_second, report_reply};
 ghost use Rattle.ucl_steps.specs.declared.step.Call.TheVariants as calls;
 ghost use Rattle.ucl_steps.specs.declared.trace.Reply.TheVariants as replies;
 
-use crate::passes::{WordNote, WordReaderPass, WordReporterPass};
+use crate::passes::{WordReaderPass, WordReporterPass};
 use crate::rule::{
     Asking, CountEnlisted, Enlist, First, Look, Note, OneHistory, Seat, Second, SecondPass, Swap,
     Table,
@@ -42,7 +42,7 @@ const ENLISTED: usize = 0;
 ///
 /// Each load and exchange of a match word leaves an access on the trail of its pass: what it did, of which match, the word that it found,
 /// and how many events had been accepted. By the rule of the table the accesses of all passes are those of one run of the protocol's machine
-/// (`ucl_steps`), of which each report and each reading is a call, with the answer that was given. None of the eleven calls whose names end
+/// (`ucl_steps`), of which each report and each reading is a call, with the answer that was given. None of the six calls whose names end
 /// in `_now` can wait.
 #[derive(Drop)]
 pub struct WordBoard {
@@ -362,41 +362,7 @@ impl WordBoard {
         self.table.shared.load::<CountEnlisted<K>>(seat, ENLISTED)
     }
 
-    /// A note of what a seat has seen.
-    fn note_by(&self, seat: &mut Seat) -> Seat
-        requires table { seat.old.table_id ≡ self.now }
-        ensures own { (seat.new.table_id ≡ seat.old.table_id)
-            × (result.table_id ≡ seat.old.table_id) }
-        ensures seat { seat.new.id ≡ seat.old.id }
-        ensures unchanged { seat.new.me.0 ≡ seat.old.me.0 }
-        ensures given { (result.me.0 ≡ note_pass seat.old.me.0) × (result.me.1 ≡ []) }
-    {
-        self.table.shared.split_seat::<Note>(seat)
-    }
-
-    /// A note is joined to a seat, which then loads the enlist word.
-    fn hear_by(&self, seat: &mut Seat, note: Seat)
-        requires table { (seat.old.table_id ≡ self.now) × (note.table_id ≡ self.now) }
-        requires steady { IsSteady seat.old.me.0.pass }
-        requires note { IsNotePass note.me.0 × (note.me.1 ≡ []) }
-        ensures own { seat.new.table_id ≡ seat.old.table_id }
-        ensures seat { seat.new.id ≡ seat.old.id }
-        ensures steady { IsSteady seat.new.me.0.pass }
-        ensures always { Continues (pass_view_of seat.old.me.0.pass)
-            (pass_view_of seat.new.me.0.pass) }
-        ensures heard { Hearing note.me.0.pass.seen (pass_view_of seat.old.me.0.pass)
-            (pass_view_of seat.new.me.0.pass) }
-        ensures trail { KeepsTrail seat.old.me.0.pass seat.new.me.0.pass }
-        ensures does { seat.new.me.0.doing ≡ seat.old.me.0.doing }
-        ensures steps { MeetingSteps seat.old.me.0.pass seat.new.me.0.pass }
-        ensures taken { count_of seat.new.me.0.pass ≡ count_of seat.old.me.0.pass + 1 }
-        ensures stands { Stands seat.new.id seat.new.me.0 }
-    {
-        self.table.shared.join_seat::<Note>(seat, note);
-        self.count::<Brand>(seat);
-    }
-
-    /// The second hears a note of the first.
+    /// A note of what the first has seen is joined to the second, which then loads the enlist word.
     fn meet_by(&self, first: &mut Seat, second: &mut Seat)
         requires table { (first.old.table_id ≡ self.now) × (second.old.table_id ≡ self.now) }
         requires steady { IsSteady second.old.me.0.pass }
@@ -415,8 +381,9 @@ impl WordBoard {
         ensures taken { count_of second.new.me.0.pass ≡ count_of second.old.me.0.pass + 1 }
         ensures stands { Stands second.new.id second.new.me.0 }
     {
-        let note = self.note_by(first);
-        self.hear_by(second, note);
+        let note = self.table.shared.split_seat::<Note>(first);
+        self.table.shared.join_seat::<Note>(second, note);
+        self.count::<Brand>(second);
     }
 
     /// Enters an event under the number of the pass, by one load and at most one compare and exchange of its match word. An accepted
@@ -548,94 +515,5 @@ impl WordBoard {
         ensures { WordMet first.old first.new second.old second.new }
     {
         self.meet_by(&mut first.seat, &mut second.seat);
-    }
-
-    /// The same where the first is a reader: afterwards the reporter's pass has seen all that either had seen.
-    ///
-    /// ```rust
-    /// let (board, mut pass) = WordBoard::open(&rt, rt.alloc())?;
-    /// let mut reader = board.split_now(&mut pass);
-    /// let mut reporter = board.enlist_now(pass).ok().ok_or("no number")?;
-    /// board.meet_reader_now(&mut reader, &mut reporter);
-    /// assert_eq!(rt; board.read_own_now(&mut reporter).version, 0);
-    /// ```
-    pub fn meet_reader_now(&self, first: &mut WordReaderPass, second: &mut WordReporterPass)
-        requires { (first.old.board ≡ self.now) × (second.old.board ≡ self.now) }
-        ensures { WordMet first.old first.new second.old second.new }
-    {
-        let reader = &mut first.seat;
-        self.meet_by(reader, &mut second.seat);
-    }
-
-    /// A note of all that a reader's pass has seen: whoever gets it, by a channel, a join or else, can hear it. The pass is as it was.
-    ///
-    /// ```rust
-    /// let (board, mut reader) = WordBoard::open(&rt, rt.alloc())?;
-    /// let mut screen = board.split_now(&mut reader);
-    /// let note = board.note_now(&mut reader);
-    /// board.hear_now(&mut screen, note);
-    /// assert_eq!(rt; board.read_now(&mut screen).version, 0);
-    /// ```
-    pub fn note_now(&self, pass: &mut WordReaderPass) -> WordNote
-        requires { pass.old.board ≡ self.now }
-        ensures { WordNoted pass.old pass.new result }
-    {
-        let seat = self.note_by(&mut pass.seat);
-        WordNote { seat }
-    }
-
-    /// The same of a reporter's pass: after an event was accepted, a note that has it.
-    ///
-    /// ```rust
-    /// let (board, mut pass) = WordBoard::open(&rt, rt.alloc())?;
-    /// let mut screen = board.split_now(&mut pass);
-    /// let mut reporter = board.enlist_now(pass).ok().ok_or("no number")?;
-    /// let note = board.note_own_now(&mut reporter);
-    /// board.hear_now(&mut screen, note);
-    /// assert_eq!(rt; board.read_now(&mut screen).version, 0);
-    /// ```
-    pub fn note_own_now(&self, pass: &mut WordReporterPass) -> WordNote
-        requires { pass.old.board ≡ self.now }
-        ensures { WordNoted pass.old pass.new result }
-    {
-        let noted = &mut pass.seat;
-        let seat = self.note_by(noted);
-        WordNote { seat }
-    }
-
-    /// Afterwards the pass has seen all that the note tells, by one load of the enlist word, so its next reading has it.
-    ///
-    /// ```rust
-    /// let (board, mut pass) = WordBoard::open(&rt, rt.alloc())?;
-    /// let mut screen = board.split_now(&mut pass);
-    /// let mut reporter = board.enlist_now(pass).ok().ok_or("no number")?;
-    /// let note = board.note_own_now(&mut reporter);
-    /// board.hear_now(&mut screen, note);
-    /// let reading = board.read_now(&mut screen);
-    /// assert_eq!(rt; board.read_own_now(&mut reporter), reading);
-    /// ```
-    pub fn hear_now(&self, pass: &mut WordReaderPass, note: WordNote)
-        requires { (pass.old.board ≡ self.now) × (note.board ≡ self.now) }
-        ensures { WordHeard note.seen pass.old pass.new }
-    {
-        self.hear_by(&mut pass.seat, note.seat);
-    }
-
-    /// The same for a reporter.
-    ///
-    /// ```rust
-    /// let (board, mut pass) = WordBoard::open(&rt, rt.alloc())?;
-    /// let mut reader = board.split_now(&mut pass);
-    /// let mut reporter = board.enlist_now(pass).ok().ok_or("no number")?;
-    /// let note = board.note_now(&mut reader);
-    /// board.hear_own_now(&mut reporter, note);
-    /// assert_eq!(rt; board.read_own_now(&mut reporter).version, 0);
-    /// ```
-    pub fn hear_own_now(&self, pass: &mut WordReporterPass, note: WordNote)
-        requires { (pass.old.board ≡ self.now) × (note.board ≡ self.now) }
-        ensures { WordHeard note.seen pass.old pass.new }
-    {
-        let reporter = &mut pass.seat;
-        self.hear_by(reporter, note.seat);
     }
 }

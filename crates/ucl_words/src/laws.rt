@@ -1,15 +1,13 @@
 //! What holds of all exchanges of match words, and of every running board. The functions do nothing: each is there for its contract.
 
-ghost use Rattle.ucl_words.specs.Laws.{WordsTellTheEntry, BoardsAreRuns, LaterBoardsGoOn, RunsGrow, SomeCallFinishes, NumbersRiseInTime, CountsReports};
+ghost use Rattle.ucl_words.specs.Laws.{WordsTellTheEntry, BoardsAreRuns, LaterBoardsGoOn, RunsGrow, SomeCallFinishes, NumbersRiseInTime};
 ghost use Rattle.ucl_words.specs.Later.{LetsGoOn, StepsLeadOn, FindsEnlisted};
 ghost use Rattle.ucl_words.specs.WordSteps.{LogsOneStep};
 
-use crate::board::WordBoard;
 use crate::rule::{Asking, CountEnlisted, Enlist, First, Look, Second, Swap};
 use crate::view::WordView;
 use atomic_table::Play;
 use ucl_board::Entry;
-use ucl_live_board::LiveBoard;
 
 /// Which entry an exchange of a match word adds follows from the match, the word that it finds and the word that it puts there.
 pub fn words_tell_the_entry()
@@ -86,9 +84,4 @@ pub fn numbers_rise_in_time()
 pub fn numbers_are_there<K: Asking>()
     ensures counts { FindsEnlisted ⟦<CountEnlisted<K> as Play<Entry, WordView>>⟧.then }
     ensures enlists { FindsEnlisted ⟦<Enlist<K> as Play<Entry, WordView>>⟧.then }
-{}
-
-/// How many events `LiveBoard` says that a pass has reported is how many of its finished calls are reports.
-pub fn reports_are_counted()
-    ensures { CountsReports ⟦<WordBoard as LiveBoard>⟧.has_reported }
 {}

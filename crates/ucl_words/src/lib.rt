@@ -12,8 +12,8 @@ mod view;
 pub use board::WordBoard;
 pub use laws::{
     boards_are_runs, each_step_goes_on, each_step_is_logged, each_step_leads_on,
-    later_boards_go_on, numbers_are_there, numbers_rise_in_time, reports_are_counted, runs_grow,
-    some_call_finishes, words_tell_the_entry,
+    later_boards_go_on, numbers_are_there, numbers_rise_in_time, runs_grow, some_call_finishes,
+    words_tell_the_entry,
 };
-pub use passes::{WordNote, WordReaderPass, WordReporterPass};
+pub use passes::{WordReaderPass, WordReporterPass};
 pub use view::WordView;

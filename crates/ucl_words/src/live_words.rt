@@ -3,14 +3,13 @@
 ghost use Rattle.std.specs.Prelude.{◌≡◌, MatchResult};
 ghost use Rattle.ucl_live_board.specs.Passes.{reporter_figures};
 ghost use Rattle.ucl_live_board.specs.Views.{pass_view_of};
-ghost use Rattle.ucl_words.specs.WordDoings.{WordHasReported};
-ghost use Rattle.ucl_words.specs.WordRecords.{WordReported, WordRead, WordSplit, WordEnlisted, WordFull, WordMet, WordNoted, WordHeard};
+ghost use Rattle.ucl_words.specs.WordRecords.{WordReported, WordRead, WordSplit, WordEnlisted, WordFull, WordMet};
 
 use crate::board::WordBoard;
-use crate::passes::{WordNote, WordReaderPass, WordReporterPass};
+use crate::passes::{WordReaderPass, WordReporterPass};
 use std::sync::Wait;
 use ucl_board::Reading;
-use ucl_live_board::{LiveBoard, Notes, TooManyReporters};
+use ucl_live_board::{LiveBoard, TooManyReporters};
 use ucl_word::{Accepted, EventCall, Refusal, ReporterNo};
 
 /// Each call passes on to the board's own, which takes no `rt` and cannot wait, and says of its steps what that one says.
@@ -26,8 +25,6 @@ impl LiveBoard for WordBoard {
     ghost reader = { λ pass. pass_view_of pass.view };
 
     ghost reporter = { λ pass. pass_view_of pass.view };
-
-    ghost has_reported = { λ pass. WordHasReported pass.doing };
 
     fn report<R: Wait>(
         &self,
@@ -90,54 +87,5 @@ impl LiveBoard for WordBoard {
         ensures { result ≡ (reporter_figures (pass_view_of pass.now.view)).accepted }
     {
         pass.accepted
-    }
-}
-
-/// Each call passes on to the board's own here too.
-impl Notes for WordBoard {
-    type Note = WordNote;
-
-    ghost is_note = { λ board note. note.board ≡ board };
-
-    ghost noted = { λ note. note.seen };
-
-    fn meet_reader<R: Wait>(
-        &self,
-        _rt: &R,
-        first: &mut WordReaderPass,
-        second: &mut WordReporterPass,
-    )
-        requires { (first.old.board ≡ self.now) × (second.old.board ≡ self.now) }
-        ensures { WordMet first.old first.new second.old second.new }
-    {
-        self.meet_reader_now(first, second);
-    }
-
-    fn note<R: Wait>(&self, _rt: &R, pass: &mut WordReaderPass) -> WordNote
-        requires { pass.old.board ≡ self.now }
-        ensures { WordNoted pass.old pass.new result }
-    {
-        self.note_now(pass)
-    }
-
-    fn note_own<R: Wait>(&self, _rt: &R, pass: &mut WordReporterPass) -> WordNote
-        requires { pass.old.board ≡ self.now }
-        ensures { WordNoted pass.old pass.new result }
-    {
-        self.note_own_now(pass)
-    }
-
-    fn hear<R: Wait>(&self, _rt: &R, pass: &mut WordReaderPass, note: WordNote)
-        requires { (pass.old.board ≡ self.now) × (note.board ≡ self.now) }
-        ensures { WordHeard note.seen pass.old pass.new }
-    {
-        self.hear_now(pass, note);
-    }
-
-    fn hear_own<R: Wait>(&self, _rt: &R, pass: &mut WordReporterPass, note: WordNote)
-        requires { (pass.old.board ≡ self.now) × (note.board ≡ self.now) }
-        ensures { WordHeard note.seen pass.old pass.new }
-    {
-        self.hear_own_now(pass, note);
     }
 }

@@ -1,11 +1,9 @@
-//! The passes of the word board, and its notes.
+//! The passes of the word board.
 
-ghost use Rattle.std.specs.Prelude.{◌≡◌, [], length};
+ghost use Rattle.std.specs.Prelude.{◌≡◌, length};
 ghost use Rattle.ucl_steps.specs.Protocol.{Nothing};
 ghost use Rattle.ucl_words.specs.WordCalls.{IsSteady};
-ghost use Rattle.ucl_words.specs.WordDoings.{WordHasReported};
-ghost use Rattle.ucl_words.specs.WordViews.{WordPass, IsNotePass, pass_of};
-ghost use Rattle.ucl_live_board.specs.Views.{Noted};
+ghost use Rattle.ucl_words.specs.WordViews.{WordPass, pass_of};
 
 use crate::rule::Seat;
 use std::marker::Model;
@@ -23,8 +21,7 @@ impl Model for WordReaderPass {
     ghost view = { λ reader. pass_of reader.seat.table_id reader.seat.id reader.seat.me.0 };
 
     ghost invariant = { λ reader. IsSteady reader.seat.me.0.pass
-        × (reader.seat.me.0.pass.number ≡ 0) × (reader.seat.me.0.doing.held ≡ Nothing)
-        × WordHasReported reader.seat.me.0.doing 0 };
+        × (reader.seat.me.0.pass.number ≡ 0) × (reader.seat.me.0.doing.held ≡ Nothing) };
 }
 
 impl WordReaderPass {
@@ -62,19 +59,4 @@ impl WordReporterPass {
     {
         &self.seat
     }
-}
-
-/// A note of what a pass has seen, which another thread can take in. Contracts see which table it is of, and the history that the pass had
-/// seen.
-#[derive(Drop)]
-pub struct WordNote {
-    pub(crate) seat: Seat,
-}
-
-impl Model for WordNote {
-    ghost Value = { Noted };
-
-    ghost view = { λ note. record { board = note.seat.table_id; seen = note.seat.me.0.pass.seen } };
-
-    ghost invariant = { λ note. IsNotePass note.seat.me.0 × (note.seat.me.1 ≡ []) };
 }

@@ -1,12 +1,13 @@
-use Rattle.ucl_words.proofs.Common.{arith, rules, ◌≡◌, ap, refl, sym, subst, View, Nothing, WordView, count_of, trail_of, IsSteady, WordHasReported, StandAfterSplit, WordPass, view_of}
+use Rattle.ucl_words.proofs.Common.{arith, rules, ◌≡◌, ap, refl, sym, subst, View, Nothing, WordView, count_of, trail_of, IsSteady, StandAfterSplit, WordPass, view_of}
 use Rattle.ucl_words.proofs.EnlistmentFacts.{kept_steady, second_steady, second_steps}
 use Rattle.ucl_words.proofs.board.WordBoard.split_now.Goals as goal
 
 abbrev IsReader : WordView → Type 0
-IsReader v = IsSteady v.pass × (v.pass.number ≡ 0) × (v.doing.held ≡ Nothing) × WordHasReported v.doing 0
+IsReader v = IsSteady v.pass × (v.pass.number ≡ 0) × (v.doing.held ≡ Nothing)
 
 pub invariant_of-result : goal.invariant_of-result
-invariant_of-result c = subst IsReader (sym c.split_by-seat.ensures.given) (second_steady c.pass.inside.seat.me.0.pass c.pass.invariant.0, refl, refl, refl)
+invariant_of-result c = subst IsReader (sym c.split_by-seat.ensures.given)
+    (second_steady c.pass.inside.seat.me.0.pass c.pass.invariant.0, refl, refl)
 
 pub returns : goal.returns
 returns c =
@@ -20,4 +21,5 @@ returns c =
     search (arith, rules, steps, stands)
 
 pub invariant_of-pass : goal.invariant_of-pass
-invariant_of-pass c = subst IsReader (sym c.split_by-seat.ensures.kept) (kept_steady c.pass.inside.seat.me.0.pass c.pass.invariant.0, c.pass.invariant.1, c.pass.invariant.2, c.pass.invariant.3)
+invariant_of-pass c = subst IsReader (sym c.split_by-seat.ensures.kept)
+    (kept_steady c.pass.inside.seat.me.0.pass c.pass.invariant.0, c.pass.invariant.1, c.pass.invariant.2)
