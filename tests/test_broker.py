@@ -137,16 +137,16 @@ class Site:
 
     def mend(self, group, row=0, clubs=""):
         """Appends the next edition of a group as `ucl_reporter` does, by one write: these clubs, and the events without that of this row."""
-        edition, matches, mended, path = 0, model.fresh(), model.fresh(), self.path / f"{group}.rows"
-        rows, entered = map(model.records, path.read_text().splitlines()), []
-        for number, (fields, *_) in enumerate(rows, 1):
+        matches, mended, entered, path = model.fresh(), model.fresh(), [], self.path / f"{group}.rows"
+        text = path.read_text()
+        for number, fields in enumerate(model.records(text), 1):
             said = model.event(fields)
             if fields[0] == "group":
                 edition, matches, entered = int(fields[3]) + 1, model.fresh(), []
             elif said and not matches[said[1] - 1].refusal(said[2], said[3]):
                 matches[said[1] - 1].enter(said[0], said[3])
                 entered += [said] * (number != row)
-        block = f"group,{group.upper()},uefa,{edition}\n{clubs}"
+        block = "\n" * (not text.endswith("\n")) + f"group,{group.upper()},uefa,{edition}\n{clubs}"
         for reporter, game, _, event in entered:
             if not mended[game - 1].refusal(mended[game - 1].number, event):
                 block += f"{reporter},{game},{mended[game - 1].number},{event}\n"
@@ -419,7 +419,7 @@ def test_access_lists(site):
         for who in ("XDG_CONFIG_HOME=reporter1", "") if words[:8] != "0/rows/1" else ("XDG_CONFIG_HOME=reporter1",):
             site.done(f"{who} mosquitto_pub -q 1 -t ucl/a/{words}")
     assert report("reporter1", "1,1,1,goal-home").startswith("1 goal-home             entered")
-    assert [it["reply"] for it in site.answers()] == ["screen", "screen", "ok", "screen", "ok", "screen"]
+    assert [it["reply"] for it in site.answers()] == ["screen", "ok", "screen", "ok", "screen"]
     told = [line.split(" ", 1) for line in (site.path / "all").read_text().splitlines()]
     assert {topic for topic, _ in told} == {"ucl/a/desk"} and "x" not in [text for _, text in told]
     assert (site.path / "errors").read_text().count("board: passed over on ucl/a/0/rows/1: ") == 3
@@ -469,27 +469,24 @@ def test_no_late_row_of_an_edition_is_taken_in_the_next_and_reporters_go_on(site
 
 def test_a_mistake_mended_while_32_screens_look_on(site):
     """Each shows the table before and the table after, and none between; a club is named anew. An edition whose rows are cut off is told by none."""
-    board = site.begin()
-    site.done("examples/broker/reporter a 1", "1 kickoff\n1 goal home\n2 kickoff\n1 yellow home\n2 goal away\n1 goal away\n")
-    paths = [site.path / f"screen{number}" for number in range(32)]
+    site.begin()
+    rows = [(1, 1, 0, "kickoff"), (1, 1, 1, "goal-home"), (1, 2, 0, "kickoff"), (1, 1, 2, "yellow-home"), (1, 2, 1, "goal-away"), (1, 1, 3, "goal-away")]
+    site.done("examples/broker/reporter a 1", "".join(f"{row[1]} {row[3]}\n" for row in rows))
+    paths, shown = [site.path / f"screen{number}" for number in range(32)], model.screen(model.entered(rows)[0])
     for path in paths:
         site.line(f"{LINES['A screen'].strip()} >{path.name}")
-    line = site.line("mosquitto_sub -q 1 -t ucl/a/answers >answers")
-    tables = [json.loads(site.done("mosquitto_sub -q 1 -C 1 -t ucl/a/desk"))]
-    all_show = lambda: until(lambda: all(path.read_text().count("GROUP") == len(tables) for path in paths), 30)
+    site.line("mosquitto_sub -q 1 -t ucl/a/answers >answers")
+    all_show = lambda: until(lambda: {path.read_text() for path in paths} == {shown}, 30) or {path.read_text() for path in paths} == {shown}
     assert all_show()
-    matches, roster = site.mend("a", 9, "club,1,Alfa,60000\n"), [("Alfa", 60_000), *model.ROSTER[1:]]
-    tables.append(matches)
+    roster = [("Alfa", 60_000), *model.ROSTER[1:]]
+    shown += model.screen(site.mend("a", 9, "club,1,Alfa,60000\n"), roster)
     assert all_show()
-    time.sleep(2.5)
-    entered = model.entered([(1, 1, 0, "kickoff"), (1, 1, 1, "goal-home"), (1, 2, 0, "kickoff"), (1, 1, 2, "yellow-home"), (1, 2, 1, "goal-away"), (1, 1, 3, "goal-away")])[0]
-    shown = model.screen(entered) + model.screen(matches, roster)
-    assert [path.read_text() for path in paths] == [shown] * 32 and not (site.path / "answers").read_text()
     with open(site.record, "a") as record:
         record.write("group,A,uefa,2\n1,1,0,kickoff\n1,1,1,goal-home\n1,1,2,go")
-    site.mend("a", site.record.read_text().count("\n") - 1)
-    assert until(lambda: all(path.read_text().count("GROUP") == 3 for path in paths), 30)
-    assert {path.read_text()[len(shown) :] for path in paths} == {model.screen(model.entered([(1, 1, 0, "kickoff")])[0], roster)}
+    shown += model.screen(site.mend("a", site.record.read_text().count("\n")), roster)
+    assert all_show()
+    time.sleep(2.5)
+    assert all_show() and not (site.path / "answers").read_text()
 
 
 def test_an_answer_of_an_edition_that_is_over_decides_nothing(site):
