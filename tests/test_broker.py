@@ -474,6 +474,7 @@ def test_a_mistake_mended_while_32_screens_look_on(site):
     site.done("examples/broker/reporter a 1", "".join(f"{row[1]} {row[3]}\n" for row in rows))
     paths, shown = [site.path / f"screen{number}" for number in range(32)], model.screen(model.entered(rows)[0])
     for path in paths:
+        path.touch()
         site.line(f"{LINES['A screen'].strip()} >{path.name}")
     site.line("mosquitto_sub -q 1 -t ucl/a/answers >answers")
     all_show = lambda: until(lambda: {path.read_text() for path in paths} == {shown}, 30) or {path.read_text() for path in paths} == {shown}
