@@ -33,6 +33,13 @@ ROWS = 3_000
 KILLS = 1_000
 pytestmark = pytest.mark.limit(200)
 LINES = conftest.lines_to_type(BROKER / "README.md")
+# Has a program in Python wait for the disk while a file `busy` is there.
+SLOW_DISK = """import os, time
+def fsync(_):
+    with open("synced", "a") as file: file.write("x")
+    while os.path.exists("busy"): time.sleep(0.01)
+os.fsync = fsync
+"""
 # Passes lines on in another order, within windows of a hundred, and loses a tenth of them.
 TURNED = """import itertools, random, sys
 chance = random.Random(5)
@@ -250,6 +257,25 @@ def test_after_a_start_the_last_screen_is_told_and_no_answer_again(site):
     until(lambda: told("answers") and len(told("desk")) == 5, 20)
     assert [(it["version"], it["row"]) for it in told("desk")] == [(2, 11), (2, 11), (3, 13), (3, 13), (4, 14)]
     assert [(it["reply"], it["row"]) for it in told("answers")] == [("ok", 14)]
+
+
+def test_an_answer_waits_for_the_disk_once_for_what_came_at_once(site):
+    """While the disk is busy a hundred rows come, and have no answer."""
+    (site.path / "hook").mkdir()
+    (site.path / "hook/sitecustomize.py").write_text(SLOW_DISK)
+    site.open_broker()
+    site.line("PYTHONPATH=hook " + LINES["The board"].strip())
+    assert site.done("mosquitto_sub -q 1 -C 1 -t ucl/a/desk")
+    site.line("mosquitto_sub -q 1 -t ucl/a/answers >answers")
+    (site.path / "busy").touch()
+    before, rows = len((site.path / "synced").read_text()), random_rows(random.Random(3), 100)
+    site.done("mosquitto_pub -l -q 1 -t ucl/a/0/rows/1", "".join("1" + row[1:] for row in rows))
+    assert until(lambda: site.record.read_text().count("\n") == 106, 20)
+    time.sleep(0.5)
+    assert (site.path / "answers").read_text() == ""
+    (site.path / "busy").unlink()
+    assert until(lambda: (site.path / "answers").read_text().count('"reply":"ok"') == 100, 20)
+    assert len((site.path / "synced").read_text()) <= before + 5
 
 
 def test_a_board_that_is_killed_as_it_starts_leaves_no_client(site):
