@@ -236,6 +236,8 @@ def test_one_board_and_a_record_that_is_begun_once(site):
     assert before == f"group,A,uefa,0\n{model.CLUBS}screen,,,\n1,1,0,kickoff\n1,1,1,goal-home\n"
     board.start()
     assert until(lambda: site.record.read_text() != before, 20) and site.record.read_text() == before + "screen,,,\n"
+    site.done("sed -i s/Alpha/Alfa/ a.rows; mosquitto_pub -q 1 -t ucl/a/0/rows/1 -m 1,1,2,fulltime")
+    assert board.shell.wait(20) == 1 and "a.rows has become another file" in (site.path / "errors").read_text()
 
 
 def test_after_a_start_the_last_screen_is_told_and_no_answer_again(site):
