@@ -1,7 +1,7 @@
 """Evenings beyond one machine, over mosquitto: the lines of examples/broker, and parts that are killed, doubled, lost or never read.
 
 The lines that are typed are those of examples/broker/README.md, of group A. Reporters type at a terminal, or enter rows and send again what has no
-answer. In each evening every event is on the last board once, each answer in the journal has the words after it, the versions that a follower shows
+answer. In each evening every event is on the last board once, each answer to the record has the words after it, the versions that a follower shows
 rise, each of its screens is that of the rules, and the last ones are the same.
 """
 
@@ -30,8 +30,16 @@ from conftest import EXAMPLES, TOP
 
 BROKER = EXAMPLES / "broker"
 ROWS = 3_000
+KILLS = 1_000
 pytestmark = pytest.mark.limit(200)
 LINES = conftest.lines_to_type(BROKER / "README.md")
+# Has a program in Python wait for the disk while a file `busy` is there.
+SLOW_DISK = """import os, time
+def fsync(_):
+    with open("synced", "a") as file: file.write("x")
+    while os.path.exists("busy"): time.sleep(0.01)
+os.fsync = fsync
+"""
 # Passes lines on in another order, within windows of a hundred, and loses a tenth of them.
 TURNED = """import itertools, random, sys
 chance = random.Random(5)
@@ -87,7 +95,7 @@ class Site:
     """A folder of its own with a broker, where lines are typed."""
 
     def __init__(self, path):
-        self.path, self.started, self.errors = path, [], open(path / "errors", "ab")
+        self.path, self.started, self.errors, self.record = path, [], open(path / "errors", "ab"), path / "a.rows"
         (path / "examples").symlink_to(EXAMPLES)
         (path / "kept").mkdir()
         self.place = {"cwd": path, "env": {**os.environ, "XDG_CONFIG_HOME": str(path), "GROUP": "a"}, "stderr": self.errors}
@@ -130,10 +138,30 @@ class Site:
         self.open_broker(more)
         return self.line(LINES["The board"].strip())
 
-    def journal(self):
-        """The answers in the journal."""
-        path = self.path / "a.jsonl"
-        return [json.loads(line) for line in path.read_text().split("\n")[:-1]] if path.exists() else []
+    def answers(self):
+        """The answers to the record."""
+        return [json.loads(line) for line in self.done("./ucl_live --format json --screens <a.rows").splitlines()]
+
+    def mend(self, group, row=0, clubs=""):
+        """Appends the next edition of a group as `ucl_reporter` does, by one write: these clubs, and the events without that of this row."""
+        matches, mended, entered, path = model.fresh(), model.fresh(), [], self.path / f"{group}.rows"
+        text = path.read_text()
+        for number, fields in enumerate(model.records(text), 1):
+            said = model.event(fields)
+            if fields[0] == "group":
+                edition, matches, entered = int(fields[3]) + 1, model.fresh(), []
+            elif said and not matches[said[1] - 1].refusal(said[2], said[3]):
+                matches[said[1] - 1].enter(said[0], said[3])
+                entered += [said] * (number != row)
+        block = "\n" * (not text.endswith("\n")) + f"group,{group.upper()},uefa,{edition}\n{clubs}"
+        for reporter, game, _, event in entered:
+            if not mended[game - 1].refusal(mended[game - 1].number, event):
+                block += f"{reporter},{game},{mended[game - 1].number},{event}\n"
+                mended[game - 1].enter(reporter, event)
+        with open(path, "ab") as file:
+            fcntl.flock(file, fcntl.LOCK_EX)
+            file.write((block + "screen,,,\n").encode())
+        return mended
 
     def await_no_board(self):
         """Waits until no board runs."""
@@ -189,36 +217,85 @@ def test_an_evening_that_is_started_leaves_nothing_behind(site):
     assert until(lambda: not site.done(f"grep -la {site.path}/room/tmp. /proc/[0-9]*/environ"), 10)
 
 
-def test_one_board_and_a_journal_that_is_begun_once(site):
-    """A second board ends at once, also where the first one's program was killed and its board is not; the first line typed again goes on."""
+def test_one_board_and_a_record_that_is_begun_once(site):
+    """A second board ends at once; the first line typed again goes on. Clubs that the rules refuse begin no record, nor does a folder with a journal."""
     board = site.begin()
-    until(site.journal)
-    assert site.done("examples/broker/board b") == "" and not (site.path / "b.jsonl").exists()
-    for word in "a", "a examples/two_matches.csv", "--cut a":
-        assert site.done(f"timeout 5 examples/broker/board {word} 2>&1; echo $?") == "board: another board of group a runs here: it holds a.lock\n1\n"
+    until(site.record.exists)
+    for words, told in {
+        "a": "another board of group a runs here: it holds a.lock\n", "a examples/two_matches.csv": "another board of group a runs here: it holds a.lock\n",
+        "b": "there is no record b.rows: name a file of clubs\n", "b none.csv": "none.csv: No such file or directory\n",
+    }.items():
+        assert site.done(f"timeout 5 examples/broker/board {words} 2>&1; echo $?") == f"board: {told}1\n"
+    site.done("sed s/Alpha// examples/one_goal.csv >clubs.csv; touch c.jsonl")
+    assert site.done("examples/broker/board b clubs.csv 2>&1; echo $?").endswith("input refused 21: slot 1\n3\n") and not (site.path / "b.rows").exists()
+    assert "there is a journal c.jsonl and no record c.rows" in site.done("examples/broker/board c examples/one_goal.csv 2>&1")
     site.done("examples/broker/reporter a 1", "1 kickoff\n1 goal home\n")
     board.kill()
     site.await_no_board()
-    before = site.journal()
+    before = site.record.read_text()
+    assert before == f"group,A,uefa,0\n{model.CLUBS}screen,,,\n1,1,0,kickoff\n1,1,1,goal-home\n"
     board.start()
-    assert until(lambda: len(site.journal()) == len(before) + 1, 20) and site.journal()[-1]["version"] == 2 and site.journal()[:-1] == before
+    assert until(lambda: site.record.read_text() != before, 20) and site.record.read_text() == before + "screen,,,\n"
+    site.done("sed -i s/Alpha/Alfa/ a.rows; mosquitto_pub -q 1 -t ucl/a/0/rows/1 -m 1,1,2,fulltime")
+    assert board.shell.wait(20) == 1 and "a.rows has become another file" in (site.path / "errors").read_text()
+
+
+def test_after_a_start_the_last_screen_is_told_and_no_answer_again(site):
+    """The last row is cut off, or asks for the screen already."""
+    board = site.begin()
+    site.done("examples/broker/reporter a 1", "1 kickoff\n1 goal home\n2 goal home\n")
+    told = lambda topic: [json.loads(line) for line in (site.path / topic).read_text().splitlines() if "pulse" not in line]
+    for topic in "desk", "answers":
+        site.line(f"mosquitto_sub -q 1 -R -t ucl/a/{topic} >{topic}")
+    for torn in "1,1,2,goal-", "", "1,1,2,goal-away", "":
+        board.kill()
+        site.await_no_board()
+        with open(site.record, "a") as record:
+            record.write(torn)
+        board.start()
+        count = len(told("desk"))
+        until(lambda: len(told("desk")) > count, 20)
+    site.done("examples/broker/reporter a 1", "1,1,3,yellow-away\n")
+    until(lambda: told("answers") and len(told("desk")) == 5, 20)
+    assert [(it["version"], it["row"]) for it in told("desk")] == [(2, 11), (2, 11), (3, 13), (3, 13), (4, 14)]
+    assert [(it["reply"], it["row"]) for it in told("answers")] == [("ok", 14)]
+
+
+def test_an_answer_waits_for_the_disk_once_for_what_came_at_once(site):
+    """While the disk is busy a hundred rows come, and have no answer."""
+    (site.path / "hook").mkdir()
+    (site.path / "hook/sitecustomize.py").write_text(SLOW_DISK)
+    site.open_broker()
+    site.line("PYTHONPATH=hook " + LINES["The board"].strip())
+    assert site.done("mosquitto_sub -q 1 -C 1 -t ucl/a/desk")
+    site.line("mosquitto_sub -q 1 -t ucl/a/answers >answers")
+    (site.path / "busy").touch()
+    before, rows = len((site.path / "synced").read_text()), random_rows(random.Random(3), 100)
+    site.done("mosquitto_pub -l -q 1 -t ucl/a/0/rows/1", "".join("1" + row[1:] for row in rows))
+    assert until(lambda: site.record.read_text().count("\n") == 106, 20)
+    time.sleep(0.5)
+    assert (site.path / "answers").read_text() == ""
+    (site.path / "busy").unlink()
+    assert until(lambda: (site.path / "answers").read_text().count('"reply":"ok"') == 100, 20)
+    assert len((site.path / "synced").read_text()) <= before + 5
 
 
 def test_a_board_that_is_killed_as_it_starts_leaves_no_client(site):
-    """It is killed with its first screen, when its clients start too; at the test's end nothing may run in its folder."""
+    """It is killed when its clients start; at the test's end nothing may run in its folder."""
     board = site.begin()
     for count in range(1, 9):
-        until(lambda: len(site.journal()) > count, pause=0.001)
+        until(lambda: board.pid_of("ucl_live"), pause=0.001)
+        time.sleep(0.02 * count)
         board.kill()
         site.await_no_board()
         board.start()
 
 
-def test_a_late_screen_has_the_table_after_a_refusal_and_the_pulse_is_beside_the_journal(site):
+def test_a_late_screen_has_the_table_after_a_refusal_and_the_pulse_is_beside_the_record(site):
     board = site.begin("persistence false\n")
     site.done("examples/broker/reporter a 1", "1 kickoff\n")
     site.done("examples/broker/reporter a 1", "2 goal home\n")
-    assert [it.get("name") for it in site.journal()][-1] == "not-started"
+    assert [it.get("name") for it in site.answers()][-1] == "not-started"
 
     def await_table(seconds):
         first = site.line(f"mosquitto_sub -C 1 -q 1 -t ucl/$GROUP/desk | ./ucl_follow", stdout=subprocess.PIPE).shell
@@ -226,10 +303,10 @@ def test_a_late_screen_has_the_table_after_a_refusal_and_the_pulse_is_beside_the
         assert first.stdout.readline() == b"GROUP A v00001 IN PLAY 1\n" and time.monotonic() - begun < seconds
 
     await_table(1)
-    size = (site.path / "a.jsonl").stat().st_size
+    size = site.record.stat().st_size
     told = site.done("mosquitto_sub -q 1 -C 3 -t ucl/a/desk").splitlines()
     assert len(set(told)) == 3 and [json.loads(line)["version"] for line in told] == [1, 1, 1]
-    assert (site.path / "a.jsonl").stat().st_size == size
+    assert site.record.stat().st_size == size
     site.broker.kill()
     site.broker.start()
     site.await_broker()
@@ -239,36 +316,18 @@ def test_a_late_screen_has_the_table_after_a_refusal_and_the_pulse_is_beside_the
     assert site.done("timeout 5 mosquitto_sub -q 1 -R -t ucl/a/desk") == ""
 
 
-def test_a_journal_that_is_cut(site):
-    board = site.begin()
-    site.done("examples/broker/reporter a 1", "1 kickoff\n1 goal home\n2 goal home\n")
-    board.kill()
-    site.await_no_board()
-    with open(site.path / "a.jsonl", "a") as journal:
-        journal.write('{"clubs":')
-    before = (site.path / "a.jsonl").read_bytes() + b"\n"
-    assert site.done("examples/broker/board --cut a") == "a.jsonl is one line, and a.jsonl.1 what it was\n"
-    assert (site.path / "a.jsonl.1").read_bytes() == before
-    (line,) = site.journal()
-    assert (line["reply"], line["version"]) == ("screen", 2)
-    board.start()
-    assert site.done("examples/broker/reporter a 2", "1 goal away\n").startswith("1 goal-away             entered: Bravo 1-1 Charlie, in play, event 3")
-    board.kill()
-    site.await_no_board()
-    assert site.done("examples/broker/board --cut a").split()[-4] == "a.jsonl.2"
-
-
 def test_a_thousand_rows_cost_a_restart_less_than_a_tenth_of_a_second(site):
-    """The journal has a thousand events and their screens. What else the machine does would count in the time on the clock, so the processor's counts."""
-    site.done("./ucl_live --screens --format json >a.jsonl", model.CLUBS + "".join(random_rows(random.Random(6), 1_000)))
+    """The record has a thousand events. What else the machine does would count in the time on the clock, so the processor's counts."""
+    site.record.write_text(model.CLUBS + "".join(random_rows(random.Random(6), 1_000)))
     used, taken = lambda: sum(resource.getrusage(resource.RUSAGE_CHILDREN)[:2]), []
     for _ in range(5):
         before = used()
-        site.done("(./ucl_follow --resume <a.jsonl; echo screen,,,) | ./ucl_live --format json >first")
+        site.done("./ucl_live --format json --screens <a.rows >first")
         taken.append(used() - before)
     assert min(taken) < 0.1, taken
+    site.open_broker()
     site.line("examples/broker/board a")
-    assert until(lambda: site.journal()[-1]["row"] == 17, 20) and site.journal()[-1]["version"] == 1_000
+    assert json.loads(site.done("mosquitto_sub -q 1 -C 1 -t ucl/a/desk"))["version"] == 1_000
 
 
 # ---- reporters
@@ -316,7 +375,7 @@ def test_two_reporters_who_type_one_goal_do_not_count_it_twice(site):
     second.type("2 goal home\n")
     assert second.sees("2 goal-home             refused, not-started: Delta 0-0 Alpha, to come, event 0")
     assert not first.sees("goal", 3) and not second.sees("goal", 0.1)
-    assert [(it["reply"], it.get("name")) for it in site.journal() if it["reply"] != "screen"] == [
+    assert [(it["reply"], it.get("name")) for it in site.answers() if it["reply"] != "screen"] == [
         ("ok", None), ("ok", None), ("refused", "stale"), ("refused", "not-started")]
     first.type("1 goal away\n\x04")
     assert first.sees("1 goal-away             entered: Bravo 1-1 Charlie, in play, event 3") and first.line.shell.wait() == 0
@@ -356,11 +415,14 @@ def test_a_reporter_is_told_of_rows_that_are_refused_anothers_or_none(site):
     assert report("--matches 2 a 1", "1,1,2,goal-home") == ["reporter: match 1 is not yours", "1"]
     for row in "1,13,0,kickoff", "2,1,2,goal-home", "1 goal", "goal home":
         assert report("a 1", row) == [f"reporter: {row}: no event of reporter 1; --help has them all", "1"]
-    for topic, text in ("0/rows/1", "2,1,2,goal-home"), ("0/rows/x", "x,1"), ("0/rows/1", "1,1,2,red-home\n"), ("desk", '{"clubs":[],"words":7}'), ("answers", "[1]"):
+    for topic, text in ("0/rows/1", "2,1,2,goal-home"), ("0/rows/x", "x,1"), ("0/rows/1", "1,1,2,red-home\n"), ("1/rows/1", "1,1,2,red-home"), ("0/rows/1", "1," + "x" * 255), ("desk", '{"clubs":[],"words":7}'), ("answers", "[1]"):
         site.done(f"mosquitto_pub -q 1 -t ucl/a/{topic} -s", text)
+    passed = [f"board: passed over on ucl/a/{it}" for it in ("0/rows/1: b'2,1", "0/rows/x: b'x", "0/rows/1: b'1,1,2,red-home\\n'", "1/rows/1: b'1,1", "0/rows/1: b'1,xxx")]
+    told = until(lambda: [it for it in (site.path / "errors").read_text().splitlines() if it.startswith("board:")][len(passed) - 1 :] and (site.path / "errors").read_text(), 20)
+    assert all(it in told for it in passed)
     assert report("a 1", "1,1,2,goal-home")[1:] == ["0"]
     assert report("--limit 2 b 1", "1 kickoff") == ["reporter: the desk has told nothing in 2 seconds", "1"]
-    assert site.done("./ucl_follow <a.jsonl | tail -n 6").startswith("GROUP A v00003 ")
+    assert site.answers()[-1]["version"] == 3
 
 
 def test_access_lists(site):
@@ -385,7 +447,7 @@ def test_access_lists(site):
         for who in ("XDG_CONFIG_HOME=reporter1", "") if words[:8] != "0/rows/1" else ("XDG_CONFIG_HOME=reporter1",):
             site.done(f"{who} mosquitto_pub -q 1 -t ucl/a/{words}")
     assert report("reporter1", "1,1,1,goal-home").startswith("1 goal-home             entered")
-    assert [it["reply"] for it in site.journal()] == ["screen", "screen", "ok", "screen", "ok", "screen"]
+    assert [it["reply"] for it in site.answers()] == ["screen", "ok", "screen", "ok", "screen"]
     told = [line.split(" ", 1) for line in (site.path / "all").read_text().splitlines()]
     assert {topic for topic, _ in told} == {"ucl/a/desk"} and "x" not in [text for _, text in told]
     assert (site.path / "errors").read_text().count("board: passed over on ucl/a/0/rows/1: ") == 3
@@ -405,29 +467,21 @@ def test_an_encrypted_port_takes_who_knows_its_certificate(site):
 # ---- a board that is begun again
 
 
-def test_no_late_row_of_an_edition_is_taken_in_the_next_and_all_screens_follow(site):
-    """A card is taken out, so event numbers fall. A row from before, sent while there is no board, or when it runs again, is the next one by its number."""
-    board = site.begin()
-    screen = site.line(LINES["A screen"].strip() + " >screen")
+def test_no_late_row_of_an_edition_is_taken_in_the_next_and_reporters_go_on(site):
+    """A card is taken out, so event numbers fall: a row of before is the next one by its number."""
+    site.begin()
     site.done("examples/broker/reporter a 1", "1 kickoff\n1 goal home\n1 yellow home\n1 goal away\n")
     first, second = Typist(site, "--again 1 a 1"), Typist(site, "--again 1 a 7")
     assert first.sees("12 Delta 0-0 Charlie, to come, event 0") and second.sees("12 Delta 0-0 Charlie, to come, event 0")
     first.type("1 goal h")
     assert first.sees("> 1 goal h")
-    board.kill()
-    site.await_no_board()
-    before = (site.path / "a.jsonl").read_bytes()
-    mend, begin, again = conftest.lines_to_type(TOP / "docs/MISTAKES.md")["The journal of group A"].splitlines()
-    assert site.done(f"{mend}\ntimeout 5 {begin}") == "a.jsonl is of edition 1, and a.jsonl.1 what it was\nmatch 1 had 4 events, and has 3\n"
-    assert (site.path / "a.jsonl.1").read_bytes() == before
-    second.type("2 kickoff\n")
-    assert second.sees("2 kickoff               no answer yet; it is sent again")
-    waits = site.line("echo 3 kickoff | examples/broker/reporter --again 1 a 3 >asked 2>told")
-    assert until(lambda: site.done("grep 'no answer yet' asked"), 20)
-    site.done("mosquitto_pub -q 1 -t ucl/a/0/rows/1 -m 1,1,3,goal-home")
-    site.line(again)
+    with open(site.record, "ab") as file:
+        fcntl.flock(file, fcntl.LOCK_EX)
+        site.done("mosquitto_pub -q 1 -t ucl/a/0/rows/1 -m 1,1,3,goal-home")
+        second.type("2 kickoff\n")
+        assert second.sees("2 kickoff               no answer yet; it is sent again")
+        file.write(b"group,A,uefa,1\n1,1,0,kickoff\n1,1,1,goal-home\n1,1,2,goal-away\nscreen,,,\n")
     assert second.sees("Edition 1 has begun") and second.sees("2 kickoff               dropped, edition 1 has begun: Delta 0-0 Alpha, to come, event 0")
-    assert waits.shell.wait(20) == 1 and (site.path / "told").read_text() == "reporter: 3,3,0,kickoff: dropped, edition 1 has begun\n"
     site.done("mosquitto_pub -q 1 -t ucl/a/0/rows/1 -m 1,1,3,goal-home")
     assert first.sees("Edition 1 has begun") and first.sees(" 1 Bravo 1-1 Charlie, in play, event 3") and first.sees("> 1 goal h")
     first.type("ome\n")
@@ -437,16 +491,31 @@ def test_no_late_row_of_an_edition_is_taken_in_the_next_and_all_screens_follow(s
     enter = lambda words, row: site.done(f"examples/broker/reporter {words} a 1 2>&1", row + "\n").split(": ", 1)[1]
     assert enter("", "1,1,4,goal-home") == "1,1,4,goal-home: this is of edition 0, and the board of edition 1: look at the matches\n"
     assert enter("--edition 1", "1,1,4,goal-home") == "Bravo 3-1 Charlie, in play, event 5\n"
-    matches, shown = model.fresh(), []
-    for events in (["kickoff", "goal-home", "yellow-home", "goal-away"], ["kickoff", "goal-home", "goal-away", "goal-home", "goal-home"]):
-        matches[0] = model.Match()
-        for event in events:
-            matches[0].enter(1, event)
-            shown.append(model.screen(matches))
-    shown = "".join([model.screen(model.fresh()), *shown[:4], *shown[6:]])
-    assert until(lambda: (site.path / "screen").read_text() == shown, 20) or (site.path / "screen").read_text() == shown
-    assert (site.path / "errors").read_text().count("board: passed over on ucl/a/0/rows/") >= 4
-    assert {said["edition"] for said in site.journal() if "words" in said} == {1}
+    assert (site.path / "errors").read_text().count("board: passed over on ucl/a/0/rows/") >= 3
+    assert site.answers()[-1]["version"] == 5 and not [it for it in site.answers() if it["reply"] == "refused"]
+
+
+def test_a_mistake_mended_while_32_screens_look_on(site):
+    """Each shows the table before and the table after, and none between; a club is named anew. An edition whose rows are cut off is told by none."""
+    site.begin()
+    rows = [(1, 1, 0, "kickoff"), (1, 1, 1, "goal-home"), (1, 2, 0, "kickoff"), (1, 1, 2, "yellow-home"), (1, 2, 1, "goal-away"), (1, 1, 3, "goal-away")]
+    site.done("examples/broker/reporter a 1", "".join(f"{row[1]} {row[3]}\n" for row in rows))
+    paths, shown = [site.path / f"screen{number}" for number in range(32)], model.screen(model.entered(rows)[0])
+    for path in paths:
+        path.touch()
+        site.line(f"{LINES['A screen'].strip()} >{path.name}")
+    site.line("mosquitto_sub -q 1 -t ucl/a/answers >answers")
+    all_show = lambda: until(lambda: {path.read_text() for path in paths} == {shown}, 30) or {path.read_text() for path in paths} == {shown}
+    assert all_show()
+    roster = [("Alfa", 60_000), *model.ROSTER[1:]]
+    shown += model.screen(site.mend("a", 9, "club,1,Alfa,60000\n"), roster)
+    assert all_show()
+    with open(site.record, "a") as record:
+        record.write("group,A,uefa,2\n1,1,0,kickoff\n1,1,1,goal-home\n1,1,2,go")
+    shown += model.screen(site.mend("a", site.record.read_text().count("\n")), roster)
+    assert all_show()
+    time.sleep(2.5)
+    assert all_show() and not (site.path / "answers").read_text()
 
 
 def test_an_answer_of_an_edition_that_is_over_decides_nothing(site):
@@ -463,35 +532,6 @@ def test_an_answer_of_an_edition_that_is_over_decides_nothing(site):
     assert not reporter.sees("entered", 1)
     tell("answers", {**entered, "edition": 1})
     assert reporter.sees("1 kickoff               entered: Bravo 0-0 Charlie, in play, event 1")
-
-
-def test_a_journal_that_is_begun_again_only_by_rows_of_its_group_that_were_made_since(site):
-    board = site.begin()
-    site.done("examples/broker/reporter a 1", "1 kickoff\n1 yellow home\n1 second-yellow home\n")
-    begin = lambda rows: site.done(f"timeout 5 examples/broker/board --begin {rows} 2>&1")
-    site.done("examples/mend a.jsonl 1 2 >early.csv")
-    assert begin("a early.csv") == "board: another board of group a runs here: it holds a.lock\n"
-    site.done("examples/broker/reporter a 1", "1 goal home\n")
-    board.kill()
-    site.await_no_board()
-    before = site.journal()
-    assert begin("a early.csv") == "board: a.jsonl has gone on since early.csv was made: make it again\n"
-    site.done("./ucl_follow --resume <a.jsonl >same.csv; sed 's/^group,A/group,B/' early.csv >other.csv; head -n 5 early.csv >clubs.csv")
-    assert begin("a same.csv") == "board: same.csv is of edition 0, and a.jsonl of edition 0: it has to be of a later one\n"
-    assert begin("a none.csv") == "board: none.csv: No such file or directory\n"
-    assert [begin(f"a {name}.csv").splitlines()[1:] for name in ("other", "clubs")] == [[], []] and site.journal() == before
-    site.done("(examples/mend a.jsonl 1 2; echo 1,1,2,yellow-awya) >mended.csv; cp a.jsonl a.jsonl.1")
-    assert begin("a mended.csv").splitlines() == [
-        "a.jsonl is of edition 1, and a.jsonl.2 what it was", "refused, no-caution: 1,1,1,second-yellow-home",
-        "refused, bad-row: 1,1,2,yellow-awya", "match 1 had 4 events, and has 2"]
-    assert begin("a mended.csv") == "board: a.jsonl has gone on since mended.csv was made: make it again\n"
-    assert site.done("touch mended.csv; examples/broker/board --begin a mended.csv 2>&1").startswith("board: mended.csv is of edition 1, and a.jsonl of edition 1")
-    assert site.done("examples/broker/board --cut a; ./ucl_follow --resume <a.jsonl | head -n 1") == "a.jsonl is one line, and a.jsonl.3 what it was\ngroup,A,uefa,1\n"
-    assert site.done("examples/mend a.jsonl 1 1 2>&1") == "mend: a.jsonl has no event 1 of match 1; it has these\n"
-    assert site.done("cat $(ls -v a.jsonl.*) a.jsonl >all.jsonl; examples/mend all.jsonl 1 1 >mended.csv; examples/broker/board --begin a mended.csv").splitlines() == [
-        "a.jsonl is of edition 2, and a.jsonl.4 what it was", "refused, not-started: 1,1,0,goal-home", "match 1 had 2 events, and has 0"]
-    site.done("mv a.jsonl.4 a.jsonl; examples/mend a.jsonl >mended.csv; examples/broker/board --begin a mended.csv")
-    assert site.done("./ucl_follow --resume <a.jsonl").startswith("group,A,uefa,2\n") and site.journal()[-1]["version"] == 2
 
 
 # ---- evenings in which something breaks
@@ -511,18 +551,18 @@ def random_rows(chance, count=ROWS):
     return rows
 
 
-def screens_by_the_rules(rows, journal):
-    """The screen of each version, in the order in which the journal answers these rows: each once, with the words after it."""
+def screens_by_the_rules(rows, answers):
+    """The screen of each version, in the order in which these rows are answered: each once, with the words after it."""
     rows = {tuple(map(int, row.split(",")[1:3])): row.strip().split(",") for row in rows}
     matches, screens = model.fresh(), [model.screen(model.fresh())]
-    for line in filter(model.moment_of, journal.split("\n")[:-1]):
-        said = json.loads(line)
+    for said in answers:
         if said["reply"] == "ok":
             reporter, match, expected, word = rows.pop((said["match"], said["number"] - 1))
             assert (matches[int(match) - 1].number, said["version"]) == (int(expected), len(screens))
             matches[int(match) - 1].enter(int(reporter), word)
             screens.append(model.screen(matches))
-        assert (said["version"], said["words"]) == (len(screens) - 1, [m.word() for m in matches])
+        if "words" in said:
+            assert (said["version"], said["words"]) == (len(screens) - 1, [m.word() for m in matches])
     assert not rows, f"{len(rows)} rows are not on the board"
     return screens
 
@@ -541,7 +581,7 @@ class Evening:
 
     def __init__(self, site, seed):
         self.site, self.chance, self.lives = site, random.Random(seed), collections.defaultdict(list)
-        self.rows, self.journal, self.screen = random_rows(self.chance), site.path / "a.jsonl", LINES["A screen"].strip()
+        self.rows, self.screen = random_rows(self.chance), LINES["A screen"].strip()
         self.board = site.begin()
         for name in "first", "second":
             self.follow(name, self.screen)
@@ -578,7 +618,7 @@ class Evening:
         self.site.done(f'last=$(mosquitto_sub -C 1 -t ucl/a/desk); for i in $(seq {again}); do echo "$last"; done | mosquitto_pub -l -q 1 -t ucl/a/desk')
         for name in self.lives:
             until(lambda: f" v{ROWS:05d} " in self.shown(name))
-        screens = screens_by_the_rules(self.rows, self.journal.read_text())
+        screens = screens_by_the_rules(self.rows, self.site.answers())
         for lives in self.lives.values():
             assert [need_screens(path.read_text(), screens) for _, path in lives][-1] == ROWS
         return screens
@@ -596,8 +636,8 @@ def test_the_broker_is_killed_and_started_again(site):
     evening.settle()
 
 
-def test_the_board_is_killed_and_goes_on_from_its_journal(site):
-    """It is killed alone, and its program ends; with its program, and the journal's last line is cut, or lacks its end alone."""
+def test_the_board_is_killed_and_goes_on_from_its_record(site):
+    """Its program is killed alone, and it ends; it is killed itself, and the record's last row is cut, or lacks its end alone."""
     evening = Evening(site, 2)
 
     def trouble(number):
@@ -606,23 +646,14 @@ def test_the_board_is_killed_and_goes_on_from_its_journal(site):
             assert evening.board.shell.wait(10) != 0
         evening.board.kill()
         site.await_no_board()
-        with open(evening.journal, "a") as journal:
-            if number % 3 == 1:
-                journal.write(evening.journal.read_text().split("\n")[-2][: evening.chance.randint(1, 200)])
-            if number % 3 == 2:
-                journal.write(unended(evening))
+        numbers = [int(word, 16) & 4095 for word in site.answers()[-1]["words"]]
+        row = next(row for row in evening.rows if int(row.split(",")[2]) == numbers[int(row.split(",")[1]) - 1])
+        with open(site.record, "a") as record:
+            record.write(row[: -1 if number % 3 == 2 else number % 3 * evening.chance.randint(1, 9)])
         evening.board.start()
 
     evening.report(trouble, 6)
     evening.settle()
-
-
-def unended(evening):
-    """What a board writes that is killed just before the end of a line: the answer to the next row, without its line feed."""
-    text = evening.site.done("(cat a.jsonl; echo) | ./ucl_follow --resume")
-    numbers = [int(word, 16) & 4095 for word in re.findall(r"^word,\d+,(\w+),$", text, re.M)]
-    row = next((row for row in evening.rows if int(row.split(",")[2]) == numbers[int(row.split(",")[1]) - 1]), None)
-    return evening.site.done("./ucl_live --format json | tail -n 1 | tr -d '\\n'", text + row) if row else ""
 
 
 def test_every_row_comes_twice_and_some_ten_rows_later(site):
@@ -637,13 +668,13 @@ def test_every_row_comes_twice_and_some_ten_rows_later(site):
         if evening.chance.random() < 0.01:
             sent.append(evening.chance.choice(["1,x\n", "1,1,0,goal-hoem\n", "1,13,0,kickoff\n"]))
         again.append(row)
+    site.line("mosquitto_sub -q 1 -t ucl/a/answers >answers")
     site.done("mosquitto_pub -l -q 1 -t ucl/a/0/rows/1", "".join(sent))
-    text = model.CLUBS + model.sheet(model.fresh()) + "screen,,,\n" + "".join(sent)
-    last = r'"row":%d[,}][^\n]*\n\Z' % text.count("\n")
-    until(lambda: re.search(last, evening.journal.read_text()))
-    wanted = model.Evening(["--format", "json", "--screens"]).of(text)[1].split("\n")
-    found = evening.journal.read_text().split("\n")[1:]
-    assert next((pair for pair in zip(found, wanted) if pair[0] != pair[1]), None) is None and len(found) == len(wanted)
+    begun = f"group,A,uefa,0\n{model.CLUBS}screen,,,\n"
+    until(lambda: len((site.path / "answers").read_text().splitlines()) == len(sent))
+    assert site.record.read_text() == begun + "".join(sent)
+    wanted = [line for line in model.Evening(["--format", "json"]).of(begun + "".join(sent))[1].splitlines()]
+    assert (site.path / "answers").read_text().splitlines() == wanted[1:]
     evening.settle()
 
 
@@ -667,3 +698,29 @@ def test_followers_are_killed_come_late_miss_lines_or_are_not_read(site):
     reads.start()
     until(lambda: b"".join(pieces).endswith(screens[-1].encode()))
     assert need_screens(b"".join(pieces).decode(), screens) == ROWS
+
+
+def test_a_thousand_kills_of_boards_at_random_moments(site):
+    """Eight boards in one folder, each killed again and again while a reporter enters rows: each row that was told as entered is on the board of its record
+    once, and each desk ends with the table of its record."""
+    site.open_broker()
+    chance = random.Random(8)
+    boards = {group: site.line(f"exec examples/broker/board {group} examples/two_matches.csv") for group in "abcdefgh"}
+    rows = {group: random_rows(chance, 60) for group in boards}
+    for group in boards:
+        (site.path / f"rows-{group}").write_text("".join("1" + row[1:] for row in rows[group]))
+        rows[group] = (site.path / f"rows-{group}").read_text().splitlines(True)
+    report = lambda group: site.line(f"examples/broker/reporter --again 0.5 --limit 90 {group} 1 <rows-{group} >entered-{group}")
+    reporters = {group: report(group) for group in boards}
+    for _ in range(KILLS):
+        time.sleep(chance.uniform(0, 0.08))
+        group = chance.choice([*boards])
+        boards[group].kill()
+        boards[group].start()
+    for group, reporter in reporters.items():
+        assert reporter.shell.wait() == 0, (site.path / "errors").read_text()[-300:]
+        assert (site.path / f"entered-{group}").read_text().count("entered:") + (site.path / f"entered-{group}").read_text().count("passed over") == len(rows[group])
+        answers = map(json.loads, site.done(f"./ucl_live --format json <{group}.rows").splitlines())
+        screens = screens_by_the_rules(rows[group], answers)
+        last = lambda: json.loads(site.done(f"mosquitto_sub -q 1 -C 1 -t ucl/{group}/desk"))["version"]
+        assert until(lambda: last() == len(rows[group]), 20) and len(screens) == len(rows[group]) + 1

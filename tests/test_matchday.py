@@ -49,9 +49,9 @@ class Season:
         return ends[2 * night - 1] if night else 0
 
     def entered(self):
-        """How many events stand in the journals."""
-        paths = [self.site.path / f"{group}.jsonl" for group in GROUPS]
-        return sum(path.read_bytes().count(b'"reply":"ok"') for path in paths if path.exists())
+        """How many events stand in the records, each counted once."""
+        paths = [self.site.path / f"{group}.rows" for group in GROUPS]
+        return sum(len(set(re.findall(r"^\d.*", path.read_text(), re.M))) for path in paths if path.exists())
 
     def play(self, night):
         """Plays a night, in which the broker and the board of a group are killed, each in the midst of the rows."""
@@ -103,11 +103,12 @@ def test_a_matchday_needs_eight_files_and_a_folder_of_its_own(site):
     assert site.done(f"timeout 5 examples/matchday {SEASON} 2>&1; echo $?") == "matchday: another matchday runs here: it holds matchday.lock\n1\n"
     report = "printf '3 kickoff\\n3 goal away\\n' | XDG_CONFIG_HOME=clients examples/broker/reporter h 200"
     assert site.done(report).endswith("3 goal-away             entered: Chelsea 0-1 Juventus, in play, event 2\n")
-    end_by_ctrl_c(site, matchday)
-    site.done("examples/mend h.jsonl 3 1 >mended.csv; examples/broker/board --begin h mended.csv")
-    matchday.start()
     newest = lambda: site.done("XDG_CONFIG_HOME=clients timeout 5 mosquitto_sub -q 1 -C 1 -t ucl/h/desk | ./ucl_follow")
-    assert until(lambda: newest().startswith("GROUP H v00000 "), 20)
+    site.mend("h", 8)
+    assert until(lambda: newest().startswith("GROUP H v00001 "), 20)
+    end_by_ctrl_c(site, matchday)
+    matchday.start()
+    assert until(lambda: newest().startswith("GROUP H v00001 "), 20)
     end_by_ctrl_c(site, matchday)
 
 

@@ -225,7 +225,7 @@ def test_where_nothing_is(roots, dist, place):
     if shutil.which("systemd-sysusers"):
         assert command(["systemd-sysusers", f"--root={root.path}", "ucl-board.conf"]).status == 0
         assert "ucl-board" in root.needs("getent passwd ucl-board")
-    kept = ["/var/lib/ucl-board/a/a.jsonl", "/etc/ucl-board/a.csv"]
+    kept = ["/var/lib/ucl-board/a/a.rows", "/etc/ucl-board/a.csv"]
     root.needs(f"mkdir -p /var/lib/ucl-board/a && touch {' '.join(kept)}")
     root.needs("dpkg -r ucl-board libuclboard1")
     assert root.run("command -v ucl_live").status == 1 and root.needs(f"ls {' '.join(kept)}")
@@ -252,7 +252,7 @@ def test_manual(full):
     """Each page is there, is found by its name, has what the help has, and is laid out without a warning but of long lines of JSON."""
     pages = full.needs("dpkg -L ucl-board libuclboard-dev | grep '/man[135]/.'").split()
     assert {pathlib.Path(page).name for page in pages} == {
-        *(f"{name}.1.gz" for name in [*PROGRAMS, "ucl_night-feed", "ucl_night-show", "ucl_night-night"]), "ucl_rows.5.gz", "uclboard.3.gz"}
+        *(f"{name}.1.gz" for name in [*PROGRAMS, "ucl_reporter", "ucl_night-feed", "ucl_night-show", "ucl_night-night"]), "ucl_rows.5.gz", "uclboard.3.gz"}
     for page in pages:
         run = full.run(f"man --warnings {page} >/dev/null")
         assert (run.status, re.sub(r".*can.t break line\n", "", run.errors)) == (0, ""), page
@@ -318,8 +318,8 @@ def calls_of(unit):
 
 
 def test_services(full, tmp_path):
-    """What the unit of a board starts, with the system calls that it allows: rows come in by the broker, a killed board goes on, a second one ends at the lock, a card is left out of the
-    next edition, the desk has a pulse, and a follower shows all events."""
+    """What the unit of a board starts, with the system calls that it allows: rows come in by the broker, a second board ends at the lock, a killed one goes
+    on, a card is left out of the next edition meanwhile, the desk has a pulse, and a follower shows all events."""
     needs("systemd-analyze")
     (full.path / "etc/ucl-board/a.csv").write_text(model.CLUBS)
     full.needs("mkdir -p /var/lib/ucl-board/a")
@@ -348,14 +348,12 @@ def test_services(full, tmp_path):
         assert second.status == 1 and "another board" in second.errors
         first.kill()
         first.wait()
-        again = begin()
+        begin()
         enter((1, 2, "goal-away"), (2, 1, "red-home"), (1, 3, "fulltime"))
-        again.kill()
-        again.wait()
-        full.needs(f"cd {folder} && flock a.lock {DOC}/mend a.jsonl 2 2 >mended.csv && /usr/libexec/ucl-board/board --begin a mended.csv")
+        row = full.needs(f"grep -n 1,2,1,red-home {folder}/a.rows").split(":")[0]
+        full.needs(f"ucl_reporter {folder}/a.rows --mend {row} --yes")
         matches[1] = model.Match()
         matches[1].enter(1, "kickoff")
-        begin()
         desk = full.needs(f"{client}mosquitto_sub -q 1 -C 4 -t ucl/a/desk")
     assert full.run("ucl_follow", desk).output.endswith(model.screen(matches)) and desk.count('"pulse":') >= 2
     full.needs("dpkg -P ucl-board python3-uclboard libuclboard-dev libuclboard1")

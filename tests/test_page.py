@@ -516,10 +516,10 @@ def test_goals(page):
 def test_lines_that_are_old_doubled_cut_or_foreign_and_a_page_that_is_opened_late(page):
     page.play()
     page.shows()
-    journal = (page.site.path / "a.jsonl").read_text().split("\n")[:-1]
-    screens = [line for line in journal if '"reply":"screen"' in line]
+    answers = page.site.done("./ucl_live --format json --screens <a.rows").splitlines()
+    screens = [line for line in answers if '"reply":"screen"' in line]
     page.browser.execute_script(NOTED)
-    for line in [screens[1], screens[-1], "x", "{}", '{"reply":"screen"}', "[" * 500, screens[-1][:-20], journal[-2]]:
+    for line in [screens[1], screens[-1], "x", "{}", '{"reply":"screen"}', "[" * 500, screens[-1][:-20], answers[-2]]:
         page.site.done("mosquitto_pub -q 1 -t ucl/a/desk -s", line)
     page.enter((11, "yellow-home"))
     page.shows()
@@ -541,15 +541,13 @@ def test_what_a_screen_reader_is_told(page):
 
 
 def test_a_board_that_is_begun_again(page):
-    """Without a kick-off, and with another name."""
+    """Without a kick-off, and with another name; the page shows nothing between."""
     page.enter((1, "kickoff"), (2, "kickoff"), (2, "goal-home"))
     page.shows()
-    page.parts[0].kill()
-    page.site.await_no_board()
-    page.site.done("examples/mend a.jsonl 2 1 | sed 's/Alpha/Alfa/' >mended.csv; examples/broker/board --begin a mended.csv")
-    page.parts[0].start()
-    page.matches[1] = model.Match()
+    page.browser.execute_script(NOTED)
+    page.matches = page.site.mend("a", 8, "club,1,Alfa,60000\n")
     page.shows(**shown_of(page.matches, [("Alfa", 60_000), *model.ROSTER[1:]], [1], 1), news="Corrected. Not begun: Delta 0, Alfa 0.")
+    assert page.browser.execute_script("return noted") == ["edition 1, version 1"]
 
 
 @pytest.mark.parametrize("part", ["the board", "the broker", "the server"])
