@@ -3,5 +3,3 @@ pub mod Places
 pub mod OneLine
 pub mod Matches
 pub mod Members
-pub mod BracketsClose
-pub mod CutTexts

@@ -59,10 +59,6 @@ said_of (OneRow row) = of_row (four_of row)
 abbrev pub of_rows : List Fields → Said
 of_rows rows = said_of (only_row rows)
 
--- what a line with its line feed says, where it has this number
-abbrev pub said_by_text : ℕ → List ℕ → Said
-said_by_text row text = said_of (row_by_text row text)
-
 -- what a line says
 abbrev pub said_on : ℕ → List ℕ → Said
 said_on row line = said_of (row_on row line)

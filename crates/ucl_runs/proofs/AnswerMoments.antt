@@ -101,11 +101,6 @@ title-again e r (Some new) is t = elim (renewed e r new is).renews.titled [
 pub sound-next : (e : Evening) (r : Said) → IsSound e → IsSound (next e r)
 sound-next e r g = record { stage = good-after-line e r g.stage; title = title-again e r (again e r) refl g.title }
 
-pub good-after-lines : (e : Evening) (lines : Lines) → IsSound e → IsSound (after_lines e lines)
-unfolding after_lines
-good-after-lines e [] g = g
-good-after-lines e (line ∷ lines) g = good-after-lines (next e (said_on e.row line)) lines (sound-next e (said_on e.row line) g)
-
 pub start-sound : (options : LiveArgs) → IsSound (start_of options)
 start-sound options = record { stage = tt; title = first-title options }
 
@@ -113,10 +108,6 @@ start-sound options = record { stage = tt; title = first-title options }
 
 pub moment-good : (title : Title) (clubs : List NamedClub) (board : List ℕ) → IsTitle title → IsRoster clubs → AreWords board → IsMoment (moment_with title clubs board)
 moment-good title clubs board t is w = record { letter = t.letter; edition = t.edition; clubs = is; words = w; bits = board-fits board w.each }
-
-pub stage-good : (title : Title) (s : Stage) (m : Moment) → IsTitle title → IsGood s → moment_at title s ≡ Some m → IsMoment m
-stage-good title (Open clubs board) m t g e = let same : moment_with title clubs board ≡ m = cc in subst IsMoment same (moment-good title clubs board t g.0 g.1)
-stage-good title s m t g e = cc
 
 -- ---- the numbers of an event that a row asks for
 

@@ -133,32 +133,9 @@ pub not-begun : (o : Option NewBoard) (done : Bool) (head head2 : Heading) (old 
 not-begun None done head head2 old new h is_not = (refl, h.1, h.2)
 not-begun (Some again) done head head2 old new h is_not = cc (h.0, is_not)
 
-pub record IsBegun (o : Option NewBoard) (head : Heading) (table : Table) : Type 0 where
-  pub new : NewBoard
-  pub is : o ≡ Some new
-  pub titled : head.title ≡ new.title
-  pub fresh : head.is_new ≡ true
-  pub clubs : table.roster ≡ new.clubs
-  pub board : table.board ≡ board_of []
-
-pub begun : (o : Option NewBoard) (done : Bool) (head head2 : Heading) (old new : Table) → BeginsAgain o done head head2 old new → done ≡ true → IsBegun o head2 new
-begun None done head head2 old new h done_is = cc (h.0, done_is)
-begun (Some again) done head head2 old new h done_is = record { new = again; is = refl; titled = h.1; fresh = h.2; clubs = h.3; board = h.4 }
-
 module _ (options : LiveArgs) (head : Heading) (row : ℕ) (table : Table) where
   abbrev e : Evening
   e = evening_at options head row (table_seen table)
-
-  pub begun-next : (r : Said) (o : Option NewBoard) (head2 : Heading) (table2 : Table) → again_on head.title head.is_new table.roster r ≡ o → IsBegun o head2 table2
-      → evening_at options head2 (row + 1) (table_seen table2) ≡ next e r
-  begun-next (Row f) o head2 table2 h b =
-      let some = h ∙ b.is in rw (some, b.titled, b.fresh, b.clubs, b.board) refl
-  begun-next r o head2 table2 h b = cc (h, b.is)
-
-  pub begun-text : (r : Said) (o : Option NewBoard) (head2 : Heading) (table2 : Table) (shown : List ℕ) → again_on head.title head.is_new table.roster r ≡ o → IsBegun o head2 table2
-      → answer_said e r shown ≡ []
-  begun-text (Row f) o head2 table2 shown h b = let some = h ∙ b.is in rw some refl
-  begun-text r o head2 table2 shown h b = cc (h, b.is)
 
   pub answered-next : (said : RowFields) (head2 : Heading) (table2 : Table) → again_on head.title head.is_new table.roster (fields_seen said) ≡ None
       → head2.title ≡ head.title → head2.is_new ≡ (head.is_new && is_bad (request_of (fields_seen said)))

@@ -86,7 +86,7 @@ pub use Rattle.ucl_runs.specs.Nights.{IsRefusedAt, TakesPlace, attempt_by, last_
 pub use Rattle.ucl_rows.specs.Reading.{AreJoining, EndsRow, IsBehindEnds, IsFieldBefore}
 pub use Rattle.ucl_rows.specs.Reading.{is_joining}
 pub use Rattle.ucl_runs.specs.Requests.{asked_by, event_or_bad, request_of}
-pub use Rattle.ucl_rows.specs.Rows.{Nothing, Other, Row, Said, fits, of_rows, said_by_text, said_on}
+pub use Rattle.ucl_rows.specs.Rows.{Nothing, Other, Row, Said, fits, of_rows, said_on}
 pub use Rattle.ucl_rows.specs.Run.{IsStopped, TextHas}
 pub use Rattle.ucl_runs.specs.Show.{IsShown}
 pub use Rattle.ucl_runs.specs.Stages.{Beginning, Naming, Open, Refused, Stage, after_beginning, after_club, after_row}
