@@ -1,5 +1,5 @@
 -- What the lines of an evening's answers tell: nothing, or the moment after their line.
-use Rattle.ucl_runs.proofs.Common.{NewBoard, again, answer_by, false, is_bad, next_by, stays_new, title_with}
+use Rattle.ucl_runs.proofs.Common.{NewBoard, again, answer_with, false, is_bad, next_by, stays_new, title_with}
 use Rattle.std.proofs.lemmas.Bool.{cond_both}
 use Rattle.ucl_runs.proofs.Boards.{ranged, AreAttempts, asked, asked-by, event-numbers}
 use Rattle.std.proofs.lemmas.List.Elements.{All-weaker}
@@ -249,7 +249,7 @@ abbrev pub told_after : Evening → Option Moment
 told_after e = told_now e.is_new e.title e.stage
 
 line-by : (e : Evening) (o : Option NewBoard) (r : Said) (shown : List ℕ) → e.options.format ≡ Json → e.row < 2 ^ 64 → IsSound e → IsShown shown
-    → TellsAlone (told_after (next_by e o r)) (answer_by e o r shown)
+    → TellsAlone (told_after (next_by e o r)) (answer_with e o r shown)
 line-by e (Some new) r shown json fits g short = alone-none None
 line-by e None Nothing shown json fits g short = alone-none (told_after (next_by e None Nothing))
 line-by e None Other shown json fits g short = stage-tells e Other shown json fits g short e.stage refl

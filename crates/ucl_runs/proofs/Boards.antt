@@ -20,7 +20,7 @@ use Rattle.ucl_runs.specs.LiveText.{after_lines, answers}
 use Rattle.ucl_runs.specs.ByHistory.{answer_by_history, answers_by_history, attempts_in, line_by_history, reply_by_history}
 use Rattle.ucl_runs.specs.LiveLaws.{BoardsTakeEvents, EveningsAreSequential, RefusedEveningsAreSilent, RepliesAreThoseOfFeed, StayOnTheBoard}
 use Rattle.ucl_runs.proofs.Silence.{refused-shut, silent}
-use Rattle.ucl_runs.proofs.Common.{answer_by}
+use Rattle.ucl_runs.proofs.Common.{answer_with}
 
 -- an event is of a reporter and a match that there are
 
@@ -193,7 +193,7 @@ request-answer options title row clubs history (Event event) shown legal all = e
 request-answer _ _ _ _ _ _ _ _ _ = refl
 
 said-answer : (e : Evening) (clubs : List NamedClub) (history : List Entry) (r : Said) (shown : List ℕ) → IsLegal history → e.stage ≡ Open clubs (board_of history)
-    → answer_by e None r shown ≡ line_by_history e.options e.title e.row clubs history r shown
+    → answer_with e None r shown ≡ line_by_history e.options e.title e.row clubs history r shown
 said-answer e clubs history Nothing shown legal h = refl
 said-answer e clubs history Other shown legal h = rw h refl
 said-answer e clubs history (Row f) shown legal h = rw h (request-answer e.options e.title e.row clubs history (request_of (Row f)) shown legal (asked f))
@@ -221,7 +221,7 @@ text-by-history e [] clubs history legal h stay = refl
 text-by-history e (line ∷ lines) clubs history legal h stay =
     let r = said_on e.row line in
     let later = fold after_attempt history (attempts_on r) in
-    let one = ap (λ (o : Option NewBoard). answer_by e o r (shown_text line)) stay.0 ∙ said-answer e clubs history r (shown_text line) legal h in
+    let one = ap (λ (o : Option NewBoard). answer_with e o r (shown_text line)) stay.0 ∙ said-answer e clubs history r (shown_text line) legal h in
     ap₂ (λ (a b : List ℕ). a ++ b) one
     (text-by-history (next e r) lines clubs later (attempts-legal history (attempts_on r) legal (said-attempts r)) (said-stage e clubs history r legal h stay.0) stay.1
     ∙ ap (λ (t : Title). answers_by_history e.options t (e.row + 1) clubs later lines) (title-stays e r clubs (board_of history) h stay.0))

@@ -93,7 +93,7 @@ pub use Rattle.ucl_runs.specs.Stages.{Beginning, Naming, Open, Refused, Stage, a
 pub use Rattle.ucl_runs.specs.Stages.{after_title, club_said, missing, next_board, next_stage}
 pub use Rattle.ucl_runs.specs.Stages.{with_roster}
 pub use Rattle.ucl_runs.specs.NewBoards.{NewBoard, begins_again}
-pub use Rattle.ucl_runs.specs.LiveText.{again, again_at, answer_by, begun_again, newness_with, next_by, stage_with, stays_new, title_with}
+pub use Rattle.ucl_runs.specs.LiveText.{again, again_at, answer_with, begun_again, newness_with, next_by, stage_with, stays_new, title_with}
 pub use Rattle.ucl_runs.specs.Requests.{is_bad}
 pub use Rattle.ucl_runs.specs.Styles.{styled}
 pub use Rattle.ucl_runs.specs.Titles.{asked_group, asked_title, is_as_asked, is_asked, is_group_row, is_same_order, title_by, title_said}

@@ -1,5 +1,5 @@
 -- In JSON an evening answers by lines of values.
-use Rattle.ucl_runs.proofs.Common.{NewBoard, None, Option, Some, again, answer_by}
+use Rattle.ucl_runs.proofs.Common.{NewBoard, None, Option, Some, again, answer_with}
 use Rattle.std.proofs.lemmas.Bool.{cond_both}
 use Rattle.ucl_runs.proofs.Common.{Accepted, AreLinesOfValues, Bad, Err, Evening, Event, Format, Json, List, LiveArgs, Matches, NamedClub}
 use Rattle.ucl_runs.proofs.Common.{NightEvent, Nothing, Ok, Open, Other, Refusal, Request, Result, Row, Said, Screen, Stage, Title, Words}
@@ -41,7 +41,7 @@ stage-lines : (options : LiveArgs) (title : Title) (row : ℕ) (stage : Stage) (
 stage-lines options title row (Open clubs board) request shown h = request-lines options title row clubs board request shown h
 stage-lines _ _ _ _ _ _ _ = no_lines
 
-said-lines : (e : Evening) (new : Option NewBoard) (said : Said) (shown : List ℕ) → e.options.format ≡ Json → AreLinesOfValues (answer_by e new said shown)
+said-lines : (e : Evening) (new : Option NewBoard) (said : Said) (shown : List ℕ) → e.options.format ≡ Json → AreLinesOfValues (answer_with e new said shown)
 said-lines e (Some new) said shown h = no_lines
 said-lines e None Nothing shown h = no_lines
 said-lines e None Other shown h = stage-lines e.options e.title e.row e.stage (request_of Other) shown h

@@ -1,5 +1,5 @@
 -- Lines that are answered one after the other.
-use Rattle.ucl_runs.proofs.Common.{NewBoard, answer_by, next_by}
+use Rattle.ucl_runs.proofs.Common.{NewBoard, answer_with, next_by}
 use Rattle.ucl_runs.proofs.Common.{Evening, HasNoAnswer, HasNoEnd, List, LiveArgs, LiveFault, Open, Refused, Some, Stage, []}
 use Rattle.ucl_runs.proofs.Common.{after_bytes, answer_said, answers_to, ap, append-nil, append_assoc, arith, begun_append, begun_ended}
 use Rattle.ucl_runs.proofs.Common.{begun_line, ended_append, ended_lines, if◌then◌else◌, last_lines, lines_of, live_text, min, missing}
@@ -112,6 +112,6 @@ some-stops e begun (live.Beginning why) some h =
 pub begins-again : BoardsBeginAgain
 unfolding answers after_lines
 begins-again e line lines new is = record {
-  text = ap (λ (o : Option NewBoard). answer_by e o (said_on e.row line) (shown_text line) ++ answers (next_by e o (said_on e.row line)) lines) is;
+  text = ap (λ (o : Option NewBoard). answer_with e o (said_on e.row line) (shown_text line) ++ answers (next_by e o (said_on e.row line)) lines) is;
   after = ap (λ (o : Option NewBoard). after_lines (next_by e o (said_on e.row line)) lines) is;
 }

@@ -3,7 +3,7 @@ use Rattle.ucl_runs.proofs.Common.{next}
 use Rattle.ucl_runs.proofs.Common.{All, All-cons, All-head, All-nil, All-tail, AreWords, Bad, Bool, Evening, Event, FollowArgs}
 use Rattle.ucl_runs.proofs.Common.{FourFields, HasNumbers, IsAttempt, Json, List, LiveArgs, Matches, Moment, NamedClub}
 use Rattle.ucl_runs.proofs.Common.{NewBoard, NightEvent, None, Nothing, Open, Option, Other, Refusal, Request, Row, Said, Screen, Some}
-use Rattle.ucl_runs.proofs.Common.{Stage, Title, Words, [], after_lines, again, answer_at, answer_by, answer_said, answers, ap}
+use Rattle.ucl_runs.proofs.Common.{Stage, Title, Words, [], after_lines, again, answer_at, answer_with, answer_said, answers, ap}
 use Rattle.ucl_runs.proofs.Common.{append-nil, append_assoc, ap₂, arith, asked_by, attempt_of, begun_line, begun_none}
 use Rattle.ucl_runs.proofs.Common.{board_after, board_of, ended_lines, ended_none, false, flat_map, game_at, inl, inr, is_asked}
 use Rattle.ucl_runs.proofs.Common.{is_later, last_lines, length, length-append, lines_of, moment_at, moment_now, moment_on, moment_with}
@@ -50,7 +50,7 @@ after-later a b c p q = record {
 }
 
 -- the answer to what a row asks for
-by-row : (e : Evening) (r : Said) (shown : List ℕ) (event : NightEvent) → request_of r ≡ Event event → answer_by e None r shown ≡ answer_at e.options e.title e.row e.stage (Event event) shown
+by-row : (e : Evening) (r : Said) (shown : List ℕ) (event : NightEvent) → request_of r ≡ Event event → answer_with e None r shown ≡ answer_at e.options e.title e.row e.stage (Event event) shown
 by-row e (Row f) shown event is = ap (λ (q : Request). answer_at e.options e.title e.row e.stage q shown) is
 by-row e r shown event is = cc
 
@@ -304,7 +304,7 @@ module _ (e : Evening) (r : Said) (shown : List ℕ) (json : e.options.format �
       let screen = screen_after e.options e.title e.row clubs (reply_of (game_at board event.call.game) event.call) (board_after board (attempt_of event)) in
       let line = accepted-reply e.options e.title e.row clubs json fits g.title good.0 board good.1 event attempted small (version_of board) takes.none in
       let whole : text ≡ reply ++ screen =
-      ap (λ (n : Option NewBoard). answer_by e n r shown) none ∙ by-row e r shown event takes.asks
+      ap (λ (n : Option NewBoard). answer_with e n r shown) none ∙ by-row e r shown event takes.asks
       ∙ ap (λ (s : Stage). answer_at e.options e.title e.row s (Event event) shown) stands in
       subst (λ (ls : Lines). Tells ls (moment_with e.title clubs (board_after board (attempt_of event))))
       (sym (ap lines_in whole ∙ lines-then reply screen line.begun ∙ ap (λ (ls : Lines). ls ++ lines_in screen) line.lines_are)) (inl line.told)

@@ -1,5 +1,5 @@
 -- An evening in JSON says what it says as text.
-use Rattle.ucl_runs.proofs.Common.{NewBoard, again, answer_by, stage_with}
+use Rattle.ucl_runs.proofs.Common.{NewBoard, again, answer_with, stage_with}
 use Rattle.ucl_runs.proofs.GoodStages.{IsGood, good-after-line, of-request}
 use Rattle.ucl_runs.proofs.Common.{Accepted, All-append, All-cons, All-head, All-nil, AreWords, Bad, Beginning, Bool, Data, Err, Evening}
 use Rattle.ucl_runs.proofs.Common.{Event, IsAttempt, Json, List, LiveArgs, Matches, NamedClub, NightEvent, None, Nothing, Ok, Open, Option}
@@ -146,7 +146,7 @@ text-next : (e : Evening) (r : Said) → next (text_of e) r ≡ text_of (next e 
 text-next e r = cc (ap (λ (s : Stage). stage_with (again e r) s) (stage-text e.options e.row e.stage r))
 
 said-lines : (e : Evening) (new : Option NewBoard) (r : Said) (shown : List ℕ) → e.options.format ≡ Json → IsGood e.stage
-    → AreLinesSaying (answer_by (text_of e) new r shown) (answer_by e new r shown)
+    → AreLinesSaying (answer_with (text_of e) new r shown) (answer_with e new r shown)
 said-lines e (Some new) r shown h g = no-lines
 said-lines e None Nothing shown h g = no-lines
 said-lines e None Other shown h g = stage-lines e.options e.title e.row e.stage Other shown h g

@@ -1,5 +1,5 @@
 -- An evening whose board is not open has answered nothing, and one that is refused stays so.
-use Rattle.ucl_runs.proofs.Common.{NewBoard, None, answer_by, next_by, stage_with}
+use Rattle.ucl_runs.proofs.Common.{NewBoard, None, answer_with, next_by, stage_with}
 use Rattle.ucl_runs.proofs.Common.{Beginning, BeginningFault, Bool, Evening, List, LiveArgs, Naming, Nothing, Open, Other, Refused}
 use Rattle.ucl_runs.proofs.Common.{Row, Said, Some, Stage, [], after_row, answer_at, answer_said, ap, cases_Bool, false, inl, Option}
 use Rattle.ucl_runs.proofs.Common.{inr, missing, next, next_stage, refl, request_of, said_on, shown_text, true, ℕ, ◌∙◌, ◌∷◌, ◌≡◌, again}
@@ -40,7 +40,7 @@ silent-at : (e : Evening) (s : Stage) (r : Said) (shown : List ℕ) → is_open 
 silent-at e (Open clubs board) r shown h = cc
 silent-at _ _ _ _ _ = refl
 
-silent-by : (e : Evening) (o : Option NewBoard) (r : Said) (shown : List ℕ) → is_open (next_by e o r).stage ≡ false → answer_by e o r shown ≡ []
+silent-by : (e : Evening) (o : Option NewBoard) (r : Said) (shown : List ℕ) → is_open (next_by e o r).stage ≡ false → answer_with e o r shown ≡ []
 silent-by e (Some new) r shown h = refl
 silent-by e None Nothing shown h = refl
 silent-by e None Other shown h = silent-at e e.stage Other shown (shut-row e.options e.row e.stage Other h)

@@ -77,14 +77,14 @@ again e Other = None
 again e (Row f) = again_at e.title e.is_new e.stage f
 
 -- the answer to what a line says that is shown so: a row that begins the board again has none
-abbrev pub answer_by : Evening → Option NewBoard → Said → List ℕ → List ℕ
-answer_by e (Some new) said shown = []
-answer_by e None Nothing shown = []
-answer_by e None Other shown = answer_at e.options e.title e.row e.stage (request_of Other) shown
-answer_by e None (Row f) shown = answer_at e.options e.title e.row e.stage (request_of (Row f)) shown
+abbrev pub answer_with : Evening → Option NewBoard → Said → List ℕ → List ℕ
+answer_with e (Some new) said shown = []
+answer_with e None Nothing shown = []
+answer_with e None Other shown = answer_at e.options e.title e.row e.stage (request_of Other) shown
+answer_with e None (Row f) shown = answer_at e.options e.title e.row e.stage (request_of (Row f)) shown
 
 abbrev pub answer_said : Evening → Said → List ℕ → List ℕ
-answer_said e said shown = answer_by e (again e said) said shown
+answer_said e said shown = answer_with e (again e said) said shown
 
 -- ---- the evening after a line
 
