@@ -150,7 +150,7 @@ class Hall:
 
     def rows(self):
         """The rows of the record."""
-        return text_of(self.record).splitlines(True)
+        return re.findall(r"[^\n]*\n|[^\n]+$", text_of(self.record))
 
     def evening(self):
         """The board of the record by the rules, and the answers to its rows."""
@@ -231,7 +231,7 @@ REFUSALS = {
     "3 result 1-0": "match 3 has events", "1 disallow away": "the away side of match 1 has no goal", "4 red home": "has as many as a board counts", "1 gaol home": "1 goal home?", "1 goal hoem": "1 goal home?",
     "1 kick off": "1 kickoff?", "2 resutl 1-0": "2 result?", "1 corner flag": "help shows them all", "goal home": "help shows them all", "mned 17": "mend?", "clbu 2 X": "club?",
     "13 goal home": "there is no match 13: they are 1 to 12", "0": "there is no match 0", "5 result 2-x": "a result is 1 result 2-1", "5 result 64-0": "a result is 1 result 2-1",
-    "5 result 1-0 reds 0-32": "a result is 1 result 2-1", "mend 99": "row 99 is no event that was accepted in edition 0", "mend 5": "row 5 is no event", "mend edition 4": "this record has no edition 4",
+    "5 result 1-0 reds 0-32": "a result is 1 result 2-1", "mend 99": "row 99 is no event accepted in edition 0", "mend 5": "row 5 is no event", "mend edition 4": "this record has no edition 4",
     "mend it": "the clubs are 1 Alpha 60000, 2 Bravo 95000", "club 2 Málaga": "without accents", "club 5 X": "club 2 Real Madrid", "coefficient 1 1000000": "at most 999999", "1,1,2,goal-home": "no event of reporter 7",
     "7,1,9,goal-home": "match 1 has event number 2 by now, and you had seen 9", "help": "--mend takes what stands above",
 }
@@ -297,7 +297,7 @@ def test_a_goal_that_is_typed_while_another_mends(hall):
     both = hall(STARTED + "2,1,3,goal-home\n")
     one, two = both.reporter(), both.reporter("--number", "2")
     two.type("1 goal home")
-    one.enter("mend 7", "y or n>").enter("y", "Edition 1 has begun")
+    one.enter("mend 7", "is this one").enter("y", "Edition 1 has begun")
     one.enter("1 yellow home", "entered")
     two.sees("Edition 1 has begun")
     two.enter("", "1 goal home             dropped: edition 1 has begun; look at the match, and type it again if it still holds")
@@ -307,7 +307,7 @@ def test_a_goal_that_is_typed_while_another_mends(hall):
 
 def test_an_edition_of_which_no_screen_has_come(hall):
     """It is seen in the record itself, however its row is written, and also by who has not read it yet."""
-    for row in "group,B,uefa,1\n", '"group","B",uefa,"1"\r\n', '"gro"up,B,uefa,00001\n':
+    for row in "group,B,uefa,1\n", '"group","B",uefa,"1"\r\n', '"gro"up,B,uefa,00001\n', "\r\rgroup,B,uefa,1\n":
         late = hall(STARTED)
         one = late.reporter()
         one.process.send_signal(signal.SIGSTOP)
@@ -315,8 +315,8 @@ def test_an_edition_of_which_no_screen_has_come(hall):
         with open(late.record, "a") as file:
             file.write(row)
         one.process.send_signal(signal.SIGCONT)
-        one.sees("Edition 1 has begun").sees("EDITION 1").end()
-        assert late.rows()[8:] == [row] or late.rows()[8:] == ["1,1,3,goal-home\n", row]
+        one.sees("Edition 1 has begun").sees("EDITION 1").sees("1 goal home             dropped: edition 1 has begun").end()
+        assert late.rows()[8:] == [row]
     for row in "group,B,uefa,0\n", "group,A,uefa,1\n", "group,B,away-in-tie,1\n", "group,B,uefa,65536\n", "group,B,uefa,1,\n", "club,1,Other,1\n":
         other = hall(STARTED + row)
         one = other.reporter().enter("1 red away", "entered, row 10")
@@ -328,13 +328,13 @@ def test_two_who_mend_at_once(hall):
     """The second is shown what it would be by now, and asked again."""
     both = hall(STARTED)
     one, two, three = both.reporter(), both.reporter("--number", "2"), both.reporter("--number", "3")
-    one.enter("mend 7", "append it? y or n>")
-    two.enter("club 2 Real Madrid", "append it? y or n>")
-    three.enter("mend 7", "append it? y or n>")
+    one.enter("mend 7", "is this one")
+    two.enter("club 2 Real Madrid", "is this one")
+    three.enter("mend 7", "is this one")
     one.enter("y", "Edition 1 has begun")
     two.enter("y", "rows have come since, so look at it again").sees("Edition 2 is this one")
     assert "Real Madrid" not in text_of(both.record)
-    three.enter("y", "row 7 is no event that was accepted in edition 1")
+    three.enter("y", "row 7 is no event accepted in edition 1")
     two.enter("y", "Edition 2 has begun")
     assert [*map(str.strip, both.rows()[8:])] == ["group,B,uefa,1", "1,1,0,kickoff", "1,1,1,goal-away", "screen,,,", "group,B,uefa,2", "club,2,Real Madrid,95000", *"1,1,0,kickoff 1,1,1,goal-away screen,,,".split()]
     one.sees("Edition 2 has begun")
@@ -345,12 +345,12 @@ def test_a_goal_that_comes_while_it_is_asked(hall):
     """The block is worked out again, and shown again, so the goal is in it; n leaves all as it is."""
     both = hall(STARTED)
     one, two = both.reporter(), both.reporter("--number", "2")
-    one.enter("mend 7", "append it? y or n>")
+    one.enter("mend 7", "is this one")
     assert shown(evening_of("".join(both.rows()))[0]) in one.text() and "GROUP B v00002 IN PLAY 1 EDITION 1" in one.text()
     two.enter("1 goal away", "entered, row 9")
     one.enter("y", "rows have come since")
     assert len(both.rows()) == 9
-    one.enter("n", "Nothing is appended").enter("mend 7", "append it?").enter("yes", "Edition 1 has begun")
+    one.enter("n", "Nothing is appended").enter("mend 7", "is this one").enter("yes", "Edition 1 has begun")
     assert both.rows()[9:] == ["group,B,uefa,1\n", "1,1,0,kickoff\n", "1,1,1,goal-away\n", "2,1,2,goal-away\n", "screen,,,\n"]
 
 
@@ -373,7 +373,7 @@ def test_a_matchday_with_mistakes(hall):
             one.enter(wrong, f"entered, row {count + 1}: ")
         edition = day.evening()[0].style.edition + 1
         if mend.split()[0] in ("mend", "club", "coefficient"):
-            one.enter(mend.format(row=count + 1), "append it? y or n>").enter("y", f"Edition {edition} has begun")
+            one.enter(mend.format(row=count + 1), "is this one").enter("y", f"Edition {edition} has begun")
         else:
             one.enter(mend, f"entered, row {count + 2}")
         if right:
@@ -398,7 +398,7 @@ def test_mend_without_a_terminal(hall):
     cards = BEGUN + "".join(f"3,1,{n},{it}\n" for n, it in enumerate("kickoff yellow-home second-yellow-home goal-home second-yellow-home".split())) + "3,2,0,kickoff\n3,1,4,fulltime\n"
     mend = hall(cards)
     asked = mend.run("--mend", "7")
-    assert asked.status == 1 and asked.errors == "ucl_reporter: nothing is appended: add --yes to append it\n" and text_of(mend.record) == cards
+    assert asked.status == 1 and asked.errors == "ucl_reporter: nothing is appended; with --yes it is, without a question\n" and text_of(mend.record) == cards
     assert "left out: row 7: 1 yellow home by reporter 3\nleft out too, since it needs what is left out: row 8: 1 second yellow home by reporter 3\n" in asked.output
     ran = mend.run("--mend", "7", "--yes")
     rows = ["group,B,uefa,1\n", "3,1,0,kickoff\n", "3,1,1,goal-home\n", "3,2,0,kickoff\n", "3,1,2,fulltime\n", "screen,,,\n"]
@@ -410,7 +410,7 @@ def test_mend_without_a_terminal(hall):
     assert mend.rows()[18:] == [
         titles[0], 'club,2,"A, ""b""",95000\n', *rows[1:], titles[1], "club,4,Delta,0\n", *rows[1:], titles[2], *rows[1:],
         titles[3], "club,2,Bravo,95000\n", "club,4,Delta,81500\n", *(row for n, row in enumerate(cards.splitlines(True)[5:]) if n != 4), "screen,,,\n"]
-    assert mend.run("--mend", "7", "--yes").errors.startswith("ucl_reporter: row 7 is no event that was accepted in edition 5;") and mend.run("--mend", "8x").status == 1
+    assert mend.run("--mend", "7", "--yes").errors.startswith("ucl_reporter: row 7 is no event accepted in edition 5;") and mend.run("--mend", "8x").status == 1
     last = hall(STARTED.replace("uefa,0", "uefa,65535"))
     assert last.run("--mend", "7", "--yes") == Run(1, "", "ucl_reporter: edition 65535 is the last that there is\n")
 
@@ -464,7 +464,7 @@ def test_without_a_terminal(hall):
 def test_command_lines_and_files(hall):
     """What is no command line; no record, none that begins a board; a `ucl_live` that is not there, or not built."""
     words = hall()
-    assert words.run("--help").output.startswith("usage: ./ucl_reporter [--number N]") and words.run("--number", "256").status == 2 and words.run("--matches", "0").status == 2
+    assert words.run("--help").output.startswith("usage: ./ucl_reporter RECORD [--number N]") and words.run("--number", "256").status == 2 and words.run("--matches", "0").status == 2
     assert words.run() == words.run("--mend", "7") == Run(1, "", "ucl_reporter: there is no evening.csv; type ./ucl_reporter evening.csv at a terminal to begin it\n")
     for text, fault in ("", "row 1"), (TITLE + "1,1,0,kickoff\n", "row 2"), ("not a record\n", "row 1"), ("\0\xff\n", "row 1"):
         assert hall(text).run().errors == f"ucl_reporter: evening.csv has no board, or ucl_live failed: input refused 20: {fault}\n"
@@ -545,7 +545,7 @@ def test_who_appends_waits_for_the_lock(hall):
         time.sleep(0.5)
         assert text_of(held.record) == STARTED
     one.sees("entered, row 9")
-    one.enter("mend 7", "append it?")
+    one.enter("mend 7", "is this one")
     with open(held.record) as file:
         fcntl.flock(file, fcntl.LOCK_EX | fcntl.LOCK_NB)
 
@@ -589,7 +589,7 @@ def test_a_block_that_was_cut_off(hall):
             one = torn.reporter()
             assert "Edition 1 was cut off while it was written, or begun by hand; to go back to the one before type mend edition 0" in one.text()
             assert one.board().startswith(shown(evening_of("".join(rows[: 9 + kept]))[0]))
-            one.enter("mend edition 0", "append it?").enter("y", "Edition 2 has begun").end()
+            one.enter("mend edition 0", "is this one").enter("y", "Edition 2 has begun").end()
             assert shown(torn.evening()[0]) == before.replace("\n", " EDITION 2\n", 1) and torn.evening()[0].roster == ROSTER
     assert "cut off" not in hall("".join(rows)).reporter().text()
 
