@@ -345,7 +345,7 @@ def test_a_goal_that_comes_while_it_is_asked(hall):
     """The block is worked out again, and shown again, so the goal is in it; n leaves all as it is."""
     both = hall(STARTED)
     one, two = both.reporter(), both.reporter("--number", "2")
-    one.enter("mend 7", "is this one")
+    one.enter("mend 7", "is this one").sees("append it? y or n> ")
     assert shown(evening_of("".join(both.rows()))[0]) in one.text() and "GROUP B v00002 IN PLAY 1 EDITION 1" in one.text()
     two.enter("1 goal away", "entered, row 9")
     one.enter("y", "rows have come since")
