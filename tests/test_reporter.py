@@ -1,8 +1,8 @@
 """`ucl_reporter`: the record that a person keeps at a terminal, alone and with others, through mistakes, crashes and what else is written into it."""
 
+import concurrent.futures
 import contextlib
 import fcntl
-import json
 import os
 import pathlib
 import pty
@@ -199,7 +199,7 @@ def test_the_first_evening(hall):
     """From nothing: what is asked, the record that is made, a match, its table; and the same line goes on the next day."""
     first = hall()
     one = first.terminal()
-    answers = [("Group", "x", "a letter from A to H"), ("Group", "b", "Order"), ("", "uefa", "slot 1"), ("", "Atlético", "without accents, digits"), ("", "Alpha", "coefficient"),
+    answers = [("group", "x", "a letter from A to H"), ("group", "b", "Order"), ("", "uefa", "slot 1"), ("", "Atlético", "without accents, digits"), ("", "Alpha", "coefficient"),
                ("", "35,500", "whole number"), ("", "60.000", "slot 2"), ("", "Bravo", "coefficient"), ("", "95000", "slot 3"), ("", 'Char, "lie"', "coefficient"),
                ("", "", "slot 4"), ("", "Delta", "coefficient"), ("", "81500", "Ctrl-D ends")]
     for question, typed, answer in answers:
@@ -218,7 +218,7 @@ def test_the_first_evening(hall):
 
 def test_a_record_that_another_begins_meanwhile_stays(hall):
     both = hall()
-    one = both.terminal().sees("Group").enter("A", "Order").enter("", "slot 1")
+    one = both.terminal().sees("group").enter("A", "Order").enter("", "slot 1")
     both.record.write_text(STARTED)
     for name in "KLMN":
         one.enter(name, "coefficient").enter("", "slot" if name != "N" else "Ctrl-D ends")
@@ -254,6 +254,20 @@ def test_lines_that_are_pasted(hall):
     pasted.reporter().type("1 kickoff\n1 goal home\n1 goal awway\x7f\x7f\x7fay\nrubbish\x151 red home\n\x1b[A1 fulltime\n")
     pasted.terminals[0].sees("1 fulltime              entered, row 10")
     assert [row[4:] for row in pasted.rows()[5:]] == ["0,kickoff\n", "1,goal-home\n", "2,goal-away\n", "3,red-home\n", "4,fulltime\n"]
+
+
+def test_whatever_is_typed(hall):
+    """Nothing that is typed ends it, and no row that comes of it is a bad one."""
+    odd, chance = hall(STARTED), random.Random(11)
+    words = "1 2 3 13 999999999999 kickoff goal home away yellow red second-yellow fulltime reopen result 2-1 1-1 yellows mend 7 9 12 edition 0 club coefficient 61000 X".split()
+    words += ["", "y", "n", "y", "help", "1,1,3,red-home", "1,1,70000,red-home", "1,13,0,x", "\x1b[A", "\x7f", "\x15", "\t", "é", "²", "٣", ",", '"']
+    one = odd.reporter()
+    for number in range(120):
+        one.type("n\nmend\ny\n" if number % 40 == 20 else " ".join(chance.choices(words, k=chance.choice([1, 1, 2, 3, 3, 3, 4, 5]))) + "\n")
+        one.read(0.02)
+    assert one.end("n\n\x04") == 0 and "Traceback" not in one.text()
+    evening, answers = odd.evening()
+    assert not any("bad-row" in it for it in answers) and evening.style.edition > 0 and odd.watched() == odd.table()
 
 
 def test_a_result(hall):
@@ -651,56 +665,52 @@ def pids_below(process):
     return []
 
 
-def killed_once(hall, chance, rows):
-    """Gives rows to the program, and kills it or its `ucl_live`. What it wrote."""
-    started = subprocess.Popen(["./ucl_reporter", "evening.csv"], cwd=hall.path, stdin=subprocess.PIPE, stdout=subprocess.PIPE, stderr=subprocess.PIPE)
-    with contextlib.suppress(BrokenPipeError):
+def killed_once(hall, chance, rows, start):
+    """Gives rows to the program, and kills it, or its `ucl_live` first, in about the time that a start takes. What it wrote and told."""
+    pipes = dict.fromkeys(("stdin", "stdout", "stderr"), subprocess.PIPE)
+    with subprocess.Popen(["./ucl_reporter", "evening.csv"], cwd=hall.path, bufsize=0, **pipes) as started:
         started.stdin.write("".join(rows).encode())
-        started.stdin.close()
-    time.sleep(chance.uniform(0, 0.3))
-    for pid in pids_below(started.pid) if chance.random() < 0.5 else []:
-        with contextlib.suppress(OSError):
-            os.kill(pid, signal.SIGKILL)
-        time.sleep(chance.uniform(0, 0.2))
-    started.kill()
-    with started:
+        time.sleep(chance.uniform(0, 1.5 * start))
+        for pid in pids_below(started.pid) if chance.random() < 0.5 else []:
+            with contextlib.suppress(OSError):
+                os.kill(pid, signal.SIGKILL)
+            time.sleep(chance.uniform(0, 0.5 * start))
+        started.kill()
         return started.stdout.read().decode(), started.stderr.read().decode()
 
 
-@pytest.mark.limit(150)
+def night_of_kills(hall, seed, end):
+    """Enters an evening through as many kills as there is time for, 250 at most. How many there were, and how many rows were answered."""
+    chance, kills, answered = random.Random(seed), 0, {}
+    rows = [re.sub("^2", "1", row) for row in random_rows(chance, 4000)]
+    begun = time.monotonic()
+    assert hall.run(input=rows[0]).status == 0
+    start = time.monotonic() - begun
+    while time.monotonic() < end and kills < 250:
+        accepted = len(hall.rows()) - 5
+        output, errors = killed_once(hall, chance, rows[max(0, accepted - 5) : accepted + 60], start)
+        assert errors == "" and "refused" not in output
+        answered.update({int(row): text for text, row in re.findall(r"^(\S+) +entered, row (\d+):", output, re.M)})
+        kills += 1
+        assert kills % 25 or hall.watched() == hall.table()
+    lines, accepted = hall.rows(), {int(it.split()[0]) for it in hall.evening()[1] if " ok " in it}
+    assert all(lines[row - 1].strip() == text and row in accepted for row, text in answered.items()) and hall.watched() == hall.table()
+    return kills, len(answered)
+
+
+@pytest.mark.limit(200)
 def test_kills(hall, tmp_path):
     """A thousand kills, or as many as a minute has: no answered row is lost, and after each start the table is that of the record."""
-    end, ends = time.monotonic() + 40, []
-
-    def night(seed):
-        folder = tmp_path / str(seed)
-        folder.mkdir()
+    hall()
+    for seed in range(4):
+        (tmp_path / str(seed)).mkdir()
         for name in "ucl_live", "ucl_reporter":
-            (folder / name).symlink_to(tmp_path / name)
-        chance, mine, kills, answered = random.Random(seed), Hall(folder, BEGUN), 0, set()
-        rows = [re.sub("^2", "1", row) for row in random_rows(chance, 2000)]
-        at = 0
-        while time.monotonic() < end and kills < 250:
-            at = max(0, len(mine.rows()) - 25)
-            output, errors = killed_once(mine, chance, rows[at : at + 60])
-            assert errors == "" and "refused" not in output, (output, errors)
-            answered |= {(line.split(" ")[0].strip(), int(line.split("entered, row ")[1].split(":")[0])) for line in output.splitlines() if "entered, row" in line and ":" in line}
-            kills += 1
-            if kills % 25 == 0:
-                assert mine.watched() == mine.table()
-        lines = mine.rows()
-        assert all(lines[row - 1].strip() == text for text, row in answered) and mine.watched() == mine.table() and len(answered) > 5
-        accepted = {int(it.split()[0]) for it in mine.evening()[1] if " ok " in it}
-        assert {row for _, row in answered} <= accepted
-        ends.append(kills)
-
-    threads = [threading.Thread(target=night, args=[seed]) for seed in range(4)]
-    for thread in threads:
-        thread.start()
-    for thread in threads:
-        thread.join()
-    assert len(ends) == 4, "a night has failed"
-    print(f"{sum(ends)} kills")
+            (tmp_path / str(seed) / name).symlink_to(tmp_path / name)
+    with concurrent.futures.ThreadPoolExecutor() as all_at_once:
+        end = time.monotonic() + 45
+        nights = [*all_at_once.map(lambda seed: night_of_kills(Hall(tmp_path / str(seed), BEGUN), seed, end), range(4))]
+    print(nights)
+    assert all(kills > 10 and answered > 10 for kills, answered in nights)
 
 
 def test_ucl_live_is_killed_at_a_terminal(hall):
