@@ -26,26 +26,24 @@ pytestmark = pytest.mark.limit(100)
 TITLE = "group,B,uefa,0\n"
 BEGUN = TITLE + model.CLUBS
 STARTED = BEGUN + "1,1,0,kickoff\n1,1,1,goal-home\n1,1,2,goal-away\n"
-# What a program does with files, in the order in which it does it, a line each.
+# Has the program note what it does with the lock, the record, the disk and its output, in turn, a line each.
 LOG = """import fcntl, os, sys
 if sys.argv[0].endswith("ucl_reporter"):
     log = open("calls", "a")
-    def told(name, call):
+    def noted(name, call):
         def made(file, *more):
-            if name != "write" or file > 2 and os.path.isfile(f"/proc/self/fd/{file}"):
-                print(name, *([len(more[0])] if name == "write" else more if name == "flock" else []), file=log, flush=True)
-            elif file == 1:
-                print("show", file=log, flush=True)
+            if name != "write" or os.path.isfile(f"/proc/self/fd/{file}"):
+                print(name, *(map(len, more) if name == "write" else more), file=log, flush=True)
             return call(file, *more)
         return made
-    os.write, os.fsync, fcntl.flock = told("write", os.write), told("fsync", os.fsync), told("flock", fcntl.flock)
-    class Shown:
+    os.write, os.fsync, fcntl.flock = noted("write", os.write), noted("fsync", os.fsync), noted("flock", fcntl.flock)
+    class Output:
         def write(self, text):
-            print("show", text.split("\\n")[0], file=log, flush=True)
+            print("show", file=log, flush=True)
             return sys.__stdout__.write(text)
         def __getattr__(self, name):
             return getattr(sys.__stdout__, name)
-    sys.stdout = Shown()
+    sys.stdout = Output()
 """
 
 
@@ -510,6 +508,14 @@ def test_a_record_that_does_not_only_grow(hall, change):
     assert one.process.wait(10) == 1
 
 
+def test_mend_at_a_terminal(hall):
+    """It asks there too, and nothing but y is yes."""
+    mend = hall(STARTED)
+    for typed, told in ("no", "nothing is appended"), ("y", "It has begun"):
+        mend.terminal("--mend", "7").sees("append it? y or n> ").enter(typed, told)
+    assert mend.rows()[8:] == ["group,B,uefa,1\n", "1,1,0,kickoff\n", "1,1,1,goal-away\n", "screen,,,\n"]
+
+
 def test_watch_waits_for_its_record(hall):
     """A screen may be started first; it takes no input."""
     late = hall()
@@ -539,7 +545,7 @@ def test_rows_are_forced_to_the_disk_under_the_lock_before_they_are_answered(hal
     writes = [place for place, it in enumerate(typed) if it.startswith("write")]
     assert [typed[at] for at in writes] == ["write 15", "write 45"]
     for at in writes:
-        assert typed[at - 1] == f"flock {fcntl.LOCK_EX}" and typed[at + 1 : at + 3] == ["fsync", f"flock {fcntl.LOCK_UN}"] and typed[at + 3].startswith("show ")
+        assert typed[at - 1] == f"flock {fcntl.LOCK_EX}" and typed[at + 1 : at + 3] == ["fsync", f"flock {fcntl.LOCK_UN}"] and typed[at + 3] == "show"
 
 
 def test_an_edition_is_one_write(hall):
