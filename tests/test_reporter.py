@@ -720,11 +720,14 @@ def test_kills(hall, tmp_path):
 
 
 def test_ucl_live_is_killed_at_a_terminal(hall):
-    """It is started again, and nothing is missing."""
-    shot = hall(STARTED)
-    one = shot.reporter()
-    for number in range(9, 14):
+    """It is started again, nothing is missing, and no table is shown that is older than one before."""
+    shot = hall(BEGUN + "".join(random_rows(random.Random(3), 200)))
+    one = shot.reporter("--number", "9")
+    for number in range(206, 211):
         for pid in pids_below(one.process.pid):
             os.kill(pid, signal.SIGKILL)
-        one.enter("1 red home", f"entered, row {number}")
-    assert one.board().startswith(shot.table())
+        one.enter("result", "this is no event")
+        shot.run("--number", "8", input="12 disallow home\n" if number % 2 else "12 goal home\n")
+        one.sees(f"row {number}: 12 ")
+    versions = re.findall(r"GROUP B v(\d+)", one.raw)
+    assert one.board().startswith(shot.table()) and versions == sorted(versions) and versions[-1] > "00203"
