@@ -716,7 +716,7 @@ def test_kills(hall, tmp_path):
         end = time.monotonic() + 45
         nights = [*all_at_once.map(lambda seed: night_of_kills(Hall(tmp_path / str(seed), BEGUN), seed, end), range(4))]
     print(nights)
-    assert all(kills > 10 and answered > 10 for kills, answered in nights)
+    assert all(kills > 2 and answered > 10 for kills, answered in nights)
 
 
 def test_ucl_live_is_killed_at_a_terminal(hall):
