@@ -407,6 +407,8 @@ class Evening:
     def __init__(self, words):
         self.is_json, self.with_screens, self.style = "json" in words, "--screens" in words, Style(words)
         self.roster, self.given, self.matches, self.begun, self.resumed = [], [], None, False, "--resumed" in words
+        # Whether nothing has come of the edition that stands but its row, clubs and bad rows.
+        self.is_new = True
 
     def told(self, row, members, text):
         """An answer in its form."""
@@ -455,12 +457,30 @@ class Evening:
             self.matches = matches_of(self.given)
         return True
 
+    def turned(self, fields):
+        """Takes the row of a later edition, or of a club before anything else of its edition; False where the row is neither."""
+        style, slot = self.style, number(fields[1], 1, 1, 4) if len(fields) == 4 else None
+        if len(fields) == 4 and fields[:3] == ["group", style.group, style.order]:
+            edition = number(fields[3], 5, style.edition + 1, 65_535)
+            if edition:
+                style.edition, self.matches, self.is_new = edition, fresh(), True
+            return edition is not None
+        said = club(fields, slot) if self.is_new and slot else None
+        roster = [*self.roster[: slot - 1], said, *self.roster[slot:]] if said else []
+        if not said or bad_slots(roster):
+            return False
+        self.roster = roster
+        return True
+
     def answers(self, row, line):
         """The answers to a line."""
         fields = fields_on(row, line)
         if fields is None or self.beginning(row, fields):
             return []
         self.matches = self.matches or fresh()
+        if self.turned(fields):
+            return []
+        self.is_new &= event(fields) is None and fields not in [[asked, "", "", ""] for asked in ("screen", "words", "matches")]
         if fields == ["screen", "", "", ""]:
             return self.shown(row)
         if fields == ["words", "", "", ""]:
