@@ -8,7 +8,7 @@ use std::alloc::Global;
 use std::process::Abort;
 use std::test::Fail;
 use ucl_command::Format;
-use ucl_devices::{Cut, Full};
+use ucl_devices::{Cut, Full, STORED, STORED_REPLIES};
 
 /// How many bytes answer the rows that have an end within so many bytes, of rows and their answers.
 fn answered_within(rows: &[(&str, &str)], bytes: usize) -> usize {
@@ -51,6 +51,18 @@ fn assert_cut(
         );
     }
     Ok(())
+}
+
+#[test]
+fn stored_run(rt: HostRuntime) -> Result<(), Fail> {
+    let mut rows = vec![in rt.alloc(); (CLUBS, "")]?;
+    for answered in STORED
+        .split_inclusive('\n')
+        .zip(STORED_REPLIES.split_inclusive('\n'))
+    {
+        rows.push(answered)?;
+    }
+    assert_cut(&rt, rt.alloc(), (Format::Text, false), &rows)
 }
 
 #[test]

@@ -16,7 +16,6 @@ fn options_of(format: Format, screens: bool) -> LiveArgs {
     LiveArgs {
         group: None,
         profile: None,
-        resumed: false,
         screens,
         format,
     }
@@ -75,7 +74,7 @@ pub fn has_broken_off(held: &Held, text: &str, bytes: usize, written: usize) -> 
         && Some(out.as_slice()) == text.as_bytes().get(..written)
 }
 
-/// Whether the clubs or the words of an evening were refused by this fault, and nothing was written.
+/// Whether the clubs of an evening were refused by this fault, and nothing was written.
 pub fn has_refused(held: &Held, fault: BeginningFault) -> bool {
     let (answer, out) = held;
     matches!(answer, Err(PumpFault::Machine(LiveFault::Beginning(found))) if *found == fault)

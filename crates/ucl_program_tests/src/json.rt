@@ -159,6 +159,9 @@ fn answers_in_json(rt: HostRuntime) -> Result<(), Fail> {
     Ok(())
 }
 
+/// Rows of a kick-off, a goal and the screen.
+pub(crate) const GOAL_AND_SCREEN: &str = "1,1,0,kickoff\n1,1,1,goal-home\nscreen,,,\n";
+
 /// Names with quotes and backslashes, as they stand in a row and in JSON.
 static NAMES: [(&str, &str); 3] = [
     ("\"Al\"\"p\\h/a\"", "\"Al\\\"p\\\\h/a\""),
@@ -166,36 +169,39 @@ static NAMES: [(&str, &str); 3] = [
     ("\\n{}[]:\u{7e}", "\"\\\\n{}[]:\u{7e}\""),
 ];
 
+/// The answers to a kick-off, a goal and then the screen at these rows.
+pub(crate) fn goal_and_screen(
+    alloc: Global,
+    name: &str,
+    [first, second, third]: [&str; 3],
+) -> Result<String, Fail> {
+    let first = accepted(alloc, first, name, "1", KICKED_OFF)?;
+    let second = accepted(alloc, second, name, "2", ONE_GOAL)?;
+    let third = screen_at(alloc, third, name)?;
+    let text = joined(alloc, &[first.as_str(), second.as_str(), third.as_str()])?;
+    Ok(text)
+}
+
 #[test]
 fn names_are_escaped(rt: HostRuntime) -> Result<(), Fail> {
     let alloc = rt.alloc();
     for (field, name) in NAMES.as_slice() {
         let clubs = CLUBS.replace(alloc, "Alpha", field)?;
-        let text = joined(
-            alloc,
-            &[
-                clubs.as_str(),
-                "1,1,0,kickoff\n1,1,1,goal-home\nscreen,,,\n",
-            ],
-        )?;
-        let first = accepted(alloc, "5", name, "1", KICKED_OFF)?;
-        let second = accepted(alloc, "6", name, "2", ONE_GOAL)?;
-        let screen = screen_at(alloc, "7", name)?;
-        let wanted = joined(alloc, &[first.as_str(), second.as_str(), screen.as_str()])?;
+        let text = joined(alloc, &[clubs.as_str(), GOAL_AND_SCREEN])?;
+        let wanted = goal_and_screen(alloc, name, ["5", "6", "7"])?;
         let evening = held(alloc, Format::Json, text.as_bytes(), usize::MAX);
         assert!(rt; has_written(&evening, wanted.as_str()), "at {field}");
     }
     Ok(())
 }
 
-/// Asserts that an evening in JSON, with the screen after each accepted event, writes just the front of its text that fits: before each object
-/// and each line feed, and at each eleventh byte.
+/// Asserts that an evening in JSON writes just the front of its text that fits: before each object and each line feed, and at each eleventh byte.
 fn assert_stops(rt: &impl Abort, alloc: Global, text: &str, wanted: &str, full: Full) {
     for (room, byte) in wanted.bytes().enumerate() {
         if room % 11 != 0 && byte != b'\n' && byte != b'{' {
             continue;
         }
-        let evening = held_with(alloc, (Format::Json, true), text.as_bytes(), room, full);
+        let evening = held_with(alloc, (Format::Json, false), text.as_bytes(), room, full);
         assert!(rt; has_stopped(&evening, wanted, room), "{full:?} at {room}");
     }
 }
@@ -203,12 +209,8 @@ fn assert_stops(rt: &impl Abort, alloc: Global, text: &str, wanted: &str, full: 
 #[test]
 fn full_outputs_of_json(rt: HostRuntime) -> Result<(), Fail> {
     let alloc = rt.alloc();
-    let words =
-        "word,1,2001000000001001,\nword,2,2000000000000000,\nword,3,2000000000000000,\nword,4,2000000000000000,\nword,5,2000000000000000,\nword,6,2000000000000000,\nword,7,2000000000000000,\nword,8,2000000000000000,\nword,9,2000000000000000,\nword,10,2000000000000000,\nword,11,2000000000000000,\nword,12,2000000000000000,\n";
-    let text = joined(alloc, &[CLUBS, words, "1,1,1,goal-home\n"])?;
-    let screen = screen_at(alloc, "17", "\"Alpha\"")?;
-    let reply = accepted(alloc, "17", "\"Alpha\"", "2", ONE_GOAL)?;
-    let wanted = joined(alloc, &[reply.as_str(), screen.as_str()])?;
+    let text = joined(alloc, &[CLUBS, GOAL_AND_SCREEN])?;
+    let wanted = goal_and_screen(alloc, "\"Alpha\"", ["5", "6", "7"])?;
     assert_stops(&rt, alloc, text.as_str(), wanted.as_str(), Full::Fails);
     assert_stops(&rt, alloc, text.as_str(), wanted.as_str(), Full::TakesNone);
     Ok(())

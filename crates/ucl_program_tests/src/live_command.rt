@@ -1,7 +1,7 @@
 //! What arguments mean, and what the program does for them over memory in place of the standard streams.
 
 use crate::json::{KICKED_OFF, accepted};
-use crate::{CLUBS, joined};
+use crate::{CLUBS, joined, words_of};
 use std::alloc::Global;
 use std::test::Fail;
 use ucl_command::{Format, LineFault, live_args};
@@ -10,14 +10,6 @@ use ucl_io::Duplex;
 use ucl_order::Profile;
 use ucl_runs::run_evening;
 use ucl_screen::{FromRead, ToWrite};
-
-fn words_of(alloc: Global, line: &str) -> Result<Vec<String>, Fail> {
-    let mut words = Vec::new(alloc);
-    for word in line.split_whitespace() {
-        words.push(String::from_str(alloc, word)?)?;
-    }
-    Ok(words)
-}
 
 /// What words are answered, without the texts: which group and order are asked for, whether screens are wanted, and a form.
 #[derive(Clone, Copy, PartialEq, Eq)]

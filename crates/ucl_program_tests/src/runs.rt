@@ -325,7 +325,7 @@ fn word_lines(alloc: Global, text: &str) -> Result<String, Fail> {
 }
 
 /// The screen of a board of no event.
-const FRESH_SCREEN: &str = "\
+pub(crate) const FRESH_SCREEN: &str = "\
 GROUP A v00000 IN PLAY 0
     Club                  P  W  D  L  GF  GA   GD Pts
 1   Bravo                 0  0  0  0   0   0   +0   0
