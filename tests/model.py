@@ -17,8 +17,8 @@ STATES = "SCHEDULED", "IN PLAY", "FINISHED"
 # The clubs of the examples.
 ROSTER = [("Alpha", 60_000), ("Bravo", 95_000), ("Charlie", 60_000), ("Delta", 81_500)]
 CLUBS = "".join(f"club,{slot},{name},{coefficient}\n" for slot, (name, coefficient) in enumerate(ROSTER, 1))
-# The most bytes of an input, of a line of an evening, and of a line that a follower reads.
-LONGEST_INPUT, LONGEST_LINE, LONGEST_FOLLOWED = 4_194_304, 256, 4_096
+# The most bytes of a line of an evening, and of a line that a follower reads.
+LONGEST_LINE, LONGEST_FOLLOWED = 256, 4_096
 
 
 class Match:

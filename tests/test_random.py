@@ -116,11 +116,12 @@ def test_scripts_and_sheets(program, data):
 
 
 ODD_ROWS = ["screen,,,", "words,,,", "matches,,,", "", "\r", "x", "1,1,0", "screen,1,,", "y" * 257, "z" * 700, "word,1,,", '1,1,0,"kickoff', 'word,1,2000000000000000,"', "1,13,0,goal", '1,1,"0', "\ufeff1,1,0,kickoff"]
+ODD_ROWS += [f"group,{title}" for title in ("A,uefa,0", "A,uefa,1", "A,uefa,2", "B,uefa,1", "H,uefa,1", "A,away-in-tie,1")] + ["club,2,Echo,5", "club,3,,5"]
 
 
 @given(st.data())
 def test_evenings(program, data):
-    """`ucl_live`, in all its forms."""
+    """`ucl_live`, in all its forms, of one edition or more."""
     draw = data.draw
     words = draw(st.sampled_from([[], ["--screens"]])) + draw(st.sampled_from([[], ["--format", "json"], ["--format", "text"]])) + draw(GROUPS) + draw(ORDERS)
     rows = draw(club_rows()) + event_rows(draw(PICKS))
