@@ -7,7 +7,7 @@ use ucl_command::Format;
 use ucl_runs::BeginningFault;
 
 /// Beginnings that are refused, and why.
-static REFUSED_CLUBS: [(&str, BeginningFault); 16] = [
+static REFUSED_CLUBS: [(&str, BeginningFault); 15] = [
     ("", BeginningFault::BadRow { row: 1 }),
     ("\n\r\n", BeginningFault::BadRow { row: 3 }),
     ("club,1,Alpha,60000", BeginningFault::BadRow { row: 2 }),
@@ -40,10 +40,6 @@ static REFUSED_CLUBS: [(&str, BeginningFault); 16] = [
     ),
     (
         "club;1;Alpha;60000\nclub;2;Bravo;95000\n",
-        BeginningFault::BadRow { row: 1 },
-    ),
-    (
-        "5 ok 1 1 1\nword,1,2001000000000001,\n",
         BeginningFault::BadRow { row: 1 },
     ),
     (

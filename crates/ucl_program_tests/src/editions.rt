@@ -22,89 +22,74 @@ GROUP A v00000 IN PLAY 0
 4   Charlie               0  0  0  0   0   0   +0   0
 ";
 
-/// Rows after those of the first four clubs, and their answers, in three parts.
-static EDITIONS: [(&str, [&str; 3]); 9] = [
+/// Rows after those of the first four clubs, and their answers, in two parts.
+static EDITIONS: [(&str, &str, &str); 10] = [
     // A later edition: a fresh board of the same clubs, whose matches count from 0, and rows that count on.
     (
-        "1,1,0,kickoff\n1,1,1,goal-home\ngroup,A,uefa,1\nscreen,,,\n1,1,2,fulltime\n2,1,0,kickoff\n",
-        [
-            "5 ok 1 1 1\n6 ok 1 2 2\n",
-            FRESH_SCREEN,
-            "9 refused 1 stale 0\n10 ok 1 1 1\n",
-        ],
+        "1,1,0,kickoff\ngroup,A,uefa,1\nscreen,,,\n",
+        "5 ok 1 1 1\n",
+        FRESH_SCREEN,
     ),
-    // An earlier edition, the same one, and one that is none.
     (
-        "group,A,uefa,7\n1,1,0,kickoff\ngroup,A,uefa,6\ngroup,A,uefa,7\ngroup,A,uefa,65536\n1,1,1,fulltime\n",
-        [
-            "6 ok 1 1 1\n7 refused 20 bad-row\n8 refused 20 bad-row\n",
-            "9 refused 20 bad-row\n",
-            "10 ok 1 2 2\n",
-        ],
+        "1,1,0,kickoff\n1,1,1,goal-home\ngroup,A,uefa,65535\n1,1,2,fulltime\n2,1,0,kickoff\nscreen,,,\n",
+        "5 ok 1 1 1\n6 ok 1 2 2\n8 refused 1 stale 0\n9 ok 1 1 1\n",
+        SCREEN,
     ),
-    // Another letter, and another order.
+    // An earlier edition, the same one, one that is none, and those of another letter and another order.
     (
-        "1,1,0,kickoff\ngroup,B,uefa,1\ngroup,A,away-in-tie,1\n1,1,1,fulltime\n",
-        [
-            "5 ok 1 1 1\n",
-            "6 refused 20 bad-row\n7 refused 20 bad-row\n",
-            "8 ok 1 2 2\n",
-        ],
+        "group,A,uefa,7\n1,1,0,kickoff\ngroup,A,uefa,6\ngroup,A,uefa,7\ngroup,A,uefa,65536\ngroup,B,uefa,8\ngroup,A,away-in-tie,8\nscreen,,,\n",
+        "6 ok 1 1 1\n7 refused 20 bad-row\n8 refused 20 bad-row\n9 refused 20 bad-row\n10 refused 20 bad-row\n11 refused 20 bad-row\n",
+        SCREEN,
     ),
-    // Clubs right after the first four and right after the row of an edition, and one after a screen.
+    // A club right after the first four, and one right after the row of an edition.
     (
-        "club,1,Echo Echo Echo Echo ,999999\nscreen,,,\nclub,1,Alpha,60000\ngroup,A,uefa,1\nclub,1,Alpha,60000\nscreen,,,\n",
-        [FRESH_ECHO, "7 refused 20 bad-row\n", FRESH_SCREEN],
+        "club,1,Echo Echo Echo Echo ,999999\nscreen,,,\n",
+        "",
+        FRESH_ECHO,
     ),
-    // Two clubs for one slot, and one after an event.
     (
-        "group,A,uefa,1\nclub,4,Alpha,1\nclub,4,Delta,81500\n1,1,0,kickoff\nclub,4,Alpha,1\nscreen,,,\n",
-        ["8 ok 1 1 1\n", "9 refused 20 bad-row\n", SCREEN],
+        "1,1,0,kickoff\ngroup,A,uefa,1\nclub,1,Golf,1\nclub,1,Echo Echo Echo Echo ,999999\nscreen,,,\n",
+        "5 ok 1 1 1\n",
+        FRESH_ECHO,
     ),
-    // A club after an event that is refused.
+    // Clubs that no roster takes, which leave an edition new.
+    (
+        "group,A,uefa,1\nclub,1,Echo Echo Echo Echo E,1\nclub,1,Echo,1000000\nclub,5,Echo,1\nclub,0,Echo,1\nclub,1,Echo Echo Echo Echo ,999999\nscreen,,,\n",
+        "6 refused 20 bad-row\n7 refused 20 bad-row\n8 refused 20 bad-row\n9 refused 20 bad-row\n",
+        FRESH_ECHO,
+    ),
+    // Clubs after a screen, an event and an event that is refused.
+    (
+        "screen,,,\nclub,1,Echo,1\n",
+        FRESH_SCREEN,
+        "6 refused 20 bad-row\n",
+    ),
+    (
+        "1,1,0,kickoff\nclub,1,Echo,1\nscreen,,,\n",
+        "5 ok 1 1 1\n6 refused 20 bad-row\n",
+        SCREEN,
+    ),
     (
         "1,1,0,fulltime\nclub,1,Echo,1\nscreen,,,\n",
-        [
-            "5 refused 3 not-started\n",
-            "6 refused 20 bad-row\n",
-            FRESH_SCREEN,
-        ],
+        "5 refused 3 not-started\n6 refused 20 bad-row\n",
+        FRESH_SCREEN,
     ),
-    // Clubs that no roster takes leave an edition new.
-    (
-        "group,A,uefa,1\nclub,1,Echo Echo Echo Echo E,1\nclub,1,Echo,1000000\nclub,1,Echo Echo Echo Echo ,999999\nscreen,,,\n",
-        [
-            "6 refused 20 bad-row\n",
-            "7 refused 20 bad-row\n",
-            FRESH_ECHO,
-        ],
-    ),
-    // So do clubs in no slot.
-    (
-        "club,5,Echo,1\nclub,0,Echo,1\nclub,1,Echo Echo Echo Echo ,999999\nscreen,,,\n",
-        [
-            "5 refused 20 bad-row\n",
-            "6 refused 20 bad-row\n",
-            FRESH_ECHO,
-        ],
-    ),
-    // An edition that was torn in the row of its second club goes on with the clubs that there are.
+    // An edition that was torn in the row of its second club.
     (
         "1,1,0,kickoff\ngroup,A,uefa,1\nclub,1,Alpha,60000\nclub,2,Br\n1,1,0,kickoff\nscreen,,,\n",
-        ["5 ok 1 1 1\n", "8 refused 20 bad-row\n9 ok 1 1 1\n", SCREEN],
+        "5 ok 1 1 1\n8 refused 20 bad-row\n9 ok 1 1 1\n",
+        SCREEN,
     ),
 ];
 
 #[test]
 fn as_text(rt: HostRuntime) -> Result<(), Fail> {
     let alloc = rt.alloc();
-    for &(rows, answers) in EDITIONS.as_slice() {
+    for &(rows, answers, more) in EDITIONS.as_slice() {
         let text = joined(alloc, &[CLUBS, rows])?;
-        let wanted = joined(alloc, answers.as_slice())?;
-        for piece in [1, usize::MAX] {
-            let evening = held(alloc, Format::Text, text.as_bytes(), piece);
-            assert!(rt; has_written(&evening, wanted.as_str()), "at {rows}");
-        }
+        let wanted = joined(alloc, &[answers, more])?;
+        let evening = held(alloc, Format::Text, text.as_bytes(), 1);
+        assert!(rt; has_written(&evening, wanted.as_str()), "at {rows}");
     }
     Ok(())
 }
@@ -131,10 +116,11 @@ fn in_json(rt: HostRuntime) -> Result<(), Fail> {
 
 /// What a follower of some lines shows, and its counts.
 fn followed(alloc: Global, lines: &str) -> Result<(String, Followed), Fail> {
+    let (group, profile, shape) = (None, None, FollowShape::Text);
     let args = FollowArgs {
-        group: None,
-        profile: None,
-        shape: FollowShape::Text,
+        group,
+        profile,
+        shape,
     };
     let shelf = || Shelf::new(Vec::new(alloc), usize::MAX);
     let mut duplex = Duplex::new(Given::new(lines.as_bytes()), shelf());
@@ -143,16 +129,6 @@ fn followed(alloc: Global, lines: &str) -> Result<(String, Followed), Fail> {
     };
     let shown = String::from_str(alloc, std::str::from_utf8(duplex.sink.taken())?)?;
     Ok((shown, counts))
-}
-
-/// The lines of a text, the last one first.
-fn reversed(alloc: Global, text: &str) -> Result<String, Fail> {
-    let mut lines = Vec::new(alloc);
-    for line in text.split_inclusive('\n') {
-        lines.push(line)?;
-    }
-    lines.reverse();
-    Ok(joined(alloc, &lines)?)
 }
 
 /// A follower shows the last table last, in whichever order the answers of two editions come.
@@ -166,7 +142,9 @@ fn followed_in_reverse(rt: HostRuntime) -> Result<(), Fail> {
     let (shown, counts) = followed(alloc, answers)?;
     assert!(rt; shown.as_str().ends_with(SCREEN));
     assert_eq!(rt; counts, Followed { lines: 4, shown: 3 });
-    let backwards = reversed(alloc, answers)?;
+    let mut lines = answers.split_inclusive('\n').collect::<Vec<&str>>(alloc)?;
+    lines.reverse();
+    let backwards = joined(alloc, &lines)?;
     let (shown, counts) = followed(alloc, backwards.as_str())?;
     assert_eq!(rt; shown.as_str(), SCREEN);
     assert_eq!(rt; counts, Followed { lines: 4, shown: 1 });

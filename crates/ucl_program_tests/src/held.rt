@@ -54,8 +54,8 @@ pub fn held(alloc: Global, format: Format, text: &[u8], piece: usize) -> Held {
     held_with(alloc, (format, false), input, usize::MAX, Full::Fails)
 }
 
-/// Whether an evening ended well, and wrote just this text.
-pub fn has_written(held: &Held, text: &str) -> bool {
+/// Whether an evening or a run ended well, and wrote just this text.
+pub fn has_written<E>(held: &(Result<(), E>, Vec<u8>), text: &str) -> bool {
     let (answer, out) = held;
     answer.is_ok() && out.as_slice() == text.as_bytes()
 }

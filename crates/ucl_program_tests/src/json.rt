@@ -11,12 +11,15 @@ use ucl_devices::Full;
 const ROWS: &str =
     "1,1,0,kickoff\n1,1,0,kickoff\n1,1,0\n2,2,0,goal-home\n\n1,1,1,goal-home\n1,1,2,disallow-away\nwords,,,\nscreen,,,\n";
 
-/// The answers to these rows, but those that tell a moment.
-const REFUSALS: &str = "\
-{\"code\":1,\"event\":\"kickoff\",\"expected\":0,\"match\":1,\"name\":\"stale\",\"number\":1,\"reply\":\"refused\",\"reporter\":1,\"row\":6,\"stands\":{\"expulsions\":[0,0],\"match\":1,\"number\":1,\"reporter\":1,\"score\":[0,0],\"state\":\"IN PLAY\",\"yellows\":[0,0]}}
-{\"code\":20,\"field\":\"fields\",\"name\":\"bad-row\",\"reply\":\"refused\",\"row\":7,\"text\":\"1,1,0\"}
-{\"code\":3,\"event\":\"goal-home\",\"expected\":0,\"match\":2,\"name\":\"not-started\",\"reply\":\"refused\",\"reporter\":2,\"row\":8}
-";
+/// The refusals of a second kick-off at row 6, and of a row of three fields at row 7.
+pub(crate) const STALE: &str =
+    "{\"code\":1,\"event\":\"kickoff\",\"expected\":0,\"match\":1,\"name\":\"stale\",\"number\":1,\"reply\":\"refused\",\"reporter\":1,\"row\":6,\"stands\":{\"expulsions\":[0,0],\"match\":1,\"number\":1,\"reporter\":1,\"score\":[0,0],\"state\":\"IN PLAY\",\"yellows\":[0,0]}}\n";
+
+pub(crate) const BAD_ROW: &str =
+    "{\"code\":20,\"field\":\"fields\",\"name\":\"bad-row\",\"reply\":\"refused\",\"row\":7,\"text\":\"1,1,0\"}\n";
+
+const NOT_STARTED: &str =
+    "{\"code\":3,\"event\":\"goal-home\",\"expected\":0,\"match\":2,\"name\":\"not-started\",\"reply\":\"refused\",\"reporter\":2,\"row\":8}\n";
 
 const NO_GOAL: &str =
     "{\"code\":6,\"event\":\"disallow-away\",\"expected\":2,\"match\":1,\"name\":\"no-goal\",\"reply\":\"refused\",\"reporter\":1,\"row\":11}\n";
@@ -145,7 +148,9 @@ fn answers_in_json(rt: HostRuntime) -> Result<(), Fail> {
         alloc,
         &[
             first.as_str(),
-            REFUSALS,
+            STALE,
+            BAD_ROW,
+            NOT_STARTED,
             second.as_str(),
             NO_GOAL,
             words.as_str(),

@@ -131,34 +131,6 @@ fn good_rows(rt: HostRuntime) -> Result<(), Fail> {
     Ok(())
 }
 
-/// A row whose event word is in quotes, so that the row has so many bytes, and then a kick-off.
-fn long_row(alloc: Global, length: usize, end: &str) -> Result<String, Fail> {
-    let mut text = joined(alloc, &[CLUBS, "1,1,0,\""])?;
-    for _ in 8..length {
-        text.push('x')?;
-    }
-    text.push('"')?;
-    text.push_str(end)?;
-    text.push_str("2,2,0,kickoff")?;
-    text.push_str(end)?;
-    Ok(text)
-}
-
-/// A line of more bytes than a line may have is one bad row, whatever its length.
-#[test]
-fn long_lines(rt: HostRuntime) -> Result<(), Fail> {
-    let alloc = rt.alloc();
-    for length in [255, 256, 257, 258, 259, 40_000] {
-        for end in ["\n", "\r\n"] {
-            let text = long_row(alloc, length, end)?;
-            let evening = held(alloc, Format::Text, text.as_bytes(), usize::MAX);
-            let wanted = "5 refused 20 bad-row\n6 ok 2 1 1\n";
-            assert!(rt; has_written(&evening, wanted), "at {length}");
-        }
-    }
-    Ok(())
-}
-
 /// A kick-off on a line of so many bytes, which begins with carriage returns, and then another.
 fn padded_row(alloc: Global, length: usize, end: &str) -> Result<String, Fail> {
     let mut text = joined(alloc, &[CLUBS])?;
@@ -173,16 +145,17 @@ fn padded_row(alloc: Global, length: usize, end: &str) -> Result<String, Fail> {
 }
 
 /// How many bytes a line has before its end, and how it and the next are answered.
-static LENGTHS: [(usize, &str); 6] = [
+static LENGTHS: [(usize, &str); 7] = [
     (13, "5 ok 1 1 1\n6 ok 2 1 2\n"),
     (255, "5 ok 1 1 1\n6 ok 2 1 2\n"),
     (256, "5 ok 1 1 1\n6 ok 2 1 2\n"),
     (257, "5 refused 20 bad-row\n6 ok 2 1 1\n"),
     (258, "5 refused 20 bad-row\n6 ok 2 1 1\n"),
     (259, "5 refused 20 bad-row\n6 ok 2 1 1\n"),
+    (40_000, "5 refused 20 bad-row\n6 ok 2 1 1\n"),
 ];
 
-/// A line may have 256 bytes before its end and no more, whichever its end is.
+/// A line may have 256 bytes before its end, whichever that is; one of more is one bad row, whatever its length.
 #[test]
 fn longest_lines(rt: HostRuntime) -> Result<(), Fail> {
     let alloc = rt.alloc();

@@ -4,8 +4,9 @@ mod bare;
 mod devices;
 mod nights;
 
+use crate::held::has_written;
 use crate::joined;
-use devices::{fed, has_refused, has_stopped, has_written, shown};
+use devices::{fed, has_refused, has_stopped, shown};
 use std::alloc::{AllocError, Global};
 use std::process::Abort;
 use std::test::Fail;
