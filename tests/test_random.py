@@ -129,7 +129,7 @@ def test_evenings(program, data):
         rows.insert(min(max(at, 4) if at else 0, len(rows)), odd + "\n")
     for at, length in draw(st.lists(st.tuples(st.integers(0, 70), st.sampled_from([1, 255, 256, 257])), max_size=3)):
         if at < len(rows) and len(rows[at]) > 1:
-            rows[at] = "\r" * (length - len(rows[at].encode()) + 1) + rows[at]
+            rows[at] = "\r" * (length - len(encoded(rows[at])) + 1) + rows[at]
     text = cut(draw, "\ufeff" * draw(st.booleans()) + "".join(row[:-1] + draw(st.sampled_from(["\n", "\n", "\r\n"])) for row in rows))
     assert fed(program("ucl_live"), words, text, draw(PIECES)) == Evening(words).of(text)
 
