@@ -33,6 +33,7 @@ ROWS = 3_000
 KILLS = 1_000
 pytestmark = pytest.mark.limit(200)
 LINES = conftest.lines_to_type(BROKER / "README.md")
+DROPPED = "dropped: edition 1 has begun; look at the match, and type it again if it still holds"
 # Has a program in Python wait for the disk while a file `busy` is there.
 SLOW_DISK = """import os, time
 def fsync(_):
@@ -163,6 +164,12 @@ class Site:
             file.write((block + "screen,,,\n").encode())
         return mended
 
+    def kill_board(self):
+        """Kills the board, and all that it has started."""
+        for line in self.started:
+            if "examples/broker/board" in line.text:
+                line.kill()
+
     def await_no_board(self):
         """Waits until no board runs."""
         until(lambda: self.done("flock -n a.lock echo free") == "free\n", 20)
@@ -173,6 +180,7 @@ def opened(path, program):
     """A folder with the programs, where lines are typed; at the end all of it is killed."""
     for name in "ucl_live", "ucl_follow":
         (path / name).symlink_to(program(name))
+    (path / "ucl_reporter").symlink_to(TOP / "ucl_reporter")
     site = Site(path)
     try:
         yield site
@@ -200,7 +208,7 @@ def site(tmp_path, program, monkeypatch):
 def test_lines_of_the_page_are_those_of_the_evening():
     in_one_line = lambda text: " ".join(text.replace("\\\n", " ").replace('"', "").split())
     lines = {name: in_one_line(line) for name, line in LINES.items()}
-    evening = in_one_line((BROKER / "evening").read_text()).replace("two_matches.csv", "one_goal.csv").replace("reporter $GROUP $1", "reporter $GROUP 1")
+    evening = in_one_line((BROKER / "evening").read_text()).replace("two_matches.csv", "one_goal.csv").replace("--number $1", "--number 1")
     lists = ["Names", "Certificates"]
     assert list(lines) == ["The board", "A reporter", "A screen", "A page", *lists]
     assert [name for name, line in lines.items() if line not in evening.replace("--port=$1", "--port=8080")] == lists
@@ -229,7 +237,7 @@ def test_one_board_and_a_record_that_is_begun_once(site):
     site.done("sed s/Alpha// examples/one_goal.csv >clubs.csv; touch c.jsonl")
     assert site.done("examples/broker/board b clubs.csv 2>&1; echo $?").endswith("input refused 21: slot 1\n3\n") and not (site.path / "b.rows").exists()
     assert "there is a journal c.jsonl and no record c.rows" in site.done("examples/broker/board c examples/one_goal.csv 2>&1")
-    site.done("examples/broker/reporter a 1", "1 kickoff\n1 goal home\n")
+    site.done("./ucl_reporter --broker a", "1 kickoff\n1 goal home\n")
     board.kill()
     site.await_no_board()
     before = site.record.read_text()
@@ -243,7 +251,7 @@ def test_one_board_and_a_record_that_is_begun_once(site):
 def test_after_a_start_the_last_screen_is_told_and_no_answer_again(site):
     """The last row is cut off, or asks for the screen already."""
     board = site.begin()
-    site.done("examples/broker/reporter a 1", "1 kickoff\n1 goal home\n2 goal home\n")
+    site.done("./ucl_reporter --broker a", "1 kickoff\n1 goal home\n2 goal home\n")
     told = lambda topic: [json.loads(line) for line in (site.path / topic).read_text().splitlines() if "pulse" not in line]
     for topic in "desk", "answers":
         site.line(f"mosquitto_sub -q 1 -R -t ucl/a/{topic} >{topic}")
@@ -255,7 +263,7 @@ def test_after_a_start_the_last_screen_is_told_and_no_answer_again(site):
         board.start()
         count = len(told("desk"))
         until(lambda: len(told("desk")) > count, 20)
-    site.done("examples/broker/reporter a 1", "1,1,3,yellow-away\n")
+    site.done("./ucl_reporter --broker a", "1,1,3,yellow-away\n")
     until(lambda: told("answers") and len(told("desk")) == 5, 20)
     assert [(it["version"], it["row"]) for it in told("desk")] == [(2, 11), (2, 11), (3, 13), (3, 13), (4, 14)]
     assert [(it["reply"], it["row"]) for it in told("answers")] == [("ok", 14)]
@@ -293,8 +301,8 @@ def test_a_board_that_is_killed_as_it_starts_leaves_no_client(site):
 
 def test_a_late_screen_has_the_table_after_a_refusal_and_the_pulse_is_beside_the_record(site):
     board = site.begin("persistence false\n")
-    site.done("examples/broker/reporter a 1", "1 kickoff\n")
-    site.done("examples/broker/reporter a 1", "2 goal home\n")
+    site.done("./ucl_reporter --broker a", "1 kickoff\n")
+    site.done("./ucl_reporter --broker a", "2 goal home\n")
     assert [it.get("name") for it in site.answers()][-1] == "not-started"
 
     def await_table(seconds):
@@ -339,7 +347,7 @@ class Typist:
     def __init__(self, site, words):
         self.master, slave = pty.openpty()
         self.text = ""
-        self.line = site.line(f"exec examples/broker/reporter {words}", stdin=slave, stdout=slave, stderr=slave)
+        self.line = site.line(f"exec ./ucl_reporter --broker a {words}", stdin=slave, stdout=slave, stderr=slave)
         os.close(slave)
 
     def type(self, text):
@@ -358,71 +366,128 @@ class Typist:
 def test_two_reporters_who_type_one_goal_do_not_count_it_twice(site):
     """A row has the number that stood on the screen at its first letter, not the newest. Its answer is beside it, and a refusal comes once."""
     site.begin()
-    first, second = Typist(site, "a 1"), Typist(site, "--matches 1,2 a 7")
-    assert first.sees("12 Delta 0-0 Charlie, to come, event 0") and second.sees(" 2 Delta 0-0 Alpha, to come, event 0")
+    first, second = Typist(site, ""), Typist(site, "--number 7 --matches 1,2")
+    assert first.sees("12 Delta v Charlie, to come") and second.sees(" 2 Delta v Alpha, to come")
     first.type("1 kickoff\n")
-    assert first.sees("1 kickoff               entered: Bravo 0-0 Charlie, in play, event 1")
-    assert second.sees(" 1 Bravo 0-0 Charlie, in play, event 1, by reporter 1")
+    assert first.sees("1 kickoff               entered, row 7: Bravo 0-0 Charlie, in play, event 1 by 1")
+    assert second.sees("row 7: 1 kickoff by reporter 1: Bravo 0-0 Charlie, in play, event 1 by 1")
     first.type("1 goal h")
     assert first.sees("> 1 goal h")
     second.type("1 goal homf\x7fe\n")
-    assert second.sees("1 goal-home             entered: Bravo 1-0 Charlie, in play, event 2")
-    assert first.sees(" 1 Bravo 1-0 Charlie, in play, event 2, by reporter 7") and first.sees("> 1 goal h")
+    assert second.sees("1 goal home             entered, row 8: Bravo 1-0 Charlie, in play, event 2 by 7")
+    assert first.sees("row 8: 1 goal home by reporter 7: Bravo 1-0 Charlie, in play, event 2 by 7") and first.sees("> 1 goal h")
     first.type("ome\n")
-    assert first.sees("1 goal-home             refused, ") and first.sees("Bravo 1-0 Charlie, in play, event 2")
-    second.type("3 kickoff\n")
-    assert second.sees("match 3 is not yours")
-    second.type("2 goal home\n")
-    assert second.sees("2 goal-home             refused, not-started: Delta 0-0 Alpha, to come, event 0")
+    assert first.sees("1 goal home             refused: match 1 has event number 2 by now, and you had seen 1: look at it")
+    for typed, told in {
+        "3 kickoff": "match 3 is not yours", "2 goal home": "2 goal home             refused: match 2 has not kicked off", "mend 7": "at ./ucl_reporter a.rows on the board's machine",
+        "1": "   row 8: 1 goal home by reporter 7", "1 reopen": "1 reopen                refused: match 1 is not over"}.items():
+        second.type(typed + "\n")
+        assert second.sees(told)
     assert not first.sees("goal", 3) and not second.sees("goal", 0.1)
-    assert [(it["reply"], it.get("name")) for it in site.answers() if it["reply"] != "screen"] == [
-        ("ok", None), ("ok", None), ("refused", "stale"), ("refused", "not-started")]
+    names = [it.get("name") for it in site.answers() if it["reply"] != "screen"]
+    assert names == [None, None, "stale", "not-started", "not-finished"]
     first.type("1 goal away\n\x04")
-    assert first.sees("1 goal-away             entered: Bravo 1-1 Charlie, in play, event 3") and first.line.shell.wait() == 0
+    assert first.sees("1 goal away             entered, row 12: Bravo 1-1 Charlie, in play, event 3 by 1") and first.line.shell.wait() == 0
+
+
+def told_to(site, reporter, text, seconds=20, **topics):
+    """Has the topics of group A tell these members of JSON, until a reporter shows a text. What the broker keeps of them is no one's."""
+    tell = lambda: [site.done(f"mosquitto_pub -q 1 -t ucl/a/{topic} -s", json.dumps(said)) for topic, said in topics.items()]
+    return until(lambda: tell() and reporter.sees(text, 0.5), seconds)
 
 
 def test_what_has_no_answer_is_sent_again(site):
     """While there is no board, and the broker keeps no row for it, a reporter types; then the board begins. That the row is stale, when the match is one
-    event further, may be the answer to its second copy: whose that event is decides."""
+    event further, may be the answer to its second copy: whose that event is decides. A result has a row for each event."""
     site.open_broker()
-    site.done("(head -n 4 examples/one_goal.csv; echo screen,,,) | ./ucl_live --format json | mosquitto_pub -l -r -q 1 -t ucl/a/desk")
-    reporter = Typist(site, "--again 1 a 1")
-    assert reporter.sees("12 Delta 0-0 Charlie, to come, event 0")
-    reporter.type("1 kickoff\n")
-    assert reporter.sees("1 kickoff               no answer yet; it is sent again")
+    screen, entered, after = map(json.loads, site.done("./ucl_live --format json --screens", model.CLUBS + "screen,,,\n1,1,0,kickoff\n").splitlines()[-3:])
+    reporter = Typist(site, "--again 1")
+    assert told_to(site, reporter, "12 Delta v Charlie, to come", desk=screen)
+    reporter.type("1 kickoff\n2 result 1-0\n")
+    assert reporter.sees("1 kickoff               no answer yet; it is sent again") and reporter.sees("2 fulltime              no answer yet; it is sent again")
     stale = {"code": 1, "event": "kickoff", "expected": 0, "match": 1, "name": "stale", "number": 1, "reply": "refused", "reporter": 1, "row": 19}
-    site.done("mosquitto_pub -q 1 -t ucl/a/answers -s", json.dumps(stale))
+    early = {**stale, "event": "fulltime", "expected": 2, "match": 2, "number": 0}
+    for said in stale, early, {**entered, "reporter": 2}, {**entered, "row": 9}:
+        site.done("mosquitto_pub -q 1 -t ucl/a/answers -s", json.dumps(said))
     assert not reporter.sees("refused", 1)
     site.line(LINES["The board"])
-    assert reporter.sees("1 kickoff               entered: Bravo 0-0 Charlie, in play, event 1")
+    assert reporter.sees("1 kickoff               entered, row ") and reporter.sees("2 result 1-0            entered, row ")
+    after["matches"][2].update(number=1, reporter=1, state="IN PLAY")
+    after["matches"][3].update(number=1, reporter=2, state="IN PLAY")
+    site.kill_board()
+    reporter.type("3 kickoff\n4 kickoff\n")
+    assert reporter.sees("4 kickoff               no answer yet; it is sent again")
+    told_to(site, reporter, "by 2", desk={**after, "row": 99})
+    for match in 3, 4:
+        site.done("mosquitto_pub -q 1 -t ucl/a/answers -s", json.dumps({**stale, "match": match}))
+    assert reporter.sees("3 kickoff               entered: Alpha 0-0 Bravo, in play, event 1 by 1")
+    assert reporter.sees("4 kickoff               refused: match 4 has event number 1 by now, and you had seen 0: look at it")
 
 
 def test_a_reporter_is_told_of_rows_that_are_refused_anothers_or_none(site):
     site.begin()
-    state = "Bravo 0-0 Charlie, in play, event 1"
+    state, stale = "Bravo 0-0 Charlie, in play, event 1 by 1", "match 1 has event number {} by now, and you had seen {}: look at it, and type yours again if it is not there"
 
     def report(who, *rows):
         """What a reporter is told, but that a row is sent again where the machine is slow."""
-        told = site.done(f"examples/broker/reporter --again 0.3 --limit 9 {who} 2>&1; echo $?", "".join(row + "\n" for row in rows))
+        told = site.done(f"./ucl_reporter --again 0.3 --limit 9 --broker {who} 2>&1; echo $?", "".join(row + "\n" for row in rows))
         return [line for line in told.splitlines() if not line.endswith("it is sent again")]
 
-    assert report("a 1", "1 kickoff", "1,2,0,goal-home") == [f"1 kickoff               entered: {state}", "reporter: 1,2,0,goal-home: refused, not-started", "1"]
-    assert report("a 2", "2,1,0,kickoff") == ["reporter: 2,1,0,kickoff: reporter 1 was first", "1"]
-    assert report("a 2", "1 kickoff") == ["reporter: 2,1,1,kickoff: refused, already-started", "1"]
-    assert report("a 1", "1,1,0,kickoff") == ["1 kickoff               passed over: the board is past it", "0"]
-    assert report("a 1", "1,1,1,goal-home", "1,1,0,kickoff")[1:] == ["1 kickoff               passed over: the board is past it", "0"]
-    assert report("a 1", "1,1,5,goal-home") == ["reporter: 1,1,5,goal-home: refused, stale, its number is 2", "1"]
-    assert report("--matches 2 a 1", "1,1,2,goal-home") == ["reporter: match 1 is not yours", "1"]
-    for row in "1,13,0,kickoff", "2,1,2,goal-home", "1 goal", "goal home":
-        assert report("a 1", row) == [f"reporter: {row}: no event of reporter 1; --help has them all", "1"]
+    refused = "ucl_reporter: 1,2,0,goal-home: refused: match 2 has not kicked off; type 2 kickoff first, or is it another match?"
+    assert report("a", "1 kickoff", "1,2,0,goal-home") == [f"1 kickoff               entered, row 7: {state}", refused, "1"]
+    assert report("a --number 2", "2,1,0,kickoff") == [f"ucl_reporter: 2,1,0,kickoff: refused: {stale.format(1, 0)}", "1"]
+    assert report("a --number 2", "1 kickoff") == ["ucl_reporter: 1 kickoff: refused: match 1 has kicked off already; there is nothing to do", "1"]
+    assert report("a", "1,1,0,kickoff") == ["1,1,0,kickoff           passed over: the board has it", "0"]
+    assert report("a", "1,1,1,goal-home", "1,1,0,kickoff")[1:] == ["1,1,0,kickoff           passed over: the board has it", "0"]
+    assert report("a", "1,1,5,goal-home") == [f"ucl_reporter: 1,1,5,goal-home: refused: {stale.format(2, 5)}", "1"]
+    assert report("a --matches 2", "1,1,2,goal-home") == ["ucl_reporter: match 1 is not yours", "1"]
+    for row, told in {
+        "1,13,0,kickoff": "there is no match 13: they are 1 to 12", "2,1,2,goal-home": "2,1,2,goal-home: no event of reporter 1; --help has them all",
+        "1 goal": "this is no event and no command; 1 goal home?", "mend 7": "this is typed at a terminal, behind a broker at ./ucl_reporter a.rows on the board's machine; without one it is --mend WHAT --yes"}.items():
+        assert report("a", row) == [f"ucl_reporter: {told}", "1"]
     for topic, text in ("0/rows/1", "2,1,2,goal-home"), ("0/rows/x", "x,1"), ("0/rows/1", "1,1,2,red-home\n"), ("1/rows/1", "1,1,2,red-home"), ("0/rows/1", "1," + "x" * 255), ("desk", '{"clubs":[],"words":7}'), ("answers", "[1]"):
         site.done(f"mosquitto_pub -q 1 -t ucl/a/{topic} -s", text)
     passed = [f"board: passed over on ucl/a/{it}" for it in ("0/rows/1: b'2,1", "0/rows/x: b'x", "0/rows/1: b'1,1,2,red-home\\n'", "1/rows/1: b'1,1", "0/rows/1: b'1,xxx")]
     told = until(lambda: [it for it in (site.path / "errors").read_text().splitlines() if it.startswith("board:")][len(passed) - 1 :] and (site.path / "errors").read_text(), 20)
     assert all(it in told for it in passed)
-    assert report("a 1", "1,1,2,goal-home")[1:] == ["0"]
-    assert report("--limit 2 b 1", "1 kickoff") == ["reporter: the desk has told nothing in 2 seconds", "1"]
+    assert report("a", "1,1,2,goal-home")[1:] == ["0"]
+    assert report("b --limit 2", "1 kickoff") == ["ucl_reporter: no table of group B has come in 2 seconds", "1"]
+    site.kill_board()
     assert site.answers()[-1]["version"] == 3
+    assert report("a --mend 7")[-2:] == report("a a.rows")[-2:] == ["ucl_reporter: error: name a record, or a group behind a broker, where nothing is mended", "2"]
+
+
+def test_lines_that_are_no_answers_and_a_board_that_falls_silent(site):
+    """What else comes on the topics changes nothing. A row that has no answer in time ends a run without a terminal."""
+    site.begin()
+    reporter = Typist(site, "--again 1")
+    assert reporter.sees("12 Delta v Charlie, to come")
+    for text in "x", "{}", "[" * 500, '{"reply":"ok"}', '{"reply":"ok","row":1}', '{"reply":"refused","row":1,"reporter":1}', '{"reply":"screen","row":99}', '{"row":9,"reply":"screen","edition":7}':
+        for topic in "desk", "answers":
+            site.done(f"mosquitto_pub -q 1 -t ucl/a/{topic} -s", text)
+    reporter.type("1 kickoff\n")
+    assert reporter.sees("1 kickoff               entered, row 7: Bravo 0-0 Charlie, in play, event 1 by 1")
+    (site.path / "watched").touch()
+    silent = site.line("(until [ -e late ]; do sleep 0.1; done; echo 1 goal home) | ./ucl_reporter --broker a --limit 5 --again 0.5 >silent 2>&1; echo $? >>silent")
+    watch = site.line("exec ./ucl_reporter --broker a --watch >watched")
+    assert until(lambda: "event 1 by 1" in (site.path / "watched").read_text(), 20)
+    time.sleep(3)
+    site.kill_board()
+    (site.path / "late").touch()
+    assert silent.shell.wait(20) == 0 and watch.shell.poll() is None
+    told = (site.path / "silent").read_text().splitlines()
+    assert told == ["1 goal home             no answer yet; it is sent again", "ucl_reporter: 1 goal home: no answer: none has come in 5 seconds", "1"]
+
+
+def test_a_reporter_begins_in_the_edition_of_the_board_and_not_in_that_which_the_broker_kept(site):
+    """A broker that is killed just after a mend may keep a screen of the edition before."""
+    site.begin()
+    kept = site.done("mosquitto_sub -q 1 -C 1 -t ucl/a/desk")
+    site.mend("a")
+    assert until(lambda: json.loads(site.done("mosquitto_sub -q 1 -C 1 -t ucl/a/desk"))["edition"] == 1, 20)
+    for count in range(3):
+        site.done("mosquitto_pub -r -q 1 -t ucl/a/desk -s", kept)
+        assert site.done("./ucl_reporter --broker a 2>&1", f"{count + 1} kickoff\n").startswith(f"{count + 1} kickoff               entered, row ")
 
 
 def test_access_lists(site):
@@ -437,16 +502,16 @@ def test_access_lists(site):
             (site.path / name / client).write_text((site.path / client).read_text() + words)
     site.line("XDG_CONFIG_HOME=board " + LINES["The board"].strip())
     site.line("mosquitto_sub -q 1 -t '#' -v >all")
-    report = lambda who, row: site.done(f"XDG_CONFIG_HOME={who} examples/broker/reporter --again 1 --limit 9 a {row[0]} 2>&1", row + "\n")
-    assert report("reporter1", "1,1,0,kickoff").startswith("1 kickoff               entered")
-    assert "not authorised: the broker takes no rows of reporter 7 from this name" in report("reporter1", "7,1,1,goal-home")
+    report = lambda who, row: site.done(f"XDG_CONFIG_HOME={who} ./ucl_reporter --again 1 --limit 9 --broker a --number {row[0]} 2>&1", row + "\n")
+    assert report("reporter1", "1,1,0,kickoff").startswith("1,1,0,kickoff           entered")
+    assert "7,1,1,goal-home: refused: the broker takes no rows of this reporter from this name" in report("reporter1", "7,1,1,goal-home")
     assert "not authorised" in report("false", "1,1,1,goal-home").lower()
     sent = ["0/rows/1 -m 7,1,1,goal-home", "desk -m x", "answers -m x", "0/rows/7 -m 7,1,1,goal-home"]
     sent += ["0/rows/1 -m '1,1,1,yellow-home\n7,1,2,goal-home'", "0/rows/1 -m '1,1,1,yellow-home\nucl/a/0/rows/7 7,1,2,goal-home'"]
     for words in sent:
         for who in ("XDG_CONFIG_HOME=reporter1", "") if words[:8] != "0/rows/1" else ("XDG_CONFIG_HOME=reporter1",):
             site.done(f"{who} mosquitto_pub -q 1 -t ucl/a/{words}")
-    assert report("reporter1", "1,1,1,goal-home").startswith("1 goal-home             entered")
+    assert report("reporter1", "1,1,1,goal-home").startswith("1,1,1,goal-home         entered")
     assert [it["reply"] for it in site.answers()] == ["screen", "ok", "screen", "ok", "screen"]
     told = [line.split(" ", 1) for line in (site.path / "all").read_text().splitlines()]
     assert {topic for topic, _ in told} == {"ucl/a/desk"} and "x" not in [text for _, text in told]
@@ -470,9 +535,9 @@ def test_an_encrypted_port_takes_who_knows_its_certificate(site):
 def test_no_late_row_of_an_edition_is_taken_in_the_next_and_reporters_go_on(site):
     """A card is taken out, so event numbers fall: a row of before is the next one by its number."""
     site.begin()
-    site.done("examples/broker/reporter a 1", "1 kickoff\n1 goal home\n1 yellow home\n1 goal away\n")
-    first, second = Typist(site, "--again 1 a 1"), Typist(site, "--again 1 a 7")
-    assert first.sees("12 Delta 0-0 Charlie, to come, event 0") and second.sees("12 Delta 0-0 Charlie, to come, event 0")
+    site.done("./ucl_reporter --broker a", "1 kickoff\n1 goal home\n1 yellow home\n1 goal away\n")
+    first, second = Typist(site, "--again 1"), Typist(site, "--again 1 --number 7")
+    assert first.sees("12 Delta v Charlie, to come") and second.sees("12 Delta v Charlie, to come")
     first.type("1 goal h")
     assert first.sees("> 1 goal h")
     with open(site.record, "ab") as file:
@@ -481,16 +546,16 @@ def test_no_late_row_of_an_edition_is_taken_in_the_next_and_reporters_go_on(site
         second.type("2 kickoff\n")
         assert second.sees("2 kickoff               no answer yet; it is sent again")
         file.write(b"group,A,uefa,1\n1,1,0,kickoff\n1,1,1,goal-home\n1,1,2,goal-away\nscreen,,,\n")
-    assert second.sees("Edition 1 has begun") and second.sees("2 kickoff               dropped, edition 1 has begun: Delta 0-0 Alpha, to come, event 0")
+    assert second.sees(f"2 kickoff               {DROPPED}: Delta v Alpha, to come") and second.sees("Edition 1 has begun: look at the matches")
     site.done("mosquitto_pub -q 1 -t ucl/a/0/rows/1 -m 1,1,3,goal-home")
     assert first.sees("Edition 1 has begun") and first.sees(" 1 Bravo 1-1 Charlie, in play, event 3") and first.sees("> 1 goal h")
     first.type("ome\n")
-    assert first.sees("this is of edition 0, and the board of edition 1: look at the matches")
+    assert first.sees(f"1 goal home             {DROPPED}")
     first.type("1 goal home\n")
-    assert first.sees("1 goal-home             entered: Bravo 2-1 Charlie, in play, event 4")
-    enter = lambda words, row: site.done(f"examples/broker/reporter {words} a 1 2>&1", row + "\n").split(": ", 1)[1]
+    assert first.sees("1 goal home             entered, row 16: Bravo 2-1 Charlie, in play, event 4 by 1")
+    enter = lambda words, row: site.done(f"./ucl_reporter --broker a {words} 2>&1", row + "\n").split(": ", 1)[1]
     assert enter("", "1,1,4,goal-home") == "1,1,4,goal-home: this is of edition 0, and the board of edition 1: look at the matches\n"
-    assert enter("--edition 1", "1,1,4,goal-home") == "Bravo 3-1 Charlie, in play, event 5\n"
+    assert enter("--edition 1", "1,1,4,goal-home") == "Bravo 3-1 Charlie, in play, event 5 by 1\n"
     assert (site.path / "errors").read_text().count("board: passed over on ucl/a/0/rows/") >= 3
     assert site.answers()[-1]["version"] == 5 and not [it for it in site.answers() if it["reply"] == "refused"]
 
@@ -499,7 +564,7 @@ def test_a_mistake_mended_while_32_screens_look_on(site):
     """Each shows the table before and the table after, and none between; a club is named anew. An edition whose rows are cut off is told by none."""
     site.begin()
     rows = [(1, 1, 0, "kickoff"), (1, 1, 1, "goal-home"), (1, 2, 0, "kickoff"), (1, 1, 2, "yellow-home"), (1, 2, 1, "goal-away"), (1, 1, 3, "goal-away")]
-    site.done("examples/broker/reporter a 1", "".join(f"{row[1]} {row[3]}\n" for row in rows))
+    site.done("./ucl_reporter --broker a", "".join(f"{row[1]} {row[3]}\n" for row in rows))
     paths, shown = [site.path / f"screen{number}" for number in range(32)], model.screen(model.entered(rows)[0])
     for path in paths:
         path.touch()
@@ -521,17 +586,13 @@ def test_a_mistake_mended_while_32_screens_look_on(site):
 def test_an_answer_of_an_edition_that_is_over_decides_nothing(site):
     """There is no board: the row waits for its own answer."""
     site.open_broker()
-    screen, entered = map(json.loads, site.done("./ucl_live --format json", model.CLUBS + "screen,,,\n1,1,0,kickoff\n").splitlines())
-    tell = lambda topic, said: site.done(f"mosquitto_pub -r -q 1 -t ucl/a/{topic} -s", json.dumps(said))
-    tell("desk", {**screen, "edition": 1})
-    reporter = Typist(site, "--again 1 a 1")
-    assert reporter.sees("12 Delta 0-0 Charlie, to come, event 0")
+    screen, entered, after = map(json.loads, site.done("./ucl_live --format json --screens", model.CLUBS + "screen,,,\n1,1,0,kickoff\n").splitlines()[-3:])
+    reporter = Typist(site, "--again 1")
+    assert told_to(site, reporter, "12 Delta v Charlie, to come", desk={**screen, "edition": 1})
     reporter.type("1 kickoff\n")
     assert reporter.sees("1 kickoff               no answer yet; it is sent again")
-    tell("answers", {**entered, "edition": 0})
-    assert not reporter.sees("entered", 1)
-    tell("answers", {**entered, "edition": 1})
-    assert reporter.sees("1 kickoff               entered: Bravo 0-0 Charlie, in play, event 1")
+    assert not told_to(site, reporter, "entered", answers={**entered, "row": 3}, seconds=2)
+    assert told_to(site, reporter, "1 kickoff               entered, row 6: Bravo 0-0 Charlie, in play, event 1 by 1", answers={**entered, "edition": 1}, desk={**after, "edition": 1})
 
 
 # ---- evenings in which something breaks
@@ -603,8 +664,8 @@ class Evening:
         """Lets both reporters enter their rows, and makes trouble so many times, each time after a random number of rows more."""
         for number in "12":
             (self.site.path / f"rows{number}").write_text("".join(row for row in self.rows if row.startswith(number)))
-        reporters = [self.site.line(f"examples/broker/reporter --again 1 --limit 30 a {number} <rows{number} >entered{number}") for number in "12"]
-        entered = lambda: sum(path.read_bytes().count(b"entered:") for path in self.site.path.glob("entered?"))
+        reporters = [self.site.line(f"./ucl_reporter --broker a --number {number} --again 1 --limit 30 <rows{number} >entered{number}") for number in "12"]
+        entered = lambda: sum(path.read_bytes().count(b" entered") for path in self.site.path.glob("entered?"))
         ended = lambda: all(line.shell.poll() is not None for line in reporters)
         for number, place in enumerate(sorted(self.chance.sample(range(ROWS // 20, ROWS * 19 // 20), steps))):
             until(lambda: entered() >= place or ended())
@@ -710,7 +771,7 @@ def test_a_thousand_kills_of_boards_at_random_moments(site):
     for group in boards:
         (site.path / f"rows-{group}").write_text("".join("1" + row[1:] for row in rows[group]))
         rows[group] = (site.path / f"rows-{group}").read_text().splitlines(True)
-    report = lambda group: site.line(f"examples/broker/reporter --again 0.5 --limit 90 {group} 1 <rows-{group} >entered-{group}")
+    report = lambda group: site.line(f"./ucl_reporter --broker {group} --again 0.5 --limit 90 <rows-{group} >entered-{group}")
     reporters = {group: report(group) for group in boards}
     for _ in range(KILLS):
         time.sleep(chance.uniform(0, 0.08))
@@ -719,7 +780,7 @@ def test_a_thousand_kills_of_boards_at_random_moments(site):
         boards[group].start()
     for group, reporter in reporters.items():
         assert reporter.shell.wait() == 0, (site.path / "errors").read_text()[-300:]
-        assert (site.path / f"entered-{group}").read_text().count("entered:") + (site.path / f"entered-{group}").read_text().count("passed over") == len(rows[group])
+        assert (site.path / f"entered-{group}").read_text().count(" entered") + (site.path / f"entered-{group}").read_text().count("passed over") == len(rows[group])
         answers = map(json.loads, site.done(f"./ucl_live --format json <{group}.rows").splitlines())
         screens = screens_by_the_rules(rows[group], answers)
         last = lambda: json.loads(site.done(f"mosquitto_sub -q 1 -C 1 -t ucl/{group}/desk"))["version"]

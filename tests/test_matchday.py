@@ -101,8 +101,8 @@ def test_a_matchday_needs_eight_files_and_a_folder_of_its_own(site):
     matchday = site.line(f"exec examples/matchday {SEASON}")
     until(lambda: len(boards(site)) == len(GROUPS))
     assert site.done(f"timeout 5 examples/matchday {SEASON} 2>&1; echo $?") == "matchday: another matchday runs here: it holds matchday.lock\n1\n"
-    report = "printf '3 kickoff\\n3 goal away\\n' | XDG_CONFIG_HOME=clients examples/broker/reporter h 200"
-    assert site.done(report).endswith("3 goal-away             entered: Chelsea 0-1 Juventus, in play, event 2\n")
+    report = "printf '3 kickoff\\n3 goal away\\n' | XDG_CONFIG_HOME=clients ./ucl_reporter --broker h --number 200"
+    assert site.done(report).endswith("3 goal away             entered, row 8: Chelsea 0-1 Juventus, in play, event 2 by 200\n")
     newest = lambda: site.done("XDG_CONFIG_HOME=clients timeout 5 mosquitto_sub -q 1 -C 1 -t ucl/h/desk | ./ucl_follow")
     site.mend("h", 8)
     assert until(lambda: newest().startswith("GROUP H v00001 "), 20)

@@ -332,8 +332,8 @@ def test_services(full, tmp_path):
     def enter(*rows):
         """Reporter 1 enters rows."""
         lines = [f"1,{match},{expected},{event}\n" for match, expected, event in rows]
-        run = full.run(f"{client}/usr/libexec/ucl-board/reporter a 1", "".join(lines))
-        assert (run.status, run.output.count(" entered: "), run.errors) == (0, len(rows), ""), run
+        run = full.run(f"{client}ucl_reporter --broker a", "".join(lines))
+        assert (run.status, run.output.count(" entered, row "), run.errors) == (0, len(rows), ""), run
         for match, _, event in rows:
             matches[match - 1].enter(1, event)
 

@@ -470,7 +470,7 @@ class Page:
         for number, word in events:
             rows.append(f"1,{number},{self.matches[number - 1].number},{word}\n")
             self.matches[number - 1].enter(1, word)
-        self.site.done("examples/broker/reporter --again 1 --limit 40 a 1", "".join(rows))
+        self.site.done("./ucl_reporter --broker a --again 1 --limit 40", "".join(rows))
 
     def play(self):
         """Ten matches that are finished, and two in play."""
