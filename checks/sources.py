@@ -15,8 +15,8 @@ FUNCTION = re.compile(r'^( *)(?:(pub) |pub\(\w+\) )?(const )?(?:unsafe )?(extern
 BLOCK = re.compile(r"^(?:pub )?(trait|impl)\b")
 TYPE = re.compile(r"^(?:pub(?:\(\w+\))? )?(?:struct|enum) (\w+)", re.M)
 LABEL = re.compile(r"^\s*ensures\s+(?:(\w+)\s+)?\{", re.M)
-RECORD = re.compile(r"^pub record (\w+)\b.*\n((?:  .*\n)*)", re.M)
-FIELD = re.compile(r"^  pub (\w+) : ", re.M)
+RECORD = re.compile(r"^(?:  )?pub record (\w+)\b.*\n((?:  .*\n)*)", re.M)
+FIELD = re.compile(r"^ {2,4}pub (\w+) : ", re.M)
 DISPLAY = "Display"
 
 

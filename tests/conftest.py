@@ -67,11 +67,6 @@ class Run(NamedTuple):
     errors: str
 
 
-def faults_alone(run):
-    """The same run without the lines that say which rule a club broke."""
-    return run._replace(errors=re.sub(r"^club [1-4]: .*\n", "", run.errors, flags=re.M))
-
-
 class Case(NamedTuple):
     """A run of a program by its words and its input. What is wanted of the run stands beside it in a table."""
 

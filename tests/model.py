@@ -17,8 +17,8 @@ STATES = "SCHEDULED", "IN PLAY", "FINISHED"
 # The clubs of the examples.
 ROSTER = [("Alpha", 60_000), ("Bravo", 95_000), ("Charlie", 60_000), ("Delta", 81_500)]
 CLUBS = "".join(f"club,{slot},{name},{coefficient}\n" for slot, (name, coefficient) in enumerate(ROSTER, 1))
-# The most bytes of an input, of a line of an evening, and of a line that a follower reads.
-LONGEST_INPUT, LONGEST_LINE, LONGEST_FOLLOWED = 4_194_304, 256, 4_096
+# The most bytes of a line of an evening, and of a line that a follower reads.
+LONGEST_LINE, LONGEST_FOLLOWED = 256, 4_096
 
 
 class Match:
@@ -266,21 +266,6 @@ def word(fields, game):
     return fields[2] if is_word and len(fields[2]) == 16 and all(c in "0123456789abcdefABCDEF" for c in fields[2]) else None
 
 
-def result(fields, game):
-    """The word that the row of a result gives for a match, after the fewest events, all by reporter 1; None where it gives none."""
-    if len(fields) not in (4, 8) or fields[0] != "result" or not number(fields[1], 2, game, game):
-        return None
-    m, most = Match(), [63, 63, 63, 63, 31, 31]
-    if fields[2:] == ["", ""]:
-        return m.word()
-    counts = [number(text, 2, 0, top) for text, top in zip(fields[2:] + ["0"] * (8 - len(fields)), most)]
-    if None in counts:
-        return None
-    m.goals, m.yellows, m.expulsions = counts[:2], counts[2:4], counts[4:]
-    m.state, m.number, m.reporter = FINISHED, 2 + sum(counts), 1
-    return m.word()
-
-
 def fields_on(row, line):
     """The fields of a line that has this number: [] where it is too long or has several rows, and None where nothing is on it."""
     line = line.removesuffix("\r")
@@ -364,11 +349,6 @@ class Style:
         self.group, self.order, self.edition = group, order, number
         return True
 
-    def row(self):
-        """The row of the group, where an evening would not have it anyway."""
-        said = f"group,{self.group},{self.order},{self.edition}\n"
-        return "" if said == "group,A,uefa,0\n" else said
-
     def screen(self, matches, roster):
         """The screen."""
         return screen(matches, roster, self.group, self.order != "uefa")
@@ -402,11 +382,11 @@ def night(subcommand, words, text):
 
 
 class Evening:
-    """An evening of `ucl_live` by the rules: how it answers, its clubs, the words that were given, and its matches once the board is open."""
+    """An evening of `ucl_live` by the rules: how it answers, its clubs, and its matches once the board is open."""
 
     def __init__(self, words):
         self.is_json, self.with_screens, self.style = "json" in words, "--screens" in words, Style(words)
-        self.roster, self.given, self.matches, self.begun, self.resumed = [], [], None, False, "--resumed" in words
+        self.roster, self.matches, self.begun = [], None, False
         # Whether nothing has come of the edition that stands but its row, clubs and bad rows.
         self.is_new = True
 
@@ -437,24 +417,20 @@ class Evening:
         return self.told(row, members, f"{row} refused {refusal}\n")
 
     def beginning(self, row, fields):
-        """Takes a row of the clubs or the words; False where the row is none of these."""
+        """Takes a row of the group or of the clubs; False where these are complete."""
         place, first, self.begun = len(self.roster), not self.begun, True
         if first and len(fields) == 4 and fields[0] == "group":
             if not self.style.take(fields):
                 raise Fault(f"input refused 20: row {row}")
             return True
-        is_word = self.matches is None and (self.resumed or self.given or (len(fields), *fields[:1]) in [(4, "word"), (4, "result"), (8, "result")])
-        if place == 4 and not is_word:
+        if place == 4:
             return False
-        game = len(self.given) + 1
-        said = club(fields, place + 1) if place < 4 else word(fields, game) or result(fields, game)
+        said = club(fields, place + 1)
         if said is None:
             raise Fault(f"input refused 20: row {row}")
-        (self.roster if place < 4 else self.given).append(said)
+        self.roster.append(said)
         if len(self.roster) == 4:
             check_roster(self.roster)
-        if len(self.given) == 12:
-            self.matches = matches_of(self.given)
         return True
 
     def turned(self, fields):
@@ -498,7 +474,7 @@ class Evening:
         lines = lines[:-1] if not lines[-1] else lines
         try:
             answers = [answer for row, line in enumerate(lines, 1) for answer in self.answers(row, line)]
-            if len(self.roster) < 4 or ((self.given or self.resumed) and self.matches is None):
+            if len(self.roster) < 4:
                 raise Fault(f"input refused 20: row {len(lines) + 1}")
         except Fault as fault:
             return 2 if str(fault).startswith("error") else 3, "", f"{fault}\n"
@@ -543,11 +519,4 @@ def followed(words, text):
             style.edition = edition
             text = match_lines(matches, roster) if "--matches" in words else style.screen(matches, roster)
             output += line_of(style.json(matches, roster, row)) if "json" in words else text
-    if "--resume" in words:
-        quoted = lambda name: '"' + name.replace('"', '""') + '"'
-        if newest is None:
-            return 3, "", errors + f"no moment in {len(lines)} lines: there is nothing to go on from\n"
-        style = Style(["--group", newest[0], "--order", newest[1]])
-        style.edition = newest[2]
-        output = style.row() + "".join(f"club,{slot},{quoted(name)},{c}\n" for slot, (name, c) in enumerate(newest[3], 1)) + sheet(newest[4])
     return 0, output, errors + f"{len(lines)} lines, {shown} shown, {len(lines) - shown} passed over\n"

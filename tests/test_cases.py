@@ -154,8 +154,8 @@ test_helps = tabled({line: (line, "", Has("", *parts)) for line, parts in {
     "ucl_night feed --help": ["Usage: ucl_night feed\n", CLUB_ROW, EVENT_ROW, WORD_ROW, *RULES[:3], "1,1,0,kickoff", *REPLIES, STARTS[0]],
     "ucl_night show --help": ["Usage: ucl_night show [OPTIONS]\n", *GROUP, *ORDER, CLUB_ROW, WORD_ROW, STARTS[1]],
     "ucl_night night --help": ["Usage: ucl_night night [OPTIONS]\n", *GROUP, *ORDER, *READINGS, STARTS[2]],
-    "ucl_live --help": ["Usage: ucl_live [OPTIONS]", *RULES, "1,1,0,kickoff", "matches,,,", "result,7,2,1", *ASKED, "--resumed", "--screens", "--explain", "--format <FORMAT>"],
-    "ucl_follow --help": ["Usage: ucl_follow [OPTIONS]", *RULES, "--group <GROUP>", "--order <ORDER>", "--matches", "--resume", "--format <FORMAT>"],
+    "ucl_live --help": ["Usage: ucl_live [OPTIONS]", *RULES, "1,1,0,kickoff", "matches,,,", *ASKED, "later edition", "--screens", "--format <FORMAT>"],
+    "ucl_follow --help": ["Usage: ucl_follow [OPTIONS]", RULES[3], "--group <GROUP>", "--order <ORDER>", "--matches", "--format <FORMAT>"],
 }.items()})
 
 test_words_that_are_refused = tabled({line or "no words": (line, "", "", 2, Has("error: ", reason)) for line, reason in {
@@ -165,8 +165,8 @@ test_words_that_are_refused = tabled({line or "no words": (line, "", "", 2, Has(
     "ucl_night show --readings 3": "", "ucl_night feed more": "", "ucl_night feed --group A": "",
     "ucl_live --group I": "", "ucl_live --format xml": "", "ucl_live --readings 1": "", "ucl_live feed": "", "ucl_live --screens=1": "",
     "ucl_live --group": "", "ucl_live --scren": "'--screens'", "ucl_live --format jsn": "'json'", "ucl_night fed": "'feed'",
-    "ucl_follow --group I": "'I'", "ucl_follow --order": "", "ucl_follow --format xml": "", "ucl_follow evening.jsonl": "", "ucl_follow --resume=1": "", "ucl_follow --format": "",
-    "ucl_follow --matches --format json": "--format", "ucl_follow --resume --matches": "--matches",
+    "ucl_follow --group I": "'I'", "ucl_follow --order": "", "ucl_follow --format xml": "", "ucl_follow evening.csv": "", "ucl_follow --format": "",
+    "ucl_follow --matches --format json": "--format",
 }.items()})
 
 
@@ -195,16 +195,12 @@ def test_events_of_the_help_are_those_that_are_taken(run):
 
 
 @pytest.mark.parametrize("name", ["ucl_night", "ucl_live"])
-def test_examples_of_the_help(run, place, tmp_path, name):
-    """Each example of the help, as it stands there, ends well and writes something. What is typed after the clubs is a script."""
-    run(name, "--help")
+def test_examples_of_the_help(run, place, name):
+    """Each example of the help, as it stands there, ends well and writes something; a record that is followed is whole."""
     starts = [re.split(r" {4,}", line.strip())[0] for line in block_of(run(name, "--help").output, "Examples:") if line.strip()]
     assert len(starts) == {"ucl_night": 3, "ucl_live": 2}[name]
-    if name == "ucl_live":
-        (clubs, evening), script = starts[1].split(" | "), EXAMPLES / "one_goal.csv"
-        starts[1] = f"cd {tmp_path} && head -n 4 {script} > clubs.csv && tail -n +5 {script} | {clubs} | {place}/{evening}"
     for start in starts:
-        ran = command(["bash", "-c", start if start.startswith("cd ") else f"./{start}"], cwd=place)
+        ran = command(["bash", "-c", start.replace("tail -n +1 -F evening.csv", "cat examples/one_goal.csv").replace(name, f"./{name}")], cwd=place)
         assert (ran.status, bool(ran.output), ran.errors) == (0, True, ""), start
 
 

@@ -1,27 +1,27 @@
-"""`ucl_live`: rows are answered as they come, on pipes that are held open."""
+"""`ucl_live`: rows are answered as they come, on pipes that are held open, and a record of rows is answered the same each time."""
 
 import itertools
-import re
+import shutil
 
 import pytest
-from conftest import EXAMPLES, faults_alone, lines_of, tabled, text_of
-from model import CLUBS, FINISHED, IN_PLAY, ROSTER, Evening, fresh, sheet
+from conftest import EXAMPLES, tabled, text_of
+from model import CLUBS, ROSTER, Evening, fresh, screen
 
 example = lambda name: text_of(EXAMPLES / name)
 FED = ["one_goal", "two_matches", "head_to_head", "reopened", "plus_lost"]
-SHOWN = ["first_layout_sheet", "head_to_head_sheet", "plus_lost_sheet", "two_matches_sheet"]
+SHOWN = ["two_matches", "head_to_head", "plus_lost"]
 AWAY, AWAY_IN_TIE = example("away_goals_night.csv"), "".join(example("away_goals_night.away_in_tie").splitlines(True)[-6:])
 
 test_what_feed_and_show_write_is_answered = tabled({
     **{f"feed {name}": ("ucl_live", example(f"{name}.csv") + "words,,,\n", example(f"{name}.expected")) for name in FED},
-    **{f"show {name}": ("ucl_live", example(f"{name}.csv") + "screen,,,\n", example(f"{name}.expected")) for name in SHOWN},
+    **{f"show {name}": ("ucl_live --group H", example(f"{name}.csv") + "words,,,\nscreen,,,\n",
+                        example(f"{name}.expected") + example(f"{name}_sheet.expected").replace("GROUP A", "GROUP H")) for name in SHOWN},
     "an order": ("ucl_live --order away-in-tie", AWAY + "screen,,,\n", "".join(Evening([]).of(AWAY)[1]) + AWAY_IN_TIE),
-    "a group": ("ucl_live --group H", example(f"{SHOWN[3]}.csv") + "screen,,,\n", example(f"{SHOWN[3]}.expected").replace("GROUP A", "GROUP H")),
 })
 
 BAD = [
     "0,1,0,kickoff", "256,1,0,kickoff", "1,0,0,kickoff", "1,13,0,kickoff", "1,1,65536,kickoff", "1,1,-1,kickoff", "1, 1,0,kickoff",
-    "1,1,0,kick-off", "1,1,0,kick", "1,1,0", "1,1,0,kickoff,", "kickoff", "word,1,2000000000000000", "club,1,Alpha,60000", "screen", "screen,,,,",
+    "1,1,0,kick-off", "1,1,0,kick", "1,1,0", "1,1,0,kickoff,", "kickoff", "word,1,2000000000000000", "club,5,Echo,1", "group,A,uefa,0", "group,B,uefa,1", "group,A,away-in-tie,1", "screen", "screen,,,,",
     "screen,1,,", "words,,,1", "Screen,,,", "matches", "matches,,1,", "match,,,", '1,1,0,"kickoff', '1,1,0,kickoff"', "1,1,0,kickoff\r2,2,0,kickoff", "\ufeff1,1,0,kickoff",
     "\0" + "1,1,0,kickoff", "x" * 257, "x" * 100_000, *('1,1,0,"' + "x" * (length - 8) + '"' for length in (255, 256, 257)), "\r" * 244 + "1,1,0,kickoff",
 ]
@@ -35,132 +35,30 @@ test_rows = tabled({
     "a mark at the start": ("ucl_live", "\ufeff" + CLUBS + "1,1,0,kickoff\n", "5 ok 1 1 1\n"),
     "the longest club": ("ucl_live", LONGEST_CLUBS + "1,1,0,kickoff\n", "5 ok 1 1 1\n"),
     "no row": ("ucl_live", CLUBS, ""),
+    "a club after an event": ("ucl_live", CLUBS + "1,1,0,kickoff\nclub,1,Echo,7\n", "5 ok 1 1 1\n6 refused 20 bad-row\n"),
 })
 
 CLUB = CLUBS.splitlines(True)
-WORD = "word,1,2000000000000000,\n"
-WORDS = "".join(f"word,{game},{'2000000000000000' if game < 3 else 'f' * 16},\n" for game in range(1, 13))
-NOT_PLAYED = [f"result,{game},,\n" for game in range(1, 13)]
-BAD_RESULTS = [f"result,{fields}" for fields in (
-    "1,0", "1,0,0,", "1,0,0,0,0,0", "1,0,0,0,0,0,0,0", "1,0,", "1,,0", "1,,,,,,", "1,0,0,0,0,0,", "1,64,0", "1,0,64", "1,0,000", "1,+1,0", "1,-1,0", "1, 1,0", "1,x,0",
-    "1,0,0,64,0,0,0", "1,0,0,0,64,0,0", "1,0,0,0,0,32,0", "1,0,0,0,0,0,32", "3,0,0", "001,0,0", ",0,0")]
 
-NAME = ": a name has 1 to 20 bytes of printable ASCII\n"
-NUMBER = ": a coefficient is a whole number of thousandths, at most 999999: 35.500 is 35500\n"
-ROW = ": its row is club,SLOT,NAME,COEFFICIENT, as club,1,Alpha,60000\n"
-
-test_beginnings_that_are_refused = tabled({name: ("ucl_live", text, "", 3, f"input refused {fault}\n{''.join(rule)}") for name, (text, fault, *rule) in {
-    "nothing": ("", "20: row 1", "club 1" + ROW),
-    "a quote that stays open": ('club,1,"Alp', "20: row 1", "club 1" + ROW),
-    "three clubs": ("".join(CLUB[:3]), "20: row 4", "club 4" + ROW),
-    "an empty line among the clubs": (CLUB[0] + "\n" + CLUB[2], "20: row 3", "club 2" + ROW),
-    "a club twice": (CLUB[0] * 2, "20: row 2", "club 2" + ROW),
-    "an event among the clubs": ("".join(CLUB[:3]) + "1,1,0,kickoff\n", "20: row 4", "club 4" + ROW),
-    "a comma in a name": (CLUBS.replace("Bravo", "Bra,vo"), "20: row 2", "club 2" + ROW),
-    "names of the columns": ("kind,slot,name,coefficient\n" + CLUBS, "20: row 1", "club 1" + ROW),
-    "a coefficient with a point": (CLUBS.replace("81500", "81.500"), "20: row 4", "club 4" + NUMBER),
-    "a coefficient of ten digits": (CLUBS.replace("95000", "0000095000"), "20: row 2", "club 2" + NUMBER),
-    "a coefficient of a million": (CLUBS.replace("95000", "1000000"), "21: slot 2", "club 2" + NUMBER),
-    "a name and then a coefficient": (CLUBS.replace("Alpha", "").replace("81500", "1e5"), "20: row 4", "club 4" + NUMBER),
-    "a coefficient and then a name": (CLUBS.replace("60000", "000999999", 1).replace("Charlie", '"' + 21 * "C" + '"'), "21: slot 3", "club 3" + NAME),
-    "no name": (CLUBS.replace("Bravo", ""), "21: slot 2", "club 2" + NAME),
-    "a long name": (CLUB[0] + "club,2,Bravo Bravo Bravo Bra,1\n" + "".join(CLUB[2:]), "21: slot 2", "club 2" + NAME),
-    "twenty-one quotes": (CLUBS.replace("Delta", '"' + 42 * '"' + '"'), "21: slot 4", "club 4" + NAME),
-    "a name in UTF-8": (CLUBS.replace("Alpha", "Málaga") + "1,1,0,kickoff\n", "21: slot 1", "club 1" + NAME),
-    **{f"the result {row}": (CLUBS + row + "\n" + "".join(NOT_PLAYED[1:]), "20: row 5") for row in BAD_RESULTS if len(row.split(",")) in (4, 8)},
-    **{f"the result {row} of match 2": (CLUBS + NOT_PLAYED[0] + row.replace("1", "2", 1) + "\n", "20: row 6") for row in BAD_RESULTS},
-    "a missing result": (CLUBS + "".join(NOT_PLAYED[:11]), "20: row 16"),
-    "an event among the results": (CLUBS + NOT_PLAYED[0] + "1,2,0,kickoff\n", "20: row 6"),
-    "one word": (CLUBS.replace("Delta", '"' + 40 * '"' + '"') + WORD, "20: row 6"),
-    "a word twice": (CLUBS + WORD * 2, "20: row 6"),
-    "the second word first": (CLUBS + WORD.replace("1", "2", 1), "20: row 5"),
-    "words that are none": (CLUBS + WORDS, "10: word 3"),
+test_beginnings_that_are_refused = tabled({name: ("ucl_live", text, "", 3, f"input refused {fault}\n") for name, (text, fault) in {
+    "nothing": ("", "20: row 1"),
+    "a quote that stays open": ('club,1,"Alp', "20: row 1"),
+    "three clubs": ("".join(CLUB[:3]), "20: row 4"),
+    "an empty line among the clubs": (CLUB[0] + "\n" + CLUB[2], "20: row 3"),
+    "a club twice": (CLUB[0] * 2, "20: row 2"),
+    "an event among the clubs": ("".join(CLUB[:3]) + "1,1,0,kickoff\n", "20: row 4"),
+    "a comma in a name": (CLUBS.replace("Bravo", "Bra,vo"), "20: row 2"),
+    "names of the columns": ("kind,slot,name,coefficient\n" + CLUBS, "20: row 1"),
+    "a coefficient with a point": (CLUBS.replace("81500", "81.500"), "20: row 4"),
+    "a coefficient of ten digits": (CLUBS.replace("95000", "0000095000"), "20: row 2"),
+    "a coefficient of a million": (CLUBS.replace("95000", "1000000"), "21: slot 2"),
+    "a name and then a coefficient": (CLUBS.replace("Alpha", "").replace("81500", "1e5"), "20: row 4"),
+    "a coefficient and then a name": (CLUBS.replace("60000", "000999999", 1).replace("Charlie", '"' + 21 * "C" + '"'), "21: slot 3"),
+    "no name": (CLUBS.replace("Bravo", ""), "21: slot 2"),
+    "a long name": (CLUB[0] + "club,2,Bravo Bravo Bravo Bra,1\n" + "".join(CLUB[2:]), "21: slot 2"),
+    "twenty-one quotes": (CLUBS.replace("Delta", '"' + 42 * '"' + '"'), "21: slot 4"),
+    "a name in UTF-8": (CLUBS.replace("Alpha", "Málaga") + "1,1,0,kickoff\n", "21: slot 1"),
 }.items()})
-
-# ---- refusals in words
-
-
-def after_words(**members):
-    """Clubs and words of a board whose match 7 is this."""
-    matches = fresh()
-    vars(matches[6]).update(reporter=9, **members)
-    return CLUBS + sheet(matches)
-
-
-STARTED, ENDED = CLUBS + "1,1,0,kickoff\n", CLUBS + "1,1,0,kickoff\n1,1,1,goal-away\n2,1,2,fulltime\n"
-MEANT = {
-    "kick-off": "kickoff", "Kickoff": "kickoff", "kickoff ": "kickoff", "goal-hoem": "goal-home", "goal_away": "goal-away", "FULL TIME": "fulltime", "re-open": "reopen",
-    "disalow-home": "disallow-home", "disallow-awy": "disallow-away", "yelow-home": "yellow-home", "yellow away": "yellow-away", "second-yelow-home": "second-yellow-home",
-    "second yellow away": "second-yellow-away", "read-home": "red-home", "red-aways": "red-away",
-}
-NO_FIELDS = " is no row of four fields"
-# The rows before, a row, and what is told of it.
-SENTENCES = [
-    (STARTED + "2,1,1,goal-home\n", "3,1,1,goal-home", "match 1 has number 2 by now and you had seen 1; it stands 1-0, last by reporter 2; if yours is not in it, type 3,1,2,goal-home"),
-    (ENDED, "1,1,9,red-home", "match 1 has number 3 by now and you had seen 9; it ended 0-1, last by reporter 2; if it goes on, type 1,1,3,reopen"),
-    (CLUBS, "4,2,1,goal-home", "match 2 has number 0 by now and you had seen 1; it has not kicked off; type 4,2,0,kickoff"),
-    (ENDED, "1,1,3,goal-home", "match 1 is finished; if it goes on, type 1,1,3,reopen first"),
-    (STARTED, "1,1,1,reopen", "match 1 is not finished; leave the row out"),
-    (CLUBS, "1,12,0,goal-home", "match 12 has not kicked off; type 1,12,0,kickoff first, or is it another match?"),
-    (STARTED, "7,1,1,kickoff", "match 1 has kicked off already; leave the row out"),
-    (after_words(number=4094, state=IN_PLAY), "1,7,4094,goal-home", "match 7 takes full time alone by now; type 1,7,4094,fulltime"),
-    (after_words(number=4095, state=FINISHED), "1,7,4095,reopen", "match 7 has no event number left, and stays finished"),
-    (STARTED, "1,1,1,disallow-away", "the away side of match 1 has no goal; is it the other side, or another match?"),
-    (STARTED, "1,1,1,second-yellow-home", "the home side of match 1 has no standing yellow; type 1,1,1,yellow-home before it, or red-home in its place"),
-    (after_words(number=64, state=IN_PLAY, goals=[63, 0]), "1,7,64,goal-home", "the home side of match 7 has 63 goals, the most that a board counts"),
-    (after_words(number=64, state=IN_PLAY, yellows=[0, 63]), "1,7,64,yellow-away", "the away side of match 7 has 63 standing yellows, the most that a board counts"),
-    (after_words(number=64, state=IN_PLAY, expulsions=[31, 0]), "1,7,64,red-home", "the home side of match 7 has 31 expulsions, the most that a board counts"),
-    *((CLUBS, f"1,1,0,{said}", f'"{said}" is no event; {meant}?') for said, meant in MEANT.items()),
-    *((CLUBS, f"1,1,0,{said}", f'"{said}" is no event; --help has them all') for said in ("", "goal", "corner-home", "1")),
-    (CLUBS, '"1",1,0,"kick-off"', '"kick-off" is no event; kickoff?'),
-    (CLUBS, "1,1,0,kickoff ", '"kickoff" has bytes behind it that are not printable ASCII; kickoff?'),
-    *((CLUBS, f"{said},1,0,kickoff", f'"{said}" is no reporter, which is a number from 1 to 255') for said in ("0", "256", "north", "+1", "")),
-    *((CLUBS, f"1,{said},0,kickoff", f'"{said}" is no match, which is a number from 1 to 12') for said in ("0", "13", "A v B")),
-    *((CLUBS, f"1,1,{said},kickoff", f'"{said}" is no event number, which is the one last seen of the match') for said in ("-1", "65536", "")),
-    *((CLUBS, row, f'"{row}"{NO_FIELDS}, such as 1,7,0,kickoff') for row in ("help", "1,1,0", "1,1,0,kickoff,", "1 7 0 kickoff", "9" * 64)),
-    *((CLUBS, row, f'"{row}"{NO_FIELDS}; {meant},,,?') for row, meant in (("screen", "screen"), ("Screen,,", "screen"), ("words,,,,", "words"), ("wrods", "words"))),
-    *((CLUBS, row, f'"{row[:-3]}" asks for nothing that there is; {meant},,,?') for row, meant in (("Screen,,,", "screen"), ("word,,,".replace("d", "ds "), "words"), ("help,,,", "screen"))),
-    (CLUBS, "é", f'""{NO_FIELDS}, such as 1,7,0,kickoff'),
-    (STARTED, "club,1,Alpha,60000", '"club" rows come before all events; leave it out'),
-    (STARTED, "word,1,2000000000000000,", '"word" rows come before all events; leave it out'),
-    (STARTED, "result,1,2,1", '"result" rows come before all events; leave it out'),
-]
-
-test_refusals_in_words = tabled({f"{before.count(chr(10)) + 1}: {row[:40]!r}": (
-    f"ucl_live --explain{form}", before + row + end, Evening(form.split()).of(before + row + end)[1], 0, f"row {before.count(chr(10)) + 1}: {told}\n",
-) for (before, row, told), form, end in zip(SENTENCES, itertools.cycle(["", " --format json", " --screens"]), itertools.cycle(["\n", "\r\n\nscreen,,,\n", ""]))})
-
-
-def test_what_is_explained_of_a_whole_evening(run):
-    """One sentence for each refused row, by its number, however the rows lie in what is read; none without the option."""
-    rows = [f"1,{game},{at},{event}\n" for game in range(1, 13) for at, event in enumerate(["kickoff", "goal-home", "gaol-home", "second-yellow-home", "fulltime"])]
-    text = CLUBS + "".join(rows * 20)
-    refused = [line.split()[0] for line in Evening([]).of(text)[1].splitlines() if " refused " in line]
-    status, output, errors = run("ucl_live", "--explain", input=text)
-    assert (status, output) == Evening([]).of(text)[:2] == run("ucl_live", input=text)[:2]
-    assert [re.match(r"row (\d+): ", line)[1] for line in errors.splitlines()] == refused and len(refused) > 500
-    assert run("ucl_live", input=text).errors == ""
-
-
-@pytest.mark.limit(30)
-def test_explained_row_by_row(start):
-    """The sentence is there before the next row is written."""
-    evening = start("ucl_live", "--explain")
-    evening.write(STARTED)
-    assert evening.lines() == "5 ok 1 1 1\n"
-    for number in range(6, 20):
-        evening.write("1,1,0,kickoff\n")
-        assert evening.lines() == f"{number} refused 1 stale 1\n"
-        assert lines_of(evening.stderr).startswith(f"row {number}: match 1 has number 1 by now")
-    assert evening.end() == (0, "", "")
-
-
-def test_evening_that_goes_on(run):
-    """The clubs and the words that were asked for are the beginning of the next evening."""
-    events = "1,1,0,kickoff\n2,2,0,kickoff\n1,1,1,goal-home\n"
-    words = "".join(run("ucl_live", input=CLUBS + events + "words,,,\n").output.splitlines(True)[3:])
-    assert words.startswith("word,1,2001000000005002,\n") and words.count("\n") == 12
-    assert run("ucl_live", input=CLUBS + words + "1,1,2,fulltime\n1,1,2,fulltime\n") == (0, "17 ok 1 3 4\n18 refused 1 stale 3\n", "")
 
 
 @pytest.mark.limit(30)
@@ -192,7 +90,7 @@ def test_cut_after_each_byte(run):
     """The rows that are complete are answered, and the last one as if it ended there."""
     script = example("two_matches.csv")
     for cut in range(len(script) + 1):
-        assert faults_alone(run("ucl_live", input=script[:cut])) == Evening([]).of(script[:cut]), f"cut after {cut} bytes"
+        assert run("ucl_live", input=script[:cut]) == Evening([]).of(script[:cut]), f"cut after {cut} bytes"
 
 
 @pytest.mark.parametrize("row, field, text", [
@@ -205,18 +103,6 @@ def test_bad_rows_in_json(run, row, field, text):
     """The first field that is none of an event, and the row up to its first byte that is not printable ASCII, at most 64 bytes."""
     wanted = f'{{"code":20,"field":"{field}","name":"bad-row","reply":"refused","row":5,"text":"{text}"}}\n'
     assert run("ucl_live", "--format", "json", input=CLUBS + row + "\r\n") == (0, wanted, "")
-
-
-def test_results(run):
-    """A board begins from results, words, and matches that were not played, and goes on from there; also where words have to come."""
-    rows = ["result,1,2,1\n", "result,02,00,00,1,02,0,31\n", NOT_PLAYED[2], "word,4,2001000000005002,\n", "result,5,63,63,63,63,31,31\n", *NOT_PLAYED[5:]]
-    ended = ["match  1 v0005 FINISHED   2-1 Y 0-0 E 0-0 by   1 Bravo v Charlie\n", "match  2 v0036 FINISHED   0-0 Y 1-2 E 0-31 by   1 Delta v Alpha\n"]
-    ended += ["match  3 v0000 SCHEDULED  0-0 Y 0-0 E 0-0 by   0 Alpha v Bravo\n", "match  4 v0002 IN PLAY    1-0 Y 0-0 E 0-0 by   1 Charlie v Delta\n"]
-    ended += ["match  5 v0316 FINISHED  63-63 Y 63-63 E 31-31 by   1 Charlie v Alpha\n", "match  6 v0000 SCHEDULED  0-0 Y 0-0 E 0-0 by   0 Bravo v Delta\n"]
-    for words in ([], ["--resumed"]):
-        text = CLUBS + "".join(rows) + "matches,,,\n2,1,5,reopen\n2,3,0,kickoff\nresult,3,0,0,0,0,0,0\n"
-        output = run("ucl_live", *words, input=text).output.splitlines(True)
-        assert output[:6] == ended and output[12:] == ["18 ok 1 6 360\n", "19 ok 3 1 361\n", "20 refused 20 bad-row\n"]
 
 
 def test_matches(run):
@@ -255,3 +141,60 @@ def test_json(run):
     text = CLUBS.replace("Alpha", '"Al""p\\h/a"') + rows
     assert run("ucl_live", "--format", "json", "--screens", "--group", "C", input=text) == (0, "".join(line + "\n" for line in wanted), "")
     assert Evening(["--format", "json", "--screens", "--group", "C"]).of(text) == (0, "".join(line + "\n" for line in wanted), "")
+
+
+# ---- a record of rows
+
+# A record of two editions, what is answered to its rows, and its table.
+RECORD = "group,B,uefa,1\n" + CLUBS + "1,1,0,kickoff\n1,1,1,goal-home\n2,4,0,kickoff\ngroup,B,uefa,23\nclub,2,Real Madrid,61000\n1,1,0,kickoff\n2,1,1,goal-away\n"
+ANSWERS = "6 ok 1 1 1\n7 ok 1 2 2\n8 ok 4 1 3\n11 ok 1 1 1\n12 ok 1 2 2\n"
+TABLE = """GROUP B v00002 IN PLAY 1
+    Club                  P  W  D  L  GF  GA   GD Pts
+1   Charlie               1  1  0  0   1   0   +1   3
+2   Delta                 0  0  0  0   0   0   +0   0
+3   Alpha                 0  0  0  0   0   0   +0   0
+4   Real Madrid           1  0  0  1   0   1   -1   0
+"""
+
+
+def test_record_cut_after_each_byte(run):
+    """A start after a crash answers whole rows as before. A torn row, once it has an end, is a bad one or another, and ends no run; typed again, it is put right."""
+    for cut in range(RECORD.index("1,1,0,kickoff"), len(RECORD) + 1):
+        kept, row = RECORD[:cut], RECORD.rfind("\n", 0, cut) + 1
+        begun = kept if cut == row else kept + "\n"
+        again, on = (run("ucl_live", input=begun + rest + "screen,,,\n") for rest in (RECORD[row:], RECORD[cut:]))
+        assert (again.status, again.errors, on.status, on.errors) == (0, "", 0, ""), f"cut after {cut} bytes"
+        assert again.output.endswith(TABLE) and on.output.splitlines()[-6].startswith("GROUP B v"), f"cut after {cut} bytes"
+        if cut == row:
+            assert again.output == ANSWERS + TABLE and ANSWERS.startswith(run("ucl_live", input=kept).output)
+
+
+@pytest.mark.parametrize("words", [[], ["--screens"], ["--format", "json", "--screens"]], ids=" ".join)
+def test_record_is_answered_the_same_again(run, start, words):
+    """At once, or byte by byte."""
+    evening = start("ucl_live", *words)
+    for byte in RECORD + "screen,,,\nmatches,,,\n":
+        evening.write(byte)
+    assert evening.end() == run("ucl_live", *words, input=RECORD + "screen,,,\nmatches,,,\n")
+
+
+@pytest.mark.limit(30)
+def test_record_that_grows(start, tmp_path):
+    """What is appended to the file is shown at once, a later edition too."""
+    (tmp_path / "evening.csv").write_text(RECORD[: RECORD.index("group,B,uefa,23")])
+    tail = start(shutil.which("tail"), "-n", "+1", "-F", "evening.csv")
+    evening = start("ucl_live", "--screens", stdin=tail.stdout)
+    evening.lines(21)
+    with open(tmp_path / "evening.csv", "a", buffering=1) as file:
+        file.write("1,1,2,fulltime\n")
+        assert evening.lines(7).startswith("9 ok 1 3 4\nGROUP B v00004 IN PLAY 1\n")
+        file.write("group,B,uefa,23\nscreen,,,\n")
+        assert evening.lines(6) == screen(fresh(), group="B")
+
+
+def test_same_rows_same_table(run):
+    """Whatever the order in which a follower gets the answers of a record, and if it gets them twice, it ends with the table of the record."""
+    answers = run("ucl_live", "--format", "json", input=RECORD).output.splitlines(True)
+    for lines in itertools.permutations(answers):
+        assert run("ucl_follow", input="".join([*answers, *lines])).output.endswith(TABLE)
+        assert run("ucl_follow", input="".join(lines)).output.endswith(TABLE)

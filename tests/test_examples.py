@@ -2,7 +2,6 @@
 
 import re
 
-import model
 import pytest
 from conftest import EXAMPLES, TOP, command, tabled, text_of
 
@@ -10,16 +9,14 @@ README = text_of(TOP / "README.md")
 SEASON = EXAMPLES / "season_2021_22"
 WORD_OF = {"sheet": "show", "night": "night"}
 TOLD = "8 lines, 2 shown, 6 passed over\n"
-journal, screens, rows = (text_of(EXAMPLES / f"followed.{ending}") for ending in ("jsonl", "expected", "rows"))
+answers, screens = (text_of(EXAMPLES / f"followed.{ending}") for ending in ("jsonl", "expected"))
 
 test_examples = tabled({
     **{f"{path.stem}": (f"ucl_night {WORD_OF.get(path.stem.split('_')[-1], 'feed')}", text_of(path), text_of(path.with_suffix(".expected")))
        for path in sorted(EXAMPLES.glob("*.csv"))},
     **{f"group {group} of 2021/22": (f"ucl_night night --group {group}", *(text_of(SEASON / f"group_{group.lower()}.{ending}") for ending in ("csv", "expected")))
        for group in "ABCDEFGH"},
-    "what is shown of an evening that is followed": ("ucl_follow", journal, screens, 0, TOLD),
-    "rows by which it goes on": ("ucl_follow --resume", journal, rows, 0, TOLD),
-    "its next row": ("ucl_live", rows + "1,1,2,fulltime\n", "17 ok 1 3 4\n"),
+    "what is shown of an evening that is followed": ("ucl_follow", answers, screens, 0, TOLD),
 })
 
 
@@ -47,32 +44,6 @@ def test_first_look(program, place):
     program("ucl_live")
     blocks = re.findall(r"^```console\n\$ (.*)\n((?s:.*?))^```$", README, re.M)
     assert [command(["bash", "-c", line], cwd=place).output for line, _ in blocks] == [shown for _, shown in blocks] and len(blocks) == 2
-
-
-@pytest.mark.parametrize("results", [{}, {1: (2, 1), 12: (0, 0)}], ids=["clubs", "results"])
-def test_tonight(program, place, tmp_path, results):
-    """The README's lines for tonight, typed in turn: silence means accepted, a refusal is a sentence, and the other terminals show the table and the matches."""
-    block = re.search(r"^```sh\n(.*?)^```$", README, re.M | re.S)[1]
-    evening, table, matches = (line.partition("  #")[0] for line in block.splitlines())
-    for name in "ucl_live", "ucl_follow":
-        program(name)
-        (tmp_path / name).symlink_to(place / name)
-    clubs = text_of(EXAMPLES / "one_goal.csv").splitlines(True)[:4]
-    board = model.fresh()
-    for game, (home, away) in results.items():
-        for event in ["kickoff", *["goal-home"] * home, *["goal-away"] * away, "fulltime"]:
-            board[game - 1].enter(1, event)
-    rows = [f"result,{game}," + ",".join(map(str, results.get(game, ("", "")))) + "\n" for game in range(1, 13)] if results else []
-    (tmp_path / "clubs.csv").write_text("".join(clubs + rows))
-    refused = len(clubs + rows) + 3
-    ran = command(["bash", "-c", evening], "1,2,0,kickoff\n1,2,1,goal-home\n2,2,1,goal-home\nscreen,,,\n", cwd=tmp_path)
-    assert ran.output == "" and ran.errors.startswith(f"row {refused}: match 2 has number 2 by now") and ran.errors.count("\n") == 1
-    assert re.search(r"a refusal says row \d+: match \d+ has number \d+ by now \.\.", block)
-    for event in "kickoff", "goal-home":
-        board[1].enter(1, event)
-    assert table.startswith("tail -n +1 -F ") and matches.startswith("tail -n +1 -F ")
-    shown, stands = (command(["bash", "-c", line.replace("tail -n +1 -F", "cat")], cwd=tmp_path).output for line in (table, matches))
-    assert shown.endswith(model.screen(board, group="B")) and stands.endswith(model.match_lines(board))
 
 
 # ---- sources

@@ -1,49 +1,46 @@
-"""`ucl_follow`: a journal of an evening is followed, whatever becomes of its lines."""
+"""`ucl_follow`: the answers of an evening are followed, whatever becomes of their lines."""
 
 import concurrent.futures
 import json
 import random
 import tempfile
+import time
 
 import pytest
 from conftest import EXAMPLES, Started, command, decoded, tabled, text_of
 from model import CLUBS, Evening, followed
 
 NIGHT = text_of(EXAMPLES / "group_a_2021_night.csv")
-ROWS = NIGHT.splitlines(True)[4:]
-journal_of = lambda text, *words: Evening(["--format", "json", *words]).of(text)[1]
+answers_of = lambda text, *words: Evening(["--format", "json", *words]).of(text)[1]
 screens_of = lambda text, *words: [line for line in Evening(["--screens", *words]).of(text)[1].splitlines(True) if " ok " not in line and " refused " not in line]
-JOURNAL, SCREENS = journal_of(NIGHT), "".join(screens_of(NIGHT))
-LINES = JOURNAL.splitlines(True)
-FIRST, SECOND = journal_of(CLUBS + "1,1,0,kickoff\n1,1,1,goal-home\n").splitlines(True)
+ANSWERS, SCREENS = answers_of(NIGHT), "".join(screens_of(NIGHT))
+LINES = ANSWERS.splitlines(True)
+FIRST, SECOND = answers_of(CLUBS + "1,1,0,kickoff\n1,1,1,goal-home\n").splitlines(True)
 SCREEN, BOTH = ("".join(screens_of(CLUBS + f"1,1,0,kickoff\n{more}")) for more in ("", "1,1,1,goal-home\n"))
 MATCHES = Evening([]).of(CLUBS + "1,1,0,kickoff\nmatches,,,\n1,1,1,goal-home\nmatches,,,\n")[1].replace("5 ok 1 1 1\n", "").replace("7 ok 1 2 2\n", "")
 told = lambda lines, shown: f"{lines} lines, {shown} shown, {lines - shown} passed over\n"
-vain = lambda lines: f"no moment in {lines} lines: there is nothing to go on from\n"
 count = SCREENS.count("GROUP")
 in_edition = lambda edition, line: line.replace('"edition":0', f'"edition":{edition}').replace("Alpha", "Alfa!")
 of_other = lambda line, group, order="uefa": line.replace('"group":"A"', f'"group":"{group}"').replace('"order":"uefa"', f'"order":"{order}"')
 other = lambda line, group, order="uefa": f"line {line}: group {group}, order {order}, is passed over\n"
 renamed = lambda screen: screen.replace("Alpha", "Alfa!")
 
-test_journals = tabled({
-    "as it stands": ("ucl_follow", JOURNAL, SCREENS, 0, told(len(LINES), count)),
-    "of group C": ("ucl_follow", journal_of(NIGHT, "--group", "C"), SCREENS.replace("GROUP A", "GROUP C"), 0, told(len(LINES), count)),
-    "by away goals in a tie": ("ucl_follow", journal_of(NIGHT, "--order", "away-in-tie"), "".join(screens_of(NIGHT, "--order", "away-in-tie")), 0, told(len(LINES), count)),
+test_answers = tabled({
+    "as it stands": ("ucl_follow", ANSWERS, SCREENS, 0, told(len(LINES), count)),
+    "of group C": ("ucl_follow", answers_of(NIGHT, "--group", "C"), SCREENS.replace("GROUP A", "GROUP C"), 0, told(len(LINES), count)),
+    "by away goals in a tie": ("ucl_follow", answers_of(NIGHT, "--order", "away-in-tie"), "".join(screens_of(NIGHT, "--order", "away-in-tie")), 0, told(len(LINES), count)),
     "doubled": ("ucl_follow", "".join(line * 2 for line in LINES), SCREENS, 0, told(2 * len(LINES), count)),
     "backwards": ("ucl_follow", "".join(LINES[::-1]), "".join(SCREENS.splitlines(True)[-6:]), 0, told(len(LINES), 1)),
-    "in JSON, of which each line is that of the evening": ("ucl_follow --format json", JOURNAL, followed(["json"], JOURNAL)[1], 0, told(len(LINES), count)),
+    "in JSON, of which each line is that of the evening": ("ucl_follow --format json", ANSWERS, followed(["json"], ANSWERS)[1], 0, told(len(LINES), count)),
     "the matches": ("ucl_follow --matches", FIRST + SECOND, MATCHES, 0, told(2, 2)),
-    "the matches of a whole evening": ("ucl_follow --matches", JOURNAL, followed(["--matches"], JOURNAL)[1], 0, told(len(LINES), count)),
-    "a follower followed": ("ucl_follow", followed(["json"], JOURNAL)[1], SCREENS, 0, told(count, count)),
+    "the matches of a whole evening": ("ucl_follow --matches", ANSWERS, followed(["--matches"], ANSWERS)[1], 0, told(len(LINES), count)),
+    "a follower followed": ("ucl_follow", followed(["json"], ANSWERS)[1], SCREENS, 0, told(count, count)),
     "a line without an end": ("ucl_follow", FIRST + SECOND[:-1], SCREEN, 0, told(1, 1)),
     "nothing": ("ucl_follow", "", "", 0, told(0, 0)),
-    "rows of the newest, not of the last": ("ucl_follow --resume", LINES[-1] + "".join(LINES[:-1]), followed(["--resume"], LINES[-1])[1], 0, told(len(LINES), 1)),
     "an edition of a lower version, with clubs of its own": ("ucl_follow", FIRST + SECOND + in_edition(1, FIRST) + SECOND, BOTH + renamed(SCREEN), 0, told(4, 3)),
     "an older edition, of a higher version": ("ucl_follow", in_edition(2, FIRST) + in_edition(1, SECOND) + SECOND, renamed(SCREEN), 0, told(3, 1)),
     "the last edition": ("ucl_follow", in_edition(65535, FIRST) + in_edition(65534, SECOND), renamed(SCREEN), 0, told(2, 1)),
-    "rows of the latest edition, not of the highest version": ("ucl_follow --resume", in_edition(1, FIRST) + SECOND, followed(["--resume"], in_edition(1, FIRST))[1], 0, told(2, 1)),
-    "an old journal, without editions": ("ucl_follow", JOURNAL.replace('"edition":0,', ""), SCREENS, 0, told(len(LINES), count)),
+    "old answers, without editions": ("ucl_follow", ANSWERS.replace('"edition":0,', ""), SCREENS, 0, told(len(LINES), count)),
     "the group of the first moment": ("ucl_follow", FIRST + of_other(SECOND, "C") + SECOND, BOTH, 0, other(2, "C") + told(3, 2)),
     "the order of the first moment": ("ucl_follow", FIRST + of_other(SECOND, "A", "away-in-tie") + SECOND, BOTH, 0, other(2, "A", "away-in-tie") + told(3, 2)),
     "a group that is asked for": ("ucl_follow --group A", of_other(FIRST, "C") + FIRST + SECOND, BOTH, 0, other(1, "C") + told(3, 2)),
@@ -52,45 +49,23 @@ test_journals = tabled({
     "others, each told once": ("ucl_follow --group A", "".join(of_other(line, group) for line in (FIRST, SECOND) for group in "HBA"), BOTH, 0, other(1, "H") + other(2, "B") + told(6, 2)),
     "a later edition of another group": ("ucl_follow", FIRST + in_edition(1, of_other(FIRST, "C")) + SECOND, BOTH, 0, other(2, "C") + told(3, 2)),
     "none of the group": ("ucl_follow --group B", FIRST + SECOND, "", 0, other(1, "A") + told(2, 0)),
-    "rows of the group": ("ucl_follow --resume --group A", FIRST + of_other(SECOND, "C"), followed(["--resume"], FIRST)[1], 0, other(2, "C") + told(2, 1)),
-    "no rows of the group": ("ucl_follow --resume --group B", FIRST + SECOND, "", 3, other(1, "A") + vain(2)),
-    "rows of no moment": ("ucl_follow --resume", "{}\n", "", 3, vain(1)),
-    "rows of nothing": ("ucl_follow --resume --format json", "", "", 3, vain(0)),
-    "rows of a line that is cut": ("ucl_follow --resume", FIRST[:-1], "", 3, vain(0)),
 })
 
 TITLED = "group,C,away-in-tie,1\n"
-NO_CLUB = "club {}: its row is club,SLOT,NAME,COEFFICIENT, as club,1,Alpha,60000\n"
 
 test_rows_of_a_group = tabled({
-    "of another group, order and edition": ("ucl_follow --resume", journal_of(TITLED + NIGHT), followed(["--resume"], journal_of(TITLED + NIGHT))[1], 0, told(len(LINES), count)),
     "asked for": ("ucl_live --group C --order away-in-tie", TITLED + NIGHT, *Evening([]).of(TITLED + NIGHT)[1::-1], ""),
     "not asked for": ("ucl_live --screens", TITLED + NIGHT, *Evening(["--screens"]).of(TITLED + NIGHT)[1::-1], ""),
     "another group than was asked for": ("ucl_live --group A", TITLED + NIGHT, "", 2, "error: the row of the group differs from --group or --order\n"),
     "another order than was asked for": ("ucl_live --order uefa", TITLED + NIGHT, "", 2, "error: the row of the group differs from --group or --order\n"),
-    "twice": ("ucl_live", TITLED * 2 + NIGHT, "", 3, "input refused 20: row 2\n" + NO_CLUB.format(1)),
-    "after a club": ("ucl_live", CLUBS[: CLUBS.index("\n") + 1] + TITLED, "", 3, "input refused 20: row 2\n" + NO_CLUB.format(2)),
-    "alone": ("ucl_live", TITLED, "", 3, "input refused 20: row 2\n" + NO_CLUB.format(1)),
-    "before a name that is none": ("ucl_live", TITLED + NIGHT.replace("Manchester City", "M" * 21), "", 3, "input refused 21: slot 2\nclub 2: a name has 1 to 20 bytes of printable ASCII\n"),
+    "twice": ("ucl_live", TITLED * 2 + NIGHT, "", 3, "input refused 20: row 2\n"),
+    "after a club": ("ucl_live", CLUBS[: CLUBS.index("\n") + 1] + TITLED, "", 3, "input refused 20: row 2\n"),
+    "alone": ("ucl_live", TITLED, "", 3, "input refused 20: row 2\n"),
+    "before a name that is none": ("ucl_live", TITLED + NIGHT.replace("Manchester City", "M" * 21), "", 3, "input refused 21: slot 2\n"),
     **{f"a bad one, {row!r}": ("ucl_live", row + "\n" + NIGHT, "", 3, "input refused 20: row 1\n")
        for row in ("group,I,uefa,1", "group,,uefa,1", "group,AB,uefa,1", "group,A,goals,1", "group,A,uefa,65536", "group,A,uefa,", "group,A,uefa,-1", "group,A,uefa,000001", "group,A,uefa", "group,A,uefa,1,")},
     "in a script of nights": ("ucl_night feed", TITLED + NIGHT, "", 3, "input refused 20: row 1\n"),
-    "no words where they have to come": ("ucl_live --resumed", CLUBS + "1,1,0,kickoff\n", "", 3, "input refused 20: row 5\n"),
-    "no words at the end": ("ucl_live --resumed", CLUBS, "", 3, "input refused 20: row 5\n"),
-    "words where they have to come": ("ucl_live --resumed", followed(["--resume"], FIRST)[1] + "screen,,,\n", SCREEN, 0, ""),
 })
-
-
-def test_evening_of_another_group_goes_on(run):
-    """As that group, by that order and in that edition, from its journal alone."""
-    journal = run("ucl_live", "--format", "json", input=TITLED + CLUBS + "screen,,,\n" + "".join(ROWS[:30])).output
-    start = run("ucl_follow", "--resume", input=journal).output
-    assert start.startswith(TITLED + "club,1,")
-    goes_on = run("ucl_live", "--resumed", "--format", "json", input=start + "".join(ROWS[30:])).output
-    said = [json.loads(line) for line in goes_on.splitlines() if '"clubs"' in line]
-    assert said and all((it["group"], it["order"], it["edition"]) == ("C", "away-in-tie", 1) for it in said)
-    last = lambda text: run("ucl_live", input=text + "screen,,,\nwords,,,\n").output.splitlines()[-18:]
-    assert last(start + "".join(ROWS[30:])) == last(TITLED + CLUBS + "".join(ROWS))
 
 
 def test_late_row_of_an_old_edition(run):
@@ -127,73 +102,24 @@ test_lines = tabled({
 })
 
 
-@pytest.mark.parametrize("cut", [0, 1, 30, len(ROWS)])
-def test_evening_that_goes_on_from_its_journal(run, cut):
-    """It is the evening that was not cut, a torn last line or not, and names with quotes in them."""
-    clubs = 'club,1,"""A,b""",7\n' + "".join(NIGHT.splitlines(True)[1:4])
-    journal = run("ucl_live", "--format", "json", input=clubs + "screen,,,\n" + "".join(ROWS[:cut])).output
-    start = run("ucl_follow", "--resume", "--format", "json", input=journal + LINES[0][: 7 * cut]).output
-    assert start.startswith('club,1,"""A,b""",7\n') and start.count("\n") == 16
-    last = lambda text: run("ucl_live", input=text + "screen,,,\nwords,,,\n").output.splitlines()[-18:]
-    assert last(start + "".join(ROWS[cut:])) == last(clubs + "".join(ROWS))
+def test_evenings_killed_a_thousand_times_are_answered_the_same_again(program):
+    """Each reads the record anew: what is left of its answers is how those of the whole record begin, and a follower of it all ends with the table."""
+    live, whole = [program("ucl_live"), "--format", "json", "--screens"], answers_of(NIGHT, "--screens")
 
-
-class Killed:
-    """An evening that is killed again and again: its journal, the newest line there, and the rows that have no whole answer yet."""
-
-    def __init__(self, program, chance, screens):
-        self.live, self.follow = [program("ucl_live"), "--format", "json", *["--screens"] * screens], [program("ucl_follow"), "--resume"]
-        self.chance, self.pending, self.kills = chance, list(ROWS), 0
-        self.journal = self.newest = command(self.live, CLUBS + "screen,,,\n").output
-
-    def start(self, kill):
-        """Goes on from the journal, and is killed: with rows that were answered before, and with those that were not."""
-        start = command(self.follow, self.journal)
-        assert (start.status, start.output) == followed(["--resume"], self.newest)[:2]
-        answered = ROWS[: len(ROWS) - len(self.pending)]
-        again = self.chance.sample(answered, min(2, len(answered)))
-        self.take(kill(self.live, start.output + "screen,,,\n", again + self.pending), len(again))
-
-    def take(self, left, again):
-        """Takes what is left of the answers, the first so many of them to rows that come again. The line that was cut off gets its end, and may lack it alone."""
-        lines = [line + "\n" for line in left.split("\n") if line.endswith("}") and line.count("{") == line.count("}")]
-        self.journal, self.kills = self.journal + left + "\n", self.kills + 1
-        answers = [json.loads(line) for line in lines]
-        moments = [(answer["version"], line) for answer, line in zip(answers, lines) if "version" in answer]
-        assert all(version >= json.loads(self.newest)["version"] for version, _ in moments)
-        self.newest = moments[-1][1] if moments else self.newest
-        replies = sum(answer["reply"] != "screen" for answer in answers)
-        self.pending = self.pending[max(0, replies - again) :]
-
-    def cut(self, live, start, rows):
-        """Cuts the answers of an evening at a random byte: the first screen, answers to what comes again, and some rows."""
-        output = command(live, start + "".join(rows[:8])).output
-        return output[: self.chance.randint(0, 8000 if "--screens" in live else 4500)]
-
-    def killed(self, live, start, rows):
-        """Kills an evening while it answers random rows."""
+    def left(seed):
+        """What is left of the answers of an evening that is killed."""
         with tempfile.TemporaryFile() as file, Started(live, stdout=file) as evening:
-            evening.write(start + "".join(rows[: self.chance.randint(0, 9)]))
+            evening.write(NIGHT)
+            time.sleep(random.Random(seed).random() / 100)
             evening.kill()
             evening.wait()
             file.seek(0)
             return decoded(file.read())
 
-
-def test_evenings_killed_a_thousand_times_lose_no_whole_answer(program):
-    """Each start goes on from what the crash before left: the newest whole line tells its board. Of the kills some are real, of a process."""
-    last = lambda text: command([program("ucl_live")], text + "screen,,,\nwords,,,\n").output.splitlines()[-18:]
-
-    def killed(seed):
-        """How often an evening was killed until all its rows were answered."""
-        evening = Killed(program, random.Random(seed), seed % 2)
-        while evening.pending:
-            evening.start(evening.killed if evening.kills % 10 == 0 else evening.cut)
-        assert last(command(evening.follow, evening.journal).output) == last(CLUBS + "".join(ROWS))
-        return evening.kills
-
     with concurrent.futures.ThreadPoolExecutor() as evenings:
-        assert sum(evenings.map(killed, range(26))) >= 1_000
+        texts = list(evenings.map(left, range(1_000)))
+    assert all(map(whole.startswith, texts)) and any(0 < len(text) < len(whole) for text in texts)
+    assert command([program("ucl_follow")], "\n".join([*texts[:20], whole])).output.endswith("".join(SCREENS.splitlines(True)[-6:]))
 
 
 @pytest.mark.limit(30)

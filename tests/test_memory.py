@@ -74,7 +74,7 @@ def test_a_call_of_the_library(program, refuses, call, mode):
 
 
 ROWS = "two_matches.csv", "screen,,,\nwords,,,\nmatches,,,\n"
-MORE_ROWS = "two_matches_sheet.csv", "words,,,\n1,1,6,fulltime\nscreen,,,\n1,1,6,reopen\n"
+MORE_ROWS = "one_goal.csv", "group,A,uefa,1\nclub,1,Echo,7\n1,1,0,kickoff\nscreen,,,\n1,1,0,kickoff\n"
 # Each run of a program with its input and its status, and how many lines of its output may be out where want of memory is told: in an evening the
 # clubs ask for memory, the screen, the matches, a screen after an accepted event, and all in JSON.
 RUNS = {
@@ -90,8 +90,8 @@ RUNS = {
     "ucl_live": (ROWS, 0, [0, 10, 28]),
     "ucl_live --screens": (ROWS, 0, [0, 7, 16, 23, 30, 37, 45, 52, 70]),
     "ucl_live --format json": (ROWS, 0, range(13)),
-    "ucl_live --format text": (MORE_ROWS, 0, [0, 13]),
-    "ucl_live --format json --screens": (MORE_ROWS, 0, range(4)),
+    "ucl_live --format text": (MORE_ROWS, 0, [0, 3]),
+    "ucl_live --format json --screens": (MORE_ROWS, 0, [0, 2, 4, 6, 7]),
 }
 # For these `ucl_night` needs no board, so they end as ever where it found no memory for one.
 NO_BOARD = "ucl_night --help", "ucl_night show --order none"

@@ -606,8 +606,7 @@ def test_a_block_that_was_cut_off(hall):
     for kept in range(1, len(rows) - 9):
         for cut in ["", rows[9 + kept][:5]][kept % 2 :]:
             torn = hall("".join(rows[: 9 + kept]) + cut)
-            one = torn.reporter()
-            assert "Edition 1 was cut off while it was written, or begun by hand; to go back to the one before type mend edition 0" in one.text()
+            one = torn.reporter().sees("Edition 1 was cut off while it was written, or begun by hand; to go back to the one before type mend edition 0")
             assert one.board().startswith(shown(evening_of("".join(rows[: 9 + kept]))[0]))
             one.enter("mend edition 0", "is this one").enter("y", "Edition 2 has begun").end()
             assert shown(torn.evening()[0]) == before.replace("\n", " EDITION 2\n", 1) and torn.evening()[0].roster == ROSTER

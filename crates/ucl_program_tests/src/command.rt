@@ -2,7 +2,7 @@
 
 ghost use Rattle.std.specs.Prelude.{IfOk};
 
-use crate::joined;
+use crate::{joined, words_of};
 use std::alloc::Global;
 use std::process::Abort;
 use std::sync::Wait;
@@ -56,14 +56,6 @@ GROUP A v00001 IN PLAY 1
 3   Delta                 0  0  0  0   0   0   +0   0
 4   Alpha                 0  0  0  0   0   0   +0   0
 ";
-
-fn words_of(alloc: Global, line: &str) -> Result<Vec<String>, Fail> {
-    let mut words = Vec::new(alloc);
-    for word in line.split_whitespace() {
-        words.push(String::from_str(alloc, word)?)?;
-    }
-    Ok(words)
-}
 
 /// Lines of words, and what they ask for.
 static TAKEN: [(&str, Line); 10] = [

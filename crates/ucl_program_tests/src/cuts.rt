@@ -1,14 +1,14 @@
 //! Evenings whose input fails after each byte: all rows that have an end are answered, and nothing else goes out.
 
 use crate::held::{has_broken_off, held_with};
-use crate::json::{KICKED_OFF, ONE_GOAL, accepted, screen_at};
+use crate::json::{BAD_ROW, KICKED_OFF, ONE_GOAL, STALE, accepted, screen_at};
 use crate::rows::KICKED_OFF as SCREEN;
 use crate::{CLUBS, joined};
 use std::alloc::Global;
 use std::process::Abort;
 use std::test::Fail;
 use ucl_command::Format;
-use ucl_devices::{Cut, Full};
+use ucl_devices::{Cut, Full, STORED, STORED_REPLIES};
 
 /// How many bytes answer the rows that have an end within so many bytes, of rows and their answers.
 fn answered_within(rows: &[(&str, &str)], bytes: usize) -> usize {
@@ -54,6 +54,18 @@ fn assert_cut(
 }
 
 #[test]
+fn stored_run(rt: HostRuntime) -> Result<(), Fail> {
+    let mut rows = vec![in rt.alloc(); (CLUBS, "")]?;
+    for answered in STORED
+        .split_inclusive('\n')
+        .zip(STORED_REPLIES.split_inclusive('\n'))
+    {
+        rows.push(answered)?;
+    }
+    assert_cut(&rt, rt.alloc(), (Format::Text, false), &rows)
+}
+
+#[test]
 fn with_screens(rt: HostRuntime) -> Result<(), Fail> {
     let alloc = rt.alloc();
     let shown = joined(alloc, &["6 ok 1 1 1\n", SCREEN])?;
@@ -77,14 +89,8 @@ fn in_json(rt: HostRuntime) -> Result<(), Fail> {
     let rows = [
         (CLUBS, ""),
         ("1,1,0,kickoff\n", first.as_str()),
-        (
-            "1,1,0,kickoff\n",
-            "{\"code\":1,\"event\":\"kickoff\",\"expected\":0,\"match\":1,\"name\":\"stale\",\"number\":1,\"reply\":\"refused\",\"reporter\":1,\"row\":6,\"stands\":{\"expulsions\":[0,0],\"match\":1,\"number\":1,\"reporter\":1,\"score\":[0,0],\"state\":\"IN PLAY\",\"yellows\":[0,0]}}\n",
-        ),
-        (
-            "1,1,0\n",
-            "{\"code\":20,\"field\":\"fields\",\"name\":\"bad-row\",\"reply\":\"refused\",\"row\":7,\"text\":\"1,1,0\"}\n",
-        ),
+        ("1,1,0,kickoff\n", STALE),
+        ("1,1,0\n", BAD_ROW),
         ("1,1,1,goal-home\n", second.as_str()),
         ("screen,,,\n", screen.as_str()),
     ];

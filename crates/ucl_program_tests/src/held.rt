@@ -16,7 +16,6 @@ fn options_of(format: Format, screens: bool) -> LiveArgs {
     LiveArgs {
         group: None,
         profile: None,
-        resumed: false,
         screens,
         format,
     }
@@ -55,8 +54,8 @@ pub fn held(alloc: Global, format: Format, text: &[u8], piece: usize) -> Held {
     held_with(alloc, (format, false), input, usize::MAX, Full::Fails)
 }
 
-/// Whether an evening ended well, and wrote just this text.
-pub fn has_written(held: &Held, text: &str) -> bool {
+/// Whether an evening or a run ended well, and wrote just this text.
+pub fn has_written<E>(held: &(Result<(), E>, Vec<u8>), text: &str) -> bool {
     let (answer, out) = held;
     answer.is_ok() && out.as_slice() == text.as_bytes()
 }
@@ -75,7 +74,7 @@ pub fn has_broken_off(held: &Held, text: &str, bytes: usize, written: usize) -> 
         && Some(out.as_slice()) == text.as_bytes().get(..written)
 }
 
-/// Whether the clubs or the words of an evening were refused by this fault, and nothing was written.
+/// Whether the clubs of an evening were refused by this fault, and nothing was written.
 pub fn has_refused(held: &Held, fault: BeginningFault) -> bool {
     let (answer, out) = held;
     matches!(answer, Err(PumpFault::Machine(LiveFault::Beginning(found))) if *found == fault)

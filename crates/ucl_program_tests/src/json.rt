@@ -11,12 +11,15 @@ use ucl_devices::Full;
 const ROWS: &str =
     "1,1,0,kickoff\n1,1,0,kickoff\n1,1,0\n2,2,0,goal-home\n\n1,1,1,goal-home\n1,1,2,disallow-away\nwords,,,\nscreen,,,\n";
 
-/// The answers to these rows, but those that tell a moment.
-const REFUSALS: &str = "\
-{\"code\":1,\"event\":\"kickoff\",\"expected\":0,\"match\":1,\"name\":\"stale\",\"number\":1,\"reply\":\"refused\",\"reporter\":1,\"row\":6,\"stands\":{\"expulsions\":[0,0],\"match\":1,\"number\":1,\"reporter\":1,\"score\":[0,0],\"state\":\"IN PLAY\",\"yellows\":[0,0]}}
-{\"code\":20,\"field\":\"fields\",\"name\":\"bad-row\",\"reply\":\"refused\",\"row\":7,\"text\":\"1,1,0\"}
-{\"code\":3,\"event\":\"goal-home\",\"expected\":0,\"match\":2,\"name\":\"not-started\",\"reply\":\"refused\",\"reporter\":2,\"row\":8}
-";
+/// The refusals of a second kick-off at row 6, and of a row of three fields at row 7.
+pub(crate) const STALE: &str =
+    "{\"code\":1,\"event\":\"kickoff\",\"expected\":0,\"match\":1,\"name\":\"stale\",\"number\":1,\"reply\":\"refused\",\"reporter\":1,\"row\":6,\"stands\":{\"expulsions\":[0,0],\"match\":1,\"number\":1,\"reporter\":1,\"score\":[0,0],\"state\":\"IN PLAY\",\"yellows\":[0,0]}}\n";
+
+pub(crate) const BAD_ROW: &str =
+    "{\"code\":20,\"field\":\"fields\",\"name\":\"bad-row\",\"reply\":\"refused\",\"row\":7,\"text\":\"1,1,0\"}\n";
+
+const NOT_STARTED: &str =
+    "{\"code\":3,\"event\":\"goal-home\",\"expected\":0,\"match\":2,\"name\":\"not-started\",\"reply\":\"refused\",\"reporter\":2,\"row\":8}\n";
 
 const NO_GOAL: &str =
     "{\"code\":6,\"event\":\"disallow-away\",\"expected\":2,\"match\":1,\"name\":\"no-goal\",\"reply\":\"refused\",\"reporter\":1,\"row\":11}\n";
@@ -145,7 +148,9 @@ fn answers_in_json(rt: HostRuntime) -> Result<(), Fail> {
         alloc,
         &[
             first.as_str(),
-            REFUSALS,
+            STALE,
+            BAD_ROW,
+            NOT_STARTED,
             second.as_str(),
             NO_GOAL,
             words.as_str(),
@@ -159,6 +164,9 @@ fn answers_in_json(rt: HostRuntime) -> Result<(), Fail> {
     Ok(())
 }
 
+/// Rows of a kick-off, a goal and the screen.
+pub(crate) const GOAL_AND_SCREEN: &str = "1,1,0,kickoff\n1,1,1,goal-home\nscreen,,,\n";
+
 /// Names with quotes and backslashes, as they stand in a row and in JSON.
 static NAMES: [(&str, &str); 3] = [
     ("\"Al\"\"p\\h/a\"", "\"Al\\\"p\\\\h/a\""),
@@ -166,36 +174,39 @@ static NAMES: [(&str, &str); 3] = [
     ("\\n{}[]:\u{7e}", "\"\\\\n{}[]:\u{7e}\""),
 ];
 
+/// The answers to a kick-off, a goal and then the screen at these rows.
+pub(crate) fn goal_and_screen(
+    alloc: Global,
+    name: &str,
+    [first, second, third]: [&str; 3],
+) -> Result<String, Fail> {
+    let first = accepted(alloc, first, name, "1", KICKED_OFF)?;
+    let second = accepted(alloc, second, name, "2", ONE_GOAL)?;
+    let third = screen_at(alloc, third, name)?;
+    let text = joined(alloc, &[first.as_str(), second.as_str(), third.as_str()])?;
+    Ok(text)
+}
+
 #[test]
 fn names_are_escaped(rt: HostRuntime) -> Result<(), Fail> {
     let alloc = rt.alloc();
     for (field, name) in NAMES.as_slice() {
         let clubs = CLUBS.replace(alloc, "Alpha", field)?;
-        let text = joined(
-            alloc,
-            &[
-                clubs.as_str(),
-                "1,1,0,kickoff\n1,1,1,goal-home\nscreen,,,\n",
-            ],
-        )?;
-        let first = accepted(alloc, "5", name, "1", KICKED_OFF)?;
-        let second = accepted(alloc, "6", name, "2", ONE_GOAL)?;
-        let screen = screen_at(alloc, "7", name)?;
-        let wanted = joined(alloc, &[first.as_str(), second.as_str(), screen.as_str()])?;
+        let text = joined(alloc, &[clubs.as_str(), GOAL_AND_SCREEN])?;
+        let wanted = goal_and_screen(alloc, name, ["5", "6", "7"])?;
         let evening = held(alloc, Format::Json, text.as_bytes(), usize::MAX);
         assert!(rt; has_written(&evening, wanted.as_str()), "at {field}");
     }
     Ok(())
 }
 
-/// Asserts that an evening in JSON, with the screen after each accepted event, writes just the front of its text that fits: before each object
-/// and each line feed, and at each eleventh byte.
+/// Asserts that an evening in JSON writes just the front of its text that fits: before each object and each line feed, and at each eleventh byte.
 fn assert_stops(rt: &impl Abort, alloc: Global, text: &str, wanted: &str, full: Full) {
     for (room, byte) in wanted.bytes().enumerate() {
         if room % 11 != 0 && byte != b'\n' && byte != b'{' {
             continue;
         }
-        let evening = held_with(alloc, (Format::Json, true), text.as_bytes(), room, full);
+        let evening = held_with(alloc, (Format::Json, false), text.as_bytes(), room, full);
         assert!(rt; has_stopped(&evening, wanted, room), "{full:?} at {room}");
     }
 }
@@ -203,12 +214,8 @@ fn assert_stops(rt: &impl Abort, alloc: Global, text: &str, wanted: &str, full: 
 #[test]
 fn full_outputs_of_json(rt: HostRuntime) -> Result<(), Fail> {
     let alloc = rt.alloc();
-    let words =
-        "word,1,2001000000001001,\nword,2,2000000000000000,\nword,3,2000000000000000,\nword,4,2000000000000000,\nword,5,2000000000000000,\nword,6,2000000000000000,\nword,7,2000000000000000,\nword,8,2000000000000000,\nword,9,2000000000000000,\nword,10,2000000000000000,\nword,11,2000000000000000,\nword,12,2000000000000000,\n";
-    let text = joined(alloc, &[CLUBS, words, "1,1,1,goal-home\n"])?;
-    let screen = screen_at(alloc, "17", "\"Alpha\"")?;
-    let reply = accepted(alloc, "17", "\"Alpha\"", "2", ONE_GOAL)?;
-    let wanted = joined(alloc, &[reply.as_str(), screen.as_str()])?;
+    let text = joined(alloc, &[CLUBS, GOAL_AND_SCREEN])?;
+    let wanted = goal_and_screen(alloc, "\"Alpha\"", ["5", "6", "7"])?;
     assert_stops(&rt, alloc, text.as_str(), wanted.as_str(), Full::Fails);
     assert_stops(&rt, alloc, text.as_str(), wanted.as_str(), Full::TakesNone);
     Ok(())

@@ -9,6 +9,8 @@ mod command;
 #[cfg(test)]
 mod cuts;
 #[cfg(test)]
+mod editions;
+#[cfg(test)]
 mod held;
 #[cfg(test)]
 mod json;
@@ -32,4 +34,14 @@ fn joined(alloc: Global, texts: &[&str]) -> Result<String, AllocError> {
         whole.push_str(text)?;
     }
     Ok(whole)
+}
+
+/// The words of a line.
+#[cfg(test)]
+fn words_of(alloc: Global, line: &str) -> Result<Vec<String>, AllocError> {
+    let mut words = Vec::new(alloc);
+    for word in line.split_whitespace() {
+        words.push(String::from_str(alloc, word)?)?;
+    }
+    Ok(words)
 }

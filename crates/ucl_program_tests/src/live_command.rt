@@ -1,7 +1,7 @@
 //! What arguments mean, and what the program does for them over memory in place of the standard streams.
 
-use crate::json::{KICKED_OFF, accepted};
-use crate::{CLUBS, joined};
+use crate::json::{KICKED_OFF, STALE, accepted};
+use crate::{CLUBS, joined, words_of};
 use std::alloc::Global;
 use std::test::Fail;
 use ucl_command::{Format, LineFault, live_args};
@@ -10,14 +10,6 @@ use ucl_io::Duplex;
 use ucl_order::Profile;
 use ucl_runs::run_evening;
 use ucl_screen::{FromRead, ToWrite};
-
-fn words_of(alloc: Global, line: &str) -> Result<Vec<String>, Fail> {
-    let mut words = Vec::new(alloc);
-    for word in line.split_whitespace() {
-        words.push(String::from_str(alloc, word)?)?;
-    }
-    Ok(words)
-}
 
 /// What words are answered, without the texts: which group and order are asked for, whether screens are wanted, and a form.
 #[derive(Clone, Copy, PartialEq, Eq)]
@@ -137,13 +129,10 @@ fn has_ended(ended: &Ended, status: u8, out: &str, errors: &str) -> bool {
     *code == status && taken.as_slice() == out.as_bytes() && told.as_slice() == errors.as_bytes()
 }
 
-/// Rows after those of the clubs, the answers to them as text, and the second one in JSON.
+/// Rows after those of the clubs, and the answers to them as text.
 const ROWS: &str = "1,1,0,kickoff\n1,1,0,kickoff\n";
 
 const TEXT: &str = "5 ok 1 1 1\n6 refused 1 stale 1\n";
-
-const STALE: &str =
-    "{\"code\":1,\"event\":\"kickoff\",\"expected\":0,\"match\":1,\"name\":\"stale\",\"number\":1,\"reply\":\"refused\",\"reporter\":1,\"row\":6,\"stands\":{\"expulsions\":[0,0],\"match\":1,\"number\":1,\"reporter\":1,\"score\":[0,0],\"state\":\"IN PLAY\",\"yellows\":[0,0]}}\n";
 
 #[test]
 fn evenings_end_well(rt: HostRuntime) -> Result<(), Fail> {

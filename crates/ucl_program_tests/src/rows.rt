@@ -1,12 +1,12 @@
-//! Rows of an evening, each answered as text, and evenings that are cut short.
+//! Rows of an evening, each answered as text, and evenings whose output is full.
 
-use crate::held::{has_broken_off, has_stopped, has_written, held, held_with};
+use crate::held::{has_stopped, has_written, held, held_with};
 use crate::{CLUBS, joined};
 use std::alloc::Global;
 use std::process::Abort;
 use std::test::Fail;
 use ucl_command::Format;
-use ucl_devices::{Cut, Full, STORED, STORED_REPLIES, STORED_SCREEN, STORED_WORDS};
+use ucl_devices::{Full, STORED, STORED_REPLIES, STORED_SCREEN, STORED_WORDS};
 
 /// The stored run, and then the screen and the words that it leaves, however the input comes.
 #[test]
@@ -57,7 +57,7 @@ fn screens_after_accepted_events(rt: HostRuntime) -> Result<(), Fail> {
 }
 
 /// Rows that are bad, without the ends of their lines: each breaks one rule of rows.
-static BAD_ROWS: [&str; 34] = [
+static BAD_ROWS: [&str; 33] = [
     "0,1,0,kickoff",
     "256,1,0,kickoff",
     "0001,1,0,kickoff",
@@ -79,7 +79,6 @@ static BAD_ROWS: [&str; 34] = [
     "kickoff",
     ",",
     " ",
-    "club,1,Alpha,60000",
     "club,5,Echo,1",
     "screen",
     "screen,,",
@@ -132,34 +131,6 @@ fn good_rows(rt: HostRuntime) -> Result<(), Fail> {
     Ok(())
 }
 
-/// A row whose event word is in quotes, so that the row has so many bytes, and then a kick-off.
-fn long_row(alloc: Global, length: usize, end: &str) -> Result<String, Fail> {
-    let mut text = joined(alloc, &[CLUBS, "1,1,0,\""])?;
-    for _ in 8..length {
-        text.push('x')?;
-    }
-    text.push('"')?;
-    text.push_str(end)?;
-    text.push_str("2,2,0,kickoff")?;
-    text.push_str(end)?;
-    Ok(text)
-}
-
-/// A line of more bytes than a line may have is one bad row, whatever its length.
-#[test]
-fn long_lines(rt: HostRuntime) -> Result<(), Fail> {
-    let alloc = rt.alloc();
-    for length in [255, 256, 257, 258, 259, 40_000] {
-        for end in ["\n", "\r\n"] {
-            let text = long_row(alloc, length, end)?;
-            let evening = held(alloc, Format::Text, text.as_bytes(), usize::MAX);
-            let wanted = "5 refused 20 bad-row\n6 ok 2 1 1\n";
-            assert!(rt; has_written(&evening, wanted), "at {length}");
-        }
-    }
-    Ok(())
-}
-
 /// A kick-off on a line of so many bytes, which begins with carriage returns, and then another.
 fn padded_row(alloc: Global, length: usize, end: &str) -> Result<String, Fail> {
     let mut text = joined(alloc, &[CLUBS])?;
@@ -174,16 +145,17 @@ fn padded_row(alloc: Global, length: usize, end: &str) -> Result<String, Fail> {
 }
 
 /// How many bytes a line has before its end, and how it and the next are answered.
-static LENGTHS: [(usize, &str); 6] = [
+static LENGTHS: [(usize, &str); 7] = [
     (13, "5 ok 1 1 1\n6 ok 2 1 2\n"),
     (255, "5 ok 1 1 1\n6 ok 2 1 2\n"),
     (256, "5 ok 1 1 1\n6 ok 2 1 2\n"),
     (257, "5 refused 20 bad-row\n6 ok 2 1 1\n"),
     (258, "5 refused 20 bad-row\n6 ok 2 1 1\n"),
     (259, "5 refused 20 bad-row\n6 ok 2 1 1\n"),
+    (40_000, "5 refused 20 bad-row\n6 ok 2 1 1\n"),
 ];
 
-/// A line may have 256 bytes before its end and no more, whichever its end is.
+/// A line may have 256 bytes before its end, whichever that is; one of more is one bad row, whatever its length.
 #[test]
 fn longest_lines(rt: HostRuntime) -> Result<(), Fail> {
     let alloc = rt.alloc();
@@ -193,49 +165,6 @@ fn longest_lines(rt: HostRuntime) -> Result<(), Fail> {
             let evening = held(alloc, Format::Text, text.as_bytes(), usize::MAX);
             assert!(rt; has_written(&evening, wanted), "at {length}");
         }
-    }
-    Ok(())
-}
-
-/// The answers to the rows that have an end within so many bytes of the stored run.
-fn answers_within(text: &str, bytes: usize) -> usize {
-    let mut lines = 0usize;
-    for b in text.as_bytes().iter().take(bytes) {
-        if *b == b'\n' {
-            lines = lines.saturating_add(1);
-        }
-    }
-    let mut answered = 4usize;
-    let mut length = 0usize;
-    for b in STORED_REPLIES.as_bytes() {
-        if answered >= lines {
-            return length;
-        }
-        length = length.saturating_add(1);
-        if *b == b'\n' {
-            answered = answered.saturating_add(1);
-        }
-    }
-    length
-}
-
-/// An evening whose input fails after each byte: all rows that have an end are answered, and nothing else is written.
-#[test]
-fn cut_after_each_byte(rt: HostRuntime) -> Result<(), Fail> {
-    let alloc = rt.alloc();
-    let text = joined(alloc, &[CLUBS, STORED])?;
-    for room in 0..=text.len() {
-        let input = Cut {
-            text: text.as_bytes(),
-            piece: usize::MAX,
-            room,
-        };
-        let evening = held_with(alloc, (Format::Text, false), input, usize::MAX, Full::Fails);
-        let written = answers_within(text.as_str(), room);
-        assert!(rt;
-            has_broken_off(&evening, STORED_REPLIES, room, written),
-            "at {room}"
-        );
     }
     Ok(())
 }

@@ -4,8 +4,9 @@ mod bare;
 mod devices;
 mod nights;
 
+use crate::held::has_written;
 use crate::joined;
-use devices::{fed, has_refused, has_stopped, has_written, shown};
+use devices::{fed, has_refused, has_stopped, shown};
 use std::alloc::{AllocError, Global};
 use std::process::Abort;
 use std::test::Fail;
@@ -325,7 +326,7 @@ fn word_lines(alloc: Global, text: &str) -> Result<String, Fail> {
 }
 
 /// The screen of a board of no event.
-const FRESH_SCREEN: &str = "\
+pub(crate) const FRESH_SCREEN: &str = "\
 GROUP A v00000 IN PLAY 0
     Club                  P  W  D  L  GF  GA   GD Pts
 1   Bravo                 0  0  0  0   0   0   +0   0

@@ -110,12 +110,19 @@ fn night_of(
     let gate = Counting {
         calls: [AtomicU32::new(0), AtomicU32::new(0)],
     };
-    let end = night_run(rt, alloc, &bare, pass, &night, b'A', 2, &gate, Profile::Uefa)?;
+    let end = night_run(
+        rt,
+        alloc,
+        &bare,
+        pass,
+        &night,
+        b'A',
+        2,
+        &gate,
+        Profile::Uefa,
+    )?;
     let [first, second] = &gate.calls;
-    let calls = [
-        first.load(Ordering::SeqCst),
-        second.load(Ordering::SeqCst),
-    ];
+    let calls = [first.load(Ordering::SeqCst), second.load(Ordering::SeqCst)];
     Ok((
         end.settled.version,
         calls,
@@ -129,7 +136,8 @@ fn rows_are_reported_once(rt: HostRuntime) -> Result<(), Fail> {
     let alloc = rt.alloc();
     let script = head_to_head_script(alloc)?;
     assert_eq!(rt; night_of(&rt, alloc, script.as_str())?, (40, [19, 21], 40));
-    let refused = "1,1,0,kickoff\n1,1,0,kickoff\n1,1,1,disallow-home\n2,2,0,goal-home\n2,2,0,kickoff\n";
+    let refused =
+        "1,1,0,kickoff\n1,1,0,kickoff\n1,1,1,disallow-home\n2,2,0,goal-home\n2,2,0,kickoff\n";
     let script = joined(alloc, &[CLUBS, refused])?;
     assert_eq!(rt; night_of(&rt, alloc, script.as_str())?, (2, [3, 2], 5));
     Ok(())

@@ -11,12 +11,6 @@ use ucl_screen::{FromRead, InputFault, ToWrite};
 /// The answer of a run, and what it wrote.
 pub type Ran = (Result<(), RunFault>, Vec<u8>);
 
-/// Whether a run ended well, and wrote just this text.
-pub fn has_written(ran: &Ran, text: &str) -> bool {
-    let (answer, out) = ran;
-    answer.is_ok() && out.as_slice() == text.as_bytes()
-}
-
 /// Whether a run wrote just the first `room` bytes of a text, and told then that its output had failed.
 pub fn has_stopped(ran: &Ran, text: &str, room: usize) -> bool {
     let (answer, out) = ran;

@@ -1,7 +1,8 @@
 //! Nights: merges that are settled, gates that only threads get through, and what goes out.
 
-use super::devices::{Ran, has_stopped, has_written};
+use super::devices::{Ran, has_stopped};
 use super::{CLUBS, HEAD_TO_HEAD_SCREEN, head_to_head_script};
+use crate::held::has_written;
 use crate::joined;
 use std::alloc::Global;
 use std::sync::Wait;

@@ -3,7 +3,7 @@
 use super::{CLUB_ROWS, after_club_rows, joined, night_of};
 use std::alloc::{AllocError, Global};
 use std::test::Fail;
-use ucl_screen::{InputFault, Night, NightEvent, night_of_bytes};
+use ucl_screen::{Four, InputFault, Night, NightEvent, lent_club, night_of_bytes};
 use ucl_word::{EventCall, Kind, MatchNo, ReporterNo, Side};
 
 /// The rows of the head to head group: reporter 1 has the odd matches and reporter 2 the even ones.
@@ -135,12 +135,6 @@ fn events_of(alloc: Global, text: &[u8]) -> Result<usize, InputFault> {
     Ok(night.events.len())
 }
 
-/// The same of a text that lies in memory.
-fn events_in_memory(alloc: Global, text: &[u8]) -> Result<usize, InputFault> {
-    let night = night_of_bytes(alloc, text)?;
-    Ok(night.events.len())
-}
-
 /// Whole texts, and how many events they say.
 static TEXTS: [(&[u8], Result<usize, InputFault>); 5] = [
     (b"", Err(InputFault::BadRow { row: 1 })),
@@ -160,7 +154,8 @@ static TEXTS: [(&[u8], Result<usize, InputFault>); 5] = [
 fn whole_texts(rt: HostRuntime) {
     for &(text, events) in TEXTS.as_slice() {
         assert_eq!(rt; events_of(rt.alloc(), text), events);
-        assert_eq!(rt; events_in_memory(rt.alloc(), text), events);
+        let in_memory = night_of_bytes(rt.alloc(), text).map(|night| night.events.len());
+        assert_eq!(rt; in_memory, events);
     }
 }
 
@@ -193,10 +188,7 @@ fn every_beginning_of_a_script(rt: HostRuntime) -> Result<(), Fail> {
     let text = after_club_rows(rt.alloc(), HEAD_TO_HEAD)?;
     for end in 0..text.len() {
         let fault = night_of(rt.alloc(), &text[..end]).err();
-        let is_of_a_row = match fault {
-            None | Some(InputFault::BadRow { .. }) => true,
-            _ => false,
-        };
+        let is_of_a_row = matches!(fault, None | Some(InputFault::BadRow { .. }));
         assert!(rt; is_of_a_row, "cut after {end}");
     }
     let cut = b"club,1,Alpha,60000\nclub,2,Bravo,95000\nclub,3,Charlie,60000\nclub,4,Delta,815";
@@ -227,6 +219,20 @@ fn names_that_no_roster_takes(rt: HostRuntime) -> Result<(), Fail> {
         assert_eq!(rt; fault, Some(InputFault::BadRow { row: 4 }));
     }
     Ok(())
+}
+
+/// The club of a row is lent, where the row is that of its slot.
+#[test]
+fn club_of_a_row(rt: HostRuntime) {
+    let row = Four {
+        first: b"club",
+        second: b"2",
+        third: b"Echo",
+        fourth: b"999999",
+    };
+    let club = lent_club(2, &row).expect(&rt, "a club");
+    assert!(rt; club.name == b"Echo".as_slice() && club.coefficient == 999_999);
+    assert!(rt; lent_club(1, &row).is_none());
 }
 
 #[test]
