@@ -405,13 +405,15 @@ def test_what_has_no_answer_is_sent_again(site):
     assert told_to(site, reporter, "12 Delta v Charlie, to come", desk=screen)
     reporter.type("1 kickoff\n2 result 1-0\n")
     assert reporter.sees("1 kickoff               no answer yet; it is sent again") and reporter.sees("2 fulltime              no answer yet; it is sent again")
+    reporter.type("1,1,0,kickoff\n")
+    assert reporter.sees("this row waits for its answer")
     stale = {"code": 1, "event": "kickoff", "expected": 0, "match": 1, "name": "stale", "number": 1, "reply": "refused", "reporter": 1, "row": 19}
     early = {**stale, "event": "fulltime", "expected": 2, "match": 2, "number": 0}
-    for said in stale, early, {**entered, "reporter": 2}, {**entered, "row": 9}:
+    for said in stale, early, {**entered, "reporter": 2}:
         site.done("mosquitto_pub -q 1 -t ucl/a/answers -s", json.dumps(said))
     assert not reporter.sees("refused", 1)
     site.line(LINES["The board"])
-    assert reporter.sees("1 kickoff               entered, row ") and reporter.sees("2 result 1-0            entered, row ")
+    assert reporter.sees("1 kickoff               entered, row 7") and reporter.sees("2 result 1-0            entered, row ")
     after["matches"][2].update(number=1, reporter=1, state="IN PLAY")
     after["matches"][3].update(number=1, reporter=2, state="IN PLAY")
     site.kill_board()
@@ -553,11 +555,13 @@ def test_no_late_row_of_an_edition_is_taken_in_the_next_and_reporters_go_on(site
     assert first.sees(f"1 goal home             {DROPPED}")
     first.type("1 goal home\n")
     assert first.sees("1 goal home             entered, row 16: Bravo 2-1 Charlie, in play, event 4 by 1")
+    second.type("2 kickoff\n")
+    assert second.sees("2 kickoff               entered, row 17: Delta 0-0 Alpha, in play, event 1 by 7")
     enter = lambda words, row: site.done(f"./ucl_reporter --broker a {words} 2>&1", row + "\n").split(": ", 1)[1]
     assert enter("", "1,1,4,goal-home") == "1,1,4,goal-home: this is of edition 0, and the board of edition 1: look at the matches\n"
     assert enter("--edition 1", "1,1,4,goal-home") == "Bravo 3-1 Charlie, in play, event 5 by 1\n"
     assert (site.path / "errors").read_text().count("board: passed over on ucl/a/0/rows/") >= 3
-    assert site.answers()[-1]["version"] == 5 and not [it for it in site.answers() if it["reply"] == "refused"]
+    assert site.answers()[-1]["version"] == 6 and not [it for it in site.answers() if it["reply"] == "refused"]
 
 
 def test_a_mistake_mended_while_32_screens_look_on(site):
