@@ -462,7 +462,7 @@ def test_lines_that_are_no_answers_and_a_board_that_falls_silent(site):
     site.begin()
     reporter = Typist(site, "--again 1")
     assert reporter.sees("12 Delta v Charlie, to come")
-    for text in "x", "{}", "[" * 500, '{"reply":"ok"}', '{"reply":"ok","row":1}', '{"reply":"refused","row":1,"reporter":1}', '{"reply":"screen","row":99}', '{"row":9,"reply":"screen","edition":7}':
+    for text in "x", "{}", "[" * 500, '{"reply":"ok"}', '{"reply":"ok","row":1}', '{"reply":"refused","row":1,"reporter":1}', '{"reply":"refused","row":1,"match":[1]}', '{"reply":"screen","row":99}', '{"row":9,"reply":"screen","edition":7}':
         for topic in "desk", "answers":
             site.done(f"mosquitto_pub -q 1 -t ucl/a/{topic} -s", text)
     reporter.type("1 kickoff\n")

@@ -80,11 +80,6 @@ def members_of(line):
         return {}
 
 
-def asked_in(said):
-    """The row of an answer, or the text of a row that is none."""
-    return ",".join(str(said[name]) for name in ("reporter", "match", "expected", "event") if name in said) or said.get("text", "")
-
-
 def line_of(members):
     """A line of JSON, whose members stand in the order of their names."""
     return json.dumps(members, sort_keys=True, separators=(",", ":")).encode() + b"\n"

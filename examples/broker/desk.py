@@ -1,10 +1,9 @@
 """A reporter's side of a broker: where rows go and answers come from in `ucl_reporter --broker`, in place of a record."""
 
 import contextlib
-import re
+import os
 import select
 import subprocess
-import sys
 import time
 
 import clients
@@ -14,19 +13,19 @@ class Desk:
     """The board of a group behind a broker: rows go to a topic of the reporter, and what the board tells comes on two of the group."""
 
     def __init__(self, answers, group, own, again, limit):
-        self.answers, self.group, self.own, self.again, self.limit = answers, group, own, again, limit
+        self.answers, self.group, self.own, self.again, self.limit = answers, group, own, again, float("inf") if os.isatty(0) else limit
         # Without what the broker keeps, which may be older than the board: that tells its table each two seconds.
         hears = clients.listener("-R", "-t", clients.topic(group, "desk"), "-t", clients.topic(group, "answers"), stderr=subprocess.PIPE)
         self.heard, *self.faults = map(clients.Lines, (hears.stdout, hears.stderr))
-        self.sends, self.fault = None, ""
         # When a row that waits was sent first, and how often; whose an event is, by match and number before; answers that wait for a screen.
-        self.waits, self.whose, self.held = {}, {}, []
-        begun = time.monotonic()
+        self.waits, self.whose, self.held, self.sends, self.fault = {}, {}, [], None, ""
+        told, end = [(None, {"told": f"Waiting for the board of group {group.upper()}"})] * os.isatty(0), time.monotonic() + self.limit
         while answers.moment is None:
-            for _, said in self.follow(0.05):
+            for _, said in told:
                 print(said["told"], flush=True)
-            if time.monotonic() - begun > limit:
-                sys.exit(f"ucl_reporter: no table of group {group.upper()} has come in {limit:g} seconds")
+            told = self.follow(0.05)
+            if time.monotonic() > end:
+                raise TimeoutError(f"no table of group {group.upper()} has come in {limit:g} seconds")
 
     def append(self, rows, edition):
         """Sends rows to the topic of an edition; none where another has begun."""
@@ -34,9 +33,8 @@ class Desk:
         if self.sends is None:
             self.sends = clients.publisher("-t", clients.topic(self.group, f"{edition}/rows/{self.own}"), stderr=subprocess.PIPE)
             self.faults[1:] = [clients.Lines(self.sends.stderr)]
-        for row in rows:
-            self.waits[row] = time.monotonic(), 1
-            self.sends.stdin.write(row.line(self.own))
+        self.waits.update((row, (time.monotonic(), 1)) for row in rows)
+        self.sends.stdin.write(b"".join(row.line(self.own) for row in rows))
 
     def has(self, row):
         """Whether the board is past a row, and not known to be so by another reporter's event."""
@@ -66,16 +64,16 @@ class Desk:
         for said in (said for row, said in held if row <= moment.row):
             self.answers.take(clients.line_of(said))
             _ = self.answers.events  # read here, where what is none is passed over
-            yield self.judged(said) if said.get("edition", moment.edition) == moment.edition else (None, said)
+            yield self.judged(said, moment)
 
-    def judged(self, said):
+    def judged(self, said, moment):
         """An answer, with the row that it decides. That one is stale may be the answer to its second copy: whose that event is decides."""
         row = said.get("match"), said.get("expected"), said.get("event")
-        if said.get("reporter") != self.own or row not in self.waits:
+        if row not in self.waits or said.get("reporter") != self.own or said.get("edition", moment.edition) != moment.edition:
             return None, said
         if said.get("name") == "stale":
             is_behind = any(match == row[0] and expected < row[1] for match, expected, _ in self.waits)
-            if said["number"] > self.answers.moment.matches[row[0] - 1]["number"] or said["number"] < row[1] and is_behind:
+            if said["number"] > moment.matches[row[0] - 1]["number"] or said["number"] < row[1] and is_behind:
                 return None, said
             said = {"reply": "ok"} if said["number"] > row[1] and self.whose.get(row[:2]) == self.own else said
         del self.waits[row]
@@ -108,5 +106,5 @@ class Desk:
     def warn(self, line):
         """What a client tells, once. Where the broker does not take the rows, nothing will answer them."""
         is_new, self.fault = line != self.fault, line
-        is_refused = re.search("not authori[sz]ed", line, re.I)
-        return [(None, {"told": line})] * is_new + (self.decide_all(reply="refused", name="not-authorised") if is_refused else [])
+        refused = self.decide_all(reply="refused", name="not-authorised") if "not authori" in line.lower() else []
+        return [(None, {"told": line})] * is_new + refused
