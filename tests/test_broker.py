@@ -405,6 +405,8 @@ def test_what_has_no_answer_is_sent_again(site):
     assert told_to(site, reporter, "12 Delta v Charlie, to come", desk=screen)
     reporter.type("1 kickoff\n2 result 1-0\n")
     assert reporter.sees("1 kickoff               no answer yet; it is sent again") and reporter.sees("2 fulltime              no answer yet; it is sent again")
+    reporter.type("1,1,0,kickoff\n")
+    assert reporter.sees("this row waits for its answer")
     stale = {"code": 1, "event": "kickoff", "expected": 0, "match": 1, "name": "stale", "number": 1, "reply": "refused", "reporter": 1, "row": 19}
     early = {**stale, "event": "fulltime", "expected": 2, "match": 2, "number": 0}
     for said in stale, early, {**entered, "reporter": 2}, {**entered, "row": 9}:
