@@ -309,7 +309,7 @@ def test_a_goal_that_is_typed_while_another_mends(hall):
     both = hall(STARTED + "2,1,3,goal-home\n")
     one, two = both.reporter(), both.reporter("--number", "2")
     two.type("1 goal home")
-    one.enter("mend 7", "is this one").enter("y", "Edition 1 has begun")
+    one.enter("mend 7", "would be this").enter("y", "Edition 1 has begun")
     one.enter("1 yellow home", "entered")
     two.sees("Edition 1 has begun")
     two.enter("", "1 goal home             dropped: edition 1 has begun; look at the match, and type it again if it still holds")
@@ -340,11 +340,11 @@ def test_two_who_mend_at_once(hall):
     """The second is shown what it would be by now, and asked again."""
     both = hall(STARTED)
     one, two, three = both.reporter(), both.reporter("--number", "2"), both.reporter("--number", "3")
-    one.enter("mend 7", "is this one")
-    two.enter("club 2 Real Madrid", "is this one")
-    three.enter("mend 7", "is this one")
+    one.enter("mend 7", "would be this")
+    two.enter("club 2 Real Madrid", "would be this")
+    three.enter("mend 7", "would be this")
     one.enter("y", "Edition 1 has begun")
-    two.enter("y", "rows have come since, so look at it again").sees("Edition 2 is this one")
+    two.enter("y", "rows have come since, so look at it again").sees("Edition 2 would be this")
     assert "Real Madrid" not in text_of(both.record)
     three.enter("y", "row 7 is no event accepted in edition 1")
     two.enter("y", "Edition 2 has begun")
@@ -357,12 +357,12 @@ def test_a_goal_that_comes_while_it_is_asked(hall):
     """The block is worked out again, and shown again, so the goal is in it; n leaves all as it is."""
     both = hall(STARTED)
     one, two = both.reporter(), both.reporter("--number", "2")
-    one.enter("mend 7", "is this one").sees("append it? y or n> ")
+    one.enter("mend 7", "would be this").sees("append it? y or n> ")
     assert shown(evening_of("".join(both.rows()))[0]) in one.text() and "GROUP B v00002 IN PLAY 1 EDITION 1" in one.text()
     two.enter("1 goal away", "entered, row 9")
     one.enter("y", "rows have come since")
     assert len(both.rows()) == 9
-    one.enter("n", "Nothing is appended").enter("mend 7", "is this one").enter("yes", "Edition 1 has begun")
+    one.enter("n", "Nothing is appended").enter("mend 7", "would be this").enter("yes", "Edition 1 has begun")
     assert both.rows()[9:] == ["group,B,uefa,1\n", "1,1,0,kickoff\n", "1,1,1,goal-away\n", "2,1,2,goal-away\n", "screen,,,\n"]
 
 
@@ -385,7 +385,7 @@ def test_a_matchday_with_mistakes(hall):
             one.enter(wrong, f"entered, row {count + 1}: ")
         edition = day.evening()[0].style.edition + 1
         if mend.split()[0] in ("mend", "club", "coefficient"):
-            one.enter(mend.format(row=count + 1), "is this one").enter("y", f"Edition {edition} has begun")
+            one.enter(mend.format(row=count + 1), "would be this").enter("y", f"Edition {edition} has begun")
         else:
             one.enter(mend, f"entered, row {count + 2}")
         if right:
@@ -565,7 +565,7 @@ def test_who_appends_waits_for_the_lock(hall):
         time.sleep(0.5)
         assert text_of(held.record) == STARTED
     one.sees("entered, row 9")
-    one.enter("mend 7", "is this one")
+    one.enter("mend 7", "would be this")
     with open(held.record) as file:
         fcntl.flock(file, fcntl.LOCK_EX | fcntl.LOCK_NB)
 
@@ -608,7 +608,7 @@ def test_a_block_that_was_cut_off(hall):
             torn = hall("".join(rows[: 9 + kept]) + cut)
             one = torn.reporter().sees("Edition 1 was cut off while it was written, or begun by hand; to go back to the one before type mend edition 0")
             assert one.board().startswith(shown(evening_of("".join(rows[: 9 + kept]))[0]))
-            one.enter("mend edition 0", "is this one").enter("y", "Edition 2 has begun").end()
+            one.enter("mend edition 0", "would be this").enter("y", "Edition 2 has begun").end()
             assert shown(torn.evening()[0]) == before.replace("\n", " EDITION 2\n", 1) and torn.evening()[0].roster == ROSTER
     assert "cut off" not in hall("".join(rows)).reporter().text()
 

@@ -116,11 +116,10 @@ fn in_json(rt: HostRuntime) -> Result<(), Fail> {
 
 /// What a follower of some lines shows, and its counts.
 fn followed(alloc: Global, lines: &str) -> Result<(String, Followed), Fail> {
-    let (group, profile, shape) = (None, None, FollowShape::Text);
     let args = FollowArgs {
-        group,
-        profile,
-        shape,
+        group: None,
+        profile: None,
+        shape: FollowShape::Text,
     };
     let shelf = || Shelf::new(Vec::new(alloc), usize::MAX);
     let mut duplex = Duplex::new(Given::new(lines.as_bytes()), shelf());

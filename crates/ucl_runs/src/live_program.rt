@@ -28,8 +28,8 @@ fn told<E: Sink>(errors: &mut E, done: Result<(), PumpFault<LiveFault>>) -> u8
 }
 
 /// Holds the evening that the arguments asked for, as `live_args` answered it, and gives the exit status: 0 where the input has ended and each row
-/// is answered, 2 where the arguments are refused, by the text of `clap`, or the row of the group differs from them, and else that of the fault, which is told by its line: 3 where the clubs
-/// or the words of the board are refused, 4 where a device has failed, and 5 where there was no memory. Help goes to the output.
+/// is answered; 2 where the arguments are refused, by the text of `clap`, or the row of the group differs from them; else that of the fault, which
+/// is told by its line: 3 where the clubs are refused, 4 where a device has failed, 5 where there was no memory. Help goes to the output.
 pub fn run_evening<S: Source, W: Sink, E: Sink>(
     alloc: Global,
     asked: Result<LiveArgs, LineFault>,
