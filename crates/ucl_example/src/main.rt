@@ -53,10 +53,13 @@ fn enter(
     requires { pass.old.board ≡ board.now }
 {
     for row in rows.lines() {
-        match call_in(row).map(|call| board.report_now(pass, &call)) {
+        match call_in(row) {
             None => eprintln!(rt; "no event: {row}")?,
-            Some(Err(refusal)) => eprintln!(rt; "refused: {row}: {refusal}")?,
-            Some(Ok(_)) => {}
+            Some(call) => {
+                if let Err(refusal) = board.report_now(pass, &call) {
+                    eprintln!(rt; "refused: {row}: {refusal}")?;
+                }
+            }
         }
     }
     Ok(())
