@@ -109,7 +109,7 @@ def test_what_was_proved_is_told(dist, tree):
     """Sums of what is installed, the logic, the commit, and the sum of a crate's sources by the line that the file has for it."""
     told = text_of(dist / "PROVED")
     installed = [tree / "usr/bin" / name for name in PROGRAMS] + [*tree.glob("usr/lib/*/libuclboard.so.1"), *tree.glob("usr/lib/*/libuclboard.a")]
-    assert len(installed) == 6
+    assert len(installed) == 5
     for path in installed:
         assert f"{command(['sha256sum', path]).output.split()[0]}  {path.name}\n    ./build {path.name if 'bin' in path.parts else 'library'}\n" in told
     (line,) = re.findall(r"^    (git ls-files .*)$", told, re.M)
