@@ -159,10 +159,12 @@ class Hall:
         return shown(self.evening()[0])
 
     def watched(self):
-        """The table that is shown first, to who only looks."""
+        """The table that is shown first, to who only looks; `seconds` is what a processor took until then."""
         with subprocess.Popen(["./ucl_reporter", "--watch", "evening.csv"], cwd=self.path, stdin=subprocess.DEVNULL, stdout=subprocess.PIPE) as watch:
             lines = "".join(watch.stdout.readline().decode() for _ in range(6))
+            ticks = text_of(pathlib.Path(f"/proc/{watch.pid}/stat")).rpartition(")")[2].split()[11:13]
             watch.kill()
+        self.seconds = sum(map(int, ticks)) / os.sysconf("SC_CLK_TCK")
         return lines
 
 
@@ -648,15 +650,14 @@ def test_bytes_written_beside(hall):
 
 
 def test_a_full_board(hall):
-    """49,140 events: a start takes under a second, where nothing else runs; the table is that of the record, and so is the one after a mend."""
+    """49,140 events: a start takes less than two seconds of a processor; the table is that of the record, and so is the one after a mend."""
     events = [["kickoff", *["goal-home", "disallow-home"] * 2046, "goal-home", "fulltime"] for _ in range(12)]
     full = hall(BEGUN + "".join(f"1,{game},{number},{it}\n" for number in range(4095) for game, it in ((game, events[game - 1][number]) for game in range(1, 13))))
-    times = []
+    taken = []
     for _ in range(3):
-        begun = time.monotonic()
         assert full.watched().startswith("GROUP B v49140 IN PLAY 0\n")
-        times.append(time.monotonic() - begun)
-    assert min(times) < 2, times
+        taken.append(full.seconds)
+    assert min(taken) < 2, taken
     assert full.run("--mend", "7", "--yes").status == 0 and full.rows()[-1] == "screen,,,\n"
 
 
