@@ -55,29 +55,6 @@ def tree(dist, tmp_path_factory):
     return folder
 
 
-@pytest.fixture(scope="session")
-def again(program, place, tmp_path_factory):
-    """A program that is proved, compiled and linked once more in another folder, over what is proved below it: a process, which takes a minute, and
-    what it writes."""
-    path, name = program("ucl_follow"), "ucl_follow"
-    if place != TOP or not (TOP / "crates/ucl_runs/out/rlib").exists():
-        pytest.skip("the crates below ucl_follow are not proved here")
-    kit = pathlib.Path(command(["rt", "doc"]).output.strip()).parent
-    uses = {line.split(":")[0].split()[0]: line.split(":")[1].split() for line in text_of(path.parent / "built").splitlines()}
-    folders = {used: TOP / f"crates/{used}/out/rlib" if used in uses else kit / "rlibs" for used in ["std", *uses, *uses[name]]}
-    words = [word for used in ["std", *uses[name]] for word in ("--extern", f"{used}={folders[used]}/{used}.rlib")]
-    words += [word for folder in {*folders.values()} for word in ("-L", f"dependency={folder}")]
-    words += ["--antt-project", kit / "rattle/logic/antt-project.json", "--logic-built", kit / "logic_built", "--toolchain", kit / "toolchain", "--jobs", "1"]
-    build = [kit / "bin/rattle", "build", "--crate-name", name, "src/main.rt", *words, "-o", "it.o"]
-    link = [kit / "bin/rattle-link", "--target", "x86_64-unknown-linux-gnu", "--toolchain", kit / "toolchain", "-o", "it", "it.o"]
-    line = " && ".join(shlex.join(map(str, words)) for words in (build, [*link, kit / "c/libos_c.a", kit / "c/liblibc_c.a"]))
-    folder = tmp_path_factory.mktemp("again") / "of another name"
-    shutil.copytree(path.parent.parent, folder, ignore=shutil.ignore_patterns("out", "must-fail"))
-    with subprocess.Popen(["bash", "-c", line], cwd=folder, stdin=subprocess.DEVNULL, stdout=subprocess.PIPE, stderr=subprocess.STDOUT) as process:
-        yield process, folder / "it"
-        process.kill()
-
-
 # ---- what is in them
 
 
@@ -90,15 +67,14 @@ def elsewhere(path, made):
         elif (TOP / name).exists() and not (TOP / name).is_symlink():
             (path / name).parent.mkdir(parents=True, exist_ok=True)
             shutil.copy2(TOP / name, path / name)
-    for built in path.glob("crates/*/out/built"):
-        built.touch()
+    for made in [*path.glob("crates/*/out/*"), path / "library/libuclboard.a"]:
+        made.touch()
     return path
 
 
 def test_two_folders_give_the_same_bytes(dist, tmp_path):
     """The same programs, sources and commit in another folder; SHA256SUMS has the sums of all files."""
-    made = [f"crates/{name}/out/{part}" for name in [*PROGRAMS, "ucl_c"] for part in ("built", name)]
-    other = elsewhere(tmp_path / "a folder of another name", [*made, "library"])
+    other = elsewhere(tmp_path / "a folder of another name", [*(f"crates/{name}/out/{name}" for name in PROGRAMS), "library"])
     again = packed(other, tmp_path / "elsewhere")
     assert text_of(again / "SHA256SUMS") == text_of(dist / "SHA256SUMS")
     assert command(["sha256sum", "-c", "--quiet", "--strict", "SHA256SUMS"], cwd=dist) == (0, "", "")
@@ -194,8 +170,8 @@ class Root:
 
 
 @pytest.fixture(scope="session")
-def roots(dist, again):
-    """Roots by their names, which are made at the same time, while a program is built again."""
+def roots(dist):
+    """Roots by their names, which are made at the same time."""
     needs("mmdebstrap", "unshare")
     if os.geteuid() != 0:
         pytest.skip("not root, so no root is made")
@@ -358,10 +334,3 @@ def test_services(full, tmp_path):
     assert full.run("ucl_follow", desk).output.endswith(model.screen(matches)) and desk.count('"pulse":') >= 2
     full.needs("dpkg -P ucl-board python3-uclboard libuclboard-dev libuclboard1")
     assert not (full.path / "var/lib/ucl-board").exists() and not (full.path / "etc/ucl-board").exists()
-
-
-def test_a_program_is_built_alike_in_another_folder(program, again):
-    process, path = again
-    told = conftest.decoded(process.communicate()[0])
-    assert process.returncode == 0, told[-2000:]
-    assert path.read_bytes() == program("ucl_follow").read_bytes()

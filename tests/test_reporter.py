@@ -484,7 +484,8 @@ def test_command_lines_and_files(hall):
         assert hall(text).run().errors == f"ucl_reporter: evening.csv has no board, or ucl_live failed: input refused 20: {fault}\n"
     (words.path / "build").write_text("#!/bin/sh\nexit 1\n")
     (words.path / "build").chmod(0o755)
-    for make in (lambda: (words.path / "ucl_live").unlink(), lambda: (words.path / "ucl_live").symlink_to(words.path / "build")):
+    (words.path / "start").touch()
+    for make in (lambda: (words.path / "ucl_live").unlink(), lambda: (words.path / "ucl_live").symlink_to(words.path / "start")):
         make()
         (words.path / "ucl_reporter").unlink()
         (words.path / "ucl_reporter").write_text(text_of(TOP / "ucl_reporter"))
