@@ -1,5 +1,5 @@
-//! Measures the live boards, the table and its screen. It is the proved side of the ratios of bench/RESULTS.md: bench/compare and
-//! bench/languages start it, beside references in plain Rust and in C.
+//! Measures live boards, tables and screens: the proved side of the ratios of bench/RESULTS.md. bench/compare starts it, beside references in
+//! plain Rust and in C.
 #![tactic(auto)]
 
 mod boards;
