@@ -61,8 +61,14 @@ fn kind_at(expected: u16) -> Kind {
 
 /// The first events of all matches, so many of each, one match after the other.
 pub fn events_of(each: u16) -> Vec<Event> {
-    let event = |game, expected| Event { game, expected, kind: kind_at(expected) };
-    (1..=12).flat_map(|game| (0..each).map(move |expected| event(game, expected))).collect()
+    let event = |game, expected| Event {
+        game,
+        expected,
+        kind: kind_at(expected),
+    };
+    (1..=12)
+        .flat_map(|game| (0..each).map(move |expected| event(game, expected)))
+        .collect()
 }
 
 /// The index of an event's match.

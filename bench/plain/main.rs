@@ -65,7 +65,9 @@ fn measured<B: Board>(workload: &str, millis: u64) -> Result<String, Failure> {
 
 /// The board of a line: twelve words of hexadecimal digits.
 fn board_of(line: &str) -> Option<Words> {
-    let words = line.split(' ').map(|digits| u64::from_str_radix(digits, 16).ok());
+    let words = line
+        .split(' ')
+        .map(|digits| u64::from_str_radix(digits, 16).ok());
     words.collect::<Option<Vec<u64>>>()?.try_into().ok()
 }
 

@@ -39,7 +39,10 @@ impl Least {
 impl fmt::Display for Least {
     fn fmt(&self, f: &mut fmt::Formatter) -> fmt::Result {
         let (calls, nanos, answers) = (self.calls, self.time.as_nanos(), self.answers);
-        write!(f, "{{\"calls\":{calls},\"least_ns\":{nanos},\"answers\":{answers}}}")
+        write!(
+            f,
+            "{{\"calls\":{calls},\"least_ns\":{nanos},\"answers\":{answers}}}"
+        )
     }
 }
 
@@ -56,7 +59,9 @@ fn for_millis(millis: u64, mut once: impl FnMut()) {
 
 /// Enters events, and adds up the numbers that they were given.
 fn enter<B: Board>(board: &B, events: &[Event]) -> u64 {
-    let numbers = events.iter().filter_map(|event| report_once(board, 1, event));
+    let numbers = events
+        .iter()
+        .filter_map(|event| report_once(board, 1, event));
     numbers.map(u64::from).sum()
 }
 
@@ -65,7 +70,11 @@ pub fn measure_read<B: Board>(millis: u64) -> Least {
     let board = B::fresh();
     enter(&board, &events_of(EVENTS_BEFORE));
     let mut least = Least::of(CHUNK);
-    let versions = || (0..CHUNK).map(|_| u64::from(read_once(&board).version)).sum();
+    let versions = || {
+        (0..CHUNK)
+            .map(|_| u64::from(read_once(&board).version))
+            .sum()
+    };
     for_millis(millis, || least.time(versions));
     least
 }

@@ -1,5 +1,5 @@
-//! Nights: readers and reporters, each in a thread of its own, on a fresh board. Nights whose readings are not timed one by one, of which the
-//! rates are told, and nights whose readings are timed take turns.
+//! Nights: readers and reporters, each in a thread of its own, on a fresh board. Nights of which the rates are told, and nights of which each
+//! reading is timed take turns.
 
 use crate::boards::{events_of, read_once, report_once, Board, ALL_EVENTS};
 use crate::word::{version_of, Event};
@@ -78,7 +78,13 @@ impl Figures {
 
 impl fmt::Display for Figures {
     fn fmt(&self, f: &mut fmt::Formatter) -> fmt::Result {
-        let Figures { reads, read_nanos, events, event_nanos, .. } = self;
+        let Figures {
+            reads,
+            read_nanos,
+            events,
+            event_nanos,
+            ..
+        } = self;
         let (half, most) = (self.time_at(500), self.time_at(999));
         write!(
             f,
@@ -143,7 +149,10 @@ impl<B: Board> Night<'_, B> {
         } else {
             self.read_freely(&mut own);
         }
-        self.figures.lock().expect("no thread has panicked").add(&own);
+        self.figures
+            .lock()
+            .expect("no thread has panicked")
+            .add(&own);
     }
 
     /// Enters the events of those matches whose number leaves the reporter's index as remainder, and gives how many were accepted.
@@ -212,7 +221,11 @@ fn hold_night<B: Board>(plan: Plan, events: &[Event], is_timed: bool) -> Figures
 
 /// Holds nights for so many milliseconds, at least one of each sort.
 pub fn hold_nights<B: Board>(plan: Plan, millis: u64) -> Figures {
-    let events = events_of(if plan.is_paced { PACED_EVENTS } else { ALL_EVENTS });
+    let events = events_of(if plan.is_paced {
+        PACED_EVENTS
+    } else {
+        ALL_EVENTS
+    });
     let mut all = Figures::new();
     let begun = Instant::now();
     loop {
