@@ -1,5 +1,5 @@
-//! Nights: readers and reporters, each in a thread of its own, on a fresh board. Nights of which the rates are told, and nights of which each
-//! reading is timed take turns.
+//! Nights: readers and reporters, each in a thread of its own, on a fresh board. Nights of which the rates are told, and nights of which
+//! each reading is timed take turns.
 
 use crate::boards::{events_of, read_once, report_once, Board, ALL_EVENTS};
 use crate::word::{version_of, Event};

@@ -17,15 +17,14 @@ use ucl_words::WordBoard;
 
 /// What words there are.
 const USAGE: &str =
-    "ucl_bench check                           a short run of each board: the versions of readings, the numbers of reports, and the
-                                          events of a night, each added up
-ucl_bench screens FILE                    the screens of the boards of a file, one a line, each twelve words of 16 hexadecimal digits
-ucl_bench run SUBJECT WORKLOAD MS [FILE]  measures for about so many milliseconds, and prints a line of JSON
-    word_board, cell_board  read, report: calls by one thread; mix-R-W: R readers, 0 to 16, beside W reporters, 0 to 12, who enter the events
-                            of their own matches; paced-R-W: the same, with an event each five microseconds
-    table                   standings, screen: of the boards of the file
-    library                 board_version, standings, screen, screen_json: the same as calls of other languages do it
-";
+    "ucl_bench check          a short run of each board: versions of readings, numbers of reports, and events of a night, added up
+ucl_bench screens FILE   the screens of the boards of a file, one a line, each twelve words of 16 hexadecimal digits
+ucl_bench run SUBJECT WORKLOAD MS [FILE]    measures for about so many milliseconds, and prints a line of JSON
+    word_board, cell_board    read, report: calls by one thread
+                              mix-R-W: R readers, 0 to 16, and W reporters, 0 to 12, who enter the events of their own matches
+                              paced-R-W: the same, with an event each five microseconds
+    table                     standings, screen: of the boards of the file
+    library                   board_version, standings, screen, screen_json: the same as calls from other languages do it";
 
 /// How many readers a night can have.
 const MOST_READERS: u8 = 16;

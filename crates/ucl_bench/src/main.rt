@@ -1,5 +1,5 @@
-//! Measures live boards, tables and screens: the proved side of the ratios of bench/RESULTS.md. bench/compare starts it, beside references in
-//! plain Rust and in C.
+//! Measures live boards, tables and screens: the proved side of the ratios of bench/RESULTS.md. bench/compare starts it, beside references
+//! in plain Rust and in C.
 #![tactic(auto)]
 
 mod boards;

@@ -1,5 +1,5 @@
-//! Nights: readers and reporters, each in a thread of its own, on a fresh board. Nights whose readings are not timed one by one, of which the
-//! rates are told, and nights whose readings are timed take turns.
+//! Nights: readers and reporters, each in a thread of its own, on a fresh board. Nights of which the rates are told, and nights of which
+//! each reading is timed take turns.
 
 ghost use Rattle.std.specs.Prelude.{IfOk};
 
