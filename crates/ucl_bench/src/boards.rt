@@ -46,7 +46,8 @@ pub fn enlist<B: LiveBoard, R: Wait>(
     board.enlist(rt, pass).ok().context("no number is left")
 }
 
-/// A reading that is really taken: the call is not put into the caller, so its answer is made in full.
+/// A reading that is really taken: the call is not put into the caller, so its answer is made in full. Nothing else reads: a second caller
+/// would keep the board's `read` out of this one, which would copy its answer.
 #[inline(never)]
 pub fn read_once<B: LiveBoard, R: Wait>(rt: &R, board: &B, pass: &mut B::ReaderPass) -> Reading
     requires { B.is_reader board.now pass.old }

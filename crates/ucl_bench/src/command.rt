@@ -24,7 +24,8 @@ ucl_bench run SUBJECT WORKLOAD MS [FILE]    measures for about so many milliseco
                               mix-R-W: R readers, 0 to 16, and W reporters, 0 to 12, who enter the events of their own matches
                               paced-R-W: the same, with an event each five microseconds
     table                     standings, screen: of the boards of the file
-    library                   board_version, standings, screen, screen_json: the same as calls from other languages do it";
+    library                   board_version, standings, screen, screen_json: the same as calls from other languages do it
+";
 
 /// How many readers a night can have.
 const MOST_READERS: u8 = 16;
@@ -149,6 +150,7 @@ pub fn run<R: Print + Files + AllocGlobal + Threads + Wait + Clock + Sync>(
             let named = [word_at(words, 2), word_at(words, 3), word_at(words, 4)];
             measure_words(rt, alloc, named, word_at(words, 5))
         }
-        _ => anyhow::bail!("{USAGE}"),
+        "--help" => Ok(print!(rt; "{USAGE}")?),
+        _ => anyhow::bail!("ucl_bench --help tells what words there are"),
     }
 }

@@ -386,7 +386,7 @@ fn hold_night<B: Opens, R: Threads + Wait + Clock + Sync>(
     let (board, mut last) = B::fresh(rt, alloc)?;
     let first = board.split(rt, &mut last);
     work(rt, alloc, &board, first, &night)?;
-    let version = board.read(rt, &mut last).version;
+    let version = read_once(rt, &board, &mut last).version;
     let Night { figures, .. } = night;
     let mut figures = figures.into_inner();
     ensure!(u64::from(version) == figures.events, "an event was lost");
