@@ -281,17 +281,16 @@ def test_thread_that_is_refused(program):
 
 # ---- what measures the boards
 
-WORKLOADS = {"read": "", "report": "", "mix-3-1": '"readers":3,"reporters":1,', "mix-16-12": '"readers":16,"reporters":12,', "night": '"readers":2,"reporters":2,'}
-WORKLOADS |= {"paced-2-0": '"readers":2,"reporters":0,', "paced-0-12": '"readers":0,"reporters":12,'}
+WORKLOADS = {"read": "calls", "report": "calls", **dict.fromkeys(["mix-3-1", "mix-16-12", "paced-2-0", "paced-0-12"], "reads")}
 NO_WORKLOADS = ["", "write", "Read", "read-1", "report-1-1", "mix", "mix-3", "mix-17-1", "mix-1-13", "mix-a-1", "mix--1", "mix-1-", "mix-1-1-1"]
 
 
 def test_workloads(place):
     if built("ucl_bench", place) is None:
         pytest.skip("not built: ucl_bench, which no user needs")
-    measured = lambda name: command([place / "bench/boards", "run", "plain_words", name, "1"], cwd=place)
+    measured = lambda name: command([built("ucl_bench", place), "run", "word_board", name, "1"], cwd=place)
     for name, told in WORKLOADS.items():
-        assert measured(name) == (0, Has(f'{{"board":"plain_words","workload":"{name}",{told}'), "")
+        assert measured(name) == (0, Has(f'{{"{told}":'), "")
     for name in [*NO_WORKLOADS, "paced-256-0", "night-2-2", "3-1"]:
         ran = measured(name)
         assert ran.status and ran.output == "" and "no such workload" in ran.errors, name

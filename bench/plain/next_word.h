@@ -1,12 +1,7 @@
-/* What a call of uclboard_next_word takes beside a plain C function with the same checks: the same random events on twelve words. Prints the
-   nanoseconds of both, the least of several rounds, and their ratio; ends with 1 where the two answer otherwise. */
-#define _POSIX_C_SOURCE 199309L
+/* A plain C function with the checks of uclboard_next_word, and random events on twelve words that both are called with. */
 #include "uclboard.h"
-#include <stdio.h>
-#include <string.h>
-#include <time.h>
 
-enum { EVENTS = 1 << 20, ROUNDS = 9 };
+enum { EVENTS = 1 << 20 };
 
 typedef struct {
     uint32_t match, reporter, wrong, kind;
@@ -56,7 +51,7 @@ static uint32_t changed(uint64_t *word, uint32_t kind) {
     }
 }
 
-static __attribute__((noinline)) uint32_t plain(uint64_t word, uint32_t reporter, uint32_t expected, uint32_t kind, uint64_t *next, uint32_t *found) {
+static __attribute__((noinline)) uint32_t plain_next_word(uint64_t word, uint32_t reporter, uint32_t expected, uint32_t kind, uint64_t *next, uint32_t *found) {
     uint64_t number = of(word, 0, 12), state = of(word, 12, 2), wanted = kind == 0 ? 0 : kind == UCLBOARD_REOPEN ? 2 : 1;
     uint32_t status;
     if (reporter < 1 || reporter > 255) return UCLBOARD_NO_REPORTER;
@@ -78,11 +73,11 @@ static __attribute__((noinline)) uint32_t plain(uint64_t word, uint32_t reporter
     return UCLBOARD_DONE;
 }
 
-typedef uint32_t call(uint64_t, uint32_t, uint32_t, uint32_t, uint64_t *, uint32_t *);
+typedef uint32_t next_word(uint64_t, uint32_t, uint32_t, uint32_t, uint64_t *, uint32_t *);
 
 /* Enters all events, and answers a sum over what came. */
-static uint64_t entered(call *by, uint64_t *words) {
-    uint64_t sum = 0;
+static uint64_t entered(next_word *by) {
+    uint64_t words[UCLBOARD_WORDS], sum = 0;
     uint32_t found = 0;
     for (size_t i = 0; i < UCLBOARD_WORDS; i++) words[i] = UCLBOARD_SCHEDULED_WORD;
     for (size_t i = 0; i < EVENTS; i++) {
@@ -91,31 +86,15 @@ static uint64_t entered(call *by, uint64_t *words) {
         if (of(*word, 0, 12) > 4000) *word = UCLBOARD_SCHEDULED_WORD;
         sum = sum * 31 + by(*word, events[i].reporter, expected, events[i].kind, word, &found) + found;
     }
+    for (size_t i = 0; i < UCLBOARD_WORDS; i++) sum = sum * 31 + words[i];
     return sum;
 }
 
-static double seconds(void) {
-    struct timespec now;
-    clock_gettime(CLOCK_MONOTONIC, &now);
-    return (double)now.tv_sec + 1e-9 * (double)now.tv_nsec;
-}
-
-int main(void) {
-    call *calls[2] = {plain, uclboard_next_word};
-    double least[2] = {1e9, 1e9};
-    uint64_t words[2][UCLBOARD_WORDS], sums[2], chance = 1;
+static void make_events(void) {
+    uint64_t chance = 1;
     for (size_t i = 0; i < EVENTS; i++) {
         chance = chance * UINT64_C(6364136223846793005) + UINT64_C(1442695040888963407);
         uint32_t kind = (uint32_t)(chance >> 40) % 14;
         events[i] = (event){(uint32_t)(chance >> 33) % 12, 1 + (uint32_t)(chance >> 50) % 255, (chance >> 60) == 0, kind == 11 ? 1 : kind};
     }
-    for (int round = 0; round < ROUNDS; round++)
-        for (int i = 0; i < 2; i++) {
-            double begun = seconds(), took;
-            sums[i] = entered(calls[i], words[i]);
-            took = seconds() - begun;
-            if (took < least[i]) least[i] = took;
-        }
-    printf("plain C %.1f ns, library %.1f ns, ratio %.2f\n", least[0] / EVENTS * 1e9, least[1] / EVENTS * 1e9, least[1] / least[0]);
-    return sums[0] != sums[1] || memcmp(words[0], words[1], sizeof words[0]) != 0;
 }
