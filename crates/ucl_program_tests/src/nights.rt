@@ -58,18 +58,28 @@ fn readings_of(rule: Rule) -> u32 {
 /// How often a gate looks before it lets a worker pass all the same.
 const MOST_TURNS: u32 = 100_000_000;
 
-/// Looks until all numbers have come to this, and tells whether they have.
-fn have_come_to(numbers: &[AtomicU32], wanted: u32) -> bool {
-    for number in numbers {
-        let mut turns = 0;
-        while number.load(Ordering::SeqCst) < wanted {
-            if turns >= MOST_TURNS {
-                return false;
-            }
-            turns += 1;
+/// Looks until a number has come to this, and tells whether it has.
+fn has_come_to(number: &AtomicU32, wanted: u32) -> bool {
+    for _ in 0..MOST_TURNS {
+        if number.load(Ordering::SeqCst) >= wanted {
+            return true;
         }
     }
-    true
+    false
+}
+
+/// The same of two numbers.
+fn have_come_to([first, second]: &[AtomicU32; 2], wanted: u32) -> bool {
+    has_come_to(first, wanted) && has_come_to(second, wanted)
+}
+
+/// Two numbers, at first 0.
+fn pair() -> [AtomicU32; 2] {
+    [AtomicU32::new(0), AtomicU32::new(0)]
+}
+
+fn counts([first, second]: &[AtomicU32; 2]) -> [u32; 2] {
+    [first.load(Ordering::SeqCst), second.load(Ordering::SeqCst)]
 }
 
 /// A gate that counts the calls of the reporters and of the readers and the screens of these, and notes a worker that is late, a call out of turn,
@@ -87,7 +97,6 @@ struct Watch {
 
 impl Watch {
     fn new(alloc: Global, rule: Rule) -> Result<Watch, Fail> {
-        let pair = || [AtomicU32::new(0), AtomicU32::new(0)];
         Ok(Watch {
             alloc,
             roster: night_of(alloc, "", "")?.roster,
@@ -101,10 +110,6 @@ impl Watch {
 
     /// How often each worker came, how many screens each reader showed, and whether anything was wrong.
     fn notes(&self) -> ([[u32; 2]; 3], bool) {
-        let counts = |of: &[AtomicU32; 2]| [
-            of[0].load(Ordering::SeqCst),
-            of[1].load(Ordering::SeqCst),
-        ];
         (
             [
                 counts(&self.reporters),
@@ -131,14 +136,16 @@ impl Watch {
 
     /// Whether a text is the screen of a reading, and its version that of the turn.
     fn is_right(&self, reading: &Reading, text: &str, turn: u32) -> bool {
-        let wanted = screen(self.alloc, &reading.board, &self.roster, b'A', Uefa);
         let version = u32::from(reading.version);
         let is_of_turn = match self.rule {
             Rule::FourAtOnce => true,
             Rule::ReportersFirst => version >= 2,
             Rule::InStep => version == turn.saturating_mul(2),
         };
-        is_of_turn && wanted.is_ok_and(|wanted| wanted.as_str() == text)
+        match screen(self.alloc, &reading.board, &self.roster, b'A', Uefa) {
+            Ok(wanted) => is_of_turn && wanted.as_str() == text,
+            Err(_) => false,
+        }
     }
 }
 
@@ -239,11 +246,16 @@ fn held_beside<B: LiveBoard, R: Threads + Wait + Sync>(
     };
     enlist_others(rt, board, &mut pass, others, &kick_off);
     let mut watcher = board.split(rt, &mut pass);
-    let answer = held(rt, alloc, board, pass, night, 1, &OpenGate);
+    let answer = match held(rt, alloc, board, pass, night, 1, &OpenGate) {
+        Ok((version, _)) => Ok(version),
+        Err(fault) => Err(fault),
+    };
     let version = board.read(rt, &mut watcher).version;
-    let number = board.enlist(rt, watcher).ok();
-    let number = number.map(|pass| B::number_of(&pass).get());
-    Some((answer.map(|(version, _)| version), version, number))
+    let number = match board.enlist(rt, watcher) {
+        Ok(reporter) => Some(B::number_of(&reporter).get()),
+        Err(_) => None,
+    };
+    Some((answer, version, number))
 }
 
 /// A row of a third reporter changes nothing on the board; an event of one before the night, and a board with one number left, are told.

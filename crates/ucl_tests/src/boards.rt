@@ -281,32 +281,42 @@ fn enter_match<B: LiveBoard, R: Wait>(rt: &R, board: &B, pass: &mut B::ReporterP
     }
 }
 
-/// Enters all matches so: how many events were accepted, and the version that the reporter reads then, and the first event that is not
-/// refused as it is to be on a board that takes no more.
-fn enter_all<B: LiveBoard, R: Wait>(
-    rt: &R,
-    board: &B,
-    mut pass: B::ReporterPass,
-) -> (u16, u16, Option<Kind>)
-    requires { B.is_reporter board.now pass }
+/// Enters all matches so, and answers how many events were accepted and the version that the reporter reads then.
+fn enter_all<B: LiveBoard, R: Wait>(rt: &R, board: &B, pass: &mut B::ReporterPass) -> (u16, u16)
+    requires { B.is_reporter board.now pass.old }
+    ensures { B.is_reporter board.now pass.new }
 {
-    for game in (1..13).filter_map(MatchNo::new) {
-        enter_match(rt, board, &mut pass, game);
-    }
-    let version = board.read_own(rt, &mut pass).version;
-    let accepted = B::accepted_of(&pass);
-    for kind in [KickOff, Goal(Away), FullTime, Reopen] {
-        let refusal = match kind {
-            Reopen => Refusal::NumberFull,
-            _ => Refusal::Finished,
-        };
-        for game in (1..13).filter_map(MatchNo::new) {
-            if reply_to(rt, board, &mut pass, (game, MOST, kind)) != Err(refusal) {
-                return (accepted, version, Some(kind));
-            }
+    for number in 1..13u8 {
+        if let Some(game) = MatchNo::new(number) {
+            enter_match(rt, board, pass, game);
         }
     }
-    (accepted, version, None)
+    (B::accepted_of(pass), board.read_own(rt, pass).version)
+}
+
+/// Events on a board that takes no more: the match, the kind and the refusal.
+static LATE_EVENTS: [(u8, Kind, Refusal); 4] = [
+    (1, KickOff, Refusal::Finished),
+    (6, Goal(Away), Refusal::Finished),
+    (12, FullTime, Refusal::Finished),
+    (1, Reopen, Refusal::NumberFull),
+];
+
+/// The first of the late events that gets another reply.
+fn first_late<B: LiveBoard, R: Wait>(
+    rt: &R,
+    board: &B,
+    pass: &mut B::ReporterPass,
+) -> Option<(u8, Kind)>
+    requires { B.is_reporter board.now pass.old }
+{
+    for &(number, kind, refusal) in LATE_EVENTS.as_slice() {
+        let game = MatchNo::new(number)?;
+        if reply_to(rt, board, pass, (game, MOST, kind)) != Err(refusal) {
+            return Some((number, kind));
+        }
+    }
+    None
 }
 
 /// Takes 1,000 readings, and says whether no version was below the one before.
@@ -329,16 +339,20 @@ fn all_events_on<B: LiveBoard, R: Threads + Wait + Sync>(
     rt: &R,
     board: &B,
     mut reader: B::ReaderPass,
-) -> Option<((u16, u16, Option<Kind>), [bool; 2])>
+) -> Option<((u16, u16), Option<(u8, Kind)>, [bool; 2])>
     requires { B.is_reader board.now reader }
 {
     let reporter = enlisted(rt, board, &mut reader)?;
     let other = board.split(rt, &mut reader);
-    let (entered, (one, two)) = thread::join(
+    let ((entered, late), (one, two)) = thread::join(
         rt,
-        move || -> (u16, u16, Option<Kind>)
+        move || -> ((u16, u16), Option<(u8, Kind)>)
             requires { B.is_reporter board.now reporter }
-        { enter_all(rt, board, reporter) },
+        {
+            let mut reporter = reporter;
+            let entered = enter_all(rt, board, &mut reporter);
+            (entered, first_late(rt, board, &mut reporter))
+        },
         move || -> (bool, bool)
             requires { B.is_reader board.now reader × B.is_reader board.now other }
         {
@@ -353,7 +367,7 @@ fn all_events_on<B: LiveBoard, R: Threads + Wait + Sync>(
             )
         },
     );
-    Some((entered, [one, two]))
+    Some((entered, late, [one, two]))
 }
 
 #[test]
@@ -362,7 +376,7 @@ fn all_events_with_two_readers(rt: HostRuntime) -> Result<(), Fail> {
     let in_cell = all_events_on(&rt, &board, reader);
     let (board, reader) = WordBoard::open(&rt, rt.alloc())?;
     let in_words = all_events_on(&rt, &board, reader);
-    let wanted = Some(((49140, 49140, None), [true; 2]));
+    let wanted = Some(((49140, 49140), None, [true; 2]));
     assert_eq!(rt; [in_cell, in_words], [wanted; 2]);
     Ok(())
 }
