@@ -3,7 +3,7 @@
 ghost use Rattle.std.specs.Prelude.{◌≤◌, IfOk};
 
 use std::io;
-use ucl_screen::{FromRead, Sink, Source, ToWrite};
+use ucl_screen::{FromRead, Sink, Source, ToWrite, give_all};
 
 /// A reader of a text, which gives at most `piece` bytes at a time, fails after `room` bytes, and then reads on.
 #[derive(Drop)]
@@ -100,17 +100,22 @@ impl io::Write for Counted<'_> {
     }
 }
 
-/// A source calls its reader, and a sink its writer, once for each call that could move a byte, until one fails.
+/// A source calls its reader, and a sink its writer, once for each call that could move a byte, until one fails; and no whole text that is
+/// given calls it more often.
 #[test]
 fn devices_are_called_until_they_fail(rt: HostRuntime) {
     for failing in 1..4 {
-        let (mut reads, mut writes) = (0, 0);
+        let (mut reads, mut writes, mut gifts) = (0, 0, 0);
         let mut source = FromRead::new(Counted {
             calls: &mut reads,
             failing,
         });
         let mut sink = ToWrite::new(Counted {
             calls: &mut writes,
+            failing,
+        });
+        let mut other = ToWrite::new(Counted {
+            calls: &mut gifts,
             failing,
         });
         let mut buf = [0; 4];
@@ -120,11 +125,11 @@ fn devices_are_called_until_they_fail(rt: HostRuntime) {
             let none = moved.map(|_| 0);
             assert_eq!(rt; (source.take(&mut []), sink.give(b"")), (none, none));
         }
+        assert_eq!(rt; give_all(&mut other, b""), Ok(()));
+        assert_eq!(rt; give_all(&mut other, b"text"), Err(failing - 1));
         drop(source);
         drop(sink);
-        assert_eq!(rt;
-            (reads, writes, buf[0] == b'a'),
-            (failing, failing, failing > 1)
-        );
+        drop(other);
+        assert_eq!(rt; (reads, writes, gifts), (failing, failing, failing));
     }
 }
