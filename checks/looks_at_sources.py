@@ -153,9 +153,8 @@ def night_is_on_words(top):
 
 
 def calls_are_listed_once(top):
-    """The list of the times at which a source was called begins empty, and `take` alone adds to it, once. Devices of tests have lists of their own."""
-    crates = [crate for crate in sources.crates_of(top) if crate != "ucl_devices"]
-    found = [(at, line.strip()) for _, at, line in lines_of(top, *crates) if LISTS.search(line)]
+    """The list of the times at which a source was called begins empty, and `take` alone adds to it, once."""
+    found = [(at, line.strip()) for _, at, line in lines_of(top, *sources.crates_of(top)) if LISTS.search(line)]
     other = [f"{at}: lists when a source was called" for at, line in found if line not in LISTED or "/ucl_io/src/duplex.rt:" not in at]
     return other + ([] if [line for _, line in found] == LISTED else ["duplex.rt does not list each call of `take` once"])
 
