@@ -215,8 +215,20 @@ fn runs<R: Print>(rt: &R, alloc: Global, engine: Engine, input: &[u8]) -> anyhow
     tell(rt, first.err(), is_kept, std::str::from_utf8(&whole)?)
 }
 
+/// Whether a board has no event but rows of the script: each match is as its rows make it, as many of them as it has events.
+fn is_of_rows(read: &Board, night: &Night) -> bool {
+    let mut alone = Board::fresh();
+    for event in &night.events {
+        if event.call.expected < read.game(event.call.game).number {
+            let _reply = alone.report(event.reporter, &event.call);
+        }
+    }
+    alone == *read
+}
+
 /// A night of the script on a board, and then one on a fresh board of the same kind. A pass that was split off before the first reads
-/// what that board has kept: no more than the rows of the script, and all of them where the night ended well.
+/// what that board has kept: rows of the script alone, and all of them where the night ended well. It gets the number after those of the
+/// two reporters, or a lower one, so no other was enlisted.
 fn nights<B: LiveBoard + Drop, R: Print + Threads + Wait + Sync>(
     rt: &R,
     alloc: Global,
@@ -231,9 +243,11 @@ fn nights<B: LiveBoard + Drop, R: Print + Threads + Wait + Sync>(
     mark(alloc, BEGINS)?;
     let one = night_run(rt, alloc, &board, pass, night, b'A', 1, &OpenGate, Uefa);
     mark(alloc, ENDS)?;
-    let kept = usize::from(board.read(rt, &mut watcher).version);
-    let rows = night.events.len();
-    let is_kept = kept <= rows && (one.is_err() || kept == rows);
+    let kept = board.read(rt, &mut watcher);
+    let is_whole = one.is_err() || usize::from(kept.version) == night.events.len();
+    let number = board.enlist(rt, watcher).ok();
+    let is_alone = number.is_some_and(|pass| B::number_of(&pass).get() <= 3);
+    let is_kept = is_whole && is_alone && is_of_rows(&kept.board, night);
     let (board, pass) = second;
     let other = night_run(rt, alloc, &board, pass, night, b'A', 1, &OpenGate, Uefa)?;
     tell(rt, one.err(), is_kept, other.closing.as_str())

@@ -235,6 +235,7 @@ fn held_beside<B: LiveBoard, R: Threads + Wait + Sync>(
     board: &B,
     mut pass: B::ReaderPass,
     night: &Night,
+    readings: u32,
     others: u8,
 ) -> Option<(Result<u16, RunFault>, u16, Option<u8>)>
     requires { B.is_reader board.now pass }
@@ -246,7 +247,7 @@ fn held_beside<B: LiveBoard, R: Threads + Wait + Sync>(
     };
     enlist_others(rt, board, &mut pass, others, &kick_off);
     let mut watcher = board.split(rt, &mut pass);
-    let answer = match held(rt, alloc, board, pass, night, 1, &OpenGate) {
+    let answer = match held(rt, alloc, board, pass, night, readings, &OpenGate) {
         Ok((version, _)) => Ok(version),
         Err(fault) => Err(fault),
     };
@@ -258,24 +259,39 @@ fn held_beside<B: LiveBoard, R: Threads + Wait + Sync>(
     Some((answer, version, number))
 }
 
-/// A row of a third reporter changes nothing on the board; an event of one before the night, and a board with one number left, are told.
+/// A row of a third reporter changes nothing on the board, however many readings are asked for; an event of one before the night, and a
+/// board with one number left, are told.
 #[test]
 fn refused_nights(rt: HostRuntime) -> Result<(), Fail> {
     let alloc = rt.alloc();
     let on_duty = RunFault::NotOnDuty { row: 45 };
     let strangers = RunFault::Strangers { version: 1 };
-    for (rows, more, others, fault, version, number) in [
-        (HEAD_TO_HEAD, "3,1,0,kickoff\n", 0, on_duty, 0, Some(1)),
-        ("", "", 1, strangers, 1, Some(4)),
-        ("", "", 254, RunFault::TooManyReporters, 1, None),
+    for (rows, more, most, others, fault, version, number) in [
+        (
+            HEAD_TO_HEAD,
+            "3,1,0,kickoff\n",
+            1000,
+            0,
+            on_duty,
+            0,
+            Some(1),
+        ),
+        ("", "", 1, 1, strangers, 1, Some(4)),
+        ("", "", 1, 254, RunFault::TooManyReporters, 1, None),
     ] {
         let night = night_of(alloc, rows, more)?;
-        let (board, pass) = CellBoard::open(&rt, alloc)?;
-        let in_cell = held_beside(&rt, alloc, &board, pass, &night, others);
-        let (board, pass) = WordBoard::open(&rt, alloc)?;
-        let in_words = held_beside(&rt, alloc, &board, pass, &night, others);
-        let wanted = Some((Err(fault), version, number));
-        assert_eq!(rt; (in_cell, in_words), (wanted, wanted));
+        for readings in 0..=most {
+            let (board, pass) = CellBoard::open(&rt, alloc)?;
+            let in_cell = held_beside(&rt, alloc, &board, pass, &night, readings, others);
+            let (board, pass) = WordBoard::open(&rt, alloc)?;
+            let in_words = held_beside(&rt, alloc, &board, pass, &night, readings, others);
+            let wanted = Some((Err(fault), version, number));
+            assert_eq!(rt;
+                (in_cell, in_words),
+                (wanted, wanted),
+                "{readings} readings"
+            );
+        }
     }
     Ok(())
 }
