@@ -10,8 +10,8 @@ import subprocess
 import sources
 
 # What goes beside the log: a load, a wait or a wake of a cell or a table that is no step of a pass; and that a board's own is lent out to make one.
-UNCOUNTED = re.compile(r"\b(peek|park\w*|wake_\w+|load_new_seat|swap_new_seat|into_badge|close|close_with)\b|\.(pass|table|cell)\(")
-STEP = re.compile(r"^impl\b.*\b(Play|Outcome|Split|Join)\b.* for (?:\w+::)*([A-Za-z]+)")
+UNCOUNTED = re.compile(r"\b(peek|park\w*|wake_\w+|load_new_seat|swap_new_seat|into_badge|close|close_with)\b|(?:\.|::)(pass|table|cell)\(")
+STEP = re.compile(r"\bimpl\b[^{]*\b(Play|Outcome|Split|Join)\b[^{]* for (?:\w+::)*([A-Za-z]+)")
 # The kinds of step of each board, in the order of the file of its rule.
 KINDS = {
     "crates/ucl_pass/src/rule.rt": "Outcome LooksAt, Outcome Adds, Outcome Reads, Outcome Counts, Outcome Enlists, Split SecondPass, Split Note, Join Note",
@@ -68,10 +68,11 @@ DERIVES = re.compile(r"#\s*\[derive\(([^)]*)\)\](?:\s*#\s*\[[^\]]*\])*\s*(?:pub(
 IMPL = re.compile(r"\bimpl\b\s*(?:<[^{]*?>\s*)?([\w:]+(?:<[^{]*?>)?)\s+for\s+([^{]+?)\s*\{")
 ALIAS = re.compile(r"(?<!ghost )\buse\b[^;]*\bas\b[^;]*;|\bmacro_rules\b")
 # What is written of letting go: a count that contracts alone see has nothing to let go, and a handle of C lets its pass go.
-LETS_GO = re.compile(r"[^{}]*{ fn drop\b|\bfn (?:drop|let_go)\b")
+LETS_GO = re.compile(r"[^{}]*{ fn drop\b|\bfn (?:drop|let_go|uclboard_pass_drop)\b")
 LET_GO = re.compile(
     r"impl Drop for Tally { fn drop\(self\) { let Self { marker: _ } = self; } }"
     r"|fn let_go\(&mut self, alloc: Global\) ensures {[^{}]*} { if !self\.is_null\(\) { drop\(self\.take\(alloc\)\.into_box\(\)\); } }"
+    r"|fn uclboard_pass_drop\(alloc: Global, pass: &mut Handle\)(?: ensures \w+ {[^{}]*})+ { pass\.let_go\(alloc\); }"
 )
 # What makes, lengthens or replaces the list of the times at which a source was called; `duplex.rt` does so twice.
 LISTS = re.compile(r"\blog\.and\(|\.log\s*=(?!=)|&mut [\w.]+\.log\b|\bCallLog::(?:new|and)\b")
@@ -112,9 +113,11 @@ def boards_go_through_passes(top):
 
 def kinds_of_step(top):
     """The kinds of step of a board are these, and stand in the file of its rule: each leaves a mark in the log."""
-    steps = [(at.split(":")[0], STEP.match(line)) for _, at, line in lines_of(top, *sources.crates_of(top)) if STEP.match(line)]
-    told = {file: ", ".join(f"{step[1]} {step[2]}" for other, step in steps if other == file) for file, _ in steps}
-    return [f"{file}: the kinds of step are {told.get(file)}" for file in {*told, *KINDS} if told.get(file) != KINDS.get(file)]
+    texts = collections.defaultdict(str, dict.fromkeys(KINDS, ""))
+    for path, _, line in lines_of(top, *sources.crates_of(top)):
+        texts[str(path.relative_to(top))] += f"{line.strip()} "
+    told = {file: ", ".join(map(" ".join, STEP.findall(text))) for file, text in texts.items()}
+    return [f"{file}: the kinds of step are {kinds}" for file, kinds in told.items() if kinds != KINDS.get(file, "")]
 
 
 def code_of(top, crate):
@@ -141,7 +144,7 @@ def traits_are_listed(top):
 def nothing_acts_when_let_go(top):
     """No value of any crate does anything when it is let go, but let go of its parts."""
     rest, count = LET_GO.subn("", " ".join(" ".join(code_of(top, crate) for crate in sources.crates_of(top)).split()))
-    return LETS_GO.findall(rest) + ([] if count == 2 else ["a count or a handle is not let go as it was"])
+    return LETS_GO.findall(rest) + ([] if count == 3 else ["a count or a handle is not let go as it was"])
 
 
 def boards_hold_words_alone(top):

@@ -45,7 +45,7 @@ FAULTS = {
     "another type behind a handle": (looks.boards_hold_words_alone, "*/src/board_pass.rt", "/// A pass of either", "mod turns {\n    pub struct BoardPass {}\n}\n\n/// A pass of either"),
     "a lock of a night": (looks.boards_hold_words_alone, "ucl_runs/src/night.rt", "use std::sync::Wait;", "use std::sync::{\n    Mutex, Wait,\n};"),
     "a load of its own kind": (looks.traits_are_listed, "ucl_words/src/board.rt", "impl WordBoard {", "impl\n    atomic_table::Play<Entry, WordView> for Glance {}\n\nimpl WordBoard {"),
-    "a load of a handle's own kind": (looks.kinds_of_step, "*/src/board_pass.rt", "impl BoardPass {", "impl Play<Entry, WordView> for Glance {}\n\nimpl BoardPass {"),
+    "a load of a handle's own kind": (looks.kinds_of_step, "*/src/board_pass.rt", "impl BoardPass {", "impl\n    Play<Entry, WordView> for Glance {}\n\nimpl BoardPass {"),
     "a look of a handle": (looks.boards_go_through_passes, "*/src/board_pass.rt", "match &self.pass {", "self.board.table().shared.peek(0);\n        match &self.pass {"),
     "a wait of a night": (looks.boards_go_through_passes, "ucl_runs/src/workers.rt", "    let mut last = None;", "    words.park_timeout(rt, 0, 0, A_SECOND);\n    let mut last = None;"),
     "a wake by a program": (looks.boards_go_through_passes, "ucl_night/src/main.rt", "    let alloc = rt.alloc();", "    words.wake_all(0);\n    let alloc = rt.alloc();"),
@@ -53,6 +53,7 @@ FAULTS = {
     "a writer that writes a line more": (looks.nothing_acts_when_let_go, "ucl_io/src/devices.rt", "impl<W: Write> ToWrite<W> {", TO_WRITE + "impl<W: Write> ToWrite<W> {"),
     "a count that acts": (looks.nothing_acts_when_let_go, "ucl_io/src/tally.rt", "let Self { marker: _ } = self;", "tell(self);"),
     "a handle that acts": (looks.nothing_acts_when_let_go, "ucl_c*/src/*.rt", "            drop(self.take(alloc).into_box());", "            report(self.take(alloc));"),
+    "a call of C that acts": (looks.nothing_acts_when_let_go, "ucl_c*/src/*.rt", "    pass.let_go(alloc);\n", "    report(pass);\n    pass.let_go(alloc);\n"),
     "a trait by another name": (looks.traits_are_listed, "ucl_pass/src/passes.rt", "use std::marker::Model;", "use std::marker::Model;\nuse std::ops::{\n    Drop as Quiet,\n};"),
     "an equality by hand": (looks.traits_are_listed, "ucl_board/src/reading.rt", "Debug, PartialEq, Eq)]", "Debug, Eq)]"),
 }
