@@ -7,16 +7,9 @@ use Rattle.ucl_board.specs.declared.entry.Entry.{Entry}
 use Rattle.ucl_board.specs.History.{board_of}
 use Rattle.ucl_board.specs.Log.{history_of}
 use Rattle.ucl_steps.specs.PassRuns.{cast_for, steps_of_moves}
-use Rattle.ucl_steps.specs.Growing.{GoesOnFrom}
 use Rattle.ucl_steps.proofs.Runs.{words_of_run}
-use Rattle.ucl_pass.specs.CellViews.{actor_of, actors_of}
-use Rattle.ucl_pass.specs.CellRule.{CellState, CellMeetsItsRule}
 use Rattle.std.proofs.lemmas.List.{length-map}
 use Rattle.ucl_steps.proofs.LongerRuns.{longer_runs}
-use Rattle.ucl_pass.proofs.KeptRule.{match_words}
-use Rattle.ucl_pass.specs.CellLater.{CellLater}
-use Rattle.ucl_pass.proofs.CellRuns.{cell_goes_on}
-use Rattle.ucl_pass.proofs.LaterCells as cells
 use Rattle.ucl_words.specs.declared.view.WordView.{WordView}
 use Rattle.ucl_words.specs.WordRule.{word_actor, word_actors, TableKeepsOneHistory}
 use Rattle.ucl_words.specs.Later.{Later}
@@ -47,32 +40,8 @@ later_words s t r q later =
     let m = length (word_actors t.views) in
     longer_runs n m r.shared.enlisted q.shared.enlisted r.shared.log q.shared.log (word_actors s.views) (word_actors t.views) (r.one_run n (omega arith)) (q.one_run m (omega arith)) on.log on.passes
 
-of_cell : (s : CellState) (r : CellMeetsItsRule s) → HaveOneHistory r.shared.enlisted (history_of r.shared.log) (take 12 s.words) (actors_of s.views)
-of_cell s r =
-    let long = length-map s.views actor_of in
-    let one = r.one_run (length (actors_of s.views)) (omega arith) in
-    let cast = cast_for (length (actors_of s.views)) in
-    let steps = steps_of_moves one.moves in
-    let board = ap (take 12) r.shared.words_are ∙ match_words (history_of r.shared.log) r.shared.enlisted in
-    record {
-      run = one;
-      board_is = words_of_run cast steps one.state one.run ∙ (ap board_of one.history_is ∙ sym board);
-      one = subst (λ (h : List Entry). HasOneHistory steps h one.state.calls) one.history_is (screens_of_run cast steps one.state one.run);
-    }
-
-later_cells : (s t : CellState) (r : CellMeetsItsRule s) (q : CellMeetsItsRule t) → CellLater s t
-    → GoesOnFrom (actors_of s.views) (of_cell s r).run.state (actors_of t.views) (of_cell t q).run.state
-unfolding of_cell
-later_cells s t r q later =
-    let on = cells.later_go_on s t r q later in
-    let long = length-map s.views actor_of in
-    let wide = length-map t.views actor_of in
-    let n = length (actors_of s.views) in
-    let m = length (actors_of t.views) in
-    cell_goes_on s.views t.views n m r.shared.enlisted q.shared.enlisted r.shared.log q.shared.log (r.one_run n (omega arith)) (q.one_run m (omega arith)) on.log on.passes
-
 pub boards_have : BoardsHaveOneHistory
-boards_have = record { word_boards = of_words; cell_boards = of_cell }
+boards_have = of_words
 
 pub histories_go : HistoriesGoOn
-histories_go = record { boards = record { word_boards = of_words; cell_boards = of_cell }; later_word_boards = later_words; later_cell_boards = later_cells }
+histories_go = record { boards = of_words; later = later_words }

@@ -20,8 +20,6 @@ use Rattle.ucl_words.specs.declared.view.WordView.{WordView}
 use Rattle.ucl_words.specs.WordRule.{word_actors, TableKeepsOneHistory}
 use Rattle.ucl_steps.specs.PassRuns.{steps_of_moves}
 use Rattle.ucl_steps.specs.Actors.{Actor, IsRunOfActors}
-use Rattle.ucl_pass.specs.CellViews.{actors_of}
-use Rattle.ucl_pass.specs.CellRule.{CellState, CellMeetsItsRule}
 
 -- the board after the first k entries of a history, as a screen shows it: version k, and the clubs in the order of the
 -- profile, each with its numbers and its mark
@@ -53,7 +51,7 @@ pub record HaveOneHistory (enlisted : ℕ) (history : List Entry) (board : List 
   pub board_is : run.state.words ≡ board
   pub one : HasOneHistory (steps_of_moves run.moves) history run.state.calls
 
--- between any two steps of any threads, for each state that meets the rule of a board: that of the table of a word board, and that of the cell of a cell board
-pub record BoardsHaveOneHistory : Type 0 where
-  pub word_boards : (s : State Entry WordView) (r : TableKeepsOneHistory s) → HaveOneHistory r.shared.enlisted (history_of r.shared.log) (drop 1 s.words) (word_actors s.views)
-  pub cell_boards : (s : CellState) (r : CellMeetsItsRule s) → HaveOneHistory r.shared.enlisted (history_of r.shared.log) (take 12 s.words) (actors_of s.views)
+-- between any two steps of any threads, for each state that meets the rule of the table of a word board
+abbrev pub BoardsHaveOneHistory : Type 0
+BoardsHaveOneHistory = (s : State Entry WordView) (r : TableKeepsOneHistory s)
+    → HaveOneHistory r.shared.enlisted (history_of r.shared.log) (drop 1 s.words) (word_actors s.views)
