@@ -15,7 +15,7 @@ STEP = re.compile(r"^impl\b.*\b(Play|Outcome|Split|Join)\b.* for (?:\w+::)*([A-Z
 # The kinds of step of each board, in the order of the file of its rule, and the parts of the board.
 KINDS = {
     "ucl_words": "Play Look, Play First, Play Second, Play CountEnlisted, Play Swap, Play Enlist, Split SecondPass, Split Note, Join Note",
-    "ucl_pass": "Outcome LooksAt, Outcome Adds, Outcome Reads, Outcome Counts, Outcome Enlists, Split SecondPass, Split Note, Join Note",
+    "ucl_pass": "Outcome Looks, Outcome Reads, Outcome Adds, Outcome Enlists, Split SecondPass, Split Note, Join Note",
 }
 # What a board and its passes have, and what that is of.
 PARTS = {
@@ -25,8 +25,8 @@ PARTS = {
         "pub struct WordReporterPass { pub(crate) seat: Seat, pub(crate) number: ReporterNo, pub(crate) accepted: u16, }",
     ],
     "ucl_pass": [
-        "pub struct CellBoard { cell: Cell, }", "pub type Cell = RuledSeqCell<[u64; 13], CellView, OneHistory, 13>;",
-        "pub type Seat = Pass<[u64; 13], CellView>;", "pub struct CellReaderPass { pub(crate) seat: Seat, }",
+        "pub struct CellBoard { cell: Cell, }", "pub type Cell = RuledSeqCell<[u64; 13], View, OneHistory, 13>;",
+        "pub type Seat = Pass<[u64; 13], View>;", "pub struct CellReaderPass { pub(crate) seat: Seat, }",
         "pub struct CellReporterPass { pub(crate) seat: Seat, pub(crate) number: ReporterNo, pub(crate) accepted: u16, }",
     ],
 }
@@ -43,10 +43,9 @@ TRAITS = {
     "ucl_board": {"BadWordAt": "Clone Copy Debug Eq Error PartialEq", "Board": f"{PLAIN} | Model", "Entry": PLAIN, "Reading": PLAIN},
     "ucl_live_board": {"Brand": "| Asking", "Strangers": "Clone Copy Debug Eq Error PartialEq", "TooManyReporters": "Drop Error", "View": "| Model"},
     "ucl_pass": {
-        **dict.fromkeys(["Adds<K>", "Counts<K>", "Enlists<K>", "LooksAt<K>", "Reads<K>"], "| Outcome<[u64; 13], CellView>"),
+        **dict.fromkeys(["Adds<K>", "Enlists", "Looks", "Reads"], "| Outcome<[u64; 13], View>"),
         **dict.fromkeys(["CellReaderPass", "CellReporterPass"], "Drop | Model"), "CellBoard": "Drop | LiveBoard Model",
-        "CellView": "| Model", "Note": "| Join<CellView> Split<CellView>", "OneHistory": "| Protocol<[u64; 13], CellView>",
-        "SecondPass": "| Split<CellView>",
+        "Note": "| Join<View> Split<View>", "OneHistory": "| Protocol<[u64; 13], View>", "SecondPass": "| Split<View>",
     },
     "ucl_words": {
         **dict.fromkeys(["CountEnlisted<K>", "Enlist<K>", "First", "Look<K>", "Second<K>", "Swap<K>"], "| Play<Entry, WordView>"),

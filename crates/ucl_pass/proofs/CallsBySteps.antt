@@ -1,13 +1,11 @@
 -- From what steps on the cell tell to what a call says of its pass.
-use Rattle.ucl_pass.proofs.Common.{◌≡◌, ◌≢◌, ℕ, ◌+◌, ◌<◌, ◌≤◌, List, ◌∷◌, ◌++◌, length, take, refl, sym, ap, ◌∙◌, subst, arith, true≢false, true, false, [], le_refl}
-use Rattle.std.specs.Prelude.{Option, IfSome, MatchOption}
-use Rattle.ucl_pass.proofs.Common.{slice_index, Result, Ok, Err, MatchResult, is_ok, IsSome, take_all, All-head, All-tail, IsPrefix}
+use Rattle.ucl_pass.proofs.Common.{◌≡◌, ℕ, ◌+◌, ◌<◌, ◌≤◌, List, ◌∷◌, ◌++◌, length, take, sym, ap, ◌∙◌, subst, arith, true≢false, true, false, [], le_refl}
+use Rattle.ucl_pass.proofs.Common.{slice_index, Result, Ok, Err, is_ok, IsSome, take_all, All-head, All-tail, IsPrefix}
 use Rattle.ucl_pass.proofs.Common.{EventCall, Accepted, Refusal, Entry, AreWords, version_of, board_of, IsLegal, followed_by, entry_of, reading_of, sequential_reply, Taken}
-use Rattle.ucl_pass.proofs.Common.{board_words, versions, begins_length, begins_through, View, IsSound, Continues, AcceptedReport, RefusedReport, SharedReading, Enlistment, FullBoard, Meeting}
-use Rattle.ucl_pass.proofs.Common.{pass_view_of, count_of, Takes, note_of, told_by, Goes, words_after, IsNextBoard, HasSeenAll, StoresEntry, StoresReporter, LooksOnly, LooksAndShows, Exchanges}
-use Rattle.ucl_pass.proofs.Common.{CellPass, CellReported, CellRead, CellEnlisted, CellNumbered, CellFull, CellMet, TableId, StoresEvent, entry_at, takes_count, Stays, stays_none, stays_more}
+use Rattle.ucl_pass.proofs.Common.{board_words, versions, begins_length, begins_through, View, IsSound, Continues, SharedReading}
+use Rattle.ucl_pass.proofs.Common.{pass_view_of, count_of, Takes, note_of, told_by, Goes, IsNextBoard, HasSeenAll, StoresEntry, StoresReporter, LooksOnly, LooksAndShows, Exchanges}
+use Rattle.ucl_pass.proofs.Common.{CellPass, CellReported, CellRead, CellEnlisted, CellFull, CellMet, TableId, StoresEvent, takes_count, Stays, stays_none, stays_more}
 use Rattle.ucl_board.specs.declared.reading.Reading.{Reading}
-use Rattle.ucl_live_board.specs.Steps.{Sees}
 use Rattle.ucl_pass.proofs.KeptRule.{match_words, last_word}
 
 -- just after a load or an exchange
@@ -65,10 +63,27 @@ refused_report board same call v w u x refusal own tried looked said = record {
   up_to_date = looked.seen_all.up_to_date;
 }
 
--- they accept, and an exchange was won after it
-pub accepted_report : (board : TableId) (same : TableId) (call : EventCall) (v u z : View) (x next : List ℕ) (reply : Accepted) → same ≡ board → Tried v u → StoresEvent call u x next z
-    → Replies call x (Ok reply) → CellReported (record { board = board; view = v }) call (Ok reply) (record { board = same; view = z })
-accepted_report board same call v u z x next reply own tried stored said =
+-- an exchange that was won, and one that was missed
+won : (Stores : View → List ℕ → List ℕ → View → Type 0) (v w : View) (x next : List ℕ) (r : Result (List ℕ) (List ℕ)) → Exchanges Stores v x next r w → is_ok r ≡ true → Stores v x next w
+won Stores v w x next r m is = search (arith, true≢false)
+
+missed : (Stores : View → List ℕ → List ℕ → View → Type 0) (v w : View) (x next : List ℕ) (r : Result (List ℕ) (List ℕ)) → Exchanges Stores v x next r w → is_ok r ≡ false
+    → (y : List ℕ) × LooksOnly v y y w
+missed Stores v w x next r m is = search (arith, true≢false)
+
+-- a try in vain more: an exchange was missed after the load
+pub tries_again : (Stores : View → List ℕ → List ℕ → View → Type 0) (v w u z : View) (x next : List ℕ) (r : Result (List ℕ) (List ℕ)) → Tried v w → LooksOnly w x x u → Exchanges Stores u x next r z → is_ok r ≡ false
+    → Tried v z
+tries_again Stores v w u z x next r before looked exchanged not =
+    let one = missed Stores u z x next r exchanged not in
+    tried_more v u z one.0 (tried_more v w u x before looked) one.1
+
+-- they accept, and an exchange was won after the load
+pub accepted_report : (board : TableId) (same : TableId) (call : EventCall) (v w u z : View) (x next : List ℕ) (reply : Accepted) (r : Result (List ℕ) (List ℕ)) → same ≡ board → Tried v w → LooksOnly w x x u
+    → Exchanges (StoresEvent call) u x next r z → is_ok r ≡ true → Replies call x (Ok reply) → CellReported (record { board = board; view = v }) call (Ok reply) (record { board = same; view = z })
+accepted_report board same call v w u z x next reply r own before looked exchanged ok said =
+    let tried = tried_more v w u x before looked in
+    let stored = won (StoresEvent call) u z x next r exchanged ok in
     let stores : StoresEntry (entry_of v.number call) u x next z = subst (λ (n : ℕ). StoresEntry (entry_of n call) u x next z) tried.stays.number stored in
     let since = begins_through v.seen u.seen stores.before tried.stays.on.seen stores.adds.since in
     let acts = one_act u z _ stores.adds.takes in
@@ -96,14 +111,6 @@ pub next_words : (x board next : List ℕ) (e : Entry)
     → ((history : List Entry) → IsLegal history → board_of history ≡ take 12 x → (board ≡ board_of (followed_by history e)) × IsLegal (followed_by history e))
     → next ≡ board ++ slice_index x 12 ∷ [] → IsNextBoard e x next
 next_words x board next e counted is n h legal words = search (arith, match_words, last_word)
-
--- an exchange that was won, and one that was missed
-pub won : (Stores : View → List ℕ → List ℕ → View → Type 0) (v w : View) (x next : List ℕ) (r : Result (List ℕ) (List ℕ)) → Exchanges Stores v x next r w → is_ok r ≡ true → Stores v x next w
-won Stores v w x next r m is = search (arith, true≢false)
-
-pub missed : (Stores : View → List ℕ → List ℕ → View → Type 0) (v w : View) (x next : List ℕ) (r : Result (List ℕ) (List ℕ)) → Exchanges Stores v x next r w → is_ok r ≡ false
-    → (y : List ℕ) × LooksOnly v y y w
-missed Stores v w x next r m is = search (arith, true≢false)
 
 -- a reading
 module _ (v w : View) (x : List ℕ) (reading : Reading) (shows : LooksAndShows v x x w) (is : reading ≡ reading_of (take 12 x)) where
@@ -142,15 +149,14 @@ was_full board same v w u x own tried looked many =
     }
 
 -- or an exchange was won after it
-pub was_numbered : (board : TableId) (same : TableId) (v u z : View) (x next : List ℕ) (number : ℕ) → same ≡ board → Tried v u → StoresReporter u x next z → slice_index x 12 + 1 ≡ number
-    → CellNumbered (record { board = board; view = v }) (record { board = same; view = z }) number
-was_numbered board same v u z x next number own tried stored is =
+pub was_enlisted : (board : TableId) (same : TableId) (v w u z : View) (x next : List ℕ) (r : Result (List ℕ) (List ℕ)) → same ≡ board → Tried v w → LooksOnly w x x u → Exchanges StoresReporter u x next r z
+    → is_ok r ≡ true → CellEnlisted (record { board = board; view = v }) (record { board = same; view = z })
+was_enlisted board same v w u z x next r own before looked exchanged ok =
+    let tried = tried_more v w u x before looked in
+    let stored = won StoresReporter u z x next r exchanged ok in
     let acts = one_act u z _ stored.enlists.takes in
     let most = tried.acts in
-    record {
-      enlisted = record { own = own; enlisted = search (arith, sound, begins_through, tried.stays); acts = omega arith; up_to_date = stored.seen_all.up_to_date };
-      number_is = stored.enlists.number ∙ (stored.enlists.next ∙ is);
-    }
+    record { own = own; enlisted = search (arith, sound, begins_through, tried.stays); acts = omega arith; up_to_date = stored.seen_all.up_to_date }
 
 -- a note of a pass was joined to another, which then loaded the words
 pub was_met : (a b k m : CellPass) (x : List ℕ) → b ≡ a → m.board ≡ k.board → IsSound (pass_view_of a.view) → LooksOnly (told_by k.view (note_of a.view)) x x m.view → CellMet a b k m
@@ -174,7 +180,3 @@ was_met a b k m x same own sound_first looked =
       acts = one_act (told_by v (note_of a.view)) w _ looked.sees.takes;
       up_to_date = looked.seen_all.up_to_date;
     }
-
--- a number that there is
-pub told_number : (P : Type 0) (Q : ℕ → Type 0) (o : Option ℕ) (n : ℕ) → IsSome o → IfSome o (λ k. k ≡ n) → ((k : ℕ) → n ≡ k → Q k) → MatchOption o P Q
-told_number P Q o n some is q = search (arith, true≢false)

@@ -3,7 +3,7 @@ pub use Rattle.atomic_table.specs.Seated.{TableId}
 pub use Rattle.crossbeam_utils.specs.Register.{Forks, Merges, Turns}
 pub use Rattle.crossbeam_utils.specs.Seq.{cell_view}
 pub use Rattle.std.proofs.Common.{List, None, Option, Some, [], ap, arith, false, get_or, if◌then◌else◌, inl, inr, le_refl, length}
-pub use Rattle.std.proofs.Common.{nat_eq, refl, rules, set, subst, suc, sym, take, true, true≢false, zero, ℕ, ◌++◌, ◌+◌, ◌-◌, ◌<◌, ◌∙◌, ◌∷◌, ◌≡◌, ◌≢◌, ◌≤◌}
+pub use Rattle.std.proofs.Common.{length-append, nat_eq, refl, rules, set, subst, suc, sym, take, true, true≢false, zero, ℕ, ◌++◌, ◌+◌, ◌-◌, ◌<◌, ◌∙◌, ◌∷◌, ◌≡◌, ◌≢◌, ◌≤◌}
 pub use Rattle.std.proofs.lemmas.List.{take_all}
 pub use Rattle.std.proofs.lemmas.List.Elements.{All-head, All-tail}
 pub use Rattle.std.specs.Prelude.{Err, IsSome, MatchResult, Ok, Result, is_ok, slice_index}
@@ -15,7 +15,7 @@ pub use Rattle.ucl_board.specs.History.{IsLegal, board_of, entry_of, followed_by
 pub use Rattle.ucl_board.specs.Log.{IsThere, Match, Swap, Taken, Whole, history_of}
 pub use Rattle.ucl_board.specs.Words.{AreWords, greatest_version, version_of, word_at}
 pub use Rattle.ucl_board.specs.declared.entry.Entry.{Entry}
-pub use Rattle.ucl_pass.specs.CellRecords.{CellEnlisted, CellFull, CellMet, CellNumbered, CellPass, CellRead, CellReported, cell_pass_of}
+pub use Rattle.ucl_pass.specs.CellRecords.{CellEnlisted, CellFull, CellMet, CellPass, CellRead, CellReported, cell_pass_of}
 pub use Rattle.ucl_pass.specs.CellRule.{CellKeepsOneHistory, words_after}
 pub use Rattle.ucl_pass.specs.CellSteps.{Exchanges, HasSeenAll, IsNextBoard, Looks, LooksAndShows, LooksOnly, MayStore, StoresEntry, StoresEvent, StoresReporter, entry_at, with_one_more}
 pub use Rattle.ucl_live_board.proofs.CallsBySteps.{Stays, room, sound_kept, sound_second, stays_more, stays_none, takes_count}

@@ -1,5 +1,5 @@
 -- Each kind of step on the cell keeps the rule, and tells its pass what it says.
-use Rattle.ucl_pass.proofs.Common.{◌≡◌, ◌≢◌, inl, inr, ℕ, zero, suc, ◌+◌, ◌-◌, ◌<◌, ◌≤◌, true, false, Option, Some, None, List, ◌∷◌, ◌++◌, length, set, take, nat_eq, get_or, [], if◌then◌else◌, refl}
+use Rattle.ucl_pass.proofs.Common.{◌≡◌, ◌≢◌, inl, inr, ℕ, zero, suc, ◌+◌, ◌-◌, ◌<◌, true, false, List, ◌∷◌, ◌++◌, length, set, take, nat_eq, get_or, [], if◌then◌else◌, refl}
 use Rattle.ucl_pass.proofs.Common.{sym, ap, ◌∙◌, subst, arith, le_refl, true≢false, slice_index, Result, MatchResult, IsSome, some, get_elem?, Turns, Forks, Merges}
 use Rattle.ucl_pass.proofs.Common.{EventCall, word_of, Entry, IsMatch, word_at, match_after, IsLegal, followed_by}
 use Rattle.ucl_pass.proofs.Common.{Swap, Match, Whole, history_of, IsThere, board_length, word_after, one_word, View, opener, newcomer, kept_of, second_of, note_of, told_by}

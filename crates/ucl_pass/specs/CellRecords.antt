@@ -1,6 +1,6 @@
 -- What contracts see of a pass of the cell board, and what each call says of its passes, in one record.
 -- The pass was k and is m.
-use Rattle.std.specs.Prelude.{◌≡◌, ℕ, ◌+◌, ◌<◌, length, Result}
+use Rattle.std.specs.Prelude.{◌≡◌, ◌+◌, ◌<◌, length, Result}
 use Rattle.atomic_table.specs.Seated.{TableId}
 use Rattle.atomic_table.specs.declared.shared.Seat.{Seat}
 use Rattle.crossbeam_utils.specs.declared.atomic.seq_cell.Doing as cell
@@ -56,11 +56,6 @@ pub record CellEnlisted (k m : CellPass) : Type 0 where
   pub enlisted : Enlistment (pass_view_of k.view) (pass_view_of m.view)
   pub acts : count_of k.view < count_of m.view
   pub up_to_date : IsUpToDate m.view
-
--- and answered this number
-pub record CellNumbered (k m : CellPass) (number : ℕ) : Type 0 where
-  pub enlisted : CellEnlisted k m
-  pub number_is : m.view.number ≡ number
 
 -- a pass that was to be enlisted found that as many reporters are enlisted as there are numbers
 pub record CellFull (k m : CellPass) : Type 0 where

@@ -1,6 +1,6 @@
 //! The board in one cell.
 
-ghost use Rattle.std.specs.Prelude.{◌≡◌, ◌<◌, ◌++◌, ◌∷◌, [], take, length, slice_index, IfOk, IsSome, MatchOption, MatchResult};
+ghost use Rattle.std.specs.Prelude.{◌≡◌, ◌<◌, ◌++◌, ◌∷◌, [], take, length, slice_index, IfOk, IsSome, MatchResult};
 ghost use Rattle.atomic_table.specs.Seated.{TableId};
 ghost use Rattle.crossbeam_utils.specs.Seq.{cell_view};
 ghost use Rattle.ucl_board.specs.Words.{AreWords};
@@ -9,12 +9,10 @@ ghost use Rattle.ucl_live_board.specs.Passes.{reporter_figures};
 ghost use Rattle.ucl_live_board.specs.Views.{pass_view_of};
 ghost use Rattle.ucl_pass.specs.CellRule.{words_after, IsTheRule};
 ghost use Rattle.ucl_pass.specs.CellSteps.{LooksOnly, Exchanges, StoresEvent, IsNextBoard, entry_at, with_one_more};
-ghost use Rattle.ucl_pass.specs.CellRecords.{cell_pass_of, CellOpened, CellReported, CellRead, CellSplit, CellEnlisted, CellNumbered, CellFull, CellMet};
+ghost use Rattle.ucl_pass.specs.CellRecords.{cell_pass_of, CellOpened, CellReported, CellRead, CellSplit, CellEnlisted, CellFull, CellMet};
 
 use crate::passes::{CellReaderPass, CellReporterPass};
-use crate::rule::{
-    Adds, Asking, Cell, Enlists, Looks, Note, OneHistory, Reads, Seat, SecondPass,
-};
+use crate::rule::{Adds, Asking, Cell, Enlists, Looks, Note, OneHistory, Reads, Seat, SecondPass};
 use crossbeam_utils::rule::Protocol;
 use std::alloc::Global;
 use std::marker::{Brand, Model};
@@ -117,35 +115,6 @@ impl CellBoard {
             .compare_exchange_as::<Adds<K>, R>(rt, seat, current, next)
     }
 
-    /// Enters an event under the seat's number, trying again where another call changed the words meanwhile.
-    fn report_by<R: Wait>(
-        &self,
-        rt: &R,
-        seat: &mut Seat,
-        reporter: ReporterNo,
-        call: &EventCall,
-    ) -> Result<Accepted, Refusal>
-        requires cell { seat.old.table_id ≡ self.now }
-        requires acts { IsSome (cell_view seat.old).share }
-        requires me { (0 < reporter) × ((cell_view seat.old).number ≡ reporter) }
-        ensures { CellReported (cell_pass_of seat.old) call.now result (cell_pass_of seat.new) }
-    {
-        'retry: for _ in rt.forever() {
-            let words = self.load(rt, seat);
-            let mut board = board_at(&words);
-            let accepted = match board.report(reporter, call) {
-                Ok(accepted) => accepted,
-                Err(refusal) => return Err(refusal),
-            };
-            let next = words_with(&board, words[12]);
-            let stored = self.store_event::<Brand, R>(rt, seat, words, next, call);
-            if stored.is_ok() {
-                return Ok(accepted);
-            }
-        }
-        unreachable!()
-    }
-
     /// The board of one load, and its version.
     fn read_by<R: Wait>(&self, rt: &R, seat: &mut Seat) -> Reading
         requires cell { seat.old.table_id ≡ self.now }
@@ -154,32 +123,6 @@ impl CellBoard {
     {
         let words = self.cell.load_as::<Reads, R>(rt, seat);
         Reading::of(&board_at(&words))
-    }
-
-    /// Makes a seat a reporter's, and answers its number. `None` where 255 are enlisted.
-    fn enlist_by<R: Wait>(&self, rt: &R, seat: &mut Seat) -> Option<ReporterNo>
-        requires cell { seat.old.table_id ≡ self.now }
-        requires acts { IsSome (cell_view seat.old).share }
-        requires reader { (cell_view seat.old).number ≡ 0 }
-        ensures { MatchOption result
-            (CellFull (cell_pass_of seat.old) (cell_pass_of seat.new))
-            (CellNumbered (cell_pass_of seat.old) (cell_pass_of seat.new)) }
-    {
-        'retry: for _ in rt.forever() {
-            let words = self.load(rt, seat);
-            let enlisted = words[12];
-            if enlisted >= MOST_REPORTERS {
-                return None;
-            }
-            let next = one_more_reporter(words);
-            let added = self
-                .cell
-                .compare_exchange_as::<Enlists, R>(rt, seat, words, next);
-            if added.is_ok() {
-                return ReporterNo::new((enlisted + 1) as u8);
-            }
-        }
-        unreachable!()
     }
 }
 
@@ -209,12 +152,18 @@ impl LiveBoard for CellBoard {
         requires { pass.old.board ≡ self.now }
         ensures { CellReported pass.old call.now result pass.new }
     {
-        let reporter = pass.number;
-        let result = self.report_by(rt, &mut pass.seat, reporter, call);
-        if result.is_ok() {
-            pass.accepted += 1;
+        'retry: for _ in rt.forever() {
+            let words = self.load(rt, &mut pass.seat);
+            let mut board = board_at(&words);
+            let accepted = board.report(pass.number, call)?;
+            let next = words_with(&board, words[12]);
+            let stored = self.store_event::<Brand, R>(rt, &mut pass.seat, words, next, call);
+            if stored.is_ok() {
+                pass.accepted += 1;
+                return Ok(accepted);
+            }
         }
-        result
+        unreachable!()
     }
 
     fn read<R: Wait>(&self, rt: &R, pass: &mut CellReaderPass) -> Reading
@@ -249,14 +198,28 @@ impl LiveBoard for CellBoard {
         ensures { MatchResult result (CellEnlisted pass) (λ full. CellFull pass full.0) }
     {
         let CellReaderPass { mut seat } = pass;
-        match self.enlist_by(rt, &mut seat) {
-            Some(number) => Ok(CellReporterPass {
-                seat,
-                number,
-                accepted: 0,
-            }),
-            None => Err(TooManyReporters(CellReaderPass { seat })),
+        'retry: for _ in rt.forever() {
+            let words = self.load(rt, &mut seat);
+            let enlisted = words[12];
+            if enlisted >= MOST_REPORTERS {
+                return Err(TooManyReporters(CellReaderPass { seat }));
+            }
+            let next = one_more_reporter(words);
+            let added = self
+                .cell
+                .compare_exchange_as::<Enlists, R>(rt, &mut seat, words, next);
+            if added.is_ok() {
+                if let Some(number) = ReporterNo::new((enlisted + 1) as u8) {
+                    return Ok(CellReporterPass {
+                        seat,
+                        number,
+                        accepted: 0,
+                    });
+                }
+                unreachable!()
+            }
         }
+        unreachable!()
     }
 
     fn meet<R: Wait>(&self, rt: &R, first: &mut CellReporterPass, second: &mut CellReporterPass)

@@ -23,7 +23,7 @@ pub use Rattle.ucl_board.specs.Words.{AreWords, greatest_version, version_of, wo
 pub use Rattle.ucl_board.specs.declared.entry.Entry.{Entry}
 pub use Rattle.ucl_steps.specs.Actors.{Actor, AreStepsOf, IsOfActor, IsRunOfActors, IsRunOfLog, IsTakenBy, accesses_of_log}
 pub use Rattle.ucl_steps.specs.CallRuns.{IsInCast, access_in, accesses_holding, accesses_of_step, step_of}
-pub use Rattle.ucl_steps.specs.Growing.{HasGoneOn, HaveGoneOn, records_by}
+pub use Rattle.ucl_steps.specs.Growing.{HasGoneOn, HaveGoneOn, record_begun, record_of, records_by, records_told}
 pub use Rattle.ucl_steps.specs.Laws.{ReadingsAreSnapshots, ReportsAreSequential, RunsAreLinearizable, UncleanTriesAreFew, UncleanTriesSeeMore, WordsAreOfTheHistory}
 pub use Rattle.ucl_steps.specs.Linearizable.{AcceptedIsEntry, BeginsAt, EndedBySteps, EndsAt, EntryHasOneCall, IsDecided, IsEntry, IsLinearizable, IsRefused, Makes, PointWithinCall, Precedes}
 pub use Rattle.ucl_steps.specs.Linearizable.{ReadingIsSnapshot, RealTimeOrder, RefusedAtPoint, VersionsRise, begun_in, caller_and_call, is_accepted, version_read}

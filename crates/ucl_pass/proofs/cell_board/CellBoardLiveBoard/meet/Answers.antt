@@ -1,4 +1,4 @@
-use Rattle.ucl_pass.proofs.Common.{◌≡◌, rules, sym, ap, ◌∙◌, subst, cell_view, Merges, View, told_by, note_of, newcomer, CellKeepsOneHistory, LooksOnly, arith, cell_pass_of}
+use Rattle.ucl_pass.proofs.Common.{rules, sym, ap, ◌∙◌, subst, cell_view, Merges, View, told_by, newcomer, CellKeepsOneHistory, LooksOnly, arith, cell_pass_of}
 use Rattle.ucl_pass.proofs.KeptRule.{notes, joins}
 use Rattle.ucl_pass.proofs.CallsBySteps.{was_met}
 use Rattle.ucl_pass.proofs.cell_board.CellBoardLiveBoard.meet.Goals as goal

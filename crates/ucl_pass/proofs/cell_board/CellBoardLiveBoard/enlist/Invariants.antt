@@ -1,6 +1,6 @@
 use Rattle.ucl_pass.proofs.Common.{◌≡◌, cell_view}
 use Rattle.ucl_pass.proofs.CallsBySteps.{Tried}
-use Rattle.ucl_pass.proofs.cell_board.CellBoard.enlist_by.Given as goal
+use Rattle.ucl_pass.proofs.cell_board.CellBoardLiveBoard.enlist.Given as goal
 
 abbrev pub invariant-retry : goal.invariant-retry
 invariant-retry g l = record {
@@ -9,4 +9,3 @@ invariant-retry g l = record {
   own : l.seat.table_id ≡ l.initial.seat.table_id;
   tried : Tried (cell_view l.initial.seat) (cell_view l.seat);
 }
-
