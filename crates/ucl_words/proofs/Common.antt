@@ -48,7 +48,7 @@ pub use Rattle.ucl_word.specs.declared.record.MatchRecord.{MatchRecord}
 pub use Rattle.ucl_word.specs.declared.refusal.Refusal.{Refusal}
 pub use Rattle.ucl_word.specs.declared.refusal.Refusal.TheVariants.{Stale}
 pub use Rattle.ucl_words.specs.Code.{Collects, FindsAgain, FindsAnother, HasFirsts, IsBegun, IsHoldingFor, MayCollect, Walks, begins_anew, has_copied}
-pub use Rattle.ucl_words.specs.Laws.{BoardsAreRuns, GoesOnWith, IsRunOfBoard, LaterBoardsGoOn, NumbersRiseInTime, PassesTookFew, RunsGrow, SomeCallFinishes, WordsTellTheEntry}
+pub use Rattle.ucl_words.specs.Laws.{BoardsAreRuns, IsRunOfBoard, LaterBoardsGoOn, NumbersRiseInTime, PassesTookFew, RunsGrow, SomeCallFinishes, WordsTellTheEntry}
 pub use Rattle.ucl_words.specs.WordCalls.{EnlistTries, Enlisting, HasTrail, IsSteady, KeepsTrail, ReadingSteps, ReportSteps}
 pub use Rattle.ucl_words.specs.WordDoings.{AnswersCall, GoesAlong}
 pub use Rattle.ucl_words.specs.WordRule.{StandAfterSplit, Stands, TableKeepsOneHistory, known, word_actor, word_actors, words_after}
