@@ -23,11 +23,11 @@ pub use Rattle.ucl_board.specs.Words.{AreWords, greatest_version, version_of, wo
 pub use Rattle.ucl_board.specs.declared.entry.Entry.{Entry}
 pub use Rattle.ucl_steps.specs.Actors.{Actor, AreStepsOf, IsOfActor, IsRunOfActors, IsRunOfLog, IsTakenBy, accesses_of_log}
 pub use Rattle.ucl_steps.specs.CallRuns.{IsInCast, access_in, accesses_holding, accesses_of_step, step_of}
-pub use Rattle.ucl_steps.specs.Growing.{HasGoneOn, HaveGoneOn, record_begun, record_of, records_by, records_told}
+pub use Rattle.ucl_steps.specs.Growing.{HasGoneOn, HaveGoneOn, record_of, records_by, records_told}
 pub use Rattle.ucl_steps.specs.Laws.{ReadingsAreSnapshots, ReportsAreSequential, RunsAreLinearizable, UncleanTriesAreFew, UncleanTriesSeeMore, WordsAreOfTheHistory}
 pub use Rattle.ucl_steps.specs.Linearizable.{AcceptedIsEntry, BeginsAt, EndedBySteps, EndsAt, EntryHasOneCall, IsDecided, IsEntry, IsLinearizable, IsRefused, Makes, PointWithinCall, Precedes}
 pub use Rattle.ucl_steps.specs.Linearizable.{ReadingIsSnapshot, RealTimeOrder, RefusedAtPoint, VersionsRise, begun_in, caller_and_call, is_accepted, version_read}
-pub use Rattle.ucl_steps.specs.Machine.{Answered, Callers, Holds, Idle, MachineState, Wanting, Within, after_begin, after_end, after_outcome, after_reply, after_step, after_step_holding, after_steps}
+pub use Rattle.ucl_steps.specs.Machine.{Answered, begun_call, Callers, Holds, Idle, MachineState, Wanting, Within, after_begin, after_end, after_outcome, after_reply, after_step, after_step_holding, after_steps}
 pub use Rattle.ucl_steps.specs.Machine.{caller_of, change_at, held_at_begin, held_by, initial_state, may_begin, set_held, state_after_first, state_after_look, state_after_second, state_after_swap}
 pub use Rattle.ucl_steps.specs.Machine.{stored, with_end, with_held, with_reply}
 pub use Rattle.ucl_steps.specs.PassRuns.{AreRecordsOf, CanHold, FitsHeld, FitsRun, IsOf, IsRecordOf, IsUnderWay, Move, call_of, call_under_way, caller_for, calls_asked, calls_by, calls_told, begin_by}

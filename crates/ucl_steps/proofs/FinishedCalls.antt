@@ -60,7 +60,7 @@ count_none i (a ∷ actors) = let rest = count_none (i + 1) actors in omega arit
 
 -- each call is of an actor
 
-own_of : (seat number : ℕ) (c : Caller) → IsOf seat number c → is_of seat number c ≡ true
+pub own_of : (seat number : ℕ) (c : Caller) → IsOf seat number c → is_of seat number c ≡ true
 own_of seat number c is = search (arith, eq-eqb, and_true, nat_le, le-leb)
 
 hits_one : (i j k : ℕ) (actors : List Actor) (a : Actor) (c : Caller) → i + j ≡ k → get_elem? actors j ≡ some a → is_of k a.number c ≡ true → 1 ≤ hits i actors c

@@ -1,7 +1,7 @@
 -- The machine's records of the calls of a pass are just those of what it has done: of its finished calls, and of the one under way.
 use Rattle.ucl_steps.proofs.Common.{◌≡◌, ℕ, zero, suc, ◌+◌, ◌≤◌, Bool, true, List, ◌∷◌, ◌++◌, length, drop, map, Some, None, refl, sym, ap, ◌∙◌, arith, append-nil, length-append, [], slice_get}
 use Rattle.ucl_steps.proofs.Common.{filter, none-some, map-append, length-map, filter-append, CallRecord, caller_and_call, MachineState, Held, Answer, Doing, MayAsk}
-use Rattle.ucl_steps.proofs.Common.{call_of, CanHold, call_under_way, is_of, calls_by, AreRecordsOf, IsRecordOf, FitsHeld, FitsRun, records_by, record_of, record_begun, records_told}
+use Rattle.ucl_steps.proofs.Common.{call_of, CanHold, call_under_way, is_of, calls_by, AreRecordsOf, IsRecordOf, FitsHeld, FitsRun, records_by, record_of, records_told, caller_for, begun_call, Call}
 use Rattle.std.proofs.lemmas.List.{nil_from_length}
 use Rattle.ucl_steps.proofs.OneStep.{own_caller}
 
@@ -48,7 +48,7 @@ module _ (seat number : ℕ) where
       (r.0, r.1, r.2, r.3, own_record f r.1 r.4, is, stand_all calls (r.0 + 1) high fs es r.5 s)
 
   under_way_stands : (state : MachineState) (begun : ℕ) (held : Held) (high : ℕ) → FitsHeld state seat number begun held high
-      → Stand state.calls high (map (record_begun seat number begun) (call_under_way held))
+      → Stand state.calls high (map (λ (call : Call). begun_call (caller_for seat number call) call begun) (call_under_way held))
   under_way_stands state begun held high f = search (arith, own_caller, may_hold)
 
   at_least : (calls : List CallRecord) (low : ℕ) (es : List CallRecord) → Stand calls low es → length es ≤ length (filter own (drop low calls))
@@ -76,5 +76,5 @@ module _ (seat number : ℕ) where
 
   pub records_are : (state : MachineState) (d : Doing) → FitsRun state seat number d → records_by seat number state ≡ records_told seat number d
   records_are state d f =
-      let all = stand_all state.calls 0 f.high d.calls (map (record_begun seat number d.begun) (call_under_way d.held)) f.recorded (under_way_stands state d.begun d.held f.high f.held) in
+      let all = stand_all state.calls 0 f.high d.calls (map (λ (call : Call). begun_call (caller_for seat number call) call d.begun) (call_under_way d.held)) f.recorded (under_way_stands state d.begun d.held f.high f.held) in
       just_these state.calls 0 (records_told seat number d) all (sym (as_many state.calls) ∙ (ap length f.whole ∙ search (arith, length-map, length-append)))

@@ -4,8 +4,7 @@ use mathlib.Core.Option.{some}
 use mathlib.Core.List.{IsPrefix}
 use lib.ListN.{get_elem?}
 use Rattle.ucl_steps.specs.declared.trace.CallRecord.{CallRecord}
-use Rattle.ucl_steps.specs.Machine.{MachineState}
-use Rattle.ucl_steps.specs.declared.step.Call.{Call}
+use Rattle.ucl_steps.specs.Machine.{MachineState, begun_call}
 use Rattle.ucl_steps.specs.Protocol.{Answer, Doing}
 use Rattle.ucl_steps.specs.PassRuns.{caller_for, is_of, call_under_way, calls_asked}
 use Rattle.ucl_steps.specs.Actors.{Actor}
@@ -25,14 +24,11 @@ HaveGoneOn were are = (seat : ℕ) (a : Actor) → get_elem? were seat ≡ some 
 abbrev pub records_by : ℕ → ℕ → MachineState → List CallRecord
 records_by seat number state = map (λ (c : CallRecord). record c { point = None }) (filter (λ c. is_of seat number c.caller) state.calls)
 
--- the record of a call that is under way, and of a finished one
-abbrev pub record_begun : ℕ → ℕ → ℕ → Call → CallRecord
-record_begun seat number begun call =
-    record { caller = caller_for seat number call; call = call; begun = begun; point = None; reply = None; ended = None }
-
+-- the records of what a pass has done: of its finished calls, and of the one that is under way
 abbrev pub record_of : ℕ → ℕ → Answer → CallRecord
-record_of seat number f = record (record_begun seat number f.begun f.call) { reply = Some f.reply; ended = Some f.ended }
+record_of seat number f =
+    record (begun_call (caller_for seat number f.call) f.call f.begun) { reply = Some f.reply; ended = Some f.ended }
 
--- the records of what a pass has done: its finished calls, and the one that is under way
 abbrev pub records_told : ℕ → ℕ → Doing → List CallRecord
-records_told seat number d = map (record_of seat number) d.calls ++ map (record_begun seat number d.begun) (call_under_way d.held)
+records_told seat number d = map (record_of seat number) d.calls
+    ++ map (λ call. begun_call (caller_for seat number call) call d.begun) (call_under_way d.held)
