@@ -19,9 +19,6 @@ module _ (words : List ℕ) (v w : View) (seen_all : HasSeenAll words v w) (goes
   pub are_words : AreWords (take 12 words)
   are_words = subst AreWords (sym board_seen) (board_words w.seen goes.legal)
 
-  last_seen : slice_index words 12 ≡ w.listed
-  last_seen = ap (λ (ws : List ℕ). slice_index ws 12) seen_all.words_are ∙ last_word w.seen w.listed
-
 one_act : (v w : View) (t : Taken) → Takes v (t ∷ []) w → count_of w ≡ count_of v + 1
 one_act v w t takes = takes_count v w (t ∷ []) takes
 
@@ -53,58 +50,84 @@ module _ (v w u : View) (x : List ℕ) (tried : Tried v w) (looked : LooksOnly w
 abbrev Replies : EventCall → List ℕ → Result Accepted Refusal → Type 0
 Replies call x reply = (history : List Entry) → IsLegal history → board_of history ≡ take 12 x → reply ≡ sequential_reply history call
 
--- a report by a pass of this board: the rules refuse, after a load
-pub refused_report : (board : TableId) (same : TableId) (call : EventCall) (v w u : View) (x : List ℕ) (refusal : Refusal) → same ≡ board → Tried v w → LooksOnly w x x u → Replies call x (Err refusal)
-    → CellReported (record { board = board; view = v }) call (Err refusal) (record { board = same; view = u })
-refused_report board same call v w u x refusal own tried looked said = record {
-  own = own;
-  says = record { always = look_continues v w u x tried looked; accepted = tt; refused = search (arith, board_seen x w u looked.seen_all looked.sees.goes, tried_more v w u x tried looked) };
-  acts = acts_more v w u x tried looked;
-  up_to_date = looked.seen_all.up_to_date;
-}
-
 -- an exchange that was won, and one that was missed
-won : (Stores : View → List ℕ → List ℕ → View → Type 0) (v w : View) (x next : List ℕ) (r : Result (List ℕ) (List ℕ)) → Exchanges Stores v x next r w → is_ok r ≡ true → Stores v x next w
-won Stores v w x next r m is = search (arith, true≢false)
+module _ (Stores : View → List ℕ → List ℕ → View → Type 0) (v w : View) (x next : List ℕ) (r : Result (List ℕ) (List ℕ)) where
+  won : Exchanges Stores v x next r w → is_ok r ≡ true → Stores v x next w
+  won m is = search (arith, true≢false)
 
-missed : (Stores : View → List ℕ → List ℕ → View → Type 0) (v w : View) (x next : List ℕ) (r : Result (List ℕ) (List ℕ)) → Exchanges Stores v x next r w → is_ok r ≡ false
-    → (y : List ℕ) × LooksOnly v y y w
-missed Stores v w x next r m is = search (arith, true≢false)
+  missed : Exchanges Stores v x next r w → is_ok r ≡ false → (y : List ℕ) × LooksOnly v y y w
+  missed m is = search (arith, true≢false)
 
--- a try in vain more: an exchange was missed after the load
-pub tries_again : (Stores : View → List ℕ → List ℕ → View → Type 0) (v w u z : View) (x next : List ℕ) (r : Result (List ℕ) (List ℕ)) → Tried v w → LooksOnly w x x u → Exchanges Stores u x next r z → is_ok r ≡ false
-    → Tried v z
-tries_again Stores v w u z x next r before looked exchanged not =
-    let one = missed Stores u z x next r exchanged not in
-    tried_more v u z one.0 (tried_more v w u x before looked) one.1
+-- the last try of a pass of this board: a load of the words x
+module _ (board same : TableId) (own : same ≡ board) (v w u : View) (x : List ℕ) (before : Tried v w) (looked : LooksOnly w x x u) where
+  tried : Tried v u
+  tried = tried_more v w u x before looked
 
--- they accept, and an exchange was won after the load
-pub accepted_report : (board : TableId) (same : TableId) (call : EventCall) (v w u z : View) (x next : List ℕ) (reply : Accepted) (r : Result (List ℕ) (List ℕ)) → same ≡ board → Tried v w → LooksOnly w x x u
-    → Exchanges (StoresEvent call) u x next r z → is_ok r ≡ true → Replies call x (Ok reply) → CellReported (record { board = board; view = v }) call (Ok reply) (record { board = same; view = z })
-accepted_report board same call v w u z x next reply r own before looked exchanged ok said =
-    let tried = tried_more v w u x before looked in
-    let stored = won (StoresEvent call) u z x next r exchanged ok in
-    let stores : StoresEntry (entry_of v.number call) u x next z = subst (λ (n : ℕ). StoresEntry (entry_of n call) u x next z) tried.stays.number stored in
-    let since = begins_through v.seen u.seen stores.before tried.stays.on.seen stores.adds.since in
-    let acts = one_act u z _ stores.adds.takes in
-    let most = tried.acts in
-    record {
-      own = own;
-      says = record {
-        always = search (arith, sound, begins_through, tried.stays);
-        accepted = record {
-          before = stores.before;
-          last = stores.adds.last;
-          since = since;
-          answer = sym (said stores.before stores.legal (sym (ap (take 12) stores.found ∙ match_words stores.before z.listed)));
-          mine = stores.adds.mine ∙ ap (λ (l : List Entry). followed_by l (entry_of v.number call)) tried.stays.mine;
-          shown = stores.adds.shown ∙ tried.stays.shown;
-        };
-        refused = tt;
-      };
-      acts = omega arith;
-      up_to_date = stores.seen_all.up_to_date;
-    }
+  -- the rules refuse
+  pub refused_report : (call : EventCall) (refusal : Refusal) → Replies call x (Err refusal)
+      → CellReported (record { board = board; view = v }) call (Err refusal) (record { board = same; view = u })
+  refused_report call refusal said = record {
+    own = own;
+    says = record {
+      always = look_continues v w u x before looked;
+      accepted = tt;
+      refused = search (arith, board_seen x w u looked.seen_all looked.sees.goes, tried);
+    };
+    acts = acts_more v w u x before looked;
+    up_to_date = looked.seen_all.up_to_date;
+  }
+
+  -- an exchange comes after the load
+  module _ (z : View) (next : List ℕ) (r : Result (List ℕ) (List ℕ)) where
+    -- and is missed: a try in vain more
+    pub tries_again : (Stores : View → List ℕ → List ℕ → View → Type 0) → Exchanges Stores u x next r z → is_ok r ≡ false → Tried v z
+    tries_again Stores exchanged not =
+        let one = missed Stores u z x next r exchanged not in
+        tried_more v u z one.0 tried one.1
+
+    -- or is won, by a report that the rules accept
+    pub accepted_report : (call : EventCall) (reply : Accepted) → Exchanges (StoresEvent call) u x next r z → is_ok r ≡ true
+        → Replies call x (Ok reply)
+        → CellReported (record { board = board; view = v }) call (Ok reply) (record { board = same; view = z })
+    accepted_report call reply exchanged ok said =
+        let stored = won (StoresEvent call) u z x next r exchanged ok in
+        let stores : StoresEntry (entry_of v.number call) u x next z =
+        subst (λ (n : ℕ). StoresEntry (entry_of n call) u x next z) tried.stays.number stored in
+        let since = begins_through v.seen u.seen stores.before tried.stays.on.seen stores.adds.since in
+        let acts = one_act u z _ stores.adds.takes in
+        let most = tried.acts in
+        let board_is = sym (ap (take 12) stores.found ∙ match_words stores.before z.listed) in
+        record {
+          own = own;
+          says = record {
+            always = search (arith, sound, begins_through, tried.stays);
+            accepted = record {
+              before = stores.before;
+              last = stores.adds.last;
+              since = since;
+              answer = sym (said stores.before stores.legal board_is);
+              mine = stores.adds.mine ∙ ap (λ (l : List Entry). followed_by l (entry_of v.number call)) tried.stays.mine;
+              shown = stores.adds.shown ∙ tried.stays.shown;
+            };
+            refused = tt;
+          };
+          acts = omega arith;
+          up_to_date = stores.seen_all.up_to_date;
+        }
+
+    -- or by an enlistment
+    pub was_enlisted : Exchanges StoresReporter u x next r z → is_ok r ≡ true
+        → CellEnlisted (record { board = board; view = v }) (record { board = same; view = z })
+    was_enlisted exchanged ok =
+        let stored = won StoresReporter u z x next r exchanged ok in
+        let acts = one_act u z _ stored.enlists.takes in
+        let most = tried.acts in
+        record {
+          own = own;
+          enlisted = search (arith, sound, begins_through, tried.stays);
+          acts = omega arith;
+          up_to_date = stored.seen_all.up_to_date;
+        }
 
 -- the words of the next board, with the number of the enlisted
 pub next_words : (x board next : List ℕ) (e : Entry)
@@ -133,30 +156,6 @@ module _ (v w : View) (x : List ℕ) (reading : Reading) (shows : LooksAndShows 
     acts = one_act v w _ shows.sees.takes;
     up_to_date = shows.seen_all.up_to_date;
   }
-
--- an enlistment by a pass of this board: a load found as many as there are numbers
-pub was_full : (board : TableId) (same : TableId) (v w u : View) (x : List ℕ) → same ≡ board → Tried v w → LooksOnly w x x u → 255 ≤ slice_index x 12
-    → CellFull (record { board = board; view = v }) (record { board = same; view = u })
-was_full board same v w u x own tried looked many =
-    let few = looked.sees.goes.few in
-    let last = last_seen x w u looked.seen_all looked.sees.goes in
-    let more = tried_more v w u x tried looked in
-    record {
-      own = own;
-      says = record { always = look_continues v w u x tried looked; full = record { listed = omega arith; mine = more.stays.mine; shown = more.stays.shown } };
-      acts = acts_more v w u x tried looked;
-      up_to_date = looked.seen_all.up_to_date;
-    }
-
--- or an exchange was won after it
-pub was_enlisted : (board : TableId) (same : TableId) (v w u z : View) (x next : List ℕ) (r : Result (List ℕ) (List ℕ)) → same ≡ board → Tried v w → LooksOnly w x x u → Exchanges StoresReporter u x next r z
-    → is_ok r ≡ true → CellEnlisted (record { board = board; view = v }) (record { board = same; view = z })
-was_enlisted board same v w u z x next r own before looked exchanged ok =
-    let tried = tried_more v w u x before looked in
-    let stored = won StoresReporter u z x next r exchanged ok in
-    let acts = one_act u z _ stored.enlists.takes in
-    let most = tried.acts in
-    record { own = own; enlisted = search (arith, sound, begins_through, tried.stays); acts = omega arith; up_to_date = stored.seen_all.up_to_date }
 
 -- a note of a pass was joined to another, which then loaded the words
 pub was_met : (a b k m : CellPass) (x : List ℕ) → b ≡ a → m.board ≡ k.board → IsSound (pass_view_of a.view) → LooksOnly (told_by k.view (note_of a.view)) x x m.view → CellMet a b k m

@@ -1,9 +1,9 @@
 -- Each step on the table lets its pass go on, so a later state of a board goes on from an earlier one.
-use Rattle.ucl_words.proofs.Common.{◌≡◌, ℕ, ◌<◌, Bool, false, if◌then◌else◌, Option, List, ◌∷◌, ◌++◌, length, set, [], refl, sym, ap, ◌∙◌, subst, arith, append-nil, append_assoc, map-append}
-use Rattle.ucl_words.proofs.Common.{IsPrefix, some, get_elem?, State, set_else, EventCall, Refusal, Entry, Taken, begins_same, begins_none, begins_through, Call, Reply, HasGoneOn, calls_asked}
-use Rattle.ucl_words.proofs.Common.{call_under_way, Held, Nothing, Holding, Collecting, Checking, Answer, Doing, nothing_done, Outcome, GoesOn, Answers, by_rules, loaded, done_by, after_look}
-use Rattle.ucl_words.proofs.Common.{swaps_holding, firsts_holding, seconds_holding, View, WordView, left_pass, second_pass, note_pass, told_pass}
-use Rattle.ucl_words.proofs.Common.{new_pass, words_after, known, word_actor, TableKeepsOneHistory, LogsOneStep, WonFor, LookStep, FirstStep, SecondStep, EnlistedStep, ExchangeStep, EnlistStep}
+use Rattle.ucl_words.proofs.Common.{◌≡◌, ℕ, ◌<◌, Bool, false, if◌then◌else◌, Option, List, ◌∷◌, ◌++◌, length, [], refl, sym, ap, ◌∙◌, subst, arith, append-nil, append_assoc, map-append}
+use Rattle.ucl_words.proofs.Common.{IsPrefix, some, get_elem?, State, EventCall, Refusal, Entry, begins_same, begins_none, Call, Reply, HasGoneOn, calls_asked}
+use Rattle.ucl_words.proofs.Common.{call_under_way, Held, Nothing, Holding, Collecting, Checking, Answer, Doing, Outcome, GoesOn, Answers, by_rules, loaded, done_by, after_look}
+use Rattle.ucl_words.proofs.Common.{swaps_holding, firsts_holding, seconds_holding, View, WordView, note_pass}
+use Rattle.ucl_words.proofs.Common.{new_pass, words_after, known, word_actor, TableKeepsOneHistory, WonFor, LookStep, FirstStep, SecondStep, EnlistedStep, ExchangeStep, EnlistStep}
 use Rattle.ucl_words.proofs.Common.{Actor, at_map, LaterBoardsGoOn, RunsGrow, SomeCallFinishes, NumbersRiseInTime, HaveGoneOn, word_actors}
 use Rattle.std.proofs.Common.{slice_index}
 use mathlib.Core.Logic.{dite}

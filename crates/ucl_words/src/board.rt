@@ -87,16 +87,6 @@ impl WordBoard {
         Ok((WordBoard { table }, WordReaderPass { seat }))
     }
 
-    /// The table of the board. Its type names its rule, `OneHistory`, which is the rule that the laws on boards speak of. It is there for
-    /// that: nobody needs it to call the board.
-    ///
-    pub fn table(&self) -> &atomic_table::Table<Entry, WordView, (), OneHistory, Global>
-        ensures own { result.now.shared.table_id ≡ self.now }
-        ensures tied { IsTheRule (⟦<OneHistory as TableRule<Entry, WordView, ()>>⟧.holds tt) }
-    {
-        &self.table
-    }
-
     /// Loads the word of an event's match, for a report.
     fn look<K: Asking>(&self, seat: &mut Seat, call: &EventCall) -> u64
         requires table { seat.old.table_id ≡ self.now }
