@@ -54,7 +54,7 @@ pub use Rattle.ucl_words.specs.WordDoings.{AnswersCall, GoesAlong}
 pub use Rattle.ucl_words.specs.WordRule.{StandAfterSplit, Stands, TableKeepsOneHistory, known, word_actor, word_actors, words_after}
 pub use Rattle.ucl_words.specs.WordSteps.{EnlistStep, EnlistWon, EnlistedStep, ExchangeMissed, ExchangeStep, ExchangeWon, FirstStep, IsNextWord, Loads, LoadsEnlisted, LoadsMatch, LogsOneStep}
 pub use Rattle.ucl_words.specs.WordSteps.{LookStep, SecondStep, WonFor, point_shown}
-pub use Rattle.ucl_words.specs.WordViews.{WordPass, first_pass, left_pass, new_pass, note_pass, second_pass, told_pass, view_of}
+pub use Rattle.ucl_words.specs.WordViews.{WordPass, first_pass, left_pass, new_pass, note_pass, second_pass, told_pass, view_of, pass_of}
 pub use Rattle.ucl_words.specs.declared.view.WordView.{WordView}
 pub use lib.ListN.{get_elem?}
 pub use mathlib.Core.List.{IsPrefix}

@@ -290,53 +290,6 @@ impl WordBoard {
             .compare_exchange::<Enlist<K>>(seat, ENLISTED, known, known + 1)
     }
 
-    /// Makes a seat a reporter's, and answers its number. `None` where 255 are enlisted. The first exchange is tried from no reporter,
-    /// and each later one from as many as were found.
-    fn enlist_by(&self, seat: &mut Seat) -> Option<ReporterNo>
-        requires table { seat.old.table_id ≡ self.now }
-        requires reader { seat.old.me.0.pass.number ≡ 0 }
-        requires steady { IsSteady seat.old.me.0.pass }
-        requires next { seat.old.me.0.doing.held ≡ Nothing }
-        ensures own { seat.new.table_id ≡ seat.old.table_id }
-        ensures seat { seat.new.id ≡ seat.old.id }
-        ensures steady { IsSteady seat.new.me.0.pass }
-        ensures enlisted { IfSome result
-            (λ number. Enlistment (pass_view_of seat.old.me.0.pass)
-            (pass_view_of seat.new.me.0.pass) × (seat.new.me.0.pass.number ≡ number)) }
-        ensures always { IfNone result
-            (Continues (pass_view_of seat.old.me.0.pass) (pass_view_of seat.new.me.0.pass)) }
-        ensures full { IfNone result
-            (FullBoard (pass_view_of seat.old.me.0.pass) (pass_view_of seat.new.me.0.pass)) }
-        ensures trail { KeepsTrail seat.old.me.0.pass seat.new.me.0.pass }
-        ensures tries { EnlistTries seat.old.me.0.pass result seat.new.me.0.pass }
-        ensures does { seat.new.me.0.doing ≡ seat.old.me.0.doing }
-        ensures stands { Stands seat.new.id seat.new.me.0 }
-        ensures most { count_of seat.new.me.0.pass ≤ count_of seat.old.me.0.pass + 255 }
-    {
-        let mut known = 0;
-        'tries: while known < MOST_REPORTERS {
-            let found = self.add_reporter::<Brand>(seat, known);
-            if found == known {
-                return ReporterNo::new((known + 1) as u8);
-            }
-            known = found;
-        }
-        None
-    }
-
-    /// A second seat, which has seen as much.
-    fn split_by(&self, seat: &mut Seat) -> Seat
-        requires table { seat.old.table_id ≡ self.now }
-        ensures own { (seat.new.table_id ≡ seat.old.table_id)
-            × (result.table_id ≡ seat.old.table_id) }
-        ensures seat { seat.new.id ≡ seat.old.id }
-        ensures kept { seat.new.me.0 ≡ left_pass seat.old.me.0 }
-        ensures given { result.me.0 ≡ second_pass seat.old.me.0 }
-        ensures stands { StandAfterSplit seat.old.me.0 seat.new.me.0 result.me.0 }
-    {
-        self.table.shared.split_seat::<SecondPass>(seat)
-    }
-
     /// Loads the number of enlisted reporters.
     fn count<K: Asking>(&self, seat: &mut Seat) -> u64
         requires table { seat.old.table_id ≡ self.now }
@@ -350,30 +303,6 @@ impl WordBoard {
         ensures stands { Stands seat.new.id seat.new.me.0 }
     {
         self.table.shared.load::<CountEnlisted<K>>(seat, ENLISTED)
-    }
-
-    /// A note of what the first has seen is joined to the second, which then loads the enlist word.
-    fn meet_by(&self, first: &mut Seat, second: &mut Seat)
-        requires table { (first.old.table_id ≡ self.now) × (second.old.table_id ≡ self.now) }
-        requires steady { IsSteady second.old.me.0.pass }
-        ensures own { (first.new.table_id ≡ first.old.table_id)
-            × (second.new.table_id ≡ second.old.table_id) }
-        ensures seat { (first.new.id ≡ first.old.id) × (second.new.id ≡ second.old.id) }
-        ensures unchanged { first.new.me.0 ≡ first.old.me.0 }
-        ensures steady { IsSteady second.new.me.0.pass }
-        ensures always { Continues (pass_view_of second.old.me.0.pass)
-            (pass_view_of second.new.me.0.pass) }
-        ensures meeting { Meeting (pass_view_of first.old.me.0.pass)
-            (pass_view_of second.old.me.0.pass) (pass_view_of second.new.me.0.pass) }
-        ensures trail { KeepsTrail second.old.me.0.pass second.new.me.0.pass }
-        ensures does { second.new.me.0.doing ≡ second.old.me.0.doing }
-        ensures steps { MeetingSteps second.old.me.0.pass second.new.me.0.pass }
-        ensures taken { count_of second.new.me.0.pass ≡ count_of second.old.me.0.pass + 1 }
-        ensures stands { Stands second.new.id second.new.me.0 }
-    {
-        let note = self.table.shared.split_seat::<Note>(first);
-        self.table.shared.join_seat::<Note>(second, note);
-        self.count::<Brand>(second);
     }
 
     /// Enters an event under the number of the pass, by one load and at most one compare and exchange of its match word. An accepted
@@ -457,12 +386,16 @@ impl WordBoard {
         requires { pass.old.board ≡ self.now }
         ensures { WordSplit pass.old pass.new result }
     {
-        let seat = self.split_by(&mut pass.seat);
+        let seat = self
+            .table
+            .shared
+            .split_seat::<SecondPass>(&mut pass.seat);
         WordReaderPass { seat }
     }
 
-    /// Makes a reader a reporter, under a number of its own, by at most 255 compare and exchanges of the enlist word. Where 255 are
-    /// enlisted the answer is 30 with the pass, which may have seen more.
+    /// Makes a reader a reporter, under a number of its own, by at most 255 compare and exchanges of the enlist word: the first is tried from
+    /// no reporter, and each later one from as many as were found. Where 255 are enlisted the answer is 30 with the pass, which may have seen
+    /// more.
     ///
     /// ```rust
     /// let (board, pass) = WordBoard::open(&rt, rt.alloc())?;
@@ -480,14 +413,22 @@ impl WordBoard {
         ensures { MatchResult result (WordEnlisted pass) (λ full. WordFull pass full.0) }
     {
         let WordReaderPass { mut seat } = pass;
-        match self.enlist_by(&mut seat) {
-            Some(number) => Ok(WordReporterPass {
-                seat,
-                number,
-                accepted: 0,
-            }),
-            None => Err(TooManyReporters(WordReaderPass { seat })),
+        let mut known = 0;
+        'tries: while known < MOST_REPORTERS {
+            let found = self.add_reporter::<Brand>(&mut seat, known);
+            if found == known {
+                if let Some(number) = ReporterNo::new((known + 1) as u8) {
+                    return Ok(WordReporterPass {
+                        seat,
+                        number,
+                        accepted: 0,
+                    });
+                }
+                unreachable!()
+            }
+            known = found;
         }
+        Err(TooManyReporters(WordReaderPass { seat }))
     }
 
     /// Afterwards the second pass has seen all that either had seen, by one load of the enlist word. The first is as it was.
@@ -504,6 +445,8 @@ impl WordBoard {
         requires { (first.old.board ≡ self.now) × (second.old.board ≡ self.now) }
         ensures { WordMet first.old first.new second.old second.new }
     {
-        self.meet_by(&mut first.seat, &mut second.seat);
+        let note = self.table.shared.split_seat::<Note>(&mut first.seat);
+        self.table.shared.join_seat::<Note>(&mut second.seat, note);
+        self.count::<Brand>(&mut second.seat);
     }
 }

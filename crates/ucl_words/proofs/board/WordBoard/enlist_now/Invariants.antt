@@ -1,14 +1,14 @@
 use Rattle.ucl_words.proofs.Common.{◌≡◌, ◌-◌, ◌≤◌, ◌⊎◌, Stands, no_call}
 use Rattle.ucl_words.proofs.EnlistmentFacts.{Missed}
-use Rattle.ucl_words.proofs.board.WordBoard.enlist_by.Given as goal
+use Rattle.ucl_words.proofs.board.WordBoard.enlist_now.Given as goal
 
 abbrev pub invariant-tries : goal.invariant-tries
 invariant-tries l = record {
-  same : l.seat.table_id ≡ l.fn.seat.table_id;
-  place : l.seat.id ≡ l.fn.seat.id;
+  same : l.seat.table_id ≡ l.initial.seat.table_id;
+  place : l.seat.id ≡ l.initial.seat.id;
   bound : l.known ≤ 255;
-  missed : Missed l.fn.seat.me.0.pass l.seat.me.0.pass l.known;
-  does : l.seat.me.0.doing ≡ l.fn.seat.me.0.doing;
+  missed : Missed l.initial.seat.me.0.pass l.seat.me.0.pass l.known;
+  does : l.seat.me.0.doing ≡ l.initial.seat.me.0.doing;
   stands : (l.known ≡ 0) ⊎ Stands l.seat.id l.seat.me.0;
 }
 
