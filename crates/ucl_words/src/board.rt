@@ -133,49 +133,6 @@ impl WordBoard {
             .compare_exchange_with::<Swap<K>>(seat, word, loaded, next, &entry)
     }
 
-    /// Enters an event under the seat's number: one load, and where the rules accept the event, one exchange.
-    fn report_by(
-        &self,
-        seat: &mut Seat,
-        reporter: ReporterNo,
-        call: &EventCall,
-    ) -> Result<Accepted, Refusal>
-        requires table { seat.old.table_id ≡ self.now }
-        requires steady { IsSteady seat.old.me.0.pass }
-        requires me { (0 < reporter) × (reporter ≤ 255) × (seat.old.me.0.pass.number ≡ reporter) }
-        requires next { seat.old.me.0.doing.held ≡ Nothing }
-        ensures own { seat.new.table_id ≡ seat.old.table_id }
-        ensures seat { seat.new.id ≡ seat.old.id }
-        ensures steady { IsSteady seat.new.me.0.pass }
-        ensures always { Continues (pass_view_of seat.old.me.0.pass)
-            (pass_view_of seat.new.me.0.pass) }
-        ensures accepted { IfOk result
-            (λ reply. AcceptedReport (pass_view_of seat.old.me.0.pass) call.now reply
-            (pass_view_of seat.new.me.0.pass)) }
-        ensures refused { IfErr result
-            (λ refusal. RefusedReport (pass_view_of seat.old.me.0.pass) call.now refusal
-            (pass_view_of seat.new.me.0.pass)) }
-        ensures steps { ReportSteps seat.old.me.0.pass call.now result seat.new.me.0.pass }
-        ensures answers { AnswersCall seat.old.me.0 (calls.Event call.now) (report_reply result)
-            seat.new.me.0 }
-        ensures along { GoesAlong seat.old.me.0 (calls.Event call.now) seat.new.me.0 }
-        ensures stands { Stands seat.new.id seat.new.me.0 }
-    {
-        let loaded = self.look::<Brand>(seat, call);
-        let next = next_word(loaded, reporter, call.expected, call.kind)?;
-        let entry = Entry::of(reporter, call);
-        let found = self.swap::<Brand>(seat, loaded, next, entry);
-        if found == loaded {
-            Ok(Accepted {
-                number: number_of(next),
-            })
-        } else {
-            Err(Refusal::Stale {
-                found: number_of(found),
-            })
-        }
-    }
-
     /// The first collect: loads words 1 to 12.
     fn collect(&self, seat: &mut Seat) -> [u64; 12]
         requires table { seat.old.table_id ≡ self.now }
@@ -328,12 +285,20 @@ impl WordBoard {
         requires { pass.old.board ≡ self.now }
         ensures { WordReported pass.old call.now result pass.new }
     {
-        let reporter = pass.number;
-        let result = self.report_by(&mut pass.seat, reporter, call);
-        if result.is_ok() {
+        let loaded = self.look::<Brand>(&mut pass.seat, call);
+        let next = next_word(loaded, pass.number, call.expected, call.kind)?;
+        let entry = Entry::of(pass.number, call);
+        let found = self.swap::<Brand>(&mut pass.seat, loaded, next, entry);
+        if found == loaded {
             pass.accepted += 1;
+            Ok(Accepted {
+                number: number_of(next),
+            })
+        } else {
+            Err(Refusal::Stale {
+                found: number_of(found),
+            })
         }
-        result
     }
 
     /// The board after a prefix of the history that has all that the pass had seen, and its version: loads all match words, and loads
