@@ -14,7 +14,7 @@ ghost use Rattle.ucl_words.specs.WordSteps.{Loads, LoadsMatch, LoadsEnlisted, po
 ghost use Rattle.ucl_words.specs.Code.{Collects, FindsAgain, FindsAnother, IsHoldingFor, MayCollect, HasFirsts, has_copied, begins_anew};
 ghost use Rattle.ucl_words.specs.WordCalls.{IsSteady, ReportSteps, ReadingSteps, EnlistTries, KeepsTrail};
 ghost use Rattle.ucl_words.specs.WordRecords.{WordOpened, WordReported, WordRead, WordSplit, WordEnlisted, WordFull, WordMet};
-ghost use Rattle.ucl_words.specs.WordViews.{left_pass, second_pass};
+ghost use Rattle.ucl_words.specs.WordViews.{pass_of};
 ghost use Rattle.ucl_words.specs.WordDoings.{AnswersCall, GoesAlong};
 ghost use Rattle.ucl_word.specs.Record.{IsReporter};
 ghost use Rattle.ucl_steps.specs.Protocol.{Nothing, Checking, IsNext, after_look, after_swap, after_second, report_reply};
@@ -203,20 +203,9 @@ impl WordBoard {
         requires table { seat.old.table_id ≡ self.now }
         requires steady { IsSteady seat.old.me.0.pass }
         requires next { seat.old.me.0.doing.held ≡ Nothing }
-        ensures own { seat.new.table_id ≡ seat.old.table_id }
-        ensures seat { seat.new.id ≡ seat.old.id }
         ensures steady { IsSteady seat.new.me.0.pass }
-        ensures always { Continues (pass_view_of seat.old.me.0.pass)
-            (pass_view_of seat.new.me.0.pass) }
-        ensures reading { SharedReading (pass_view_of seat.old.me.0.pass) result
-            (pass_view_of seat.new.me.0.pass) }
-        ensures steps { ReadingSteps seat.old.me.0.pass result seat.new.me.0.pass }
-        ensures answers { AnswersCall seat.old.me.0 calls.Reading (replies.Copied result)
-            seat.new.me.0 }
-        ensures along { GoesAlong seat.old.me.0 calls.Reading seat.new.me.0 }
-        ensures stands { Stands seat.new.id seat.new.me.0 }
-        ensures least { count_of seat.old.me.0.pass + 24 ≤ count_of seat.new.me.0.pass }
-        ensures most { count_of seat.new.me.0.pass ≤ count_of seat.old.me.0.pass + most_loads }
+        ensures read { WordRead (pass_of seat.old.table_id seat.old.id seat.old.me.0) result
+            (pass_of seat.new.table_id seat.new.id seat.new.me.0) }
     {
         'tries: loop {
             let words = self.collect(seat);
