@@ -1,5 +1,5 @@
 -- What a split, a meeting and an enlistment say of their passes, in one record.
-use Rattle.ucl_words.proofs.Common.{◌≡◌, ◌≢◌, ℕ, ◌+◌, ◌<◌, ◌≤◌, List, [], ◌∷◌, length, Some, None, refl, sym, ap, ◌∙◌, subst, arith, Taken}
+use Rattle.ucl_words.proofs.Common.{◌≡◌, ℕ, ◌<◌, ◌≤◌, refl, sym, ap, subst, arith}
 use Rattle.ucl_live_board.specs.Passes.{IsSound}
 use Rattle.ucl_words.proofs.Common.{View, pass_view_of, count_of, trail_of, note_of, told_by, takes_count, LoadsEnlisted, EnlistWon, IsSteady}
 use Rattle.ucl_words.proofs.Common.{WordView, WordPass, view_of, left_pass, second_pass, Stands, StandAfterSplit}

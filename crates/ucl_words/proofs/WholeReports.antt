@@ -10,7 +10,7 @@ use Rattle.ucl_words.proofs.ReportFacts.{me_in}
 use Rattle.ucl_words.proofs.DoingFacts.{look_answers, won_answers, miss_answers}
 use Rattle.ucl_steps.specs.Trails.{ReportAccesses}
 use Rattle.ucl_words.specs.WordRecords.{WordReported}
-use Rattle.ucl_words.proofs.Common.{List, Access, arith, ◌+◌, WordPass, view_of, Stands}
+use Rattle.ucl_words.proofs.Common.{List, Access, arith, WordPass, view_of, Stands}
 use Rattle.ucl_words.proofs.AlongFacts.{along_on, along_look, along_swap}
 
 -- what a report says

@@ -1,25 +1,20 @@
 //! The board over thirteen atomic words, and its calls.
 
-ghost use Rattle.std.specs.Prelude.{◌≡◌, ◌≢◌, ◌+◌, ◌<◌, ◌≤◌, [], ◌++◌, length, IfOk, IfErr, IfSome, IfNone, IsSome, MatchResult, MatchBool, Some, None};
+ghost use Rattle.std.specs.Prelude.{◌≡◌, ◌≢◌, ◌+◌, ◌<◌, [], ◌++◌, length, IfOk, IsSome, MatchResult, MatchBool, Some, None};
 ghost use Rattle.atomic_table.specs.Seated.{TableId};
 ghost use Rattle.ucl_board.specs.Fixtures.{IsMatch};
 ghost use Rattle.ucl_board.specs.Log as trails;
-ghost use Rattle.ucl_steps.specs.Trails.{most_loads};
-ghost use Rattle.ucl_live_board.specs.Passes.{Continues, AcceptedReport, RefusedReport, SharedReading, Enlistment, FullBoard, Meeting};
-ghost use Rattle.ucl_live_board.specs.Views.{pass_view_of, count_of};
-ghost use Rattle.ucl_live_board.specs.CallSteps.{MeetingSteps};
 ghost use Rattle.ucl_live_board.specs.OneHistory.{BoardsOpenFresh};
-ghost use Rattle.ucl_words.specs.WordRule.{words_after, IsTheRule, Stands, StandAfterSplit};
+ghost use Rattle.ucl_words.specs.WordRule.{words_after, IsTheRule, Stands};
 ghost use Rattle.ucl_words.specs.WordSteps.{Loads, LoadsMatch, LoadsEnlisted, point_shown, ExchangeWon, ExchangeMissed, IsNextWord, EnlistWon};
 ghost use Rattle.ucl_words.specs.Code.{Collects, FindsAgain, FindsAnother, IsHoldingFor, MayCollect, HasFirsts, has_copied, begins_anew};
-ghost use Rattle.ucl_words.specs.WordCalls.{IsSteady, ReportSteps, ReadingSteps, EnlistTries, KeepsTrail};
+ghost use Rattle.ucl_words.specs.WordCalls.{IsSteady};
 ghost use Rattle.ucl_words.specs.WordRecords.{WordOpened, WordReported, WordRead, WordSplit, WordEnlisted, WordFull, WordMet};
 ghost use Rattle.ucl_words.specs.WordViews.{pass_of};
-ghost use Rattle.ucl_words.specs.WordDoings.{AnswersCall, GoesAlong};
+ghost use Rattle.ucl_words.specs.WordDoings.{GoesAlong};
 ghost use Rattle.ucl_word.specs.Record.{IsReporter};
-ghost use Rattle.ucl_steps.specs.Protocol.{Nothing, Checking, IsNext, after_look, after_swap, after_second, report_reply};
+ghost use Rattle.ucl_steps.specs.Protocol.{Nothing, Checking, IsNext, after_look, after_swap, after_second};
 ghost use Rattle.ucl_steps.specs.declared.step.Call.TheVariants as calls;
-ghost use Rattle.ucl_steps.specs.declared.trace.Reply.TheVariants as replies;
 
 use crate::passes::{WordReaderPass, WordReporterPass};
 use crate::rule::{
@@ -340,10 +335,7 @@ impl WordBoard {
         requires { pass.old.board ≡ self.now }
         ensures { WordSplit pass.old pass.new result }
     {
-        let seat = self
-            .table
-            .shared
-            .split_seat::<SecondPass>(&mut pass.seat);
+        let seat = self.table.shared.split_seat::<SecondPass>(&mut pass.seat);
         WordReaderPass { seat }
     }
 

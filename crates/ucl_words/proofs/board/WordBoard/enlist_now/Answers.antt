@@ -19,8 +19,7 @@ invariant_of-result c =
     let less = c.tries-test.true in
     let won = c.add_reporter-found.ensures.won same in
     let v = c.pass.inside.seat.me.0.pass in
-    let number = won_number v c.tries.seat.me.0.pass c.add_reporter-found.new.seat.me.0.pass c.tries.known c.add_reporter-found.result c.tries.invariant.missed (omega arith) same won in
-    (
+    let number = won_number v c.tries.seat.me.0.pass c.add_reporter-found.new.seat.me.0.pass c.tries.known c.add_reporter-found.result c.tries.invariant.missed (omega arith) same won in (
       won_steady v c.tries.seat.me.0.pass c.add_reporter-found.new.seat.me.0.pass c.tries.known c.add_reporter-found.result c.tries.invariant.missed (omega arith) same won,
       number ∙ sym c.in-Some.ensures.value,
       ap length won.enlists.mine,

@@ -31,8 +31,7 @@ invariant_of-second c =
     let steady = met_steady c.first.inside.seat.me.0.pass c.second.inside.seat.me.0.pass _ _ _ _
     (ap (λ m. m.0.pass) c.split_seat-note.ensures.4) (ap (λ m. m.0.pass) c.join_seat.ensures.2) c.second.invariant.0 c.count.ensures.loads in
     let sees = c.count.ensures.loads.sees in
-    let v = c.second.invariant in
-    (
+    let v = c.second.invariant in (
       steady,
       sees.number ∙ (ap (λ m. m.0.pass.number) c.join_seat.ensures.2 ∙ v.1),
       ap length (sees.mine ∙ ap (λ m. m.0.pass.mine) c.join_seat.ensures.2) ∙ v.2,

@@ -13,8 +13,7 @@ invariant_of-pass c =
     let me : (0 < c.pass.inside.number) × (c.pass.inside.number ≤ 255) × (c.pass.inside.seat.me.0.pass.number ≡ c.pass.inside.number) = search (arith, c.pass.ranges) in
     let said = c.look-loaded.ensures in
     let by = refused_report c.pass.inside.seat.me.0 c.look-loaded.new.seat.me.0 c.args.call.now c.pass.inside.number c.look-loaded.result said.game me
-    c.pass.invariant.0 said.looks said.does c.in_err-next.field-0.0 c.in_err-next.ensures.refused in
-    (
+    c.pass.invariant.0 said.looks said.does c.in_err-next.field-0.0 c.in_err-next.ensures.refused in (
       by.steady,
       by.always.number ∙ c.pass.invariant.1,
       ap length by.refused.mine ∙ c.pass.invariant.2,
@@ -62,8 +61,7 @@ invariant_of-pass-then-found-loaded c =
     let stored = c.swap-found.ensures in
     let by = accepted_report c.pass.inside.seat.me.0 c.look-loaded.new.seat.me.0 c.args.call.now c.pass.inside.number c.look-loaded.result said.game me
     c.pass.invariant.0 said.looks said.does next.accepted.0 c.in_ok-next.next next.valid next.record c.of-entry.result c.of-entry.ensures
-    c.swap-found.new.seat.me.0 c.swap-found.result stored.won stored.missed stored.does c.if-found-loaded.true c.number_of.result c.number_of.ensures.value in
-    (
+    c.swap-found.new.seat.me.0 c.swap-found.result stored.won stored.missed stored.does c.if-found-loaded.true c.number_of.result c.number_of.ensures.value in (
       by.steady,
       by.always.number ∙ c.pass.invariant.1,
       ap length by.accepted.mine ∙ (length-append c.pass.inside.seat.me.0.pass.mine _ ∙ ap (λ (n : ℕ). n + 1) c.pass.invariant.2),
@@ -92,8 +90,7 @@ invariant_of-pass-else-found-loaded c =
     let stored = c.swap-found.ensures in
     let by = missed_report c.pass.inside.seat.me.0 c.look-loaded.new.seat.me.0 c.args.call.now c.pass.inside.number c.look-loaded.result said.game me
     c.pass.invariant.0 said.looks said.does next.accepted.0 c.in_ok-next.next next.valid next.record c.of-entry.result c.of-entry.ensures
-    c.swap-found.new.seat.me.0 c.swap-found.result stored.won stored.missed stored.does c.if-found-loaded.false c.number_of-else-found-loaded.result c.number_of-else-found-loaded.ensures.value in
-    (
+    c.swap-found.new.seat.me.0 c.swap-found.result stored.won stored.missed stored.does c.if-found-loaded.false c.number_of-else-found-loaded.result c.number_of-else-found-loaded.ensures.value in (
       by.steady,
       by.always.number ∙ c.pass.invariant.1,
       ap length by.refused.mine ∙ c.pass.invariant.2,
