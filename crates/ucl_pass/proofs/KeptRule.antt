@@ -3,7 +3,8 @@ use Rattle.ucl_pass.proofs.Common.{◌≡◌, ◌≢◌, inl, inr, ℕ, zero, su
 use Rattle.ucl_pass.proofs.Common.{sym, ap, ◌∙◌, subst, arith, le_refl, true≢false, slice_index, Result, MatchResult, IsSome, some, get_elem?, Turns, Forks, Merges}
 use Rattle.ucl_pass.proofs.Common.{EventCall, word_of, Entry, IsMatch, word_at, match_after, IsLegal, followed_by}
 use Rattle.ucl_pass.proofs.Common.{Swap, Match, Whole, history_of, IsThere, board_length, word_after, one_word, View, opener, newcomer, kept_of, second_of, note_of, told_by}
-use Rattle.ucl_pass.proofs.Common.{words_after, CellKeepsOneHistory, IsNextBoard, with_one_more, entry_at, Looks, LooksOnly, LooksAndShows, StoresEntry, StoresEvent, StoresReporter, MayStore, Exchanges}
+use Rattle.ucl_pass.proofs.Common.{words_after, CellKeepsOneHistory, IsNextBoard, with_one_more, entry_at, Looks, LooksOnly, LooksAndShows, StoresEntry, StoresEvent, StoresReporter}
+use Rattle.ucl_pass.proofs.Common.{MayStore, Exchanges}
 use Rattle.ucl_pass.proofs.Common.{looked, look_keeps, look_tells, same_history, entered, add_keeps, add_tells, longer_history, enlisted_as, enlist_keeps, enlist_tells}
 use Rattle.ucl_pass.proofs.Common.{unchanged_history, second_added, note_added, note_joined, opens}
 use lib.Pointwise.{pointwise, bytes_decides}

@@ -18,7 +18,8 @@ decided_of seat number calls = length (filter is_decided (filter (own seat numbe
 at_least : (seat number : ℕ) (calls : List CallRecord) (low high : ℕ) (fs : List Answer) → AreRecordsOf calls seat number low fs high → length fs ≤ decided_of seat number (drop low calls)
 at_least seat number calls low high [] r = omega arith
 at_least seat number calls low high (f ∷ fs) r =
-    search (arith, next_own seat number calls low r.0 r.1 r.2 r.3 (own_record seat number f r.1 r.4), own seat number, filter-append, length-append, at_least seat number calls (r.0 + 1) high fs r.5, r.0, r.5)
+    let next = next_own seat number calls low r.0 r.1 r.2 r.3 (own_record seat number f r.1 r.4) in
+    search (arith, next, own seat number, filter-append, length-append, at_least seat number calls (r.0 + 1) high fs r.5, r.0, r.5)
 
 filter_few : {X : Type 0} (p : X → Bool) (xs : List X) → length (filter p xs) ≤ length xs
 filter_few p [] = omega arith

@@ -76,5 +76,6 @@ module _ (seat number : ℕ) where
 
   pub records_are : (state : MachineState) (d : Doing) → FitsRun state seat number d → records_by seat number state ≡ records_told seat number d
   records_are state d f =
-      let all = stand_all state.calls 0 f.high d.calls (map (λ (call : Call). begun_call (caller_for seat number call) call d.begun) (call_under_way d.held)) f.recorded (under_way_stands state d.begun d.held f.high f.held) in
+      let under_way = map (λ (call : Call). begun_call (caller_for seat number call) call d.begun) (call_under_way d.held) in
+      let all = stand_all state.calls 0 f.high d.calls under_way f.recorded (under_way_stands state d.begun d.held f.high f.held) in
       just_these state.calls 0 (records_told seat number d) all (sym (as_many state.calls) ∙ (ap length f.whole ∙ search (arith, length-map, length-append)))

@@ -119,7 +119,8 @@ enlists_on place st m n m' l = gone m.0 m'.0 (λ pos. let reader = l.reader in a
 
 module _ (s t : State Entry WordView) (r : TableKeepsOneHistory s) (q : TableKeepsOneHistory t) (later : Later s t) where
   -- a pass by what is known of it
-  known_later : (seat : ℕ) (v : View) → get_elem? (known s.views) seat ≡ some v → (w : WordView) × (get_elem? (known t.views) seat ≡ some w.pass) × (0 < v.number → w.pass.number ≡ v.number) × IsPrefix v.log w.pass.log
+  known_later : (seat : ℕ) (v : View) → get_elem? (known s.views) seat ≡ some v
+      → (w : WordView) × (get_elem? (known t.views) seat ≡ some w.pass) × (0 < v.number → w.pass.number ≡ v.number) × IsPrefix v.log w.pass.log
   known_later seat v at =
       let u = there_is (λ (x : WordView). x.pass) s.views seat v at in
       let w = later seat u.0 u.1 in (
