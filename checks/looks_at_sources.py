@@ -54,7 +54,7 @@ TRAITS = {
         "WordView": "| Model", "Note": "| Join<WordView> Split<WordView>", "OneHistory": "Clone Copy | TableRule<Entry, WordView, ()>",
         "SecondPass": "| Split<WordView>",
     },
-    "ucl_c_handles": {"AnyPass": "Drop", "BoardPass": "Drop | Model", "Handle": "| Model Send", "Parts<T, A>": "| Model", "WhyNot": PLAIN},
+    "ucl_c": {"AnyPass": "Drop", "BoardPass": "Drop | Model", "Handle": "| Model Send", "Parts<T, A>": "| Model"},
 }
 DERIVES = re.compile(r"#\s*\[derive\(([^)]*)\)\](?:\s*#\s*\[[^\]]*\])*\s*(?:pub(?:\([^)]*\))?\s+)?(?:struct|enum)\s+(\w+)")
 IMPL = re.compile(r"\bimpl\b\s*(?:<[^{]*?>\s*)?([\w:]+(?:<[^{]*?>)?)\s+for\s+([^{]+?)\s*\{")
@@ -134,8 +134,8 @@ def traits_are_listed(top):
 def nothing_acts_when_let_go(top):
     """No type of nights and of evenings does anything when it is let go, but let go of its parts; and a handle does so alone."""
     found = [f"{crate}: {it}" for crate in (*TRAITS, "ucl_runs") for it in LETS_GO.findall(code_of(top, crate))]
-    handles = text_of(top, "ucl_c_handles", "src").split("fn let_go(")
-    return found + ([] if len(handles) == 2 and LET_GO in handles[1] else ["ucl_c_handles: a handle does something else when it is let go"])
+    handles = text_of(top, "ucl_c", "src").split("fn let_go(")
+    return found + ([] if len(handles) == 2 and LET_GO in handles[1] else ["ucl_c: a handle does something else when it is let go"])
 
 
 def boards_hold_words_alone(top):

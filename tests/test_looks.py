@@ -45,7 +45,7 @@ def test_kit(tmp_path, version, verdict):
         (looks.traits_are_listed, "ucl_words/src/passes.rt", "impl WordReporterPass {", "impl ops::Drop\n    for WordReporterPass {}\n\nimpl WordReporterPass {"),
         (looks.traits_are_listed, "ucl_pass/src/passes.rt", "use std::marker::Model;", "use std::marker::Model;\nuse std::ops::{\n    Drop as Quiet,\n};"),
         (looks.traits_are_listed, "ucl_board/src/reading.rt", "Debug, PartialEq, Eq)]", "Debug, Eq)]"),
-        (looks.nothing_acts_when_let_go, "ucl_c_handles/src/calls.rt", "            drop(self.take(alloc).into_box());", "            report(self.take(alloc));"),
+        (looks.nothing_acts_when_let_go, "ucl_c/src/calls.rt", "            drop(self.take(alloc).into_box());", "            report(self.take(alloc));"),
     ],
     ids=["a lock in a board", "a load of its own kind", "a pass that acts", "a trait by another name", "an equality by hand", "a handle that acts"],
 )

@@ -1,16 +1,18 @@
 //! A pass together with its board, so that no call can be given a pass of another board.
 
-ghost use Rattle.std.specs.Prelude.{◌≡◌, IfOk, IfErr, IfSome, IfNone, None, Some};
+ghost use Rattle.std.specs.Prelude.{◌≡◌, IfOk, IfErr, IfSome, IfNone, MatchResult, None, Some};
 ghost use Rattle.std.specs.Arc.{arc_value};
-ghost use Rattle.ucl_c_handles.specs.declared.board_pass.AnyPass.TheVariants.{Nobody};
-ghost use Rattle.ucl_c_handles.specs.BoardPasses.{FoundFull, IsPassOf, IsOpened, IsSplit, IsEnlisted, IsEnlistedFrom, IsNotEnlisted, IsReported, IsRead, IsNumberOf, cause_of, fault_of_split, fault_of_report, fault_of_read};
+ghost use Rattle.ucl_c.specs.declared.board_pass.AnyPass.TheVariants.{Nobody};
+ghost use Rattle.ucl_c.specs.declared.fault.Fault.TheVariants.{OutOfMemory};
+ghost use Rattle.ucl_c.specs.BoardPasses.{FoundFull, IsPassOf, IsOpened, IsSplit, IsEnlisted, IsEnlistedFrom, IsNotEnlisted, IsReported, IsRead, IsNumberOf, fault_of_split, fault_of_report, fault_of_read, or_memory};
 
+use crate::fault::Fault;
 use std::alloc::Global;
 use std::marker::Model;
 use std::sync::Arc;
 use ucl_board::Reading;
 use ucl_live_board::{LiveBoard, TooManyReporters};
-use ucl_word::{Accepted, EventCall, OutOfMemory, Refusal, ReporterNo};
+use ucl_word::{Accepted, EventCall, Refusal, ReporterNo};
 use ucl_words::{WordBoard, WordReaderPass, WordReporterPass};
 
 /// A pass of either kind, or none.
@@ -24,23 +26,6 @@ pub enum AnyPass {
     Reporter(WordReporterPass),
 }
 
-/// Why a call was not done.
-#[derive(Clone, Copy, Debug, PartialEq, Eq)]
-pub enum WhyNot {
-    /// The handle that was to be given a pass is not null.
-    InUse,
-    /// The handle holds no pass.
-    NoPass,
-    /// Only a reader's pass is split or enlisted.
-    NotAReader,
-    /// Only a reporter's pass reports.
-    NotAReporter,
-    /// 30: as many reporters are enlisted as there are numbers, 255.
-    FullBoard,
-    /// An allocation was refused, or a board has more passes than can be counted.
-    OutOfMemory,
-}
-
 /// A share of a board, and a pass of it or none. Contracts see which table the board is, and the pass.
 #[derive(Drop)]
 pub struct BoardPass {
@@ -50,7 +35,7 @@ pub struct BoardPass {
 
 impl Model for BoardPass {
     ghost use Rattle.std.specs.Arc.{arc_value};
-    ghost use Rattle.ucl_c_handles.specs.BoardPasses.{PassHeld, IsPassOf};
+    ghost use Rattle.ucl_c.specs.BoardPasses.{PassHeld, IsPassOf};
 
     ghost Value = { PassHeld };
 
@@ -61,36 +46,24 @@ impl Model for BoardPass {
 
 impl BoardPass {
     /// A fresh board, and its first pass, a reader's.
-    pub fn open(alloc: Global) -> Result<BoardPass, OutOfMemory>
-        ensures { IfOk result (λ opened. IsOpened opened.pass) }
+    pub fn open(alloc: Global) -> Result<Box<BoardPass>, Fault>
+        ensures { MatchResult result (λ opened. IsOpened opened.value.pass) (λ fault. fault ≡ OutOfMemory) }
     {
         let (board, pass) = WordBoard::open(&(), alloc)?;
         let board = Arc::new(alloc, board)?;
-        Ok(BoardPass {
-            board,
-            pass: AnyPass::Reader(pass),
-        })
+        let pass = AnyPass::Reader(pass);
+        Ok(Box::new(alloc, BoardPass { board, pass })?)
     }
 
     /// Room for another pass of this board, which takes the memory that it needs.
-    fn room(board: &Arc<WordBoard, Global>, alloc: Global) -> Result<Box<BoardPass>, WhyNot>
-        ensures made { IfOk result (λ room.
-            room.value ≡ record { board = arc_value board.now; pass = Nobody }) }
-        ensures refused { IfErr result (λ why. why ≡ cause_of None) }
+    fn room(board: &Arc<WordBoard, Global>, alloc: Global) -> Result<Box<BoardPass>, Fault>
+        ensures { MatchResult result
+            (λ room. room.value ≡ record { board = arc_value board.now; pass = Nobody })
+            (λ fault. fault ≡ OutOfMemory) }
     {
-        let Ok(board) = Arc::try_clone(board) else {
-            return Err(WhyNot::OutOfMemory);
-        };
-        match Box::new(
-            alloc,
-            BoardPass {
-                board,
-                pass: AnyPass::Nobody,
-            },
-        ) {
-            Ok(room) => Ok(room),
-            Err(_) => Err(WhyNot::OutOfMemory),
-        }
+        let board = Arc::try_clone(board)?;
+        let pass = AnyPass::Nobody;
+        Ok(Box::new(alloc, BoardPass { board, pass })?)
     }
 
     /// Puts a pass of the board into room for one.
@@ -102,12 +75,12 @@ impl BoardPass {
     }
 
     /// A second reader's pass of the same board, which has seen as much. Without memory for it nothing is split.
-    pub fn split_off(&mut self, alloc: Global) -> Result<Box<BoardPass>, WhyNot>
+    pub fn split_off(&mut self, alloc: Global) -> Result<Box<BoardPass>, Fault>
         ensures board { self.new.board ≡ self.old.board }
         ensures given { IfOk result (λ second.
             IsSplit self.old.pass self.new.pass second.value.pass) }
-        ensures refused { IfErr result (λ why. (self.new ≡ self.old)
-            × (why ≡ cause_of (fault_of_split self.old.pass))) }
+        ensures refused { IfErr result (λ fault. (self.new ≡ self.old)
+            × (fault ≡ or_memory (fault_of_split self.old.pass))) }
     {
         match &mut self.pass {
             AnyPass::Reader(pass) => {
@@ -116,8 +89,8 @@ impl BoardPass {
                 second.hold(AnyPass::Reader(split));
                 Ok(second)
             }
-            AnyPass::Reporter(_) => Err(WhyNot::NotAReader),
-            AnyPass::Nobody => Err(WhyNot::NoPass),
+            AnyPass::Reporter(_) => Err(Fault::NotAReader),
+            AnyPass::Nobody => Err(Fault::NoPass),
         }
     }
 
@@ -142,11 +115,12 @@ impl BoardPass {
     }
 
     /// A reporter's pass of the same board, under a number of its own. Without memory for it no number is spent.
-    pub fn enlist_another(&mut self, alloc: Global) -> Result<Box<BoardPass>, WhyNot>
+    pub fn enlist_another(&mut self, alloc: Global) -> Result<Box<BoardPass>, Fault>
         ensures board { self.new.board ≡ self.old.board }
         ensures given { IfOk result (λ second.
             IsEnlisted self.old.pass self.new.pass second.value.pass) }
-        ensures refused { IfErr result (λ why. IsNotEnlisted why self.old.pass self.new.pass) }
+        ensures refused { IfErr result (λ fault.
+            IsNotEnlisted fault self.old.pass self.new.pass) }
     {
         match &mut self.pass {
             AnyPass::Reader(pass) => {
@@ -154,52 +128,52 @@ impl BoardPass {
                 let split = self.board.split_now(pass);
                 match BoardPass::enlist_into(&self.board, second, split) {
                     Some(second) => Ok(second),
-                    None => Err(WhyNot::FullBoard),
+                    None => Err(Fault::FullBoard),
                 }
             }
-            AnyPass::Reporter(_) => Err(WhyNot::NotAReader),
-            AnyPass::Nobody => Err(WhyNot::NoPass),
+            AnyPass::Reporter(_) => Err(Fault::NotAReader),
+            AnyPass::Nobody => Err(Fault::NoPass),
         }
     }
 
     /// Enters an event under the number of a reporter's pass.
-    pub fn report(&mut self, call: &EventCall) -> Result<Result<Accepted, Refusal>, WhyNot>
+    pub fn report(&mut self, call: &EventCall) -> Result<Result<Accepted, Refusal>, Fault>
         ensures board { self.new.board ≡ self.old.board }
         ensures judged { IfOk result (λ reply.
             IsReported self.old.pass call.now reply self.new.pass) }
-        ensures refused { IfErr result (λ why. (self.new ≡ self.old)
-            × (fault_of_report self.old.pass ≡ Some why)) }
+        ensures refused { IfErr result (λ fault. (self.new ≡ self.old)
+            × (fault_of_report self.old.pass ≡ Some fault)) }
     {
         match &mut self.pass {
             AnyPass::Reporter(pass) => Ok(self.board.report_now(pass, call)),
-            AnyPass::Reader(_) => Err(WhyNot::NotAReporter),
-            AnyPass::Nobody => Err(WhyNot::NoPass),
+            AnyPass::Reader(_) => Err(Fault::NotAReporter),
+            AnyPass::Nobody => Err(Fault::NoPass),
         }
     }
 
     /// The number of a reporter's pass.
-    pub fn number(&self) -> Result<ReporterNo, WhyNot>
+    pub fn number(&self) -> Result<ReporterNo, Fault>
         ensures number { IfOk result (IsNumberOf self.now.pass) }
-        ensures refused { IfErr result (λ why. fault_of_report self.now.pass ≡ Some why) }
+        ensures refused { IfErr result (λ fault. fault_of_report self.now.pass ≡ Some fault) }
     {
         match &self.pass {
             AnyPass::Reporter(pass) => Ok(WordBoard::number_of(pass)),
-            AnyPass::Reader(_) => Err(WhyNot::NotAReporter),
-            AnyPass::Nobody => Err(WhyNot::NoPass),
+            AnyPass::Reader(_) => Err(Fault::NotAReporter),
+            AnyPass::Nobody => Err(Fault::NoPass),
         }
     }
 
     /// The board as the pass reads it.
-    pub fn read(&mut self) -> Result<Reading, WhyNot>
+    pub fn read(&mut self) -> Result<Reading, Fault>
         ensures board { self.new.board ≡ self.old.board }
         ensures reading { IfOk result (λ reading. IsRead self.old.pass reading self.new.pass) }
-        ensures refused { IfErr result (λ why. (self.new ≡ self.old)
-            × (fault_of_read self.old.pass ≡ Some why)) }
+        ensures refused { IfErr result (λ fault. (self.new ≡ self.old)
+            × (fault_of_read self.old.pass ≡ Some fault)) }
     {
         match &mut self.pass {
             AnyPass::Reader(pass) => Ok(self.board.read_now(pass)),
             AnyPass::Reporter(pass) => Ok(self.board.read_own_now(pass)),
-            AnyPass::Nobody => Err(WhyNot::NoPass),
+            AnyPass::Nobody => Err(Fault::NoPass),
         }
     }
 }

@@ -1,7 +1,7 @@
 use Rattle.ucl_c.specs.Tables.{clubs_handed}
 use Rattle.ucl_c.proofs.Boards.{inputs-roster}
 use Rattle.ucl_c.proofs.LineLength.{line_bound}
-use Rattle.ucl_c.proofs.line.json_of.Goals as goal
+use Rattle.ucl_c.proofs.screen.json_of.Goals as goal
 
 pub returns-clause-short : goal.returns-clause-short
 returns-clause-short c =
