@@ -54,7 +54,11 @@ TRAITS = {
         "WordView": "| Model", "Note": "| Join<WordView> Split<WordView>", "OneHistory": "Clone Copy | TableRule<Entry, WordView, ()>",
         "SecondPass": "| Split<WordView>",
     },
-    "ucl_c": {"AnyPass": "Drop", "BoardPass": "Drop | Model", "Handle": "| Model Send", "Parts<T, A>": "| Model"},
+    "ucl_c": {
+        **dict.fromkeys(["ClubOfC", "MatchOfC", "ReplyOfC", "RowOfC"], PLAIN), **dict.fromkeys(["AnyPass", "Group"], "Drop"), "BoardPass": "Drop | Model",
+        "Fault": f"{PLAIN} | From<AllocError> From<AllocFailed<T>> From<BadRoster> From<BadWordAt> From<InputFault> From<Refusal> From<ucl_word::BadWord> "
+        "From<ucl_word::OutOfMemory>", "Handle": "| Model Send", "Parts<T, A>": "| Model",
+    },
 }
 DERIVES = re.compile(r"#\s*\[derive\(([^)]*)\)\](?:\s*#\s*\[[^\]]*\])*\s*(?:pub(?:\([^)]*\))?\s+)?(?:struct|enum)\s+(\w+)")
 IMPL = re.compile(r"\bimpl\b\s*(?:<[^{]*?>\s*)?([\w:]+(?:<[^{]*?>)?)\s+for\s+([^{]+?)\s*\{")

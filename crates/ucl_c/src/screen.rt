@@ -66,12 +66,8 @@ pub extern "C" fn uclboard_screen(
     ensures unmeasured { result ≢ 0 → result ≢ 56 → long.new ≡ long.old }
     ensures no_place { result ≡ 23 → at.new ≡ at.old }
 {
-    answer(
-        screen_of(alloc, words, clubs, group, profile),
-        out,
-        long,
-        at,
-    )
+    let made = screen_of(alloc, words, clubs, group, profile);
+    answer(made, out, long, at)
 }
 
 /// How many bytes the screen of twelve words and four clubs has, without a zero, written to `long`.
