@@ -183,10 +183,9 @@ abbrev pub fault_of_inputs : ℕ → ℕ → List ℕ → List NamedClub → Opt
 fault_of_inputs profile group words clubs =
     first_fault (fault_of_profile profile ∷ fault_of_group group ∷ fault_of_words words ∷ fault_of_clubs clubs ∷ [])
 
--- and of its room, where this is the text
-abbrev pub fault_of_shown : ℕ → ℕ → List ℕ → List NamedClub → List ℕ → ℕ → Option Fault
-fault_of_shown profile group words clubs text room =
-    first_fault (fault_of_inputs profile group words clubs ∷ fault_of_text text room ∷ [])
+-- and the room for the text that is made of them
+abbrev pub fault_with_text : Option Fault → List ℕ → ℕ → Option Fault
+fault_with_text fault text room = first_fault (fault ∷ fault_of_text text room ∷ [])
 
 -- of a script that is played: the room for words and that for clubs, the bytes, the room for replies
 abbrev pub fault_of_play : List ℕ → ℕ → ℕ → ℕ → Option Fault

@@ -1,9 +1,9 @@
 //! Twelve words as a screen, and as the line of one in JSON.
 
-ghost use Rattle.std.specs.Prelude.{◌≡◌, ◌≢◌, ◌≤◌, ◌⊎◌, length, None, Some, IfOk, IfErr, string_bytes};
+ghost use Rattle.std.specs.Prelude.{◌≡◌, ◌≢◌, ◌≤◌, length, None, Some, IfOk, IfErr, string_bytes};
 ghost use Rattle.ucl_c.specs.declared.fault.Fault.TheVariants.{OutOfMemory};
-ghost use Rattle.ucl_c.specs.Faults.{fault_of_inputs, fault_of_shown, place_with, status_with};
-ghost use Rattle.ucl_c.specs.Tables.{IsWritten, clubs_handed, json_shown, screen_shown};
+ghost use Rattle.ucl_c.specs.Faults.{fault_of_inputs, place_with, status_with};
+ghost use Rattle.ucl_c.specs.Tables.{AnswersWithText, clubs_handed, json_shown, screen_shown};
 
 use crate::fault::Fault;
 use crate::group::{ClubOfC, group_of};
@@ -51,20 +51,11 @@ pub extern "C" fn uclboard_screen(
     long: &mut usize,
     at: &mut u32,
 ) -> u32
-    ensures told { let clubs_are = clubs_handed clubs.now in
-        result ≢ 23 → result ≡ status_with (fault_of_shown profile group words.now clubs_are
-        (screen_shown profile group words.now clubs_are) (length out.old)) }
-    ensures placed { let clubs_are = clubs_handed clubs.now in
-        result ≢ 23 → at.new ≡ place_with (fault_of_shown profile group words.now clubs_are
-        (screen_shown profile group words.now clubs_are) (length out.old)) at.old }
-    ensures done { result ≡ 0 →
-        IsWritten (screen_shown profile group words.now (clubs_handed clubs.now)) out.old out.new }
-    ensures measured { (result ≡ 0) ⊎ (result ≡ 56) →
-        long.new ≡ length (screen_shown profile group words.now (clubs_handed clubs.now)) }
-    ensures room { 297 ≤ length out.old → result ≢ 56 }
-    ensures unchanged { result ≢ 0 → out.new ≡ out.old }
-    ensures unmeasured { result ≢ 0 → result ≢ 56 → long.new ≡ long.old }
-    ensures no_place { result ≡ 23 → at.new ≡ at.old }
+    ensures { let clubs_are = clubs_handed clubs.now in
+        AnswersWithText (fault_of_inputs profile group words.now clubs_are)
+        (screen_shown profile group words.now clubs_are) 296
+        (record { out = out.old; long = long.old; at = at.old })
+        (record { out = out.new; long = long.new; at = at.new }) result }
 {
     let made = screen_of(alloc, words, clubs, group, profile);
     answer(made, out, long, at)
@@ -142,21 +133,11 @@ pub extern "C" fn uclboard_screen_json(
     long: &mut usize,
     at: &mut u32,
 ) -> u32
-    ensures told { let clubs_are = clubs_handed clubs.now in
-        result ≢ 23 → result ≡ status_with (fault_of_shown profile group words.now clubs_are
-        (json_shown row profile group words.now clubs_are) (length out.old)) }
-    ensures placed { let clubs_are = clubs_handed clubs.now in
-        result ≢ 23 → at.new ≡ place_with (fault_of_shown profile group words.now clubs_are
-        (json_shown row profile group words.now clubs_are) (length out.old)) at.old }
-    ensures done { result ≡ 0 →
-        IsWritten (json_shown row profile group words.now (clubs_handed clubs.now))
-        out.old out.new }
-    ensures measured { (result ≡ 0) ⊎ (result ≡ 56) →
-        long.new ≡ length (json_shown row profile group words.now (clubs_handed clubs.now)) }
-    ensures room { 1424 ≤ length out.old → result ≢ 56 }
-    ensures unchanged { result ≢ 0 → out.new ≡ out.old }
-    ensures unmeasured { result ≢ 0 → result ≢ 56 → long.new ≡ long.old }
-    ensures no_place { result ≡ 23 → at.new ≡ at.old }
+    ensures { let clubs_are = clubs_handed clubs.now in
+        AnswersWithText (fault_of_inputs profile group words.now clubs_are)
+        (json_shown row profile group words.now clubs_are) 1423
+        (record { out = out.old; long = long.old; at = at.old })
+        (record { out = out.new; long = long.new; at = at.new }) result }
 {
     let made = json_of(alloc, row, words, clubs, group, profile);
     answer(made, out, long, at)
