@@ -56,8 +56,8 @@ TRAITS = {
     },
     "ucl_c": {
         **dict.fromkeys(["ClubOfC", "MatchOfC", "ReplyOfC", "RowOfC"], PLAIN), **dict.fromkeys(["AnyPass", "Group"], "Drop"), "BoardPass": "Drop | Model",
-        "Fault": f"{PLAIN} | From<AllocError> From<AllocFailed<T>> From<BadRoster> From<BadWordAt> From<InputFault> From<Refusal> From<ucl_word::BadWord> "
-        "From<ucl_word::OutOfMemory>", "Handle": "| Model Send", "Parts<T, A>": "| Model",
+        "Fault": f"{PLAIN} | From<AllocError> From<AllocFailed<T>> From<BadRoster> From<BadWordAt> From<InputFault> From<Refusal> From<TooManyReporters<P>> "
+        "From<ucl_word::BadWord> From<ucl_word::OutOfMemory>", "Handle": "| Model Send", "Parts<T, A>": "| Model",
     },
 }
 DERIVES = re.compile(r"#\s*\[derive\(([^)]*)\)\](?:\s*#\s*\[[^\]]*\])*\s*(?:pub(?:\([^)]*\))?\s+)?(?:struct|enum)\s+(\w+)")

@@ -1,9 +1,9 @@
 //! A pass together with its board, so that no call can be given a pass of another board.
 
-ghost use Rattle.std.specs.Prelude.{◌≡◌, IfOk, IfErr, IfSome, IfNone, MatchResult, None, Some};
+ghost use Rattle.std.specs.Prelude.{◌≡◌, IfOk, IfErr, MatchResult, None, Some};
 ghost use Rattle.std.specs.Arc.{arc_value};
 ghost use Rattle.ucl_c.specs.declared.board_pass.AnyPass.TheVariants.{Nobody};
-ghost use Rattle.ucl_c.specs.declared.fault.Fault.TheVariants.{OutOfMemory};
+ghost use Rattle.ucl_c.specs.declared.fault.Fault.TheVariants.{FullBoard, OutOfMemory};
 ghost use Rattle.ucl_c.specs.BoardPasses.{FoundFull, IsPassOf, IsOpened, IsSplit, IsEnlisted, IsEnlistedFrom, IsNotEnlisted, IsReported, IsRead, IsNumberOf, fault_of_split, fault_of_report, fault_of_read, or_memory};
 
 use crate::fault::Fault;
@@ -11,7 +11,7 @@ use std::alloc::Global;
 use std::marker::Model;
 use std::sync::Arc;
 use ucl_board::Reading;
-use ucl_live_board::{LiveBoard, TooManyReporters};
+use ucl_live_board::LiveBoard;
 use ucl_word::{Accepted, EventCall, Refusal, ReporterNo};
 use ucl_words::{WordBoard, WordReaderPass, WordReporterPass};
 
@@ -94,24 +94,20 @@ impl BoardPass {
         }
     }
 
-    /// Makes a reader's pass a reporter's, and puts it into room for it. `None` where 255 reporters are enlisted.
+    /// Makes a reader's pass a reporter's, and puts it into room for it.
     fn enlist_into(
         board: &Arc<WordBoard, Global>,
         mut room: Box<BoardPass>,
         pass: WordReaderPass,
-    ) -> Option<Box<BoardPass>>
+    ) -> Result<Box<BoardPass>, Fault>
         requires { (pass.board ≡ arc_value board.now)
             × (room.value.board ≡ arc_value board.now) }
-        ensures enlisted { IfSome result (λ second. IsEnlistedFrom pass second.value.pass) }
-        ensures full { IfNone result (FoundFull pass) }
+        ensures { MatchResult result (λ second. IsEnlistedFrom pass second.value.pass)
+            (λ fault. (fault ≡ FullBoard) × FoundFull pass) }
     {
-        match board.enlist_now(pass) {
-            Ok(reporter) => {
-                room.hold(AnyPass::Reporter(reporter));
-                Some(room)
-            }
-            Err(TooManyReporters(_)) => None,
-        }
+        let reporter = board.enlist_now(pass)?;
+        room.hold(AnyPass::Reporter(reporter));
+        Ok(room)
     }
 
     /// A reporter's pass of the same board, under a number of its own. Without memory for it no number is spent.
@@ -124,12 +120,9 @@ impl BoardPass {
     {
         match &mut self.pass {
             AnyPass::Reader(pass) => {
-                let second = BoardPass::room(&self.board, alloc)?;
+                let room = BoardPass::room(&self.board, alloc)?;
                 let split = self.board.split_now(pass);
-                match BoardPass::enlist_into(&self.board, second, split) {
-                    Some(second) => Ok(second),
-                    None => Err(Fault::FullBoard),
-                }
+                BoardPass::enlist_into(&self.board, room, split)
             }
             AnyPass::Reporter(_) => Err(Fault::NotAReader),
             AnyPass::Nobody => Err(Fault::NoPass),

@@ -1,11 +1,12 @@
 //! Why a call is not done, and how that is told.
 
 ghost use Rattle.std.specs.Prelude.{◌≡◌, Some};
-ghost use Rattle.ucl_c.specs.declared.fault.Fault.TheVariants.{BadRoster, BadWord, OutOfMemory, Refused};
+ghost use Rattle.ucl_c.specs.declared.fault.Fault.TheVariants.{BadRoster, BadWord, FullBoard, OutOfMemory, Refused};
 ghost use Rattle.ucl_c.specs.Faults.{fault_code, found_with, of_input, place_with};
 
 use std::alloc::{AllocError, AllocFailed};
 use ucl_board::BadWordAt;
+use ucl_live_board::TooManyReporters;
 use ucl_order::BadRoster;
 use ucl_screen::InputFault;
 use ucl_word::Refusal;
@@ -158,6 +159,14 @@ impl From<InputFault> for Fault {
             InputFault::TooLong => Fault::TooLong,
             InputFault::OutOfMemory | InputFault::ReadFailed { .. } => Fault::OutOfMemory,
         }
+    }
+}
+
+impl<P: Drop> From<TooManyReporters<P>> for Fault {
+    ghost from_gives = { λ _ fault. fault ≡ FullBoard };
+
+    fn from(_error: TooManyReporters<P>) -> Fault {
+        Fault::FullBoard
     }
 }
 
