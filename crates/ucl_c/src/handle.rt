@@ -1,6 +1,6 @@
 //! A handle for C.
 
-ghost use Rattle.ucl_c_handles.specs.declared.board_pass.BoardPass.{BoardPass};
+ghost use Rattle.ucl_c.specs.declared.board_pass.BoardPass.{BoardPass};
 
 use std::marker::Model;
 
@@ -19,8 +19,8 @@ pub struct Handle {
 
 impl Model for Handle {
     ghost use Rattle.std.specs.Box.Ownership.{box_owns};
-    ghost use Rattle.ucl_c_handles.specs.contracts.board_pass.BoardPass.{the_row};
-    ghost use Rattle.ucl_c_handles.specs.OwnedAt.{freed, owned_at};
+    ghost use Rattle.ucl_c.specs.contracts.board_pass.BoardPass.{the_row};
+    ghost use Rattle.ucl_c.specs.OwnedAt.{freed, owned_at};
 
     ghost also_owns = { λ h. owned_at (λ p. box_owns freed the_row p h.value) h.at };
 }

@@ -1,22 +1,22 @@
 -- `into_box` hands what the parts own to `from_raw`.
 use mathlib.Core.Path.{◌≡◌, refl, sym, subst, ap}
-use Rattle.ucl_c_handles.proofs.Common.{◌++◌, T, Ura, Fn, Body, place, copy, assign, rv_opd, seq, return, inst_fn, Val, vptr, has_ty, WT, SProp, ent, id⊢, ftrue, fsep, flft, ◌⊑◌, Memory, Routine}
-use Rattle.ucl_c_handles.proofs.Common.{WpFn, Tables, Logic, Fun, fact, tables, fm_of, WpFn-mono, Item, at_ret, ‵, raw, ◌⊛◌, some, later, ◌$◌, ◌∵◌, !, qed, by, move, drop, use1, join, split, split3}
-use Rattle.ucl_c_handles.proofs.Common.{pick, rewrite, fsplit, fjoin, feq_i, suffices, await, done, whole, sub, stop, fld, no_more, and_then, of_opd, returns, enter, first, blocks, exec, alloc_all}
-use Rattle.ucl_c_handles.proofs.Common.{pass_all, free_all, look_at, get, get_in, sets, lands_last, env, RattleType, no, block_ptr, plain, heard, nothing, only, calls_at_last, Ended, Clauses}
-use Rattle.ucl_c_handles.proofs.Common.{triple_of, Triple, Contract, entered, says, Stays, stay_dropped, walk_of, ends_at, walk_Meets, token, Goes-blank, Bx, D, R, P, B, args, box_ty, word}
-use Rattle.ucl_c_handles.proofs.Common.{box_typed, box_out, box_in}
+use Rattle.ucl_c.proofs.Common.{◌++◌, T, Ura, Fn, Body, place, copy, assign, rv_opd, seq, return, inst_fn, Val, vptr, has_ty, WT, SProp, ent, id⊢, ftrue, fsep, flft, ◌⊑◌, Memory, Routine}
+use Rattle.ucl_c.proofs.Common.{WpFn, Tables, Logic, Fun, fact, tables, fm_of, WpFn-mono, Item, at_ret, ‵, raw, ◌⊛◌, some, later, ◌$◌, ◌∵◌, !, qed, by, move, drop, use1, join, split, split3}
+use Rattle.ucl_c.proofs.Common.{pick, rewrite, fsplit, fjoin, feq_i, suffices, await, done, whole, sub, stop, fld, no_more, and_then, of_opd, returns, enter, first, blocks, exec, alloc_all}
+use Rattle.ucl_c.proofs.Common.{pass_all, free_all, look_at, get, get_in, sets, lands_last, env, RattleType, no, block_ptr, plain, heard, nothing, only, calls_at_last, Ended, Clauses}
+use Rattle.ucl_c.proofs.Common.{triple_of, Triple, Contract, entered, says, Stays, stay_dropped, walk_of, ends_at, walk_Meets, token, Goes-blank, Bx, D, R, P, B, args, box_ty, word}
+use Rattle.ucl_c.proofs.Common.{box_typed, box_out, box_in}
 use mathlib.Core.List.{List, [], ◌∷◌}
 use contract.Running.{tables_of}
 use Rattle.std_alloc.specs.Box.Ownership.{box_owns}
-use Rattle.ucl_c_handles.specs.contracts.parts.Parts as parts
+use Rattle.ucl_c.specs.contracts.parts.Parts as parts
 use Rattle.std_alloc.specs.contracts.boxed.Box.from_raw as Fr
 use Rattle.std_alloc.proofs.boxed.Box.from_raw.Symbol as raw_sym
 use Rattle.std_alloc.proofs.boxed.Box.from_raw.Met as raw_met
-use Rattle.ucl_c_handles.specs.contracts.parts.Parts.into_box as F
-use Rattle.ucl_c_handles.specs.contracts.parts.Parts.into_box.Key.{name as #self}
-use Rattle.ucl_c_handles.proofs.parts.Parts.into_box.Statement as stated
-use Rattle.ucl_c_handles.proofs.parts.Parts.into_box.Code as code
+use Rattle.ucl_c.specs.contracts.parts.Parts.into_box as F
+use Rattle.ucl_c.specs.contracts.parts.Parts.into_box.Key.{name as #self}
+use Rattle.ucl_c.proofs.parts.Parts.into_box.Statement as stated
+use Rattle.ucl_c.proofs.parts.Parts.into_box.Code as code
 
 abbrev rest : Body
 rest = seq (assign (place 0 []) (rv_opd (copy (place 4 [])))) return

@@ -1,15 +1,15 @@
 -- `is_null` reads the pointer, which is null or the start of a block, and leaves the handle as it was.
-use Rattle.ucl_c_handles.proofs.Common.{true, false, List, [], ◌∷◌, refl, sym, ap, ◌∙◌, subst, lit<, T, proved, full_share, ftrue, flft, named, Val, vbool, tables, ‵, ◌⊛◌, ◌$◌, ◌∵◌, !, qed, done}
-use Rattle.ucl_c_handles.proofs.Common.{move, keep, split, join, fsplit, fsplit3, fjoin, feq_i, rewrite, suffices, frame, group, enter, of_opd, bin, lit, load, stop, fld, returns, alloc_all}
-use Rattle.ucl_c_handles.proofs.Common.{pass_all, free_all, look_at, get, through, sets, whole, sub, look_in, shows, cell_at, Ptr, block_ptr, tests_null, MutRef, mut_vals, mut_Tells, plain, nothing}
-use Rattle.ucl_c_handles.proofs.Common.{opens, closes, peeks, Stays, walk_of, says, stay_ref, Goes-ref, ends_at, box_owns, freed, owned_at, is_null, pass_at}
-use Rattle.ucl_c_handles.proofs.NullOrOwned.{null_or_owned}
-use Rattle.ucl_c_handles.specs.contracts.board_pass.BoardPass as inner
-use Rattle.ucl_c_handles.specs.contracts.handle.Handle.is_null as f
-use Rattle.ucl_c_handles.proofs.handle.Handle.is_null.Statement.{statement}
-use Rattle.ucl_c_handles.proofs.handle.Handle.is_null.Code as code
-use Rattle.ucl_c_handles.specs.contracts.handle.Handle.{the_row as R}
-use Rattle.ucl_c_handles.proofs.handle.Handle.TheLaws.{lowers}
+use Rattle.ucl_c.proofs.Common.{true, false, List, [], ◌∷◌, refl, sym, ap, ◌∙◌, subst, lit<, T, proved, full_share, ftrue, flft, named, Val, vbool, tables, ‵, ◌⊛◌, ◌$◌, ◌∵◌, !, qed, done}
+use Rattle.ucl_c.proofs.Common.{move, keep, split, join, fsplit, fsplit3, fjoin, feq_i, rewrite, suffices, frame, group, enter, of_opd, bin, lit, load, stop, fld, returns, alloc_all}
+use Rattle.ucl_c.proofs.Common.{pass_all, free_all, look_at, get, through, sets, whole, sub, look_in, shows, cell_at, Ptr, block_ptr, tests_null, MutRef, mut_vals, mut_Tells, plain, nothing}
+use Rattle.ucl_c.proofs.Common.{opens, closes, peeks, Stays, walk_of, says, stay_ref, Goes-ref, ends_at, box_owns, freed, owned_at, is_null, pass_at}
+use Rattle.ucl_c.proofs.NullOrOwned.{null_or_owned}
+use Rattle.ucl_c.specs.contracts.board_pass.BoardPass as inner
+use Rattle.ucl_c.specs.contracts.handle.Handle.is_null as f
+use Rattle.ucl_c.proofs.handle.Handle.is_null.Statement.{statement}
+use Rattle.ucl_c.proofs.handle.Handle.is_null.Code as code
+use Rattle.ucl_c.specs.contracts.handle.Handle.{the_row as R}
+use Rattle.ucl_c.proofs.handle.Handle.TheLaws.{lowers}
 
 abbrev stayed : Stays f.ended.signature.params f.ended.kept
 stayed = (stay_ref (0 ∷ []) tt (plain (λ _. R)), tt)

@@ -6,8 +6,8 @@ pub use Rattle.std.specs.Box.Ownership.{box_owns}
 pub use Rattle.std_alloc.proofs.BoxSteps.Form.{B, Bx, D, P, R, args, box_ty, box_typed, word, τ}
 pub use Rattle.std_alloc.proofs.BoxSteps.Steps.{box_in, box_out}
 pub use Rattle.std_heap.specs.contracts.GlobalAllocator.TheImpl.{ghosts}
-pub use Rattle.ucl_c_handles.specs.Handles.{is_null, pass_at}
-pub use Rattle.ucl_c_handles.specs.OwnedAt.{freed, heap, owned_at}
+pub use Rattle.ucl_c.specs.Handles.{is_null, pass_at}
+pub use Rattle.ucl_c.specs.OwnedAt.{freed, heap, owned_at}
 pub use base.Fml.{Fml, flft, fsep, ftrue}
 pub use base.Fraction.{full_share}
 pub use base.Logic.{SProp, ent, fst∗, guard, guard_i, id⊢, never, snd∗, via}

@@ -1,25 +1,25 @@
 -- `of` takes the box apart, and the parts own what it owned.
 use mathlib.Core.Path.{◌≡◌, refl, sym, subst, ap, ◌∙◌}
-use Rattle.ucl_c_handles.proofs.Common.{◌++◌, Ura, Fn, Args, Dict, a_type, dcons, dnil, inst_fn, Val, vstruct, of_list, SProp, ent, id⊢, never, fst∗, ftrue, fsep, flft, ◌⊑◌, Memory, Routine, WpFn}
-use Rattle.ucl_c_handles.proofs.Common.{Tables, Logic, sem, Fun, fact, tables, fm_of, WpFn-mono, Item, ‵, raw, ◌⊛◌, some, later, ◌$◌, ◌∵◌, !, qed, by, move, drop, use1, join, split, split3, pick}
-use Rattle.ucl_c_handles.proofs.Common.{rewrite, fsplit, fjoin, fpick, feq_l, suffices, await, done, whole, sub, agg, stop, fld, no_more, and_then, of_opd, returns, enter, alloc_all, pass_all}
-use Rattle.ucl_c_handles.proofs.Common.{free_all, look_at, get, get_in, sets, lands_as, RattleType, no, Ptr, RawPtr, block_ptr, null_ptr, ptr_val, in_a_block, plain, heard, nothing, only, calls_at}
-use Rattle.ucl_c_handles.proofs.Common.{Ended, Clauses, triple_of, Triple, Contract, entered, says, Stays, stay_dropped, walk_of, ends_at, walk_Meets, token, handle_tells, Goes-blank, Bx, D, τ, R, P}
-use Rattle.ucl_c_handles.proofs.Common.{B, word, box_typed, box_out, box_in}
+use Rattle.ucl_c.proofs.Common.{◌++◌, Ura, Fn, Args, Dict, a_type, dcons, dnil, inst_fn, Val, vstruct, of_list, SProp, ent, id⊢, never, fst∗, ftrue, fsep, flft, ◌⊑◌, Memory, Routine, WpFn}
+use Rattle.ucl_c.proofs.Common.{Tables, Logic, sem, Fun, fact, tables, fm_of, WpFn-mono, Item, ‵, raw, ◌⊛◌, some, later, ◌$◌, ◌∵◌, !, qed, by, move, drop, use1, join, split, split3, pick}
+use Rattle.ucl_c.proofs.Common.{rewrite, fsplit, fjoin, fpick, feq_l, suffices, await, done, whole, sub, agg, stop, fld, no_more, and_then, of_opd, returns, enter, alloc_all, pass_all}
+use Rattle.ucl_c.proofs.Common.{free_all, look_at, get, get_in, sets, lands_as, RattleType, no, Ptr, RawPtr, block_ptr, null_ptr, ptr_val, in_a_block, plain, heard, nothing, only, calls_at}
+use Rattle.ucl_c.proofs.Common.{Ended, Clauses, triple_of, Triple, Contract, entered, says, Stays, stay_dropped, walk_of, ends_at, walk_Meets, token, handle_tells, Goes-blank, Bx, D, τ, R, P}
+use Rattle.ucl_c.proofs.Common.{B, word, box_typed, box_out, box_in}
 use mathlib.Core.List.{List, [], ◌∷◌}
 use mir.Raw.{raw as bare}
 use contract.Running.{tables_of}
 use denote.Param.{bounded}
 use denote.Struct.Tuple.{Tuple}
 use Rattle.std_alloc.specs.Box.Ownership.{box_owns}
-use Rattle.ucl_c_handles.specs.contracts.parts.Parts as parts
+use Rattle.ucl_c.specs.contracts.parts.Parts as parts
 use Rattle.std_alloc.specs.contracts.boxed.Box.into_raw_with_allocator as Ra
 use Rattle.std_alloc.proofs.boxed.Box.into_raw_with_allocator.Symbol as raw_sym
 use Rattle.std_alloc.proofs.boxed.Box.into_raw_with_allocator.Met as raw_met
-use Rattle.ucl_c_handles.specs.contracts.parts.Parts.of as F
-use Rattle.ucl_c_handles.specs.contracts.parts.Parts.of.Key.{name as #self}
-use Rattle.ucl_c_handles.proofs.parts.Parts.of.Statement as stated
-use Rattle.ucl_c_handles.proofs.parts.Parts.of.Code as code
+use Rattle.ucl_c.specs.contracts.parts.Parts.of as F
+use Rattle.ucl_c.specs.contracts.parts.Parts.of.Key.{name as #self}
+use Rattle.ucl_c.proofs.parts.Parts.of.Statement as stated
+use Rattle.ucl_c.proofs.parts.Parts.of.Code as code
 
 module _ (E : Bx) (dx : Dict) where
   abbrev args : Args

@@ -1,22 +1,22 @@
 -- `put` makes the handle own what the parts owned.
-use Rattle.ucl_c_handles.proofs.Common.{◌≡◌, true, List, [], ◌∷◌, refl, sym, ap, proved, full_share, ftrue, flft, named, Val, vunit, fst∗, never, sem, fact, tables, ‵, raw, ◌⊛◌, ◌$◌, ◌∵◌, !, qed}
-use Rattle.ucl_c_handles.proofs.Common.{done, move, keep, drop, split, join, fsplit, fsplit3, fjoin, fpack, feq_i, rewrite, suffices, frame, group, enter, of_opd, stop, fld, returns, assigns}
-use Rattle.ucl_c_handles.proofs.Common.{unit_lit, alloc_all, pass_all, free_all, look_at, get, get_in, through, sets, whole, sub, store_in, yes, shows, cell_at, lone, Valss, Ptr, RawPtr, ptr_val}
-use Rattle.ucl_c_handles.proofs.Common.{null_ptr, in_a_block, rawptr_Lawful, MutRef, mut_vals, mut_Tells, plain, nothing, opens, closes, peeks, heard, within, shape, Stays, walk_of, says, stay_ref}
-use Rattle.ucl_c_handles.proofs.Common.{stay_dropped, Goes-ref, Goes-dropped, ends_at, ghosts, box_owns, freed, owned_at, is_null, pass_at, RattleType}
+use Rattle.ucl_c.proofs.Common.{◌≡◌, true, List, [], ◌∷◌, refl, sym, ap, proved, full_share, ftrue, flft, named, Val, vunit, fst∗, never, sem, fact, tables, ‵, raw, ◌⊛◌, ◌$◌, ◌∵◌, !, qed}
+use Rattle.ucl_c.proofs.Common.{done, move, keep, drop, split, join, fsplit, fsplit3, fjoin, fpack, feq_i, rewrite, suffices, frame, group, enter, of_opd, stop, fld, returns, assigns}
+use Rattle.ucl_c.proofs.Common.{unit_lit, alloc_all, pass_all, free_all, look_at, get, get_in, through, sets, whole, sub, store_in, yes, shows, cell_at, lone, Valss, Ptr, RawPtr, ptr_val}
+use Rattle.ucl_c.proofs.Common.{null_ptr, in_a_block, rawptr_Lawful, MutRef, mut_vals, mut_Tells, plain, nothing, opens, closes, peeks, heard, within, shape, Stays, walk_of, says, stay_ref}
+use Rattle.ucl_c.proofs.Common.{stay_dropped, Goes-ref, Goes-dropped, ends_at, ghosts, box_owns, freed, owned_at, is_null, pass_at, RattleType}
 use mir.Raw.{raw as bare}
 use Rattle.std_heap.specs.contracts.Global as heap
 use Rattle.std_heap.proofs.Global.TheLaws as heap_laws
-use Rattle.ucl_c_handles.specs.contracts.board_pass.BoardPass as inner
-use Rattle.ucl_c_handles.proofs.board_pass.BoardPass.TheLaws as inner_laws
-use Rattle.ucl_c_handles.specs.contracts.parts.Parts as parts
-use Rattle.ucl_c_handles.proofs.parts.Parts.TheLaws as parts_laws
-use Rattle.ucl_c_handles.specs.contracts.handle.Handle as pass
-use Rattle.ucl_c_handles.specs.contracts.handle.Handle.put as f
-use Rattle.ucl_c_handles.proofs.handle.Handle.put.Statement.{statement}
-use Rattle.ucl_c_handles.proofs.handle.Handle.put.Code as code
-use Rattle.ucl_c_handles.specs.contracts.handle.Handle.{the_row as R}
-use Rattle.ucl_c_handles.proofs.handle.Handle.TheLaws.{lowers}
+use Rattle.ucl_c.specs.contracts.board_pass.BoardPass as inner
+use Rattle.ucl_c.proofs.board_pass.BoardPass.TheLaws as inner_laws
+use Rattle.ucl_c.specs.contracts.parts.Parts as parts
+use Rattle.ucl_c.proofs.parts.Parts.TheLaws as parts_laws
+use Rattle.ucl_c.specs.contracts.handle.Handle as pass
+use Rattle.ucl_c.specs.contracts.handle.Handle.put as f
+use Rattle.ucl_c.proofs.handle.Handle.put.Statement.{statement}
+use Rattle.ucl_c.proofs.handle.Handle.put.Code as code
+use Rattle.ucl_c.specs.contracts.handle.Handle.{the_row as R}
+use Rattle.ucl_c.proofs.handle.Handle.TheLaws.{lowers}
 
 abbrev stayed : Stays f.ended.signature.params f.ended.kept
 stayed = (stay_ref (0 ∷ []) tt (plain (λ _. R)), (stay_dropped _ yes, tt))

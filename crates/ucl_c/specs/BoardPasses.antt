@@ -7,10 +7,10 @@ use Rattle.ucl_word.specs.declared.refusal.Refusal.{Refusal}
 use Rattle.ucl_board.specs.declared.reading.Reading.{Reading}
 use Rattle.ucl_words.specs.WordRecords.{WordOpened, WordReported, WordRead, WordSplit, WordEnlisted, WordFull}
 use Rattle.ucl_words.specs.WordViews.{WordPass}
-use Rattle.ucl_c_handles.specs.declared.board_pass.AnyPass.{AnyPass}
-use Rattle.ucl_c_handles.specs.declared.board_pass.AnyPass.TheVariants.{Nobody, Reader, Reporter}
-use Rattle.ucl_c_handles.specs.declared.board_pass.WhyNot.{WhyNot}
-use Rattle.ucl_c_handles.specs.declared.board_pass.WhyNot.TheVariants as why
+use Rattle.ucl_c.specs.declared.board_pass.AnyPass.{AnyPass}
+use Rattle.ucl_c.specs.declared.board_pass.AnyPass.TheVariants.{Nobody, Reader, Reporter}
+use Rattle.ucl_c.specs.declared.fault.Fault.{Fault}
+use Rattle.ucl_c.specs.declared.fault.Fault.TheVariants.{FullBoard, NoPass, NotAReader, NotAReporter, OutOfMemory}
 
 -- a share of this board, and a pass of it or none
 pub record PassHeld : Type 0 where
@@ -77,28 +77,28 @@ IsNumberOf _ number = ⊥
 -- Why a call is not done. --
 
 -- only a reader's pass is split or enlisted
-abbrev pub fault_of_split : AnyPass → Option WhyNot
-fault_of_split Nobody = Some why.NoPass
+abbrev pub fault_of_split : AnyPass → Option Fault
+fault_of_split Nobody = Some NoPass
 fault_of_split (Reader k) = None
-fault_of_split (Reporter k) = Some why.NotAReader
+fault_of_split (Reporter k) = Some NotAReader
 
 -- only a reporter's pass reports, and has a number
-abbrev pub fault_of_report : AnyPass → Option WhyNot
-fault_of_report Nobody = Some why.NoPass
-fault_of_report (Reader k) = Some why.NotAReporter
+abbrev pub fault_of_report : AnyPass → Option Fault
+fault_of_report Nobody = Some NoPass
+fault_of_report (Reader k) = Some NotAReporter
 fault_of_report (Reporter k) = None
 
-abbrev pub fault_of_read : AnyPass → Option WhyNot
-fault_of_read Nobody = Some why.NoPass
+abbrev pub fault_of_read : AnyPass → Option Fault
+fault_of_read Nobody = Some NoPass
 fault_of_read _ = None
 
--- where a call that asks for memory has no fault, want of memory is the one cause left
-abbrev pub cause_of : Option WhyNot → WhyNot
-cause_of None = why.OutOfMemory
-cause_of (Some fault) = fault
+-- where a call that asks for memory finds no other fault, want of memory is the one that is left
+abbrev pub or_memory : Option Fault → Fault
+or_memory None = OutOfMemory
+or_memory (Some fault) = fault
 
 -- why nobody was enlisted, and what became of the pass: a full board has cost it half of its share, and else it is as it was
-abbrev pub IsNotEnlisted : WhyNot → AnyPass → AnyPass → Type 0
-IsNotEnlisted why.FullBoard (Reader k) (Reader m) = SplitsForNone k m
-IsNotEnlisted why.FullBoard _ _ = ⊥
-IsNotEnlisted cause before after = (after ≡ before) × (cause ≡ cause_of (fault_of_split before))
+abbrev pub IsNotEnlisted : Fault → AnyPass → AnyPass → Type 0
+IsNotEnlisted FullBoard (Reader k) (Reader m) = SplitsForNone k m
+IsNotEnlisted FullBoard _ _ = ⊥
+IsNotEnlisted fault before after = (after ≡ before) × (fault ≡ or_memory (fault_of_split before))
