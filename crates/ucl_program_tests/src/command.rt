@@ -264,8 +264,8 @@ fn ran<R: Threads + Wait + Sync>(
             full: Full::TakesNone,
         });
         let asked = line_of(alloc, &words);
-        let opened = WordBoard::open(rt, alloc);
-        run(rt, alloc, asked, opened, &mut source, &mut sink, &mut told)
+        let open = || WordBoard::open(rt, alloc);
+        run(rt, alloc, asked, open, &mut source, &mut sink, &mut told)
     };
     Ok((status, out, errors))
 }
@@ -376,14 +376,17 @@ fn faults_are_told(rt: HostRuntime) -> Result<(), Fail> {
     Ok(())
 }
 
-/// What a night of the script comes to on the board that was opened for it, with so much room for its output, and how much of that was taken.
-fn played_on<B: LiveBoard + Drop, R: Threads + Wait + Sync>(
+/// What a night of the script comes to on the board that is opened for it, with so much room for its output, and how much of that was taken.
+fn played_on<B: LiveBoard + Drop, O, R: Threads + Wait + Sync>(
     rt: &R,
     alloc: Global,
-    opened: Result<(B, B::ReaderPass), OutOfMemory>,
+    opening: O,
     room: usize,
 ) -> (Result<(), RunFault>, usize)
-    requires { IfOk opened (λ it. B.is_reader it.0 it.1) }
+where
+    O: FnOnce() -> Result<(B, B::ReaderPass), OutOfMemory> + Drop,
+    requires callable { O.pre opening }
+    requires own { (r : _) → O.post opening r → IfOk r (λ it. B.is_reader it.0 it.1) }
 {
     let mut out = Vec::new(alloc);
     let done = {
@@ -399,7 +402,7 @@ fn played_on<B: LiveBoard + Drop, R: Threads + Wait + Sync>(
             readings: 0,
             profile: Profile::Uefa,
         };
-        obey(rt, alloc, line, opened, &mut source, &mut sink)
+        obey(rt, alloc, line, opening, &mut source, &mut sink)
     };
     (done, out.len())
 }
@@ -408,11 +411,11 @@ fn played_on<B: LiveBoard + Drop, R: Threads + Wait + Sync>(
 fn nights_on_boards_that_are_handed_in(rt: HostRuntime) -> Result<(), Fail> {
     let alloc = rt.alloc();
     let whole = SCREEN.len() + 6;
-    let in_cell = played_on(&rt, alloc, CellBoard::open(&rt, alloc), usize::MAX);
+    let in_cell = played_on(&rt, alloc, || CellBoard::open(&rt, alloc), usize::MAX);
     assert_eq!(rt; in_cell, (Ok(()), whole));
-    let in_words = played_on(&rt, alloc, WordBoard::open(&rt, alloc), usize::MAX);
+    let in_words = played_on(&rt, alloc, || WordBoard::open(&rt, alloc), usize::MAX);
     assert_eq!(rt; in_words, (Ok(()), whole));
-    let cut = played_on(&rt, alloc, WordBoard::open(&rt, alloc), 9);
+    let cut = played_on(&rt, alloc, || WordBoard::open(&rt, alloc), 9);
     assert_eq!(rt; cut, (Err(RunFault::WriteFailed { written: 9 }), 9));
     Ok(())
 }
