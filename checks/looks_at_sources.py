@@ -14,7 +14,7 @@ UNCOUNTED = re.compile(r"\b(peek|park\w*|wake_\w+|load_new_seat|swap_new_seat|in
 STEP = re.compile(r"\bimpl\b[^{]*\b(Play|Outcome|Split|Join)\b[^{]* for (?:\w+::)*([A-Za-z]+)")
 # The kinds of step of each board, in the order of the file of its rule.
 KINDS = {
-    "crates/ucl_pass/src/rule.rt": "Outcome LooksAt, Outcome Adds, Outcome Reads, Outcome Counts, Outcome Enlists, Split SecondPass, Split Note, Join Note",
+    "crates/ucl_pass/src/rule.rt": "Outcome Looks, Outcome Reads, Outcome Adds, Outcome Enlists, Split SecondPass, Split Note, Join Note",
     "crates/ucl_words/src/rule.rt": "Play Look, Play First, Play Second, Play CountEnlisted, Play Swap, Play Enlist, Split SecondPass, Split Note, Join Note",
 }
 # What boards, passes and handles of C have, and what that is of.
@@ -26,8 +26,8 @@ type Seat = atomic_table::Seat<Entry, WordView>;
 struct CellBoard { cell: Cell, }
 struct CellReaderPass { seat: Seat, }
 struct CellReporterPass { seat: Seat, number: ReporterNo, accepted: u16, }
-type Cell = RuledSeqCell<[u64; 13], CellView, OneHistory, 13>;
-type Seat = Pass<[u64; 13], CellView>;
+type Cell = RuledSeqCell<[u64; 13], View, OneHistory, 13>;
+type Seat = Pass<[u64; 13], View>;
 struct BoardPass { board: Arc<WordBoard, Global>, pass: AnyPass, }
 enum AnyPass { Nobody, Reader(WordReaderPass), Reporter(WordReporterPass), }
 struct Handle { at: *mut UclboardPass, ghost value: { BoardPass }, }""".split("\n")
@@ -37,7 +37,7 @@ TESTS = re.compile(r"_tests$|_devices$|_hostile$|_bench")
 SHARED = re.compile(r"\bsync\b|\bstatic mut\b|\b(?:atomic_table|crossbeam_\w+)::")
 SHARES = re.compile(
     r": (?:ghost |use std::sync::(?:Arc|Wait);$)|/ucl_example/.*: use std::sync::atomic::{AtomicBool, Ordering};$"
-    r"|/ucl_words/.*\batomic_table::|/ucl_pass/.*: use (?:atomic_table|crossbeam_utils::(?:atomic::seq_cell|rule))::"
+    r"|/ucl_words/.*\batomic_table::|/ucl_theorems/.*: use atomic_table::TableRule;$|/ucl_pass/.*: use (?:atomic_table|crossbeam_utils::(?:atomic::seq_cell|rule))::"
 )
 # What the types of the boards and of their readings implement, and no more: what is derived, and behind a bar what is written. So no load is of a
 # kind of its own, and no equality is written, and no text but that of refusals.
@@ -52,10 +52,9 @@ TRAITS = {
     "ucl_board": {"BadWordAt": "Clone Copy Debug Eq Error PartialEq", "Board": f"{PLAIN} | Model", "Entry": PLAIN, "Reading": PLAIN},
     "ucl_live_board": {"Brand": "| Asking", "Strangers": "Clone Copy Debug Eq Error PartialEq", "TooManyReporters": "Drop Error", "View": "| Model"},
     "ucl_pass": {
-        **dict.fromkeys(["Adds<K>", "Counts<K>", "Enlists<K>", "LooksAt<K>", "Reads<K>"], "| Outcome<[u64; 13], CellView>"),
+        **dict.fromkeys(["Adds<K>", "Enlists", "Looks", "Reads"], "| Outcome<[u64; 13], View>"),
         **dict.fromkeys(["CellReaderPass", "CellReporterPass"], "Drop | Model"), "CellBoard": "Drop | LiveBoard Model",
-        "CellView": "| Model", "Note": "| Join<CellView> Split<CellView>", "OneHistory": "| Protocol<[u64; 13], CellView>",
-        "SecondPass": "| Split<CellView>",
+        "Note": "| Join<View> Split<View>", "OneHistory": "| Protocol<[u64; 13], View>", "SecondPass": "| Split<View>",
     },
     "ucl_words": {
         **dict.fromkeys(["CountEnlisted<K>", "Enlist<K>", "First", "Look<K>", "Second<K>", "Swap<K>"], "| Play<Entry, WordView>"),

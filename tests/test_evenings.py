@@ -1,23 +1,17 @@
 """`ucl_live`: rows are answered as they come, on pipes that are held open, and a record of rows is answered the same each time."""
 
 import itertools
+import json
 import shutil
 
 import pytest
-from conftest import EXAMPLES, tabled, text_of
-from model import CLUBS, ROSTER, Evening, fresh, screen
+from conftest import EXAMPLES, Case, tabled, text_of
+from model import CLUBS, FIXTURES, ROSTER, Evening, fresh, screen
 
 example = lambda name: text_of(EXAMPLES / name)
 FED = ["one_goal", "two_matches", "head_to_head", "reopened", "plus_lost"]
 SHOWN = ["two_matches", "head_to_head", "plus_lost"]
 AWAY, AWAY_IN_TIE = example("away_goals_night.csv"), "".join(example("away_goals_night.away_in_tie").splitlines(True)[-6:])
-
-test_what_feed_and_show_write_is_answered = tabled({
-    **{f"feed {name}": ("ucl_live", example(f"{name}.csv") + "words,,,\n", example(f"{name}.expected")) for name in FED},
-    **{f"show {name}": ("ucl_live --group H", example(f"{name}.csv") + "words,,,\nscreen,,,\n",
-                        example(f"{name}.expected") + example(f"{name}_sheet.expected").replace("GROUP A", "GROUP H")) for name in SHOWN},
-    "an order": ("ucl_live --order away-in-tie", AWAY + "screen,,,\n", "".join(Evening([]).of(AWAY)[1]) + AWAY_IN_TIE),
-})
 
 BAD = [
     "0,1,0,kickoff", "256,1,0,kickoff", "1,0,0,kickoff", "1,13,0,kickoff", "1,1,65536,kickoff", "1,1,-1,kickoff", "1, 1,0,kickoff",
@@ -198,3 +192,76 @@ def test_same_rows_same_table(run):
     for lines in itertools.permutations(answers):
         assert run("ucl_follow", input="".join([*answers, *lines])).output.endswith(TABLE)
         assert run("ucl_follow", input="".join(lines)).output.endswith(TABLE)
+
+
+# ---- what JSON says, and what the text says
+
+PLACE = "{place} {:1} {club:20}{played:>3}{won:>3}{drawn:>3}{lost:>3}{goals_for:>4}{goals_against:>4}{goal_difference:>+5}{points:>4}\n"
+MATCH = "match {match:>2} v{number:04} {state:9} {:>2}-{} Y {}-{} E {}-{} by {reporter:>3} {} v {}\n"
+
+
+def said(members):
+    """The text that the members of an answer say, in the forms of docs/ROWS.md and docs/RULES.md."""
+    if members["reply"] == "ok":
+        return "{row} ok {match} {number} {version}\n".format(**members)
+    if members["reply"] == "refused":
+        return "{row} refused {code} {name}".format(**members) + (f" {members['number']}" if "number" in members else "") + "\n"
+    if members["reply"] == "words":
+        return "".join(f"word,{game},{word},\n" for game, word in enumerate(members["words"], 1))
+    if members["reply"] == "matches":
+        club = lambda slot: members["clubs"][slot - 1]["club"]
+        sides = lambda it: (*it["score"], *it["yellows"], *it["expulsions"], *map(club, FIXTURES[it["match"] - 1]))
+        return "".join(MATCH.format(*sides(it), **it) for it in members["matches"])
+    head = "GROUP {group} v{version:05} IN PLAY {in_play}\n    Club                  P  W  D  L  GF  GA   GD Pts\n".format(**members)
+    return head + "".join(PLACE.format(it["mark"], **it) for it in members["table"])
+
+
+REFUSED = """1,1,0,kickoff
+1,1,0,goal-home
+1,1,1,kickoff
+1,2,0,goal-home
+1,1,1,reopen
+1,1,1,disallow-away
+1,1,1,second-yellow-home
+1,1,1,fulltime
+1,1,2,goal-home
+x
+"""
+REPLIES = """5 ok 1 1 1
+6 refused 1 stale 1
+7 refused 4 already-started
+8 refused 3 not-started
+9 refused 9 not-finished
+10 refused 6 no-goal
+11 refused 7 no-caution
+12 ok 1 2 2
+13 refused 2 finished
+14 refused 20 bad-row
+"""
+GOALS = "".join(f"9,3,{number},goal-away\n" for number in range(1, 65))
+PLAYED = CLUBS + "1,1,0,kickoff\n2,1,1,goal-home\n2,1,2,yellow-away\n255,1,3,red-home\n"
+MATCHES = "match  1 v0004 IN PLAY    1-0 Y 0-1 E 1-0 by 255 Bravo v Charlie\n" + "".join(
+    f"match {game:>2} v0000 SCHEDULED  0-0 Y 0-0 E 0-0 by   0 {sides}\n" for game, sides in enumerate(
+        "Delta v Alpha,Alpha v Bravo,Charlie v Delta,Charlie v Alpha,Bravo v Delta,Alpha v Charlie,Delta v Bravo,Charlie v Bravo,Alpha v Delta,Bravo v Alpha,Delta v Charlie".split(","), 2))
+ASKED = {
+    **{name: ("", example(f"{name}.csv") + "words,,,\n", example(f"{name}.expected")) for name in FED},
+    **{f"{name}, its screen": (" --group H", example(f"{name}.csv") + "words,,,\nscreen,,,\n",
+                               example(f"{name}.expected") + example(f"{name}_sheet.expected").replace("GROUP A", "GROUP H")) for name in SHOWN},
+    "an order": (" --order away-in-tie", AWAY + "screen,,,\n", "".join(Evening([]).of(AWAY)[1]) + AWAY_IN_TIE),
+    "refusals": ("", CLUBS + REFUSED, REPLIES),
+    "too many goals": ("", CLUBS + "1,3,0,kickoff\n" + GOALS, "".join(f"{n + 4} ok 3 {n} {n}\n" for n in range(1, 65)) + "69 refused 8 limit-reached\n"),
+    "matches": ("", PLAYED + "matches,,,\n", "5 ok 1 1 1\n6 ok 1 2 2\n7 ok 1 3 3\n8 ok 1 4 4\n" + MATCHES),
+    "editions": ("", RECORD + "screen,,,\n", ANSWERS + TABLE),
+    "screens": (" --screens", RECORD, Evening(["--screens"]).of(RECORD)[1]),
+}
+
+test_text = tabled({name: ("ucl_live" + words, *more) for name, (words, *more) in ASKED.items()})
+
+
+@pytest.mark.quick
+@pytest.mark.parametrize("case, text", [(Case("ucl_live", ("--format", "json", *words.split()), rows), text) for words, rows, text in ASKED.values()], ids=list(ASKED))
+def test_json_says_what_the_text_says(run, case, text):
+    """Each answer, member by member: numbers, names, words, columns of the screen and parts of a match's line."""
+    answers = run(case.program, *case.words, input=case.input)
+    assert (answers.status, answers.errors) == (0, "")
+    assert "".join(said(json.loads(line)) for line in answers.output.splitlines()) == text

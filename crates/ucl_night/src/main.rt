@@ -25,12 +25,11 @@ fn main(rt: HostRuntime) -> ExitCode {
         Ok(words) => line_of(alloc, &words),
         Err(fault) => Err(fault),
     };
-    let opened = WordBoard::open(&rt, alloc);
     let status = run(
         &rt,
         alloc,
         asked,
-        opened,
+        || WordBoard::open(&rt, alloc),
         &mut source,
         &mut sink,
         &mut errors,

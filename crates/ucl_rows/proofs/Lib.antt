@@ -2,7 +2,6 @@ pub mod Common
 pub mod Elements
 pub mod Texts
 pub mod NightParts
-pub mod Driven
 pub mod WordDigits
 pub mod RowBytes
 pub mod RowEnds

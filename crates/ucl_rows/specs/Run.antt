@@ -86,14 +86,9 @@ IsStopped before failed old new text _ = ⊥
 
 -- Runs whose lines a driver hands to a machine. --
 
--- the fault of the driver, as the run tells it
-abbrev pub fault_of : PumpFault RunFault → RunFault
-fault_of (driver.ReadFailed bytes) = Input (input.ReadFailed bytes)
-fault_of driver.TooLong = Input input.TooLong
-fault_of (driver.WriteFailed written) = WriteFailed written
-fault_of (driver.Machine fault) = fault
-
--- a failed write is told only where the sink has failed; after any other fault the sink is as it was in this
-abbrev pub SinkFails : Bool → Bool → RunFault → Type 0
-SinkFails failed failed2 (WriteFailed written) = failed2 ≡ true
-SinkFails failed failed2 _ = failed2 ≡ failed
+-- the fault of the driver, where Gives turns a fault of a run into one of the machine
+abbrev pub IsOfDriver : {F : Type 0} → (RunFault → F → Type 0) → PumpFault F → F → Type 0
+IsOfDriver Gives (driver.ReadFailed bytes) fault = Gives (Input (input.ReadFailed bytes)) fault
+IsOfDriver Gives driver.TooLong fault = Gives (Input input.TooLong) fault
+IsOfDriver Gives (driver.WriteFailed written) fault = Gives (WriteFailed written) fault
+IsOfDriver Gives (driver.Machine own) fault = fault ≡ own

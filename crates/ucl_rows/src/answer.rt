@@ -124,8 +124,8 @@ fn bad_line(row: u64) -> ReplyLine
     line
 }
 
-/// The line of a reply, where so many events were accepted before.
-fn reply_line(row: u64, game: u8, before: u16, reply: Result<Accepted, Refusal>) -> ReplyLine
+/// The line of a reply, where so many events were accepted before. It asks for no memory.
+pub fn reply_line(row: u64, game: u8, before: u16, reply: Result<Accepted, Refusal>) -> ReplyLine
     requires { before < 2 ^ 16 - 1 }
     ensures { result.bytes ≡ line_of_reply row game before reply }
 {

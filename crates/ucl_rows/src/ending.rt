@@ -18,7 +18,7 @@ pub fn tell_refusal<E: Sink>(errors: &mut E, text: &str) -> u8
     ensures status { result ≡ 2 }
     ensures told { Tells (E.failed errors.new) (E.taken errors.old) (E.taken errors.new) text.now }
 {
-    let _ = put_text(errors, text);
+    let _ = put_text(errors, text.as_bytes());
     REFUSED_ARGUMENTS
 }
 
@@ -40,7 +40,7 @@ pub fn ended_unasked<W: Sink, E: Sink>(sink: &mut W, errors: &mut E, fault: Line
 {
     match fault {
         LineFault::Help(text) => {
-            let done = put_text(sink, text.as_str());
+            let done = put_text(sink, text.as_bytes());
             ended(errors, done)
         }
         LineFault::Refused(text) => tell_refusal(errors, text.as_str()),

@@ -4,7 +4,7 @@ ghost use Rattle.std.specs.Prelude.{◌≡◌, Some};
 ghost use Rattle.ucl_rows.specs.declared.fault.RunFault.TheVariants.{OutOfMemory, TooManyReporters, Strangers};
 ghost use Rattle.ucl_screen.specs.Texts.{line_text};
 ghost use Rattle.ucl_rows.specs.Faults.{fault_text, handed_on, status};
-ghost use Rattle.ucl_rows.specs.Run.{fault_of};
+ghost use Rattle.ucl_rows.specs.Run.{IsOfDriver};
 
 use std::alloc::AllocError;
 use std::{error, fmt};
@@ -90,20 +90,6 @@ impl From<ucl_word::OutOfMemory> for RunFault {
     }
 }
 
-/// The fault of a run whose lines a driver hands to a machine.
-impl From<PumpFault<RunFault>> for RunFault {
-    ghost from_gives = { λ fault f. f ≡ fault_of fault };
-
-    fn from(fault: PumpFault<RunFault>) -> RunFault {
-        match fault {
-            PumpFault::ReadFailed { bytes } => RunFault::Input(InputFault::ReadFailed { bytes }),
-            PumpFault::TooLong => RunFault::Input(InputFault::TooLong),
-            PumpFault::WriteFailed { written } => RunFault::WriteFailed { written },
-            PumpFault::Machine(fault) => fault,
-        }
-    }
-}
-
 /// The pass that came back is dropped.
 impl<P: Drop> From<ucl_live_board::TooManyReporters<P>> for RunFault {
     ghost from_gives = { λ _ f. f ≡ TooManyReporters };
@@ -120,6 +106,20 @@ impl From<ucl_live_board::Strangers> for RunFault {
         RunFault::Strangers {
             version: error.version,
         }
+    }
+}
+
+/// The fault of a run whose lines a driver hands to a machine: that of the machine, or one of a run.
+pub fn of_driver<F: From<RunFault>>(fault: PumpFault<F>) -> F
+    ensures { IsOfDriver F.from_gives fault result }
+{
+    match fault {
+        PumpFault::ReadFailed { bytes } => F::from(RunFault::Input(InputFault::ReadFailed {
+            bytes,
+        })),
+        PumpFault::TooLong => F::from(RunFault::Input(InputFault::TooLong)),
+        PumpFault::WriteFailed { written } => F::from(RunFault::WriteFailed { written }),
+        PumpFault::Machine(fault) => fault,
     }
 }
 

@@ -14,10 +14,12 @@ mod row;
 mod telling;
 mod words;
 
-pub use answer::{Answer, ReplyLine, bad_answer, matches_answer, reply_answer, screen_answer};
+pub use answer::{
+    Answer, ReplyLine, bad_answer, matches_answer, reply_answer, reply_line, screen_answer,
+};
 pub use bad_row::{BadField, bad_field};
 pub use ending::{ended, ended_unasked, tell_refusal};
-pub use fault::{RunFault, status_of};
+pub use fault::{RunFault, of_driver, status_of};
 pub use line::{LineReader, plain_row};
 pub use output::{put_bytes, put_text, put_under};
 pub use row::{MOST_LINE_BYTES, RowCount, RowFields};

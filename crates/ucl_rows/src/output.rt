@@ -7,14 +7,14 @@ ghost use Rattle.ucl_rows.specs.Run.{IsCutShort, IsStopped};
 use crate::fault::RunFault;
 use ucl_screen::{Sink, give_all};
 
-/// Writes a whole text. A sink that has failed is not called again, and none is called with nothing.
-pub fn put_text<W: Sink>(sink: &mut W, text: &str) -> Result<(), RunFault>
+/// Writes all bytes of a text. A sink that has failed is not called again, and none is called with nothing.
+pub fn put_text<W: Sink>(sink: &mut W, text: &[u8]) -> Result<(), RunFault>
     ensures all { OnOk result (Appends (W.taken sink.old) (W.taken sink.new) text.now) }
     ensures part { IfErr result (IsCutShort (W.failed sink.new) (W.taken sink.old)
         (W.taken sink.new) text.now) }
     ensures sound { OnOk result (W.failed sink.new ≡ W.failed sink.old) }
 {
-    match give_all(sink, text.as_bytes()) {
+    match give_all(sink, text) {
         Ok(()) => Ok(()),
         Err(written) => Err(RunFault::WriteFailed { written }),
     }

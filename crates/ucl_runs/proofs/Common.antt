@@ -1,11 +1,10 @@
 -- The words and lemmas from elsewhere that the proofs of this crate share.
-pub use Rattle.csv.specs.Reading.{default_config, records}
 pub use Rattle.json.specs.Print.{quoted}
 pub use Rattle.serde_json.specs.Data.{Data, array, member, no_members, null, object, string, unsigned}
 pub use Rattle.serde_json.specs.Find.{of_integer}
 pub use Rattle.serde_json.specs.Written.{compact_text, number_text}
 pub use Rattle.std.proofs.Common.{Bool, List, None, Option, Some, [], ap, append-nil, append_assoc, ap₂, arith, codes, cond, drop, eq-eqb}
-pub use Rattle.std.proofs.Common.{false, filter, get_or, inl, inr, le-leb, leb-true, length, length-append, map, min, ne_eqb, negsuc, pos}
+pub use Rattle.std.proofs.Common.{false, get_or, inl, inr, le-leb, leb-true, length, length-append, map, min, ne_eqb, negsuc, pos}
 pub use Rattle.std.proofs.Common.{refl, rules, set, slice_get, subst, suc, sym, take, true, zero, ℕ, ℤ, ⊎_elim, ◌%◌, ◌&&◌, ◌*◌, ◌++◌, ◌+◌}
 pub use Rattle.std.proofs.Common.{◌-ℤ◌, ◌-◌, ◌/◌, ◌<◌, ◌==◌, ◌^◌, ◌∙◌, ◌∷◌, ◌≡◌, ◌≢◌, ◌≤◌, ◌⊎◌}
 pub use Rattle.std.proofs.Math.Nat.{pow-suc}
@@ -68,37 +67,31 @@ pub use Rattle.ucl_runs.specs.Answered.{HasNumbers, IsMoment}
 pub use Rattle.ucl_rows.specs.BadRows.{field_name, shown_text}
 pub use Rattle.ucl_runs.specs.ByHistory.{attempts_of, attempts_on}
 pub use Rattle.ucl_runs.specs.Feed.{IsFed}
-pub use Rattle.ucl_rows.specs.Lines.{line_of_reply, word_lines}
+pub use Rattle.ucl_rows.specs.Lines.{line_of_reply}
 pub use Rattle.ucl_runs.specs.Follow.{after_told, follow_text, is_later, is_newer, is_shown}
 pub use Rattle.ucl_runs.specs.Follow.{passed_over, shown_too, told_text, unseen, version_at, whole_lines}
 pub use Rattle.ucl_runs.specs.Holding.{HasNoAnswer, HasNoEnd, after_bytes, answers_to, evening_of, missing_at}
 pub use Rattle.ucl_rows.specs.InputLines.{last_lines, lines_of}
 pub use Rattle.ucl_runs.specs.Records.{moment_at, moment_now, moment_with}
 pub use Rattle.ucl_runs.specs.Latest.{IsNoNewer, IsToldIn}
-pub use Rattle.ucl_rows.specs.Lines.{word_line}
-pub use Rattle.ucl_runs.specs.LiveLaws.{RaisesVersion}
 pub use Rattle.ucl_runs.specs.LiveText.{Evening, after_lines, answer_at, answer_of, answer_said, answers, live_text}
-pub use Rattle.ucl_rows.specs.Answers.{bad_line}
 pub use Rattle.ucl_runs.specs.LiveText.{missing_after, next, next_title, screen_after, start_of}
 pub use Rattle.ucl_rows.specs.Answers.{reply_answer, screen_answer}
 pub use Rattle.ucl_runs.specs.Nights.{ComesFirst, EachMatchHasOneReporter, HasEntered, HasShown, IsEnteredAt, IsMerge, IsOnDuty}
-pub use Rattle.ucl_runs.specs.Nights.{IsRefusedAt, TakesPlace, attempt_by, last_shown, night_text, number_of_two}
-pub use Rattle.ucl_rows.specs.Reading.{AreJoining, EndsRow, IsBehindEnds, IsFieldBefore}
-pub use Rattle.ucl_rows.specs.Reading.{is_joining}
+pub use Rattle.ucl_runs.specs.Nights.{IsRefusedAt, TakesPlace, attempt_by, last_shown, number_of_two}
 pub use Rattle.ucl_runs.specs.Requests.{asked_by, event_or_bad, request_of}
-pub use Rattle.ucl_rows.specs.Rows.{Nothing, Other, Row, Said, fits, of_rows, said_on}
+pub use Rattle.ucl_rows.specs.Rows.{Nothing, Other, Row, Said, fits, said_on}
 pub use Rattle.ucl_rows.specs.Run.{IsStopped, TextHas}
 pub use Rattle.ucl_runs.specs.Show.{IsShown}
 pub use Rattle.ucl_runs.specs.Stages.{Beginning, Naming, Open, Refused, Stage, after_beginning, after_club, after_row}
 pub use Rattle.ucl_runs.specs.Stages.{after_title, club_said, missing, next_board, next_stage}
 pub use Rattle.ucl_runs.specs.Stages.{with_roster}
 pub use Rattle.ucl_runs.specs.NewBoards.{NewBoard, begins_again}
-pub use Rattle.ucl_runs.specs.LiveText.{again, again_at, answer_with, begun_again, newness_with, next_by, stage_with, stays_new, title_with}
+pub use Rattle.ucl_runs.specs.LiveText.{again, again_at, answer_with, newness_with, next_by, stage_with, stays_new, title_with}
 pub use Rattle.ucl_runs.specs.Requests.{is_bad}
 pub use Rattle.ucl_runs.specs.Styles.{styled}
 pub use Rattle.ucl_runs.specs.Titles.{asked_group, asked_title, is_as_asked, is_asked, is_group_row, is_same_order, title_by, title_said}
 pub use Rattle.ucl_rows.specs.declared.fault.RunFault.{RunFault}
-pub use Rattle.ucl_rows.specs.declared.fault.RunFault.TheVariants.{Strangers}
 pub use Rattle.ucl_runs.specs.declared.following.Following.{Following}
 pub use Rattle.ucl_runs.specs.declared.live_fault.BeginningFault.{BeginningFault}
 pub use Rattle.ucl_runs.specs.declared.live_fault.BeginningFault.TheVariants.{OtherGroup}
@@ -110,8 +103,8 @@ pub use Rattle.ucl_screen.specs.Events.{attempt_of, event_of, ◌>>=◌}
 pub use Rattle.ucl_screen.specs.Numbers.{hex_digits, in_range, number}
 pub use Rattle.ucl_screen.specs.Parsing.{MeansNight, night_seen}
 pub use Rattle.ucl_screen.specs.Rows.{FourFields}
-pub use Rattle.ucl_screen.specs.Screen.{IsGroup, in_play, letter_in, row_line, screen_text}
-pub use Rattle.ucl_screen.specs.Script.{Script, club_of, word_of_row}
+pub use Rattle.ucl_screen.specs.Screen.{IsGroup, in_play, letter_in, screen_text}
+pub use Rattle.ucl_screen.specs.Script.{Script}
 pub use Rattle.ucl_screen.specs.WordsRead.{read_words}
 pub use Rattle.ucl_screen.specs.declared.night.NightEvent.{NightEvent}
 pub use Rattle.ucl_word.proofs.Sequences.{at_below}
@@ -126,8 +119,8 @@ pub use Rattle.ucl_word.specs.declared.event.Accepted.{Accepted}
 pub use Rattle.ucl_word.specs.declared.event.EventCall.{EventCall}
 pub use Rattle.ucl_word.specs.declared.event.Kind.{Kind}
 pub use Rattle.ucl_word.specs.declared.event.Kind.TheVariants.{Disallow, Goal, KickOff, Red, SecondYellow, Yellow}
-pub use Rattle.ucl_word.specs.declared.event.Side.TheVariants.{Away, Home}
+pub use Rattle.ucl_word.specs.declared.event.Side.TheVariants.{Home}
 pub use Rattle.ucl_word.specs.declared.record.MatchRecord.{MatchRecord}
-pub use Rattle.ucl_word.specs.declared.record.State.TheVariants.{Finished, InPlay, Scheduled}
+pub use Rattle.ucl_word.specs.declared.record.State.TheVariants.{Scheduled}
 pub use Rattle.ucl_word.specs.declared.refusal.Refusal.{Refusal}
 pub use mathlib.Core.List.{IsPrefix}

@@ -17,9 +17,7 @@ pub mod LiveRuns
 pub mod Boards
 pub mod JsonLines
 pub mod Uncut
-pub mod LiveTold
 pub mod GoodBoards
-pub mod SameText
 pub mod FollowShown
 pub mod FollowRuns
 pub mod Answered

@@ -9,12 +9,12 @@ use Rattle.ucl_runs.specs.declared.night.NightEnd.{NightEnd}
 use Rattle.ucl_runs.specs.Nights.{IsNightEnd, night_output}
 use Rattle.ucl_runs.specs.Program.{IsPlayed, IsScriptOnDuty, Obeys, streams}
 
-module _ {B R P X : Type 0} (live : boards.Ghosts B R P) (opened : Result (B × R) X) (profile : Profile) (group readings : ℕ) where
+module _ {B R P X : Type 0} (live : boards.Ghosts B R P) (Opens : Result (B × R) X → Type 0) (profile : Profile) (group readings : ℕ) where
   abbrev Played : List ℕ → List ℕ → Type 0
-  Played = IsPlayed live opened profile group readings
+  Played = IsPlayed live Opens profile group readings
 
   pub played : (known : Option (List ℕ)) (night : Script) (board : B) (pass : R) (end : NightEnd R P) → IfSome known (λ bytes. MeansNight bytes (Ok night))
-      → All IsOnDuty night.events → opened ≡ Ok (board, pass) → IsNightEnd live board pass night.events (styled profile night.clubs group) readings end
+      → All IsOnDuty night.events → Opens (Ok (board, pass)) → IsNightEnd live board pass night.events (styled profile night.clubs group) readings end
       → IfSome known (λ bytes. Played bytes (night_output end.last end.closing))
   played None night board pass end means duty on_it ends = tt
   played (Some bytes) night board pass end means duty on_it ends = record {
@@ -41,7 +41,7 @@ module _ {B R P X : Type 0} (live : boards.Ghosts B R P) (opened : Result (B × 
   pub put : (old new taken : Option (List ℕ)) (reads_before writes_before : Bool) (text : List ℕ) (failed write_failed : Bool) (after : Option (List ℕ))
       (r : Result ⊤ RunFault) → failed ≡ false → IfSome old (λ bytes. Played bytes text) → OnOk r (Appends taken after text)
       → IfErr r (IsStopped 0 write_failed taken after text)
-      → Obeys live opened (Night group readings profile) (streams old reads_before taken writes_before) (streams new failed after write_failed) r
+      → Obeys live Opens (Night group readings profile) (streams old reads_before taken writes_before) (streams new failed after write_failed) r
   put old new taken reads_before writes_before text failed write_failed after (Ok done) reads is out part = record {
     text = has_text old text (Appends taken after) is out;
     kinds = tt;

@@ -15,7 +15,6 @@ pub mod Seen
 pub mod Holding
 pub mod ByHistory
 pub mod UncutLines
-pub mod Members
 pub mod LiveLaws
 pub mod LiveProgram
 pub mod Follow

@@ -1,35 +1,26 @@
 -- What holds of all evenings.
-use Rattle.std.specs.Prelude.{◌≡◌, ⊤, ℕ, ◌+◌, List, [], ◌∷◌, ◌++◌, All, flat_map, Some, None, Result, Ok, Err}
+use Rattle.std.specs.Prelude.{◌≡◌, ⊤, ℕ, ◌+◌, List, [], ◌∷◌, ◌++◌, Some, None}
 use Rattle.std.specs.List.{fold}
-use Rattle.serde_json.specs.Data.{Data}
 use Rattle.ucl_board.specs.declared.entry.Entry.{Entry}
 use Rattle.ucl_board.specs.History.{IsLegal, after_attempt, board_after, board_of}
 use Rattle.ucl_order.specs.Roster.{NamedClub}
 use Rattle.ucl_runs.specs.Feed.{reply_line}
-use Rattle.ucl_rows.specs.Lines.{line_of_reply, word_lines}
 use Rattle.ucl_screen.specs.declared.night.NightEvent.{NightEvent}
-use Rattle.ucl_screen.specs.Matches.{matches_text}
-use Rattle.ucl_screen.specs.Screen.{screen_text}
-use Rattle.ucl_word.specs.declared.event.Accepted.{Accepted}
-use Rattle.ucl_word.specs.declared.refusal.Refusal.{Refusal}
 use Rattle.ucl_word.specs.Rules.{reply_of}
 use Rattle.ucl_board.specs.Fixtures.{IsMatch}
 use Rattle.ucl_board.specs.Words.{game_at, version_of}
-use Rattle.ucl_json.specs.Lines.{AreLinesOfValues, IsOneLine, json_line}
+use Rattle.ucl_json.specs.Lines.{AreLinesOfValues}
 use Rattle.ucl_json.specs.declared.title.Title.{Title}
-use Rattle.ucl_json.specs.Values.{bad_row_value, edition_screen_value, matches_value, reply_value, words_value}
 use Rattle.ucl_command.specs.declared.options.Format.TheVariants.{Text, Json}
-use Rattle.ucl_command.specs.declared.live.LiveArgs.{LiveArgs}
 use Rattle.ucl_runs.specs.declared.live_fault.BeginningFault.{BeginningFault}
 use Rattle.ucl_runs.specs.ByHistory.{answers_by_history, attempts_in}
 use Rattle.ucl_rows.specs.InputLines.{lines_of}
-use Rattle.ucl_runs.specs.Members.{text_told, texts_told}
 use Rattle.ucl_runs.specs.UncutLines.{uncut_lines}
 use Rattle.ucl_rows.specs.Rows.{said_on}
 use Rattle.ucl_runs.specs.NewBoards.{NewBoard}
 use Rattle.ucl_runs.specs.Stages.{Open, Refused}
-use Rattle.ucl_runs.specs.LiveText.{Evening, after_lines, again, answers, begun_again, live_text, next, start_of}
-use Rattle.ucl_rows.specs.Answers.{bad_line, reply_answer}
+use Rattle.ucl_runs.specs.LiveText.{Evening, after_lines, again, answers, begun_again, live_text, next}
+use Rattle.ucl_rows.specs.Answers.{reply_answer}
 
 -- some bytes and the end of a line
 abbrev pub ended : List ℕ → List ℕ
@@ -91,35 +82,3 @@ pub record IsOfUncutLines (e : Evening) (bytes : List ℕ) : Type 0 where
 
 abbrev pub LinesAreReadWhole : Type 0
 LinesAreReadWhole = (e : Evening) (bytes : List ℕ) → IsOfUncutLines e bytes
-
--- an accepted event raised the version by one
-abbrev pub RaisesVersion : Result Accepted Refusal → ℕ → List ℕ → Type 0
-RaisesVersion (Ok accepted) before board = version_of board ≡ before + 1
-RaisesVersion (Err refusal) before board = ⊤
-
--- the members of each answer in JSON say just what the answer says as text: its numbers, the name of a refusal, all columns of the screen, and all of a match's line
-pub record SaysTheSame (row : ℕ) (title : Title) (board : List ℕ) (clubs : List NamedClub) : Type 0 where
-  pub reply : (event : NightEvent) (before : ℕ) (reply : Result Accepted Refusal) → RaisesVersion reply before board
-      → text_told (reply_value row event reply title board clubs) ≡ Some (line_of_reply row event.call.game before reply)
-  pub bad : (field shown : List ℕ) → text_told (bad_row_value row field shown) ≡ Some (bad_line row)
-  pub words : text_told (words_value row board) ≡ Some (word_lines 1 board)
-  pub matches : text_told (matches_value row board clubs) ≡ Some (matches_text board clubs)
-  pub screen : text_told (edition_screen_value row title board clubs) ≡ Some (screen_text title.profile board clubs title.group)
-
-abbrev pub JsonSaysTheSame : Type 0
-JsonSaysTheSame = (row : ℕ) (title : Title) (board : List ℕ) (clubs : List NamedClub) → SaysTheSame row title board clubs
-
--- lines of values, each one line, whose members say this text
-pub record AreLinesSaying (text json : List ℕ) : Type 0 where
-  pub values : List Data
-  pub whole : json ≡ flat_map json_line values
-  pub each : All (λ value. IsOneLine (json_line value)) values
-  pub said : texts_told values ≡ Some text
-
--- the same options, with answers as text
-abbrev pub as_text : LiveArgs → LiveArgs
-as_text options = record options { format = Text }
-
--- an evening in JSON says just what it says as text
-abbrev pub EveningsSayTheSame : Type 0
-EveningsSayTheSame = (options : LiveArgs) (bytes : List ℕ) → options.format ≡ Json → AreLinesSaying (live_text (start_of (as_text options)) bytes) (live_text (start_of options) bytes)

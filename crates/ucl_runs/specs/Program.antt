@@ -26,7 +26,7 @@ use Rattle.ucl_rows.specs.Run.{BlamesOutput, IfInput, IfWriteFailed, TellsMemory
 
 -- The text that a line calls for. --
 
-module _ {B R P X : Type 0} (live : boards.Ghosts B R P) (opened : Result (B × R) X) where
+module _ {B R P X : Type 0} (live : boards.Ghosts B R P) (Opens : Result (B × R) X → Type 0) where
   -- the input is a script of reporters 1 and 2, and this is the output of a night of it on the board that was opened: all that a night promises
   -- holds of its end, and the text has the last screens of its readers, reader 1's under `READER 1`, and its closing screen
   pub record IsPlayed (profile : Profile) (group readings : ℕ) (bytes text : List ℕ) : Type 0 where
@@ -35,7 +35,7 @@ module _ {B R P X : Type 0} (live : boards.Ghosts B R P) (opened : Result (B × 
     pub duty : All IsOnDuty night.events
     pub board : B
     pub pass : R
-    pub on_it : opened ≡ Ok (board, pass)
+    pub on_it : Opens (Ok (board, pass))
     pub end : NightEnd R P
     pub ends : IsNightEnd live board pass night.events (styled profile night.clubs group) readings end
     pub text_is : text ≡ night_output end.last end.closing
@@ -95,17 +95,17 @@ streams left read_failed taken write_failed = record { left = left; read_failed 
 abbrev pub streams_at : {S W : Type 0} → reads.Ghosts S → writes.Ghosts W → S → W → Streams
 streams_at source sink s w = streams (source.left s) (source.failed s) (sink.taken w) (sink.failed w)
 
-module _ {B R P X : Type 0} (live : boards.Ghosts B R P) (opened : Result (B × R) X) where
+module _ {B R P X : Type 0} (live : boards.Ghosts B R P) (Opens : Result (B × R) X → Type 0) where
   -- a line was done, or has the fault r, over these streams
   pub record Obeys (line : Line) (before after : Streams) (r : Result ⊤ RunFault) : Type 0 where
-    pub text : WritesAll (CallsFor live opened line) before.left before.taken after.taken r
+    pub text : WritesAll (CallsFor live Opens line) before.left before.taken after.taken r
     pub kinds : IfErr r (IsFaultOf line before.left)
     pub memory : TellsMemoryApart r
     pub input : IfErr r (λ f. IfInput f (RefusesInput line before.left after.left after.read_failed))
     pub unwritten : WritesNothing before.taken after.taken r
     pub read_failed : after.read_failed ≡ is_read_failed r
     pub write_failed : BlamesOutput after.write_failed r
-    pub written : IfErr r (λ f. IfWriteFailed f (λ written. TextHas (CallsFor live opened line) before.left (StopsWithin line after.write_failed before.taken after.taken written)))
+    pub written : IfErr r (λ f. IfWriteFailed f (λ written. TextHas (CallsFor live Opens line) before.left (StopsWithin line after.write_failed before.taken after.taken written)))
 
   -- what the program does where its words ask for a line, ask for help, are refused, or could not be read for want of memory; and its
   -- exit status, and what it tells on the error sink

@@ -1,6 +1,6 @@
 //! Runs of `feed`.
 
-ghost use Rattle.std.specs.Prelude.{◌≡◌, ◌≤◌, ◌++◌, List, [], map, length, IfOk, IfErr, OnOk, string_bytes};
+ghost use Rattle.std.specs.Prelude.{◌≡◌, ◌≤◌, ◌++◌, List, [], map, length, IfOk, IfErr, OnOk};
 ghost use Rattle.ucl_board.specs.declared.entry.Entry.{Entry};
 ghost use Rattle.ucl_board.specs.Words.{greatest_version};
 ghost use Rattle.ucl_board.specs.History.{after_attempt, accepted_of, board_of};
@@ -9,55 +9,49 @@ ghost use Rattle.ucl_screen.specs.Script.{first_event_row};
 ghost use Rattle.ucl_screen.specs.Parsing.{MeansNight, night_seen};
 ghost use Rattle.ucl_rows.specs.Faults.{IsOfOneThread};
 ghost use Rattle.ucl_runs.specs.Feed.{IsFed, feed_text, reply_line, reply_lines};
-ghost use Rattle.ucl_rows.specs.Lines.{word_lines};
 ghost use Rattle.ucl_screen.specs.Events.{IsBoardAfter, attempt_of};
 ghost use Rattle.ucl_rows.specs.Run.{BlamesInput, BlamesOutput, CallsWithin, TellsMemoryApart, WritesAll, WritesFirst, WritesNothing, is_read_failed};
 
-use crate::lines::{push_accepted, push_refused, push_word};
 use std::alloc::{AllocError, Global};
 use ucl_board::Board;
-use ucl_rows::{RunFault, put_text};
+use ucl_rows::{RunFault, put_text, reply_line, word_lines};
 use ucl_screen::{FIRST_EVENT_ROW, InputFault, NightEvent, Sink, Source, read_night};
 
 /// Enters the event of a row on a board of this version, and writes its reply line. Gives the version afterwards.
 #[tactic(auto, unfolding(crate::specs::Feed::reply_line))]
 fn push_reply(
-    out: &mut String,
+    out: &mut Vec<u8>,
     board: &mut Board,
     version: u16,
-    row: u32,
+    row: u64,
     event: &NightEvent,
 ) -> Result<u16, AllocError>
     requires { version ≤ greatest_version }
     ensures line { (h : List Entry) → IsBoardAfter h board.old version → OnOk result
-        (string_bytes out.new ≡ string_bytes out.old ++ reply_line row h event.now.call) }
+        (out.new.items ≡ out.old.items ++ reply_line row h event.now.call) }
     ensures after { (h : List Entry) → IsBoardAfter h board.old version → IfOk result
         (IsBoardAfter (after_attempt h (attempt_of event.now)) board.new) }
 {
-    match board.report(event.reporter, &event.call) {
-        Ok(accepted) => {
-            let version = version + 1;
-            push_accepted(out, row, event.call.game.get(), accepted.number, version)?;
-            Ok(version)
-        }
-        Err(refusal) => {
-            push_refused(out, row, refusal)?;
-            Ok(version)
-        }
+    let reply = board.report(event.reporter, &event.call);
+    let line = reply_line(row, event.call.game.get(), version, reply);
+    out.extend_from_slice(line.as_str().as_bytes())?;
+    match reply {
+        Ok(_) => Ok(version + 1),
+        Err(_) => Ok(version),
     }
 }
 
 /// Enters the events in turn on a fresh board, and writes their reply lines. Gives the board afterwards.
-fn push_replies(out: &mut String, events: &[NightEvent]) -> Result<Board, AllocError>
+fn push_replies(out: &mut Vec<u8>, events: &[NightEvent]) -> Result<Board, AllocError>
     requires { length events.now ≤ most_bytes }
-    ensures lines { OnOk result (string_bytes out.new
-        ≡ string_bytes out.old ++ reply_lines first_event_row [] events.now) }
+    ensures lines { OnOk result (out.new.items
+        ≡ out.old.items ++ reply_lines first_event_row [] events.now) }
     ensures after { IfOk result (λ board.
         board ≡ board_of (accepted_of (map attempt_of events.now))) }
 {
     let mut board = Board::fresh();
-    let mut version: u16 = 0;
-    let mut row = u32::from(FIRST_EVENT_ROW);
+    let mut version = 0;
+    let mut row = u64::from(FIRST_EVENT_ROW);
     for event in events {
         version = push_reply(out, &mut board, version, row, event)?;
         row += 1;
@@ -65,28 +59,14 @@ fn push_replies(out: &mut String, events: &[NightEvent]) -> Result<Board, AllocE
     Ok(board)
 }
 
-/// Writes a line for each match word. The first has index 1.
-fn push_words(out: &mut String, words: &[u64]) -> Result<(), AllocError>
-    requires { length words.now ≤ 12 }
-    ensures { OnOk result
-        (string_bytes out.new ≡ string_bytes out.old ++ word_lines 1 words.now) }
-{
-    let mut index: u8 = 1;
-    for word in words {
-        push_word(out, index, *word)?;
-        index += 1;
-    }
-    Ok(())
-}
-
 /// The text that the events give.
-fn feed_text(alloc: Global, events: &[NightEvent]) -> Result<String, AllocError>
+fn feed_text(alloc: Global, events: &[NightEvent]) -> Result<Vec<u8>, AllocError>
     requires { length events.now ≤ most_bytes }
-    ensures { IfOk result (λ text. string_bytes text ≡ feed_text events.now) }
+    ensures { IfOk result (λ text. text.items ≡ feed_text events.now) }
 {
-    let mut text = String::new(alloc);
+    let mut text = Vec::new(alloc);
     let board = push_replies(&mut text, events)?;
-    push_words(&mut text, board.words().as_slice())?;
+    text.extend_from_slice(word_lines(&board).as_slice())?;
     Ok(text)
 }
 
@@ -129,5 +109,5 @@ pub fn feed_run<S: Source, W: Sink>(
 {
     let night = read_night(alloc, source)?;
     let text = feed_text(alloc, &night.events)?;
-    put_text(sink, text.as_str())
+    put_text(sink, text.as_slice())
 }

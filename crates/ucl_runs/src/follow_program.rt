@@ -67,7 +67,7 @@ fn told<E: Sink>(errors: &mut E, done: Result<Followed, PumpFault<OutOfMemory>>)
 {
     match done {
         Ok(followed) => {
-            let _ = put_text(errors, counts_line(followed).as_str());
+            let _ = put_text(errors, counts_line(followed).as_str().as_bytes());
             0
         }
         Err(fault) => tell(errors, told_fault(fault)),

@@ -15,7 +15,6 @@ mod following;
 mod gate;
 mod heading;
 mod last_screens;
-mod lines;
 mod live;
 mod live_fault;
 mod live_laws;
@@ -49,8 +48,8 @@ pub use live::live_run;
 pub use live_fault::{BeginningFault, LiveFault};
 pub use live_laws::{
     beginnings_are_answered, boards_begin_again, boards_take_events, evenings_are_sequential,
-    evenings_say_the_same, json_answers_are_lines, json_says_the_same, lines_are_read_whole,
-    refused_evenings_are_silent, replies_are_those_of_feed,
+    json_answers_are_lines, lines_are_read_whole, refused_evenings_are_silent,
+    replies_are_those_of_feed,
 };
 pub use live_program::run_evening;
 pub use night::{NightEnd, night_run, put_night};

@@ -1,6 +1,6 @@
 //! What holds of all evenings. The functions do nothing: they are there for their contracts.
 
-ghost use Rattle.ucl_runs.specs.LiveLaws.{BeginningsAreAnswered, BoardsBeginAgain, BoardsTakeEvents, EveningsAreSequential, EveningsSayTheSame, JsonAnswersAreLines, JsonSaysTheSame, LinesAreReadWhole, RefusedEveningsAreSilent, RepliesAreThoseOfFeed};
+ghost use Rattle.ucl_runs.specs.LiveLaws.{BeginningsAreAnswered, BoardsBeginAgain, BoardsTakeEvents, EveningsAreSequential, JsonAnswersAreLines, LinesAreReadWhole, RefusedEveningsAreSilent, RepliesAreThoseOfFeed};
 
 /// The text of a longer input begins with the text of any beginning of it that ends with a line, and goes on as the text of the rest, from
 /// where the evening stood.
@@ -25,21 +25,9 @@ pub fn boards_begin_again()
     ensures { BoardsBeginAgain }
 {}
 
-/// In JSON the answers of an evening are the lines of values, each one line, whose members say, one after the other, just the text of the same
-/// evening with answers as text.
-pub fn evenings_say_the_same()
-    ensures { EveningsSayTheSame }
-{}
-
 /// In JSON the answers are the lines of values, and none of these has a line feed but its last byte.
 pub fn json_answers_are_lines()
     ensures { JsonAnswersAreLines }
-{}
-
-/// What the members of an answer in JSON say is what the answer says as text: the row, the match, the numbers and the version of a reply, the
-/// number and the name of a refusal and the number that was found, the words, and each column of the screen.
-pub fn json_says_the_same()
-    ensures { JsonSaysTheSame }
 {}
 
 /// An evening answers the lines as they came, though it keeps no more than 258 bytes of one.

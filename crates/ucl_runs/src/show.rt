@@ -54,5 +54,5 @@ pub fn show_run<S: Source, W: Sink>(
 {
     let sheet = read_words(alloc, source)?;
     let text = screen(alloc, &sheet.board, &sheet.roster, group, profile)?;
-    put_text(sink, text.as_str())
+    put_text(sink, text.as_bytes())
 }

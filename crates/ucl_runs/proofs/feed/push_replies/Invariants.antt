@@ -1,5 +1,4 @@
 use Rattle.ucl_runs.proofs.Common.{Entry, List, [], accepted_of, after_attempt, attempt_of, drop, fold, map, ◌++◌, ◌+◌, ◌≡◌}
-use Rattle.std.proofs.Common.{string_bytes}
 use Rattle.ucl_runs.specs.Feed.{reply_lines}
 use Rattle.ucl_screen.specs.Events.{IsBoardAfter}
 use Rattle.ucl_runs.proofs.feed.push_replies.Given as goal
@@ -9,6 +8,6 @@ invariant-loop-event l = record {
   row_is : l.row ≡ 5 + l.event-index;
   history : List Entry;
   board_is : IsBoardAfter history l.board l.version;
-  lines : string_bytes l.out ++ reply_lines l.row history (drop l.event-index l.events) ≡ string_bytes l.initial.out ++ reply_lines 5 [] l.events;
+  lines : l.out.items ++ reply_lines l.row history (drop l.event-index l.events) ≡ l.initial.out.items ++ reply_lines 5 [] l.events;
   entries : fold after_attempt history (map attempt_of (drop l.event-index l.events)) ≡ accepted_of (map attempt_of l.events);
 }
