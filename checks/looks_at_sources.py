@@ -31,16 +31,14 @@ type Seat = Pass<[u64; 13], View>;
 struct BoardPass { board: Arc<WordBoard, Global>, pass: AnyPass, }
 enum AnyPass { Nobody, Reader(WordReaderPass), Reporter(WordReporterPass), }
 struct Handle { at: *mut UclboardPass, ghost value: { BoardPass }, }""".split("\n")
-# Crates of tests and of the benchmark, which hold no board of a user.
-TESTS = re.compile(r"_tests$|_devices$|_hostile$|_bench")
+TESTS = re.compile(r"_tests$|_hostile$|_bench")  # crates of tests and of the benchmark, which hold no board of a user
 # What threads may share, by the lines that name such: a pointer, leave to wait, a board's table or cell, and a flag by which the example's loops end.
 SHARED = re.compile(r"\bsync\b|\bstatic mut\b|\b(?:atomic_table|crossbeam_\w+)::")
 SHARES = re.compile(
     r": (?:ghost |use std::sync::(?:Arc|Wait);$)|/ucl_example/.*: use std::sync::atomic::{AtomicBool, Ordering};$"
     r"|/ucl_words/.*\batomic_table::|/ucl_theorems/.*: use atomic_table::TableRule;$|/ucl_pass/.*: use (?:atomic_table|crossbeam_utils::(?:atomic::seq_cell|rule))::"
 )
-# What the types of the boards and of their readings implement, and no more: what is derived, and behind a bar what is written. So no load is of a
-# kind of its own, and no equality is written, and no text but that of refusals.
+# What types of boards and readings implement, derived and behind a bar written, and no more: so no equality and no load is of its own kind.
 PLAIN = "Clone Copy Debug Eq PartialEq"
 TRAITS = {
     "ucl_word": {
@@ -115,8 +113,8 @@ def kinds_of_step(top):
     texts = collections.defaultdict(str, dict.fromkeys(KINDS, ""))
     for path, _, line in lines_of(top, *sources.crates_of(top)):
         texts[str(path.relative_to(top))] += f"{line.strip()} "
-    told = {file: ", ".join(map(" ".join, STEP.findall(text))) for file, text in texts.items()}
-    return [f"{file}: the kinds of step are {kinds}" for file, kinds in told.items() if kinds != KINDS.get(file, "")]
+    told = ((file, ", ".join(map(" ".join, STEP.findall(text)))) for file, text in texts.items())
+    return [f"{file}: the kinds of step are {kinds}" for file, kinds in told if kinds != KINDS.get(file, "")]
 
 
 def code_of(top, crate):
