@@ -1,7 +1,7 @@
 -- What a call leaves after its steps, on any shared board.
 use Rattle.ucl_live_board.proofs.Common.{◌≡◌, ℕ, ◌+◌, ◌≤◌, List, ◌∷◌, ◌++◌, length, refl, sym, ap, ◌∙◌, arith, le_refl, true≢false, true, false, length-append, append-nil, append_assoc, []}
-use Rattle.ucl_live_board.proofs.Common.{Result, Ok, Err, is_ok, Option, None, IfSome, IfOk, greatest_version, Enlisted, Taken, step_taken, begins_same, begins_through, View, PassView}
-use Rattle.ucl_live_board.proofs.Common.{IsSound, SeesOn, AcceptedReport, Enlistment, pass_view_of, count_of, Takes, kept_of, second_of, Goes, IsOnEnlisted, EnlistSteps}
+use Rattle.ucl_live_board.proofs.Common.{Result, Ok, Err, is_ok, None, IfOk, greatest_version, Enlisted, Taken, step_taken, begins_same, begins_through, View, PassView}
+use Rattle.ucl_live_board.proofs.Common.{IsSound, SeesOn, AcceptedReport, pass_view_of, count_of, Takes, kept_of, second_of, Goes, IsOnEnlisted, EnlistSteps}
 use Rattle.std.specs.List.{AllByRecursion}
 use Rattle.ucl_word.specs.declared.event.EventCall.{EventCall}
 use Rattle.ucl_word.specs.declared.event.Accepted.{Accepted}

@@ -1,7 +1,7 @@
 -- Two rules, one after the other: their logs, and the numbers that were given meanwhile.
 use Rattle.ucl_live_board.proofs.Common.{◌≡◌, ◌⊎◌, inl, inr, ⊎_elim, ℕ, suc, ◌<◌, List, ◌∷◌, ◌++◌, length, sym, ap, ◌∙◌, refl, subst, arith, [], IsPrefix, dite, some, some-injective}
 use Rattle.ucl_live_board.proofs.Common.{get_elem?, dec_le}
-use Rattle.ucl_live_board.proofs.Common.{None, Entry, Enlisted, Taken, step_taken, Logged, Log, View, KeepsOneHistory, Takes, CountsReporters, All, All-head, All-tail, begins_none}
+use Rattle.ucl_live_board.proofs.Common.{None, Entry, Enlisted, step_taken, Logged, Log, View, KeepsOneHistory, Takes, CountsReporters, All, All-head, All-tail, begins_none}
 use Rattle.ucl_live_board.proofs.Common.{begins_through}
 use Rattle.ucl_live_board.specs.Numbers.{IsGivenAfter}
 use Rattle.ucl_live_board.proofs.Alone.{view_at}

@@ -4,7 +4,7 @@ use Rattle.ucl_pass.proofs.Common.{slice_index, Result, Ok, Err, is_ok, IsSome, 
 use Rattle.ucl_pass.proofs.Common.{EventCall, Accepted, Refusal, Entry, AreWords, version_of, board_of, IsLegal, followed_by, entry_of, reading_of, sequential_reply, Taken}
 use Rattle.ucl_pass.proofs.Common.{board_words, versions, begins_length, begins_through, View, IsSound, Continues, SharedReading}
 use Rattle.ucl_pass.proofs.Common.{pass_view_of, count_of, Takes, note_of, told_by, Goes, IsNextBoard, HasSeenAll, StoresEntry, StoresReporter, LooksOnly, LooksAndShows, Exchanges}
-use Rattle.ucl_pass.proofs.Common.{CellPass, CellReported, CellRead, CellEnlisted, CellFull, CellMet, TableId, StoresEvent, takes_count, Stays, stays_none, stays_more}
+use Rattle.ucl_pass.proofs.Common.{CellPass, CellReported, CellRead, CellEnlisted, CellMet, TableId, StoresEvent, takes_count, Stays, stays_none, stays_more}
 use Rattle.ucl_board.specs.declared.reading.Reading.{Reading}
 use Rattle.ucl_pass.proofs.KeptRule.{match_words, last_word}
 

@@ -2,7 +2,7 @@
 pub use Rattle.atomic_table.specs.Seated.{TableId}
 pub use Rattle.crossbeam_utils.specs.Register.{Forks, Merges, Turns}
 pub use Rattle.crossbeam_utils.specs.Seq.{cell_view}
-pub use Rattle.std.proofs.Common.{List, None, Option, Some, [], ap, arith, false, get_or, if◌then◌else◌, inl, inr, le_refl, length}
+pub use Rattle.std.proofs.Common.{List, [], ap, arith, false, get_or, if◌then◌else◌, inl, inr, le_refl, length}
 pub use Rattle.std.proofs.Common.{length-append, nat_eq, refl, rules, set, subst, suc, sym, take, true, true≢false, zero, ℕ, ◌++◌, ◌+◌, ◌-◌, ◌<◌, ◌∙◌, ◌∷◌, ◌≡◌, ◌≢◌, ◌≤◌}
 pub use Rattle.std.proofs.lemmas.List.{take_all}
 pub use Rattle.std.proofs.lemmas.List.Elements.{All-head, All-tail}
@@ -21,7 +21,7 @@ pub use Rattle.ucl_pass.specs.CellSteps.{Exchanges, HasSeenAll, IsNextBoard, Loo
 pub use Rattle.ucl_live_board.proofs.CallsBySteps.{Stays, room, sound_kept, sound_second, stays_more, stays_none, takes_count}
 pub use Rattle.ucl_live_board.proofs.KeptRule.{add_keeps, add_tells, enlist_keeps, enlist_tells, enlisted_as, entered, longer_history, look_keeps, look_tells, looked}
 pub use Rattle.ucl_live_board.proofs.KeptRule.{note_added, note_joined, opens, same_history, second_added, unchanged_history}
-pub use Rattle.ucl_live_board.specs.Passes.{AcceptedReport, Continues, Enlistment, FullBoard, IsSound, Meeting, RefusedReport, SharedReading}
+pub use Rattle.ucl_live_board.specs.Passes.{Continues, IsSound, SharedReading}
 pub use Rattle.ucl_live_board.specs.Steps.{Goes}
 pub use Rattle.ucl_live_board.specs.Views.{Takes, count_of, kept_of, newcomer, note_of, opener, pass_view_of, second_of, told_by}
 pub use Rattle.ucl_live_board.specs.declared.view.View.{View}

@@ -16,7 +16,7 @@ pub use Rattle.std.proofs.lemmas.Option.{cond_some, none-some, option_and_then_s
 pub use Rattle.std.specs.List.{AllByRecursion, sum_by}
 pub use Rattle.std.specs.Option.{option_and_then, option_map}
 pub use Rattle.std.specs.Prelude.{All, IfSome, IsOk, IsSome, IsSomeAnd, filter, is_some, replicate, slice_get, slice_index, slice_set, ◌↔◌}
-pub use Rattle.ucl_board.proofs.Beginnings.{at_beginning, begins_length, begins_same, begins_through, get_back, take_beginning}
+pub use Rattle.ucl_board.proofs.Beginnings.{at_beginning, begins_length, begins_same, get_back, take_beginning}
 pub use Rattle.ucl_board.proofs.Histories.{board_length, entries-append, entries_same, legal_match, match_valid, word_after}
 pub use Rattle.ucl_board.proofs.HistoryLaws.{may_attempt, same_number, same_word, versions}
 pub use Rattle.ucl_board.specs.Fixtures.{IsMatch}
@@ -24,7 +24,7 @@ pub use Rattle.ucl_board.specs.History.{IsLegal, MayFollow, attempted, board_of,
 pub use Rattle.ucl_board.specs.Log.{Access, AccessKind, Log, Logged, Taken, access, access_list, history_of, logged_by}
 pub use Rattle.ucl_board.specs.Words.{AreWords, greatest_version, version_of, word_at}
 pub use Rattle.ucl_board.specs.declared.entry.Entry.{Entry}
-pub use Rattle.ucl_steps.specs.Actors.{Actor, AreStepsOf, IsOfActor, IsRunOfActors, IsRunOfLog, IsTakenBy, accesses_of_log}
+pub use Rattle.ucl_steps.specs.Actors.{Actor, AreStepsOf, IsOfActor, IsRunOfLog, IsTakenBy, accesses_of_log}
 pub use Rattle.ucl_steps.specs.CallRuns.{IsInCast, access_in, accesses_holding, accesses_of_step, step_of}
 pub use Rattle.ucl_steps.specs.Growing.{HasGoneOn, HaveGoneOn, record_of, records_by, records_told}
 pub use Rattle.ucl_steps.specs.Laws.{ReadingsAreSnapshots, ReportsAreSequential, RunsAreLinearizable, UncleanTriesAreFew, UncleanTriesSeeMore, WordsAreOfTheHistory}

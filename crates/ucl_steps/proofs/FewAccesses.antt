@@ -63,30 +63,28 @@ pub few_accesses : (readers enlisted enlisted' : ℕ) (log since : Log) (actors 
     → HaveGoneOn actors later → Apart actors → finished_by later ≡ finished_by actors → (seat : ℕ) (b : Actor) → get_elem? later seat ≡ some b → b.number ≤ 255
     → length (filter (λ (y : ℕ × Access). y.0 == seat) (accesses_of_log since)) ≤ most_between
 few_accesses readers enlisted enlisted' log since actors later r q on apart finished seat b there few =
-    let one = r.of_actors in
-    let other = q.of_actors in
     let init = initial_state (cast_for readers) in
     let before = longer_runs readers readers enlisted enlisted' log (log ++ since) actors later r q (since, refl) on in
     let more : List Move = before.0 in
-    let steps : steps_of_moves other.moves ≡ steps_of_moves one.moves ++ steps_of_moves more = ap steps_of_moves (sym before.1) ∙ flat_map-append steps_of_move one.moves more in
-    let run : after_steps (steps_of_moves more) one.state ≡ Some other.state = search (arith, steps_append) in
-    let left : left_by (steps_of_moves other.moves) (Some init) ≡ left_by (steps_of_moves one.moves) (Some init) ++ left_by (steps_of_moves more) (Some one.state) =
-    ap (λ (l : List Step). left_by l (Some init)) steps ∙ left_append (steps_of_moves one.moves) (steps_of_moves more) init one.state one.run in
-    let are : AreStepsOf later (left_by (steps_of_moves more) (Some one.state)) (accesses_of_log since) =
+    let steps : steps_of_moves q.moves ≡ steps_of_moves r.moves ++ steps_of_moves more = ap steps_of_moves (sym before.1) ∙ flat_map-append steps_of_move r.moves more in
+    let run : after_steps (steps_of_moves more) r.state ≡ Some q.state = search (arith, steps_append) in
+    let left : left_by (steps_of_moves q.moves) (Some init) ≡ left_by (steps_of_moves r.moves) (Some init) ++ left_by (steps_of_moves more) (Some r.state) =
+    ap (λ (l : List Step). left_by l (Some init)) steps ∙ left_append (steps_of_moves r.moves) (steps_of_moves more) init r.state r.run in
+    let are : AreStepsOf later (left_by (steps_of_moves more) (Some r.state)) (accesses_of_log since) =
     search (arith, later_ones, accesses_more) in
-    let kept = run_kept (steps_of_moves one.moves) [] init one.state (kept_at_start (cast_for readers)) one.run in
-    let low = finished_decided one.state actors one.each apart in
-    let high = decided_finished other.state later other.each other.only in
-    let fall = decided_more (steps_of_moves one.moves) (steps_of_moves more) one.state other.state kept run in
+    let kept = run_kept (steps_of_moves r.moves) [] init r.state (kept_at_start (cast_for readers)) r.run in
+    let low = finished_decided r.state actors r.each apart in
+    let high = decided_finished q.state later q.each q.only in
+    let fall = decided_more (steps_of_moves r.moves) (steps_of_moves more) r.state q.state kept run in
     let own = caller_for seat b.number (call_of b.doing.held) in
-    let f = other.each seat b there in
-    let none : (c : Caller) → IsOf seat b.number c → c ≢ own → accesses_by c (left_by (steps_of_moves more) (Some one.state)) ≤ 0 = λ c of not.
-    let taken = accesses_few c (steps_of_moves more) (Some one.state) in
-    let idle = idle_else other.state seat b.number b.doing.begun b.doing.held f.high f.held c of not in
-    let zero = takes_none c (steps_of_moves one.moves) (steps_of_moves more) one.state other.state kept run (omega arith)
-    (λ k answered. answered_ends other.state seat b.number b.doing.begun b.doing.held f.high c k of f.held (answered_stays more one.state other.state c k answered run)) idle in
+    let f = q.each seat b there in
+    let none : (c : Caller) → IsOf seat b.number c → c ≢ own → accesses_by c (left_by (steps_of_moves more) (Some r.state)) ≤ 0 = λ c of not.
+    let taken = accesses_few c (steps_of_moves more) (Some r.state) in
+    let idle = idle_else q.state seat b.number b.doing.begun b.doing.held f.high f.held c of not in
+    let zero = takes_none c (steps_of_moves r.moves) (steps_of_moves more) r.state q.state kept run (omega arith)
+    (λ k answered. answered_ends q.state seat b.number b.doing.begun b.doing.held f.high c k of f.held (answered_stays more r.state q.state c k answered run)) idle in
     omega arith in
-    let all = by_own later seat b there own (left_by (steps_of_moves more) (Some one.state)) (accesses_of_log since) none are in
-    let taken = accesses_few own (steps_of_moves more) (Some one.state) in
-    let most = each_few own (steps_of_moves one.moves) (steps_of_moves more) one.state other.state kept run (omega arith) in
+    let all = by_own later seat b there own (left_by (steps_of_moves more) (Some r.state)) (accesses_of_log since) none are in
+    let taken = accesses_few own (steps_of_moves more) (Some r.state) in
+    let most = each_few own (steps_of_moves r.moves) (steps_of_moves more) r.state q.state kept run (omega arith) in
     omega arith

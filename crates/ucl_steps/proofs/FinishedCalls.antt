@@ -1,8 +1,8 @@
 -- The decided calls of a run of actors are as many as the finished calls of its actors.
 use Rattle.ucl_steps.proofs.Common.{◌≡◌, ◌≢◌, ℕ, zero, suc, ◌+◌, ◌≤◌, nat_le, Bool, true, false, cond, List, ◌∷◌, drop, length, map, Some, refl, [], sym, ◌∙◌, subst, arith}
 use Rattle.ucl_steps.proofs.Common.{length-append, eq-eqb, ne_eqb, All, slice_get, is_some, filter, none-some, same_Some, le-leb, eqb-true, leb-true, length-map, filter-append, All-head}
-use Rattle.ucl_steps.proofs.Common.{All-tail, sum_by-cons, some, some-ne-none, some-injective, get_elem?, Caller, Reporter, Reader, CallRecord, caller_and_call, Held, Answer, Doing, MayAsk}
-use Rattle.ucl_steps.proofs.Common.{MachineState, IsOf, is_of, call_of, CanHold, AreRecordsOf, FitsRun, calls_told, Actor, IsOfActor, decided_in, finished_by}
+use Rattle.ucl_steps.proofs.Common.{All-tail, sum_by-cons, some, some-ne-none, some-injective, get_elem?, Caller, Reporter, Reader, CallRecord, caller_and_call, Answer, Doing}
+use Rattle.ucl_steps.proofs.Common.{MachineState, IsOf, is_of, AreRecordsOf, FitsRun, calls_told, Actor, IsOfActor, decided_in, finished_by}
 use Rattle.ucl_steps.proofs.OneStep.{and_true, own_caller}
 use Rattle.ucl_steps.proofs.KeptRecords.{own, own_record, next_own, as_many, may_hold}
 use Rattle.ucl_steps.proofs.ActorRuns.{Apart}

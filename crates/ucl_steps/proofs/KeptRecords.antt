@@ -1,6 +1,6 @@
 -- The machine's records of the calls of a pass are just those of what it has done: of its finished calls, and of the one under way.
-use Rattle.ucl_steps.proofs.Common.{◌≡◌, ℕ, zero, suc, ◌+◌, ◌≤◌, Bool, true, List, ◌∷◌, ◌++◌, length, drop, map, Some, None, refl, sym, ap, ◌∙◌, arith, append-nil, length-append, [], slice_get}
-use Rattle.ucl_steps.proofs.Common.{filter, none-some, map-append, length-map, filter-append, CallRecord, caller_and_call, MachineState, Held, Answer, Doing, MayAsk}
+use Rattle.ucl_steps.proofs.Common.{◌≡◌, ℕ, zero, suc, ◌+◌, ◌≤◌, Bool, true, List, ◌∷◌, ◌++◌, length, drop, map, Some, None, refl, sym, ap, ◌∙◌, arith, length-append, [], slice_get}
+use Rattle.ucl_steps.proofs.Common.{filter, none-some, length-map, filter-append, CallRecord, caller_and_call, MachineState, Held, Answer, Doing, MayAsk}
 use Rattle.ucl_steps.proofs.Common.{call_of, CanHold, call_under_way, is_of, calls_by, AreRecordsOf, IsRecordOf, FitsHeld, FitsRun, records_by, record_of, records_told, caller_for, begun_call, Call}
 use Rattle.std.proofs.lemmas.List.{nil_from_length}
 use Rattle.ucl_steps.proofs.OneStep.{own_caller}

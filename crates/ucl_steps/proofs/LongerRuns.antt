@@ -361,16 +361,14 @@ pub accesses_more : (log more : Log) → accesses_of_log (log ++ more) ≡ acces
 accesses_more log more = flat_map-append (λ (x : Logged). map (λ (m : Access). (x.seat, m)) (access_list x.step.target x.step.at)) log more
 
 pub longer_runs : (readers readers' enlisted enlisted' : ℕ) (log log' : Log) (actors later : List Actor) (r : IsRunOfLog readers enlisted log actors) (q : IsRunOfLog readers' enlisted' log' later)
-    → IsPrefix log log' → HaveGoneOn actors later → IsPrefix r.of_actors.moves q.of_actors.moves
+    → IsPrefix log log' → HaveGoneOn actors later → IsPrefix r.moves q.moves
 longer_runs readers readers' enlisted enlisted' log log' actors later r q before on =
-    let one = r.of_actors in
-    let other = q.of_actors in
     let first = initial_state (cast_for readers) in
     let first' = initial_state (cast_for readers') in
-    let begun = (linearizable_run (cast_for readers) (steps_of_moves one.moves) one.state one.run).calls_begun in
-    let begun' = (linearizable_run (cast_for readers') (steps_of_moves other.moves) other.state other.run).calls_begun in
+    let begun = (linearizable_run (cast_for readers) (steps_of_moves r.moves) r.state r.run).calls_begun in
+    let begun' = (linearizable_run (cast_for readers') (steps_of_moves q.moves) q.state q.run).calls_begun in
     let start : Alike (initial_state (cast_for readers)) (initial_state (cast_for readers')) =
     record { is = refl; holds = λ c x y p q. held_at_start (cast_for readers) c x p ∙ sym (held_at_start (cast_for readers') c y q) } in
-    grows actors later on one.state other.state one.each other.each one.moves other.moves first first' [] start one.run other.run (sym begun) (sym begun') (accesses_of_log log)
+    grows actors later on r.state q.state r.each q.each r.moves q.moves first first' [] start r.run q.run (sym begun) (sym begun') (accesses_of_log log)
     (accesses_of_log before.0) r.accesses
-    (subst (λ (l : List (ℕ × Access)). AreStepsOf later (left_by (steps_of_moves other.moves) (Some first')) l) (ap accesses_of_log (sym before.1) ∙ accesses_more log before.0) q.accesses)
+    (subst (λ (l : List (ℕ × Access)). AreStepsOf later (left_by (steps_of_moves q.moves) (Some first')) l) (ap accesses_of_log (sym before.1) ∙ accesses_more log before.0) q.accesses)

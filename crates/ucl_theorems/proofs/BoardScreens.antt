@@ -1,15 +1,12 @@
 -- One history of each running board, and its screens.
 use Rattle.std.proofs.lemmas.List.Elements.{All-cons, All-head, All-nil, All-tail}
-use Rattle.std.proofs.Common.{◌≡◌, ℕ, true, List, [], ◌∷◌, map, length, drop, sym, ap, ◌∙◌, subst, arith, le_refl}
+use Rattle.std.proofs.Common.{List, [], ◌∷◌, map, length, drop, sym, ap, ◌∙◌, subst, le_refl}
 use Rattle.std.specs.Prelude.{All}
 use mathlib.Core.List.{IsPrefix}
-use mathlib.Core.Option.{some}
-use lib.ListN.{get_elem?}
 use Rattle.atomic_table.specs.Table.{State}
 use Rattle.atomic_table.proofs.Lists.{at_map}
 use Rattle.ucl_board.specs.declared.entry.Entry.{Entry}
 use Rattle.ucl_board.specs.History.{board_of}
-use Rattle.ucl_board.specs.Log.{history_of}
 use Rattle.ucl_steps.specs.Actors.{Actor, IsOfActor, IsRunOfLog}
 use Rattle.ucl_steps.specs.declared.trace.CallRecord.{CallRecord}
 use Rattle.ucl_steps.specs.Linearizable.{caller_and_call}
@@ -20,7 +17,7 @@ use Rattle.ucl_steps.proofs.FinishedCalls.{own_of}
 use Rattle.ucl_steps.proofs.LongerRuns.{longer_runs}
 use Rattle.ucl_live_board.proofs.KeptBoards.{there_is}
 use Rattle.ucl_words.specs.declared.view.WordView.{WordView}
-use Rattle.ucl_words.specs.WordRule.{word_actor, word_actors, known, TableKeepsOneHistory}
+use Rattle.ucl_words.specs.WordRule.{word_actor, word_actors, TableKeepsOneHistory}
 use Rattle.ucl_words.specs.Later.{Later}
 use Rattle.ucl_words.proofs.LaterBoards.{log_goes_on, actors_go_on}
 use Rattle.ucl_theorems.specs.Headline.{IsOfPass, BoardsHaveOneHistory, HistoriesGoOn}
@@ -41,7 +38,7 @@ all_of_passes views (c ∷ calls) all = All-cons (IsOfPass views) c calls
 
 pub boards_have : BoardsHaveOneHistory TableKeepsOneHistory
 boards_have s r =
-    let one = (run_of s r).of_actors in
+    let one = run_of s r in
     let cast = cast_for (length s.views) in
     let steps = steps_of_moves one.moves in
     record {
@@ -51,9 +48,9 @@ boards_have s r =
       run = one.run;
       words = words_of_run cast steps one.state one.run ∙ (ap board_of one.history_is ∙ sym (ap (drop 1) r.shared.words_are));
       each = λ seat v at. record {
-            seen = subst (IsPrefix v.pass.seen) (sym one.history_is) (r.shared.fits seat v.pass (at_map (λ (u : WordView). u.pass) s.views seat v at)).seen;
-            calls = records_are seat v.pass.number one.state v.doing (one.each seat (word_actor v) (at_map word_actor s.views seat v at));
-          };
+        seen = subst (IsPrefix v.pass.seen) (sym one.history_is) (r.shared.fits seat v.pass (at_map (λ (u : WordView). u.pass) s.views seat v at)).seen;
+        calls = records_are seat v.pass.number one.state v.doing (one.each seat (word_actor v) (at_map word_actor s.views seat v at));
+      };
       only = all_of_passes s.views one.state.calls one.only;
       one = screens_of_run cast steps one.state one.run;
     }

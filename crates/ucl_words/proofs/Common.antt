@@ -1,5 +1,5 @@
 -- The words and lemmas from elsewhere that the proofs of this crate share.
-pub use Rattle.atomic_table.proofs.Lists.{at_last, at_longer, at_map, exchanged, set_again, set_else, set_here}
+pub use Rattle.atomic_table.proofs.Lists.{at_last, at_longer, at_map, exchanged, set_again, set_here}
 pub use Rattle.atomic_table.specs.Table.{Allows, Joins, Me, Splits, State, Valid, carried_after, keeps, opening, step, stepped}
 pub use Rattle.std.proofs.Common.{Bool, List, None, Option, Some, [], ap, append-nil, append_assoc, arith, cond, eq-eqb, false, get_or, get_or-set_same, if◌then◌else◌, inl, inr, le_refl, length}
 pub use Rattle.std.proofs.Common.{length-append, length-set, map, ne_eqb, refl, rules, set, subst, suc, sym, take, true, zero, ℕ, ◌++◌, ◌+◌, ◌-◌, ◌<◌, ◌==◌, ◌∙◌, ◌∷◌, ◌≡◌, ◌≢◌, ◌≤◌, ◌⊎◌}
@@ -18,7 +18,7 @@ pub use Rattle.ucl_board.specs.Log.{taken_by}
 pub use Rattle.ucl_board.specs.Words.{AreWords, greatest_version, version_of, word_at}
 pub use Rattle.ucl_board.specs.declared.entry.Entry.{Entry}
 pub use Rattle.ucl_board.specs.declared.reading.Reading.{Reading}
-pub use Rattle.ucl_live_board.proofs.CallsBySteps.{all_more, number_told, one_more, room, sound_kept, takes_count, takes_none, takes_on}
+pub use Rattle.ucl_live_board.proofs.CallsBySteps.{all_more, one_more, room, sound_kept, takes_count, takes_none, takes_on}
 pub use Rattle.ucl_live_board.proofs.KeptRule.{RuleWith, add, add_keeps, add_tells, count, enlist_keeps, enlist_tells}
 pub use Rattle.ucl_live_board.proofs.KeptRule.{enlisted_as, entered, logged, longer_history, look, look_keeps, look_tells, looked}
 pub use Rattle.ucl_live_board.proofs.KeptRule.{note_added, note_joined, same_history, second_added, unchanged_history}
@@ -52,7 +52,7 @@ pub use Rattle.ucl_words.specs.Laws.{BoardsAreRuns, IsRunOfBoard, LaterBoardsGoO
 pub use Rattle.ucl_words.specs.WordCalls.{EnlistTries, Enlisting, HasTrail, IsSteady, KeepsTrail, ReadingSteps, ReportSteps}
 pub use Rattle.ucl_words.specs.WordDoings.{AnswersCall, GoesAlong}
 pub use Rattle.ucl_words.specs.WordRule.{StandAfterSplit, Stands, TableKeepsOneHistory, known, word_actor, word_actors, words_after}
-pub use Rattle.ucl_words.specs.WordSteps.{EnlistStep, EnlistWon, EnlistedStep, ExchangeMissed, ExchangeStep, ExchangeWon, FirstStep, IsNextWord, Loads, LoadsEnlisted, LoadsMatch, LogsOneStep}
+pub use Rattle.ucl_words.specs.WordSteps.{EnlistStep, EnlistWon, EnlistedStep, ExchangeMissed, ExchangeStep, ExchangeWon, FirstStep, IsNextWord, Loads, LoadsEnlisted, LoadsMatch}
 pub use Rattle.ucl_words.specs.WordSteps.{LookStep, SecondStep, WonFor, point_shown}
 pub use Rattle.ucl_words.specs.WordViews.{WordPass, first_pass, left_pass, new_pass, note_pass, second_pass, told_pass, view_of, pass_of}
 pub use Rattle.ucl_words.specs.declared.view.WordView.{WordView}

@@ -1,9 +1,8 @@
 -- What an enlistment and a meeting leave a pass with.
-use Rattle.ucl_words.proofs.Common.{◌≡◌, ◌≢◌, ℕ, ◌+◌, ◌<◌, ◌≤◌, ◌∷◌, ◌++◌, length, List, Some, None, inl, inr, refl, sym, ap, ◌∙◌, subst, arith, le_refl, append-nil, [], All-head, All-tail, IfSome}
-use Rattle.ucl_words.proofs.Common.{IsSome, false≢true, IsPrefix, Access, Enlisted, Taken, step_taken, accesses_in, begins_same, begins_through, Follows, View, SeesOn, Continues, Enlistment}
+use Rattle.ucl_words.proofs.Common.{◌≡◌, ◌≢◌, ℕ, ◌+◌, ◌<◌, ◌≤◌, ◌∷◌, ◌++◌, length, List, Some, None, inl, inr, refl, sym, ap, ◌∙◌, subst, arith, le_refl, append-nil, [], All-head, All-tail}
+use Rattle.ucl_words.proofs.Common.{IsPrefix, Access, Enlisted, Taken, step_taken, accesses_in, begins_same, begins_through, Follows, View, SeesOn, Continues, Enlistment}
 use Rattle.ucl_words.proofs.Common.{Meeting, pass_view_of, steps_of, count_of, trail_of, Takes, kept_of, second_of, note_of, told_by, FoundEnlisted, IsOnEnlisted, EnlistSteps, MeetingSteps}
 use Rattle.ucl_words.proofs.Common.{all_more, takes_none, takes_on, takes_count, one_more, sound_kept, LoadsEnlisted, EnlistWon, HasTrail, IsSteady, Enlisting, EnlistTries, KeepsTrail}
-use Rattle.std.specs.Prelude.{Option}
 use Rattle.ucl_live_board.proofs.Lists.{none_by_zero}
 use Rattle.ucl_live_board.proofs.Halves.{half_acts, half_not_whole}
 use Rattle.ucl_words.proofs.StepRuns.{trail_longer, takes_trail}

@@ -97,7 +97,7 @@ module _ (s : Position) (r : TableKeepsOneHistory s) (seat : ℕ) (v : WordView)
 
   -- the access of a step on a match word is at the machine's history, whose word it found
   is_now : (kind : AccessKind) (game at readers : ℕ) → IsMatch game → at ≡ length history → (one : IsRunOfLog readers r.shared.enlisted r.shared.log (word_actors s.views))
-      → IsNow one.of_actors.state (access kind game (get_or s.words game 0) at)
+      → IsNow one.state (access kind game (get_or s.words game 0) at)
   is_now kind game at readers is place one = search (arith, there_now s r kind game is)
 
   -- a step on a match word that stored nothing, by the turn that the machine takes
@@ -114,8 +114,8 @@ module _ (s : Position) (r : TableKeepsOneHistory s) (seat : ℕ) (v : WordView)
     place_is : length after_load.seen ≡ length history
     place_is = ap length (seen_same (Match kind game (get_or s.words game 0)) (there_now s r kind game is) v.pass.listed shown (r.shared.fits seat v.pass there_is).listed)
 
-    load_runs : (doing : Doing) → ((readers : ℕ) (one : IsRunOfLog readers r.shared.enlisted r.shared.log (word_actors s.views)) → IsNow one.of_actors.state here_access
-        → (c : Caller) × IsTakenBy seat v.pass.number kind c × Turn seat v.pass.number one.of_actors.state c here_access doing [])
+    load_runs : (doing : Doing) → ((readers : ℕ) (one : IsRunOfLog readers r.shared.enlisted r.shared.log (word_actors s.views)) → IsNow one.state here_access
+        → (c : Caller) × IsTakenBy seat v.pass.number kind c × Turn seat v.pass.number one.state c here_access doing [])
         → (cs : List (ℕ × Entry)) → TableKeepsOneHistory (stepped s game (get_or s.words game 0) seat cs (record { pass = after_load; doing = doing }) keeps)
     load_runs doing turn cs =
         let le = (r.shared.fits seat v.pass there_is).listed in
@@ -136,7 +136,7 @@ module _ (s : Position) (r : TableKeepsOneHistory s) (seat : ℕ) (v : WordView)
       let taken = taken_at (Enlisted found) tt listed shown le in
       load_keeps 0 cs (Enlisted found) tt listed shown le v.doing
       (λ readers all. subst (IsRunOfLog readers r.shared.enlisted (logged r.shared.log seat taken)) (sym (set_again (word_actors s.views) seat (word_actor v) actor_is))
-      (log_kept readers r.shared.enlisted r.shared.log (logged r.shared.log seat taken) (word_actors s.views) (r.one_run readers all) (seen_same (Enlisted found) tt listed shown le)
+      (log_kept readers r.shared.enlisted r.shared.log (word_actors s.views) (r.one_run readers all) (logged r.shared.log seat taken) (seen_same (Enlisted found) tt listed shown le)
       (logged_accesses r.shared.log seat taken ∙ append-nil (accesses_of_log r.shared.log))))
 
 -- after a step that keeps the rule its pass stands at its seat
@@ -160,8 +160,8 @@ loads_by slots seat game m kind doing shown acts is turn tells tell s r _ here _
     let w = after_load s r seat v here acts kind game is (shown n) in
     let then : WordView = record { pass = w; doing = doing n (length w.seen) } in
     let kept = load_runs s r seat v here acts kind game is (shown n) (doing n (length w.seen))
-    (λ readers one now. turn (cast_for readers) (steps_of_moves one.of_actors.moves) one.of_actors.state one.of_actors.run
-    (one.of_actors.each seat (word_actor v) (at_map word_actor s.views seat v here)) (here_access s r seat v here acts kind game is (shown n)) now refl refl)
+    (λ readers one now. turn (cast_for readers) (steps_of_moves one.moves) one.state one.run
+    (one.each seat (word_actor v) (at_map word_actor s.views seat v here)) (here_access s r seat v here acts kind game is (shown n)) now refl refl)
     m.1 in
     let loads : LoadsMatch kind game v.pass n w = search (arith, look_tells, known_at, there_now) in
     (then, keeps, tt, kept, tell n w loads refl (λ place is_seat. stands_after s game n seat m.1 v then here kept place is_seat))
@@ -246,16 +246,15 @@ module _ (s : Position) (r : TableKeepsOneHistory s) (seat : ℕ) (v : WordView)
       (add_keeps words_after s.words (known s.views) r.shared seat v.pass at_pass acts e n there pos me next_is.1 v.pass.listed f.listed (set s.words e.game new) are)
       (λ readers all.
       let one = r.one_run readers all in
-      let run = one.of_actors in
       let there_is = at_map word_actor s.views seat v here in
       let now = is_now s r seat v here acts Swap e.game (length history) readers is refl one in
-      let turn = turn_swapped (cast_for readers) seat v.pass.number (steps_of_moves run.moves) run.state run.run v.doing (run.each seat (word_actor v) there_is) (access Swap e.game n (length history))
+      let turn = turn_swapped (cast_for readers) seat v.pass.number (steps_of_moves one.moves) one.state one.run v.doing (one.each seat (word_actor v) there_is) (access Swap e.game n (length history))
       now holds.e old new holds.holds (refl, sym holds.game) hit in
       log_stepped readers r.shared.enlisted r.shared.log (word_actors s.views) one seat (word_actor v) there_is after_won.doing taken (e ∷ []) (Reporter v.pass.number)
       (access Swap e.game n (length history)) f.number (apart_actors s r) refl longer
       (refl, reporter_is s r seat v here pos)
-      (subst (λ (k : ℕ). Turn seat v.pass.number run.state (Reporter v.pass.number) (access Swap e.game n (length history)) (after_swap n k v.doing) (e ∷ [])) (sym long)
-      (subst (λ (x : Entry). Turn seat v.pass.number run.state (Reporter v.pass.number) (access Swap e.game n (length history)) (after_swap n (length history + 1) v.doing) (x ∷ [])) entry_is turn)))
+      (subst (λ (k : ℕ). Turn seat v.pass.number one.state (Reporter v.pass.number) (access Swap e.game n (length history)) (after_swap n k v.doing) (e ∷ [])) (sym long)
+      (subst (λ (x : Entry). Turn seat v.pass.number one.state (Reporter v.pass.number) (access Swap e.game n (length history)) (after_swap n (length history + 1) v.doing) (x ∷ [])) entry_is turn)))
 
   swap_tells : ExchangeWon e v.pass (get_or s.words e.game 0) added
   swap_tells = record {
@@ -289,8 +288,8 @@ swaps slots seat place m e old new is_seat acts is pos me next holds s r _ here 
     (λ readers one now. (
       Reporter v.pass.number,
       (refl, reporter_is s r seat v here pos),
-      turn_kept_out (cast_for readers) seat v.pass.number (steps_of_moves one.of_actors.moves) one.of_actors.state one.of_actors.run v.doing
-          (one.of_actors.each seat (word_actor v) (at_map word_actor s.views seat v here)) (here_access s r seat v here acts Swap e.game is v.pass.shown) now holds.e old new holds.holds
+      turn_kept_out (cast_for readers) seat v.pass.number (steps_of_moves one.moves) one.state one.run v.doing
+          (one.each seat (word_actor v) (at_map word_actor s.views seat v here)) (here_access s r seat v here acts Swap e.game is v.pass.shown) now holds.e old new holds.holds
           (refl, sym holds.game) miss,
     ))
     m.1 in (

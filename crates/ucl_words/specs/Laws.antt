@@ -28,8 +28,8 @@ WordsTellTheEntry = (history : List Entry) (e f : Entry) (old new : ℕ) → IsL
 -- are no other calls; and all calls of all passes, those under way among them, are linearizable
 pub record IsRunOfBoard (s : State Entry WordView) (r : TableKeepsOneHistory s) : Type 0 where
   pub one : IsRunOfLog (length s.views) r.shared.enlisted r.shared.log (word_actors s.views)
-  pub words : s.words ≡ r.shared.enlisted ∷ one.of_actors.state.words
-  pub linearizable : IsLinearizable (steps_of_moves one.of_actors.moves) (history_of r.shared.log) one.of_actors.state.calls
+  pub words : s.words ≡ r.shared.enlisted ∷ one.state.words
+  pub linearizable : IsLinearizable (steps_of_moves one.moves) (history_of r.shared.log) one.state.calls
 
 -- whatever the steps of a board are, and between any two of them
 abbrev pub BoardsAreRuns : Type 0
@@ -44,7 +44,7 @@ LaterBoardsGoOn =
 abbrev pub RunsGrow : Type 0
 RunsGrow =
     (s t : State Entry WordView) (r : TableKeepsOneHistory s) (q : TableKeepsOneHistory t) → Later s t
-    → (earlier : IsRunOfBoard s r) (later : IsRunOfBoard t q) → IsPrefix earlier.one.of_actors.moves later.one.of_actors.moves
+    → (earlier : IsRunOfBoard s r) (later : IsRunOfBoard t q) → IsPrefix earlier.one.moves later.one.moves
 
 -- each pass took few of the steps on match words, and so all passes did
 pub record PassesTookFew (views : List WordView) (since : Log) : Type 0 where

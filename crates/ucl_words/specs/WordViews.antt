@@ -1,5 +1,5 @@
 -- What contracts see of a pass of the word board; the views of new passes and of notes.
-use Rattle.std.specs.Prelude.{◌≡◌, ℕ}
+use Rattle.std.specs.Prelude.{ℕ}
 use Rattle.atomic_table.specs.Seated.{TableId}
 use Rattle.ucl_steps.specs.Protocol.{Doing, nothing_done}
 use Rattle.ucl_live_board.specs.declared.view.View.{View}
