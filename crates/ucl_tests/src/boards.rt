@@ -88,7 +88,7 @@ static REOPENED: [Answered; 11] = [
     (8, FullTime, Ok(9), 0x2001080000006009),
 ];
 
-/// The first of these events that gets another reply or leaves another word, which its reporter reads.
+/// The first of these events that gets another reply or leaves another word, which its reporter reads, and its number as the version.
 fn first_other<B: LiveBoard, R: Wait>(
     rt: &R,
     board: &B,
@@ -100,8 +100,9 @@ fn first_other<B: LiveBoard, R: Wait>(
 {
     for &(expected, kind, reply, word) in events {
         let replied = reply_to(rt, board, pass, (game, expected, kind));
-        let found = board.read_own(rt, pass).board.words()[0];
-        if replied != reply || found != word {
+        let own = board.read_own(rt, pass);
+        let found = own.board.words()[0];
+        if replied != reply || found != word || u64::from(own.version) != word % 4096 {
             return Some((expected, kind, replied, found));
         }
     }
