@@ -4,51 +4,48 @@ use crate::held::{has_refused, has_written, held};
 use crate::{CLUBS, joined};
 use std::test::Fail;
 use ucl_command::Format;
-use ucl_runs::BeginningFault;
+use ucl_screen::InputFault;
 
 /// Beginnings that are refused, and why.
-static REFUSED_CLUBS: [(&str, BeginningFault); 15] = [
-    ("", BeginningFault::BadRow { row: 1 }),
-    ("\n\r\n", BeginningFault::BadRow { row: 3 }),
-    ("club,1,Alpha,60000", BeginningFault::BadRow { row: 2 }),
+static REFUSED_CLUBS: [(&str, InputFault); 15] = [
+    ("", InputFault::BadRow { row: 1 }),
+    ("\n\r\n", InputFault::BadRow { row: 3 }),
+    ("club,1,Alpha,60000", InputFault::BadRow { row: 2 }),
     (
         "club,1,Alpha,60000\nclub,2,Bravo,95000\nclub,3,Charlie,60000\n",
-        BeginningFault::BadRow { row: 4 },
+        InputFault::BadRow { row: 4 },
     ),
     (
         "club,1,Alpha,60000\n\nclub,3,Charlie,60000\n",
-        BeginningFault::BadRow { row: 3 },
+        InputFault::BadRow { row: 3 },
     ),
     (
         "club,1,Alpha,60000\nclub,1,Alpha,60000\n",
-        BeginningFault::BadRow { row: 2 },
+        InputFault::BadRow { row: 2 },
     ),
     (
         "club,1,Alpha,60000\nclub,2,Bravo,95000\nclub,3,Charlie,60000\n1,1,0,kickoff\n",
-        BeginningFault::BadRow { row: 4 },
+        InputFault::BadRow { row: 4 },
     ),
-    ("club,01,Alpha,60000\n", BeginningFault::BadRow { row: 1 }),
-    (
-        "club,1,Alpha,0000000001\n",
-        BeginningFault::BadRow { row: 1 },
-    ),
-    ("club,1,Alpha,-1\n", BeginningFault::BadRow { row: 1 }),
-    ("club,1,\"Alp", BeginningFault::BadRow { row: 1 }),
+    ("club,01,Alpha,60000\n", InputFault::BadRow { row: 1 }),
+    ("club,1,Alpha,0000000001\n", InputFault::BadRow { row: 1 }),
+    ("club,1,Alpha,-1\n", InputFault::BadRow { row: 1 }),
+    ("club,1,\"Alp", InputFault::BadRow { row: 1 }),
     (
         "row,slot,name,coefficient\nclub,1,Alpha,60000\n",
-        BeginningFault::BadRow { row: 1 },
+        InputFault::BadRow { row: 1 },
     ),
     (
         "club;1;Alpha;60000\nclub;2;Bravo;95000\n",
-        BeginningFault::BadRow { row: 1 },
+        InputFault::BadRow { row: 1 },
     ),
     (
         "club,1,Alpha,60000\nclub,2,Bravo Bravo Bravo Bra,95000\nclub,3,Charlie,1000000\nclub,4,Delta,81500\n",
-        BeginningFault::BadRoster { slot: 2 },
+        InputFault::BadRoster { slot: 2 },
     ),
     (
         "club,1,Alpha,60000\nclub,2,Bravo,95000\nclub,3,Charlie,60000\nclub,4,,81500\n",
-        BeginningFault::BadRoster { slot: 4 },
+        InputFault::BadRoster { slot: 4 },
     ),
 ];
 

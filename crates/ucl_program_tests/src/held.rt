@@ -5,7 +5,8 @@ use std::io;
 use ucl_command::{Format, LiveArgs};
 use ucl_devices::{Cut, Full, Out};
 use ucl_io::{Duplex, PumpFault};
-use ucl_runs::{BeginningFault, LiveFault, live_run};
+use ucl_rows::RunFault;
+use ucl_runs::{LiveFault, live_run};
 use ucl_screen::{FromRead, ToWrite};
 
 /// How an evening ended, and what it wrote.
@@ -75,8 +76,8 @@ pub fn has_broken_off(held: &Held, text: &str, bytes: usize, written: usize) -> 
 }
 
 /// Whether the clubs of an evening were refused by this fault, and nothing was written.
-pub fn has_refused(held: &Held, fault: BeginningFault) -> bool {
+pub fn has_refused(held: &Held, fault: InputFault) -> bool {
     let (answer, out) = held;
-    matches!(answer, Err(PumpFault::Machine(LiveFault::Beginning(found))) if *found == fault)
+    matches!(answer, Err(PumpFault::Machine(LiveFault::Run(RunFault::Input(found)))) if *found == fault)
         && out.is_empty()
 }

@@ -1,11 +1,10 @@
 -- Whole runs of a follower, from what the driver says of them.
 use Rattle.ucl_runs.proofs.Common.{Appends, Device, Err, FollowArgs, Following, HasClosed, HasMade, IfSome, IsPromptAt, LineRules, List}
-use Rattle.ucl_runs.proofs.Common.{Machine, Ok, PumpFault, Pumped, Result, Seen, StoppedShort, StopsLast, StopsNext, Turn, WriteFailed, []}
+use Rattle.ucl_runs.proofs.Common.{Machine, Ok, PumpFault, Pumped, Result, RunFault, Seen, StoppedShort, StopsLast, StopsNext, Turn, WriteFailed, []}
 use Rattle.ucl_runs.proofs.Common.{after_told, ap, append-nil, append_assoc, cut_at, follow_text, inl, inr, moment_on, refl}
 use Rattle.ucl_runs.proofs.Common.{rules_of, stopped_first, stopped_short, sym, told_text, turns_front, unseen, whole, whole_lines, ℕ, ⊤}
 use Rattle.ucl_runs.proofs.Common.{◌++◌, ◌+◌, ◌∙◌, ◌∷◌, ◌≡◌, ◌⊎◌}
 use Rattle.ucl_io.specs.Turns.{AreTurns, lines_in, state_after, text_in}
-use Rattle.ucl_word.specs.declared.refusal.OutOfMemory.{OutOfMemory}
 use Rattle.ucl_command.specs.declared.follow.FollowShape.{FollowShape}
 use Rattle.ucl_runs.specs.declared.follower.Follower.{Follower}
 use Rattle.ucl_runs.specs.Follow.{follow_end, followed, sights}
@@ -21,7 +20,7 @@ module _ (T : Type 0) where
   abbrev M : Type 0
   M = Follower T
 
-  abbrev Rules : LineRules M OutOfMemory
+  abbrev Rules : LineRules M RunFault
   Rules = rules_of (λ m row line n text. IsHeard m n (moment_on line) × (text ≡ told_text m.shape m.following (moment_on line)))
       (λ m row line n fault. ⊤)
       (λ m row begun n text. (n.shape ≡ m.shape) × (n.following ≡ m.following) × (text ≡ []))
@@ -56,10 +55,10 @@ module _ (T : Type 0) where
       abbrev new : Seen M
       new = record { left = after.left; taken = after.taken; machine = n }
 
-      abbrev Run : Result ℕ (PumpFault OutOfMemory) → Type 0
+      abbrev Run : Result ℕ (PumpFault RunFault) → Type 0
       Run result = Pumped Rules 4097 4096 old new after.sink_failed result Prompt
 
-      module _ {r : Result ℕ (PumpFault OutOfMemory)} (p : Run r) where
+      module _ {r : Result ℕ (PumpFault RunFault)} (p : Run r) where
         shown : text_in p.turns ≡ sights args.shape (unseen args) (lines_in p.turns)
         shown = shows p.turns p.given.turned
 
@@ -79,7 +78,7 @@ module _ (T : Type 0) where
             → text_in p.turns ++ last ≡ follow_text args p.bytes
         whole_text e = ap (λ (l : List ℕ). text_in p.turns ++ l) e.last.2 ∙ append-nil (text_in p.turns) ∙ all_text e.all
 
-        runs_out : {fault : OutOfMemory}
+        runs_out : {fault : RunFault}
             → (StopsNext Rules.Stops 1 m n p.turns p.rest fault ⊎ StopsLast Rules 4097 old new p.bytes p.turns p.rest fault)
             → Appends old.taken new.taken (text_in p.turns) → HeardFirst args p.bytes old.taken new.taken
         runs_out (inl s) out =
@@ -107,7 +106,7 @@ module _ (T : Type 0) where
         run_counts =
             let e = p.ends.1.1 in whole _ old.left new.left p.bytes e.ended p.consumed (ap counts_of (e.last.1 ∙ reaches p e.all))
 
-      pub run_fails : (f : PumpFault OutOfMemory) → Run (Err f) → FollowFails args before after f
+      pub run_fails : (f : PumpFault RunFault) → Run (Err f) → FollowFails args before after f
       run_fails (WriteFailed written) p = let e = p.ends in record {
         bytes = p.bytes;
         consumed = p.consumed;

@@ -5,7 +5,7 @@ use Rattle.ucl_io.specs.Calls.{Device, HasEnded}
 use Rattle.ucl_io.specs.Output.{StoppedShort}
 use Rattle.ucl_io.specs.declared.fault.PumpFault.{PumpFault}
 use Rattle.ucl_io.specs.declared.fault.PumpFault.TheVariants.{Machine, ReadFailed, TooLong, WriteFailed}
-use Rattle.ucl_word.specs.declared.refusal.OutOfMemory.{OutOfMemory}
+use Rattle.ucl_rows.specs.declared.fault.RunFault.{RunFault}
 use Rattle.ucl_runs.specs.declared.follower.Follower.{Follower}
 use Rattle.ucl_runs.specs.declared.follower.Sight.{Sight}
 use Rattle.ucl_runs.specs.declared.follower.Sight.TheVariants.{Nothing, Screen}
@@ -62,13 +62,13 @@ pub record HeardFirst (args : FollowArgs) (bytes : List ℕ) (old new : Option (
 
 -- why a follower fails that has taken these bytes: the source failed after them, they are more than any input has, the sink failed, or
 -- there was no memory for a line
-abbrev pub FollowFailsAfter : FollowArgs → List ℕ → Device → Device → PumpFault OutOfMemory → Type 0
+abbrev pub FollowFailsAfter : FollowArgs → List ℕ → Device → Device → PumpFault RunFault → Type 0
 FollowFailsAfter args bytes old new (ReadFailed count) = (count ≡ length bytes) × Appends old.taken new.taken (heard_text args bytes)
 FollowFailsAfter args bytes old new TooLong = (2 ^ 62 < length bytes) × Appends old.taken new.taken (heard_text args bytes)
 FollowFailsAfter args bytes old new (WriteFailed written) = FollowStops args bytes old new written
 FollowFailsAfter args bytes old new (Machine fault) = HeardFirst args bytes old.taken new.taken
 
-pub record FollowFails (args : FollowArgs) (old new : Device) (fault : PumpFault OutOfMemory) : Type 0 where
+pub record FollowFails (args : FollowArgs) (old new : Device) (fault : PumpFault RunFault) : Type 0 where
   pub bytes : List ℕ
   pub consumed : Consumes old.left new.left bytes
   pub why : FollowFailsAfter args bytes old new fault

@@ -14,9 +14,8 @@ use Rattle.ucl_command.specs.declared.options.Format.TheVariants.{Json}
 use Rattle.ucl_command.specs.declared.live.LiveArgs.{LiveArgs}
 use Rattle.ucl_rows.specs.declared.answer.Answer.{Answer}
 use Rattle.ucl_runs.specs.declared.evening.Evening.{Evening as Held}
-use Rattle.ucl_runs.specs.declared.live_fault.BeginningFault.{BeginningFault}
 use Rattle.ucl_runs.specs.declared.live_fault.LiveFault.{LiveFault}
-use Rattle.ucl_runs.specs.declared.live_fault.LiveFault.TheVariants as live
+use Rattle.ucl_runs.specs.LiveFaults.{StopsBy}
 use Rattle.ucl_runs.specs.declared.request.Request.{Request}
 use Rattle.ucl_runs.specs.declared.request.Request.TheVariants.{Bad, Event, Screen, Words, Matches}
 use Rattle.ucl_runs.specs.declared.parts.Parts.{Parts}
@@ -80,18 +79,14 @@ abbrev pub evening_of : Held → ℕ → Evening
 evening_of e row = evening_at e.options e.heading row (stage_seen e.stage)
 
 -- a row has no answer: there was no memory for it, which it asks for, or the stage after it is refused
-abbrev pub StopsAt : Type 0 → Stage → LiveFault → Type 0
-StopsAt Asks after live.OutOfMemory = Asks
-StopsAt Asks after (live.Beginning why) = after ≡ Refused why
-
 abbrev pub HasNoAnswer : Evening → Said → LiveFault → Type 0
-HasNoAnswer e said fault = StopsAt (AsksForMemory e said) (next e said).stage fault
+HasNoAnswer e said fault = StopsBy (AsksForMemory e said) ((next e said).stage ≡ Refused fault) fault
 
 -- the input ends, where a last line has begun so: it may have no byte
 abbrev pub end_of : Evening → List ℕ → Evening
 end_of e begun = after_lines e (last_lines begun)
 
-abbrev pub missing_at : Evening → List ℕ → Option BeginningFault
+abbrev pub missing_at : Evening → List ℕ → Option LiveFault
 missing_at e begun = missing_now (end_of e begun)
 
 -- it is answered too, and no club or word is missing then
@@ -101,8 +96,7 @@ pub record Closes (e : Evening) (begun text : List ℕ) : Type 0 where
 
 -- there was no memory for it, which it asks for; or a club or a word has a fault, or is missing
 abbrev pub HasNoEnd : Evening → List ℕ → LiveFault → Type 0
-HasNoEnd e begun live.OutOfMemory = AsksForMemory e (said_on e.row begun)
-HasNoEnd e begun (live.Beginning why) = missing_at e begun ≡ Some why
+HasNoEnd e begun fault = StopsBy (AsksForMemory e (said_on e.row begun)) (missing_at e begun ≡ Some fault) fault
 
 -- ---- a whole run
 
@@ -140,7 +134,7 @@ pub record RanOut (start : Evening) (bytes : List ℕ) (old new : Device) : Type
   pub asks : AsksForMemory (after_bytes start front) (said_on (after_bytes start front).row (begun_line 258 [] front))
 
 -- the evening is refused, by the bytes that were taken or by their end, and nothing was answered
-pub record IsTurnedAway (start : Evening) (bytes : List ℕ) (old new : Device) (fault : BeginningFault) : Type 0 where
+pub record IsTurnedAway (start : Evening) (bytes : List ℕ) (old new : Device) (fault : LiveFault) : Type 0 where
   pub refused : ((after_bytes start bytes).stage ≡ Refused fault)
       ⊎ (HasEnded old.left new.left × (missing_after start bytes ≡ Some fault))
   pub out : Appends old.taken new.taken []
@@ -151,8 +145,7 @@ abbrev pub LiveFailsAfter : Evening → List ℕ → Device → Device → PumpF
 LiveFailsAfter start bytes old new (ReadFailed count) = (count ≡ length bytes) × Appends old.taken new.taken (answers_to start bytes)
 LiveFailsAfter start bytes old new TooLong = (2 ^ 62 < length bytes) × Appends old.taken new.taken (answers_to start bytes)
 LiveFailsAfter start bytes old new (WriteFailed written) = WriteStops start bytes old new written
-LiveFailsAfter start bytes old new (Machine live.OutOfMemory) = RanOut start bytes old new
-LiveFailsAfter start bytes old new (Machine (live.Beginning why)) = IsTurnedAway start bytes old new why
+LiveFailsAfter start bytes old new (Machine fault) = StopsBy (RanOut start bytes old new) (IsTurnedAway start bytes old new fault) fault
 
 pub record LiveFails (start : Evening) (old new : Device) (fault : PumpFault LiveFault) : Type 0 where
   pub bytes : List ℕ

@@ -12,8 +12,8 @@ use crate::follower::Follower;
 use std::alloc::Global;
 use ucl_command::FollowArgs;
 use ucl_io::{Duplex, MOST_LINE_BYTES, PumpFault, pump};
+use ucl_rows::RunFault;
 use ucl_screen::{Sink, Source};
-use ucl_word::OutOfMemory;
 
 /// The most bytes that are gathered before they are written.
 const PAGE: usize = 4096;
@@ -44,7 +44,7 @@ pub fn follow_run<S: Source, W: Sink, T: Sink + Drop>(
     args: FollowArgs,
     others: T,
     duplex: &mut Duplex<S, W, Follower<T>>,
-) -> Result<Followed, PumpFault<OutOfMemory>>
+) -> Result<Followed, PumpFault<RunFault>>
     ensures text { OnOk result (IfSome (S.left duplex.old.source)
         (λ bytes. Appends (W.taken duplex.old.sink) (W.taken duplex.new.sink)
         (follow_text args bytes))) }
