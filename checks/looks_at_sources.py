@@ -1,5 +1,5 @@
-"""Looks at the sources for what no contract can see: what a pass or a handle does when it is let go, steps that go beside the log, what a board and
-an evening hold; and for what has gone out of step: wrong bodies, names of definitions, crates that are not used, numbers of statuses."""
+"""Looks at the sources for what no contract can see: what a value does when it is let go, steps that go beside the log, what a board and an evening
+hold, what threads share; and for what has gone out of step: wrong bodies, names of definitions, crates that are not used, numbers of statuses."""
 
 import collections
 import hashlib
@@ -9,29 +9,38 @@ import subprocess
 
 import sources
 
-# What goes beside the log: a load, a wait or a wake of a cell or a table that is no step of a pass.
-UNCOUNTED = re.compile(r"\b(peek|park|wake_one|load_new_seat|swap_new_seat|into_badge|close|close_with)\b|\.pass\(")
+# What goes beside the log: a load, a wait or a wake of a cell or a table that is no step of a pass; and that a board's own is lent out to make one.
+UNCOUNTED = re.compile(r"\b(peek|park\w*|wake_\w+|load_new_seat|swap_new_seat|into_badge|close|close_with)\b|\.(pass|table|cell)\(")
 STEP = re.compile(r"^impl\b.*\b(Play|Outcome|Split|Join)\b.* for (?:\w+::)*([A-Za-z]+)")
-# The kinds of step of each board, in the order of the file of its rule, and the parts of the board.
+# The kinds of step of each board, in the order of the file of its rule.
 KINDS = {
-    "ucl_words": "Play Look, Play First, Play Second, Play CountEnlisted, Play Swap, Play Enlist, Split SecondPass, Split Note, Join Note",
-    "ucl_pass": "Outcome LooksAt, Outcome Adds, Outcome Reads, Outcome Counts, Outcome Enlists, Split SecondPass, Split Note, Join Note",
+    "crates/ucl_pass/src/rule.rt": "Outcome Looks, Outcome Reads, Outcome Adds, Outcome Enlists, Split SecondPass, Split Note, Join Note",
+    "crates/ucl_words/src/rule.rt": "Play Look, Play First, Play Second, Play CountEnlisted, Play Swap, Play Enlist, Split SecondPass, Split Note, Join Note",
 }
-# What a board and its passes have, and what that is of.
-PARTS = {
-    "ucl_words": [
-        "pub struct WordBoard { table: Table, }", "pub type Table = atomic_table::Table<Entry, WordView, (), OneHistory, Global>;",
-        "pub type Seat = atomic_table::Seat<Entry, WordView>;", "pub struct WordReaderPass { pub(crate) seat: Seat, }",
-        "pub struct WordReporterPass { pub(crate) seat: Seat, pub(crate) number: ReporterNo, pub(crate) accepted: u16, }",
-    ],
-    "ucl_pass": [
-        "pub struct CellBoard { cell: Cell, }", "pub type Cell = RuledSeqCell<[u64; 13], CellView, OneHistory, 13>;",
-        "pub type Seat = Pass<[u64; 13], CellView>;", "pub struct CellReaderPass { pub(crate) seat: Seat, }",
-        "pub struct CellReporterPass { pub(crate) seat: Seat, pub(crate) number: ReporterNo, pub(crate) accepted: u16, }",
-    ],
-}
-# What the types of the boards, of their readings and of handles implement, and no more: what is derived, and behind a bar what is written. So
-# none acts when it is let go, no load is of a kind of its own, and no equality is written, and no text but that of refusals.
+# What boards, passes and handles of C have, and what that is of.
+PARTS = """struct WordBoard { table: Table, }
+struct WordReaderPass { seat: Seat, }
+struct WordReporterPass { seat: Seat, number: ReporterNo, accepted: u16, }
+type Table = atomic_table::Table<Entry, WordView, (), OneHistory, Global>;
+type Seat = atomic_table::Seat<Entry, WordView>;
+struct CellBoard { cell: Cell, }
+struct CellReaderPass { seat: Seat, }
+struct CellReporterPass { seat: Seat, number: ReporterNo, accepted: u16, }
+type Cell = RuledSeqCell<[u64; 13], View, OneHistory, 13>;
+type Seat = Pass<[u64; 13], View>;
+struct BoardPass { board: Arc<WordBoard, Global>, pass: AnyPass, }
+enum AnyPass { Nobody, Reader(WordReaderPass), Reporter(WordReporterPass), }
+struct Handle { at: *mut UclboardPass, ghost value: { BoardPass }, }""".split("\n")
+# Crates of tests and of the benchmark, which hold no board of a user.
+TESTS = re.compile(r"_tests$|_devices$|_hostile$|_bench")
+# What threads may share, by the lines that name such: a pointer, leave to wait, a board's table or cell, and a flag by which the example's loops end.
+SHARED = re.compile(r"\bsync\b|\bstatic mut\b|\b(?:atomic_table|crossbeam_\w+)::")
+SHARES = re.compile(
+    r": (?:ghost |use std::sync::(?:Arc|Wait);$)|/ucl_example/.*: use std::sync::atomic::{AtomicBool, Ordering};$"
+    r"|/ucl_words/.*\batomic_table::|/ucl_theorems/.*: use atomic_table::TableRule;$|/ucl_pass/.*: use (?:atomic_table|crossbeam_utils::(?:atomic::seq_cell|rule))::"
+)
+# What the types of the boards and of their readings implement, and no more: what is derived, and behind a bar what is written. So no load is of a
+# kind of its own, and no equality is written, and no text but that of refusals.
 PLAIN = "Clone Copy Debug Eq PartialEq"
 TRAITS = {
     "ucl_word": {
@@ -43,10 +52,9 @@ TRAITS = {
     "ucl_board": {"BadWordAt": "Clone Copy Debug Eq Error PartialEq", "Board": f"{PLAIN} | Model", "Entry": PLAIN, "Reading": PLAIN},
     "ucl_live_board": {"Brand": "| Asking", "Strangers": "Clone Copy Debug Eq Error PartialEq", "TooManyReporters": "Drop Error", "View": "| Model"},
     "ucl_pass": {
-        **dict.fromkeys(["Adds<K>", "Counts<K>", "Enlists<K>", "LooksAt<K>", "Reads<K>"], "| Outcome<[u64; 13], CellView>"),
+        **dict.fromkeys(["Adds<K>", "Enlists", "Looks", "Reads"], "| Outcome<[u64; 13], View>"),
         **dict.fromkeys(["CellReaderPass", "CellReporterPass"], "Drop | Model"), "CellBoard": "Drop | LiveBoard Model",
-        "CellView": "| Model", "Note": "| Join<CellView> Split<CellView>", "OneHistory": "| Protocol<[u64; 13], CellView>",
-        "SecondPass": "| Split<CellView>",
+        "Note": "| Join<View> Split<View>", "OneHistory": "| Protocol<[u64; 13], View>", "SecondPass": "| Split<View>",
     },
     "ucl_words": {
         **dict.fromkeys(["CountEnlisted<K>", "Enlist<K>", "First", "Look<K>", "Second<K>", "Swap<K>"], "| Play<Entry, WordView>"),
@@ -54,14 +62,16 @@ TRAITS = {
         "WordView": "| Model", "Note": "| Join<WordView> Split<WordView>", "OneHistory": "Clone Copy | TableRule<Entry, WordView, ()>",
         "SecondPass": "| Split<WordView>",
     },
-    "ucl_c_handles": {"AnyPass": "Drop", "BoardPass": "Drop | Model", "Handle": "| Model Send", "Parts<T, A>": "| Model", "WhyNot": PLAIN},
 }
 DERIVES = re.compile(r"#\s*\[derive\(([^)]*)\)\](?:\s*#\s*\[[^\]]*\])*\s*(?:pub(?:\([^)]*\))?\s+)?(?:struct|enum)\s+(\w+)")
 IMPL = re.compile(r"\bimpl\b\s*(?:<[^{]*?>\s*)?([\w:]+(?:<[^{]*?>)?)\s+for\s+([^{]+?)\s*\{")
 ALIAS = re.compile(r"(?<!ghost )\buse\b[^;]*\bas\b[^;]*;|\bmacro_rules\b")
-# Where a type lets go of its parts by a body that is written.
-LETS_GO = re.compile(r"\bDrop\s+for\b|\bfn\s+drop\b")
-LET_GO = "    {\n        if !self.is_null() {\n            drop(self.take(alloc).into_box());\n        }\n    }\n"
+# What is written of letting go: a count that contracts alone see has nothing to let go, and a handle of C lets its pass go.
+LETS_GO = re.compile(r"[^{}]*{ fn drop\b|\bfn (?:drop|let_go)\b")
+LET_GO = re.compile(
+    r"impl Drop for Tally { fn drop\(self\) { let Self { marker: _ } = self; } }"
+    r"|fn let_go\(&mut self, alloc: Global\) ensures {[^{}]*} { if !self\.is_null\(\) { drop\(self\.take\(alloc\)\.into_box\(\)\); } }"
+)
 # What makes, lengthens or replaces the list of the times at which a source was called; `duplex.rt` does so twice.
 LISTS = re.compile(r"\blog\.and\(|\.log\s*=(?!=)|&mut [\w.]+\.log\b|\bCallLog::(?:new|and)\b")
 LISTED = ["log: CallLog::new(),", "self.log = self.log.and(&self.source, &self.sink, machine);"]
@@ -95,19 +105,15 @@ def text_of(top, crate, part):
 
 
 def boards_go_through_passes(top):
-    """The sources of a board load and exchange through passes alone, and make none from nothing."""
-    return [f"{at}: {line.strip()}" for _, at, line in lines_of(top, *KINDS) if UNCOUNTED.search(line)]
+    """Any source loads, exchanges, waits and wakes through passes of a board alone, and makes none from nothing."""
+    return [f"{at}: {line.strip()}" for _, at, line in lines_of(top, *sources.crates_of(top)) if UNCOUNTED.search(line)]
 
 
 def kinds_of_step(top):
     """The kinds of step of a board are these, and stand in the file of its rule: each leaves a mark in the log."""
-    found = []
-    for crate, kinds in KINDS.items():
-        steps = [(path.name, at, STEP.match(line)) for path, at, line in lines_of(top, crate) if STEP.match(line)]
-        found += [f"{at}: a kind of step outside rule.rt" for name, at, _ in steps if name != "rule.rt"]
-        told = ", ".join(f"{step[1]} {step[2]}" for _, _, step in steps)
-        found += [] if told == kinds else [f"{crate}: the kinds of step are {told}"]
-    return found
+    steps = [(at.split(":")[0], STEP.match(line)) for _, at, line in lines_of(top, *sources.crates_of(top)) if STEP.match(line)]
+    told = {file: ", ".join(f"{step[1]} {step[2]}" for other, step in steps if other == file) for file, _ in steps}
+    return [f"{file}: the kinds of step are {told.get(file)}" for file in {*told, *KINDS} if told.get(file) != KINDS.get(file)]
 
 
 def code_of(top, crate):
@@ -116,7 +122,7 @@ def code_of(top, crate):
 
 
 def traits_are_listed(top):
-    """What the types of the boards, of readings and of handles implement is listed, however it is written; and no trait goes by another name."""
+    """What the types of the boards and of readings implement is listed, however it is written; and no trait goes by another name."""
     found = []
     for crate, known in TRAITS.items():
         text = code_of(top, crate)
@@ -132,29 +138,23 @@ def traits_are_listed(top):
 
 
 def nothing_acts_when_let_go(top):
-    """No type of nights and of evenings does anything when it is let go, but let go of its parts; and a handle does so alone."""
-    found = [f"{crate}: {it}" for crate in (*TRAITS, "ucl_runs") for it in LETS_GO.findall(code_of(top, crate))]
-    handles = text_of(top, "ucl_c_handles", "src").split("fn let_go(")
-    return found + ([] if len(handles) == 2 and LET_GO in handles[1] else ["ucl_c_handles: a handle does something else when it is let go"])
+    """No value of any crate does anything when it is let go, but let go of its parts."""
+    rest, count = LET_GO.subn("", " ".join(" ".join(code_of(top, crate) for crate in sources.crates_of(top)).split()))
+    return LETS_GO.findall(rest) + ([] if count == 2 else ["a count or a handle is not let go as it was"])
 
 
 def boards_hold_words_alone(top):
-    """A board has its words, and nothing else: no lock, and no copy; and a pass has its seat, and of a reporter the number and a count."""
-    texts = {crate: " ".join(code_of(top, crate).split()) for crate in PARTS}
-    found = [f"{crate}: not there: {part}" for crate, parts in PARTS.items() for part in parts if part not in texts[crate]]
-    return found + [f"{crate}: a static, which all boards have" for crate, text in texts.items() if re.search(r"(?<!')\bstatic\b", text)]
-
-
-def night_is_on_words(top):
-    """A night of the program is played on a word board that is opened for it."""
-    lines = list(lines_of(top, "ucl_night"))
-    other = [f"{at}: {line.strip()}" for _, at, line in lines if re.search(r"\bCellBoard\b", line)]
-    return other + ([] if any("WordBoard::open" in line for _, _, line in lines) else ["ucl_night opens no WordBoard"])
+    """A board, a pass and a handle have these parts: no lock, and no copy. And no crate but of tests has anything else that threads share."""
+    crates = [crate for crate in sources.crates_of(top) if not TESTS.search(crate)]
+    text = re.sub(r"\bpub(\([^)]*\))? ", "", " ".join(" ".join(code_of(top, crate) for crate in crates).split()))
+    starts = [" ".join(part.split()[:3]) for part in PARTS]
+    found = [f"not there: {part}" for part in PARTS if part not in text] + [f"declared again: {it}" for it in starts if text.count(it) > starts.count(it)]
+    return found + [f"{at}: {line.strip()}" for _, at, line in lines_of(top, *crates) if SHARED.search(line) and not SHARES.search(f"{at}: {line}")]
 
 
 def calls_are_listed_once(top):
     """The list of the times at which a source was called begins empty, and `take` alone adds to it, once. Devices of tests have lists of their own."""
-    crates = [crate for crate in sources.crates_of(top) if crate != "ucl_devices"]
+    crates = [crate for crate in sources.crates_of(top) if not TESTS.search(crate)]
     found = [(at, line.strip()) for _, at, line in lines_of(top, *crates) if LISTS.search(line)]
     other = [f"{at}: lists when a source was called" for at, line in found if line not in LISTED or "/ucl_io/src/duplex.rt:" not in at]
     return other + ([] if [line for _, line in found] == LISTED else ["duplex.rt does not list each call of `take` once"])
@@ -213,8 +213,8 @@ def names_are_defined_once(top):
 
 
 def crates_use_what_they_stand_on(top):
-    """A crate names each crate that crates.txt has it stand on."""
-    found = []
+    """A crate names each crate that crates.txt has it stand on; and the program of nights can open a word board alone."""
+    found = ["ucl_night stands on ucl_pass"] if "ucl_pass" in sources.crates_of(top)["ucl_night"] else []
     for crate, uses in sources.crates_of(top).items():
         code, logic = text_of(top, crate, "src"), text_of(top, crate, "specs") + text_of(top, crate, "proofs")
         named = lambda used: re.search(rf"(?<![\w.]){used}::|\bRattle\.{used}\b", code) or re.search(rf"\bRattle\.{used}\b", logic)
@@ -270,12 +270,11 @@ def scripts_are_clean(top):
 
 
 LOOKS = [
-    ("the boards go through their passes", boards_go_through_passes),
+    ("all go to the boards through passes", boards_go_through_passes),
     ("the kinds of step of the boards", kinds_of_step),
-    ("what the types of boards, readings and handles implement is listed", traits_are_listed),
-    ("passes and handles do nothing when they are let go", nothing_acts_when_let_go),
-    ("the boards hold their words alone", boards_hold_words_alone),
-    ("a night of the program is on the word board", night_is_on_words),
+    ("what the types of boards and readings implement is listed", traits_are_listed),
+    ("nothing is done where a value is let go", nothing_acts_when_let_go),
+    ("boards, passes and handles hold their parts alone", boards_hold_words_alone),
     ("a source's calls are listed where they are made", calls_are_listed_once),
     ("what an evening and a follower keep is of fixed size", parts_are_of_fixed_size),
     ("HANDLES is as it was", handles_are_unchanged),

@@ -6,15 +6,18 @@
 
 import concurrent.futures
 import contextlib
+import fcntl
 import functools
 import itertools
 import os
 import pathlib
 import re
+import select
 import shutil
 import signal
 import subprocess
 import tempfile
+import termios
 from typing import NamedTuple
 
 import hypothesis
@@ -259,6 +262,17 @@ class Started(subprocess.Popen):
     def lines(self, count=1):
         """Awaits so many lines of its output."""
         return lines_of(self.stdout, count)
+
+    def answer(self, text, size, count):
+        """Writes a text, its last bytes as one piece of this size, once all others are read. So many bytes of output, if they come in ten seconds."""
+        self.write(text[:-size])
+        while any(fcntl.ioctl(self.stdin, termios.FIONREAD, bytes(4))):
+            pass
+        self.write(text[-size:])
+        parts = [b""]
+        while sum(map(len, parts)) < count and select.select([self.stdout], [], [], 10)[0]:
+            parts.append(os.read(self.stdout.fileno(), count - sum(map(len, parts))) or pytest.fail("it has ended"))
+        return decoded(b"".join(parts))
 
     def end(self):
         """Ends its input, and awaits its end: the status, and what was written and told that is not read yet."""

@@ -1,5 +1,6 @@
 """`ucl_night`, and the words, helps and versions of all programs: tables of command line, input, output, status, errors."""
 
+import itertools
 import os
 import re
 import resource
@@ -106,15 +107,14 @@ def test_screen_of_a_night_by_an_order(run, words):
     assert run("ucl_night", "show", *words, input=rows_of(AWAY, "club") + words_of_board) == (0, ending.removeprefix("FINAL\n"), "")
 
 
-@pytest.mark.parametrize("words, script, closing", [
-    (["--readings", "3"], STORED, STORED_END), (["--readings", "1000"], STORED, STORED_END), (["--group", "A", "--readings", "3"], WHOLE, FINAL),
-], ids=["3", "1000", "of a whole group"])
-def test_night_with_readings(run, words, script, closing):
-    """Each reader has its last screen, and the closing screen comes after both."""
-    ran = run("ucl_night", "night", *words, input=script)
+def test_night_with_each_number_of_readings(run):
+    """Each reader has its last screen, and the closing screen comes after both. On a board of its own a night finds a number for each reporter, and no stranger."""
     screen = r"GROUP A v\d{5} IN PLAY \d\n.*\n(?:\d [-+ ] .{49}\n){4}"
-    assert ran.status == 0 and ran.errors == ""
-    assert re.fullmatch(f"READER 1\n{screen}READER 2\n{screen}{re.escape(closing)}", ran.output)
+    for readings in range(1, 1001):
+        script, closing = (WHOLE, FINAL) if readings % 100 == 3 else (STORED, STORED_END)
+        ran = run("ucl_night", "night", "--readings", str(readings), input=script)
+        assert (ran.status, ran.errors) == (0, ""), f"{readings} readings"
+        assert re.fullmatch(f"READER 1\n{screen}READER 2\n{screen}{re.escape(closing)}", ran.output), f"{readings} readings"
 
 
 LARGEST = CLUBS + "1,1,00000,kickoff\n" * 2 + "1,1,0,kickoff\n" * 299_585
@@ -233,6 +233,28 @@ def test_input_without_end(run):
         source.kill()
 
 
+@pytest.mark.parametrize("line, name", [("ucl_night feed", FED), ("ucl_live --format json", "group_a_2021_night.csv"), ("ucl_follow --format json", FOLLOWED)])
+@pytest.mark.parametrize("error", ["EINTR", "EAGAIN", "EIO"])
+@pytest.mark.parametrize("call", ["read", "write"])
+def test_call_that_fails_once(program, run, tmp_path, line, name, error, call):
+    """It is not made again, though it would succeed then: what is out is as much as is told, and what was read until then is answered."""
+    needs("strace")
+    (name_of, *words), text, used = line.split(), example(name), tmp_path / call
+    whole = run(name_of, *words, input=text)
+    for nth in itertools.count(1):
+        (tmp_path / "read").write_text(text)
+        with open(tmp_path / "read", "rb") as source, open(tmp_path / "write", "wb") as sink:
+            traced = ["strace", "-qo", os.devnull, "-P", used, "-e", f"inject={call}:error={error}:when={nth}", program(name_of), *words]
+            ran = command(traced, stdin=source, stdout=sink)._replace(output=text_of(tmp_path / "write"))
+        if ran.status == 0:
+            break
+        told = re.fullmatch({"read": "reading failed 22", "write": "writing failed 26"}[call] + r": after (\d+) bytes\n", ran.errors)
+        count = int(told[1]) if told else 0
+        read = "" if "feed" in words else run(name_of, *words, input=text[: text.rfind("\n", 0, count) + 1]).output
+        assert (ran.status, bool(told), ran.output) == (4, True, whole.output[:count] if call == "write" else read), f"call {nth}"
+    assert nth > 1 and ran == whole
+
+
 def test_reader_that_goes_away(start, tmp_path):
     """In the middle of an output that is larger than a pipe."""
     (tmp_path / "script").write_text(LARGEST)
@@ -281,17 +303,16 @@ def test_thread_that_is_refused(program):
 
 # ---- what measures the boards
 
-WORKLOADS = {"read": "", "report": "", "mix-3-1": '"readers":3,"reporters":1,', "mix-16-12": '"readers":16,"reporters":12,', "night": '"readers":2,"reporters":2,'}
-WORKLOADS |= {"paced-2-0": '"readers":2,"reporters":0,', "paced-0-12": '"readers":0,"reporters":12,'}
+WORKLOADS = {"read": "calls", "report": "calls", **dict.fromkeys(["mix-3-1", "mix-16-12", "paced-2-0", "paced-0-12"], "reads")}
 NO_WORKLOADS = ["", "write", "Read", "read-1", "report-1-1", "mix", "mix-3", "mix-17-1", "mix-1-13", "mix-a-1", "mix--1", "mix-1-", "mix-1-1-1"]
 
 
 def test_workloads(place):
     if built("ucl_bench", place) is None:
         pytest.skip("not built: ucl_bench, which no user needs")
-    measured = lambda name: command([place / "bench/boards", "run", "plain_words", name, "1"], cwd=place)
+    measured = lambda name: command([built("ucl_bench", place), "run", "word_board", name, "1"], cwd=place)
     for name, told in WORKLOADS.items():
-        assert measured(name) == (0, Has(f'{{"board":"plain_words","workload":"{name}",{told}'), "")
+        assert measured(name) == (0, Has(f'{{"{told}":'), "")
     for name in [*NO_WORKLOADS, "paced-256-0", "night-2-2", "3-1"]:
         ran = measured(name)
         assert ran.status and ran.output == "" and "no such workload" in ran.errors, name

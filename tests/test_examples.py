@@ -1,9 +1,10 @@
 """What stands in `examples/`, in the README and in doc comments is what programs do, and what tests try."""
 
 import re
+import shutil
 
 import pytest
-from conftest import EXAMPLES, TOP, command, tabled, text_of
+from conftest import EXAMPLES, TOP, command, needs, tabled, text_of
 
 README = text_of(TOP / "README.md")
 SEASON = EXAMPLES / "season_2021_22"
@@ -71,16 +72,38 @@ def calls_in(text):
             yield name, [re.sub(r"^ */// ?", "", block, flags=re.M) for block in BLOCK.findall(comment)]
 
 
+BOARD_CRATES = ["ucl_live_board", "ucl_pass", "ucl_words"]
+CALLS = [call for crate in BOARD_CRATES for path in sorted((TOP / "crates" / crate).glob("src/*.rt")) for call in calls_in(text_of(path))]
+HEAD = """#![tactic(auto)]
+
+use std::test::Fail;
+use ucl_pass::{CellBoard, LiveBoard, TooManyReporters, settle};
+use ucl_word::{Accepted, EventCall, Kind, MatchNo};
+use ucl_words::WordBoard;
+"""
+
+
 @pytest.mark.quick
-@pytest.mark.parametrize("crates, tests", [(["ucl_pass", "ucl_live_board"], "cell_board"), (["ucl_words"], "word_board")], ids=str)
-def test_doc_comments(crates, tests):
-    """Each public call has one example of 3 to 10 lines, which calls it, and is the body of one test; and each such test, and block, is an example."""
-    text = text_of(TOP / f"crates/ucl_boards_tests/src/{tests}/examples.rt")
-    bodies = re.findall(r"^#\[test\]\nfn \w+\(rt: HostRuntime\) -> Result<\(\), Fail> \{\n(.*?)\n    Ok\(\(\)\)\n\}$", text, re.M | re.S)
-    bodies = [re.sub(r"^    ", "", body, flags=re.M) + "\n" for body in bodies]
-    files = [text_of(path) for crate in crates for path in (TOP / "crates" / crate).glob("src/*.rt")]
-    found = [it for file in files for it in calls_in(file)]
-    assert [call for call, blocks in found if len(blocks) != 1 or not re.search(rf"\b{call}\(", blocks[0])] == []
-    assert [call for call, (block,) in found if not 3 <= block.count("\n") <= 10] == []
-    assert sorted(block for _, (block,) in found) == sorted(bodies) and text.count("#[test]") == len(bodies) > 0
-    assert sum(len(BLOCK.findall(file)) for file in files) == len(found)
+def test_doc_comments():
+    """Each public call of a board has one example of 3 to 10 lines, which calls it, and there are no other blocks."""
+    assert [call for call, blocks in CALLS if len(blocks) != 1 or not re.search(rf"\b{call}\(", blocks[0])] == []
+    assert [call for call, (block,) in CALLS if not 3 <= block.count("\n") <= 10] == []
+    files = [path for crate in BOARD_CRATES for path in (TOP / "crates" / crate).glob("src/*.rt")]
+    assert sum(len(BLOCK.findall(text_of(path))) for path in files) == len(CALLS) > 0
+
+
+@pytest.mark.limit(300)
+def test_examples_of_doc_comments(tmp_path):
+    """They are tried as the tests of a crate of their own, unproved."""
+    needs("rt")
+    crates = {line.split()[0].strip(":"): line for line in text_of(TOP / "crates.txt").splitlines(True)}
+    below = ["ucl_word", "ucl_board", "ucl_steps", *BOARD_CRATES]
+    for crate in below:
+        shutil.copytree(TOP / "crates" / crate, tmp_path / "crates" / crate, ignore=shutil.ignore_patterns("out", "must-fail"))
+    shutil.copy(TOP / "HANDLES", tmp_path)
+    (tmp_path / "crates.txt").write_text("".join(crates[crate] for crate in below) + "tried tests_may=Threads+Wait: ucl_word ucl_pass ucl_words\n")
+    (tmp_path / "crates/tried/src").mkdir(parents=True)
+    tests = [f"\n#[test]\nfn example_{number}(rt: HostRuntime) -> Result<(), Fail> {{\n{block}Ok(())\n}}\n" for number, (_, (block,)) in enumerate(CALLS)]
+    (tmp_path / "crates/tried/src/lib.rt").write_text(HEAD + "".join(tests))
+    ran = command(["rt", "try", "--test"], cwd=tmp_path / "crates/tried")
+    assert ran.status == 0 and f"ok. {len(CALLS)} passed" in ran.output, ran

@@ -14,6 +14,8 @@ import looks_at_sources as looks
 
 SUM = "dac8208d650f15bf"
 LOOK = "the README and --version tell the logic sum of the kit"
+# A sink that writes a line when it is let go, by `writer` alone, so that no contract sees it.
+TO_WRITE = "impl<W: Write + Drop> Drop for ToWrite<W> {\n    fn drop(mut self) {\n        let _ = self.writer.write(FORGED);\n    }\n}\n\n"
 
 
 @pytest.mark.quick
@@ -36,26 +38,36 @@ def test_kit(tmp_path, version, verdict):
     assert f"{verdict} {LOOK}" in told
 
 
+# Faults by what they do: the look that has to find them, and in which of these files a text stands once that becomes another.
+FAULTS = {
+    "a lock in a board": (looks.boards_hold_words_alone, "ucl_words/src/board.rt", "    table: Table,\n}", "    table: Table,\n    lock: AtomicBool,\n}"),
+    "a lock behind a handle": (looks.boards_hold_words_alone, "*/src/board_pass.rt", "    pass: AnyPass,\n}", "    pass: AnyPass,\n    turn: Arc<Mutex<()>, Global>,\n}"),
+    "another type behind a handle": (looks.boards_hold_words_alone, "*/src/board_pass.rt", "/// A pass of either", "mod turns {\n    pub struct BoardPass {}\n}\n\n/// A pass of either"),
+    "a lock of a night": (looks.boards_hold_words_alone, "ucl_runs/src/night.rt", "use std::sync::Wait;", "use std::sync::{\n    Mutex, Wait,\n};"),
+    "a load of its own kind": (looks.traits_are_listed, "ucl_words/src/board.rt", "impl WordBoard {", "impl\n    atomic_table::Play<Entry, WordView> for Glance {}\n\nimpl WordBoard {"),
+    "a load of a handle's own kind": (looks.kinds_of_step, "*/src/board_pass.rt", "impl BoardPass {", "impl Play<Entry, WordView> for Glance {}\n\nimpl BoardPass {"),
+    "a look of a handle": (looks.boards_go_through_passes, "*/src/board_pass.rt", "match &self.pass {", "self.board.table().shared.peek(0);\n        match &self.pass {"),
+    "a wait of a night": (looks.boards_go_through_passes, "ucl_runs/src/workers.rt", "    let mut last = None;", "    words.park_timeout(rt, 0, 0, A_SECOND);\n    let mut last = None;"),
+    "a wake by a program": (looks.boards_go_through_passes, "ucl_night/src/main.rt", "    let alloc = rt.alloc();", "    words.wake_all(0);\n    let alloc = rt.alloc();"),
+    "a pass that acts": (looks.nothing_acts_when_let_go, "ucl_words/src/passes.rt", "impl WordReporterPass {", "impl ops::Drop\n    for WordReporterPass { fn drop(self) {} }\n\nimpl WordReporterPass {"),
+    "a writer that writes a line more": (looks.nothing_acts_when_let_go, "ucl_io/src/devices.rt", "impl<W: Write> ToWrite<W> {", TO_WRITE + "impl<W: Write> ToWrite<W> {"),
+    "a count that acts": (looks.nothing_acts_when_let_go, "ucl_io/src/tally.rt", "let Self { marker: _ } = self;", "tell(self);"),
+    "a handle that acts": (looks.nothing_acts_when_let_go, "ucl_c*/src/*.rt", "            drop(self.take(alloc).into_box());", "            report(self.take(alloc));"),
+    "a trait by another name": (looks.traits_are_listed, "ucl_pass/src/passes.rt", "use std::marker::Model;", "use std::marker::Model;\nuse std::ops::{\n    Drop as Quiet,\n};"),
+    "an equality by hand": (looks.traits_are_listed, "ucl_board/src/reading.rt", "Debug, PartialEq, Eq)]", "Debug, Eq)]"),
+}
+
+
 @pytest.mark.quick
-@pytest.mark.parametrize(
-    "look, file, old, new",
-    [
-        (looks.boards_hold_words_alone, "ucl_words/src/board.rt", "    table: Table,\n}", "    table: Table,\n    lock: AtomicBool,\n}"),
-        (looks.traits_are_listed, "ucl_words/src/board.rt", "impl WordBoard {", "impl\n    atomic_table::Play<Entry, WordView> for Glance {}\n\nimpl WordBoard {"),
-        (looks.traits_are_listed, "ucl_words/src/passes.rt", "impl WordReporterPass {", "impl ops::Drop\n    for WordReporterPass {}\n\nimpl WordReporterPass {"),
-        (looks.traits_are_listed, "ucl_pass/src/passes.rt", "use std::marker::Model;", "use std::marker::Model;\nuse std::ops::{\n    Drop as Quiet,\n};"),
-        (looks.traits_are_listed, "ucl_board/src/reading.rt", "Debug, PartialEq, Eq)]", "Debug, Eq)]"),
-        (looks.nothing_acts_when_let_go, "ucl_c_handles/src/calls.rt", "            drop(self.take(alloc).into_box());", "            report(self.take(alloc));"),
-    ],
-    ids=["a lock in a board", "a load of its own kind", "a pass that acts", "a trait by another name", "an equality by hand", "a handle that acts"],
-)
-def test_planted(tmp_path, look, file, old, new):
+@pytest.mark.parametrize("fault", FAULTS)
+def test_planted(tmp_path, fault):
     """The look finds nothing in the sources, and something where a fault is planted."""
+    look, files, old, new = FAULTS[fault]
     for folder in TOP.glob("crates/*/src"):
         shutil.copytree(folder, tmp_path / folder.relative_to(TOP))
+    shutil.copy(TOP / "crates.txt", tmp_path)
     assert look(tmp_path) == []
-    path = tmp_path / "crates" / file
-    assert path.read_text().count(old) == 1
+    [path] = [path for path in tmp_path.glob(f"crates/{files}") if path.read_text().count(old) == 1]
     path.write_text(path.read_text().replace(old, new))
     assert look(tmp_path)
 

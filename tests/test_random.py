@@ -12,6 +12,7 @@ from conftest import Started, command, decoded, encoded
 from hypothesis import given, settings
 from hypothesis import strategies as st
 from model import CLUBS, FINISHED, IN_PLAY, SCHEDULED, WORDS, Evening, followed, fresh, night, sheet
+from test_followers import FIRST, SCREEN, in_edition, renamed
 
 pytestmark = pytest.mark.limit(600)
 NAMES = st.text(st.sampled_from('AZaz09 ,"\\~'), min_size=1, max_size=20)
@@ -147,6 +148,35 @@ def test_followers(program, data):
             some[at] = some[at].rstrip("\n")[:end] + more
     words, text = draw(st.sampled_from([[], ["--format", "json"], ["--matches"]])) + draw(GROUPS) + draw(ORDERS), "".join(some)
     assert fed(program("ucl_follow"), words, text, draw(PIECES)) == followed(words, text)
+
+
+# 20,000 bytes in lines of several lengths, none of which is a row or a moment.
+OTHERS = "".join("x" * random.Random(0).choice([1, 20, 250, 300]) + "\n" for _ in range(400))[-20_000:]
+
+
+def rows_of_sizes(sizes):
+    """Bad rows of at least so many bytes each, and what `ucl_live` answers."""
+    text, row = CLUBS, 5
+    for size in sizes:
+        lines = OTHERS[-max(2, size) :].splitlines(True)
+        yield size, text + "".join(lines), "".join(f"{row + at} refused 20 bad-row\n" for at, line in enumerate(lines) if line != "\n")
+        text, row = "", row + len(lines)
+
+
+def moments_of_sizes(sizes):
+    """Lines of at least so many bytes, of which the last tells a moment of a later edition, and what `ucl_follow` shows."""
+    for edition, size in enumerate(sizes, 1):
+        moment = in_edition(edition, FIRST)
+        yield size, OTHERS[len(OTHERS) - max(0, size - len(moment)) :] + moment, renamed(SCREEN)
+
+
+@pytest.mark.parametrize("name, texts", [("ucl_live", rows_of_sizes), ("ucl_follow", moments_of_sizes)])
+def test_pieces_on_a_pipe(start, name, texts):
+    """A piece of any size up to 20,000 bytes is answered before another byte is there, in whatever order the sizes come."""
+    started = start(name)
+    for size, text, answer in texts(random.sample(range(1, 20_001), 20_000)):
+        assert started.answer(text, size, len(answer)) == answer, f"a piece of {size} bytes"
+    assert started.end().output == ""
 
 
 def test_nights_on_both_boards(program):

@@ -1,10 +1,17 @@
-//! Four boards that threads share: twelve match words, each board with another way to read them all of one moment.
+//! Three boards that threads share: twelve match words, each board with another way to read them all of one moment; and the events that are
+//! entered in them.
 
-use crate::word::{next_word, number_of, version_of, Event, Refusal, Words, FRESH};
+use crate::word::{
+    next_word, number_of, version_of, Event, Kind, Refusal, Side, Words, FRESH, LAST_NUMBER,
+    LAST_NUMBER_IN_PLAY,
+};
 use std::array;
 use std::hint::spin_loop;
 use std::sync::atomic::{fence, AtomicU64, Ordering};
-use std::sync::{Mutex, RwLock};
+use std::sync::Mutex;
+
+/// How many events a match takes.
+pub const ALL_EVENTS: u16 = LAST_NUMBER;
 
 /// The twelve words of one moment, and the sum of their event numbers.
 pub struct Reading {
@@ -24,8 +31,7 @@ pub trait Board: Send + Sync {
     /// The board on which no match has begun.
     fn fresh() -> Self;
 
-    /// Reads the board, and adds to `retries` how many tries were in vain.
-    fn read(&self, retries: &mut u64) -> Reading;
+    fn read(&self) -> Reading;
 
     /// Enters an event, and answers with the event number of its match after it.
     fn report(&self, reporter: u8, event: &Event) -> Result<u16, Refusal>;
@@ -33,28 +39,36 @@ pub trait Board: Send + Sync {
 
 /// A reading that is really taken: the call is not put into the caller, so its answer is made in full.
 #[inline(never)]
-pub fn read_once<B: Board>(board: &B, retries: &mut u64) -> Reading {
-    board.read(retries)
+pub fn read_once<B: Board>(board: &B) -> Reading {
+    board.read()
 }
 
-/// What a report tells: whether the event was accepted, and the event number of its match then.
-pub struct Told {
-    pub is_accepted: bool,
-    pub number: u16,
-}
-
-/// A report that is really made. An event that is refused, and not as stale, named the number that its match has.
+/// A report that is really made, and the event number that it was given; nothing if it was refused.
 #[inline(never)]
-pub fn report_once<B: Board>(board: &B, reporter: u8, event: &Event) -> Told {
-    let (is_accepted, number) = match board.report(reporter, event) {
-        Ok(number) => (true, number),
-        Err(Refusal::Stale(found)) => (false, found),
-        Err(_) => (false, event.expected),
-    };
-    Told {
-        is_accepted,
-        number,
+pub fn report_once<B: Board>(board: &B, reporter: u8, event: &Event) -> Option<u16> {
+    board.report(reporter, event).ok()
+}
+
+/// The kind of a match's event: a kick-off, then a home goal and a home goal disallowed in turn, and last full time.
+fn kind_at(expected: u16) -> Kind {
+    match expected {
+        0 => Kind::KickOff,
+        LAST_NUMBER_IN_PLAY => Kind::FullTime,
+        _ if expected % 2 == 1 => Kind::Goal(Side::Home),
+        _ => Kind::Disallow(Side::Home),
     }
+}
+
+/// The first events of all matches, so many of each, one match after the other.
+pub fn events_of(each: u16) -> Vec<Event> {
+    let event = |game, expected| Event {
+        game,
+        expected,
+        kind: kind_at(expected),
+    };
+    (1..=12)
+        .flat_map(|game| (0..each).map(move |expected| event(game, expected)))
+        .collect()
 }
 
 /// The index of an event's match.
@@ -80,7 +94,7 @@ impl Board for DoubleCollect {
         }
     }
 
-    fn read(&self, retries: &mut u64) -> Reading {
+    fn read(&self) -> Reading {
         loop {
             let words = array::from_fn(|i| self.words[i].load(Ordering::SeqCst));
             let is_same =
@@ -88,7 +102,6 @@ impl Board for DoubleCollect {
             if self.words.iter().zip(&words).all(is_same) {
                 return Reading::of(words);
             }
-            *retries += 1;
         }
     }
 
@@ -136,7 +149,7 @@ impl Board for SequenceLock {
         }
     }
 
-    fn read(&self, retries: &mut u64) -> Reading {
+    fn read(&self) -> Reading {
         loop {
             let before = self.count.load(Ordering::Acquire);
             let words = array::from_fn(|i| self.words[i].load(Ordering::Relaxed));
@@ -144,7 +157,6 @@ impl Board for SequenceLock {
             if before % 2 == 0 && self.count.load(Ordering::Relaxed) == before {
                 return Reading::of(words);
             }
-            *retries += 1;
             spin_loop();
         }
     }
@@ -161,47 +173,19 @@ impl Board for SequenceLock {
     }
 }
 
-/// Enters an event in words that nobody else sees at the time.
-fn enter(words: &mut Words, reporter: u8, event: &Event) -> Result<u16, Refusal> {
-    let word = &mut words[index_of(event)];
-    *word = next_word(*word, reporter, event)?;
-    Ok(number_of(*word))
-}
-
 impl Board for Mutex<Words> {
     fn fresh() -> Mutex<Words> {
         Mutex::new([FRESH; 12])
     }
 
-    fn read(&self, _retries: &mut u64) -> Reading {
+    fn read(&self) -> Reading {
         let words = *self.lock().expect("no thread has panicked");
         Reading::of(words)
     }
 
     fn report(&self, reporter: u8, event: &Event) -> Result<u16, Refusal> {
-        enter(
-            &mut self.lock().expect("no thread has panicked"),
-            reporter,
-            event,
-        )
-    }
-}
-
-impl Board for RwLock<Words> {
-    fn fresh() -> RwLock<Words> {
-        RwLock::new([FRESH; 12])
-    }
-
-    fn read(&self, _retries: &mut u64) -> Reading {
-        let words = *RwLock::read(self).expect("no thread has panicked");
-        Reading::of(words)
-    }
-
-    fn report(&self, reporter: u8, event: &Event) -> Result<u16, Refusal> {
-        enter(
-            &mut self.write().expect("no thread has panicked"),
-            reporter,
-            event,
-        )
+        let word = &mut self.lock().expect("no thread has panicked")[index_of(event)];
+        *word = next_word(*word, reporter, event)?;
+        Ok(number_of(*word))
     }
 }

@@ -1,6 +1,7 @@
 //! A script of events, entered on a board of one thread: a reply for each event, and the twelve match words.
 
 use crate::records::{Record, Records};
+use crate::table::Club;
 use crate::word::{next_word, number_of, Event, Kind, Refusal, Side, Words, FRESH};
 use std::fmt;
 use std::io::{self, Read};
@@ -48,7 +49,7 @@ pub struct Report {
 }
 
 /// The number of a field of so many decimal digits at most, where it is in a range.
-pub fn number(field: &[u8], digits: usize, range: RangeInclusive<u32>) -> Option<u32> {
+fn number(field: &[u8], digits: usize, range: RangeInclusive<u32>) -> Option<u32> {
     if field.is_empty() || field.len() > digits || !field.iter().all(u8::is_ascii_digit) {
         return None;
     }
@@ -77,8 +78,8 @@ fn kind_of(word: &[u8]) -> Option<Kind> {
     })
 }
 
-/// Whether the club of a row can be in a roster; nothing where the row is not that of the club in this slot.
-fn is_good_club(record: &Record, slot: usize) -> Option<bool> {
+/// The club of a record in this slot; nothing where it is no such record, and no club where it can be in no roster.
+pub fn club_of(record: &Record, slot: usize) -> Option<Option<Club>> {
     let [first, row, name, coefficient] = record.four_fields()?;
     let coefficient = number(coefficient, 9, 0..=999_999_999)?;
     if first != b"club" || row != slot.to_string().as_bytes() {
@@ -86,7 +87,11 @@ fn is_good_club(record: &Record, slot: usize) -> Option<bool> {
     }
     let is_named =
         (1..=20).contains(&name.len()) && name.iter().all(|byte| (0x20..=0x7e).contains(byte));
-    Some(is_named && coefficient <= 999_999)
+    if !is_named || coefficient > 999_999 {
+        return Some(None);
+    }
+    let name = String::from_utf8_lossy(name).into_owned().leak();
+    Some(Some(Club { name, coefficient }))
 }
 
 /// The report of a row.
@@ -108,12 +113,9 @@ fn reports_of(input: &[u8]) -> Result<Vec<Report>, Fault> {
     let mut record = Record::default();
     let mut bad_slot = None;
     for slot in 1..=4 {
-        let is_good = if records.read(&mut record) {
-            is_good_club(&record, slot)
-        } else {
-            None
-        };
-        if !is_good.ok_or(Fault::Row(slot))? {
+        let is_there = records.read(&mut record);
+        let club = is_there.then(|| club_of(&record, slot)).flatten();
+        if club.ok_or(Fault::Row(slot))?.is_none() {
             bad_slot = bad_slot.or(Some(slot));
         }
     }

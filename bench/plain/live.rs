@@ -1,6 +1,6 @@
 //! The board through an evening, by lines: each row is answered as text before more input is awaited. It begins on the board of no event.
 
-use crate::feed::{number, push_number, push_reply, report_of, Fault};
+use crate::feed::{club_of, push_number, push_reply, report_of, Fault};
 use crate::records::{Record, Records};
 use crate::table::{screen, Club};
 use crate::word::{next_word, Words, FRESH};
@@ -44,21 +44,6 @@ fn read_record(line: &[u8], record: &mut Record) -> bool {
 fn without_end(line: &[u8]) -> &[u8] {
     let line = line.strip_suffix(b"\n").unwrap_or(line);
     line.strip_suffix(b"\r").unwrap_or(line)
-}
-
-/// The club of a record in this slot; nothing where it is no such record, and no club where it can be in no roster.
-fn club_of(record: &Record, slot: usize) -> Option<Option<Club>> {
-    let [first, row, name, coefficient] = record.four_fields()?;
-    let coefficient = number(coefficient, 9, 0..=999_999_999)?;
-    if first != b"club" || row != slot.to_string().as_bytes() {
-        return None;
-    }
-    let is_named = (1..=20).contains(&name.len()) && name.iter().all(|byte| (0x20..=0x7e).contains(byte));
-    if !is_named || coefficient > 999_999 {
-        return Some(None);
-    }
-    let name = String::from_utf8_lossy(name).into_owned().leak();
-    Some(Some(Club { name, coefficient }))
 }
 
 impl Table {

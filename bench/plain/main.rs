@@ -2,43 +2,34 @@
 //! what docs/RULES.md says, without a proof. `rustc -O --edition 2021 main.rs` builds them; bench/compare does so, and compares.
 
 mod boards;
-mod events;
 mod feed;
 mod live;
+mod measure;
 mod nights;
-mod one_thread;
 mod records;
 mod samples;
 mod table;
-mod tables;
-mod tally;
 mod trips;
 mod word;
 
 use boards::{Board, DoubleCollect, SequenceLock};
-use nights::{Plan, Style};
+use nights::Plan;
 use samples::Sample;
 use std::io::{self, Write};
 use std::process::ExitCode;
-use std::sync::{Mutex, RwLock};
+use std::sync::Mutex;
 use std::{env, fs};
 use word::Words;
 
-const USAGE: &str = "plain list
-plain run SUBJECT WORKLOAD MS [FILE]    measures, and prints a line of JSON
-plain check record_table standings|screen FILE
-                                        the rows, or the screens, of the boards of a file
+const USAGE: &str = "plain run BOARD WORKLOAD MS              double_collect, sequence_lock or mutex; read, report, mix-R-W or paced-R-W
+plain run table standings|screen MS FILE
+                                        measures, and prints a line of JSON
+plain screens FILE                      the screens of the boards of a file
 plain boards KIND                       1,000 boards: mixed, evening, finished, goalless or fresh; 20,000: narrow
 plain feed                              enters a script of events from standard input
 plain live                              an evening: answers each row of standard input as it comes
 plain echo                              writes each line of standard input back as it comes
 plain trips ROW COUNT PROGRAM [WORD..]  a row to an evening's program and its answer back: the least time and the median, in nanoseconds";
-
-const LIST: &str = "double_collect read report mix-R-W paced-R-W night
-sequence_lock read report mix-R-W paced-R-W night
-mutex read report mix-R-W paced-R-W night
-read_write_lock read report mix-R-W paced-R-W night
-record_table standings screen";
 
 /// Why nothing was done: the exit status, and what to say.
 type Failure = (u8, String);
@@ -47,25 +38,17 @@ fn usage() -> Failure {
     (2, USAGE.to_string())
 }
 
-/// Nights by the name of a workload: `mix-R-W` or `paced-R-W`, with R readers, 0 to 16, and W reporters, 0 to 12; or `night`.
+/// Nights by the name of a workload: `mix-R-W` or `paced-R-W`, with R readers, 0 to 16, and W reporters, 0 to 12.
 fn plan_of(name: &str) -> Option<Plan> {
-    if name == "night" {
-        return Some(Plan {
-            style: Style::Night,
-            readers: 2,
-            reporters: 2,
-        });
-    }
     let (style, numbers) = name.split_once('-')?;
     let (readers, reporters) = numbers.split_once('-')?;
-    let style = match style {
-        "mix" => Style::Mix,
-        "paced" => Style::Paced,
-        _ => return None,
-    };
     let number = |digits: &str, most| digits.parse().ok().filter(|number| *number <= most);
     Some(Plan {
-        style,
+        is_paced: match style {
+            "mix" => false,
+            "paced" => true,
+            _ => return None,
+        },
         readers: number(readers, 16)?,
         reporters: number(reporters, 12)?,
     })
@@ -74,34 +57,39 @@ fn plan_of(name: &str) -> Option<Plan> {
 /// Measures a board, and gives the figures.
 fn measured<B: Board>(workload: &str, millis: u64) -> Result<String, Failure> {
     match workload {
-        "read" => Ok(one_thread::measure_read::<B>(millis).to_string()),
-        "report" => Ok(one_thread::measure_report::<B>(millis).to_string()),
+        "read" => Ok(measure::measure_read::<B>(millis).to_string()),
+        "report" => Ok(measure::measure_report::<B>(millis).to_string()),
         _ => Ok(nights::hold_nights::<B>(plan_of(workload).ok_or_else(usage)?, millis).to_string()),
     }
 }
 
-/// The boards of a file.
-fn boards_in(path: &str) -> Result<Vec<Words>, Failure> {
-    let text = fs::read_to_string(path).map_err(|error| (1, format!("{path}: {error}")))?;
-    tables::boards_of(&text).ok_or_else(|| (1, format!("{path}: not boards, one a line")))
+/// The board of a line: twelve words of hexadecimal digits.
+fn board_of(line: &str) -> Option<Words> {
+    let words = line
+        .split(' ')
+        .map(|digits| u64::from_str_radix(digits, 16).ok());
+    words.collect::<Option<Vec<u64>>>()?.try_into().ok()
 }
 
-fn run(board: &str, workload: &str, millis: &str, path: Option<&str>) -> Result<(), Failure> {
+/// The boards of a file, one a line.
+fn boards_in(path: &str) -> Result<Vec<Words>, Failure> {
+    let text = fs::read_to_string(path).map_err(|error| (1, format!("{path}: {error}")))?;
+    let boards: Option<Vec<Words>> = text.lines().map(board_of).collect();
+    boards.ok_or_else(|| (1, format!("{path}: not boards, one a line")))
+}
+
+fn run(subject: &str, workload: &str, millis: &str, path: Option<&str>) -> Result<(), Failure> {
     let millis = millis.parse().map_err(|_| usage())?;
-    let figures = match (board, workload, path) {
-        ("double_collect", _, None) => measured::<DoubleCollect>(workload, millis)?,
-        ("sequence_lock", _, None) => measured::<SequenceLock>(workload, millis)?,
-        ("mutex", _, None) => measured::<Mutex<Words>>(workload, millis)?,
-        ("read_write_lock", _, None) => measured::<RwLock<Words>>(workload, millis)?,
-        ("record_table", "standings", Some(path)) => {
-            tables::measure_standings(&boards_in(path)?, millis).to_string()
-        }
-        ("record_table", "screen", Some(path)) => {
-            tables::measure_screens(&boards_in(path)?, millis).to_string()
-        }
+    let figures = match (subject, path) {
+        ("double_collect", None) => measured::<DoubleCollect>(workload, millis)?,
+        ("sequence_lock", None) => measured::<SequenceLock>(workload, millis)?,
+        ("mutex", None) => measured::<Mutex<Words>>(workload, millis)?,
+        ("table", Some(path)) => measure::measure_table(workload, &boards_in(path)?, millis)
+            .ok_or_else(usage)?
+            .to_string(),
         _ => return Err(usage()),
     };
-    println!("{{\"board\":\"{board}\",\"workload\":\"{workload}\",{figures}}}");
+    println!("{figures}");
     Ok(())
 }
 
@@ -145,11 +133,13 @@ fn print_trips(program: &[&str], row: &str, count: usize) -> Result<(), Failure>
 
 fn obey(words: &[&str]) -> Result<(), Failure> {
     match words {
-        ["list"] => println!("{LIST}"),
         ["run", board, workload, millis] => run(board, workload, millis, None)?,
         ["run", board, workload, millis, path] => run(board, workload, millis, Some(path))?,
-        ["check", "record_table", "standings", path] => tables::print_standings(&boards_in(path)?),
-        ["check", "record_table", "screen", path] => tables::print_screens(&boards_in(path)?),
+        ["screens", path] => {
+            for words in boards_in(path)? {
+                print!("{}", table::screen(&words, &table::CLUBS));
+            }
+        }
         ["boards", kind] => print_boards(kind)?,
         ["feed"] => {
             let text = feed::feed().map_err(|fault| (fault.status(), fault.to_string()))?;

@@ -6,7 +6,13 @@ use std::time::Instant;
 
 /// How long so many trips took, in nanoseconds, from the least to the most. The rows before them are written first; of these the last is
 /// awaited, by so many lines.
-pub fn trips(program: &[&str], before: &str, lines: usize, row: &str, count: usize) -> io::Result<Vec<u128>> {
+pub fn trips(
+    program: &[&str],
+    before: &str,
+    lines: usize,
+    row: &str,
+    count: usize,
+) -> io::Result<Vec<u128>> {
     let mut child = Command::new(program[0])
         .args(&program[1..])
         .stdin(Stdio::piped())

@@ -1,101 +1,144 @@
-//! Nights: readers and reporters in threads of their own, which stay for all nights, each of which has a fresh board. Nights without a
-//! clock, of which the rates are told, nights in which each reading is timed and checked, and nights in which each report is timed take
-//! turns.
+//! Nights: readers and reporters, each in a thread of its own, on a fresh board. Nights of which the rates are told, and nights of which
+//! each reading is timed take turns.
 
-use crate::clock::{FineQuotient, Quotient, nanos, nanos_since};
-use crate::subject::{Subject, Told, read_once, report_once};
-use anyhow::{Context, Result};
-use crossbeam_channel::{Receiver, Sender, unbounded};
-use std::alloc::Global;
+ghost use Rattle.std.specs.Prelude.{IfOk};
+
+use crate::boards::{ALL_EVENTS, Opens, enlist, events_of, read_often, read_once, report_once};
+use crate::clock::{nanos, nanos_since};
+use anyhow::{Context, Result, ensure};
+use std::alloc::{AllocError, Global};
 use std::sync::atomic::{AtomicU64, Ordering};
-use std::sync::{Arc, Wait};
-use std::thread::{JoinHandle, Threads};
+use std::sync::{Mutex, Wait};
+use std::thread::{Scope, Threads};
 use std::time::{Clock, Duration};
 use std::{fmt, thread};
-use ucl_bench_tally::events::{ALL_EVENTS, MATCHES, event_at, is_of};
-use ucl_bench_tally::tally::{Cut, Order, Tally, is_whole};
-use ucl_word::{EventCall, MatchNo};
+use ucl_pass::{LiveBoard, MOST_REPORTERS};
+use ucl_word::EventCall;
 
 /// How far apart the events of a paced reporter are.
 const PACE_NANOS: u64 = 5_000;
 
-/// How many events of each match a paced reporter enters.
+/// How many events of each match paced reporters enter.
 const PACED_EVENTS: u16 = 100;
 
 /// How long a night without a reporter is.
 const QUIET_NIGHT_MILLIS: u64 = 20;
 
-/// How many readings are taken without a clock before a reader looks whether the night has ended.
+/// How many readings are taken before a reader looks whether the night has ended.
 const READINGS_AT_ONCE: u64 = 16;
 
-/// How reporters share the matches of a night.
-#[derive(Clone, Copy, PartialEq, Eq)]
-pub enum Style {
-    /// Each has matches of its own, and enters one event after the other.
-    Mix,
-    /// Each has matches of its own, and enters an event every five microseconds.
-    Paced,
-    /// All enter every match, one event of each in turn, and go on from the number that a reply tells.
-    Night,
-}
+/// From how many nanoseconds on all times of a reading are counted as one.
+const LONG: usize = 16_384;
 
 /// Who works on each night, and how.
 #[derive(Clone, Copy)]
 pub struct Plan {
-    pub style: Style,
+    /// Whether a reporter enters an event every five microseconds, or as fast as it goes.
+    pub is_paced: bool,
     pub readers: u8,
     pub reporters: u8,
 }
 
-impl Plan {
-    pub fn cut(&self) -> Cut {
-        let (events, order) = match self.style {
-            Style::Mix => (ALL_EVENTS, Order::Matches),
-            Style::Paced => (PACED_EVENTS, Order::Matches),
-            Style::Night => (ALL_EVENTS, Order::Turns),
-        };
-        Cut {
-            events,
-            reporters: self.reporters,
-            order,
+/// What was done in some nights.
+#[derive(Drop)]
+pub struct Figures {
+    /// How many readings were taken that were not timed one by one, and for how long, by all readers.
+    reads: u64,
+    read_nanos: u64,
+    /// How many events were accepted in these nights, and for how long they were entered, by all reporters.
+    pub events: u64,
+    event_nanos: u64,
+    /// How many of the timed readings took so many nanoseconds.
+    times: Vec<u64>,
+}
+
+impl Figures {
+    fn new(alloc: Global) -> Result<Figures, AllocError> {
+        Ok(Figures {
+            reads: 0,
+            read_nanos: 0,
+            events: 0,
+            event_nanos: 0,
+            times: vec![in alloc; 0; LONG]?,
+        })
+    }
+
+    /// Adds what another worker, or another night, came to.
+    fn add(&mut self, other: &Figures) {
+        self.reads = self.reads.wrapping_add(other.reads);
+        self.read_nanos = self.read_nanos.wrapping_add(other.read_nanos);
+        self.events = self.events.wrapping_add(other.events);
+        self.event_nanos = self.event_nanos.wrapping_add(other.event_nanos);
+        for (count, more) in self.times.iter_mut().zip(other.times.iter()) {
+            *count = count.wrapping_add(*more);
         }
+    }
+
+    /// Counts the time of a reading.
+    fn count(&mut self, nanos: u64) {
+        let place = (nanos as usize).min(LONG - 1);
+        if let Some(count) = self.times.get_mut(place) {
+            *count = count.wrapping_add(1);
+        }
+    }
+
+    /// The time that so many thousandths of the timed readings did not pass.
+    fn time_at(&self, thousandths: u64) -> usize {
+        let mut all = 0u64;
+        for count in self.times.iter() {
+            all = all.wrapping_add(*count);
+        }
+        let wanted = all.wrapping_mul(thousandths) / 1000;
+        let mut seen = 0u64;
+        for (nanos, count) in self.times.iter().enumerate() {
+            seen = seen.wrapping_add(*count);
+            if seen > wanted {
+                return nanos;
+            }
+        }
+        0
     }
 }
 
-/// What is timed in a night.
-#[derive(Clone, Copy, PartialEq, Eq)]
-pub enum Timed {
-    Nothing,
-    Readings,
-    Reports,
-}
-
-impl Timed {
-    /// What is timed in the next night.
-    fn next(self) -> Timed {
-        match self {
-            Timed::Nothing => Timed::Readings,
-            Timed::Readings => Timed::Reports,
-            Timed::Reports => Timed::Nothing,
-        }
+impl fmt::Display for Figures {
+    fn fmt<W: fmt::Write>(&self, f: &mut fmt::Formatter<W>) -> fmt::Result {
+        let Figures {
+            reads,
+            read_nanos,
+            events,
+            event_nanos,
+            ..
+        } = self;
+        let half = self.time_at(500);
+        let most = self.time_at(999);
+        write!(f, "{{\"reads\":{reads},\"read_ns\":{read_nanos},")?;
+        write!(f, "\"events\":{events},\"event_ns\":{event_nanos},")?;
+        write!(f, "\"p50_ns\":{half},\"p999_ns\":{most}}}")
     }
 }
 
 /// What the workers of one night share.
 #[derive(Drop)]
-pub struct Night {
-    timed: Timed,
-    workers: u64,
+struct Night<'e> {
+    plan: Plan,
+    events: &'e [EventCall],
+    is_timed: bool,
+    /// How many workers have come, and how many reporters have ended.
     come: AtomicU64,
-    reporting: AtomicU64,
+    ended: AtomicU64,
+    figures: Mutex<Figures>,
 }
 
-impl Night {
+impl Night<'_> {
+    fn workers(&self) -> u64 {
+        u64::from(self.plan.readers).wrapping_add(u64::from(self.plan.reporters))
+    }
+
     /// Comes to the night, and waits until all have.
     fn begin<R: Wait>(&self, rt: &R) {
         self.come.fetch_add(1, Ordering::SeqCst);
         for _ in rt.forever() {
-            if self.come.load(Ordering::SeqCst) >= self.workers {
+            if self.come.load(Ordering::SeqCst) >= self.workers() {
                 return;
             }
             thread::yield_now();
@@ -103,163 +146,69 @@ impl Night {
     }
 
     fn has_ended(&self) -> bool {
-        self.reporting.load(Ordering::SeqCst) == 0
+        self.ended.load(Ordering::SeqCst) >= u64::from(self.plan.reporters.max(1))
     }
 }
 
-/// A worker's part in a night.
-#[derive(Drop)]
-pub struct Ticket<T: Drop> {
-    part: T,
-    night: Arc<Night>,
-}
-
-/// What a reporter did in a night.
-#[derive(Clone, Copy)]
-pub struct Shift {
-    begun: u64,
-    ended: u64,
-    entered: u64,
-}
-
-/// What all nights came to: how many there were, what is timed in the next, and of those without a clock how many, for how long, and how
-/// many events.
-#[derive(Clone, Copy)]
-struct Sums {
-    nights: u64,
-    next: Timed,
-    untimed: u64,
-    nanos: u64,
-    entered: u64,
-}
-
-/// The figures of all nights.
-#[derive(Drop)]
-pub struct Nights {
-    plan: Plan,
-    sums: Sums,
-    tally: Tally,
-    reports: Tally,
-    clock_nanos: u64,
-}
-
-impl fmt::Display for Nights {
-    fn fmt<W: fmt::Write>(&self, f: &mut fmt::Formatter<W>) -> fmt::Result {
-        let Plan {
-            readers,
-            reporters,
-            ..
-        } = self.plan;
-        let Sums {
-            nights,
-            untimed,
-            nanos,
-            entered,
-            ..
-        } = self.sums;
-        let tally = &self.tally;
-        let reads_per_s = Quotient(tally.reads.wrapping_mul(1_000_000), tally.nanos / 1000);
-        let reports_per_s = Quotient(entered.wrapping_mul(1_000_000), nanos / 1000);
-        let night_ms = Quotient(nanos / 10_000, untimed.wrapping_mul(100));
-        let retries = FineQuotient(tally.retries, tally.reads);
-        let p50 = tally.time_at(500);
-        let p999 = tally.time_at(999);
-        let max = tally.longest;
-        let report_p50 = self.reports.time_at(500);
-        let report_p999 = self.reports.time_at(999);
-        let report_max = self.reports.longest;
-        let clock = self.clock_nanos;
-        let checked = tally.checked;
-        let whole = tally.whole;
-        let torn = tally.torn();
-        write!(
-            f,
-            "\"readers\":{readers},\"reporters\":{reporters},\"nights\":{nights},"
-        )?;
-        write!(
-            f,
-            "\"reads_per_s\":{reads_per_s},\"reports_per_s\":{reports_per_s},\"night_ms\":{night_ms},\"retries_per_read\":{retries},"
-        )?;
-        write!(
-            f,
-            "\"p50_ns\":{p50},\"p999_ns\":{p999},\"max_ns\":{max},\"report_p50_ns\":{report_p50},"
-        )?;
-        write!(
-            f,
-            "\"report_p999_ns\":{report_p999},\"report_max_ns\":{report_max},\"clock_ns\":{clock},"
-        )?;
-        write!(f, "\"checked\":{checked},\"whole\":{whole},\"torn\":{torn}")
-    }
-}
-
-/// Reads through a night without a clock, and tells how many readings it took, and for how long.
-fn read_freely<S: Subject, R: Wait + Clock>(
+/// Reads through a night.
+fn read_freely<B: LiveBoard, R: Wait + Clock>(
     rt: &R,
-    part: &mut S::Reader,
-    night: &Night,
-) -> (u64, u64) {
-    let mut reads = 0u64;
+    board: &B,
+    pass: &mut B::ReaderPass,
+    night: &Night<'_>,
+    own: &mut Figures,
+)
+    requires { B.is_reader board.now pass.old }
+{
     let begun = nanos(rt);
-    for _ in rt.forever() {
+    for turn in rt.forever() {
         if night.has_ended() {
             break;
         }
-        for _ in 0..READINGS_AT_ONCE {
-            read_once::<S, R>(rt, part);
-        }
-        reads = reads.wrapping_add(READINGS_AT_ONCE);
+        read_often(rt, board, pass, READINGS_AT_ONCE);
+        own.reads = own.reads.wrapping_add(READINGS_AT_ONCE);
     }
-    (reads, nanos_since(rt, begun))
+    own.read_nanos = nanos_since(rt, begun);
 }
 
-/// Reads through a night, and times and checks each reading.
-fn read_timed<S: Subject, R: Wait + Clock>(
+/// Reads through a night, and times each reading.
+fn read_timed<B: LiveBoard, R: Wait + Clock>(
     rt: &R,
-    part: &mut S::Reader,
-    night: &Night,
-    cut: Cut,
-    tally: &mut Tally,
-) {
-    let mut last = 0;
-    for _ in rt.forever() {
+    board: &B,
+    pass: &mut B::ReaderPass,
+    night: &Night<'_>,
+    own: &mut Figures,
+)
+    requires { B.is_reader board.now pass.old }
+{
+    for turn in rt.forever() {
         if night.has_ended() {
             break;
         }
         let begun = nanos(rt);
-        let reading = read_once::<S, R>(rt, part);
-        let taken = nanos_since(rt, begun);
-        let version = S::version_of(&reading);
-        tally.add_checked(
-            taken,
-            last <= version && is_whole(&S::words_of(&reading), version, cut),
-        );
-        last = version;
+        read_once(rt, board, pass);
+        own.count(nanos_since(rt, begun));
     }
 }
 
-/// Reads through all nights, and hands back what was found.
-pub fn read_nights<S: Subject, R: Wait + Clock>(
+/// What a reader does in a night.
+fn read_night<B: LiveBoard, R: Wait + Clock>(
     rt: &R,
-    nights: Receiver<Ticket<S::Reader>>,
-    cut: Cut,
-    tally: Tally,
-) -> Tally {
-    let mut tally = tally;
-    for ticket in nights.iter(rt) {
-        let Ticket { mut part, night } = ticket;
-        night.begin(rt);
-        match night.timed {
-            Timed::Nothing => {
-                let (reads, nanos) = read_freely::<S, R>(rt, &mut part, &night);
-                tally.add_reads(reads, nanos, S::retries_of(&part));
-            }
-            Timed::Readings => read_timed::<S, R>(rt, &mut part, &night, cut, &mut tally),
-            Timed::Reports => {
-                let _ = read_freely::<S, R>(rt, &mut part, &night);
-            }
-        }
+    board: &B,
+    pass: B::ReaderPass,
+    night: &Night<'_>,
+    own: Figures,
+)
+    requires { B.is_reader board.now pass }
+{
+    let (mut pass, mut own) = (pass, own);
+    night.begin(rt);
+    if night.is_timed {
+        read_timed(rt, board, &mut pass, night, &mut own);
+    } else {
+        read_freely(rt, board, &mut pass, night, &mut own);
     }
-    tally
+    night.figures.lock(rt).add(&own);
 }
 
 /// Waits until an event is due.
@@ -271,355 +220,204 @@ fn wait_for<R: Wait + Clock>(rt: &R, due: u64) {
     }
 }
 
-/// Makes a report, and counts its time where reports are timed.
-fn report<S: Subject, R: Wait + Clock>(
+/// Enters the events of those matches whose number leaves the reporter's index as remainder, and tells how many were accepted.
+fn enter_own<B: LiveBoard, R: Wait + Clock>(
     rt: &R,
-    part: &mut S::Reporter,
-    call: &EventCall,
-    timed: Timed,
-    tally: &mut Tally,
-) -> Told {
-    if timed != Timed::Reports {
-        return report_once::<S, R>(rt, part, call);
-    }
-    let begun = nanos(rt);
-    let told = report_once::<S, R>(rt, part, call);
-    tally.add_checked(nanos_since(rt, begun), true);
-    told
-}
-
-/// Enters the events of a reporter's own matches, and tells how many were accepted.
-fn enter_own<S: Subject, R: Wait + Clock>(
-    rt: &R,
-    part: &mut S::Reporter,
+    board: &B,
+    pass: &mut B::ReporterPass,
     index: u8,
-    plan: Plan,
-    timed: Timed,
-    tally: &mut Tally,
-) -> u64 {
-    let cut = plan.cut();
+    night: &Night<'_>,
+) -> u64
+    requires { B.is_reporter board.now pass.old }
+{
     let mut due = nanos(rt);
     let mut entered = 0u64;
-    for number in 1..=MATCHES {
-        let Some(game) = MatchNo::new(number) else {
-            continue;
-        };
-        if !is_of(number, index, cut.reporters) {
+    for call in night.events {
+        if call.game.get().checked_rem(night.plan.reporters) != Some(index) {
             continue;
         }
-        for expected in 0..cut.events {
-            if plan.style == Style::Paced {
-                wait_for(rt, due);
-                due = due.wrapping_add(PACE_NANOS);
-            }
-            let call = event_at(game, expected);
-            let told = report::<S, R>(rt, part, &call, timed, tally);
-            entered = entered.wrapping_add(u64::from(told.is_accepted));
+        if night.plan.is_paced {
+            wait_for(rt, due);
+            due = due.wrapping_add(PACE_NANOS);
         }
+        let told = report_once(rt, board, pass, call);
+        entered = entered.wrapping_add(u64::from(told.is_some()));
     }
     entered
 }
 
-/// Enters events of all matches, one of each in turn up to full time, with the number that the last reply of the match told, and tells
-/// how many were accepted. A match that another reporter has brought beyond the turn is passed over.
-fn enter_all<S: Subject, R: Wait + Clock>(
+/// What a reporter does in a night.
+fn enter_night<B: LiveBoard, R: Wait + Clock>(
     rt: &R,
-    part: &mut S::Reporter,
-    timed: Timed,
-    tally: &mut Tally,
-) -> u64 {
-    let mut entered = 0u64;
-    let mut numbers = [0; 12];
-    for turn in 0..ALL_EVENTS {
-        for (number, game) in numbers.iter_mut().zip(1..=MATCHES) {
-            let Some(game) = MatchNo::new(game) else {
-                continue;
-            };
-            if *number == turn {
-                let told = report::<S, R>(rt, part, &event_at(game, turn), timed, tally);
-                entered = entered.wrapping_add(u64::from(told.is_accepted));
-                *number = told.number;
-            }
-        }
-    }
-    entered
-}
-
-/// Enters a reporter's events of all nights, tells of each night, and hands back what its timed reports took.
-pub fn enter_nights<S: Subject, R: Wait + Clock>(
-    rt: &R,
-    nights: Receiver<Ticket<S::Reporter>>,
+    board: &B,
+    pass: B::ReporterPass,
     index: u8,
-    plan: Plan,
-    shifts: Sender<Shift>,
-    tally: Tally,
-) -> Tally {
-    let mut tally = tally;
-    for ticket in nights.iter(rt) {
-        let Ticket { mut part, night } = ticket;
-        night.begin(rt);
-        let begun = nanos(rt);
-        let timed = night.timed;
-        let entered = match plan.style {
-            Style::Mix | Style::Paced => {
-                enter_own::<S, R>(rt, &mut part, index, plan, timed, &mut tally)
-            }
-            Style::Night => enter_all::<S, R>(rt, &mut part, timed, &mut tally),
-        };
-        let ended = nanos(rt);
-        night.reporting.fetch_sub(1, Ordering::SeqCst);
-        let shift = Shift {
-            begun,
-            ended,
-            entered,
-        };
-        if shifts.send(rt, shift).is_err() {
-            break;
-        }
-    }
-    tally
+    night: &Night<'_>,
+)
+    requires { B.is_reporter board.now pass }
+{
+    let mut pass = pass;
+    night.begin(rt);
+    let begun = nanos(rt);
+    let entered = enter_own(rt, board, &mut pass, index, night);
+    let taken = nanos_since(rt, begun);
+    night.ended.fetch_add(1, Ordering::SeqCst);
+    let mut figures = night.figures.lock(rt);
+    figures.events = figures.events.wrapping_add(entered);
+    figures.event_nanos = figures.event_nanos.wrapping_add(taken);
 }
 
-/// The ends to which the parts of each night are sent.
-#[derive(Drop)]
-struct Crew<S: Subject> {
-    readers: Vec<Sender<Ticket<S::Reader>>>,
-    reporters: Vec<Sender<Ticket<S::Reporter>>>,
+/// Starts the thread of a reader.
+fn start_reader<'s, E, B: LiveBoard, R: Wait + Clock + Sync>(
+    scope: &Scope<'s, E>,
+    rt: &'s R,
+    board: &'s B,
+    pass: B::ReaderPass,
+    night: &'s Night<'s>,
+    own: Figures,
+) -> Result<()>
+where
+    B::ReaderPass: 's,
+    requires { B.is_reader board.now pass }
+{
+    let started = scope.spawn(
+        move || -> ()
+            requires { B.is_reader board.now pass }
+        { read_night(rt, board, pass, night, own) },
+    );
+    started.ok().context("no thread for a reader")?;
+    Ok(())
 }
 
-/// Sends a worker its part of a night.
-fn send<T: Drop, R: Wait>(
-    rt: &R,
-    worker: &Sender<Ticket<T>>,
-    part: T,
-    night: &Arc<Night>,
-) -> Result<()> {
-    let night = Arc::try_clone(night)?;
-    let sent = worker.send(rt, Ticket { part, night });
-    sent.ok().context("a worker has gone")
+/// Starts the thread of a reporter.
+fn start_reporter<'s, E, B: LiveBoard, R: Wait + Clock + Sync>(
+    scope: &Scope<'s, E>,
+    rt: &'s R,
+    board: &'s B,
+    pass: B::ReporterPass,
+    index: u8,
+    night: &'s Night<'s>,
+) -> Result<()>
+where
+    B::ReporterPass: 's,
+    requires { B.is_reporter board.now pass }
+{
+    let started = scope.spawn(
+        move || -> ()
+            requires { B.is_reporter board.now pass }
+        { enter_night(rt, board, pass, index, night) },
+    );
+    started.ok().context("no thread for a reporter")?;
+    Ok(())
 }
 
-/// Sends each worker its part of a night on a fresh board.
-fn begin_night<S: Subject, R: Wait>(
-    rt: &R,
+/// Starts all workers of a night.
+fn start_workers<'s, E, B: LiveBoard, R: Wait + Clock + Sync>(
+    scope: &Scope<'s, E>,
+    rt: &'s R,
     alloc: Global,
-    crew: &Crew<S>,
-    night: &Arc<Night>,
-) -> Result<()> {
-    let mut first = S::open(rt, alloc)?;
-    for reporter in crew.reporters.iter() {
-        let second = S::split(rt, &mut first)?;
-        let part = S::enlist(rt, second).context("no number is left")?;
-        send(rt, reporter, part, night)?;
+    board: &'s B,
+    first: &mut B::ReaderPass,
+    night: &'s Night<'s>,
+) -> Result<()>
+where
+    B::ReaderPass: 's,
+    B::ReporterPass: 's,
+    requires { B.is_reader board.now first.old }
+    ensures { B.is_reader board.now first.new }
+{
+    for index in 0..night.plan.reporters {
+        let pass = enlist(rt, board, first)?;
+        start_reporter(scope, rt, board, pass, index, night)?;
     }
-    for reader in crew.readers.iter() {
-        let part = S::split(rt, &mut first)?;
-        send(rt, reader, part, night)?;
+    for reader in 0..night.plan.readers {
+        let pass = board.split(rt, first);
+        start_reader(scope, rt, board, pass, night, Figures::new(alloc)?)?;
     }
     Ok(())
 }
 
-/// Waits for the end of a night, and tells when it began and ended, and how many events were entered. A quiet night is one without a
-/// reporter, or one to which not all have come.
-fn end_night<R: Wait + Clock>(
-    rt: &R,
-    night: &Night,
-    reporters: u64,
-    is_quiet: bool,
-    shifts: &Receiver<Shift>,
-) -> Result<Shift> {
-    if is_quiet {
-        let begun = nanos(rt);
-        thread::sleep(rt, Duration::from_millis(QUIET_NIGHT_MILLIS));
-        let ended = nanos(rt);
-        night.reporting.store(0, Ordering::SeqCst);
-        return Ok(Shift {
-            begun,
-            ended,
-            entered: 0,
-        });
-    }
-    let mut all = Shift {
-        begun: u64::MAX,
-        ended: 0,
-        entered: 0,
-    };
-    for _ in 0..reporters {
-        let shift = shifts.recv(rt)?;
-        all.begun = all.begun.min(shift.begun);
-        all.ended = all.ended.max(shift.ended);
-        all.entered = all.entered.wrapping_add(shift.entered);
-    }
-    Ok(all)
-}
-
-/// Holds a night, and adds what it came to.
-fn hold_night<S: Subject, R: Wait + Clock>(
+/// Runs the workers of a night in threads. A night without a reporter, or one to which not all can come, ends after a while.
+fn work<B: LiveBoard, R: Threads + Wait + Clock + Sync>(
     rt: &R,
     alloc: Global,
-    crew: &Crew<S>,
-    shifts: &Receiver<Shift>,
-    sums: &mut Sums,
-) -> Result<()> {
-    let reporters = crew.reporters.len() as u64;
-    let workers = (crew.readers.len() as u64).wrapping_add(reporters);
-    let timed = sums.next;
-    let night = Arc::new(
-        alloc,
-        Night {
-            timed,
-            workers,
-            come: AtomicU64::new(0),
-            reporting: AtomicU64::new(reporters.max(1)),
+    board: &B,
+    first: B::ReaderPass,
+    night: &Night<'_>,
+) -> Result<()>
+    requires { B.is_reader board.now first }
+{
+    thread::scope(
+        thread::scope_env(),
+        rt,
+        move |scope| -> Result<()>
+            requires { B.is_reader board.now first }
+        {
+            let mut first = first;
+            let started = start_workers(scope, rt, alloc, board, &mut first, night);
+            if started.is_err() {
+                night.come.fetch_add(night.workers(), Ordering::SeqCst);
+            }
+            if started.is_err() || night.plan.reporters == 0 {
+                thread::sleep(rt, Duration::from_millis(QUIET_NIGHT_MILLIS));
+                night.ended.fetch_add(MOST_REPORTERS, Ordering::SeqCst);
+            }
+            started
         },
-    )?;
-    let sent = begin_night(rt, alloc, crew, &night);
-    if sent.is_err() {
-        // Whoever has come goes on alone.
-        night.come.fetch_add(workers, Ordering::SeqCst);
+    )
+}
+
+/// Holds a night on a fresh board, whose version at the end has to be the number of events that were accepted. A timed night tells no rate.
+fn hold_night<B: Opens, R: Threads + Wait + Clock + Sync>(
+    rt: &R,
+    alloc: Global,
+    plan: Plan,
+    events: &[EventCall],
+    is_timed: bool,
+) -> Result<Figures> {
+    let night = Night {
+        plan,
+        events,
+        is_timed,
+        come: AtomicU64::new(0),
+        ended: AtomicU64::new(0),
+        figures: Mutex::new(Figures::new(alloc)?),
+    };
+    let (board, mut last) = B::fresh(rt, alloc)?;
+    let first = board.split(rt, &mut last);
+    work(rt, alloc, &board, first, &night)?;
+    let version = read_once(rt, &board, &mut last).version;
+    let Night { figures, .. } = night;
+    let mut figures = figures.into_inner();
+    ensure!(u64::from(version) == figures.events, "an event was lost");
+    if is_timed {
+        figures.events = 0;
+        figures.event_nanos = 0;
     }
-    let is_quiet = reporters == 0 || sent.is_err();
-    let shift = end_night(rt, &night, reporters, is_quiet, shifts)?;
-    sums.nights = sums.nights.wrapping_add(1);
-    sums.next = timed.next();
-    if timed == Timed::Nothing {
-        let taken = shift.ended.saturating_sub(shift.begun);
-        sums.untimed = sums.untimed.wrapping_add(1);
-        sums.nanos = sums.nanos.wrapping_add(taken);
-        sums.entered = sums.entered.wrapping_add(shift.entered);
-    }
-    sent
+    Ok(figures)
 }
 
 /// Holds nights for so many milliseconds, at least one of each sort.
-fn hold_nights<S: Subject, R: Wait + Clock>(
+pub fn hold_nights<B: Opens, R: Threads + Wait + Clock + Sync>(
     rt: &R,
     alloc: Global,
-    crew: &Crew<S>,
-    shifts: &Receiver<Shift>,
+    plan: Plan,
     millis: u64,
-) -> Result<Sums> {
-    let mut sums = Sums {
-        nights: 0,
-        next: Timed::Nothing,
-        untimed: 0,
-        nanos: 0,
-        entered: 0,
+) -> Result<Figures> {
+    let each = if plan.is_paced {
+        PACED_EVENTS
+    } else {
+        ALL_EVENTS
     };
+    let events = events_of(alloc, each)?;
+    let mut all = Figures::new(alloc)?;
     let begun = nanos(rt);
     for _ in rt.forever() {
-        hold_night(rt, alloc, crew, shifts, &mut sums)?;
-        if sums.nights >= 3 && nanos_since(rt, begun) / 1_000_000 >= millis {
+        all.add(&hold_night::<B, R>(rt, alloc, plan, &events, false)?);
+        all.add(&hold_night::<B, R>(rt, alloc, plan, &events, true)?);
+        if nanos_since(rt, begun) / 1_000_000 >= millis {
             break;
         }
     }
-    Ok(sums)
-}
-
-/// The time of asking the clock: the least of many.
-fn clock_nanos(clock: &impl Clock) -> u64 {
-    let mut least = u64::MAX;
-    for _ in 0..1000 {
-        let from = nanos(clock);
-        least = least.min(nanos_since(clock, from));
-    }
-    least
-}
-
-/// What a reader's thread is given: the end at which its parts of nights come in, and an empty tally.
-pub type ReaderStart<T> = (Receiver<Ticket<T>>, Tally);
-
-/// What a reporter's thread is given: the end at which its parts of nights come in, the one to which it tells of each, and an empty
-/// tally.
-pub type ReporterStart<T> = (Receiver<Ticket<T>>, Sender<Shift>, Tally);
-
-/// All workers, and the ends by which they are reached.
-#[derive(Drop)]
-pub struct Staff<S: Subject> {
-    alloc: Global,
-    plan: Plan,
-    crew: Crew<S>,
-    told: Sender<Shift>,
-    shifts: Receiver<Shift>,
-    readers: Vec<JoinHandle<Tally>>,
-    reporters: Vec<JoinHandle<Tally>>,
-}
-
-impl<S: Subject> Staff<S> {
-    /// No worker yet.
-    pub fn new(alloc: Global, plan: Plan) -> Result<Staff<S>> {
-        let (told, shifts) = unbounded(alloc)?;
-        let crew = Crew {
-            readers: Vec::new(alloc),
-            reporters: Vec::new(alloc),
-        };
-        Ok(Staff {
-            alloc,
-            plan,
-            crew,
-            told,
-            shifts,
-            readers: Vec::new(alloc),
-            reporters: Vec::new(alloc),
-        })
-    }
-
-    /// What the next reader is started with.
-    pub fn next_reader(&mut self) -> Result<ReaderStart<S::Reader>> {
-        let (to, from) = unbounded(self.alloc)?;
-        self.crew.readers.push(to)?;
-        Ok((from, Tally::new(self.alloc)?))
-    }
-
-    /// What the next reporter is started with.
-    pub fn next_reporter(&mut self) -> Result<ReporterStart<S::Reporter>> {
-        let (to, from) = unbounded(self.alloc)?;
-        self.crew.reporters.push(to)?;
-        Ok((from, self.told.clone()?, Tally::new(self.alloc)?))
-    }
-
-    /// Keeps a reader's thread.
-    pub fn add_reader(&mut self, reader: Option<JoinHandle<Tally>>) -> Result<()> {
-        self.readers
-            .push(reader.context("no thread for a reader")?)?;
-        Ok(())
-    }
-
-    /// Keeps a reporter's thread.
-    pub fn add_reporter(&mut self, reporter: Option<JoinHandle<Tally>>) -> Result<()> {
-        self.reporters
-            .push(reporter.context("no thread for a reporter")?)?;
-        Ok(())
-    }
-
-    /// Holds nights for so many milliseconds, and waits for the workers' end.
-    pub fn work<R: Threads + Wait + Clock>(self, rt: &R, millis: u64) -> Result<Nights> {
-        let Staff {
-            alloc,
-            plan,
-            crew,
-            told,
-            shifts,
-            readers,
-            reporters,
-        } = self;
-        drop(told);
-        let sums = hold_nights(rt, alloc, &crew, &shifts, millis)?;
-        drop(crew);
-        let mut tally = Tally::new(alloc)?;
-        for reader in readers {
-            tally.add_all(&reader.join(rt));
-        }
-        let mut reports = Tally::new(alloc)?;
-        for reporter in reporters {
-            reports.add_all(&reporter.join(rt));
-        }
-        Ok(Nights {
-            plan,
-            sums,
-            tally,
-            reports,
-            clock_nanos: clock_nanos(rt),
-        })
-    }
+    Ok(all)
 }

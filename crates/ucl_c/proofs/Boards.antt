@@ -13,9 +13,8 @@ use Rattle.ucl_order.specs.Roster.{NamedClub, IsClub, IsRoster, bad_slot, bad_sl
 use Rattle.ucl_order.proofs.Coefficients.{table-same}
 use Rattle.ucl_screen.specs.WordsRead.{read_words}
 use Rattle.ucl_screen.proofs.ReadWords.{are-read, first-bad}
-use Rattle.ucl_c.specs.declared.fault.Fault.{Fault}
 use Rattle.ucl_c.specs.declared.fault.Fault.TheVariants.{BadWord, NotFour}
-use Rattle.ucl_c.specs.Faults.{club_with, fault_of_clubs, fault_of_group, fault_of_inputs, fault_of_profile, fault_of_words, fault_unless, first_fault, of_slot}
+use Rattle.ucl_c.specs.Faults.{club_with, fault_of_clubs, fault_of_words, fault_unless, first_fault, of_slot}
 use Rattle.ucl_c.specs.Tables.{row_seen, table_by, table_shown}
 
 pub board-read : (words twelve board : List ℕ) → length words ≡ 12 → twelve ≡ words → AreReadAs twelve board → (read_words 1 words ≡ Ok board) × (fault_of_words words ≡ None)
@@ -49,21 +48,11 @@ parts true None e = (refl, refl)
 parts true (Some slot) e = absurd (grind (arith, e))
 parts false slot e = absurd (grind (arith, e))
 
-good-roster : (clubs : List NamedClub) → fault_of_clubs clubs ≡ None → IsRoster clubs
-good-roster clubs none =
+pub good-roster : (clubs roster : List NamedClub) → roster ≡ clubs → fault_of_clubs clubs ≡ None → IsRoster roster
+good-roster clubs roster same none =
     let both_good = parts (length clubs == 4) (bad_slot clubs) none in
-    let four : (length clubs == 4) ≡ true = both_good.0 in record { four = grind (arith, nat_tests, four); each = all-good 1 clubs both_good.1 }
-
-last-none : (a b c d : Option Fault) → first_fault (a ∷ b ∷ c ∷ d ∷ []) ≡ None → d ≡ None
-last-none (Some f) b c d e = absurd (grind (arith, e))
-last-none None (Some f) c d e = absurd (grind (arith, e))
-last-none None None (Some f) d e = absurd (grind (arith, e))
-last-none None None None (Some f) e = absurd (grind (arith, e))
-last-none None None None None e = refl
-
-pub inputs-roster : (profile group : ℕ) (words : List ℕ) (clubs roster : List NamedClub) → fault_of_inputs profile group words clubs ≡ None → roster ≡ clubs → IsRoster roster
-inputs-roster profile group words clubs roster none same =
-    rw same (good-roster clubs (last-none (fault_of_profile profile) (fault_of_group group) (fault_of_words words) (fault_of_clubs clubs) none))
+    let four : (length clubs == 4) ≡ true = both_good.0 in
+    rw same (record { four = grind (arith, nat_tests, four); each = all-good 1 clubs both_good.1 })
 
 pub coefficients-with : (coefficients : List ℕ) → coefficients_in (map club_with coefficients) ≡ coefficients
 coefficients-with [] = refl

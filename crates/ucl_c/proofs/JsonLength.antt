@@ -1,14 +1,15 @@
 -- How long the texts of values in JSON are.
 use Rattle.std.proofs.Common.{◌≡◌, ◌≢◌, ℕ, zero, suc, ◌+◌, ◌-◌, ◌*◌, ◌/◌, ◌%◌, ◌^◌, ◌<◌, ◌≤◌, ◌==◌, pos, negsuc, ◌-ℤ◌, Bool, true, false, cond, ltb, List, [], ◌∷◌, ◌++◌, length, replicate}
 use Rattle.std.proofs.Common.{refl, inl, inr, arith, append-nil, length-append}
-use Rattle.std.specs.Prelude.{⊤, nat_lt}
+use Rattle.std.specs.Prelude.{nat_lt}
 use Rattle.std.specs.Fmt.{char_count, digit_glyph, digits, digits_onto, padded_integral}
 use Rattle.std.specs.List.{list_all}
 use Rattle.std.proofs.Math.Nat.{pow-suc}
 use Rattle.std.proofs.lemmas.Bool.{cases_Bool}
 use Rattle.std.proofs.lemmas.Bool.Decides.{nat_tests}
 use Rattle.std.proofs.lemmas.List.{length-replicate}
-use Rattle.std.proofs.lemmas.Fmt.{length-decimal-le, length_signed_le}
+use Rattle.std.specs.Str.Parse.{AllDigits}
+use Rattle.std.proofs.lemmas.Fmt.{digits_is_IsNumeral, length-decimal-le, length_signed_le}
 use Rattle.json.specs.Print.{escape, escape_byte, escape_letter, quoted}
 use Rattle.serde_json.specs.Data.{Data, null, boolean, number, string, array, object, Items, no_items, item, Members, no_members, member}
 use Rattle.serde_json.specs.Find.{of_integer}
@@ -106,23 +107,6 @@ printed_quoted s h =
 
 -- ---- digits
 
--- bytes that stand for themselves
-abbrev ArePlain : List ℕ → Type 0
-ArePlain [] = ⊤
-ArePlain (b ∷ bytes) = (length (escape_byte b) ≡ 1) × ArePlain bytes
-
-plain_both : (a b : List ℕ) → ArePlain a → ArePlain b → ArePlain (a ++ b)
-plain_both [] b h k = k
-plain_both (x ∷ a) b h k = (h.0, plain_both a b h.1 k)
-
-plain_escape : (s : List ℕ) → ArePlain s → length (escape s) ≡ length s
-plain_escape [] h = refl
-plain_escape (x ∷ s) h =
-    let whole = length-append (escape_byte x) (escape s) in
-    let one = h.0 in
-    let rest = plain_escape s h.1 in
-    omega arith
-
 not_equal : (x y : ℕ) → x ≢ y → (x == y) ≡ false
 not_equal x y h = grind (arith, nat_tests)
 
@@ -141,18 +125,18 @@ plain_byte x high other =
       above,
     ) refl
 
-plain_glyph : (d : ℕ) → d < 16 → length (escape_byte (digit_glyph false d)) ≡ 1
-plain_glyph d low = elim (cases_Bool (nat_lt d 10)) [
-  | inl y ↦ rw y (let small : d < 10 = grind (arith, nat_tests) in plain_byte (48 + d) (omega arith) (λ e. omega arith))
-  | inr n ↦ rw n (let big : 10 ≤ d = grind (arith, nat_tests) in plain_byte (87 + d) (omega arith) (λ e. omega arith))
-]
+plain_escape : (s : List ℕ) → AllDigits 16 s → length (escape s) ≡ length s
+plain_escape [] h = refl
+plain_escape (x ∷ s) h =
+    let digit = h.0 in
+    let one = plain_byte x (grind (arith, nat_tests, digit)) (λ e. absurd (grind (arith, nat_tests, digit, e))) in
+    let whole = length-append (escape_byte x) (escape s) in
+    let rest = plain_escape s h.1 in
+    omega arith
 
-plain_onto : (k n : ℕ) (rest : List ℕ) → ArePlain rest → ArePlain (digits_onto k 16 false n rest)
-plain_onto zero n rest h = h
-plain_onto (suc k) n rest h = elim (cases_Bool (n / 16 == 0)) [
-  | inl y ↦ rw y (plain_glyph (n % 16) (omega arith), h)
-  | inr further ↦ rw further (plain_onto k (n / 16) (digit_glyph false (n % 16) ∷ rest) (plain_glyph (n % 16) (omega arith), h))
-]
+zeros_first : (k : ℕ) (s : List ℕ) → AllDigits 16 s → AllDigits 16 (replicate k 48 ++ s)
+zeros_first zero s h = h
+zeros_first (suc k) s h = (omega arith, zeros_first k s h)
 
 short_onto : (k j n : ℕ) (rest : List ℕ) → k ≤ j → n < 16 ^ suc k → length (digits_onto (suc j) 16 false n rest) ≤ suc k + length rest
 short_onto zero j n rest h small = let none : n / 16 ≡ 0 = omega arith in rw none (omega arith)
@@ -169,16 +153,8 @@ digits_at : (k n : ℕ) → k ≡ 64 → digits_onto k 16 false n [] ≡ digits 
 unfolding digits
 digits_at k n e = rw e refl
 
-plain_digits : (k n : ℕ) → k ≡ 64 → ArePlain (digits 16 false n)
-plain_digits k n e = rw (← digits_at k n e) (plain_onto k n [] tt)
-
 short_digits : (j n : ℕ) → suc j ≡ 64 → n < 2 ^ 64 → length (digits 16 false n) ≤ 16
 short_digits j n e small = rw (← digits_at (suc j) n e) (short_onto 15 j n [] (omega arith) (omega arith))
-
-zeros_plain : (k : ℕ) → ArePlain (replicate k 48)
-unfolding escape_byte
-zeros_plain zero = tt
-zeros_plain (suc k) = (refl, zeros_plain k)
 
 hex_is : (n : ℕ) → hex_digits n ≡ replicate (16 - length (digits 16 false n)) 48 ++ digits 16 false n
 unfolding padded_integral char_count
@@ -191,7 +167,7 @@ pub hex_quoted : (n : ℕ) → n < 2 ^ 64 → length (quoted (hex_digits n)) ≤
 hex_quoted n small =
     let d : List ℕ = digits 16 false n in
     let zeros : List ℕ = replicate (16 - length d) 48 in
-    let plain = plain_escape (zeros ++ d) (plain_both zeros d (zeros_plain (16 - length d)) (plain_digits 64 n refl)) in
+    let plain = plain_escape (zeros ++ d) (zeros_first (16 - length d) d (digits_is_IsNumeral 16 false (omega arith) (omega arith) n (omega arith)).0.1) in
     let short : length d ≤ 16 = short_digits 63 n refl small in
     let whole = length-append zeros d in
     let filled = length-replicate {A = ℕ} (16 - length d) 48 in

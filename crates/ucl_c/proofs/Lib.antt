@@ -5,3 +5,5 @@ pub mod LineLength
 pub mod PlayedScripts
 pub mod ScriptClubs
 pub mod WordBits
+pub mod Common
+pub mod NullOrOwned

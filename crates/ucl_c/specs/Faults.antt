@@ -1,8 +1,12 @@
 -- Why a call is not done: which fault is told, and by what number.
-use Rattle.std.specs.Prelude.{ℕ, ◌==◌, ◌&&◌, nat_le, nat_lt, Bool, true, false, codes, List, [], ◌∷◌, length, map, Option, Some, None, Result, Ok, Err}
+use Rattle.std.specs.Prelude.{ℕ, ◌==◌, ◌&&◌, nat_le, nat_lt, Bool, true, false, codes, List, [], ◌∷◌, length, map, Option, Some, None, unwrap_or, Result, Ok, Err}
 use Rattle.ucl_word.specs.declared.event.Kind.{Kind}
 use Rattle.ucl_word.specs.Record.{is_reporter}
-use Rattle.ucl_word.specs.Names.{kind_with}
+use Rattle.ucl_word.specs.declared.record.MatchRecord.{MatchRecord}
+use Rattle.ucl_word.specs.declared.refusal.Refusal.{Refusal}
+use Rattle.ucl_word.specs.Layout.{record_at}
+use Rattle.ucl_word.specs.Names.{found_of, kind_with, refusal_code}
+use Rattle.ucl_word.specs.Rules.{refusal_of}
 use Rattle.ucl_order.specs.declared.profile.Profile.{Profile}
 use Rattle.ucl_order.specs.Names.{profile_with}
 use Rattle.ucl_order.specs.Roster.{NamedClub, bad_slot}
@@ -11,10 +15,11 @@ use Rattle.ucl_screen.specs.declared.fault.InputFault.TheVariants as input
 use Rattle.ucl_screen.specs.Script.{Script, night_of}
 use Rattle.ucl_screen.specs.WordsRead.{is_word, read_words}
 use Rattle.ucl_c.specs.declared.fault.Fault.{Fault}
-use Rattle.ucl_c.specs.declared.fault.Fault.TheVariants.{BadWord, BadRow, BadRoster, OutOfMemory, TooLong, FullBoard, NoReporter, NoKind, NoProfile, NoGroup}
+use Rattle.ucl_c.specs.declared.fault.Fault.TheVariants.{Refused, BadWord, BadRow, BadRoster, OutOfMemory, TooLong, FullBoard, NoReporter, NoKind, NoProfile, NoGroup}
 use Rattle.ucl_c.specs.declared.fault.Fault.TheVariants.{NotTwelve, NotFour, NoRoom, NotFourRows, NoStatus, InUse, NoPass, NotAReader, NoMatch, NotAReporter}
 
 abbrev pub fault_code : Fault → ℕ
+fault_code (Refused refusal) = refusal_code refusal
 fault_code (BadWord index) = 10
 fault_code (BadRow row) = 20
 fault_code (BadRoster slot) = 21
@@ -40,6 +45,11 @@ fault_code NotAReporter = 63
 abbrev pub status_with : Option Fault → ℕ
 status_with None = 0
 status_with (Some fault) = fault_code fault
+
+-- the number that a stale event found, over what was there before; else that stays
+abbrev pub found_with : Option Fault → ℕ → ℕ
+found_with (Some (Refused refusal)) before = unwrap_or (found_of refusal) before
+found_with _ before = before
 
 -- what is written where a fault has a place, the word, the row or the slot, over what was there before; else that stays
 abbrev pub place_with : Option Fault → ℕ → ℕ
@@ -121,8 +131,9 @@ fault_of_rows room = fault_unless (room == 4) NotFourRows
 abbrev pub fault_of_text : List ℕ → ℕ → Option Fault
 fault_of_text text room = fault_unless (nat_lt (length text) room) NoRoom
 
--- the fault of a script by what the reader of scripts says, which of bytes in memory says none but these three, or want of memory
+-- a fault of an input as a call tells it: bytes in memory are read without fail
 abbrev pub of_input : InputFault → Fault
+of_input (input.BadWordAt index) = BadWord index
 of_input (input.BadRow row) = BadRow row
 of_input (input.BadRoster slot) = BadRoster slot
 of_input input.TooLong = TooLong
@@ -150,6 +161,18 @@ fault_of_replies bytes room = of_events (night_of bytes) room
 abbrev pub fault_of_entry : ℕ → ℕ → ℕ → Option Fault
 fault_of_entry word reporter code = first_fault (fault_of_reporter reporter ∷ fault_of_kind code ∷ fault_of_word word ∷ [])
 
+abbrev pub of_refusal : Option Refusal → Option Fault
+of_refusal (Some refusal) = Some (Refused refusal)
+of_refusal None = None
+
+abbrev pub of_rules : Option Kind → MatchRecord → ℕ → Option Fault
+of_rules (Some kind) m expected = of_refusal (refusal_of m expected kind)
+of_rules None m expected = Some NoKind
+
+-- and the rules: the first that refuses the event
+abbrev pub fault_of_next : ℕ → ℕ → ℕ → ℕ → Option Fault
+fault_of_next word reporter expected code = first_fault (fault_of_entry word reporter code ∷ of_rules (kind_with code) (record_at word) expected ∷ [])
+
 -- of a table: the profile, the words, the coefficients, the room for rows
 abbrev pub fault_of_table : ℕ → List ℕ → List ℕ → ℕ → Option Fault
 fault_of_table profile words coefficients room =
@@ -160,10 +183,9 @@ abbrev pub fault_of_inputs : ℕ → ℕ → List ℕ → List NamedClub → Opt
 fault_of_inputs profile group words clubs =
     first_fault (fault_of_profile profile ∷ fault_of_group group ∷ fault_of_words words ∷ fault_of_clubs clubs ∷ [])
 
--- and of its room, where this is the text
-abbrev pub fault_of_shown : ℕ → ℕ → List ℕ → List NamedClub → List ℕ → ℕ → Option Fault
-fault_of_shown profile group words clubs text room =
-    first_fault (fault_of_inputs profile group words clubs ∷ fault_of_text text room ∷ [])
+-- and the room for the text that is made of them
+abbrev pub fault_with_text : Option Fault → List ℕ → ℕ → Option Fault
+fault_with_text fault text room = first_fault (fault ∷ fault_of_text text room ∷ [])
 
 -- of a script that is played: the room for words and that for clubs, the bytes, the room for replies
 abbrev pub fault_of_play : List ℕ → ℕ → ℕ → ℕ → Option Fault

@@ -7,7 +7,7 @@ use Rattle.ucl_order.specs.Roster.{NamedClub}
 use Rattle.ucl_screen.specs.Screen.{IsGroup}
 use Rattle.ucl_screen.specs.WordsRead.{read_words}
 use Rattle.ucl_c.specs.declared.group.Group.{Group}
-use Rattle.ucl_c.specs.Faults.{fault_of_inputs}
+use Rattle.ucl_c.specs.Faults.{fault_of_clubs, fault_of_inputs}
 
 -- the group of inputs with no fault
 pub record IsGroupOf (code letter : ℕ) (words : List ℕ) (clubs : List NamedClub) (group : Group) : Type 0 where
@@ -17,6 +17,7 @@ pub record IsGroupOf (code letter : ℕ) (words : List ℕ) (clubs : List NamedC
   pub board : read_words 1 words ≡ Ok group.board
   pub are_words : AreWords group.board
   pub roster : group.roster ≡ clubs
+  pub good : fault_of_clubs clubs ≡ None
   pub sound : fault_of_inputs code letter words clubs ≡ None
 
 -- what a word holds that is of a match which has begun: the mark, a reporter, a state, and an event number that a match in this state can have

@@ -5,4 +5,7 @@ pub mod Tables
 pub mod Replies
 pub mod Inputs
 pub mod Laws
+pub mod BoardPasses
+pub mod OwnedAt
+pub mod Handles
 pub mod PassCalls

@@ -1,28 +1,14 @@
 -- Calls on a board that threads share, as C sees them.
-use Rattle.std.specs.Prelude.{◌≡◌, ℕ, ◌&&◌, nat_le, nat_lt, if◌then◌else◌, [], ◌∷◌, Option, None, Some, unwrap_or, Result, Ok, Err}
+use Rattle.std.specs.Prelude.{◌≡◌, ℕ, ◌&&◌, nat_le, nat_lt, if◌then◌else◌, [], ◌∷◌, Option, Some, unwrap_or, Result, Ok, Err}
 use Rattle.ucl_word.specs.declared.event.EventCall.{EventCall}
 use Rattle.ucl_word.specs.declared.event.Accepted.{Accepted}
 use Rattle.ucl_word.specs.declared.refusal.Refusal.{Refusal}
 use Rattle.ucl_word.specs.Names.{found_of, kind_with, refusal_code}
-use Rattle.ucl_c_handles.specs.declared.board_pass.AnyPass.{AnyPass}
-use Rattle.ucl_c_handles.specs.declared.board_pass.WhyNot.{WhyNot}
-use Rattle.ucl_c_handles.specs.declared.board_pass.WhyNot.TheVariants as cause
-use Rattle.ucl_c_handles.specs.BoardPasses.{IsReported, fault_of_report, fault_of_read}
+use Rattle.ucl_c.specs.declared.board_pass.AnyPass.{AnyPass}
+use Rattle.ucl_c.specs.BoardPasses.{IsReported, fault_of_report, fault_of_read}
 use Rattle.ucl_c.specs.declared.fault.Fault.{Fault}
-use Rattle.ucl_c.specs.declared.fault.Fault.TheVariants.{OutOfMemory, FullBoard, InUse, NoPass, NotAReader, NoMatch, NotAReporter}
+use Rattle.ucl_c.specs.declared.fault.Fault.TheVariants.{NoMatch}
 use Rattle.ucl_c.specs.Faults.{first_fault, fault_of_kind, fault_of_twelve, fault_unless}
-
-abbrev pub fault_because : WhyNot → Fault
-fault_because cause.InUse = InUse
-fault_because cause.NoPass = NoPass
-fault_because cause.NotAReader = NotAReader
-fault_because cause.NotAReporter = NotAReporter
-fault_because cause.FullBoard = FullBoard
-fault_because cause.OutOfMemory = OutOfMemory
-
-abbrev pub fault_by : Option WhyNot → Option Fault
-fault_by None = None
-fault_by (Some cause) = Some (fault_because cause)
 
 -- no match has an event number over 4,095: a larger one is stale, and is told to the board as one of 16 bits that is stale too
 abbrev pub expected_told : ℕ → ℕ
@@ -43,15 +29,11 @@ fault_of_call game code = first_fault (fault_of_kind code ∷ fault_of_match gam
 
 -- of a report: the event, the pass
 abbrev pub fault_of_event : AnyPass → ℕ → ℕ → Option Fault
-fault_of_event pass game code = first_fault (fault_of_call game code ∷ fault_by (fault_of_report pass) ∷ [])
-
--- of a number: the pass
-abbrev pub fault_of_number : AnyPass → Option Fault
-fault_of_number pass = fault_by (fault_of_report pass)
+fault_of_event pass game code = first_fault (fault_of_call game code ∷ fault_of_report pass ∷ [])
 
 -- of a reading: the room for words, the pass
 abbrev pub fault_of_reading : AnyPass → ℕ → Option Fault
-fault_of_reading pass room = first_fault (fault_of_twelve room ∷ fault_by (fault_of_read pass) ∷ [])
+fault_of_reading pass room = first_fault (fault_of_twelve room ∷ fault_of_read pass ∷ [])
 
 abbrev pub status_of_reply : Result Accepted Refusal → ℕ
 status_of_reply (Ok accepted) = 0

@@ -1,5 +1,5 @@
 -- What twelve words and four clubs are shown as, and how it is written.
-use Rattle.std.specs.Prelude.{◌≡◌, ℕ, ◌+◌, ◌<◌, ◌≤◌, ◌++◌, nat_le, if◌then◌else◌, List, [], ◌∷◌, map, take, drop, length, Option, Some, Result, Ok, Err}
+use Rattle.std.specs.Prelude.{◌≡◌, ◌≢◌, ◌⊎◌, ℕ, ◌+◌, ◌<◌, ◌≤◌, ◌++◌, nat_le, if◌then◌else◌, List, [], ◌∷◌, map, take, drop, length, Option, Some, Result, Ok, Err}
 use Rattle.ucl_board.specs.Words.{version_of}
 use Rattle.ucl_order.specs.declared.profile.Profile.{Profile}
 use Rattle.ucl_order.specs.declared.table.Row.{Row}
@@ -12,7 +12,9 @@ use Rattle.ucl_json.specs.Lines.{json_line}
 use Rattle.ucl_json.specs.Values.{screen_value}
 use Rattle.ucl_c.specs.declared.table.RowOfC.{RowOfC}
 use Rattle.ucl_c.specs.declared.group.ClubOfC.{ClubOfC}
+use Rattle.ucl_c.specs.declared.fault.Fault.{Fault}
 use Rattle.ucl_c.specs.Codes.{mark_code}
+use Rattle.ucl_c.specs.Faults.{fault_with_text, place_with, status_with}
 
 -- a row of the table as C sees it
 abbrev pub row_seen : Row → RowOfC
@@ -80,3 +82,20 @@ pub record HandsOver (text before after : List ℕ) (told status : ℕ) : Type 0
   pub told_length : told ≡ length text
   pub whole : length text < length before → (status ≡ 0) × IsWritten text before after
   pub no_room : length before ≤ length text → (status ≡ 56) × (after ≡ before)
+
+-- what a call that answers with a text writes to: the room for it, its length, and the place of a fault
+pub record TextLeft : Type 0 where
+  pub out : List ℕ
+  pub long : ℕ
+  pub at : ℕ
+
+-- the answer of a call with a text of at most so many bytes, where its inputs have this fault or none; want of memory, 23, may come in place of any
+pub record AnswersWithText (fault : Option Fault) (text : List ℕ) (most : ℕ) (before after : TextLeft) (status : ℕ) : Type 0 where
+  pub told : status ≢ 23 → status ≡ status_with (fault_with_text fault text (length before.out))
+  pub placed : status ≢ 23 → after.at ≡ place_with (fault_with_text fault text (length before.out)) before.at
+  pub done : status ≡ 0 → IsWritten text before.out after.out
+  pub measured : (status ≡ 0) ⊎ (status ≡ 56) → after.long ≡ length text
+  pub room : most < length before.out → status ≢ 56
+  pub unchanged : status ≢ 0 → after.out ≡ before.out
+  pub unmeasured : status ≢ 0 → status ≢ 56 → after.long ≡ before.long
+  pub no_place : status ≡ 23 → after.at ≡ before.at

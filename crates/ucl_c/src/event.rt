@@ -1,18 +1,18 @@
 //! One match: its next word, whether a word is one, and words of the first layout.
 
-ghost use Rattle.std.specs.Prelude.{◌≡◌, ◌↔◌, IsSome, IfSome, IfOk, IfErr, None, Some};
+ghost use Rattle.std.specs.Prelude.{◌≡◌, ◌≢◌, ◌↔◌, IsSome, IfSome, IfOk, IfErr, None, Some};
 ghost use Rattle.ucl_word.specs.Record.{IsReporter};
 ghost use Rattle.ucl_word.specs.Layout.{IsWord, record_at, word_of};
 ghost use Rattle.ucl_word.specs.Migration.{IsReadable, IsReadAs};
 ghost use Rattle.ucl_word.specs.Names.{kind_with};
 ghost use Rattle.ucl_word.specs.Rules.{refusal_of, after};
-ghost use Rattle.ucl_c.specs.Faults.{fault_of_entry};
-ghost use Rattle.ucl_c.specs.Answers.{answered, match_seen, outcome_of};
+ghost use Rattle.ucl_c.specs.Answers.{match_seen, next_of};
+ghost use Rattle.ucl_c.specs.Codes.{state_code_in_c};
+ghost use Rattle.ucl_c.specs.Faults.{fault_of_entry, fault_of_next, found_with, status_with};
 
-use crate::codes::{state_code, tell_refusal};
-use crate::fault::{Fault, fault_code};
+use crate::fault::Fault;
 use crate::word::is_word;
-use ucl_word::{Kind, Refusal, ReporterNo, migrate, next_word, number_of, record_of};
+use ucl_word::{Kind, Refusal, ReporterNo, State, migrate, next_word, number_of, record_of};
 
 /// The record of a match.
 #[repr(C)]
@@ -77,8 +77,19 @@ fn event_of(word: u64, reporter: u32, kind: u32) -> Result<(ReporterNo, Kind), F
     Ok((reporter, kind))
 }
 
-/// The next word of a match after an event of a reporter, or why it is not entered. The reporter is judged first, then the kind, then the
-/// word, and then the rules. Only a stale event writes to `found`, and only an accepted one to `next`.
+/// The next word of a match, or why it has none. The reporter is judged first, then the kind, then the word, and then the rules.
+fn next_of(word: u64, reporter: u32, expected: u32, kind: u32) -> Result<u64, Fault>
+    ensures made { IfOk result (λ next. (next ≡ next_of word reporter kind)
+        × (fault_of_next word reporter expected kind ≡ None)) }
+    ensures refused { IfErr result (λ fault.
+        fault_of_next word reporter expected kind ≡ Some fault) }
+{
+    let (reporter, kind) = event_of(word, reporter, kind)?;
+    Ok(entered(word, reporter, expected, kind)?)
+}
+
+/// The next word of a match after an event of a reporter, or why it is not entered. Only a stale event writes to `found`, and only an accepted
+/// one to `next`.
 #[unsafe(no_mangle)]
 pub extern "C" fn uclboard_next_word(
     word: u64,
@@ -88,18 +99,17 @@ pub extern "C" fn uclboard_next_word(
     next: &mut u64,
     found: &mut u32,
 ) -> u32
-    ensures { answered result next.new found.new
-        ≡ outcome_of word reporter expected kind next.old found.old }
+    ensures told { result ≡ status_with (fault_of_next word reporter expected kind) }
+    ensures done { result ≡ 0 → next.new ≡ next_of word reporter kind }
+    ensures unchanged { result ≢ 0 → next.new ≡ next.old }
+    ensures found { found.new ≡ found_with (fault_of_next word reporter expected kind) found.old }
 {
-    match event_of(word, reporter, kind) {
-        Ok((reporter, kind)) => match entered(word, reporter, expected, kind) {
-            Ok(entered) => {
-                *next = entered;
-                0
-            }
-            Err(refusal) => tell_refusal(refusal, found),
-        },
-        Err(fault) => fault_code(fault),
+    match next_of(word, reporter, expected, kind) {
+        Ok(entered) => {
+            *next = entered;
+            0
+        }
+        Err(fault) => fault.tell_found(found),
     }
 }
 
@@ -118,7 +128,18 @@ pub extern "C" fn uclboard_read_word(word: u64, read: &mut u64) -> u32
             *read = new;
             0
         }
-        Err(_) => fault_code(Fault::BadWord { index: 1 }),
+        Err(bad) => Fault::from(bad).status(),
+    }
+}
+
+/// The number of a state.
+fn state_code(state: State) -> u32
+    ensures { result ≡ state_code_in_c state }
+{
+    match state {
+        State::Scheduled => 0,
+        State::InPlay => 1,
+        State::Finished => 2,
     }
 }
 
@@ -129,7 +150,7 @@ pub extern "C" fn uclboard_match_of(word: u64, out: &mut MatchOfC) -> u32
     ensures refused { (IsWord word → ⊥) → (result ≡ 10) × (out.new ≡ out.old) }
 {
     if !is_word(word) {
-        return fault_code(Fault::BadWord { index: 1 });
+        return Fault::BadWord { index: 1 }.status();
     }
     let game = record_of(word);
     *out = MatchOfC {

@@ -1,14 +1,21 @@
-//! Why a call was not done.
+//! Why a call is not done, and how that is told.
 
-ghost use Rattle.std.specs.Prelude.{◌≡◌};
-ghost use Rattle.ucl_c.specs.declared.fault.Fault.TheVariants.{OutOfMemory};
-ghost use Rattle.ucl_c.specs.Faults.{fault_code, place_with};
+ghost use Rattle.std.specs.Prelude.{◌≡◌, Some};
+ghost use Rattle.ucl_c.specs.declared.fault.Fault.TheVariants.{BadRoster, BadWord, FullBoard, OutOfMemory, Refused};
+ghost use Rattle.ucl_c.specs.Faults.{fault_code, found_with, of_input, place_with};
 
-use std::alloc::AllocError;
+use std::alloc::{AllocError, AllocFailed};
+use ucl_board::BadWordAt;
+use ucl_live_board::TooManyReporters;
+use ucl_order::BadRoster;
+use ucl_screen::InputFault;
+use ucl_word::Refusal;
 
-/// Why a call was not done.
+/// Why a call is not done.
 #[derive(Clone, Copy, Debug, PartialEq, Eq)]
 pub enum Fault {
+    /// 1 to 9: the rule that refuses an event.
+    Refused(Refusal),
     /// 10: the first of the words that is of no valid record, counted from 1.
     BadWord { index: u8 },
     /// 20: the first row of a script, counted from 1, that is missing or is not as its place demands.
@@ -51,53 +58,130 @@ pub enum Fault {
     NotAReporter,
 }
 
-/// The number of a fault.
-pub fn fault_code(fault: Fault) -> u32
-    ensures { result ≡ fault_code fault }
-{
-    match fault {
-        Fault::BadWord { index } => 10,
-        Fault::BadRow { row } => 20,
-        Fault::BadRoster { slot } => 21,
-        Fault::OutOfMemory => 23,
-        Fault::TooLong => 24,
-        Fault::FullBoard => 30,
-        Fault::NoReporter => 50,
-        Fault::NoKind => 51,
-        Fault::NoProfile => 52,
-        Fault::NoGroup => 53,
-        Fault::NotTwelve => 54,
-        Fault::NotFour => 55,
-        Fault::NoRoom => 56,
-        Fault::NotFourRows => 57,
-        Fault::NoStatus => 58,
-        Fault::InUse => 59,
-        Fault::NoPass => 60,
-        Fault::NotAReader => 61,
-        Fault::NoMatch => 62,
-        Fault::NotAReporter => 63,
+impl Fault {
+    /// The number of a fault, which is the status of the call.
+    pub fn status(self) -> u32
+        ensures { result ≡ fault_code self }
+    {
+        match self {
+            Fault::Refused(refusal) => u32::from(refusal.code()),
+            Fault::BadWord { index } => 10,
+            Fault::BadRow { row } => 20,
+            Fault::BadRoster { slot } => 21,
+            Fault::OutOfMemory => 23,
+            Fault::TooLong => 24,
+            Fault::FullBoard => 30,
+            Fault::NoReporter => 50,
+            Fault::NoKind => 51,
+            Fault::NoProfile => 52,
+            Fault::NoGroup => 53,
+            Fault::NotTwelve => 54,
+            Fault::NotFour => 55,
+            Fault::NoRoom => 56,
+            Fault::NotFourRows => 57,
+            Fault::NoStatus => 58,
+            Fault::InUse => 59,
+            Fault::NoPass => 60,
+            Fault::NotAReader => 61,
+            Fault::NoMatch => 62,
+            Fault::NotAReporter => 63,
+        }
+    }
+
+    /// Tells of a fault: its number, and in `at` its word, its row or its slot, where it has one.
+    pub fn tell(self, at: &mut u32) -> u32
+        ensures told { result ≡ fault_code self }
+        ensures placed { at.new ≡ place_with (Some self) at.old }
+    {
+        match self {
+            Fault::BadWord { index } => *at = u32::from(index),
+            Fault::BadRow { row } => *at = row,
+            Fault::BadRoster { slot } => *at = u32::from(slot),
+            _ => {}
+        }
+        self.status()
+    }
+
+    /// Tells of the fault of an event: its number, and in `found` the number found, where the event is stale.
+    pub fn tell_found(self, found: &mut u32) -> u32
+        ensures told { result ≡ fault_code self }
+        ensures found { found.new ≡ found_with (Some self) found.old }
+    {
+        if let Fault::Refused(Refusal::Stale { found: number }) = self {
+            *found = u32::from(number);
+        }
+        self.status()
     }
 }
 
-/// Tells of a fault: its number, and in `at` its word, its row or its slot, where it has one.
-pub fn tell(fault: Fault, at: &mut u32) -> u32
-    ensures told { result ≡ fault_code fault }
-    ensures placed { at.new ≡ place_with (Some fault) at.old }
-{
-    match fault {
-        Fault::BadWord { index } => *at = u32::from(index),
-        Fault::BadRow { row } => *at = row,
-        Fault::BadRoster { slot } => *at = u32::from(slot),
-        _ => {}
+impl From<Refusal> for Fault {
+    ghost from_gives = { λ refusal fault. fault ≡ Refused refusal };
+
+    fn from(refusal: Refusal) -> Fault {
+        Fault::Refused(refusal)
     }
-    fault_code(fault)
 }
 
-/// No memory is a fault.
+/// A word alone is the first.
+impl From<ucl_word::BadWord> for Fault {
+    ghost from_gives = { λ _ fault. fault ≡ BadWord 1 };
+
+    fn from(_error: ucl_word::BadWord) -> Fault {
+        Fault::BadWord { index: 1 }
+    }
+}
+
+impl From<BadWordAt> for Fault {
+    ghost from_gives = { λ bad fault. fault ≡ BadWord bad.index };
+
+    fn from(bad: BadWordAt) -> Fault {
+        Fault::BadWord { index: bad.index }
+    }
+}
+
+impl From<BadRoster> for Fault {
+    ghost from_gives = { λ bad fault. fault ≡ BadRoster bad.slot };
+
+    fn from(bad: BadRoster) -> Fault {
+        Fault::BadRoster { slot: bad.slot }
+    }
+}
+
+/// Bytes in memory are read without fail, and rows of a script hold no words.
+impl From<InputFault> for Fault {
+    ghost from_gives = { λ input fault. fault ≡ of_input input };
+
+    fn from(input: InputFault) -> Fault {
+        match input {
+            InputFault::BadWordAt { index } => Fault::BadWord { index },
+            InputFault::BadRow { row } => Fault::BadRow { row },
+            InputFault::BadRoster { slot } => Fault::BadRoster { slot },
+            InputFault::TooLong => Fault::TooLong,
+            InputFault::OutOfMemory | InputFault::ReadFailed { .. } => Fault::OutOfMemory,
+        }
+    }
+}
+
+impl<P: Drop> From<TooManyReporters<P>> for Fault {
+    ghost from_gives = { λ _ fault. fault ≡ FullBoard };
+
+    fn from(_error: TooManyReporters<P>) -> Fault {
+        Fault::FullBoard
+    }
+}
+
 impl From<AllocError> for Fault {
     ghost from_gives = { λ _ fault. fault ≡ OutOfMemory };
 
     fn from(_error: AllocError) -> Fault {
+        Fault::OutOfMemory
+    }
+}
+
+impl<T: Drop> From<AllocFailed<T>> for Fault {
+    ghost from_gives = { λ _ fault. fault ≡ OutOfMemory };
+
+    fn from(_error: AllocFailed<T>) -> Fault {
         Fault::OutOfMemory
     }
 }

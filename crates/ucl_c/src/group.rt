@@ -44,10 +44,7 @@ pub fn profile_of(code: u32) -> Result<Profile, Fault>
     ensures taken { IfOk result (λ profile. profile_with code ≡ Some profile) }
     ensures refused { IfErr result (λ fault. fault_of_profile code ≡ Some fault) }
 {
-    match Profile::from_code(code) {
-        Some(profile) => Ok(profile),
-        None => Err(Fault::NoProfile),
-    }
+    Profile::from_code(code).ok_or(Fault::NoProfile)
 }
 
 /// The letter of a group, in a wider number.
@@ -75,10 +72,7 @@ pub fn board_of(words: &[u64]) -> Result<Board, Fault>
     }
     let mut twelve = [0; 12];
     twelve.copy_from_slice(words);
-    match Board::of_words(&twelve) {
-        Ok(board) => Ok(board),
-        Err(bad) => Err(Fault::BadWord { index: bad.index }),
-    }
+    Ok(Board::of_words(&twelve)?)
 }
 
 /// A club as a roster takes it in.
@@ -111,10 +105,7 @@ fn roster_of(clubs: &[ClubOfC]) -> Result<Roster, Fault>
         club_of(third),
         club_of(fourth),
     ];
-    match Roster::of_lent(&clubs) {
-        Ok(roster) => Ok(roster),
-        Err(bad) => Err(Fault::BadRoster { slot: bad.slot }),
-    }
+    Ok(Roster::of_lent(&clubs)?)
 }
 
 /// A club of this coefficient, whose name is of no account.
@@ -142,10 +133,7 @@ pub fn roster_with(coefficients: &[u32]) -> Result<Roster, Fault>
         club_with(*third),
         club_with(*fourth),
     ];
-    match Roster::of_lent(&clubs) {
-        Ok(roster) => Ok(roster),
-        Err(bad) => Err(Fault::BadRoster { slot: bad.slot }),
-    }
+    Ok(Roster::of_lent(&clubs)?)
 }
 
 /// The group of twelve words, four clubs, a letter and the code of an order.

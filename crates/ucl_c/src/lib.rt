@@ -1,14 +1,16 @@
-//! The board for programs in other languages: functions over numbers, slices and `#[repr(C)]` structs, for C to call.
+//! The board for programs in other languages: functions over numbers, slices, `#[repr(C)]` structs and handles, for C to call.
 //!
-//! Bad input is answered by a status, and no function asks anything of its caller but what the slices themselves need.
+//! Bad input is answered by a status, and no function asks anything of its caller but what slices and handles themselves need.
 #![tactic(auto)]
 
-mod codes;
+mod board_pass;
+mod calls;
 mod event;
 mod fault;
 mod group;
+mod handle;
 mod laws;
-mod line;
+mod parts;
 mod passes;
 mod screen;
 mod script;

@@ -1,46 +1,19 @@
 //! A board that threads share: handles, each of which holds a pass and a share of its board.
 
-ghost use Rattle.std.specs.Prelude.{◌≡◌, ◌≢◌, ◌↔◌, IsSome, IfSome, IfOk, IfErr, None, Some, length};
+ghost use Rattle.std.specs.Prelude.{◌≡◌, ◌≢◌, ◌↔◌, IsSome, IfSome, IfOk, IfErr, [], ◌∷◌, None, Some, length};
 ghost use Rattle.ucl_board.specs.Fixtures.{IsMatch};
-ghost use Rattle.ucl_c_handles.specs.declared.board_pass.AnyPass.TheVariants.{Nobody};
-ghost use Rattle.ucl_c_handles.specs.declared.board_pass.WhyNot.{WhyNot};
-ghost use Rattle.ucl_c_handles.specs.BoardPasses.{IsOpened, IsSplit, IsEnlisted, IsRead, IsNumberOf, cause_of, fault_of_split};
-ghost use Rattle.ucl_c_handles.specs.Handles.{pass_held, first_cause, fault_of_room, IsNotEnlistedIn};
+ghost use Rattle.ucl_c.specs.declared.board_pass.AnyPass.TheVariants.{Nobody};
 ghost use Rattle.ucl_c.specs.declared.fault.Fault.{Fault};
-ghost use Rattle.ucl_c.specs.Faults.{fault_code};
-ghost use Rattle.ucl_c.specs.PassCalls.{IsCallOf, IsReply, fault_because, fault_of_call, fault_of_event, fault_of_number, fault_of_reading, expected_told, number_after, status_of_reply};
+ghost use Rattle.ucl_c.specs.BoardPasses.{IsOpened, IsSplit, IsEnlisted, IsRead, IsNumberOf, fault_of_split, fault_of_report, or_memory};
+ghost use Rattle.ucl_c.specs.Faults.{fault_code, first_fault};
+ghost use Rattle.ucl_c.specs.Handles.{pass_held, fault_of_room, IsNotEnlistedIn};
+ghost use Rattle.ucl_c.specs.PassCalls.{IsCallOf, IsReply, fault_of_call, fault_of_event, fault_of_reading, expected_told, number_after, status_of_reply};
 
-use crate::codes::tell_refusal;
-use crate::fault::{Fault, fault_code};
+use crate::board_pass::BoardPass;
+use crate::fault::Fault;
+use crate::handle::Handle;
 use std::alloc::Global;
-use ucl_c_handles::{Handle, WhyNot};
 use ucl_word::{Accepted, EventCall, Kind, MatchNo, Refusal};
-
-/// The fault that a cause is for C.
-fn fault_because(cause: WhyNot) -> Fault
-    ensures { result ≡ fault_because cause }
-{
-    match cause {
-        WhyNot::InUse => Fault::InUse,
-        WhyNot::NoPass => Fault::NoPass,
-        WhyNot::NotAReader => Fault::NotAReader,
-        WhyNot::NotAReporter => Fault::NotAReporter,
-        WhyNot::FullBoard => Fault::FullBoard,
-        WhyNot::OutOfMemory => Fault::OutOfMemory,
-    }
-}
-
-/// The status of a call: 0 where it was done, and else that of its cause.
-fn status_of(done: Result<(), WhyNot>) -> u32
-    ensures done { IfOk done (λ _. result ≡ 0) }
-    ensures refused { IfErr done (λ why. result ≡ fault_code (fault_because why)) }
-    ensures told { IfErr done (λ why. result ≢ 0) }
-{
-    match done {
-        Ok(()) => 0,
-        Err(why) => fault_code(fault_because(why)),
-    }
-}
 
 /// A fresh board: a handle that is null is given its first pass, a reader's.
 #[unsafe(no_mangle)]
@@ -48,9 +21,12 @@ pub extern "C" fn uclboard_open(alloc: Global, pass: &mut Handle) -> u32
     ensures opened { result ≡ 0 →
         IsOpened (pass_held pass.new) × (fault_of_room pass.old ≡ None) }
     ensures refused { result ≢ 0 → (pass.new ≡ pass.old)
-        × (result ≡ fault_code (fault_because (cause_of (fault_of_room pass.old)))) }
+        × (result ≡ fault_code (or_memory (fault_of_room pass.old))) }
 {
-    status_of(pass.open(alloc))
+    if !pass.is_null() {
+        return Fault::InUse.status();
+    }
+    pass.give(BoardPass::open(alloc))
 }
 
 /// A second reader's pass of the same board, for a handle that is null. Without memory for it nothing is split.
@@ -61,10 +37,13 @@ pub extern "C" fn uclboard_pass_split(alloc: Global, pass: &mut Handle, other: &
         × (fault_of_room other.old ≡ None) }
     ensures refused { result ≢ 0 → (pass_held pass.new ≡ pass_held pass.old)
         × (other.new ≡ other.old)
-        × (result ≡ fault_code (fault_because (cause_of
-        (first_cause (fault_of_room other.old) (fault_of_split (pass_held pass.old)))))) }
+        × (result ≡ fault_code (or_memory (first_fault
+        (fault_of_room other.old ∷ fault_of_split (pass_held pass.old) ∷ [])))) }
 {
-    status_of(pass.split(alloc, other))
+    if !other.is_null() {
+        return Fault::InUse.status();
+    }
+    other.give(pass.with_held(alloc, |held| held.split_off(alloc)))
 }
 
 /// A reporter's pass of the same board, under a number of its own, for a handle that is null. Without memory for it no number is spent.
@@ -74,11 +53,14 @@ pub extern "C" fn uclboard_pass_enlist(alloc: Global, pass: &mut Handle, other: 
         IsEnlisted (pass_held pass.old) (pass_held pass.new) (pass_held other.new)
         × (fault_of_room other.old ≡ None) }
     ensures refused { result ≢ 0 → (other.new ≡ other.old)
-        × ((cause : WhyNot) × (result ≡ fault_code (fault_because cause))
-        × IsNotEnlistedIn (fault_of_room other.old) cause
+        × ((fault : Fault) × (result ≡ fault_code fault)
+        × IsNotEnlistedIn (fault_of_room other.old) fault
         (pass_held pass.old) (pass_held pass.new)) }
 {
-    status_of(pass.enlist(alloc, other))
+    if !other.is_null() {
+        return Fault::InUse.status();
+    }
+    other.give(pass.with_held(alloc, |held| held.enlist_another(alloc)))
 }
 
 /// The match with this number, where the number is 1 to 12.
@@ -131,7 +113,7 @@ fn answer(reply: Result<Accepted, Refusal>, number: &mut u32) -> u32
             *number = u32::from(accepted.number);
             0
         }
-        Err(refusal) => tell_refusal(refusal, number),
+        Err(refusal) => Fault::Refused(refusal).tell_found(number),
     }
 }
 
@@ -155,29 +137,29 @@ pub extern "C" fn uclboard_pass_report(
 {
     let call = match call_of(game, expected, kind) {
         Ok(call) => call,
-        Err(fault) => return fault_code(fault),
+        Err(fault) => return fault.status(),
     };
-    match pass.report(alloc, &call) {
+    match pass.with_held(alloc, |held| held.report(&call)) {
         Ok(reply) => answer(reply, number),
-        Err(why) => fault_code(fault_because(why)),
+        Err(fault) => fault.status(),
     }
 }
 
 /// The number of a reporter's pass.
 #[unsafe(no_mangle)]
 pub extern "C" fn uclboard_pass_number(alloc: Global, pass: &mut Handle, number: &mut u32) -> u32
-    ensures told { fault_of_number (pass_held pass.old) ≡ None →
+    ensures told { fault_of_report (pass_held pass.old) ≡ None →
         (result ≡ 0) × IsNumberOf (pass_held pass.old) number.new }
-    ensures refused { (fault : Fault) → fault_of_number (pass_held pass.old) ≡ Some fault →
+    ensures refused { (fault : Fault) → fault_of_report (pass_held pass.old) ≡ Some fault →
         (result ≡ fault_code fault) × (number.new ≡ number.old) }
     ensures unchanged { pass_held pass.new ≡ pass_held pass.old }
 {
-    match pass.number(alloc) {
+    match pass.with_held(alloc, |held| held.number()) {
         Ok(own) => {
             *number = u32::from(own.get());
             0
         }
-        Err(why) => fault_code(fault_because(why)),
+        Err(fault) => fault.status(),
     }
 }
 
@@ -198,15 +180,15 @@ pub extern "C" fn uclboard_pass_read(
         × (words.new ≡ words.old) × (version.new ≡ version.old) }
 {
     if words.len() != 12 {
-        return fault_code(Fault::NotTwelve);
+        return Fault::NotTwelve.status();
     }
-    match pass.read(alloc) {
+    match pass.with_held(alloc, |held| held.read()) {
         Ok(reading) => {
             words.copy_from_slice(&reading.board.words());
             *version = u32::from(reading.version);
             0
         }
-        Err(why) => fault_code(fault_because(why)),
+        Err(fault) => fault.status(),
     }
 }
 

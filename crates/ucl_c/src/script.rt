@@ -7,19 +7,19 @@ ghost use Rattle.ucl_board.specs.declared.entry.Entry.{Entry};
 ghost use Rattle.ucl_board.specs.History.{after_attempt};
 ghost use Rattle.ucl_order.specs.Roster.{club_in};
 ghost use Rattle.ucl_screen.specs.Input.{most_bytes};
-ghost use Rattle.ucl_screen.specs.Script.{IsFaultOfScript, night_of};
+ghost use Rattle.ucl_screen.specs.Script.{night_of};
 ghost use Rattle.ucl_screen.specs.Parsing.{night_seen};
 ghost use Rattle.ucl_screen.specs.Events.{IsBoardAfter, attempt_of};
 ghost use Rattle.ucl_c.specs.declared.fault.Fault.TheVariants.{OutOfMemory};
-ghost use Rattle.ucl_c.specs.Faults.{fault_of_four, fault_of_play, fault_of_script, fault_of_twelve, first_fault, of_input, place_with, status_with};
+ghost use Rattle.ucl_c.specs.Faults.{fault_of_four, fault_of_play, fault_of_script, fault_of_twelve, first_fault, place_with, status_with};
 ghost use Rattle.ucl_c.specs.Replies.{CountsEvents, IsWholeScript, club_written, replies_to, reply_after, words_after};
 
-use crate::fault::{Fault, fault_code, tell};
+use crate::fault::Fault;
 use crate::group::ClubOfC;
 use std::alloc::Global;
 use ucl_board::Board;
 use ucl_order::Roster;
-use ucl_screen::{InputFault, Night, NightEvent, night_of_bytes};
+use ucl_screen::{Night, NightEvent, night_of_bytes};
 
 /// What became of an event of a script.
 #[repr(C)]
@@ -111,21 +111,6 @@ fn clubs_of(roster: &Roster) -> [ClubOfC; 4]
     ]
 }
 
-/// Why a script is not played.
-fn fault_of(fault: InputFault) -> Fault
-    requires { IsFaultOfScript fault }
-    ensures { result ≡ of_input fault }
-{
-    match fault {
-        InputFault::BadRow { row } => Fault::BadRow { row },
-        InputFault::BadRoster { slot } => Fault::BadRoster { slot },
-        InputFault::TooLong => Fault::TooLong,
-        InputFault::OutOfMemory => Fault::OutOfMemory,
-        InputFault::BadWordAt { index } => unreachable!(),
-        InputFault::ReadFailed { bytes } => unreachable!(),
-    }
-}
-
 /// The script that the bytes say, where there is room for its words and its clubs.
 fn script_of(alloc: Global, script: &[u8], clubs: usize, words: usize) -> Result<Night, Fault>
     ensures said { IfOk result (λ night. night_of script.now ≡ Ok (night_seen night)) }
@@ -142,10 +127,7 @@ fn script_of(alloc: Global, script: &[u8], clubs: usize, words: usize) -> Result
     if clubs != 4 {
         return Err(Fault::NotFour);
     }
-    match night_of_bytes(alloc, script) {
-        Ok(night) => Ok(night),
-        Err(fault) => Err(fault_of(fault)),
-    }
+    Ok(night_of_bytes(alloc, script)?)
 }
 
 /// Plays a whole script: enters its events in turn on a board before any event. Its clubs go to `clubs`, with zeros behind their names,
@@ -179,13 +161,13 @@ pub extern "C" fn uclboard_script(
             let events = night.events.len();
             *count = events;
             if replies.len() < events {
-                return fault_code(Fault::NoRoom);
+                return Fault::NoRoom.status();
             }
             let board = play(&night.events, &mut replies[..events]);
             words.copy_from_slice(&board.words());
             clubs.copy_from_slice(&clubs_of(&night.roster));
             0
         }
-        Err(fault) => tell(fault, at),
+        Err(fault) => fault.tell(at),
     }
 }

@@ -2,13 +2,13 @@
 
 ghost use Rattle.std.specs.Prelude.{◌≡◌, ◌≢◌, List, length, map, None, Some, IfOk, IfErr};
 ghost use Rattle.ucl_order.specs.Roster.{NamedClub, coefficients_in};
+ghost use Rattle.ucl_c.specs.Codes.{mark_code};
 ghost use Rattle.ucl_c.specs.Faults.{club_with, fault_of_table, fault_of_words, place_with, status_with};
 ghost use Rattle.ucl_c.specs.Tables.{row_seen, table_shown, version_told};
 
-use crate::codes::mark_code;
-use crate::fault::{Fault, tell};
+use crate::fault::Fault;
 use crate::group::{board_of, profile_of, roster_with};
-use ucl_order::{Row, standings};
+use ucl_order::{Mark, Row, standings};
 
 /// A club at its place of the table.
 #[repr(C)]
@@ -42,7 +42,18 @@ pub extern "C" fn uclboard_board_version(words: &[u64], version: &mut u32, at: &
             *version = u32::from(board.version());
             0
         }
-        Err(fault) => tell(fault, at),
+        Err(fault) => fault.tell(at),
+    }
+}
+
+/// The number of a mark.
+fn mark_code(mark: Mark) -> u32
+    ensures { result ≡ mark_code mark }
+{
+    match mark {
+        Mark::Blank => 0,
+        Mark::Plus => 1,
+        Mark::Minus => 2,
     }
 }
 
@@ -115,6 +126,6 @@ pub extern "C" fn uclboard_standings(
             rows.copy_from_slice(&made);
             0
         }
-        Err(fault) => tell(fault, at),
+        Err(fault) => fault.tell(at),
     }
 }

@@ -1,10 +1,11 @@
 //! Texts, written into the caller's room.
 
-ghost use Rattle.std.specs.Prelude.{◌≡◌, List, ℕ, None, Some, MatchOption};
+ghost use Rattle.std.specs.Prelude.{◌≡◌, List, ℕ, None, Some, IfOk, IfErr, MatchOption, string_bytes};
 ghost use Rattle.ucl_c.specs.Codes.{name_in, name_of_status, names_of_statuses};
+ghost use Rattle.ucl_c.specs.Faults.{fault_code, place_with};
 ghost use Rattle.ucl_c.specs.Tables.{HandsOver};
 
-use crate::fault::{Fault, fault_code};
+use crate::fault::Fault;
 use ucl_word::Refusal;
 
 /// Writes a text and a zero to the front of `out`, where there is room for both; its length goes to `length` in any case.
@@ -14,11 +15,25 @@ pub fn hand_over(text: &[u8], out: &mut [u8], length: &mut usize) -> u32
     let end = text.len();
     *length = end;
     if end >= out.len() {
-        return fault_code(Fault::NoRoom);
+        return Fault::NoRoom.status();
     }
     out[..end].copy_from_slice(text);
     out[end] = 0;
     0
+}
+
+/// Hands over a text that was made, or tells of the fault.
+pub fn answer(made: Result<String, Fault>, out: &mut [u8], length: &mut usize, at: &mut u32) -> u32
+    ensures handed { IfOk made (λ text.
+        HandsOver (string_bytes text) out.old out.new length.new result × (at.new ≡ at.old)) }
+    ensures refused { IfErr made (λ fault. (result ≡ fault_code fault)
+        × (at.new ≡ place_with (Some fault) at.old)
+        × (out.new ≡ out.old) × (length.new ≡ length.old)) }
+{
+    match made {
+        Ok(text) => hand_over(text.as_bytes(), out, length),
+        Err(fault) => fault.tell(at),
+    }
 }
 
 /// The name of a status that no refusal has, where there is one.
@@ -74,7 +89,7 @@ pub extern "C" fn uclboard_text_of_status(status: u32, out: &mut [u8], length: &
 {
     match name_of_status(status) {
         Some(name) => hand_over(name.as_bytes(), out, length),
-        None => fault_code(Fault::NoStatus),
+        None => Fault::NoStatus.status(),
     }
 }
 

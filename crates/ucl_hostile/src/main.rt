@@ -3,10 +3,7 @@
 //! boards, and compares each answer with the board of one thread.
 #![tactic(auto)]
 
-mod marks;
-mod random;
 mod refused;
-mod room;
 mod soak;
 
 use anyhow::Context;
@@ -27,7 +24,10 @@ fn main(rt: HostRuntime) -> anyhow::Result<()> {
     let mut input = Vec::new(rt.alloc());
     rt.stdin().read_to_end(&mut input)?;
     match words.get(1).map(String::as_str) {
-        Some("refused") => refused::run(&rt, rt.alloc(), words.get(2), &input),
+        Some("refused") => {
+            let call = words.get(2).context("refused CALL")?;
+            refused::run(&rt, rt.alloc(), call.as_str(), &input)
+        }
         Some("soak") => soak::run(
             &rt,
             rt.alloc(),

@@ -1,6 +1,5 @@
 //! Random nights on both boards, of two reporters and a reader in threads of their own. Each answer is compared with the board of one thread.
 
-use crate::random::Random;
 use anyhow::Context;
 use std::alloc::{AllocError, Global};
 use std::sync::Wait;
@@ -8,23 +7,50 @@ use std::thread;
 use std::thread::Threads;
 use ucl_board::{Board, Reading};
 use ucl_pass::{CellBoard, LiveBoard, settle};
-use ucl_word::{Accepted, EventCall, Kind, MatchNo, Refusal, ReporterNo, Side, apply};
+use ucl_word::Kind::{Disallow, FullTime, Goal, KickOff, Red, Reopen, SecondYellow, Yellow};
+use ucl_word::Side::{Away, Home};
+use ucl_word::{Accepted, EventCall, Kind, MatchNo, Refusal, ReporterNo};
 use ucl_words::WordBoard;
 
 /// How many events each reporter enters.
-const EVENTS: u32 = 150;
+const EVENTS: u16 = 150;
 
-/// No match has more events than both reporters enter.
-const MOST_EVENTS: u16 = 300;
+/// Random events are of matches 1 to 10. The first reporter also enters events of these two in turn, so that no board has one more of the second.
+const IN_TURN: (u8, u8) = (11, 12);
 
-/// How many readings the reader takes.
-const READINGS: u32 = 100;
+/// A source of numbers that look random, the same for the same seed (xorshift with 64 bits of state).
+#[derive(Clone, Copy)]
+struct Random(u64);
 
-/// Random events are of matches 1 to 10.
-const RANDOM_MATCHES: u8 = 10;
+impl Random {
+    fn of(seed: u64) -> Random {
+        Random(seed.wrapping_mul(0x9e37_79b9_7f4a_7c15) | 1)
+    }
 
-/// One reporter enters events of this match and of the next in turn, so that no board has one more of the next.
-const FIRST_IN_TURN: u8 = 11;
+    /// The next number below a bound; 0 where the bound is 0.
+    fn below(&mut self, bound: u8) -> u8 {
+        self.0 ^= self.0 << 13;
+        self.0 ^= self.0 >> 7;
+        self.0 ^= self.0 << 17;
+        let number = self.0.checked_rem(u64::from(bound)).unwrap_or(0);
+        u8::try_from(number).unwrap_or(0)
+    }
+
+    /// A kind of event. Full time and reopening are rare, so that matches go on.
+    fn kind(&mut self) -> Kind {
+        let side = if self.below(2) == 0 { Home } else { Away };
+        match self.below(40) {
+            0..8 => KickOff,
+            8..18 => Goal(side),
+            18..24 => Disallow(side),
+            24..29 => Yellow(side),
+            29..34 => SecondYellow(side),
+            34..37 => Red(side),
+            37 | 38 => FullTime,
+            _ => Reopen,
+        }
+    }
+}
 
 /// An event that a reporter entered, and the answer.
 #[derive(Clone, Copy)]
@@ -34,45 +60,29 @@ struct Entered {
     answer: Result<Accepted, Refusal>,
 }
 
-/// The event numbers that a reporter has seen of the twelve matches.
-#[derive(Clone, Copy)]
-struct Numbers([u16; 12]);
-
-impl Numbers {
-    fn of(&self, game: MatchNo) -> u16 {
-        match self.0.get(usize::from(game.get()).saturating_sub(1)) {
-            Some(number) => *number,
-            None => 0,
+/// The number that a reporter has seen last of a match.
+fn seen_of(entered: &[Entered], game: MatchNo) -> u16 {
+    for one in entered.iter().rev() {
+        if one.call.game == game {
+            match one.answer {
+                Ok(Accepted { number }) | Err(Refusal::Stale { found: number }) => return number,
+                Err(_) => {}
+            }
         }
     }
-
-    /// Takes in what an answer tells of the number of a match.
-    fn note(&mut self, game: MatchNo, answer: &Result<Accepted, Refusal>) {
-        let number = match *answer {
-            Ok(Accepted { number }) => number,
-            Err(Refusal::Stale { found }) => found,
-            Err(_) => return,
-        };
-        if let Some(place) = self.0.get_mut(usize::from(game.get()).saturating_sub(1)) {
-            *place = number;
-        }
-    }
+    0
 }
 
 /// The next of the events that are entered in turn.
-fn in_turn(numbers: &Numbers) -> Option<EventCall> {
-    let first = MatchNo::new(FIRST_IN_TURN)?;
-    let second = MatchNo::new(FIRST_IN_TURN.saturating_add(1))?;
-    let game = if numbers.of(first) > numbers.of(second) {
-        second
-    } else {
-        first
-    };
-    let expected = numbers.of(game);
-    let kind = match expected {
-        0 => Kind::KickOff,
-        _ if expected % 2 == 1 => Kind::Goal(Side::Away),
-        _ => Kind::Disallow(Side::Away),
+fn in_turn(entered: &[Entered]) -> Option<EventCall> {
+    let (first, second) = (MatchNo::new(IN_TURN.0)?, MatchNo::new(IN_TURN.1)?);
+    let is_ahead = seen_of(entered, first) > seen_of(entered, second);
+    let game = if is_ahead { second } else { first };
+    let expected = seen_of(entered, game);
+    let kind = match expected % 2 {
+        _ if expected == 0 => KickOff,
+        1 => Goal(Away),
+        _ => Disallow(Away),
     };
     Some(EventCall {
         game,
@@ -82,27 +92,17 @@ fn in_turn(numbers: &Numbers) -> Option<EventCall> {
 }
 
 /// A random event. One in eight names a wrong number.
-fn at_random(random: &mut Random, numbers: &Numbers) -> Option<EventCall> {
-    let game = MatchNo::new(random.small(RANDOM_MATCHES).saturating_add(1))?;
-    let expected = if random.small(8) == 0 {
-        u16::from(random.small(5))
-    } else {
-        numbers.of(game)
+fn at_random(random: &mut Random, entered: &[Entered]) -> Option<EventCall> {
+    let game = MatchNo::new(random.below(10).saturating_add(1))?;
+    let expected = match random.below(8) {
+        0 => u16::from(random.below(5)),
+        _ => seen_of(entered, game),
     };
     Some(EventCall {
         game,
         expected,
         kind: random.kind(),
     })
-}
-
-/// The next event of a reporter: random, or for one who leads in half of the cases one that is entered in turn.
-fn choose(random: &mut Random, numbers: &Numbers, leads: bool) -> Option<EventCall> {
-    if leads && random.small(2) == 0 {
-        in_turn(numbers)
-    } else {
-        at_random(random, numbers)
-    }
 }
 
 /// What a reporter entered, by a random choice of this seed; the leading one also enters events in turn.
@@ -119,19 +119,21 @@ fn enter<B: LiveBoard, R: Wait>(
 {
     let mut entered = Vec::new(alloc);
     let mut random = Random::of(seed);
-    let mut numbers = Numbers([0; 12]);
     let reporter = B::number_of(pass);
     for _event in 0..EVENTS {
-        let Some(call) = choose(&mut random, &numbers, leads) else {
-            continue;
+        let call = if leads && random.below(2) == 0 {
+            in_turn(&entered)
+        } else {
+            at_random(&mut random, &entered)
         };
-        let answer = board.report(rt, pass, &call);
-        numbers.note(call.game, &answer);
-        entered.push(Entered {
-            reporter,
-            call,
-            answer,
-        })?;
+        if let Some(call) = call {
+            let answer = board.report(rt, pass, &call);
+            entered.push(Entered {
+                reporter,
+                call,
+                answer,
+            })?;
+        }
     }
     Ok(entered)
 }
@@ -146,115 +148,105 @@ fn read<B: LiveBoard, R: Wait>(
     requires { B.is_reader board.now pass }
 {
     let mut readings = Vec::new(alloc);
-    for _reading in 0..READINGS {
+    for _reading in 0..100u8 {
         readings.push(board.read(rt, &mut pass))?;
     }
     Ok(readings)
 }
 
-/// The event of a match that was accepted next after so many, where there is just one; nothing where there are several.
-fn accepted_next(entered: &[Entered], game: MatchNo, before: u16) -> Option<Option<Entered>> {
-    let mut found = None;
-    for one in entered {
-        let is_next = match one.answer {
-            Ok(Accepted { number }) => number.checked_sub(1) == Some(before),
-            Err(_) => false,
-        };
-        if is_next && one.call.game == game {
-            if found.is_some() {
-                return None;
-            }
-            found = Some(*one);
-        }
-    }
-    Some(found)
-}
-
-/// Whether an event that was refused so is refused so by the rules too, if that was after so many events of its match.
-fn is_refused(one: &Entered, refusal: Refusal, board: &Board) -> bool {
-    let record = board.game(one.call.game);
-    let is_here = match refusal {
-        Refusal::Stale { found } => found == record.number,
-        _ => one.call.expected == record.number,
-    };
-    let by_rules = apply(&record, one.reporter, one.call.expected, one.call.kind);
-    !is_here || by_rules.err() == Some(refusal)
-}
-
-/// Whether each event of a match that was refused after so many is refused by the rules there.
-fn are_refused(entered: &[Entered], board: &Board, game: MatchNo) -> bool {
-    for one in entered {
-        if let Err(refusal) = one.answer {
-            if one.call.game == game && !is_refused(one, refusal, board) {
-                return false;
-            }
-        }
-    }
-    true
-}
-
-/// Whether each word of a match that was read under the number of the board's is the board's.
-fn are_read(readings: &[Reading], board: &Board, game: MatchNo) -> bool {
-    let record = board.game(game);
-    for reading in readings {
-        let read = reading.board.game(game);
-        if read.number == record.number && read != record {
-            return false;
-        }
-    }
-    true
-}
-
-/// The board of one thread after the accepted events, match by match; nothing where an answer differs from its own.
-fn replayed(entered: &[Entered], readings: &[Reading]) -> Option<Board> {
+/// Boards of one thread, on which a match has had none of the events that were accepted, the first of them, and so on.
+fn boards_of(alloc: Global, entered: &[Entered], game: MatchNo) -> Result<Vec<Board>, AllocError> {
     let mut board = Board::fresh();
-    for game in 1..=12u8 {
-        let game = MatchNo::new(game)?;
-        for before in 0..=MOST_EVENTS {
-            if !are_refused(entered, &board, game) || !are_read(readings, &board, game) {
-                return None;
-            }
-            let Some(next) = accepted_next(entered, game, before)? else {
-                break;
-            };
-            if board.report(next.reporter, &next.call) != next.answer {
-                return None;
+    let mut boards = vec![in alloc; board]?;
+    for number in 1..=2 * EVENTS {
+        for one in entered {
+            if one.call.game == game && one.answer == Ok(Accepted { number }) {
+                let _reply = board.report(one.reporter, &one.call);
+                boards.push(board)?;
             }
         }
     }
-    Some(board)
+    Ok(boards)
 }
 
-/// How many events were accepted.
-fn accepted(entered: &[Entered]) -> u32 {
-    let mut count = 0u32;
+/// Whether one of these boards answers an event as it was answered, and is then the next one where it was accepted.
+fn is_answer(one: &Entered, boards: &[Board]) -> bool {
+    let before = match one.answer {
+        Ok(Accepted { number }) => number.saturating_sub(1),
+        Err(Refusal::Stale { found }) => found,
+        Err(_) => one.call.expected,
+    };
+    let Some(mut board) = boards.get(usize::from(before)).copied() else {
+        return false;
+    };
+    let next = boards.get(usize::from(before).saturating_add(1));
+    board.report(one.reporter, &one.call) == one.answer
+        && (one.answer.is_err() || next == Some(&board))
+}
+
+/// Whether a match that was read is that of one of these boards.
+fn is_read(board: &Board, boards: &[Board], game: MatchNo) -> bool {
+    let record = board.game(game);
+    match boards.get(usize::from(record.number)) {
+        Some(board) => board.game(game) == record,
+        None => false,
+    }
+}
+
+/// How many events of a match were accepted; nothing where an answer or a reading is not that of the board of one thread.
+fn replayed(
+    alloc: Global,
+    entered: &[Entered],
+    readings: &[Reading],
+    game: MatchNo,
+) -> Result<Option<usize>, AllocError> {
+    let boards = boards_of(alloc, entered, game)?;
     for one in entered {
-        if one.answer.is_ok() {
-            count = count.saturating_add(1);
+        if one.call.game == game && !is_answer(one, &boards) {
+            return Ok(None);
         }
     }
-    count
+    for reading in readings {
+        if !is_read(&reading.board, &boards, game) {
+            return Ok(None);
+        }
+    }
+    Ok(Some(boards.len()))
 }
 
 /// Whether no reading is of a version below the one before or of other than its board's, or mixes the events that came in turn.
 fn are_whole(readings: &[Reading]) -> bool {
+    let (Some(first), Some(second)) = (MatchNo::new(IN_TURN.0), MatchNo::new(IN_TURN.1)) else {
+        return false;
+    };
     let mut least = 0;
-    for reading in readings {
-        let (Some(first), Some(second)) = (
-            MatchNo::new(FIRST_IN_TURN),
-            MatchNo::new(FIRST_IN_TURN.saturating_add(1)),
-        ) else {
-            return false;
-        };
-        let first = reading.board.game(first).number;
-        let ahead = first.checked_sub(reading.board.game(second).number);
+    for Reading { board, version } in readings {
+        let ahead = board
+            .game(first)
+            .number
+            .checked_sub(board.game(second).number);
         let is_in_turn = ahead == Some(0) || ahead == Some(1);
-        if reading.version < least || reading.version != reading.board.version() || !is_in_turn {
+        if *version < least || *version != board.version() || !is_in_turn {
             return false;
         }
-        least = reading.version;
+        least = *version;
     }
     true
+}
+
+/// Whether the answers and the readings of a night, the last of which is settled, are those of the board of one thread.
+fn are_right(alloc: Global, entered: &[Entered], readings: &[Reading]) -> Result<bool, AllocError> {
+    let mut version = 0usize;
+    for game in (1..13).filter_map(MatchNo::new) {
+        match replayed(alloc, entered, readings, game)? {
+            Some(boards) => version = version.saturating_add(boards.saturating_sub(1)),
+            None => return Ok(false),
+        }
+    }
+    let is_counted = readings
+        .last()
+        .is_some_and(|last| usize::from(last.version) == version);
+    Ok(is_counted && are_whole(readings))
 }
 
 /// A night of this seed on a board, and whether each answer is that of the board of one thread.
@@ -304,17 +296,13 @@ fn agrees<B: LiveBoard, R: Threads + Wait + Sync>(
             )
         },
     );
-    let mut entered = entered?;
+    let (mut entered, mut readings) = (entered?, readings?);
     entered.extend_from_slice(&more?)?;
-    let readings = readings?;
     let settled = settle(board, rt, &mut first, &mut second)
         .ok()
         .context("strangers")?;
-    let Some(replay) = replayed(&entered, &readings) else {
-        return Ok(false);
-    };
-    let is_counted = u32::from(settled.version) == accepted(&entered);
-    Ok(is_counted && replay == settled.board && are_whole(&readings))
+    readings.push(settled)?;
+    Ok(are_right(alloc, &entered, &readings)?)
 }
 
 /// Plays so many nights on each board, and tells how many of them differ from the board of one thread.

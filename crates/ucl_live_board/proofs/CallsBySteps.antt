@@ -42,10 +42,6 @@ pub one_more : (v w u : View) (found at : ℕ) → EnlistSteps v w → Takes w (
 one_more v w u found at s t =
     search (arith, takes_on v w u s.steps (step_taken (Enlisted found) at None ∷ []) s.takes t, all_more IsOnEnlisted s.steps (step_taken (Enlisted found) at None) s.on_enlisted (found, (refl, refl)))
 
-pub number_told : (u v : View) (r : Option ℕ) (n : ℕ) → Enlistment (pass_view_of u) (pass_view_of v) → v.number ≡ n → IfSome r (λ k. k ≡ n)
-    → IfSome r (λ k. Enlistment (pass_view_of u) (pass_view_of v) × (v.number ≡ k))
-number_told u v r n e is told = search arith
-
 pub sound_second : (v : View) → IsSound (pass_view_of v) → IsSound (pass_view_of (second_of v))
 sound_second v s = record { legal = s.legal; own = sym (none_by_zero v.seen s.legal); few = s.few; acts = half_acts true v.share s.acts; alone = λ is. absurd (half_not_whole true v.share is) }
 

@@ -188,6 +188,7 @@ module _ (words_after : List Entry → ℕ → List ℕ) where
           seen = begins_through v.seen (history_of r.log) w.seen was.seen longer;
           heard = λ k d lt. begins_through _ (history_of r.log) w.seen (was.told k d lt) longer;
           told = refl;
+          log = begins_through v.log r.log w.log was.knows (logged_by seat t ∷ [], refl);
           own = f.mine ∙ ap (λ (l : Log). entries_by number (history_of l)) m.log_is;
           few = (let low = f.listed in omega arith);
           share = refl;

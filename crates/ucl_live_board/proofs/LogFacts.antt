@@ -127,16 +127,22 @@ same_from_both a b p q =
     let n = ap length p.1 in
     sym (append-nil a) ∙ (ap (λ (x : List Entry). a ++ x) (sym (nil_from_length p.0 (omega (arith, length-append a p.0)))) ∙ p.1)
 
-pub last_sees_all : LastStepsSeeAll
-last_sees_all words_after words views r before seat x v is here =
+-- the pass that took the last step knows the whole log
+pub last_knows : (words_after : List Entry → ℕ → List ℕ) (words : List ℕ) (views : List View) (r : KeepsOneHistory words_after words views) (before : Log) (seat : ℕ) (x : Taken) (v : View)
+    → r.log ≡ before ++ logged_by seat x ∷ [] → get_elem? views seat ≡ some v → v.log ≡ r.log
+last_knows words_after words views r before seat x v is here =
     let f = r.fits seat v here in
     let cut : taken_by seat r.log ≡ taken_by seat v.log ++ taken_by seat f.knows.0 = ap (taken_by seat) (sym f.knows.1) ∙ taken_append seat v.log f.knows.0 in
     let none : length (taken_by seat f.knows.0) ≡ 0 = omega (arith, ap length cut, length-append (taken_by seat v.log) (taken_by seat f.knows.0), ap length (f.all_own ∙ f.own)) in
-    let whole : v.log ≡ r.log = ⊎_elim
+    ⊎_elim
     (λ empty. sym (append-nil v.log) ∙ (ap (λ (l : Log). v.log ++ l) (sym empty) ∙ f.knows.1))
     (search (arith, taken_own, length-append))
-    (end_in v.log f.knows.0 before (logged_by seat x) (f.knows.1 ∙ is)) in
-    same_from_both v.seen (history_of r.log) f.seen (subst (λ (l : Log). IsPrefix (history_of l) v.seen) whole f.sees)
+    (end_in v.log f.knows.0 before (logged_by seat x) (f.knows.1 ∙ is))
+
+pub last_sees_all : LastStepsSeeAll
+last_sees_all words_after words views r before seat x v is here =
+    let f = r.fits seat v here in
+    same_from_both v.seen (history_of r.log) f.seen (subst (λ (l : Log). IsPrefix (history_of l) v.seen) (last_knows words_after words views r before seat x v is here) f.sees)
 
 -- a board opens with no step, and so with no event; and with no reporter
 

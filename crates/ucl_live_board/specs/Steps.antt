@@ -12,13 +12,14 @@ use Rattle.ucl_live_board.specs.Shares.{whole}
 use Rattle.ucl_live_board.specs.Passes.{IsAlone, entries_by}
 use Rattle.ucl_live_board.specs.Views.{Takes, pass_view_of}
 
--- what each step leaves: a legal history in which all stands first that the pass had seen or been told, and the share by which it acts;
--- with the whole board it is alone
+-- what each step leaves: a legal history in which all stands first that the pass had seen or been told, a log that goes on from the one that
+-- it knew, and the share by which it acts; with the whole board it is alone
 pub record Goes (v w : View) : Type 0 where
   pub legal : IsLegal w.seen
   pub seen : IsPrefix v.seen w.seen
   pub heard : All (λ (l : List Entry). IsPrefix l w.seen) v.told
   pub told : w.told ≡ []
+  pub log : IsPrefix v.log w.log
   pub own : w.mine ≡ entries_by w.number w.seen
   pub few : w.listed ≤ 255
   pub share : w.share ≡ v.share

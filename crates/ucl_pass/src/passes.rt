@@ -3,7 +3,8 @@
 ghost use Rattle.std.specs.Prelude.{◌≡◌, length};
 ghost use Rattle.ucl_live_board.specs.Passes.{IsSound};
 ghost use Rattle.ucl_live_board.specs.Views.{pass_view_of};
-ghost use Rattle.ucl_pass.specs.CellViews.{CellPass, cell_pass_of, knows};
+ghost use Rattle.crossbeam_utils.specs.Seq.{cell_view};
+ghost use Rattle.ucl_pass.specs.CellRecords.{CellPass, cell_pass_of};
 
 use crate::rule::Seat;
 use std::marker::Model;
@@ -20,8 +21,8 @@ impl Model for CellReaderPass {
 
     ghost view = { λ reader. cell_pass_of reader.seat };
 
-    ghost invariant = { λ reader. IsSound (pass_view_of (knows reader.seat))
-        × ((knows reader.seat).number ≡ 0) };
+    ghost invariant = { λ reader. IsSound (pass_view_of (cell_view reader.seat))
+        × ((cell_view reader.seat).number ≡ 0) };
 }
 
 impl CellReaderPass {
@@ -46,9 +47,9 @@ impl Model for CellReporterPass {
 
     ghost view = { λ reporter. cell_pass_of reporter.seat };
 
-    ghost invariant = { λ reporter. IsSound (pass_view_of (knows reporter.seat))
-        × ((knows reporter.seat).number ≡ reporter.number)
-        × (length (knows reporter.seat).mine ≡ reporter.accepted) };
+    ghost invariant = { λ reporter. IsSound (pass_view_of (cell_view reporter.seat))
+        × ((cell_view reporter.seat).number ≡ reporter.number)
+        × (length (cell_view reporter.seat).mine ≡ reporter.accepted) };
 }
 
 impl CellReporterPass {

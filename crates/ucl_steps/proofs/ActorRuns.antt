@@ -1,4 +1,4 @@
--- What bursts of actors, splits and enlistments do to the run of the machine that a board's rule says there is.
+-- What moves of actors, splits and enlistments do to the run of the machine that a board's rule says there is.
 use Rattle.ucl_steps.proofs.Common.{◌≡◌, ◌≢◌, ℕ, zero, suc, ◌+◌, ◌<◌, ◌≤◌, Bool, false, cond, List, ◌∷◌, ◌++◌, length, set, map, Option, Some, refl, sym, ap, ◌∙◌, subst, arith, []}
 use Rattle.ucl_steps.proofs.Common.{le_refl, append-nil, length-append, ne_eqb, All, filter, dite, some, some-ne-none, some-injective, get_elem?, flat_map-append, All-append, All-cons}
 use Rattle.ucl_steps.proofs.Common.{All-nil, All-head, All-tail, Entry, AccessKind, Access, Taken, logged_by, Log, history_of, access_list, Caller, Reporter, Reader, Call, Step, CallRecord, Idle}
@@ -51,24 +51,13 @@ told_call x = x.1
 number_apart : (seat number : ℕ) (j n : ℕ) (c : Caller) → IsOf j n c → n < number → is_of seat number c ≡ is_of seat 0 c
 number_apart seat number j n c of less = search (arith, ne_eqb)
 
--- moves of an actor, with none of another between them
-pub record Burst (seat number : ℕ) (w : MachineState) (c : Caller) (d : Doing) (entries : List Entry) : Type 0 where
-  pub moves : List Move
-  pub last : MachineState
-  pub run : after_steps (steps_of_moves moves) w ≡ Some last
-  pub history : last.history ≡ w.history ++ entries
-  pub of : IsOf seat number c
-  pub passes : Passes c w last
-  pub fits : FitsRun last seat number d
-
--- the steps of moves, and of others after them
-pub run_on : (xs ys : List Move) (w v u : MachineState) → after_steps (steps_of_moves xs) w ≡ Some v → after_steps (steps_of_moves ys) v ≡ Some u → after_steps (steps_of_moves (xs ++ ys)) w ≡ Some u
-run_on xs ys w v u first then = ap (λ (l : List Step). after_steps l w) (flat_map-append steps_of_move xs ys) ∙ (steps_append (steps_of_moves xs) (steps_of_moves ys) w v first ∙ then)
-
-pub one_turn : (seat number : ℕ) (w : MachineState) (c : Caller) (m : Access) (d : Doing) (entries : List Entry) → Turn seat number w c m d entries → Burst seat number w c d entries
-one_turn seat number w c m d entries t =
-    let run = ap (λ (l : List Step). after_steps l w) (append-nil (steps_of_move t.move)) ∙ t.run in
-    record { moves = t.move ∷ []; last = t.last; run = run; history = t.history; of = t.of; passes = t.passes; fits = t.fits }
+-- the steps of moves, and of one after them
+run_on : (moves : List Move) (next : Move) (w v u : MachineState) → after_steps (steps_of_moves moves) w ≡ Some v → after_steps (steps_of_move next) v ≡ Some u
+    → after_steps (steps_of_moves (moves ++ next ∷ [])) w ≡ Some u
+run_on moves next w v u first then =
+    let one : steps_of_moves (next ∷ []) ≡ steps_of_move next = append-nil (steps_of_move next) in
+    ap (λ (l : List Step). after_steps l w) (flat_map-append steps_of_move moves (next ∷ []) ∙ ap (λ (l : List Step). steps_of_moves moves ++ l) one)
+    ∙ (steps_append (steps_of_moves moves) (steps_of_move next) w v first ∙ then)
 
 module _ (readers enlisted : ℕ) (history : List Entry) (actors : List Actor) (r : IsRunOfActors readers enlisted history actors) (seat : ℕ) (a : Actor) (here : get_elem? actors seat ≡ some a) where
   -- callers stay those of their actors
@@ -80,15 +69,15 @@ module _ (readers enlisted : ℕ) (history : List Entry) (actors : List Actor) (
   some_still : (b : Actor) → ((c : Caller) → IsOf seat a.number c → IsOf seat b.number c) → (x : Told) → IsOfActor actors x → IsOfActor (set actors seat b) x
   some_still b kept x t = let k = still_of b (λ i n. IsOf i n x.0) (kept x.0) t.0 t.1 t.2 in (t.0, k.0, k.1, k.2 t.3)
 
-  -- one burst of the actor
-  pub run_burst : (doing : Doing) (history' entries : List Entry) (c : Caller) → a.number ≤ enlisted → Apart actors → history' ≡ history ++ entries → Burst seat a.number r.state c doing entries
+  -- one move of the actor
+  run_moved : (doing : Doing) (history' entries : List Entry) (c : Caller) (m : Access) → a.number ≤ enlisted → Apart actors → history' ≡ history ++ entries → Turn seat a.number r.state c m doing entries
       → IsRunOfActors readers enlisted history' (set actors seat (record { number = a.number; doing = doing }))
-  run_burst doing history' entries c low apart more t =
+  run_moved doing history' entries c m low apart more t =
       let b : Actor = record { number = a.number; doing = doing } in
       record {
-        moves = r.moves ++ t.moves;
+        moves = r.moves ++ t.move ∷ [];
         state = t.last;
-        run = run_on r.moves t.moves (initial_state (cast_for readers)) r.state t.last r.run t.run;
+        run = run_on r.moves t.move (initial_state (cast_for readers)) r.state t.last r.run t.run;
         history_is = t.history ∙ (ap (λ (h : List Entry). h ++ entries) r.history_is ∙ sym more);
         each = λ j u at.
             let other = fits_else j u.number c r.state t.last in
@@ -114,7 +103,7 @@ module _ (readers enlisted : ℕ) (history : List Entry) (actors : List Actor) (
   reader_records calls n low (f ∷ fs) high q = (q.0, q.1, q.2, q.3, reader_record n f q.1 q.4, reader_records calls n (q.0 + 1) fs high q.5)
 
   -- the actor gets a number
-  pub run_enlisted : a.number ≡ 0 → enlisted < 255 → a.doing.held ≡ Nothing → ((j : ℕ) (u : Actor) → get_elem? actors j ≡ some u → u.number ≤ enlisted)
+  run_enlisted : a.number ≡ 0 → enlisted < 255 → a.doing.held ≡ Nothing → ((j : ℕ) (u : Actor) → get_elem? actors j ≡ some u → u.number ≤ enlisted)
       → IsRunOfActors readers (enlisted + 1) history (set actors seat (record { number = enlisted + 1; doing = a.doing }))
   run_enlisted reader room none low =
       let f : FitsRun r.state seat 0 a.doing = subst (λ (n : ℕ). FitsRun r.state seat n a.doing) reader (r.each seat a here) in
@@ -140,7 +129,7 @@ module _ (readers enlisted : ℕ) (history : List Entry) (actors : List Actor) (
   newcomer_none : All (λ (x : Told). is_of (length actors) 0 x.0 ≡ false) (calls_told r.state)
   newcomer_none k d lt = let t = r.only k d lt in search (arith, t, place_below actors t.0 t.1 t.2, not_of, apart_callers)
 
-  pub run_more : IsRunOfActors readers enlisted history (actors ++ record { number = 0; doing = nothing_done } ∷ [])
+  run_more : IsRunOfActors readers enlisted history (actors ++ record { number = 0; doing = nothing_done } ∷ [])
   run_more =
       let b : Actor = record { number = 0; doing = nothing_done } in
       let mine : FitsRun r.state (length actors) 0 nothing_done = search (arith, le_refl, newcomer_idle, filter_none, newcomer_none) in
@@ -156,7 +145,7 @@ module _ (readers enlisted : ℕ) (history : List Entry) (actors : List Actor) (
       }
 
 -- the first actor, before any step
-pub run_begins : (readers : ℕ) → 1 ≤ readers → IsRunOfActors readers 0 [] (record { number = 0; doing = nothing_done } ∷ [])
+run_begins : (readers : ℕ) → 1 ≤ readers → IsRunOfActors readers 0 [] (record { number = 0; doing = nothing_done } ∷ [])
 run_begins readers all = record {
   moves = [];
   state = initial_state (cast_for readers);
@@ -223,7 +212,7 @@ module _ (readers enlisted : ℕ) (log : Log) (actors : List Actor) (r : IsRunOf
       → history_of (log ++ logged_by seat taken ∷ []) ≡ history_of log ++ entries
       → IsTakenBy seat a.number m.kind c → Turn seat a.number r.of_actors.state c m doing entries
       → IsRunOfLog readers enlisted (log ++ logged_by seat taken ∷ []) (set actors seat (record { number = a.number; doing = doing }))
-  unfolding run_burst one_turn
+  unfolding run_moved
   log_stepped doing taken entries c m low apart is more by t =
       let b : Actor = record { number = a.number; doing = doing } in
       let one = r.of_actors in
@@ -234,7 +223,7 @@ module _ (readers enlisted : ℕ) (log : Log) (actors : List Actor) (r : IsRunOf
       (left_still b (λ kind d of. of)) in
       let logged = logged_accesses log seat taken ∙ ap (λ (l : List Access). accesses_of_log log ++ map (λ (z : Access). (seat, z)) l) is in
       record {
-        of_actors = search (arith, run_burst, one_turn);
+        of_actors = run_moved readers enlisted (history_of log) actors one seat a here doing (history_of (log ++ logged_by seat taken ∷ [])) entries c m low apart more t;
         accesses = search arith;
       }
 

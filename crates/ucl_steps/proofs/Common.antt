@@ -1,10 +1,13 @@
 -- The words and lemmas from elsewhere that the proofs of this crate share.
-pub use Rattle.std.proofs.Common.{Bool, Err, List, None, Ok, Option, Some, [], add-one, ap, append-nil, append_assoc, arith, cond, drop, eq-eqb, false, get_or, get_or-set_other, inl, inr, le_refl}
-pub use Rattle.std.proofs.Common.{length, length-append, length-take, map, nat_le, ne_eqb, refl, rules, set, subst, suc, sym, take, true, zero, ℕ, ⊎_elim, ◌&&◌, ◌*◌, ◌++◌, ◌+◌, ◌-◌, ◌<◌, ◌==◌, ◌∙◌}
+pub use Rattle.std.proofs.Common.{Bool, Err, List, None, Ok, Option, Some, [], add-one, ap, append-nil, append_assoc, arith, cond, drop, eq-eqb, false, get_or, get_or-set_other, inl, inr}
+pub use Rattle.std.proofs.Common.{le_refl}
+pub use Rattle.std.proofs.Common.{length, length-append, length-take, map, nat_le, ne_eqb, refl, rules, set, subst, suc, sym, take, true, zero, ℕ, ⊎_elim, ◌&&◌, ◌*◌, ◌++◌, ◌+◌, ◌-◌, ◌<◌}
+pub use Rattle.std.proofs.Common.{◌==◌, ◌∙◌}
 pub use Rattle.std.proofs.Common.{◌∷◌, ◌≡◌, ◌≢◌, ◌≤◌, ◌⊎◌}
 pub use Rattle.std.proofs.Math.Seq.{take-append_seam, take-length}
 pub use Rattle.std.proofs.lemmas.Bool.{and_parts, cases_eq, cases_lt, cases_order, eqb-false, eqb-true, false≢true, le-leb, leb-true, not-false, not_from_false}
-pub use Rattle.std.proofs.lemmas.List.{drop_more, ext_get_or, get_or_append_left, get_or_default, get_or_push, length-drop, length-map, length-replicate, length-set, length-take-le, length_push}
+pub use Rattle.std.proofs.lemmas.List.{drop_more, ext_get_or, get_or_append_left, get_or_default, get_or_push, length-drop, length-map, length-replicate, length-set, length-take-le}
+pub use Rattle.std.proofs.lemmas.List.{length_push}
 pub use Rattle.std.proofs.lemmas.List.{map-append, map-set, take-append-drop, take-append-le, take-take, take_all, take_more_set}
 pub use Rattle.std.proofs.lemmas.List.Concat.{flat_map-append}
 pub use Rattle.std.proofs.lemmas.List.Elements.{All-append, All-cons, All-head, All-nil, All-tail, filter-append}
@@ -23,17 +26,22 @@ pub use Rattle.ucl_board.specs.Words.{AreWords, greatest_version, version_of, wo
 pub use Rattle.ucl_board.specs.declared.entry.Entry.{Entry}
 pub use Rattle.ucl_steps.specs.Actors.{Actor, AreStepsOf, IsOfActor, IsRunOfActors, IsRunOfLog, IsTakenBy, accesses_of_log}
 pub use Rattle.ucl_steps.specs.CallRuns.{IsInCast, access_in, accesses_holding, accesses_of_step, step_of}
-pub use Rattle.ucl_steps.specs.Growing.{HasGoneOn, HaveGoneOn, records_by}
+pub use Rattle.ucl_steps.specs.Growing.{HasGoneOn, HaveGoneOn, record_of, records_by, records_told}
 pub use Rattle.ucl_steps.specs.Laws.{ReadingsAreSnapshots, ReportsAreSequential, RunsAreLinearizable, UncleanTriesAreFew, UncleanTriesSeeMore, WordsAreOfTheHistory}
-pub use Rattle.ucl_steps.specs.Linearizable.{AcceptedIsEntry, BeginsAt, EndedBySteps, EndsAt, EntryHasOneCall, IsDecided, IsEntry, IsLinearizable, IsRefused, Makes, PointWithinCall, Precedes}
+pub use Rattle.ucl_steps.specs.Linearizable.{AcceptedIsEntry, BeginsAt, EndedBySteps, EndsAt, EntryHasOneCall, IsDecided, IsEntry, IsLinearizable, IsRefused, Makes, PointWithinCall}
+pub use Rattle.ucl_steps.specs.Linearizable.{Precedes}
 pub use Rattle.ucl_steps.specs.Linearizable.{ReadingIsSnapshot, RealTimeOrder, RefusedAtPoint, VersionsRise, begun_in, caller_and_call, is_accepted, version_read}
-pub use Rattle.ucl_steps.specs.Machine.{Answered, Callers, Holds, Idle, MachineState, Wanting, Within, after_begin, after_end, after_outcome, after_reply, after_step, after_step_holding, after_steps}
-pub use Rattle.ucl_steps.specs.Machine.{caller_of, change_at, held_at_begin, held_by, initial_state, may_begin, set_held, state_after_first, state_after_look, state_after_second, state_after_swap}
+pub use Rattle.ucl_steps.specs.Machine.{Answered, begun_call, Callers, Holds, Idle, MachineState, Wanting, Within, after_begin, after_end, after_outcome, after_reply, after_step}
+pub use Rattle.ucl_steps.specs.Machine.{after_step_holding, after_steps}
+pub use Rattle.ucl_steps.specs.Machine.{caller_of, change_at, held_at_begin, held_by, initial_state, may_begin, set_held, state_after_first, state_after_look, state_after_second}
+pub use Rattle.ucl_steps.specs.Machine.{state_after_swap}
 pub use Rattle.ucl_steps.specs.Machine.{stored, with_end, with_held, with_reply}
-pub use Rattle.ucl_steps.specs.PassRuns.{AreRecordsOf, CanHold, FitsHeld, FitsRun, IsOf, IsRecordOf, IsUnderWay, Move, call_of, call_under_way, caller_for, calls_asked, calls_by, calls_told, begin_by}
+pub use Rattle.ucl_steps.specs.PassRuns.{AreRecordsOf, CanHold, FitsHeld, FitsRun, IsOf, IsRecordOf, IsUnderWay, Move, call_of, call_under_way, caller_for, calls_asked, calls_by, calls_told}
+pub use Rattle.ucl_steps.specs.PassRuns.{begin_by}
 pub use Rattle.ucl_steps.specs.PassRuns.{cast_for, end_by, is_of, left_by, steps_of_move, steps_of_moves}
 pub use Rattle.ucl_steps.specs.Progress.{SomeCallIsDecided, decided_in, finished_by, is_caller, most_between, steps_by}
-pub use Rattle.ucl_steps.specs.Protocol.{Answer, Answers, Checking, Collecting, Doing, GoesOn, Held, Holding, IsNext, MayAsk, Nothing, Outcome, after_first, after_look, after_second, after_swap}
+pub use Rattle.ucl_steps.specs.Protocol.{Answer, Answers, Checking, Collecting, Doing, GoesOn, Held, Holding, IsNext, MayAsk, Nothing, Outcome, after_first, after_look, after_second}
+pub use Rattle.ucl_steps.specs.Protocol.{after_swap}
 pub use Rattle.ucl_steps.specs.Protocol.{by_rules, collected, compared, done_by, ends, firsts_holding, goes, loaded, looked, nothing_done, seconds_holding, swapped, swaps_holding}
 pub use Rattle.ucl_steps.specs.Running.{IsReachable, Takes, holds_of, state_of}
 pub use Rattle.ucl_steps.specs.Trails.{Does, Follows, IsClean, IsCollect, IsFoundIn, IsUnclean, accesses_of}

@@ -4,7 +4,7 @@ use Rattle.ucl_steps.proofs.Common.{length-append, eq-eqb, ne_eqb, All, slice_ge
 use Rattle.ucl_steps.proofs.Common.{All-tail, sum_by-cons, some, some-ne-none, some-injective, get_elem?, Caller, Reporter, Reader, CallRecord, caller_and_call, Held, Answer, Doing, MayAsk}
 use Rattle.ucl_steps.proofs.Common.{MachineState, IsOf, is_of, call_of, CanHold, AreRecordsOf, FitsRun, calls_told, Actor, IsOfActor, decided_in, finished_by}
 use Rattle.ucl_steps.proofs.OneStep.{and_true, own_caller}
-use Rattle.ucl_steps.proofs.KeptRecords.{own, next_own, as_many}
+use Rattle.ucl_steps.proofs.KeptRecords.{own, own_record, next_own, as_many, may_hold}
 use Rattle.ucl_steps.proofs.ActorRuns.{Apart}
 
 abbrev is_decided : CallRecord → Bool
@@ -18,7 +18,8 @@ decided_of seat number calls = length (filter is_decided (filter (own seat numbe
 at_least : (seat number : ℕ) (calls : List CallRecord) (low high : ℕ) (fs : List Answer) → AreRecordsOf calls seat number low fs high → length fs ≤ decided_of seat number (drop low calls)
 at_least seat number calls low high [] r = omega arith
 at_least seat number calls low high (f ∷ fs) r =
-    search (arith, next_own seat number calls low high f fs r, own seat number, filter-append, length-append, at_least seat number calls (r.0 + 1) high fs r.5, r.0, r.5)
+    let next = next_own seat number calls low r.0 r.1 r.2 r.3 (own_record seat number f r.1 r.4) in
+    search (arith, next, own seat number, filter-append, length-append, at_least seat number calls (r.0 + 1) high fs r.5, r.0, r.5)
 
 filter_few : {X : Type 0} (p : X → Bool) (xs : List X) → length (filter p xs) ≤ length xs
 filter_few p [] = omega arith
@@ -29,9 +30,6 @@ module _ (p q : CallRecord → Bool) where
   one_less [] k a at is_own undone = absurd (none-some a at)
   one_less (x ∷ xs) zero a at is_own undone = search (arith, same_Some, filter_few)
   one_less (x ∷ xs) (suc k) a at is_own undone = search (arith, one_less xs k a at is_own undone)
-
-may_hold : (number : ℕ) (held : Held) → CanHold number held → MayAsk number (call_of held)
-may_hold number held can = search arith
 
 at_most : (state : MachineState) (seat number : ℕ) (d : Doing) → FitsRun state seat number d → decided_of seat number state.calls ≤ length d.calls
 at_most state seat number d f = search (arith, own, as_many, length-append, length-map, one_less, own_caller, may_hold, filter_few)
@@ -63,7 +61,7 @@ count_none i (a ∷ actors) = let rest = count_none (i + 1) actors in omega arit
 
 -- each call is of an actor
 
-own_of : (seat number : ℕ) (c : Caller) → IsOf seat number c → is_of seat number c ≡ true
+pub own_of : (seat number : ℕ) (c : Caller) → IsOf seat number c → is_of seat number c ≡ true
 own_of seat number c is = search (arith, eq-eqb, and_true, nat_le, le-leb)
 
 hits_one : (i j k : ℕ) (actors : List Actor) (a : Actor) (c : Caller) → i + j ≡ k → get_elem? actors j ≡ some a → is_of k a.number c ≡ true → 1 ≤ hits i actors c

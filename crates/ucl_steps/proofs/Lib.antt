@@ -21,4 +21,3 @@ pub mod KeptRecords
 pub mod FewSteps
 pub mod FinishedCalls
 pub mod FewAccesses
-pub mod GoneOn

@@ -20,11 +20,7 @@ use Rattle.ucl_steps.specs.declared.trace.CallRecord.{CallRecord}
 abbrev pub begun_in : List Step → List (Caller × Call)
 begun_in [] = []
 begun_in (Begin c call ∷ steps) = (c, call) ∷ begun_in steps
-begun_in (Look c ∷ steps) = begun_in steps
-begun_in (Swap c ∷ steps) = begun_in steps
-begun_in (First c ∷ steps) = begun_in steps
-begun_in (Second c ∷ steps) = begun_in steps
-begun_in (End c ∷ steps) = begun_in steps
+begun_in (step ∷ steps) = begun_in steps
 
 abbrev pub caller_and_call : CallRecord → Caller × Call
 caller_and_call c = (c.caller, c.call)
@@ -83,10 +79,10 @@ abbrev pub EntryHasOneCall : List Entry → List CallRecord → Type 0
 EntryHasOneCall history calls = (k : ℕ) → k < length history → (i : ℕ) × Makes calls i k × ((j : ℕ) → Makes calls j k → j ≡ i)
 
 -- a refused call has the refusal of the board of one thread after the first k entries
-pub record IsRefused (history : List Entry) (c : CallRecord) (k : ℕ) (refusal : Refusal) : Type 0 where
+pub record IsRefused (history : List Entry) (c : CallRecord) (k : ℕ) (why : Refusal) : Type 0 where
   pub event : EventCall
   pub entered : c.call ≡ Event event
-  pub reply : sequential_reply (take k history) event ≡ Err refusal
+  pub reply : sequential_reply (take k history) event ≡ Err why
 
 abbrev pub RefusedAtPoint : List Entry → CallRecord → Type 0
 RefusedAtPoint history c = (k : ℕ) (refusal : Refusal) → IsDecided c k (Refused refusal) → IsRefused history c k refusal

@@ -90,9 +90,13 @@ abbrev pub held_at_begin : Call → ℕ → Holds
 held_at_begin (Event e) call = Wanting call e
 held_at_begin Reading call = Within call (Collecting [])
 
+-- the record of a call that has just begun
+abbrev pub begun_call : Caller → Call → ℕ → CallRecord
+begun_call c call begun = record { caller = c; call = call; begun = begun; point = None; reply = None; ended = None }
+
 abbrev pub after_begin : Caller → Call → MachineState → MachineState
 after_begin c call state = with_held (held_at_begin call (length state.calls)) c
-    (record state { calls = state.calls ++ record { caller = c; call = call; begun = length state.history; point = None; reply = None; ended = None } ∷ [] })
+    (record state { calls = state.calls ++ begun_call c call (length state.history) ∷ [] })
 
 -- the call has its reply, with this linearization point
 abbrev pub after_reply : Caller → ℕ → ℕ → Reply → MachineState → MachineState

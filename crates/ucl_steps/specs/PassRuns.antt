@@ -12,7 +12,7 @@ use Rattle.ucl_steps.specs.declared.step.Call.TheVariants.{Event, Reading}
 use Rattle.ucl_steps.specs.declared.step.Step.{Step}
 use Rattle.ucl_steps.specs.declared.step.Step.TheVariants.{Begin, End}
 use Rattle.ucl_steps.specs.declared.trace.CallRecord.{CallRecord}
-use Rattle.ucl_steps.specs.Machine.{Idle, Within, MachineState, held_by, caller_of, after_step}
+use Rattle.ucl_steps.specs.Machine.{Idle, Within, MachineState, begun_call, held_by, caller_of, after_step}
 use Rattle.ucl_steps.specs.Linearizable.{caller_and_call}
 use Rattle.ucl_steps.specs.CallRuns.{step_of, accesses_of_step}
 use Rattle.ucl_board.specs.Log.{AccessKind, Access}
@@ -78,7 +78,7 @@ pub record IsUnderWay (state : MachineState) (seat number begun : ℕ) (held : H
   pub can : CanHold number held
   pub place : ℕ
   pub low : high ≤ place
-  pub record_is : slice_get state.calls place ≡ Some (record { caller = caller_for seat number (call_of held); call = call_of held; begun = begun; point = None; reply = None; ended = None })
+  pub record_is : slice_get state.calls place ≡ Some (begun_call (caller_for seat number (call_of held)) (call_of held) begun)
   pub holds : held_by state.callers (caller_for seat number (call_of held)) ≡ Some (Within place held)
   pub others : (c : Caller) → IsOf seat number c → c ≢ caller_for seat number (call_of held) → held_by state.callers c ≡ Some Idle
 

@@ -1,78 +1,68 @@
 -- One history of each running board, and its screens.
-use Rattle.std.proofs.Common.{List, drop, length, sym, ap, ◌∙◌, subst, arith}
-use Rattle.std.specs.Prelude.{take}
+use Rattle.std.proofs.lemmas.List.Elements.{All-cons, All-head, All-nil, All-tail}
+use Rattle.std.proofs.Common.{◌≡◌, ℕ, true, List, [], ◌∷◌, map, length, drop, sym, ap, ◌∙◌, subst, arith, le_refl}
+use Rattle.std.specs.Prelude.{All}
 use mathlib.Core.List.{IsPrefix}
+use mathlib.Core.Option.{some}
+use lib.ListN.{get_elem?}
 use Rattle.atomic_table.specs.Table.{State}
+use Rattle.atomic_table.proofs.Lists.{at_map}
 use Rattle.ucl_board.specs.declared.entry.Entry.{Entry}
 use Rattle.ucl_board.specs.History.{board_of}
 use Rattle.ucl_board.specs.Log.{history_of}
-use Rattle.ucl_steps.specs.PassRuns.{cast_for, steps_of_moves}
-use Rattle.ucl_steps.specs.Growing.{GoesOnFrom}
+use Rattle.ucl_steps.specs.Actors.{Actor, IsOfActor, IsRunOfLog}
+use Rattle.ucl_steps.specs.declared.trace.CallRecord.{CallRecord}
+use Rattle.ucl_steps.specs.Linearizable.{caller_and_call}
+use Rattle.ucl_steps.specs.PassRuns.{cast_for, IsOf, steps_of_moves}
 use Rattle.ucl_steps.proofs.Runs.{words_of_run}
-use Rattle.ucl_pass.specs.CellViews.{actor_of, actors_of}
-use Rattle.ucl_pass.specs.CellRule.{CellState, CellMeetsItsRule}
-use Rattle.std.proofs.lemmas.List.{length-map}
+use Rattle.ucl_steps.proofs.KeptRecords.{records_are}
+use Rattle.ucl_steps.proofs.FinishedCalls.{own_of}
 use Rattle.ucl_steps.proofs.LongerRuns.{longer_runs}
-use Rattle.ucl_pass.proofs.KeptRule.{match_words}
-use Rattle.ucl_pass.specs.CellLater.{CellLater}
-use Rattle.ucl_pass.proofs.CellRuns.{cell_goes_on}
-use Rattle.ucl_pass.proofs.LaterCells as cells
+use Rattle.ucl_live_board.proofs.KeptBoards.{there_is}
 use Rattle.ucl_words.specs.declared.view.WordView.{WordView}
-use Rattle.ucl_words.specs.WordRule.{word_actor, word_actors, TableKeepsOneHistory}
+use Rattle.ucl_words.specs.WordRule.{word_actor, word_actors, known, TableKeepsOneHistory}
 use Rattle.ucl_words.specs.Later.{Later}
-use Rattle.ucl_words.proofs.LaterBoards.{later_go_on}
-use Rattle.ucl_theorems.specs.Later.{HistoriesGoOn}
-use Rattle.ucl_theorems.specs.Headline.{HasOneHistory, HaveOneHistory, BoardsHaveOneHistory}
+use Rattle.ucl_words.proofs.LaterBoards.{log_goes_on, actors_go_on}
+use Rattle.ucl_theorems.specs.Headline.{IsOfPass, BoardsHaveOneHistory, HistoriesGoOn}
 use Rattle.ucl_theorems.proofs.Screens.{screens_of_run}
 
-of_words : (s : State Entry WordView) (r : TableKeepsOneHistory s) → HaveOneHistory r.shared.enlisted (history_of r.shared.log) (drop 1 s.words) (word_actors s.views)
-of_words s r =
-    let long = length-map s.views word_actor in
-    let one = (r.one_run (length (word_actors s.views)) (omega arith)).of_actors in
-    let cast = cast_for (length (word_actors s.views)) in
+run_of : (s : State Entry WordView) (r : TableKeepsOneHistory s) → IsRunOfLog (length s.views) r.shared.enlisted r.shared.log (word_actors s.views)
+run_of s r = r.one_run (length s.views) (le_refl (length s.views))
+
+of_pass : (views : List WordView) (c : CallRecord) → IsOfActor (word_actors views) (caller_and_call c) → IsOfPass views c
+of_pass views c t = let v = there_is word_actor views t.0 t.1 t.2 in
+    (t.0, v.0, v.1, own_of t.0 v.0.pass.number c.caller (subst (λ (a : Actor). IsOf t.0 a.number c.caller) (sym v.2) t.3))
+
+all_of_passes : (views : List WordView) (calls : List CallRecord) → All (IsOfActor (word_actors views)) (map caller_and_call calls) → All (IsOfPass views) calls
+all_of_passes views [] all = All-nil (IsOfPass views)
+all_of_passes views (c ∷ calls) all = All-cons (IsOfPass views) c calls
+    (of_pass views c (All-head (IsOfActor (word_actors views)) (caller_and_call c) (map caller_and_call calls) all))
+    (all_of_passes views calls (All-tail (IsOfActor (word_actors views)) (caller_and_call c) (map caller_and_call calls) all))
+
+pub boards_have : BoardsHaveOneHistory TableKeepsOneHistory
+boards_have s r =
+    let one = (run_of s r).of_actors in
+    let cast = cast_for (length s.views) in
     let steps = steps_of_moves one.moves in
     record {
-      run = one;
-      board_is = words_of_run cast steps one.state one.run ∙ (ap board_of one.history_is ∙ sym (ap (drop 1) r.shared.words_are));
-      one = subst (λ (h : List Entry). HasOneHistory steps h one.state.calls) one.history_is (screens_of_run cast steps one.state one.run);
+      cast = cast;
+      moves = one.moves;
+      state = one.state;
+      run = one.run;
+      words = words_of_run cast steps one.state one.run ∙ (ap board_of one.history_is ∙ sym (ap (drop 1) r.shared.words_are));
+      each = λ seat v at. record {
+            seen = subst (IsPrefix v.pass.seen) (sym one.history_is) (r.shared.fits seat v.pass (at_map (λ (u : WordView). u.pass) s.views seat v at)).seen;
+            calls = records_are seat v.pass.number one.state v.doing (one.each seat (word_actor v) (at_map word_actor s.views seat v at));
+          };
+      only = all_of_passes s.views one.state.calls one.only;
+      one = screens_of_run cast steps one.state one.run;
     }
 
-later_words : (s t : State Entry WordView) (r : TableKeepsOneHistory s) (q : TableKeepsOneHistory t) → Later s t → IsPrefix (of_words s r).run.moves (of_words t q).run.moves
-unfolding of_words
-later_words s t r q later =
-    let on = later_go_on s t r q later in
-    let long = length-map s.views word_actor in
-    let wide = length-map t.views word_actor in
-    let n = length (word_actors s.views) in
-    let m = length (word_actors t.views) in
-    longer_runs n m r.shared.enlisted q.shared.enlisted r.shared.log q.shared.log (word_actors s.views) (word_actors t.views) (r.one_run n (omega arith)) (q.one_run m (omega arith)) on.log on.passes
+later_runs : (s t : State Entry WordView) (r : TableKeepsOneHistory s) (q : TableKeepsOneHistory t) → Later s t → IsPrefix (boards_have s r).moves (boards_have t q).moves
+unfolding boards_have
+later_runs s t r q later =
+    longer_runs (length s.views) (length t.views) r.shared.enlisted q.shared.enlisted r.shared.log q.shared.log (word_actors s.views) (word_actors t.views) (run_of s r) (run_of t q)
+    (log_goes_on s t r q later) (actors_go_on s t r q later)
 
-of_cell : (s : CellState) (r : CellMeetsItsRule s) → HaveOneHistory r.shared.enlisted (history_of r.shared.log) (take 12 s.words) (actors_of s.views)
-of_cell s r =
-    let long = length-map s.views actor_of in
-    let one = r.one_run (length (actors_of s.views)) (omega arith) in
-    let cast = cast_for (length (actors_of s.views)) in
-    let steps = steps_of_moves one.moves in
-    let board = ap (take 12) r.shared.words_are ∙ match_words (history_of r.shared.log) r.shared.enlisted in
-    record {
-      run = one;
-      board_is = words_of_run cast steps one.state one.run ∙ (ap board_of one.history_is ∙ sym board);
-      one = subst (λ (h : List Entry). HasOneHistory steps h one.state.calls) one.history_is (screens_of_run cast steps one.state one.run);
-    }
-
-later_cells : (s t : CellState) (r : CellMeetsItsRule s) (q : CellMeetsItsRule t) → CellLater s t
-    → GoesOnFrom (actors_of s.views) (of_cell s r).run.state (actors_of t.views) (of_cell t q).run.state
-unfolding of_cell
-later_cells s t r q later =
-    let on = cells.later_go_on s t r q later in
-    let long = length-map s.views actor_of in
-    let wide = length-map t.views actor_of in
-    let n = length (actors_of s.views) in
-    let m = length (actors_of t.views) in
-    cell_goes_on s.views t.views n m r.shared.enlisted q.shared.enlisted r.shared.log q.shared.log (r.one_run n (omega arith)) (q.one_run m (omega arith)) on.log on.passes
-
-pub boards_have : BoardsHaveOneHistory
-boards_have = record { word_boards = of_words; cell_boards = of_cell }
-
-pub histories_go : HistoriesGoOn
-histories_go = record { boards = record { word_boards = of_words; cell_boards = of_cell }; later_word_boards = later_words; later_cell_boards = later_cells }
+pub histories_go : HistoriesGoOn TableKeepsOneHistory
+histories_go = record { boards = boards_have; later = later_runs }

@@ -1,10 +1,12 @@
 -- One history for all callers, and the screens of what its readers read.
-use Rattle.std.specs.Prelude.{◌≡◌, ℕ, ◌++◌, List, All, length, take, drop, flat_map, Some}
+use Rattle.std.specs.Prelude.{◌≡◌, ℕ, ◌++◌, true, List, All, length, take, drop, flat_map, Some}
+use mathlib.Core.List.{IsPrefix}
+use mathlib.Core.Option.{some}
+use lib.ListN.{get_elem?}
 use Rattle.atomic_table.specs.Table.{State}
 use Rattle.ucl_board.specs.declared.entry.Entry.{Entry}
 use Rattle.ucl_board.specs.declared.reading.Reading.{Reading}
 use Rattle.ucl_board.specs.History.{board_of}
-use Rattle.ucl_board.specs.Log.{history_of}
 use Rattle.ucl_order.specs.declared.profile.Profile.{Profile}
 use Rattle.ucl_order.specs.Roster.{NamedClub}
 use Rattle.ucl_order.specs.Rows.{rows_of}
@@ -17,11 +19,9 @@ use Rattle.ucl_steps.specs.declared.trace.Reply.TheVariants.{Copied}
 use Rattle.ucl_steps.specs.Machine.{MachineState, initial_state, after_steps}
 use Rattle.ucl_steps.specs.Linearizable.{IsDecided, IsLinearizable}
 use Rattle.ucl_words.specs.declared.view.WordView.{WordView}
-use Rattle.ucl_words.specs.WordRule.{word_actors, TableKeepsOneHistory}
-use Rattle.ucl_steps.specs.PassRuns.{steps_of_moves}
-use Rattle.ucl_steps.specs.Actors.{Actor, IsRunOfActors}
-use Rattle.ucl_pass.specs.CellViews.{actors_of}
-use Rattle.ucl_pass.specs.CellRule.{CellState, CellMeetsItsRule}
+use Rattle.ucl_words.specs.Later.{Later}
+use Rattle.ucl_steps.specs.PassRuns.{is_of, Move, steps_of_moves}
+use Rattle.ucl_steps.specs.Growing.{records_by, records_told}
 
 -- the board after the first k entries of a history, as a screen shows it: version k, and the clubs in the order of the
 -- profile, each with its numbers and its mark
@@ -46,14 +46,34 @@ pub record HasOneHistory (steps : List Step) (history : List Entry) (calls : Lis
 abbrev pub EveryRunHasOneHistory : Type 0
 EveryRunHasOneHistory = (cast : Cast) (steps : List Step) (state : MachineState) → after_steps steps (initial_state cast) ≡ Some state → HasOneHistory steps state.history state.calls
 
--- the board of these twelve words, with so many reporters enlisted, whose passes have finished, and hold, these calls, has this one history: there is one run of the machine from the fresh board to this history and these words, in which
--- each call begins with its first access and ends with its last; the calls of each pass, with their replies, are those of its callers, and there are no others; and all of it is explained by this history
-pub record HaveOneHistory (enlisted : ℕ) (history : List Entry) (board : List ℕ) (actors : List Actor) : Type 0 where
-  pub run : IsRunOfActors (length actors) enlisted history actors
-  pub board_is : run.state.words ≡ board
-  pub one : HasOneHistory (steps_of_moves run.moves) history run.state.calls
+-- a call is one of a pass that there is
+abbrev pub IsOfPass : List WordView → CallRecord → Type 0
+IsOfPass views c = (seat : ℕ) × (v : WordView) × (get_elem? views seat ≡ some v) × (is_of seat v.pass.number c.caller ≡ true)
 
--- between any two steps of any threads, for each state that meets the rule of a board: that of the table of a word board, and that of the cell of a cell board
-pub record BoardsHaveOneHistory : Type 0 where
-  pub word_boards : (s : State Entry WordView) (r : TableKeepsOneHistory s) → HaveOneHistory r.shared.enlisted (history_of r.shared.log) (drop 1 s.words) (word_actors s.views)
-  pub cell_boards : (s : CellState) (r : CellMeetsItsRule s) → HaveOneHistory r.shared.enlisted (history_of r.shared.log) (take 12 s.words) (actors_of s.views)
+-- the pass of a seat has seen a beginning of the history of a run, and its calls, with their replies, are those of its callers there
+pub record IsOfRun (state : MachineState) (seat : ℕ) (v : WordView) : Type 0 where
+  pub seen : IsPrefix v.pass.seen state.history
+  pub calls : records_by seat v.pass.number state ≡ records_told seat v.pass.number v.doing
+
+-- a word board between two steps of any threads: there is one run of the machine, from the fresh board to the words that are there, in which
+-- each call begins with its first access and ends with its last; each pass is of this run, there are no calls but those of passes, and all of
+-- it is explained by one history
+pub record IsOneRun (s : State Entry WordView) : Type 0 where
+  pub cast : Cast
+  pub moves : List Move
+  pub state : MachineState
+  pub run : after_steps (steps_of_moves moves) (initial_state cast) ≡ Some state
+  pub words : state.words ≡ drop 1 s.words
+  pub each : (seat : ℕ) (v : WordView) → get_elem? s.views seat ≡ some v → IsOfRun state seat v
+  pub only : All (IsOfPass s.views) state.calls
+  pub one : HasOneHistory (steps_of_moves moves) state.history state.calls
+
+-- so is each state that meets the rule of the board
+abbrev pub BoardsHaveOneHistory : (State Entry WordView → Type 0) → Type 0
+BoardsHaveOneHistory rule = (s : State Entry WordView) → rule s → IsOneRun s
+
+-- and over time: the run of a later state begins with that of the earlier one, whichever steps of whichever passes came between, and
+-- whether these passes ever met
+pub record HistoriesGoOn (rule : State Entry WordView → Type 0) : Type 0 where
+  pub boards : BoardsHaveOneHistory rule
+  pub later : (s t : State Entry WordView) (r : rule s) (q : rule t) → Later s t → IsPrefix (boards s r).moves (boards t q).moves

@@ -1,23 +1,26 @@
 //! One history for all callers, and the screens of what they read. The functions do nothing: they are there for their contracts.
 
-ghost use Rattle.ucl_theorems.specs.Headline.{EveryRunHasOneHistory, BoardsHaveOneHistory};
-ghost use Rattle.ucl_theorems.specs.Later.{HistoriesGoOn};
+ghost use Rattle.ucl_theorems.specs.Headline.{EveryRunHasOneHistory, BoardsHaveOneHistory, HistoriesGoOn};
 
-/// Between any two steps of any threads on a word board, and on a cell board, for every state that meets the rule of its table or its cell:
-/// the history of its log is that of one run of the protocol's machine, whose calls are those of the passes and no others, each with the
-/// reply that it got. So one history of the sequential board holds each finished call of each pass once, between its invocation and its
-/// response; each reading is the board after a prefix of it, no versions of a pass fall, and the screen of each reading is the text of the
-/// chosen order of that board.
+use atomic_table::TableRule;
+use ucl_board::Entry;
+use ucl_words::WordView;
+use ucl_words::rule::OneHistory;
+
+/// Between any two steps of any threads on a word board, for every state that meets the rule of its table: there is one run of the protocol's
+/// machine, from the fresh board to the words that are there, whose calls are those of the passes and no others, each with the reply that it
+/// got. So one history of the sequential board, of which each pass has seen a beginning, holds each finished call of each pass once, between its
+/// invocation and its response; each reading is the board after a prefix of it, no versions of a pass fall, and the screen of each reading is
+/// the text of the chosen order of that board.
 pub fn boards_have_one_history()
-    ensures { BoardsHaveOneHistory }
+    ensures { BoardsHaveOneHistory (⟦<OneHistory as TableRule<Entry, WordView, ()>>⟧.holds tt) }
 {}
 
-/// That history over time: wherever steps of the passes lead from one state of a board to another, whichever steps of whichever passes,
-/// the run of the later state of a word board begins with that of the earlier one. So there the order of the calls of passes that never met
-/// is that of real time, and once it is there, it never changes. The run of the later state of a cell board has the earlier entries first,
-/// and of each pass the earlier calls.
+/// That history over time: where each pass is still at its seat and has gone on, as steps of any passes leave it (`each_step_goes_on` of
+/// `ucl_words`), the run of the later state begins with that of the earlier one. So the order of the calls of passes that never met is that of
+/// real time, and once it is there, it never changes.
 pub fn histories_go_on()
-    ensures { HistoriesGoOn }
+    ensures { HistoriesGoOn (⟦<OneHistory as TableRule<Entry, WordView, ()>>⟧.holds tt) }
 {}
 
 /// For every list of steps of any reporters and readers, with calls cut anywhere and left unfinished: one history of the

@@ -1,6 +1,6 @@
 -- A running board is one run of the machine, and goes on with it.
 use Rattle.ucl_words.proofs.Common.{ℕ, List, ◌∷◌, length, sym, ap, ◌∙◌, subst, le_refl, IsPrefix, State, Entry, board_of, cast_for, steps_of_moves, WordView, word_actors, TableKeepsOneHistory}
-use Rattle.ucl_words.proofs.Common.{IsRunOfBoard, BoardsAreRuns, GoesOnWith}
+use Rattle.ucl_words.proofs.Common.{IsRunOfBoard, BoardsAreRuns, HaveGoneOn}
 use Rattle.ucl_steps.specs.Linearizable.{IsLinearizable}
 use Rattle.ucl_steps.proofs.Runs.{linearizable_run, words_of_run}
 use Rattle.ucl_steps.proofs.LongerRuns.{longer_runs}
@@ -17,7 +17,7 @@ boards_run s r =
       linearizable = subst (λ (h : List Entry). IsLinearizable steps h run.state.calls) run.history_is (linearizable_run cast steps run.state run.run);
     }
 
-pub runs_go_on : (s t : State Entry WordView) (r : TableKeepsOneHistory s) (q : TableKeepsOneHistory t) → GoesOnWith s t r q → (earlier : IsRunOfBoard s r) (later : IsRunOfBoard t q)
-    → IsPrefix earlier.one.of_actors.moves later.one.of_actors.moves
-runs_go_on s t r q on earlier later =
-    longer_runs (length s.views) (length t.views) r.shared.enlisted q.shared.enlisted r.shared.log q.shared.log (word_actors s.views) (word_actors t.views) earlier.one later.one on.log on.passes
+pub runs_go_on : (s t : State Entry WordView) (r : TableKeepsOneHistory s) (q : TableKeepsOneHistory t) → IsPrefix r.shared.log q.shared.log → HaveGoneOn (word_actors s.views) (word_actors t.views)
+    → (earlier : IsRunOfBoard s r) (later : IsRunOfBoard t q) → IsPrefix earlier.one.of_actors.moves later.one.of_actors.moves
+runs_go_on s t r q log passes earlier later =
+    longer_runs (length s.views) (length t.views) r.shared.enlisted q.shared.enlisted r.shared.log q.shared.log (word_actors s.views) (word_actors t.views) earlier.one later.one log passes

@@ -48,13 +48,13 @@ pub use Rattle.ucl_word.specs.declared.record.MatchRecord.{MatchRecord}
 pub use Rattle.ucl_word.specs.declared.refusal.Refusal.{Refusal}
 pub use Rattle.ucl_word.specs.declared.refusal.Refusal.TheVariants.{Stale}
 pub use Rattle.ucl_words.specs.Code.{Collects, FindsAgain, FindsAnother, HasFirsts, IsBegun, IsHoldingFor, MayCollect, Walks, begins_anew, has_copied}
-pub use Rattle.ucl_words.specs.Laws.{BoardsAreRuns, GoesOnWith, IsRunOfBoard, LaterBoardsGoOn, NumbersRiseInTime, PassesTookFew, RunsGrow, SomeCallFinishes, WordsTellTheEntry}
+pub use Rattle.ucl_words.specs.Laws.{BoardsAreRuns, IsRunOfBoard, LaterBoardsGoOn, NumbersRiseInTime, PassesTookFew, RunsGrow, SomeCallFinishes, WordsTellTheEntry}
 pub use Rattle.ucl_words.specs.WordCalls.{EnlistTries, Enlisting, HasTrail, IsSteady, KeepsTrail, ReadingSteps, ReportSteps}
 pub use Rattle.ucl_words.specs.WordDoings.{AnswersCall, GoesAlong}
 pub use Rattle.ucl_words.specs.WordRule.{StandAfterSplit, Stands, TableKeepsOneHistory, known, word_actor, word_actors, words_after}
 pub use Rattle.ucl_words.specs.WordSteps.{EnlistStep, EnlistWon, EnlistedStep, ExchangeMissed, ExchangeStep, ExchangeWon, FirstStep, IsNextWord, Loads, LoadsEnlisted, LoadsMatch, LogsOneStep}
 pub use Rattle.ucl_words.specs.WordSteps.{LookStep, SecondStep, WonFor, point_shown}
-pub use Rattle.ucl_words.specs.WordViews.{WordPass, first_pass, left_pass, new_pass, note_pass, second_pass, told_pass, view_of}
+pub use Rattle.ucl_words.specs.WordViews.{WordPass, first_pass, left_pass, new_pass, note_pass, second_pass, told_pass, view_of, pass_of}
 pub use Rattle.ucl_words.specs.declared.view.WordView.{WordView}
 pub use lib.ListN.{get_elem?}
 pub use mathlib.Core.List.{IsPrefix}

@@ -109,9 +109,6 @@ module _ (v x w : View) (n found : ℕ) (was : Missed v x n) where
         let last : Taken = step_taken (Enlisted found) (length w.seen) None in
         search (arith, takes_on v x w was.steps.steps (last ∷ []) was.steps.takes won.enlists.takes, tries_won 0 n found (length w.seen) was.steps.steps was.tries below same, won_number)
 
-pub tries_told : (v w : View) (r : Option ℕ) (n : ℕ) → w.number ≡ n → EnlistTries v (Some w.number) w → IfSome r (λ k. k ≡ n) → IsSome r → EnlistTries v r w
-tries_told v w r n is tries told some = search (arith, false≢true)
-
 pub missed_tries : (v x : View) (n : ℕ) → Missed v x n → 255 ≤ n → EnlistTries v None x
 missed_tries v x n was high = record { steps = was.steps.steps; takes = was.steps.takes; tries = tries_full 0 n was.steps.steps was.tries high }
 

@@ -1,19 +1,19 @@
 -- Each step on the table lets its pass go on, so a later state of a board goes on from an earlier one.
-use Rattle.ucl_words.proofs.Common.{◌≡◌, ℕ, ◌<◌, Bool, false, if◌then◌else◌, Option, List, ◌∷◌, ◌++◌, length, set, [], refl, sym, ap, ◌∙◌, subst, arith, append-nil, append_assoc, map-append}
-use Rattle.ucl_words.proofs.Common.{IsPrefix, some, get_elem?, State, set_else, EventCall, Refusal, Entry, Taken, begins_same, begins_none, begins_through, Call, Reply, HasGoneOn, calls_asked}
-use Rattle.ucl_words.proofs.Common.{call_under_way, Held, Nothing, Holding, Collecting, Checking, Answer, Doing, nothing_done, Outcome, GoesOn, Answers, by_rules, loaded, done_by, after_look}
-use Rattle.ucl_words.proofs.Common.{swaps_holding, firsts_holding, seconds_holding, View, Takes, second_added, note_added, note_joined, WordView, left_pass, second_pass, note_pass, told_pass}
-use Rattle.ucl_words.proofs.Common.{new_pass, words_after, known, word_actor, TableKeepsOneHistory, LogsOneStep, WonFor, LookStep, FirstStep, SecondStep, EnlistedStep, ExchangeStep, EnlistStep}
-use Rattle.ucl_words.proofs.Common.{GoesOnWith, LaterBoardsGoOn, RunsGrow, SomeCallFinishes, NumbersRiseInTime, HaveGoneOn, word_actors, RuleWith}
+use Rattle.ucl_words.proofs.Common.{◌≡◌, ℕ, ◌<◌, Bool, false, if◌then◌else◌, Option, List, ◌∷◌, ◌++◌, length, [], refl, sym, ap, ◌∙◌, subst, arith, append-nil, append_assoc, map-append}
+use Rattle.ucl_words.proofs.Common.{IsPrefix, some, get_elem?, State, EventCall, Refusal, Entry, begins_same, begins_none, Call, Reply, HasGoneOn, calls_asked}
+use Rattle.ucl_words.proofs.Common.{call_under_way, Held, Nothing, Holding, Collecting, Checking, Answer, Doing, Outcome, GoesOn, Answers, by_rules, loaded, done_by, after_look}
+use Rattle.ucl_words.proofs.Common.{swaps_holding, firsts_holding, seconds_holding, View, WordView, note_pass}
+use Rattle.ucl_words.proofs.Common.{new_pass, words_after, known, word_actor, TableKeepsOneHistory, WonFor, LookStep, FirstStep, SecondStep, EnlistedStep, ExchangeStep, EnlistStep}
+use Rattle.ucl_words.proofs.Common.{Actor, at_map, LaterBoardsGoOn, RunsGrow, SomeCallFinishes, NumbersRiseInTime, HaveGoneOn, word_actors}
 use Rattle.std.proofs.Common.{slice_index}
 use mathlib.Core.Logic.{dite}
 use mathlib.Core.Option as library
 use native.Mathlib.Decide.{ℕ_discrete}
 use Rattle.ucl_steps.specs.declared.step.Call.TheVariants.{Event, Reading}
-use Rattle.ucl_steps.proofs.GoneOn.{gone_same, gone_through}
-use Rattle.ucl_live_board.proofs.LaterLogs.{says_found, go_through, step_goes, split_goes, hearing_goes, number_rises}
-use Rattle.ucl_words.specs.Later.{StepKind, LetsGoOn, PassSteps, PassSplits, PassHears, StepsTo, LeadsTo, StepsLeadOn, FindsEnlisted}
-use Rattle.ucl_words.specs.Later.{ByLook, ByFirst, BySecond, ByCount, BySwap, ByEnlist, BySplit, ByNote, ByHearing}
+use Rattle.ucl_live_board.specs.Numbers.{IsGivenAfter}
+use Rattle.ucl_live_board.proofs.KeptBoards.{there_is}
+use Rattle.ucl_live_board.proofs.LaterLogs.{says_found, logs_go_on, given_after}
+use Rattle.ucl_words.specs.Later.{PassGoesOn, Later, LetsGoOn, FindsEnlisted}
 use Rattle.ucl_words.proofs.KeptRule.{known_at, enlist_word}
 use Rattle.ucl_words.proofs.BoardRuns.{runs_go_on}
 use Rattle.ucl_words.proofs.FewBetween.{few_between}
@@ -72,124 +72,100 @@ swap_goes : (found now : ℕ) (d : Doing) (held : Held) → d.held ≡ held → 
 swap_goes found now d (Holding e old new) is = search (arith, does_by, begins_here, begins_same)
 swap_goes found now d x is = does_same d d refl
 
--- passes as actors
+-- passes
 
-gone : (v w : WordView) → (0 < v.pass.number → w.pass.number ≡ v.pass.number) → DoesOn v.doing w.doing → HasGoneOn (word_actor v) (word_actor w)
-gone v w number does = record { number = number; finished = does.finished; asked = does.asked }
+gone : (v w : WordView) → (0 < v.pass.number → w.pass.number ≡ v.pass.number) → DoesOn v.doing w.doing → IsPrefix v.pass.log w.pass.log → PassGoesOn v w
+gone v w number does log = record { calls = record { number = number; finished = does.finished; asked = does.asked }; log = log }
 
-gone_still : (v w : WordView) → w.pass.number ≡ v.pass.number → w.doing ≡ v.doing → HasGoneOn (word_actor v) (word_actor w)
-gone_still v w number doing = gone v w (λ _. number) (does_same v.doing w.doing doing)
+pub gone_still : (v w : WordView) → w.pass.number ≡ v.pass.number → w.doing ≡ v.doing → w.pass.log ≡ v.pass.log → PassGoesOn v w
+gone_still v w number doing log = gone v w (λ _. number) (does_same v.doing w.doing doing) (subst (IsPrefix v.pass.log) (sym log) (begins_same v.pass.log))
+
+pub spent_goes : (v : WordView) → PassGoesOn (note_pass v) new_pass
+spent_goes v = gone_still (note_pass v) new_pass refl refl refl
 
 -- each kind of step
 
 pub looks_on : (place : ℕ) (e : EventCall) → LetsGoOn (LookStep place e)
-looks_on place e st m n m' l = gone m.0 m'.0 (λ _. l.loads.loads.sees.number) (subst (DoesOn m.0.doing) (sym l.doing) (look_goes m.0.pass.number e n (length m'.0.pass.seen) m.0.doing l.nothing))
+looks_on place e st m n m' l =
+    gone m.0 m'.0 (λ _. l.loads.loads.sees.number) (subst (DoesOn m.0.doing) (sym l.doing) (look_goes m.0.pass.number e n (length m'.0.pass.seen) m.0.doing l.nothing)) l.loads.loads.sees.goes.log
 
 pub firsts_on : LetsGoOn FirstStep
-firsts_on st m n m' l = gone m.0 m'.0 (λ _. l.loads.loads.sees.number) (subst (DoesOn m.0.doing) (sym l.doing) (first_goes n (length m'.0.pass.seen) m.0.doing m.0.doing.held refl))
+firsts_on st m n m' l =
+    gone m.0 m'.0 (λ _. l.loads.loads.sees.number) (subst (DoesOn m.0.doing) (sym l.doing) (first_goes n (length m'.0.pass.seen) m.0.doing m.0.doing.held refl)) l.loads.loads.sees.goes.log
 
 pub seconds_on : (place : ℕ) → LetsGoOn (SecondStep place)
-seconds_on place st m n m' l = gone m.0 m'.0 (λ _. l.loads.sees.number) (subst (DoesOn m.0.doing) (sym l.doing) (second_goes n (length m'.0.pass.seen) m.0.doing m.0.doing.held refl))
+seconds_on place st m n m' l =
+    gone m.0 m'.0 (λ _. l.loads.sees.number) (subst (DoesOn m.0.doing) (sym l.doing) (second_goes n (length m'.0.pass.seen) m.0.doing m.0.doing.held refl)) l.loads.sees.goes.log
 
 pub counts_on : (place : ℕ) → LetsGoOn (EnlistedStep place)
-counts_on place st m n m' l = gone_still m.0 m'.0 l.loads.sees.number l.doing
+counts_on place st m n m' l = gone m.0 m'.0 (λ _. l.loads.sees.number) (does_same m.0.doing m'.0.doing l.doing) l.loads.sees.goes.log
 
-won_number : (o : library.Option Entry) (v : View) (n : ℕ) (w : View) → WonFor o v n w → w.number ≡ v.number
-won_number x0 x1 x2 x3 x4 = search arith
+won_on : (o : library.Option Entry) (v : View) (n : ℕ) (w : View) → WonFor o v n w → (w.number ≡ v.number) × IsPrefix v.log w.log
+won_on (library.some e) v n w won = (won.adds.number, won.adds.goes.log)
+won_on library.none v n w won = absurd won
 
 pub swaps_on : (place : ℕ) → LetsGoOn (ExchangeStep place)
-swaps_on place st m n m' l = search (arith, swap_goes n (length m'.0.pass.seen) m.0.doing m.0.doing.held refl, gone, dite, won_number)
+swaps_on place st m n m' l =
+    let does = subst (DoesOn m.0.doing) (sym l.doing) (swap_goes n (length m'.0.pass.seen) m.0.doing m.0.doing.held refl) in
+    dite (ℕ_discrete n st.first)
+    (λ hit. let on = won_on st.said m.0.pass n m'.0.pass (l.won hit) in gone m.0 m'.0 (λ _. on.0) does on.1)
+    (λ miss. gone m.0 m'.0 (λ _. (l.missed miss).loads.sees.number) does (l.missed miss).loads.sees.goes.log)
 
 pub enlists_on : (place : ℕ) → LetsGoOn (EnlistStep place)
 enlists_on place st m n m' l = gone m.0 m'.0 (λ pos. let reader = l.reader in absurd (omega arith)) (does_same m.0.doing m'.0.doing l.doing)
+    (dite (ℕ_discrete n st.first) (λ hit. (l.won hit).enlists.goes.log) (λ miss. (l.missed miss).sees.goes.log))
 
--- an exchange that was won is one step of the log
+-- two states, one later than the other
 
-won_logged : (o : library.Option Entry) (v : View) (n : ℕ) (w : View) → WonFor o v n w → (x : Taken) × Takes v (x ∷ []) w
-won_logged x0 x1 x2 x3 x4 = search arith
+module _ (s t : State Entry WordView) (r : TableKeepsOneHistory s) (q : TableKeepsOneHistory t) (later : Later s t) where
+  -- a pass by what is known of it
+  known_later : (seat : ℕ) (v : View) → get_elem? (known s.views) seat ≡ some v
+      → (w : WordView) × (get_elem? (known t.views) seat ≡ some w.pass) × (0 < v.number → w.pass.number ≡ v.number) × IsPrefix v.log w.pass.log
+  known_later seat v at =
+      let u = there_is (λ (x : WordView). x.pass) s.views seat v at in
+      let w = later seat u.0 u.1 in (
+        w.0,
+        known_at t.views seat w.0 w.1,
+        subst (λ (x : View). 0 < x.number → w.0.pass.number ≡ x.number) u.2 w.2.calls.number,
+        subst (λ (x : View). IsPrefix x.log w.0.pass.log) u.2 w.2.log,
+      )
 
--- one step of the table
+  pub log_goes_on : IsPrefix r.shared.log q.shared.log
+  log_goes_on = logs_go_on words_after s.words t.words (known s.views) (known t.views) r.shared q.shared (λ seat v at. let w = known_later seat v at in (w.0.pass, w.1, w.3))
 
-abbrev pass_of : WordView → View
-pass_of v = v.pass
+  pub actors_go_on : HaveGoneOn (word_actors s.views) (word_actors t.views)
+  actors_go_on seat a at =
+      let u = there_is word_actor s.views seat a at in
+      let w = later seat u.0 u.1 in
+      (word_actor w.0, at_map word_actor t.views seat w.0 w.1, subst (λ (x : Actor). HasGoneOn x (word_actor w.0)) u.2 w.2.calls)
 
-module _ (s t : State Entry WordView) (r : TableKeepsOneHistory s) (q : TableKeepsOneHistory t) where
-  both : IsPrefix r.shared.log q.shared.log × HaveGoneOn (word_actors s.views) (word_actors t.views) → GoesOnWith s t r q
-  both on = record { log = on.0; passes = on.1 }
-
-  by_kind : (tells : StepKind) → LetsGoOn tells → LogsOneStep tells → PassSteps tells s t → GoesOnWith s t r q
-  by_kind tells on logs p = let x = logs p.step p.was p.found p.is p.told in both
-      (step_goes words_after pass_of word_actor HasGoneOn gone_same gone_through s.words t.words s.views t.views r.shared q.shared p.seat p.was.0 p.is.0 x.0 p.here
-      (on p.step p.was p.found p.is p.told) x.1 p.views)
-
-  by_split : (left right : WordView → WordView) (p : PassSplits left right s t) → HasGoneOn (word_actor p.was) (word_actor (left p.was))
-      → RuleWith words_after s.words (set (known s.views) p.seat (left p.was).pass ++ (right p.was).pass ∷ []) r.shared.enlisted r.shared.log → GoesOnWith s t r q
-  by_split left right p on m = both
-      (split_goes words_after pass_of word_actor HasGoneOn gone_same gone_through s.words t.words s.views t.views r.shared q.shared p.seat p.was (left p.was) (right p.was) p.here on m p.views)
-
-  by_hearing : PassHears s t → GoesOnWith s t r q
-  by_hearing p =
-      let told = told_pass p.was p.note in
-      let number : p.note.pass.number ≡ 0 = ap (λ (z : WordView). z.pass.number) p.is_note in
-      let own : p.note.pass.own ≡ [] = ap (λ (z : WordView). z.pass.own) p.is_note in
-      let doing : p.note.doing ≡ nothing_done = ap (λ (z : WordView). z.doing) p.is_note in
-      let at = known_at s.views p.seat p.was p.here in
-      let theirs : get_elem? (set (known s.views) p.seat told.pass) p.other ≡ some p.note.pass = search (arith, set_else, known_at) in
-      both (hearing_goes words_after pass_of word_actor HasGoneOn gone_same gone_through s.words t.words s.views t.views r.shared q.shared p.seat p.other p.was told p.note new_pass p.here p.apart
-      p.there (gone_still p.was told refl refl) (gone_still p.note new_pass (sym number) (sym doing))
-      (note_joined words_after s.words (known s.views) r.shared p.seat p.was.pass at p.other p.note.pass p.apart theirs number own) p.views)
-
-  one_step : StepsTo s t → GoesOnWith s t r q
-  one_step (ByLook place e p) = by_kind (LookStep place e) (looks_on place e) (λ st m n m' l. (_, l.loads.loads.sees.takes)) p
-  one_step (ByFirst p) = by_kind FirstStep firsts_on (λ st m n m' l. (_, l.loads.loads.sees.takes)) p
-  one_step (BySecond place p) = by_kind (SecondStep place) (seconds_on place) (λ st m n m' l. (_, l.loads.sees.takes)) p
-  one_step (ByCount place p) = by_kind (EnlistedStep place) (counts_on place) (λ st m n m' l. (_, l.loads.sees.takes)) p
-  one_step (BySwap place p) = by_kind (ExchangeStep place) (swaps_on place)
-      (λ st m n m' l. dite (ℕ_discrete n st.first) (λ hit. won_logged st.said m.0.pass n m'.0.pass (l.won hit)) (λ miss. (_, (l.missed miss).loads.sees.takes))) p
-  one_step (ByEnlist place p) = by_kind (EnlistStep place) (enlists_on place)
-      (λ st m n m' l. dite (ℕ_discrete n st.first) (λ hit. (_, (l.won hit).enlists.takes)) (λ miss. (_, (l.missed miss).sees.takes))) p
-  one_step (BySplit p) = by_split left_pass second_pass p (gone_still p.was (left_pass p.was) refl refl)
-      (second_added words_after s.words (known s.views) r.shared p.seat p.was.pass (known_at s.views p.seat p.was p.here))
-  one_step (ByNote p) = by_split (λ v. v) note_pass p (gone_still p.was p.was refl refl)
-      (note_added words_after s.words (known s.views) r.shared p.seat p.was.pass (known_at s.views p.seat p.was p.here))
-  one_step (ByHearing p) = by_hearing p
-
--- one step after another
-leads_on : (s : State Entry WordView) (between : List (State Entry WordView)) (t : State Entry WordView) (r : TableKeepsOneHistory s) (q : TableKeepsOneHistory t)
-    → LeadsTo s between t → GoesOnWith s t r q
-leads_on s [] t r q steps = one_step s t r q steps
-leads_on s (u ∷ us) t r q steps =
-    let a = one_step s u r steps.1 steps.0 in
-    let b = leads_on u us t steps.1 q steps.2 in
-    record { log = begins_through _ _ _ a.log b.log; passes = go_through words_after pass_of word_actor HasGoneOn gone_same gone_through _ _ _ a.passes b.passes }
+  -- a number that a reader was given
+  number_rises : (seat : ℕ) (v w : WordView) → get_elem? s.views seat ≡ some v → v.pass.number ≡ 0 → get_elem? t.views seat ≡ some w → 0 < w.pass.number
+      → IsGivenAfter r.shared.enlisted (known s.views) w.pass.number
+  number_rises seat v w here reader there = given_after words_after s.words t.words (known s.views) (known t.views) r.shared q.shared
+      (λ k u at. let x = known_later k u at in (x.0.pass, x.1, x.2)) seat v.pass w.pass (known_at s.views seat v here) reader (known_at t.views seat w there)
 
 pub later_go_on : LaterBoardsGoOn
-later_go_on s t r q later = leads_on s later.between t r q later.steps
+later_go_on = log_goes_on
 
 pub later_runs : RunsGrow
-later_runs s t r q later = runs_go_on s t r q (later_go_on s t r q later)
+later_runs s t r q later = runs_go_on s t r q (log_goes_on s t r q later) (actors_go_on s t r q later)
 
 pub some_finishes : SomeCallFinishes
-some_finishes s t r q later = few_between s t r q (later_go_on s t r q later).passes
-
--- a number that a reader was given
+some_finishes s t r q later = few_between s t r q (actors_go_on s t r q later)
 
 pub numbers_rise : NumbersRiseInTime
-numbers_rise s t r q later = number_rises words_after pass_of word_actor HasGoneOn gone_same gone_through s.words t.words s.views t.views r.shared q.shared (λ a. a.number) (λ v. refl)
-    (λ a b on. on.number) (later_go_on s t r q later).passes
+numbers_rise = number_rises
 
 -- a step on the number of reporters
 
-found_there : (s : State Entry WordView) (r : TableKeepsOneHistory s) (found word : ℕ) → found ≡ slice_index s.words word → word ≡ 0 → found ≡ r.shared.enlisted
-found_there s r found word there is = there ∙ (ap (slice_index s.words) is ∙ enlist_word s r)
+found_there : (s : State Entry WordView) (r : TableKeepsOneHistory s) (word : ℕ) → word ≡ 0 → slice_index s.words word ≡ r.shared.enlisted
+found_there s r word is = ap (slice_index s.words) is ∙ enlist_word s r
 
 pub counts_find : (place : ℕ) → FindsEnlisted (EnlistedStep place)
-counts_find place s t r p = search (arith, says_found, found_there)
+counts_find place s r st m m' told = says_found m.0.pass m'.0.pass _ r.shared.enlisted _ (found_there s r st.word told.word) told.loads.sees.takes
 
 pub enlists_find : (place : ℕ) → FindsEnlisted (EnlistStep place)
-enlists_find place s t r p = search (arith, found_there, says_found, dite)
-
--- what a clause of a step allows
-
-pub leads : (kind : StepKind) → StepsLeadOn kind
-leads kind seat next st m allows s r slots here fits = search (arith, slice_index)
+enlists_find place s r st m m' told = dite (ℕ_discrete (slice_index s.words st.word) st.first)
+    (λ hit. says_found m.0.pass m'.0.pass _ r.shared.enlisted _ (found_there s r st.word told.word) (told.won hit).enlists.takes)
+    (λ miss. says_found m.0.pass m'.0.pass _ r.shared.enlisted _ (found_there s r st.word told.word) (told.missed miss).sees.takes)

@@ -8,6 +8,9 @@ use Rattle.ucl_words.proofs.StepRuns.{walks_continue}
 use Rattle.ucl_words.proofs.ReportFacts.{look_walks, look_steps, look_refuses, miss_walks, miss_steps, miss_refuses, won_steady, won_continues, won_steps, won_accepts, accepts_by, as_entry, as_missed}
 use Rattle.ucl_words.proofs.ReportFacts.{me_in}
 use Rattle.ucl_words.proofs.DoingFacts.{look_answers, won_answers, miss_answers}
+use Rattle.ucl_steps.specs.Trails.{ReportAccesses}
+use Rattle.ucl_words.specs.WordRecords.{WordReported}
+use Rattle.ucl_words.proofs.Common.{List, Access, arith, WordPass, view_of, Stands}
 use Rattle.ucl_words.proofs.AlongFacts.{along_on, along_look, along_swap}
 
 -- what a report says
@@ -87,3 +90,23 @@ module _ (v u : WordView) (call : EventCall) (reporter loaded : ℕ) (game : IsM
           answers = miss_answers v u call loaded reporter me.2 looked grown accepts next valid next_is z found swapped other (Stale number) stale;
           along = both_along;
         }
+
+-- a report's accesses are one or two
+report_few : (call : EventCall) (reply : Result Accepted Refusal) (ms : List Access) (now : ℕ) → ReportAccesses call reply ms now → length ms ≤ 2
+report_few call reply ms now r = search arith
+
+module _ (k m : WordPass) (call : EventCall) (reply : Result Accepted Refusal) (r : Reported (view_of k) call reply (view_of m)) where
+  pub was_reported : m.board ≡ k.board → m.seat ≡ k.seat → Stands m.seat (view_of m) → WordReported k call reply m
+  was_reported own seat stands =
+      let few = report_few call reply r.steps.accesses (length m.view.seen) r.steps.report in
+      let taken = r.steps.leaves.taken in
+      record {
+        own = own;
+        seat = seat;
+        says = record { always = r.always; accepted = r.accepted; refused = r.refused };
+        steps = r.steps;
+        answers = r.answers;
+        along = r.along;
+        most = omega arith;
+        stands = stands;
+      }

@@ -11,7 +11,6 @@ use Rattle.ucl_board.specs.Log.{Logged, Log, taken_by, history_of, accesses_in}
 use Rattle.ucl_steps.specs.Linearizable.{IsLinearizable}
 use Rattle.ucl_steps.specs.PassRuns.{steps_of_moves}
 use Rattle.ucl_steps.specs.Actors.{IsRunOfLog}
-use Rattle.ucl_steps.specs.Growing.{HaveGoneOn}
 use Rattle.ucl_steps.specs.Progress.{most_between, finished_by}
 use Rattle.ucl_words.specs.declared.view.WordView.{WordView}
 use Rattle.ucl_live_board.specs.Numbers.{IsGivenAfter}
@@ -36,14 +35,10 @@ pub record IsRunOfBoard (s : State Entry WordView) (r : TableKeepsOneHistory s) 
 abbrev pub BoardsAreRuns : Type 0
 BoardsAreRuns = (s : State Entry WordView) (r : TableKeepsOneHistory s) → IsRunOfBoard s r
 
--- the log of a later state goes on from that of the earlier one, and each pass is still at its seat and has gone on
-pub record GoesOnWith (s t : State Entry WordView) (r : TableKeepsOneHistory s) (q : TableKeepsOneHistory t) : Type 0 where
-  pub log : IsPrefix r.shared.log q.shared.log
-  pub passes : HaveGoneOn (word_actors s.views) (word_actors t.views)
-
+-- the log of a later state goes on from that of the earlier one
 abbrev pub LaterBoardsGoOn : Type 0
 LaterBoardsGoOn =
-    (s t : State Entry WordView) (r : TableKeepsOneHistory s) (q : TableKeepsOneHistory t) → Later s t → GoesOnWith s t r q
+    (s t : State Entry WordView) (r : TableKeepsOneHistory s) (q : TableKeepsOneHistory t) → Later s t → IsPrefix r.shared.log q.shared.log
 
 -- the run of a later state begins with the run of the earlier one: so a state has one run, and no call's place in it ever moves
 abbrev pub RunsGrow : Type 0

@@ -36,9 +36,5 @@ second_pass v = record { pass = second_of v.pass; doing = nothing_done }
 abbrev pub note_pass : WordView → WordView
 note_pass v = record { pass = note_of v.pass; doing = nothing_done }
 
--- a note knows a history, and nothing else
-abbrev pub IsNotePass : WordView → Type 0
-IsNotePass v = v ≡ note_pass v
-
 abbrev pub told_pass : WordView → WordView → WordView
 told_pass v note = record { pass = told_by v.pass note.pass; doing = v.doing }

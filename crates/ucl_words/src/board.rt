@@ -1,25 +1,20 @@
 //! The board over thirteen atomic words, and its calls.
 
-ghost use Rattle.std.specs.Prelude.{◌≡◌, ◌≢◌, ◌+◌, ◌<◌, ◌≤◌, [], ◌++◌, length, IfOk, IfErr, IfSome, IfNone, IsSome, MatchResult, MatchBool, Some, None};
+ghost use Rattle.std.specs.Prelude.{◌≡◌, ◌≢◌, ◌+◌, ◌<◌, [], ◌++◌, length, IfOk, IsSome, MatchResult, MatchBool, Some, None};
 ghost use Rattle.atomic_table.specs.Seated.{TableId};
 ghost use Rattle.ucl_board.specs.Fixtures.{IsMatch};
 ghost use Rattle.ucl_board.specs.Log as trails;
-ghost use Rattle.ucl_steps.specs.Trails.{most_loads};
-ghost use Rattle.ucl_live_board.specs.Passes.{Continues, AcceptedReport, RefusedReport, SharedReading, Enlistment, FullBoard, Meeting};
-ghost use Rattle.ucl_live_board.specs.Views.{pass_view_of, count_of};
-ghost use Rattle.ucl_live_board.specs.CallSteps.{MeetingSteps};
 ghost use Rattle.ucl_live_board.specs.OneHistory.{BoardsOpenFresh};
-ghost use Rattle.ucl_words.specs.WordRule.{words_after, IsTheRule, Stands, StandAfterSplit};
+ghost use Rattle.ucl_words.specs.WordRule.{words_after, IsTheRule, Stands};
 ghost use Rattle.ucl_words.specs.WordSteps.{Loads, LoadsMatch, LoadsEnlisted, point_shown, ExchangeWon, ExchangeMissed, IsNextWord, EnlistWon};
 ghost use Rattle.ucl_words.specs.Code.{Collects, FindsAgain, FindsAnother, IsHoldingFor, MayCollect, HasFirsts, has_copied, begins_anew};
-ghost use Rattle.ucl_words.specs.WordCalls.{IsSteady, ReportSteps, ReadingSteps, EnlistTries, KeepsTrail};
+ghost use Rattle.ucl_words.specs.WordCalls.{IsSteady};
 ghost use Rattle.ucl_words.specs.WordRecords.{WordOpened, WordReported, WordRead, WordSplit, WordEnlisted, WordFull, WordMet};
-ghost use Rattle.ucl_words.specs.WordViews.{left_pass, second_pass};
-ghost use Rattle.ucl_words.specs.WordDoings.{AnswersCall, GoesAlong};
+ghost use Rattle.ucl_words.specs.WordViews.{pass_of};
+ghost use Rattle.ucl_words.specs.WordDoings.{GoesAlong};
 ghost use Rattle.ucl_word.specs.Record.{IsReporter};
-ghost use Rattle.ucl_steps.specs.Protocol.{Nothing, Checking, IsNext, after_look, after_swap, after_second, report_reply};
+ghost use Rattle.ucl_steps.specs.Protocol.{Nothing, Checking, IsNext, after_look, after_swap, after_second};
 ghost use Rattle.ucl_steps.specs.declared.step.Call.TheVariants as calls;
-ghost use Rattle.ucl_steps.specs.declared.trace.Reply.TheVariants as replies;
 
 use crate::passes::{WordReaderPass, WordReporterPass};
 use crate::rule::{
@@ -87,16 +82,6 @@ impl WordBoard {
         Ok((WordBoard { table }, WordReaderPass { seat }))
     }
 
-    /// The table of the board. Its type names its rule, `OneHistory`, which is the rule that the laws on boards speak of. It is there for
-    /// that: nobody needs it to call the board.
-    ///
-    pub fn table(&self) -> &atomic_table::Table<Entry, WordView, (), OneHistory, Global>
-        ensures own { result.now.shared.table_id ≡ self.now }
-        ensures tied { IsTheRule (⟦<OneHistory as TableRule<Entry, WordView, ()>>⟧.holds tt) }
-    {
-        &self.table
-    }
-
     /// Loads the word of an event's match, for a report.
     fn look<K: Asking>(&self, seat: &mut Seat, call: &EventCall) -> u64
         requires table { seat.old.table_id ≡ self.now }
@@ -141,49 +126,6 @@ impl WordBoard {
         self.table
             .shared
             .compare_exchange_with::<Swap<K>>(seat, word, loaded, next, &entry)
-    }
-
-    /// Enters an event under the seat's number: one load, and where the rules accept the event, one exchange.
-    fn report_by(
-        &self,
-        seat: &mut Seat,
-        reporter: ReporterNo,
-        call: &EventCall,
-    ) -> Result<Accepted, Refusal>
-        requires table { seat.old.table_id ≡ self.now }
-        requires steady { IsSteady seat.old.me.0.pass }
-        requires me { (0 < reporter) × (reporter ≤ 255) × (seat.old.me.0.pass.number ≡ reporter) }
-        requires next { seat.old.me.0.doing.held ≡ Nothing }
-        ensures own { seat.new.table_id ≡ seat.old.table_id }
-        ensures seat { seat.new.id ≡ seat.old.id }
-        ensures steady { IsSteady seat.new.me.0.pass }
-        ensures always { Continues (pass_view_of seat.old.me.0.pass)
-            (pass_view_of seat.new.me.0.pass) }
-        ensures accepted { IfOk result
-            (λ reply. AcceptedReport (pass_view_of seat.old.me.0.pass) call.now reply
-            (pass_view_of seat.new.me.0.pass)) }
-        ensures refused { IfErr result
-            (λ refusal. RefusedReport (pass_view_of seat.old.me.0.pass) call.now refusal
-            (pass_view_of seat.new.me.0.pass)) }
-        ensures steps { ReportSteps seat.old.me.0.pass call.now result seat.new.me.0.pass }
-        ensures answers { AnswersCall seat.old.me.0 (calls.Event call.now) (report_reply result)
-            seat.new.me.0 }
-        ensures along { GoesAlong seat.old.me.0 (calls.Event call.now) seat.new.me.0 }
-        ensures stands { Stands seat.new.id seat.new.me.0 }
-    {
-        let loaded = self.look::<Brand>(seat, call);
-        let next = next_word(loaded, reporter, call.expected, call.kind)?;
-        let entry = Entry::of(reporter, call);
-        let found = self.swap::<Brand>(seat, loaded, next, entry);
-        if found == loaded {
-            Ok(Accepted {
-                number: number_of(next),
-            })
-        } else {
-            Err(Refusal::Stale {
-                found: number_of(found),
-            })
-        }
     }
 
     /// The first collect: loads words 1 to 12.
@@ -256,20 +198,9 @@ impl WordBoard {
         requires table { seat.old.table_id ≡ self.now }
         requires steady { IsSteady seat.old.me.0.pass }
         requires next { seat.old.me.0.doing.held ≡ Nothing }
-        ensures own { seat.new.table_id ≡ seat.old.table_id }
-        ensures seat { seat.new.id ≡ seat.old.id }
         ensures steady { IsSteady seat.new.me.0.pass }
-        ensures always { Continues (pass_view_of seat.old.me.0.pass)
-            (pass_view_of seat.new.me.0.pass) }
-        ensures reading { SharedReading (pass_view_of seat.old.me.0.pass) result
-            (pass_view_of seat.new.me.0.pass) }
-        ensures steps { ReadingSteps seat.old.me.0.pass result seat.new.me.0.pass }
-        ensures answers { AnswersCall seat.old.me.0 calls.Reading (replies.Copied result)
-            seat.new.me.0 }
-        ensures along { GoesAlong seat.old.me.0 calls.Reading seat.new.me.0 }
-        ensures stands { Stands seat.new.id seat.new.me.0 }
-        ensures least { count_of seat.old.me.0.pass + 24 ≤ count_of seat.new.me.0.pass }
-        ensures most { count_of seat.new.me.0.pass ≤ count_of seat.old.me.0.pass + most_loads }
+        ensures read { WordRead (pass_of seat.old.table_id seat.old.id seat.old.me.0) result
+            (pass_of seat.new.table_id seat.new.id seat.new.me.0) }
     {
         'tries: loop {
             let words = self.collect(seat);
@@ -300,53 +231,6 @@ impl WordBoard {
             .compare_exchange::<Enlist<K>>(seat, ENLISTED, known, known + 1)
     }
 
-    /// Makes a seat a reporter's, and answers its number. `None` where 255 are enlisted. The first exchange is tried from no reporter,
-    /// and each later one from as many as were found.
-    fn enlist_by(&self, seat: &mut Seat) -> Option<ReporterNo>
-        requires table { seat.old.table_id ≡ self.now }
-        requires reader { seat.old.me.0.pass.number ≡ 0 }
-        requires steady { IsSteady seat.old.me.0.pass }
-        requires next { seat.old.me.0.doing.held ≡ Nothing }
-        ensures own { seat.new.table_id ≡ seat.old.table_id }
-        ensures seat { seat.new.id ≡ seat.old.id }
-        ensures steady { IsSteady seat.new.me.0.pass }
-        ensures enlisted { IfSome result
-            (λ number. Enlistment (pass_view_of seat.old.me.0.pass)
-            (pass_view_of seat.new.me.0.pass) × (seat.new.me.0.pass.number ≡ number)) }
-        ensures always { IfNone result
-            (Continues (pass_view_of seat.old.me.0.pass) (pass_view_of seat.new.me.0.pass)) }
-        ensures full { IfNone result
-            (FullBoard (pass_view_of seat.old.me.0.pass) (pass_view_of seat.new.me.0.pass)) }
-        ensures trail { KeepsTrail seat.old.me.0.pass seat.new.me.0.pass }
-        ensures tries { EnlistTries seat.old.me.0.pass result seat.new.me.0.pass }
-        ensures does { seat.new.me.0.doing ≡ seat.old.me.0.doing }
-        ensures stands { Stands seat.new.id seat.new.me.0 }
-        ensures most { count_of seat.new.me.0.pass ≤ count_of seat.old.me.0.pass + 255 }
-    {
-        let mut known = 0;
-        'tries: while known < MOST_REPORTERS {
-            let found = self.add_reporter::<Brand>(seat, known);
-            if found == known {
-                return ReporterNo::new((known + 1) as u8);
-            }
-            known = found;
-        }
-        None
-    }
-
-    /// A second seat, which has seen as much.
-    fn split_by(&self, seat: &mut Seat) -> Seat
-        requires table { seat.old.table_id ≡ self.now }
-        ensures own { (seat.new.table_id ≡ seat.old.table_id)
-            × (result.table_id ≡ seat.old.table_id) }
-        ensures seat { seat.new.id ≡ seat.old.id }
-        ensures kept { seat.new.me.0 ≡ left_pass seat.old.me.0 }
-        ensures given { result.me.0 ≡ second_pass seat.old.me.0 }
-        ensures stands { StandAfterSplit seat.old.me.0 seat.new.me.0 result.me.0 }
-    {
-        self.table.shared.split_seat::<SecondPass>(seat)
-    }
-
     /// Loads the number of enlisted reporters.
     fn count<K: Asking>(&self, seat: &mut Seat) -> u64
         requires table { seat.old.table_id ≡ self.now }
@@ -360,30 +244,6 @@ impl WordBoard {
         ensures stands { Stands seat.new.id seat.new.me.0 }
     {
         self.table.shared.load::<CountEnlisted<K>>(seat, ENLISTED)
-    }
-
-    /// A note of what the first has seen is joined to the second, which then loads the enlist word.
-    fn meet_by(&self, first: &mut Seat, second: &mut Seat)
-        requires table { (first.old.table_id ≡ self.now) × (second.old.table_id ≡ self.now) }
-        requires steady { IsSteady second.old.me.0.pass }
-        ensures own { (first.new.table_id ≡ first.old.table_id)
-            × (second.new.table_id ≡ second.old.table_id) }
-        ensures seat { (first.new.id ≡ first.old.id) × (second.new.id ≡ second.old.id) }
-        ensures unchanged { first.new.me.0 ≡ first.old.me.0 }
-        ensures steady { IsSteady second.new.me.0.pass }
-        ensures always { Continues (pass_view_of second.old.me.0.pass)
-            (pass_view_of second.new.me.0.pass) }
-        ensures meeting { Meeting (pass_view_of first.old.me.0.pass)
-            (pass_view_of second.old.me.0.pass) (pass_view_of second.new.me.0.pass) }
-        ensures trail { KeepsTrail second.old.me.0.pass second.new.me.0.pass }
-        ensures does { second.new.me.0.doing ≡ second.old.me.0.doing }
-        ensures steps { MeetingSteps second.old.me.0.pass second.new.me.0.pass }
-        ensures taken { count_of second.new.me.0.pass ≡ count_of second.old.me.0.pass + 1 }
-        ensures stands { Stands second.new.id second.new.me.0 }
-    {
-        let note = self.table.shared.split_seat::<Note>(first);
-        self.table.shared.join_seat::<Note>(second, note);
-        self.count::<Brand>(second);
     }
 
     /// Enters an event under the number of the pass, by one load and at most one compare and exchange of its match word. An accepted
@@ -409,12 +269,20 @@ impl WordBoard {
         requires { pass.old.board ≡ self.now }
         ensures { WordReported pass.old call.now result pass.new }
     {
-        let reporter = pass.number;
-        let result = self.report_by(&mut pass.seat, reporter, call);
-        if result.is_ok() {
+        let loaded = self.look::<Brand>(&mut pass.seat, call);
+        let next = next_word(loaded, pass.number, call.expected, call.kind)?;
+        let entry = Entry::of(pass.number, call);
+        let found = self.swap::<Brand>(&mut pass.seat, loaded, next, entry);
+        if found == loaded {
             pass.accepted += 1;
+            Ok(Accepted {
+                number: number_of(next),
+            })
+        } else {
+            Err(Refusal::Stale {
+                found: number_of(found),
+            })
         }
-        result
     }
 
     /// The board after a prefix of the history that has all that the pass had seen, and its version: loads all match words, and loads
@@ -467,12 +335,13 @@ impl WordBoard {
         requires { pass.old.board ≡ self.now }
         ensures { WordSplit pass.old pass.new result }
     {
-        let seat = self.split_by(&mut pass.seat);
+        let seat = self.table.shared.split_seat::<SecondPass>(&mut pass.seat);
         WordReaderPass { seat }
     }
 
-    /// Makes a reader a reporter, under a number of its own, by at most 255 compare and exchanges of the enlist word. Where 255 are
-    /// enlisted the answer is 30 with the pass, which may have seen more.
+    /// Makes a reader a reporter, under a number of its own, by at most 255 compare and exchanges of the enlist word: the first is tried from
+    /// no reporter, and each later one from as many as were found. Where 255 are enlisted the answer is 30 with the pass, which may have seen
+    /// more.
     ///
     /// ```rust
     /// let (board, pass) = WordBoard::open(&rt, rt.alloc())?;
@@ -490,14 +359,22 @@ impl WordBoard {
         ensures { MatchResult result (WordEnlisted pass) (λ full. WordFull pass full.0) }
     {
         let WordReaderPass { mut seat } = pass;
-        match self.enlist_by(&mut seat) {
-            Some(number) => Ok(WordReporterPass {
-                seat,
-                number,
-                accepted: 0,
-            }),
-            None => Err(TooManyReporters(WordReaderPass { seat })),
+        let mut known = 0;
+        'tries: while known < MOST_REPORTERS {
+            let found = self.add_reporter::<Brand>(&mut seat, known);
+            if found == known {
+                if let Some(number) = ReporterNo::new((known + 1) as u8) {
+                    return Ok(WordReporterPass {
+                        seat,
+                        number,
+                        accepted: 0,
+                    });
+                }
+                unreachable!()
+            }
+            known = found;
         }
+        Err(TooManyReporters(WordReaderPass { seat }))
     }
 
     /// Afterwards the second pass has seen all that either had seen, by one load of the enlist word. The first is as it was.
@@ -514,6 +391,8 @@ impl WordBoard {
         requires { (first.old.board ≡ self.now) × (second.old.board ≡ self.now) }
         ensures { WordMet first.old first.new second.old second.new }
     {
-        self.meet_by(&mut first.seat, &mut second.seat);
+        let note = self.table.shared.split_seat::<Note>(&mut first.seat);
+        self.table.shared.join_seat::<Note>(&mut second.seat, note);
+        self.count::<Brand>(&mut second.seat);
     }
 }

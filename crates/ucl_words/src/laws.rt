@@ -1,12 +1,13 @@
 //! What holds of all exchanges of match words, and of every running board. The functions do nothing: each is there for its contract.
 
 ghost use Rattle.ucl_words.specs.Laws.{WordsTellTheEntry, BoardsAreRuns, LaterBoardsGoOn, RunsGrow, SomeCallFinishes, NumbersRiseInTime};
-ghost use Rattle.ucl_words.specs.Later.{LetsGoOn, StepsLeadOn, FindsEnlisted};
+ghost use Rattle.ucl_words.specs.Later.{PassGoesOn, LetsGoOn, FindsEnlisted};
+ghost use Rattle.ucl_words.specs.declared.view.WordView.{WordView};
 ghost use Rattle.ucl_words.specs.WordSteps.{LogsOneStep};
 
-use crate::rule::{Asking, CountEnlisted, Enlist, First, Look, Second, Swap};
+use crate::rule::{Asking, CountEnlisted, Enlist, First, Look, Note, Second, SecondPass, Swap};
 use crate::view::WordView;
-use atomic_table::Play;
+use atomic_table::{Join, Play, Split};
 use ucl_board::Entry;
 
 /// Which entry an exchange of a match word adds follows from the match, the word that it finds and the word that it puts there.
@@ -35,7 +36,8 @@ pub fn each_step_is_logged<K: Asking>()
 {}
 
 /// Each kind of step on the words of a board, whatever it finds, lets its pass go on: it keeps its number, once it has one; what it had
-/// finished stays finished; and the call that was under way is finished, or still under way, and no other begins before it is finished.
+/// finished stays finished; the call that was under way is finished, or still under way, and no other begins before it is finished; and the log
+/// that it knows goes on. So do a split, a note and a meeting: a state to which steps of the passes lead is later in the sense of the laws below.
 pub fn each_step_goes_on<K: Asking>()
     ensures looks { LetsGoOn ⟦<Look<K> as Play<Entry, WordView>>⟧.then }
     ensures first { LetsGoOn ⟦<First as Play<Entry, WordView>>⟧.then }
@@ -43,27 +45,19 @@ pub fn each_step_goes_on<K: Asking>()
     ensures swaps { LetsGoOn ⟦<Swap<K> as Play<Entry, WordView>>⟧.then }
     ensures counts { LetsGoOn ⟦<CountEnlisted<K> as Play<Entry, WordView>>⟧.then }
     ensures enlists { LetsGoOn ⟦<Enlist<K> as Play<Entry, WordView>>⟧.then }
+    ensures splits { (v : WordView) → PassGoesOn v (⟦<SecondPass as Split<WordView>>⟧.left v) }
+    ensures notes { (v : WordView) → PassGoesOn v (⟦<Note as Split<WordView>>⟧.left v) }
+    ensures hears { (v note : WordView) → PassGoesOn v (⟦<Note as Join<WordView>>⟧.both v note) }
+    ensures spent { (v : WordView) → PassGoesOn (⟦<Note as Split<WordView>>⟧.right v)
+        ⟦<Note as Join<WordView>>⟧.spent }
 {}
 
-/// What the clause of a step on the table allows leads from each state that meets the rule to one that meets it, by a step of this kind:
-/// so there are such later states, and those of the table are among them.
-pub fn each_step_leads_on<K: Asking>()
-    ensures looks { StepsLeadOn ⟦<Look<K> as Play<Entry, WordView>>⟧.then }
-    ensures first { StepsLeadOn ⟦<First as Play<Entry, WordView>>⟧.then }
-    ensures second { StepsLeadOn ⟦<Second<K> as Play<Entry, WordView>>⟧.then }
-    ensures swaps { StepsLeadOn ⟦<Swap<K> as Play<Entry, WordView>>⟧.then }
-    ensures counts { StepsLeadOn ⟦<CountEnlisted<K> as Play<Entry, WordView>>⟧.then }
-    ensures enlists { StepsLeadOn ⟦<Enlist<K> as Play<Entry, WordView>>⟧.then }
-{}
-
-/// A later state of a board goes on from an earlier one: where steps of the passes lead from one to the other, whichever steps of whichever
-/// passes, the log of the later one begins with that of the earlier one, and each pass is still at its seat and has gone on.
+/// The log of a later state begins with that of the earlier one, whichever steps of whichever passes came between.
 pub fn later_boards_go_on()
     ensures { LaterBoardsGoOn }
 {}
 
-/// The run of a later state is a longer run: wherever steps of the passes lead from one state to another, each run of the later state
-/// begins with each run of the earlier one. So a state has one run, and the place of a call in it, once it is there, never moves.
+/// The run of a later state is a longer run: each run of the later state begins with each run of the earlier one. So a state has one run, and the place of a call in it, once it is there, never moves.
 pub fn runs_grow()
     ensures { RunsGrow }
 {}

@@ -1,16 +1,16 @@
-use Rattle.std.proofs.Common.{◌≡◌, length, arith}
+use Rattle.std.proofs.Common.{arith}
+use Rattle.std.proofs.lemmas.Grind.{common_steps}
 use Rattle.ucl_c.proofs.Boards.{board-read, board-words, words-bad}
 use Rattle.ucl_c.proofs.group.board_of.Goals as goal
 
-pub returns-in-Ok-clause-board : goal.returns-in-Ok-clause-board
-returns-in-Ok-clause-board c =
-    let long : length c.args.words.now ≡ 12 = omega arith in
-    board-read c.args.words.now c.copy_from_slice.new.self c.in-Ok.board long c.copy_from_slice.ensures.after c.in-Ok.ensures.board
+pub returns-clause-board : goal.returns-clause-board
+returns-clause-board c =
+    board-read c.args.words.now c.copy_from_slice.new.self c.in_ok-of_words.field-0 (omega arith) c.copy_from_slice.ensures.after c.in_ok-of_words.ensures.board
 
-pub returns-in-Ok-clause-valid : goal.returns-in-Ok-clause-valid
-returns-in-Ok-clause-valid c = board-words c.copy_from_slice.new.self c.in-Ok.board c.in-Ok.ensures.board
+pub returns-clause-valid : goal.returns-clause-valid
+returns-clause-valid c = board-words c.copy_from_slice.new.self c.in_ok-of_words.field-0 c.in_ok-of_words.ensures.board
 
-pub returns-in-Err-clause-refused : goal.returns-in-Err-clause-refused
-returns-in-Err-clause-refused c =
-    let long : length c.args.words.now ≡ 12 = omega arith in
-    words-bad c.args.words.now c.copy_from_slice.new.self c.in-Err.bad.index long c.copy_from_slice.ensures.after c.in-Err.ensures.refused
+pub returns-in_err-of_words-clause-refused : goal.returns-in_err-of_words-clause-refused
+returns-in_err-of_words-clause-refused c =
+    let bad = words-bad c.args.words.now c.copy_from_slice.new.self c.in_err-of_words.field-0.0.index (omega arith) c.copy_from_slice.ensures.after c.in_err-of_words.ensures.refused in
+    grind (arith, common_steps, bad)

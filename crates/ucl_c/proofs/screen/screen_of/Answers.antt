@@ -1,5 +1,5 @@
 use Rattle.ucl_c.specs.Tables.{clubs_handed}
-use Rattle.ucl_c.proofs.Boards.{inputs-roster}
+use Rattle.ucl_c.proofs.Boards.{good-roster}
 use Rattle.ucl_c.proofs.ScreenLength.{screen_bound}
 use Rattle.ucl_c.proofs.screen.screen_of.Goals as goal
 
@@ -7,5 +7,5 @@ pub returns-clause-short : goal.returns-clause-short
 returns-clause-short c =
     let is = c.in_ok-shown.ensures.taken in
     screen_bound c.in_ok-shown.shown.profile c.in_ok-shown.shown.board c.in_ok-shown.shown.roster c.in_ok-shown.shown.letter _ is.are_words
-    (inputs-roster c.args.profile c.args.group c.args.words.now (clubs_handed c.args.clubs.now) c.in_ok-shown.shown.roster is.sound is.roster)
+    (good-roster (clubs_handed c.args.clubs.now) c.in_ok-shown.shown.roster is.roster is.good)
     c.in_ok-screen.ensures

@@ -34,32 +34,28 @@ tries-preserved c = record {
   along = search (arith, along_on);
 }
 
-pub returns-then-is_clean-clause-steady : goal.returns-then-is_clean-clause-steady
-returns-then-is_clean-clause-steady c = search (arith, reads)
-
-pub returns-then-is_clean-clause-reading : goal.returns-then-is_clean-clause-reading
-returns-then-is_clean-clause-reading c =
-    (reads c.tries.seat.me.0.pass c.collect-words.new.seat.me.0.pass c.is_clean.new.seat.me.0.pass c.collect-words.result c.collect-words.ensures.long c.collect-words.ensures.collects
-    c.if-is_clean.ensures.compared c.args.seat.now.me.0.pass c.requires.steady c.tries.invariant.tried c.of.result (c.of.ensures ∙ ap reading_of c.of_packed.ensures)).shared
-
-pub returns-then-is_clean-clause-steps : goal.returns-then-is_clean-clause-steps
-returns-then-is_clean-clause-steps c = (reads c.tries.seat.me.0.pass c.collect-words.new.seat.me.0.pass c.is_clean.new.seat.me.0.pass c.collect-words.result c.collect-words.ensures.long
-    c.collect-words.ensures.collects c.if-is_clean.ensures.compared c.args.seat.now.me.0.pass c.requires.steady c.tries.invariant.tried c.of.result
-    (c.of.ensures ∙ ap reading_of c.of_packed.ensures)).steps
-
-pub returns-then-is_clean-clause-most : goal.returns-then-is_clean-clause-most
-returns-then-is_clean-clause-most c = (reads c.tries.seat.me.0.pass c.collect-words.new.seat.me.0.pass c.is_clean.new.seat.me.0.pass c.collect-words.result c.collect-words.ensures.long
-    c.collect-words.ensures.collects c.if-is_clean.ensures.compared c.args.seat.now.me.0.pass c.requires.steady c.tries.invariant.tried c.of.result
-    (c.of.ensures ∙ ap reading_of c.of_packed.ensures)).most
-
 pub collect-words-requires-clause-next : goal.collect-words-requires-clause-next
 collect-words-requires-clause-next c = tries_may (length c.args.seat.now.me.0.pass.seen) c.args.seat.now.me.0.doing c.requires.next c.tries.seat.me.0.doing c.tries.invariant.does
 
 pub is_clean-requires-clause-next : goal.is_clean-requires-clause-next
 is_clean-requires-clause-next c = search (arith, tries_held, begins_length)
 
-pub returns-then-is_clean-clause-answers : goal.returns-then-is_clean-clause-answers
-returns-then-is_clean-clause-answers c = search (arith, tries_clean, begins_length)
+pub returns-then-is_clean-clause-steady : goal.returns-then-is_clean-clause-steady
+returns-then-is_clean-clause-steady c = search (arith, reads)
 
-pub returns-then-is_clean-clause-along : goal.returns-then-is_clean-clause-along
-returns-then-is_clean-clause-along c = search (arith, along_on)
+pub returns-then-is_clean-clause-read : goal.returns-then-is_clean-clause-read
+returns-then-is_clean-clause-read c =
+    let all = reads c.tries.seat.me.0.pass c.collect-words.new.seat.me.0.pass c.is_clean.new.seat.me.0.pass c.collect-words.result
+    c.collect-words.ensures.long c.collect-words.ensures.collects c.if-is_clean.ensures.compared c.args.seat.now.me.0.pass c.requires.steady
+    c.tries.invariant.tried c.of.result (c.of.ensures ∙ ap reading_of c.of_packed.ensures) in
+    record {
+      own = c.is_clean.ensures.own ∙ (c.collect-words.ensures.own ∙ c.tries.invariant.same);
+      seat = c.is_clean.ensures.seat ∙ (c.collect-words.ensures.seat ∙ c.tries.invariant.place);
+      says = record { always = all.always; reading = all.shared };
+      steps = all.steps;
+      answers = search (arith, tries_clean, begins_length);
+      along = search (arith, along_on);
+      least = all.least;
+      most = all.most;
+      stands = search (arith, c.if-is_clean.ensures.stands);
+    }

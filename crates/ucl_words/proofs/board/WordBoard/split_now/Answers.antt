@@ -1,25 +1,28 @@
-use Rattle.ucl_words.proofs.Common.{arith, rules, ◌≡◌, ap, refl, sym, subst, View, Nothing, WordView, count_of, trail_of, IsSteady, StandAfterSplit, WordPass, view_of}
-use Rattle.ucl_words.proofs.EnlistmentFacts.{kept_steady, second_steady, second_steps}
+use Rattle.ucl_words.proofs.Common.{arith, rules, ◌≡◌, ap, refl, sym, subst, Nothing, WordView, IsSteady, pass_of}
+use Rattle.ucl_words.proofs.KeptRule.{seconds}
+use Rattle.ucl_words.proofs.EnlistmentFacts.{kept_steady, second_steady}
+use Rattle.ucl_words.proofs.WholeCalls.{was_split}
 use Rattle.ucl_words.proofs.board.WordBoard.split_now.Goals as goal
 
 abbrev IsReader : WordView → Type 0
 IsReader v = IsSteady v.pass × (v.pass.number ≡ 0) × (v.doing.held ≡ Nothing)
 
+pub split_seat-seat-requires : goal.split_seat-seat-requires
+split_seat-seat-requires c = (search rules, omega (arith, c.self.invariant.0), seconds c.pass.inside.seat.id c.pass.inside.seat.me.0)
+
 pub invariant_of-result : goal.invariant_of-result
-invariant_of-result c = subst IsReader (sym c.split_by-seat.ensures.given)
-    (second_steady c.pass.inside.seat.me.0.pass c.pass.invariant.0, refl, refl)
+invariant_of-result c = subst IsReader (sym (ap (λ m. m.0) c.split_seat-seat.ensures.4)) (second_steady c.pass.inside.seat.me.0.pass c.pass.invariant.0, refl, refl)
+
+pub invariant_of-pass : goal.invariant_of-pass
+invariant_of-pass c = subst IsReader (sym (ap (λ m. m.0) c.split_seat-seat.ensures.2))
+    (kept_steady c.pass.inside.seat.me.0.pass c.pass.invariant.0, c.pass.invariant.1, c.pass.invariant.2)
 
 pub returns : goal.returns
 returns c =
-    let given = c.split_by-seat.result.me.0.pass in
-    let steps = subst (λ (old : View). (count_of given ≡ count_of old) × (trail_of given ≡ trail_of old)) (ap (λ p. p.view) c.pass.view_is)
-    (subst (λ (v : WordView). (count_of v.pass ≡ count_of c.pass.inside.seat.me.0.pass) × (trail_of v.pass ≡ trail_of c.pass.inside.seat.me.0.pass)) (sym c.split_by-seat.ensures.given)
-    (second_steps c.pass.inside.seat.me.0.pass)) in
-    let stands =
-    subst (λ (p : WordPass). StandAfterSplit (view_of p) c.split_by-seat.new.seat.me.0 c.split_by-seat.result.me.0)
-    c.pass.view_is c.split_by-seat.ensures.stands in
-    search (arith, rules, steps, stands)
-
-pub invariant_of-pass : goal.invariant_of-pass
-invariant_of-pass c = subst IsReader (sym c.split_by-seat.ensures.kept)
-    (kept_steady c.pass.inside.seat.me.0.pass c.pass.invariant.0, c.pass.invariant.1, c.pass.invariant.2)
+    let was = c.pass.inside.seat in
+    let is = c.split_seat-seat.new.seat in
+    let given = c.split_seat-seat.result in
+    let said = c.split_seat-seat.ensures in
+    let all = was_split (pass_of was.table_id was.id was.me.0) (pass_of is.table_id is.id is.me.0) (pass_of given.table_id given.id given.me.0)
+    c.pass.invariant.0.sound said.0 said.3 said.1 (ap (λ m. m.0) said.2) (ap (λ m. m.0) said.4) in
+    search (arith, rules, all)

@@ -1,5 +1,0 @@
-use Rattle.std.proofs.Common.{◌≤◌, ◌*◌}
-use Rattle.ucl_boards_tests.proofs.every_board.enter_matches.Given as goal
-
-abbrev pub invariant-loop-number : goal.invariant-loop-number
-invariant-loop-number g l = g.B.LiveBoard.is_reporter l.fn.board l.pass × (l.accepted ≤ 65535 * l.number)

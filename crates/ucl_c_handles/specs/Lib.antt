@@ -1,3 +1,0 @@
-pub mod BoardPasses
-pub mod OwnedAt
-pub mod Handles

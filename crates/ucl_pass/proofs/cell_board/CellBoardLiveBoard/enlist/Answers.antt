@@ -1,0 +1,40 @@
+use Rattle.ucl_pass.proofs.Common.{rules, arith, sym, ◌∙◌, cell_view, StoresReporter}
+use Rattle.ucl_pass.proofs.KeptRule.{enlists, enlist_says}
+use Rattle.ucl_pass.proofs.CallsBySteps.{tried_more, tries_again, was_enlisted}
+use Rattle.ucl_pass.proofs.cell_board.CellBoardLiveBoard.enlist.Goals as goal
+
+pub compare_exchange_as-added-requires : goal.compare_exchange_as-added-requires
+compare_exchange_as-added-requires g c =
+    let more = tried_more (cell_view c.pass.inside.seat) (cell_view c.retry.seat) (cell_view c.load-words.new.seat) c.load-words.result
+    c.retry.invariant.tried c.load-words.ensures.looks in
+    let kept = enlists _ _ c.load-words.result c.one_more_reporter-next.result more.share (more.stays.number ∙ c.pass.invariant.1)
+    c.if-enlisted-ge-MOST_REPORTERS.false c.one_more_reporter-next.ensures in
+    (search rules, (search rules, (search rules, kept)))
+
+pub retry-preserved : goal.retry-preserved
+retry-preserved g c =
+    let u = cell_view c.load-words.new.seat in
+    let z = cell_view c.compare_exchange_as-added.new.pass in
+    let said = enlist_says u z c.load-words.result c.one_more_reporter-next.result c.compare_exchange_as-added.result
+    c.one_more_reporter-next.ensures c.compare_exchange_as-added.ensures.rule in
+    let own = c.compare_exchange_as-added.ensures.cell.0 ∙ (c.load-words.ensures.own ∙ c.retry.invariant.own) in
+    record {
+      can = tt;
+      ends = tt;
+      own = own;
+      tried = tries_again _ _ own (cell_view c.pass.inside.seat) (cell_view c.retry.seat) u c.load-words.result c.retry.invariant.tried
+          c.load-words.ensures.looks z c.one_more_reporter-next.result c.compare_exchange_as-added.result StoresReporter said
+          (sym c.is_ok.ensures.value ∙ c.if-is_ok.false);
+    }
+
+pub returns-in-Some-new : goal.returns-in-Some-new
+returns-in-Some-new g c =
+    let u = cell_view c.load-words.new.seat in
+    let z = cell_view c.compare_exchange_as-added.new.pass in
+    let said = enlist_says u z c.load-words.result c.one_more_reporter-next.result c.compare_exchange_as-added.result
+    c.one_more_reporter-next.ensures c.compare_exchange_as-added.ensures.rule in
+    let own = c.compare_exchange_as-added.ensures.cell.0 ∙ (c.load-words.ensures.own ∙ c.retry.invariant.own) in
+    let all = was_enlisted _ _ own (cell_view c.pass.inside.seat) (cell_view c.retry.seat) u c.load-words.result c.retry.invariant.tried
+    c.load-words.ensures.looks z c.one_more_reporter-next.result c.compare_exchange_as-added.result said
+    (sym c.is_ok.ensures.value ∙ c.if-is_ok.true) in
+    search (arith, rules, all)

@@ -1,0 +1,29 @@
+use Rattle.ucl_pass.proofs.Common.{rules, sym, ap, ◌∙◌, subst, cell_view, Merges, View, told_by, newcomer, CellKeepsOneHistory, LooksOnly, arith, cell_pass_of}
+use Rattle.ucl_pass.proofs.KeptRule.{notes, joins}
+use Rattle.ucl_pass.proofs.CallsBySteps.{was_met}
+use Rattle.ucl_pass.proofs.cell_board.CellBoardLiveBoard.meet.Goals as goal
+
+pub split_pass-note-requires : goal.split_pass-note-requires
+split_pass-note-requires g c = (search rules, (search rules, (search rules, notes _ _)))
+
+pub join_pass-requires : goal.join_pass-requires
+join_pass-requires g c =
+    let seat = c.second.inside.seat in
+    let v = cell_view seat in
+    let note = c.split_pass-note.result in
+    let joined =
+    subst (λ (n : View). Merges CellKeepsOneHistory seat.id v note.id n (told_by v n) newcomer)
+    (sym c.split_pass-note.ensures.given.1) (joins _ _ _ (cell_view c.first.inside.seat)) in
+    (search rules, (search rules, (search rules, joined)))
+
+pub returns : goal.returns
+returns g c =
+    let a = c.first.inside.seat in
+    let v = c.second.inside.seat in
+    let note = c.split_pass-note.ensures in
+    let told = c.join_pass.ensures in
+    let w = cell_view c.load.new.seat in
+    let looked = subst (λ (u : View). LooksOnly u c.load.result c.load.result w) (told.1 ∙ ap (told_by (cell_view v)) note.given.1) c.load.ensures.looks in
+    let all = was_met (cell_pass_of a) (cell_pass_of c.split_pass-note.new.pass) (cell_pass_of v) (cell_pass_of c.load.new.seat) c.load.result
+    (λ i. record { board = note.kept.0.0 i; view = note.kept.1 i }) (c.load.ensures.own ∙ told.0.0) c.first.invariant.0 looked in
+    search (arith, rules, all)

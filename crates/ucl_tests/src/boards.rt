@@ -1,0 +1,431 @@
+//! What every live board does, by one and by several threads; and the calls of the word board that cannot wait.
+
+ghost use Rattle.std.specs.Prelude.{◌≡◌, IfSome, IfOk};
+
+use std::alloc::{AllocError, Global};
+use std::sync::Wait;
+use std::test::Fail;
+use std::thread;
+use std::thread::Threads;
+use ucl_board::Reading;
+use ucl_pass::{CellBoard, LiveBoard, Strangers, TooManyReporters, settle};
+use ucl_word::Kind::{Disallow, FullTime, Goal, KickOff, Reopen, SecondYellow, Yellow};
+use ucl_word::Side::{Away, Home};
+use ucl_word::{Accepted, EventCall, Kind, MatchNo, Refusal};
+use ucl_words::{WordBoard, WordReaderPass, WordReporterPass};
+
+/// A new reporter of the board.
+fn enlisted<B: LiveBoard, R: Wait>(
+    rt: &R,
+    board: &B,
+    reader: &mut B::ReaderPass,
+) -> Option<B::ReporterPass>
+    requires { B.is_reader board.now reader.old }
+    ensures own { B.is_reader board.now reader.new }
+    ensures enlisted { IfSome result (λ pass. B.is_reporter board.now pass) }
+{
+    let pass = board.split(rt, reader);
+    board.enlist(rt, pass).ok()
+}
+
+/// The version that a reader reads.
+fn version_read<B: LiveBoard, R: Wait>(rt: &R, board: &B, pass: &mut B::ReaderPass) -> u16
+    requires { B.is_reader board.now pass.old }
+    ensures { B.is_reader board.now pass.new }
+{
+    board.read(rt, pass).version
+}
+
+/// The reply to an event, of which the number that is given or found, or the refusal.
+fn reply_to<B: LiveBoard, R: Wait>(
+    rt: &R,
+    board: &B,
+    pass: &mut B::ReporterPass,
+    event: (MatchNo, u16, Kind),
+) -> Result<u16, Refusal>
+    requires { B.is_reporter board.now pass.old }
+    ensures { B.is_reporter board.now pass.new }
+{
+    let (game, expected, kind) = event;
+    let call = EventCall {
+        game,
+        expected,
+        kind,
+    };
+    Ok(board.report(rt, pass, &call)?.number)
+}
+
+/// An event of match 1: the expected number, the kind, the number that it gets or its refusal, and the word of the match after it.
+type Answered = (u16, Kind, Result<u16, Refusal>, u64);
+
+static SEVEN_EVENTS: [Answered; 7] = [
+    (0, KickOff, Ok(1), 0x2001000000001001),
+    (1, Goal(Home), Ok(2), 0x2001000000005002),
+    (2, Goal(Away), Ok(3), 0x2001000000105003),
+    (3, Yellow(Home), Ok(4), 0x2001000004105004),
+    (4, Yellow(Away), Ok(5), 0x2001000104105005),
+    (5, Goal(Home), Ok(6), 0x2001000104109006),
+    (6, FullTime, Ok(7), 0x200100010410a007),
+];
+
+/// A finished match that goes on, and is ended again.
+static REOPENED: [Answered; 11] = [
+    (0, KickOff, Ok(1), 0x2001000000001001),
+    (1, Goal(Home), Ok(2), 0x2001000000005002),
+    (2, Yellow(Away), Ok(3), 0x2001000100005003),
+    (3, SecondYellow(Away), Ok(4), 0x2001080000005004),
+    (4, Disallow(Home), Ok(5), 0x2001080000001005),
+    (5, FullTime, Ok(6), 0x2001080000002006),
+    (6, Reopen, Ok(7), 0x2001080000001007),
+    (
+        6,
+        Reopen,
+        Err(Refusal::Stale { found: 7 }),
+        0x2001080000001007,
+    ),
+    (7, Reopen, Err(Refusal::NotFinished), 0x2001080000001007),
+    (7, Goal(Home), Ok(8), 0x2001080000005008),
+    (8, FullTime, Ok(9), 0x2001080000006009),
+];
+
+/// The first of these events that gets another reply or leaves another word, which its reporter reads.
+fn first_other<B: LiveBoard, R: Wait>(
+    rt: &R,
+    board: &B,
+    pass: &mut B::ReporterPass,
+    game: MatchNo,
+    events: &[Answered],
+) -> Option<Answered>
+    requires { B.is_reporter board.now pass.old }
+{
+    for &(expected, kind, reply, word) in events {
+        let replied = reply_to(rt, board, pass, (game, expected, kind));
+        let found = board.read_own(rt, pass).board.words()[0];
+        if replied != reply || found != word {
+            return Some((expected, kind, replied, found));
+        }
+    }
+    None
+}
+
+/// Enters events in match 1: the first that gets another answer, and the versions that a reader reads before and after them, and another
+/// one, which is split off, in a thread of its own.
+fn read_back_on<B: LiveBoard, R: Threads + Wait + Sync>(
+    rt: &R,
+    board: &B,
+    mut reader: B::ReaderPass,
+    events: &[Answered],
+) -> Option<(Option<Answered>, [u16; 3])>
+    requires { B.is_reader board.now reader }
+{
+    let mut reporter = enlisted(rt, board, &mut reader)?;
+    let before = version_read(rt, board, &mut reader);
+    let other = first_other(rt, board, &mut reporter, MatchNo::new(1)?, events);
+    let after = version_read(rt, board, &mut reader);
+    let pass = board.split(rt, &mut reader);
+    let (moved, ()) = thread::join(
+        rt,
+        move || -> u16
+            requires { B.is_reader board.now pass }
+        {
+            let mut pass = pass;
+            version_read(rt, board, &mut pass)
+        },
+        || {},
+    );
+    Some((other, [before, after, moved]))
+}
+
+#[test]
+fn read_back(rt: HostRuntime) -> Result<(), Fail> {
+    for (events, version) in [(SEVEN_EVENTS.as_slice(), 7), (&REOPENED, 9)] {
+        let (board, reader) = CellBoard::open(&rt, rt.alloc())?;
+        let in_cell = read_back_on(&rt, &board, reader, events);
+        let (board, reader) = WordBoard::open(&rt, rt.alloc())?;
+        let in_words = read_back_on(&rt, &board, reader, events);
+        let read = Some((None, [0, version, version]));
+        assert_eq!(rt; [in_cell, in_words], [read; 2]);
+    }
+    Ok(())
+}
+
+/// A new reporter, who has entered a kick-off and home goals in a match.
+fn enlisted_with<B: LiveBoard, R: Wait>(
+    rt: &R,
+    board: &B,
+    reader: &mut B::ReaderPass,
+    game: u8,
+    events: u16,
+) -> Option<B::ReporterPass>
+    requires { B.is_reader board.now reader.old }
+    ensures own { B.is_reader board.now reader.new }
+    ensures enlisted { IfSome result (λ pass. B.is_reporter board.now pass) }
+{
+    let mut pass = enlisted(rt, board, reader)?;
+    let game = MatchNo::new(game)?;
+    for expected in 0..events {
+        let kind = if expected == 0 { KickOff } else { Goal(Home) };
+        let _reply = reply_to(rt, board, &mut pass, (game, expected, kind));
+    }
+    Some(pass)
+}
+
+/// The version that is settled by reporters with 2 and 3 accepted events, after a third with so many, whose pass is dropped.
+fn settled_on<B: LiveBoard, R: Wait>(
+    rt: &R,
+    board: &B,
+    mut reader: B::ReaderPass,
+    others: u16,
+) -> Option<Result<u16, Strangers>>
+    requires { B.is_reader board.now reader }
+{
+    drop(enlisted_with(rt, board, &mut reader, 3, others)?);
+    let mut first = enlisted_with(rt, board, &mut reader, 1, 2)?;
+    let mut second = enlisted_with(rt, board, &mut reader, 2, 3)?;
+    let settled = settle(board, rt, &mut first, &mut second);
+    Some(settled.map(|reading| reading.version))
+}
+
+#[test]
+fn settling(rt: HostRuntime) -> Result<(), Fail> {
+    for (others, answer) in [(0, Ok(5)), (1, Err(Strangers { version: 6 }))] {
+        let (board, reader) = CellBoard::open(&rt, rt.alloc())?;
+        let in_cell = settled_on(&rt, &board, reader, others);
+        let (board, reader) = WordBoard::open(&rt, rt.alloc())?;
+        let in_words = settled_on(&rt, &board, reader, others);
+        assert_eq!(rt; [in_cell, in_words], [Some(answer); 2]);
+    }
+    Ok(())
+}
+
+/// The passes of 255 reporters, who get the numbers from 1 to 255; there is none where one gets another.
+fn all_enlisted<B: LiveBoard, R: Wait>(
+    rt: &R,
+    alloc: Global,
+    board: &B,
+    reader: &mut B::ReaderPass,
+) -> Result<Option<Vec<B::ReporterPass>>, AllocError>
+    requires { B.is_reader board.now reader.old }
+    ensures { IfOk result (λ passes. IfSome passes (λ _. B.is_reader board.now reader.new)) }
+{
+    let mut kept = Vec::new(alloc);
+    for number in 1..=255 {
+        match enlisted(rt, board, reader) {
+            Some(pass) if B::number_of(&pass).get() == number => kept.push(pass)?,
+            _ => return Ok(None),
+        }
+    }
+    Ok(Some(kept))
+}
+
+/// The version that a pass reads which the board does not enlist; none where it does.
+fn version_where_full<B: LiveBoard, R: Wait>(
+    rt: &R,
+    board: &B,
+    reader: &mut B::ReaderPass,
+) -> Option<u16>
+    requires { B.is_reader board.now reader.old }
+    ensures { B.is_reader board.now reader.new }
+{
+    let next = board.split(rt, reader);
+    match board.enlist(rt, next) {
+        Ok(_) => None,
+        Err(TooManyReporters(mut back)) => Some(version_read(rt, board, &mut back)),
+    }
+}
+
+/// All numbers, each once, and no other: neither while their passes are kept nor after these are dropped.
+fn all_numbers_on<B: LiveBoard, R: Wait>(
+    rt: &R,
+    alloc: Global,
+    board: &B,
+    mut reader: B::ReaderPass,
+) -> Result<Option<[Option<u16>; 2]>, AllocError>
+    requires { B.is_reader board.now reader }
+{
+    let Some(kept) = all_enlisted(rt, alloc, board, &mut reader)? else {
+        return Ok(None);
+    };
+    let beside = version_where_full(rt, board, &mut reader);
+    drop(kept);
+    Ok(Some([beside, version_where_full(rt, board, &mut reader)]))
+}
+
+#[test]
+fn all_numbers(rt: HostRuntime) -> Result<(), Fail> {
+    let alloc = rt.alloc();
+    let (board, reader) = CellBoard::open(&rt, alloc)?;
+    let in_cell = all_numbers_on(&rt, alloc, &board, reader)?;
+    let (board, reader) = WordBoard::open(&rt, alloc)?;
+    let in_words = all_numbers_on(&rt, alloc, &board, reader)?;
+    assert_eq!(rt; [in_cell, in_words], [Some([Some(0); 2]); 2]);
+    Ok(())
+}
+
+/// How many events a match can have, the last of which is full time.
+const MOST: u16 = 4095;
+
+/// Enters all events that a match can have: a kick-off, a home goal and its disallowing in turn, and full time.
+fn enter_match<B: LiveBoard, R: Wait>(rt: &R, board: &B, pass: &mut B::ReporterPass, game: MatchNo)
+    requires { B.is_reporter board.now pass.old }
+    ensures { B.is_reporter board.now pass.new }
+{
+    for expected in 0..MOST {
+        let kind = match expected {
+            0 => KickOff,
+            4094 => FullTime,
+            _ if expected % 2 == 1 => Goal(Home),
+            _ => Disallow(Home),
+        };
+        let _reply = reply_to(rt, board, pass, (game, expected, kind));
+    }
+}
+
+/// Enters all matches so, and answers how many events were accepted and the version that the reporter reads then.
+fn enter_all<B: LiveBoard, R: Wait>(rt: &R, board: &B, pass: &mut B::ReporterPass) -> (u16, u16)
+    requires { B.is_reporter board.now pass.old }
+    ensures { B.is_reporter board.now pass.new }
+{
+    for number in 1..13u8 {
+        if let Some(game) = MatchNo::new(number) {
+            enter_match(rt, board, pass, game);
+        }
+    }
+    (B::accepted_of(pass), board.read_own(rt, pass).version)
+}
+
+/// Events on a board that takes no more: the match, the kind and the refusal.
+static LATE_EVENTS: [(u8, Kind, Refusal); 4] = [
+    (1, KickOff, Refusal::Finished),
+    (6, Goal(Away), Refusal::Finished),
+    (12, FullTime, Refusal::Finished),
+    (1, Reopen, Refusal::NumberFull),
+];
+
+/// The first of the late events that gets another reply.
+fn first_late<B: LiveBoard, R: Wait>(
+    rt: &R,
+    board: &B,
+    pass: &mut B::ReporterPass,
+) -> Option<(u8, Kind)>
+    requires { B.is_reporter board.now pass.old }
+{
+    for &(number, kind, refusal) in LATE_EVENTS.as_slice() {
+        let game = MatchNo::new(number)?;
+        if reply_to(rt, board, pass, (game, MOST, kind)) != Err(refusal) {
+            return Some((number, kind));
+        }
+    }
+    None
+}
+
+/// Takes 1,000 readings, and says whether no version was below the one before.
+fn versions_rise<B: LiveBoard, R: Wait>(rt: &R, board: &B, mut pass: B::ReaderPass) -> bool
+    requires { B.is_reader board.now pass }
+{
+    let mut least = 0;
+    for _ in 0..1000u16 {
+        let version = version_read(rt, board, &mut pass);
+        if version < least {
+            return false;
+        }
+        least = version;
+    }
+    true
+}
+
+/// One reporter enters all events that a board can take while two readers read, each in a thread of its own.
+fn all_events_on<B: LiveBoard, R: Threads + Wait + Sync>(
+    rt: &R,
+    board: &B,
+    mut reader: B::ReaderPass,
+) -> Option<((u16, u16), Option<(u8, Kind)>, [bool; 2])>
+    requires { B.is_reader board.now reader }
+{
+    let reporter = enlisted(rt, board, &mut reader)?;
+    let other = board.split(rt, &mut reader);
+    let ((entered, late), (one, two)) = thread::join(
+        rt,
+        move || -> ((u16, u16), Option<(u8, Kind)>)
+            requires { B.is_reporter board.now reporter }
+        {
+            let mut reporter = reporter;
+            let entered = enter_all(rt, board, &mut reporter);
+            (entered, first_late(rt, board, &mut reporter))
+        },
+        move || -> (bool, bool)
+            requires { B.is_reader board.now reader × B.is_reader board.now other }
+        {
+            thread::join(
+                rt,
+                move || -> bool
+                    requires { B.is_reader board.now reader }
+                { versions_rise(rt, board, reader) },
+                move || -> bool
+                    requires { B.is_reader board.now other }
+                { versions_rise(rt, board, other) },
+            )
+        },
+    );
+    Some((entered, late, [one, two]))
+}
+
+#[test]
+fn all_events_with_two_readers(rt: HostRuntime) -> Result<(), Fail> {
+    let (board, reader) = CellBoard::open(&rt, rt.alloc())?;
+    let in_cell = all_events_on(&rt, &board, reader);
+    let (board, reader) = WordBoard::open(&rt, rt.alloc())?;
+    let in_words = all_events_on(&rt, &board, reader);
+    let wanted = Some(((49140, 49140), None, [true; 2]));
+    assert_eq!(rt; [in_cell, in_words], [wanted; 2]);
+    Ok(())
+}
+
+/// A new reporter of a word board, and the reply to its kick-off of match 3.
+fn kicked_off(
+    board: &WordBoard,
+    reader: &mut WordReaderPass,
+) -> Option<(WordReporterPass, Result<Accepted, Refusal>)>
+    requires { reader.old.board ≡ board.now }
+    ensures own { reader.new.board ≡ board.now }
+    ensures enlisted { IfSome result (λ it. it.0.board ≡ board.now) }
+{
+    let pass = board.split_now(reader);
+    let mut pass = board.enlist_now(pass).ok()?;
+    let call = EventCall {
+        game: MatchNo::new(3)?,
+        expected: 0,
+        kind: KickOff,
+    };
+    let reply = board.report_now(&mut pass, &call);
+    Some((pass, reply))
+}
+
+/// What two reporters of one kick-off are answered, and what the second and a reader read then: all six own calls of the board, and
+/// nothing that could wait.
+fn one_kick_off_by_two(
+    board: &WordBoard,
+    reader: &mut WordReaderPass,
+) -> Option<([Result<Accepted, Refusal>; 2], [Reading; 2])>
+    requires { reader.old.board ≡ board.now }
+{
+    let (mut first, accepted) = kicked_off(board, reader)?;
+    let (mut second, refused) = kicked_off(board, reader)?;
+    board.meet_now(&mut first, &mut second);
+    let own = board.read_own_now(&mut second);
+    Some(([accepted, refused], [own, board.read_now(reader)]))
+}
+
+#[test]
+fn calls_that_cannot_wait(rt: HostRuntime) -> Result<(), Fail> {
+    let (board, mut reader) = WordBoard::open(&rt, rt.alloc())?;
+    let (answers, [own, read]) = one_kick_off_by_two(&board, &mut reader).ok_or("no number")?;
+    let wanted = [Ok(Accepted { number: 1 }), Err(Refusal::Stale { found: 1 })];
+    assert_eq!(rt; answers, wanted);
+    assert_eq!(rt;
+        (own.version, own.board.words()[2]),
+        (1, 0x2001000000001001)
+    );
+    assert_eq!(rt; read, own);
+    Ok(())
+}

@@ -1,0 +1,206 @@
+//! Scripts and sheets, taken in and refused.
+
+use std::alloc::{AllocError, Global};
+use std::test::Fail;
+use ucl_board::Board;
+use ucl_screen::InputFault::{BadRoster, BadRow, BadWordAt};
+use ucl_screen::{FromRead, InputFault, Night, Sheet, read_night, read_words};
+
+/// The rows of the clubs, 78 bytes.
+const CLUBS: &[u8] =
+    b"club,1,Alpha,60000\nclub,2,Bravo,95000\nclub,3,Charlie,60000\nclub,4,Delta,81500\n";
+
+/// The rows of the head to head group: reporter 1 has the odd matches and reporter 2 the even ones.
+const HEAD_TO_HEAD: &[u8] = b"\
+1,1,0,kickoff\n1,1,1,goal-home\n1,1,2,fulltime\n\
+2,2,0,kickoff\n2,2,1,goal-home\n2,2,2,fulltime\n\
+1,3,0,kickoff\n1,3,1,goal-home\n1,3,2,fulltime\n\
+2,4,0,kickoff\n2,4,1,goal-home\n2,4,2,goal-home\n2,4,3,goal-home\n2,4,4,goal-home\n2,4,5,goal-home\n2,4,6,fulltime\n\
+1,5,0,kickoff\n1,5,1,goal-home\n1,5,2,fulltime\n\
+2,6,0,kickoff\n2,6,1,goal-home\n2,6,2,fulltime\n\
+1,7,0,kickoff\n1,7,1,goal-home\n1,7,2,goal-home\n1,7,3,fulltime\n\
+2,8,0,kickoff\n2,8,1,goal-away\n2,8,2,fulltime\n\
+1,9,0,kickoff\n1,9,1,fulltime\n\
+2,10,0,kickoff\n2,10,1,fulltime\n\
+1,11,0,kickoff\n1,11,1,goal-away\n1,11,2,goal-away\n1,11,3,fulltime\n\
+2,12,0,kickoff\n2,12,1,goal-away\n2,12,2,fulltime\n";
+
+/// These parts, one after the other.
+fn joined(alloc: Global, parts: &[&[u8]]) -> Result<Vec<u8>, AllocError> {
+    let mut text = Vec::new(alloc);
+    for part in parts {
+        text.extend_from_slice(part)?;
+    }
+    Ok(text)
+}
+
+fn night_of(alloc: Global, text: &[u8]) -> Result<Night, InputFault> {
+    read_night(alloc, &mut FromRead::new(text))
+}
+
+fn sheet_of(alloc: Global, text: &[u8]) -> Result<Sheet, InputFault> {
+    read_words(alloc, &mut FromRead::new(text))
+}
+
+/// Two parts of a script, and how many events it has or why it is refused.
+static SCRIPTS: [(&[u8], &[u8], Result<usize, InputFault>); 17] = [
+    (b"", b"", Err(BadRow { row: 1 })),
+    (b"", b"club,1,\"Alp", Err(BadRow { row: 1 })),
+    (
+        b"club,1,Alpha,60000\nclub,2,Bravo,95000\n",
+        b"club,3,Charlie,60000\n",
+        Err(BadRow { row: 4 }),
+    ),
+    (
+        b"club,1,Alpha,60000\nclub,2,Bravobravobravobravob,95000\n",
+        b"club,3,Charlie,1000000\nclub,4,Delta,81500\n",
+        Err(BadRoster { slot: 2 }),
+    ),
+    (CLUBS, b"", Ok(0)),
+    (CLUBS, HEAD_TO_HEAD, Ok(40)),
+    // Numbers may have zeros in front, but no sign and not too many digits.
+    (CLUBS, b"1,1,00000,kickoff", Ok(1)),
+    (CLUBS, b"001,01,0,kickoff", Ok(1)),
+    (CLUBS, b"1,1,000000,kickoff", Err(BadRow { row: 5 })),
+    (CLUBS, b"1,1,+0,kickoff", Err(BadRow { row: 5 })),
+    (CLUBS, b"256,1,0,kickoff", Err(BadRow { row: 5 })),
+    (CLUBS, b"1,1,0,kickoff,", Err(BadRow { row: 5 })),
+    (CLUBS, b"1,13,0,kickoff", Err(BadRow { row: 5 })),
+    (CLUBS, b"0,1,0,kickoff", Err(BadRow { row: 5 })),
+    (CLUBS, b"1,1,65536,kickoff", Err(BadRow { row: 5 })),
+    (CLUBS, b"1,1,0,kick", Err(BadRow { row: 5 })),
+    (CLUBS, b"club,5,Echo,1", Err(BadRow { row: 5 })),
+];
+
+#[test]
+fn scripts(rt: HostRuntime) -> Result<(), Fail> {
+    for &(front, rest, events) in SCRIPTS.as_slice() {
+        let text = joined(rt.alloc(), &[front, rest])?;
+        let read = night_of(rt.alloc(), &text).map(|night| night.events.len());
+        assert_eq!(rt; read, events);
+    }
+    Ok(())
+}
+
+/// A script that ends anywhere is taken, or a row of it is bad.
+#[test]
+fn every_beginning_of_a_script(rt: HostRuntime) -> Result<(), Fail> {
+    let text = joined(rt.alloc(), &[CLUBS, HEAD_TO_HEAD])?;
+    for end in 0..text.len() {
+        match night_of(rt.alloc(), &text[..end]) {
+            Ok(night) if end == 75 => assert_eq!(rt; night.roster.coefficient(4), 815),
+            Ok(_) | Err(BadRow { .. }) => {}
+            Err(fault) => panic!(rt; "cut after {end}: {fault}"),
+        }
+    }
+    Ok(())
+}
+
+/// The first club's name, which no roster takes, is told after row 4 is found good and before row 5 is read.
+#[test]
+fn names(rt: HostRuntime) -> Result<(), Fail> {
+    let alloc = rt.alloc();
+    let others = b",60000\nclub,2,Bravo,95000\nclub,3,Charlie,60000\n".as_slice();
+    for name in [b"M\xc3\xa1laga".as_slice(), b"\xff", b"\"Al\npha\""] {
+        for (row, wanted) in [
+            (
+                b"club,4,Delta,81500\n1,1,0,kick".as_slice(),
+                BadRoster { slot: 1 },
+            ),
+            (b"club,4,Delta,81500\n", BadRoster { slot: 1 }),
+            (b"club,4,Delta,\n", BadRow { row: 4 }),
+        ] {
+            let text = joined(alloc, &[b"club,1,", name, others, row])?;
+            assert_eq!(rt; night_of(alloc, &text).err(), Some(wanted));
+        }
+    }
+    let quoted = [
+        b"club,1,\"Al,pha\"".as_slice(),
+        others,
+        b"club,4,Delta,81500",
+    ];
+    let night = night_of(alloc, &joined(alloc, &quoted)?)?;
+    assert!(rt; night.roster.name(1) == b"Al,pha".as_slice());
+    Ok(())
+}
+
+/// A word that no match has, and a match that has not begun.
+const BAD: &str = "FFFFFFFFFFFFFFFF";
+
+const NEW: &str = "2000000000000000";
+
+const OLD: &str = "0000000000000000";
+
+/// The words of matches 1, 2, 3 and 7 and of all others, a last row, and the fault. There is none where the sheet has the board of the
+/// stored run, in words of the second layout, of the first one, or of both.
+static SHEETS: [([&str; 5], &str, Option<InputFault>); 8] = [
+    (
+        ["2001080000002006", "2002000000001001", NEW, NEW, NEW],
+        "",
+        None,
+    ),
+    (
+        ["0000420000000806", "0000800000000401", OLD, OLD, OLD],
+        "",
+        None,
+    ),
+    (
+        ["0000420000000806", "2002000000001001", OLD, NEW, OLD],
+        "",
+        None,
+    ),
+    ([NEW, NEW, BAD, BAD, NEW], "", Some(BadWordAt { index: 3 })),
+    (
+        [NEW, NEW, BAD, BAD, NEW],
+        "word,13,2000000000000000,\n",
+        Some(BadRow { row: 17 }),
+    ),
+    (
+        ["200000000000000", NEW, NEW, NEW, NEW],
+        "",
+        Some(BadRow { row: 5 }),
+    ),
+    (
+        ["200000000000000g", NEW, NEW, NEW, NEW],
+        "",
+        Some(BadRow { row: 5 }),
+    ),
+    (
+        [NEW, "2000000000000000,", NEW, NEW, NEW],
+        "",
+        Some(BadRow { row: 6 }),
+    ),
+];
+
+/// The rows of a sheet after those of the clubs.
+fn sheet_text(alloc: Global, words: &[&str; 5], last: &str) -> Result<Vec<u8>, Fail> {
+    let mut rows = String::new(alloc);
+    for index in 1..13 {
+        let word = match index {
+            1 => words[0],
+            2 => words[1],
+            3 => words[2],
+            7 => words[3],
+            _ => words[4],
+        };
+        write!(&mut rows, "word,{index},{word},\n")?;
+    }
+    Ok(joined(alloc, &[CLUBS, rows.as_bytes(), last.as_bytes()])?)
+}
+
+#[test]
+fn sheets(rt: HostRuntime) -> Result<(), Fail> {
+    let alloc = rt.alloc();
+    let mut words = [0x2000000000000000; 12];
+    (words[0], words[1]) = (0x2001080000002006, 0x2002000000001001);
+    let stored = Board::of_words(&words)?;
+    for &(words, last, fault) in SHEETS.as_slice() {
+        match sheet_of(alloc, &sheet_text(alloc, &words, last)?) {
+            Ok(sheet) => assert_eq!(rt; (sheet.board, None), (stored, fault)),
+            Err(found) => assert_eq!(rt; Some(found), fault),
+        }
+    }
+    let other = joined(alloc, &[CLUBS, b"word,2,2000000000000000,"])?;
+    assert_eq!(rt; sheet_of(alloc, &other).err(), Some(BadRow { row: 5 }));
+    Ok(())
+}

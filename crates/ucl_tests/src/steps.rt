@@ -1,0 +1,436 @@
+//! Worked lists of steps.
+
+use crate::order::sample_roster;
+use std::alloc::AllocError;
+use std::test::Fail;
+use ucl_board::{Board, Reading};
+use ucl_order::Profile::Uefa;
+use ucl_screen::screen;
+use ucl_steps::{Call, Caller, Cast, Reply, Step, StepFault, Trace, run_steps};
+use ucl_word::Kind::{Disallow, FullTime, Goal, KickOff, Yellow};
+use ucl_word::Side::{Away, Home};
+use ucl_word::{Accepted, EventCall, Kind, MatchNo, Refusal, ReporterNo};
+
+const READER: Caller = Caller::Reader(1);
+
+/// A match that has not begun.
+const FRESH: u64 = 0x2000000000000000;
+
+/// The match, the expected number and the kind of an event.
+type Event = (u8, u16, Kind);
+
+/// What a caller does next. The reader is 0, and a reporter is its number.
+#[derive(Clone, Copy)]
+enum Turn {
+    /// Begins a reading.
+    Opens,
+    /// Loads so many words for the first collect.
+    First(u8),
+    /// Loads so many words for the second collect.
+    Second(u8),
+    /// A whole reading that nothing disturbs: 26 steps.
+    Reads(u8),
+    /// Begins to enter an event, and looks.
+    Looks(u8, Event),
+    /// Exchanges the word.
+    Swaps(u8),
+    /// Enters an event: four steps.
+    Enters(u8, Event),
+    /// Ends its call.
+    Ends(u8),
+}
+
+/// What a call answers. A copy is of the words that the steps leave.
+#[derive(Clone, Copy)]
+enum Answer {
+    Nothing,
+    Number(u16),
+    Stale(u16),
+    Copied(u16),
+}
+
+use Answer::{Copied, Nothing, Number, Stale};
+use Turn::{Ends, Enters, First, Looks, Opens, Reads, Second, Swaps};
+
+/// What became of a call: the length of the history at its beginning, its point, its reply, and the length at its end.
+type Outcome = (u16, Option<u16>, Answer, Option<u16>);
+
+/// A worked list of steps: what is done in turn, how many steps that is, the words of matches 1 to 3 that it leaves, and what becomes of
+/// each call. The other matches have not begun.
+type Worked = (
+    &'static str,
+    &'static [Turn],
+    usize,
+    [u64; 3],
+    &'static [Outcome],
+);
+
+const KICK_OFF: Event = (1, 0, KickOff);
+
+const OTHER_KICK_OFF: Event = (2, 0, KickOff);
+
+const GOAL: Event = (1, 1, Goal(Home));
+
+const GOAL_DISALLOWED: Event = (1, 2, Disallow(Home));
+
+const THIRD_KICK_OFF: Event = (3, 0, KickOff);
+
+const THIRD_GOAL: Event = (3, 1, Goal(Home));
+
+const THIRD_AWAY_GOAL: Event = (3, 2, Goal(Away));
+
+const THIRD_YELLOW: Event = (3, 3, Yellow(Home));
+
+static WORKED: [Worked; 7] = [
+    (
+        "torn reading",
+        &[
+            Opens,
+            First(1),
+            Enters(1, KICK_OFF),
+            Enters(2, OTHER_KICK_OFF),
+            First(11),
+            Second(1),
+            First(12),
+            Second(12),
+            Ends(0),
+        ],
+        47,
+        [0x2001000000001001, 0x2002000000001001, FRESH],
+        &[
+            (0, Some(2), Copied(2), Some(2)),
+            (0, Some(0), Number(1), Some(1)),
+            (1, Some(1), Number(1), Some(2)),
+        ],
+    ),
+    (
+        "changed and changed back: the scores are those of the first collect, and the number is another",
+        &[
+            Enters(1, KICK_OFF),
+            Opens,
+            First(12),
+            Enters(1, GOAL),
+            Enters(1, GOAL_DISALLOWED),
+            Second(1),
+            First(12),
+            Second(12),
+        ],
+        50,
+        [0x2001000000001003, FRESH, FRESH],
+        &[
+            (0, Some(0), Number(1), Some(1)),
+            (1, Some(3), Copied(3), None),
+            (1, Some(1), Number(2), Some(2)),
+            (2, Some(2), Number(3), Some(3)),
+        ],
+    ),
+    (
+        "changed back before the reading has come to it, and another match changed between",
+        &[
+            Enters(1, KICK_OFF),
+            Opens,
+            First(1),
+            Enters(1, GOAL),
+            Enters(2, OTHER_KICK_OFF),
+            Enters(1, GOAL_DISALLOWED),
+            First(11),
+            Second(1),
+            First(12),
+            Second(12),
+            Ends(0),
+        ],
+        55,
+        [0x2001000000001003, 0x2002000000001001, FRESH],
+        &[
+            (0, Some(0), Number(1), Some(1)),
+            (1, Some(4), Copied(4), Some(4)),
+            (1, Some(1), Number(2), Some(2)),
+            (2, Some(2), Number(1), Some(3)),
+            (3, Some(3), Number(3), Some(4)),
+        ],
+    ),
+    (
+        "four events",
+        &[
+            Enters(1, THIRD_KICK_OFF),
+            Enters(1, THIRD_GOAL),
+            Enters(1, THIRD_AWAY_GOAL),
+            Enters(1, THIRD_YELLOW),
+        ],
+        16,
+        [FRESH, FRESH, 0x2001000004105004],
+        &[
+            (0, Some(0), Number(1), Some(1)),
+            (1, Some(1), Number(2), Some(2)),
+            (2, Some(2), Number(3), Some(3)),
+            (3, Some(3), Number(4), Some(4)),
+        ],
+    ),
+    (
+        "two exchanges",
+        &[
+            Enters(1, THIRD_KICK_OFF),
+            Enters(1, THIRD_GOAL),
+            Enters(1, THIRD_AWAY_GOAL),
+            Enters(1, THIRD_YELLOW),
+            Looks(1, (3, 4, Goal(Home))),
+            Looks(2, (3, 4, Goal(Away))),
+            Swaps(1),
+            Swaps(2),
+        ],
+        22,
+        [FRESH, FRESH, 0x2001000004109005],
+        &[
+            (0, Some(0), Number(1), Some(1)),
+            (1, Some(1), Number(2), Some(2)),
+            (2, Some(2), Number(3), Some(3)),
+            (3, Some(3), Number(4), Some(4)),
+            (4, Some(4), Number(5), None),
+            (4, Some(5), Stale(5), None),
+        ],
+    ),
+    (
+        "an unfinished report",
+        &[Looks(1, KICK_OFF), Reads(0)],
+        28,
+        [FRESH; 3],
+        &[(0, None, Nothing, None), (0, Some(0), Copied(0), Some(0))],
+    ),
+    (
+        "a late exchange: another was faster, and a whole reading comes between",
+        &[
+            Looks(1, KICK_OFF),
+            Enters(2, KICK_OFF),
+            Reads(0),
+            Swaps(1),
+            Ends(1),
+        ],
+        34,
+        [0x2002000000001001, FRESH, FRESH],
+        &[
+            (0, Some(1), Stale(1), Some(1)),
+            (0, Some(0), Number(1), Some(1)),
+            (1, Some(1), Copied(1), Some(1)),
+        ],
+    ),
+];
+
+fn caller(number: u8) -> Caller {
+    match ReporterNo::new(number) {
+        Some(reporter) => Caller::Reporter(reporter),
+        None => READER,
+    }
+}
+
+/// The item, so many times.
+fn repeat<T: Copy>(items: &mut Vec<T>, item: T, times: u8) -> Result<(), AllocError> {
+    for _ in 0..times {
+        items.push(item)?;
+    }
+    Ok(())
+}
+
+fn event_of((game, expected, kind): Event) -> Result<Call, Fail> {
+    Ok(Call::Event(EventCall {
+        game: MatchNo::new(game).ok_or("no such match")?,
+        expected,
+        kind,
+    }))
+}
+
+/// The four steps of an event.
+fn enter(steps: &mut Vec<Step>, by: Caller, event: Event) -> Result<(), Fail> {
+    let call = event_of(event)?;
+    let all = [
+        Step::Begin(by, call),
+        Step::Look(by),
+        Step::Swap(by),
+        Step::End(by),
+    ];
+    Ok(steps.extend_from_slice(&all)?)
+}
+
+/// The 26 steps of a reading that nothing disturbs.
+fn read(steps: &mut Vec<Step>, by: Caller) -> Result<(), AllocError> {
+    steps.push(Step::Begin(by, Call::Reading))?;
+    repeat(steps, Step::First(by), 12)?;
+    repeat(steps, Step::Second(by), 12)?;
+    Ok(steps.push(Step::End(by))?)
+}
+
+/// The steps of a turn.
+fn play(steps: &mut Vec<Step>, turn: Turn) -> Result<(), Fail> {
+    match turn {
+        Opens => steps.push(Step::Begin(READER, Call::Reading))?,
+        First(times) => repeat(steps, Step::First(READER), times)?,
+        Second(times) => repeat(steps, Step::Second(READER), times)?,
+        Reads(number) => read(steps, caller(number))?,
+        Looks(number, event) => {
+            let by = caller(number);
+            steps.push(Step::Begin(by, event_of(event)?))?;
+            steps.push(Step::Look(by))?;
+        }
+        Swaps(number) => steps.push(Step::Swap(caller(number)))?,
+        Enters(number, event) => enter(steps, caller(number), event)?,
+        Ends(number) => steps.push(Step::End(caller(number)))?,
+    }
+    Ok(())
+}
+
+fn reply(answer: Answer, words: &[u64; 12]) -> Option<Reply> {
+    match answer {
+        Nothing => None,
+        Number(number) => Some(Reply::Accepted(Accepted { number })),
+        Stale(found) => Some(Reply::Refused(Refusal::Stale { found })),
+        Copied(version) => {
+            let board = Board::of_words(words).ok()?;
+            Some(Reply::Copied(Reading { board, version }))
+        }
+    }
+}
+
+/// The first call whose outcome is another. Calls past the last outcome have that one too.
+fn first_other(trace: &Trace, outcomes: &[Outcome]) -> Option<usize> {
+    let last = outcomes.last()?;
+    for (place, call) in trace.calls.iter().enumerate() {
+        let (begun, point, answer, ended) = *outcomes.get(place).unwrap_or(last);
+        let wanted = (begun, point, reply(answer, &trace.words), ended);
+        if (call.begun, call.point, call.reply, call.ended) != wanted {
+            return Some(place);
+        }
+    }
+    None
+}
+
+const TWO_REPORTERS: Cast = Cast {
+    reporters: 2,
+    readers: 1,
+};
+
+#[test]
+fn worked_lists(rt: HostRuntime) -> Result<(), Fail> {
+    for &(name, turns, count, begun, outcomes) in WORKED.as_slice() {
+        let mut steps = Vec::new(rt.alloc());
+        for turn in turns {
+            play(&mut steps, *turn)?;
+        }
+        let trace = run_steps(rt.alloc(), &TWO_REPORTERS, &steps)?;
+        let [first, second, third] = begun;
+        let mut words = [FRESH; 12];
+        (words[0], words[1], words[2]) = (first, second, third);
+        assert_eq!(rt; (steps.len(), trace.words), (count, words), "{name}");
+        assert_eq!(rt; trace.calls.len(), outcomes.len(), "{name}");
+        assert_eq!(rt; first_other(&trace, outcomes), None, "{name}");
+        let accepted = outcomes
+            .iter()
+            .filter(|(_, _, answer, _)| matches!(answer, Number(_)));
+        assert_eq!(rt; trace.history.len(), accepted.count(), "{name}");
+    }
+    Ok(())
+}
+
+/// A reporter that has looked and never goes on stops nobody.
+#[test]
+fn stopped_reporter(rt: HostRuntime) -> Result<(), Fail> {
+    let mut steps = Vec::new(rt.alloc());
+    play(&mut steps, Looks(1, KICK_OFF))?;
+    play(&mut steps, Enters(2, KICK_OFF))?;
+    read(&mut steps, READER)?;
+    for _ in 0..100 {
+        read(&mut steps, caller(2))?;
+        read(&mut steps, READER)?;
+    }
+    let trace = run_steps(rt.alloc(), &TWO_REPORTERS, &steps)?;
+    let outcomes = [
+        (0, None, Nothing, None),
+        (0, Some(0), Number(1), Some(1)),
+        (1, Some(1), Copied(1), Some(1)),
+    ];
+    assert_eq!(rt;
+        (trace.words[0], trace.calls.len()),
+        (0x2002000000001001, 203)
+    );
+    assert_eq!(rt; first_other(&trace, &outcomes), None);
+    Ok(())
+}
+
+const BOTH_KICKED_OFF: &str = "\
+GROUP A v00002 IN PLAY 2
+    Club                  P  W  D  L  GF  GA   GD Pts
+1   Bravo                 1  0  1  0   0   0   +0   1
+2   Delta                 1  0  1  0   0   0   +0   1
+3   Alpha                 1  0  1  0   0   0   +0   1
+4   Charlie               1  0  1  0   0   0   +0   1
+";
+
+/// The screen of the reading whose first collect was torn.
+#[test]
+fn screen_of_a_reading(rt: HostRuntime) -> Result<(), Fail> {
+    let alloc = rt.alloc();
+    let mut steps = Vec::new(alloc);
+    for turn in WORKED[0].1 {
+        play(&mut steps, *turn)?;
+    }
+    let trace = run_steps(alloc, &TWO_REPORTERS, &steps)?;
+    let reply = trace.calls.first().and_then(|call| call.reply);
+    let Some(Reply::Copied(reading)) = reply else {
+        return Err("no reading".into());
+    };
+    let text = screen(alloc, &reading.board, &sample_roster(alloc)?, b'A', Uefa)?;
+    assert_eq!(rt; text.as_str(), BOTH_KICKED_OFF);
+    Ok(())
+}
+
+const ONE_REPORTER: Cast = Cast {
+    reporters: 1,
+    readers: 1,
+};
+
+/// Each event of every match spoils one try of a reading.
+#[test]
+fn bound_of_tries(rt: HostRuntime) -> Result<(), Fail> {
+    let mut steps = Vec::new(rt.alloc());
+    steps.push(Step::Begin(READER, Call::Reading))?;
+    for game in 1..=12 {
+        for expected in 0..4095 {
+            let kind = match expected {
+                0 => KickOff,
+                4094 => FullTime,
+                _ if expected % 2 == 1 => Goal(Home),
+                _ => Disallow(Home),
+            };
+            repeat(&mut steps, Step::First(READER), 12)?;
+            enter(&mut steps, caller(1), (game, expected, kind))?;
+            repeat(&mut steps, Step::Second(READER), game)?;
+        }
+    }
+    repeat(&mut steps, Step::First(READER), 12)?;
+    repeat(&mut steps, Step::Second(READER), 12)?;
+    steps.push(Step::End(READER))?;
+    assert_eq!(rt; steps.len(), 1_105_676);
+    let trace = run_steps(rt.alloc(), &ONE_REPORTER, &steps)?;
+    let words = [0x2001000000006fff; 12];
+    assert_eq!(rt; (trace.words, trace.history.len()), (words, 49_140));
+    let reading = trace.calls.first().ok_or("call")?.reply;
+    assert_eq!(rt; reading, reply(Copied(49_140), &words));
+    Ok(())
+}
+
+#[test]
+fn steps_not_enabled(rt: HostRuntime) -> Result<(), Fail> {
+    let reading = Step::Begin(READER, Call::Reading);
+    let event = Step::Begin(READER, event_of(KICK_OFF)?);
+    let stranger = Step::Begin(Caller::Reader(2), Call::Reading);
+    for (steps, at) in [
+        ([reading, Step::Swap(READER)].as_slice(), 1),
+        (&[event], 0),
+        (&[stranger], 0),
+    ] {
+        let fault = run_steps(rt.alloc(), &ONE_REPORTER, steps).err();
+        assert_eq!(rt; fault, Some(StepFault::NotEnabled { at }));
+    }
+    let trace = run_steps(rt.alloc(), &ONE_REPORTER, &[])?;
+    let left = (trace.history.len(), trace.calls.len(), trace.words);
+    assert_eq!(rt; left, (0, 0, [FRESH; 12]));
+    Ok(())
+}

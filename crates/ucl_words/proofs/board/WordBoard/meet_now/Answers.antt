@@ -1,0 +1,54 @@
+use Rattle.ucl_words.proofs.Common.{◌≡◌, ap, length, sym, ◌∙◌, subst, arith, rules, IsSome, Doing, WordView, pass_of, told_pass, new_pass}
+use Rattle.atomic_table.specs.Table.{Joins}
+use Rattle.ucl_words.specs.WordRule.{TableKeepsOneHistory}
+use Rattle.ucl_words.proofs.KeptRule.{notes, joins}
+use Rattle.ucl_words.proofs.EnlistmentFacts.{met_steady}
+use Rattle.ucl_words.proofs.WholeCalls.{was_met}
+use Rattle.ucl_words.proofs.board.WordBoard.meet_now.Goals as goal
+
+pub split_seat-note-requires : goal.split_seat-note-requires
+split_seat-note-requires c = (search rules, omega (arith, c.self.invariant.0), notes c.first.inside.seat.id c.first.inside.seat.me.0)
+
+pub join_seat-requires : goal.join_seat-requires
+join_seat-requires c =
+    let v = c.second.inside.seat in
+    let note = c.split_seat-note in (
+      search rules,
+      search rules,
+      ap (λ m. m.1) note.ensures.4,
+      omega (arith, c.self.invariant.0),
+      subst (λ (n : WordView). Joins TableKeepsOneHistory v.id v.me.0 note.result.id n (told_pass v.me.0 n) new_pass) (sym (ap (λ m. m.0) note.ensures.4))
+          (joins v.id v.me.0 note.result.id c.first.inside.seat.me.0),
+    )
+
+pub count-requires-clause-acts : goal.count-requires-clause-acts
+count-requires-clause-acts c =
+    subst (λ (u : WordView). IsSome u.pass.share) (sym (ap (λ m. m.0) c.join_seat.ensures.2)) c.second.invariant.0.sound.acts
+
+pub invariant_of-second : goal.invariant_of-second
+invariant_of-second c =
+    let is = ap (λ m. m.0) c.join_seat.ensures.2 in
+    let steady = met_steady c.first.inside.seat.me.0.pass c.second.inside.seat.me.0.pass _ _ _ _
+    (ap (λ m. m.0.pass) c.split_seat-note.ensures.4) (ap (λ m. m.0.pass) c.join_seat.ensures.2) c.second.invariant.0 c.count.ensures.loads in
+    let sees = c.count.ensures.loads.sees in
+    let v = c.second.invariant in (
+      steady,
+      sees.number ∙ (ap (λ m. m.0.pass.number) c.join_seat.ensures.2 ∙ v.1),
+      ap length (sees.mine ∙ ap (λ m. m.0.pass.mine) c.join_seat.ensures.2) ∙ v.2,
+      ap (λ (d : Doing). d.held) (c.count.ensures.does ∙ ap (λ m. m.0.doing) c.join_seat.ensures.2) ∙ v.3,
+    )
+
+pub returns : goal.returns
+returns c =
+    let a = c.first.inside.seat in
+    let b = c.split_seat-note.new.seat in
+    let k = c.second.inside.seat in
+    let m = c.count.new.seat in
+    let note = c.split_seat-note.ensures in
+    let joined = c.join_seat.ensures in
+    let count = c.count.ensures in
+    let same : pass_of b.table_id b.id b.me.0 ≡ pass_of a.table_id a.id a.me.0 = (λ i. pass_of (note.0 i) (note.1 i) (ap (λ m. m.0) note.2 i)) in
+    let all = was_met (pass_of a.table_id a.id a.me.0) (pass_of b.table_id b.id b.me.0) (pass_of k.table_id k.id k.me.0) (pass_of m.table_id m.id m.me.0)
+    _ _ c.count.result same (count.own ∙ joined.0) (count.seat ∙ joined.1) c.first.invariant.0.sound (ap (λ m. m.0.pass) note.4) (ap (λ m. m.0.pass) joined.2)
+    c.second.invariant.0 count.loads (count.does ∙ ap (λ m. m.0.doing) joined.2) count.stands in
+    search (arith, rules, all)
