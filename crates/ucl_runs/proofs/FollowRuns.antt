@@ -8,7 +8,8 @@ use Rattle.ucl_io.specs.Turns.{AreTurns, lines_in, state_after, text_in}
 use Rattle.ucl_command.specs.declared.follow.FollowShape.{FollowShape}
 use Rattle.ucl_runs.specs.declared.follower.Follower.{Follower}
 use Rattle.ucl_runs.specs.Follow.{follow_end, followed, sights}
-use Rattle.ucl_runs.specs.Hearing.{FollowFails, FollowStops, HeardFirst, IsFollowedSoFar, IsHeard, counts_of, heard_text}
+use Rattle.ucl_runs.specs.Driven.{Fails, IsOutSoFar, StopsInText}
+use Rattle.ucl_runs.specs.Hearing.{HeardFirst, IsHeard, counts_of, follow_due, heard_text}
 
 sights-then : (shape : FollowShape) (f : Following) (a b : List (List ℕ))
     → sights shape f (a ++ b) ≡ sights shape f a ++ sights shape (followed f a) b
@@ -46,7 +47,7 @@ module _ (T : Type 0) where
 
     -- at one time
     pub followed_at : (now : Seen M) (turns : List (Turn M)) → AreTurns Rules.Answers 1 m turns → IsPromptAt 4097 old now turns
-        → IsFollowedSoFar args old.left now.left old.taken now.taken
+        → IsOutSoFar (heard_text args) old.left now.left old.taken now.taken
     followed_at now turns p u =
         let q = turns_front M Rules.Answers 1 m u.first u.later (rw u.among at p) in
         (u.bytes, u.consumed, rw (shows u.first q, u.lines) at u.out)
@@ -88,7 +89,7 @@ module _ (T : Type 0) where
             record { front = p.bytes; rest = []; parts = sym (append-nil p.bytes); out = rw (all_text e.all) at out }
 
         stops : {written : ℕ} {text : List ℕ} {count : ℕ} → HasMade Rules 4097 4096 old new p.bytes p.turns p.rest text count
-            → StoppedShort 0 after.sink_failed old.taken new.taken text written → FollowStops args p.bytes before after written
+            → StoppedShort 0 after.sink_failed old.taken new.taken text written → StopsInText (follow_due args) p.bytes before after written
         stops {written} {text} (inl e) s = record {
           text = heard_text args p.bytes;
           text_is = inl refl;
@@ -106,7 +107,7 @@ module _ (T : Type 0) where
         run_counts =
             let e = p.ends.1.1 in whole _ old.left new.left p.bytes e.ended p.consumed (ap counts_of (e.last.1 ∙ reaches p e.all))
 
-      pub run_fails : (f : PumpFault RunFault) → Run (Err f) → FollowFails args before after f
+      pub run_fails : (f : PumpFault RunFault) → Run (Err f) → Fails (follow_due args) before after f
       run_fails (WriteFailed written) p = let e = p.ends in record {
         bytes = p.bytes;
         consumed = p.consumed;

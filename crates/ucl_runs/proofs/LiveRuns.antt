@@ -7,7 +7,8 @@ use Rattle.ucl_runs.proofs.Common.{live_text, missing_after, missing_at, next, r
 use Rattle.ucl_runs.proofs.Common.{stopped_short, sym, turns_front, whole, ℕ, ◌++◌, ◌+◌, ◌∙◌, ◌∷◌, ◌≡◌, ◌⊎◌}
 use Rattle.ucl_io.specs.Turns.{AreTurns, lines_in, state_after, text_in}
 use Rattle.ucl_runs.specs.declared.evening.Evening.{Evening as Held}
-use Rattle.ucl_runs.specs.Holding.{AsksForMemory, Closes, IsAnsweredSoFar, LiveFails, LiveFailsAfter, RanOut, WriteStops}
+use Rattle.ucl_runs.specs.Driven.{Fails, FailsAfter, IsOutSoFar, StopsInText}
+use Rattle.ucl_runs.specs.Holding.{AsksForMemory, Closes, RanOut, evening_due}
 use Rattle.ucl_runs.specs.LiveText.{after_lines, answers}
 use Rattle.ucl_runs.proofs.OneByOne.{after-append, after-one, answers-append, whole-missing, whole-text}
 use Rattle.ucl_runs.proofs.Silence.{missing-shut, refused-shut, shut-lines, silent, stays-refused, stops-with}
@@ -43,7 +44,7 @@ module _ (before : Device) (m : Held) where
 
   -- at one time
   pub answered_at : (now : Seen Held) (turns : List (Turn Held)) → AreTurns Rules.Answers 1 m turns → IsPromptAt 258 old now turns
-      → IsAnsweredSoFar start old.left now.left old.taken now.taken
+      → IsOutSoFar (answers_to start) old.left now.left old.taken now.taken
   answered_at now turns p u =
       let q = turns_front Held Rules.Answers 1 m u.first u.later (rw u.among at p) in
       (u.bytes, u.consumed, rw (shows u.first q, u.lines) at u.out)
@@ -135,7 +136,7 @@ module _ (before : Device) (m : Held) where
 
       stops : (fault : LiveFault)
           → (StopsNext Rules.Stops 1 m n p.turns p.rest fault ⊎ StopsLast Rules 258 old new p.bytes p.turns p.rest fault)
-          → Appends old.taken new.taken (text_in p.turns) → LiveFailsAfter start p.bytes before after (Machine fault)
+          → Appends old.taken new.taken (text_in p.turns) → FailsAfter (evening_due start) p.bytes before after (Machine fault)
       stops fault (inl s) out =
           stops-with _ _ _ _ (λ h. line_asks s h out) (λ h. record { refused = inl (line_refused s h); out = rw (line_silent s h) at out }) fault s.stops
       stops fault (inr e) out =
@@ -143,7 +144,7 @@ module _ (before : Device) (m : Held) where
           (λ h. record { refused = inr (e.ended, rw (whole-missing start p.bytes, ← all_reached e.all) h); out = rw (end_silent e.all h) at out }) fault e.stops
 
       cut : {written : ℕ} {text : List ℕ} {count : ℕ} → HasMade Rules 258 4096 old new p.bytes p.turns p.rest text count
-          → StoppedShort 0 after.sink_failed old.taken new.taken text written → WriteStops start p.bytes before after written
+          → StoppedShort 0 after.sink_failed old.taken new.taken text written → StopsInText (evening_due start) p.bytes before after written
       cut {written} {text} (inl e) s = record {
         text = answers_to start p.bytes;
         text_is = inl refl;
@@ -159,7 +160,7 @@ module _ (before : Device) (m : Held) where
       pub run_complete : IfSome old.left (λ input. missing_after start input ≡ None)
       run_complete = let e = p.ends.1 in whole _ old.left new.left p.bytes e.1.ended p.consumed (complete p e.1)
 
-    pub run_fails : (f : PumpFault LiveFault) → Run (Err f) → LiveFails start before after f
+    pub run_fails : (f : PumpFault LiveFault) → Run (Err f) → Fails (evening_due start) before after f
     run_fails (WriteFailed written) p = let e = p.ends in record {
       bytes = p.bytes;
       consumed = p.consumed;

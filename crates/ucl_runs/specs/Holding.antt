@@ -1,20 +1,18 @@
 -- An evening as a machine, and what is left of it where a run fails.
-use Rattle.std.specs.Prelude.{◌≡◌, ◌⊎◌, ⊤, ℕ, ◌^◌, ◌<◌, true, if◌then◌else◌, List, [], ◌∷◌, ◌++◌, length, Option, Some, None}
+use Rattle.std.specs.Prelude.{◌≡◌, ◌⊎◌, ⊤, ℕ, true, if◌then◌else◌, List, [], ◌∷◌, ◌++◌, Option, Some, None}
 use Rattle.std.specs.Result.{is_ok}
-use Rattle.std.specs.Io.KnownBytes.{Appends, Consumes}
+use Rattle.std.specs.Io.KnownBytes.{Appends}
 use Rattle.ucl_word.specs.Rules.{reply_of}
 use Rattle.ucl_board.specs.Words.{game_at}
-use Rattle.ucl_io.specs.declared.fault.PumpFault.{PumpFault}
-use Rattle.ucl_io.specs.declared.fault.PumpFault.TheVariants.{Machine, ReadFailed, TooLong, WriteFailed}
 use Rattle.ucl_io.specs.Calls.{Device, HasEnded}
 use Rattle.ucl_io.specs.Lines.{begun_line, ended_lines}
-use Rattle.ucl_io.specs.Output.{StoppedShort}
 use Rattle.ucl_runs.specs.declared.heading.Heading.{Heading}
 use Rattle.ucl_command.specs.declared.options.Format.TheVariants.{Json}
 use Rattle.ucl_command.specs.declared.live.LiveArgs.{LiveArgs}
 use Rattle.ucl_rows.specs.declared.answer.Answer.{Answer}
 use Rattle.ucl_runs.specs.declared.evening.Evening.{Evening as Held}
 use Rattle.ucl_runs.specs.declared.live_fault.LiveFault.{LiveFault}
+use Rattle.ucl_runs.specs.Driven.{Due}
 use Rattle.ucl_runs.specs.LiveFaults.{StopsBy}
 use Rattle.ucl_runs.specs.declared.request.Request.{Request}
 use Rattle.ucl_runs.specs.declared.request.Request.TheVariants.{Bad, Event, Screen, Words, Matches}
@@ -107,19 +105,6 @@ answers_to start bytes = answers start (ended_lines 258 [] bytes)
 abbrev pub after_bytes : Evening → List ℕ → Evening
 after_bytes start bytes = after_lines start (ended_lines 258 [] bytes)
 
--- some bytes were taken by now, and the answers to all their lines that have an end are out, and nothing else
-abbrev pub IsAnsweredSoFar : Evening → Option (List ℕ) → Option (List ℕ) → Option (List ℕ) → Option (List ℕ) → Type 0
-IsAnsweredSoFar start left left2 taken taken2 = (bytes : List ℕ) × Consumes left left2 bytes × Appends taken taken2 (answers_to start bytes)
-
--- the text that the sink failed in: that of the lines that came; or the whole text, once the input has ended
-abbrev pub IsTextOf : Evening → List ℕ → Option (List ℕ) → Option (List ℕ) → List ℕ → Type 0
-IsTextOf start bytes left left2 text = (text ≡ answers_to start bytes) ⊎ (HasEnded left left2 × (text ≡ live_text start bytes))
-
-pub record WriteStops (start : Evening) (bytes : List ℕ) (old new : Device) (written : ℕ) : Type 0 where
-  pub text : List ℕ
-  pub text_is : IsTextOf start bytes old.left new.left text
-  pub stopped : StoppedShort 0 new.sink_failed old.taken new.taken text written
-
 -- the bytes end a line here, or are at their end
 abbrev pub EndsLine : List ℕ → Option (List ℕ) → Option (List ℕ) → Type 0
 EndsLine rest left left2 = ((more : List ℕ) × (rest ≡ 10 ∷ more)) ⊎ ((rest ≡ []) × HasEnded left left2)
@@ -139,15 +124,11 @@ pub record IsTurnedAway (start : Evening) (bytes : List ℕ) (old new : Device) 
       ⊎ (HasEnded old.left new.left × (missing_after start bytes ≡ Some fault))
   pub out : Appends old.taken new.taken []
 
--- why an evening fails that has taken these bytes: the source failed after them, they are more than any input has, or the sink failed; there
--- was no memory for a line, or it is refused
-abbrev pub LiveFailsAfter : Evening → List ℕ → Device → Device → PumpFault LiveFault → Type 0
-LiveFailsAfter start bytes old new (ReadFailed count) = (count ≡ length bytes) × Appends old.taken new.taken (answers_to start bytes)
-LiveFailsAfter start bytes old new TooLong = (2 ^ 62 < length bytes) × Appends old.taken new.taken (answers_to start bytes)
-LiveFailsAfter start bytes old new (WriteFailed written) = WriteStops start bytes old new written
-LiveFailsAfter start bytes old new (Machine fault) = StopsBy (RanOut start bytes old new) (IsTurnedAway start bytes old new fault) fault
-
-pub record LiveFails (start : Evening) (old new : Device) (fault : PumpFault LiveFault) : Type 0 where
-  pub bytes : List ℕ
-  pub consumed : Consumes old.left new.left bytes
-  pub why : LiveFailsAfter start bytes old new fault
+-- an evening that is driven stops where there was no memory for a line, or it is refused; where it ends well, no club is missing
+abbrev pub evening_due : Evening → Due ⊤ LiveFault
+evening_due start = record {
+  so_far = answers_to start;
+  whole = live_text start;
+  Stops = λ bytes old new fault. StopsBy (RanOut start bytes old new) (IsTurnedAway start bytes old new fault) fault;
+  Ends = λ done bytes. missing_after start bytes ≡ None;
+}

@@ -8,6 +8,7 @@ pub mod Program
 pub mod Requests
 pub mod Titles
 pub mod NewBoards
+pub mod Driven
 pub mod LiveFaults
 pub mod Stages
 pub mod LiveText
