@@ -1,32 +1,29 @@
 -- What the lines of an evening's answers tell: nothing, or the moment after their line.
 use Rattle.ucl_runs.proofs.Common.{NewBoard, again, answer_with, false, is_bad, next_by, stays_new, title_with}
 use Rattle.std.proofs.lemmas.Bool.{cond_both}
-use Rattle.ucl_runs.proofs.Boards.{ranged, AreAttempts, asked, asked-by, event-numbers}
-use Rattle.std.proofs.lemmas.List.Elements.{All-weaker}
+use Rattle.ucl_runs.proofs.Boards.{ranged, AreAttempts, asked-by, event-numbers}
 use Rattle.ucl_runs.proofs.GoodStages.{IsGood, good-after-line, of-request}
 use Rattle.ucl_runs.proofs.BegunAgain.{renewed}
-use Rattle.ucl_runs.proofs.Common.{All, All-append, All-get_or, All-head, All-nil, AreWords, Attempt, Bad, Beginning, Bool, Evening, Event}
+use Rattle.ucl_runs.proofs.Common.{All-get_or, All-head, AreWords, Bad, Beginning, Bool, Evening, Event}
 use Rattle.ucl_runs.proofs.Common.{FourFields, HasNumbers, IsAttempt, IsGroup, IsMoment, IsRoster, IsValid, IsWord, Json, KickOff, List}
-use Rattle.ucl_runs.proofs.Common.{LiveArgs, MatchRecord, Matches, Moment, NamedClub, Naming, NightEvent, None, Nothing, Open, Option}
-use Rattle.ucl_runs.proofs.Common.{Other, Profile, Refusal, Refused, Request, Row, Said, Screen, Some, Stage, Title, Words, []}
-use Rattle.ucl_runs.proofs.Common.{accepted_value, after_row, and_parts, answer, answer_at, answer_of, answer_said, answers, ap, arith}
-use Rattle.ucl_runs.proofs.Common.{asked_by, asked_group, asked_title, attempt_of, attempts_of, attempts_on, begun_line, begun_none}
-use Rattle.ucl_runs.proofs.Common.{board_after, cases_Bool, edition_screen_value, ended_none, event_of, event_or_bad, game_at, inl, inr}
-use Rattle.ucl_runs.proofs.Common.{is_group_row, is_ok, json_line, leb-true, length, letter_in, moment_at, moment_now, moment_on}
-use Rattle.ucl_runs.proofs.Common.{moment_with, nat_le, next, next_board, next_title, no_refusal, number, number_valid}
-use Rattle.ucl_runs.proofs.Common.{profile_named, refl, refusal_of, reply_answer, reply_of, reply_value, request_of, said_on, screen_after}
-use Rattle.ucl_runs.proofs.Common.{screen_answer, shown_text, start_of, subst, sym, title_by, title_said, true, version_at, version_of}
-use Rattle.ucl_runs.proofs.Common.{word_at, word_valid, ℕ, ⊤, ◌&&◌, ◌++◌, ◌+◌, ◌-◌, ◌<◌, ◌>>=◌, ◌^◌, ◌∙◌, ◌∷◌, ◌≡◌, ◌≤◌}
+use Rattle.ucl_runs.proofs.Common.{LiveArgs, MatchRecord, Matches, Moment, NamedClub, NightEvent, None, Nothing, Open, Option}
+use Rattle.ucl_runs.proofs.Common.{Other, Profile, Refusal, Request, Row, Said, Screen, Some, Stage, Title, Words, []}
+use Rattle.ucl_runs.proofs.Common.{accepted_value, after_row, and_parts, answer, answer_at, answer_of, answer_said, ap, arith}
+use Rattle.ucl_runs.proofs.Common.{asked_by, asked_title, attempt_of}
+use Rattle.ucl_runs.proofs.Common.{board_after, cases_Bool, edition_screen_value, event_of, event_or_bad, game_at, inl, inr}
+use Rattle.ucl_runs.proofs.Common.{is_group_row, json_line, leb-true, letter_in, moment_at}
+use Rattle.ucl_runs.proofs.Common.{moment_with, nat_le, next, next_board, next_title, number, number_valid}
+use Rattle.ucl_runs.proofs.Common.{profile_named, refl, refusal_of, reply_answer, reply_of, reply_value, request_of, screen_after}
+use Rattle.ucl_runs.proofs.Common.{screen_answer, start_of, subst, sym, title_by, title_said, true, version_of}
+use Rattle.ucl_runs.proofs.Common.{unwrap_or, word_at, word_valid, ℕ, ⊤, ◌&&◌, ◌+◌, ◌-◌, ◌<◌, ◌>>=◌, ◌^◌, ◌∷◌, ◌≡◌, ◌≤◌}
 use Rattle.ucl_runs.specs.Titles.{edition_by}
 use Rattle.ucl_command.specs.Groups.{may_be_asked}
 use Rattle.ucl_command.proofs.Letters.{asked_letter}
-use Rattle.ucl_runs.proofs.Silence.{is_open}
-use Rattle.ucl_runs.specs.LiveText.{after_lines, title_or}
-use Rattle.ucl_runs.proofs.GoodBoards.{good-after, version-after}
-use Rattle.ucl_runs.proofs.OneByOne.{after-none, after-one, answers-none, answers-one}
-use Rattle.ucl_runs.proofs.AnswerLines.{IsLineThat, IsShown, TellsAlone, TellsAtMost, alone-as, alone-line, alone-none, alone-then}
-use Rattle.ucl_runs.proofs.AnswerLines.{bad-line, begun-then, board-fits, found-fits, lines-then, lines_in, matches-line, refused-line}
-use Rattle.ucl_runs.proofs.AnswerLines.{shown-text, value-line, words-line}
+use Rattle.ucl_runs.specs.LiveText.{title_or}
+use Rattle.ucl_runs.proofs.GoodBoards.{good-after}
+use Rattle.ucl_runs.proofs.AnswerLines.{IsLineThat, IsShown, TellsAlone, alone-as, alone-line, alone-none, alone-then}
+use Rattle.ucl_runs.proofs.AnswerLines.{bad-line, board-fits, found-fits, matches-line, refused-line}
+use Rattle.ucl_runs.proofs.AnswerLines.{value-line, words-line}
 use Rattle.ucl_runs.proofs.Matches.{told-lines}
 
 abbrev pub Lines : Type 0
@@ -65,7 +62,7 @@ said-title f title h =
     let p = by-parts (letter_in f.second) (profile_named f.third) (edition_by f.fourth) title h in
     record { letter = within f.second title.group p.0; edition = (ranged 0 65535 (number 5 f.fourth) title.edition p.1).1 }
 
-letter-of : (asked : Option ℕ) → may_be_asked asked ≡ true → IsGroup (asked_group asked)
+letter-of : (asked : Option ℕ) → may_be_asked asked ≡ true → IsGroup (unwrap_or asked 65)
 letter-of None h = (omega arith, omega arith)
 letter-of (Some group) h = asked_letter group h
 

@@ -5,10 +5,9 @@ use Rattle.std.proofs.lemmas.List.Elements.{All-set}
 use Rattle.std.proofs.lemmas.Option.{cond_some}
 use Rattle.ucl_order.specs.Roster.{is_club}
 use Rattle.ucl_screen.specs.Script.{club_of}
-use Rattle.ucl_runs.proofs.Common.{AwayInTie, Evening, FourFields, IsClub, IsRoster, List, NamedClub, NewBoard, None, Nothing, Open, Option, Other}
-use Rattle.ucl_runs.proofs.Common.{Profile, Row, Said, Some, Stage, Title, Uefa, again, again_at, and_parts, ap, begins_again, eqb-true, is_same_order, nat_lt}
-use Rattle.ucl_runs.proofs.Common.{nat_tests, refl, set, subst, sym, title_by, title_said, true, ℕ, ⊎_elim, ◌-◌, ◌<◌, ◌==◌, ◌∙◌, ◌≡◌, ◌⊎◌, arith, inl, inr}
-use Rattle.ucl_board.specs.History.{board_of}
+use Rattle.ucl_runs.proofs.Common.{AwayInTie, Evening, FourFields, IsClub, IsRoster, List, NamedClub, NewBoard, None, Open, Option}
+use Rattle.ucl_runs.proofs.Common.{Profile, Row, Said, Some, Stage, Title, Uefa, again, again_at, and_parts, ap, eqb-true, is_same_order, nat_lt}
+use Rattle.ucl_runs.proofs.Common.{nat_tests, refl, set, subst, sym, title_by, true, ℕ, ◌-◌, ◌<◌, ◌==◌, ◌∙◌, ◌≡◌, ◌⊎◌, arith, inl, inr}
 use Rattle.ucl_rows.specs.Rows.{fields_seen}
 use Rattle.ucl_rows.specs.declared.row.RowFields.{RowFields}
 use Rattle.ucl_rows.specs.declared.row.RowFields.TheVariants as seen
@@ -17,7 +16,7 @@ use Rattle.ucl_runs.specs.declared.stage.Table.{Table}
 use Rattle.ucl_runs.specs.Holding.{AsksForMemory, AsksOf, evening_at}
 use Rattle.ucl_runs.specs.LiveText.{answer_of, answer_said, next}
 use Rattle.ucl_runs.specs.Seen.{table_seen}
-use Rattle.ucl_runs.proofs.Common.{LiveArgs, is_bad, next_board, request_of, [], ◌+◌}
+use Rattle.ucl_runs.proofs.Common.{LiveArgs, is_bad, next_board, request_of, ◌+◌}
 use Rattle.std.specs.Prelude.{Bool, if◌then◌else◌, ◌&&◌}
 use Rattle.ucl_runs.specs.NewBoards.{BeginsAgain, again_on, by_edition, clubs_by_slot, clubs_said, new_board, of_clubs, slot_in, with_club_in}
 use Rattle.ucl_runs.specs.Titles.{edition_said, is_later_edition, is_group_row, later_title}

@@ -5,8 +5,8 @@ use Rattle.std.proofs.lemmas.Bool.{cond_both}
 use Rattle.ucl_runs.proofs.Common.{Accepted, All, All-append, All-head, All-tail, Attempt, Bad, Entry, Evening, Event, EventCall, Format}
 use Rattle.ucl_runs.proofs.Common.{FourFields, IsAttempt, IsLegal, Json, Kind, List, LiveArgs, Matches, NamedClub, NightEvent, None}
 use Rattle.ucl_runs.proofs.Common.{Nothing, Open, Option, Other, Refusal, Request, Result, Row, Said, Screen, Some, Stage, Text, NewBoard}
-use Rattle.ucl_runs.proofs.Common.{Title, Words, [], after_attempt, answer_of, answer_said, ap, append-nil, ap₂, arith, attempt_board}
-use Rattle.ucl_runs.proofs.Common.{attempt_of, attempts_of, attempts_on, board_after, board_of, bytes_eq, event_of, event_or_bad, false}
+use Rattle.ucl_runs.proofs.Common.{Title, Words, [], after_attempt, answer_of, ap, append-nil, ap₂, arith, attempt_board}
+use Rattle.ucl_runs.proofs.Common.{attempt_of, attempts_of, attempts_on, board_after, board_of, bytes_eq, event_of, event_or_bad}
 use Rattle.ucl_runs.proofs.Common.{fold, game_at, if◌then◌else◌, in_range, kind_named, length, line_of_reply, nat_le, nat_tests, next}
 use Rattle.ucl_runs.proofs.Common.{next_board, next_stage, next_title, number, refl, reply_answer, reply_of, request_of, said_on, again}
 use Rattle.ucl_runs.proofs.Common.{screen_after, sequential_reply, shown_text, sym, ℕ, ◌&&◌, ◌++◌, ◌+◌, ◌==◌, ◌>>=◌, ◌∙◌, ◌∷◌, ◌≡◌, ◌≤◌}

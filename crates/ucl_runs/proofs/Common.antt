@@ -21,7 +21,7 @@ pub use Rattle.std.specs.Fmt.{digit_glyph}
 pub use Rattle.std.specs.Io.KnownBytes.{Appends}
 pub use Rattle.std.specs.List.{fold, list_all}
 pub use Rattle.std.specs.Prelude.{All, Err, IfErr, IfSome, Ok, OnOk, Result, decimal, flat_map, if◌then◌else◌, nat_le, nat_lt, option_map}
-pub use Rattle.std.specs.Prelude.{string_bytes, ⊤, ◌||◌}
+pub use Rattle.std.specs.Prelude.{string_bytes, unwrap_or, ⊤, ◌||◌}
 pub use Rattle.std.specs.Result.{is_ok}
 pub use Rattle.std.specs.Str.{bytes_eq}
 pub use Rattle.ucl_board.proofs.Beginnings.{at_within, begins_length, begins_take, begins_through, take_beginning}
@@ -90,11 +90,10 @@ pub use Rattle.ucl_runs.specs.NewBoards.{NewBoard, begins_again}
 pub use Rattle.ucl_runs.specs.LiveText.{again, again_at, answer_with, newness_with, next_by, stage_with, stays_new, title_with}
 pub use Rattle.ucl_runs.specs.Requests.{is_bad}
 pub use Rattle.ucl_runs.specs.Styles.{styled}
-pub use Rattle.ucl_runs.specs.Titles.{asked_group, asked_title, is_as_asked, is_asked, is_group_row, is_same_order, title_by, title_said}
+pub use Rattle.ucl_runs.specs.Titles.{asked_title, is_as_asked, is_asked, is_group_row, is_same_order, title_by, title_said}
 pub use Rattle.ucl_rows.specs.declared.fault.RunFault.{RunFault}
 pub use Rattle.ucl_runs.specs.declared.following.Following.{Following}
-pub use Rattle.ucl_runs.specs.declared.live_fault.BeginningFault.{BeginningFault}
-pub use Rattle.ucl_runs.specs.declared.live_fault.BeginningFault.TheVariants.{OtherGroup}
+pub use Rattle.ucl_runs.specs.declared.live_fault.LiveFault.TheVariants.{OtherGroup}
 pub use Rattle.ucl_runs.specs.declared.live_fault.LiveFault.{LiveFault}
 pub use Rattle.ucl_runs.specs.declared.request.Request.{Request}
 pub use Rattle.ucl_runs.specs.declared.request.Request.TheVariants.{Bad, Event, Matches, Screen, Words}

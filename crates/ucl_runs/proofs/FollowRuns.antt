@@ -1,15 +1,15 @@
 -- Whole runs of a follower, from what the driver says of them.
 use Rattle.ucl_runs.proofs.Common.{Appends, Device, Err, FollowArgs, Following, HasClosed, HasMade, IfSome, IsPromptAt, LineRules, List}
-use Rattle.ucl_runs.proofs.Common.{Machine, Ok, PumpFault, Pumped, Result, Seen, StoppedShort, StopsLast, StopsNext, Turn, WriteFailed, []}
+use Rattle.ucl_runs.proofs.Common.{Machine, Ok, PumpFault, Pumped, Result, RunFault, Seen, StoppedShort, StopsLast, StopsNext, Turn, WriteFailed, []}
 use Rattle.ucl_runs.proofs.Common.{after_told, ap, append-nil, append_assoc, cut_at, follow_text, inl, inr, moment_on, refl}
 use Rattle.ucl_runs.proofs.Common.{rules_of, stopped_first, stopped_short, sym, told_text, turns_front, unseen, whole, whole_lines, ℕ, ⊤}
 use Rattle.ucl_runs.proofs.Common.{◌++◌, ◌+◌, ◌∙◌, ◌∷◌, ◌≡◌, ◌⊎◌}
 use Rattle.ucl_io.specs.Turns.{AreTurns, lines_in, state_after, text_in}
-use Rattle.ucl_word.specs.declared.refusal.OutOfMemory.{OutOfMemory}
 use Rattle.ucl_command.specs.declared.follow.FollowShape.{FollowShape}
 use Rattle.ucl_runs.specs.declared.follower.Follower.{Follower}
 use Rattle.ucl_runs.specs.Follow.{follow_end, followed, sights}
-use Rattle.ucl_runs.specs.Hearing.{FollowFails, FollowStops, HeardFirst, IsFollowedSoFar, IsHeard, counts_of, heard_text}
+use Rattle.ucl_runs.specs.Driven.{Fails, IsOutSoFar, StopsInText}
+use Rattle.ucl_runs.specs.Hearing.{HeardFirst, IsHeard, counts_of, follow_due, heard_text}
 
 sights-then : (shape : FollowShape) (f : Following) (a b : List (List ℕ))
     → sights shape f (a ++ b) ≡ sights shape f a ++ sights shape (followed f a) b
@@ -21,7 +21,7 @@ module _ (T : Type 0) where
   abbrev M : Type 0
   M = Follower T
 
-  abbrev Rules : LineRules M OutOfMemory
+  abbrev Rules : LineRules M RunFault
   Rules = rules_of (λ m row line n text. IsHeard m n (moment_on line) × (text ≡ told_text m.shape m.following (moment_on line)))
       (λ m row line n fault. ⊤)
       (λ m row begun n text. (n.shape ≡ m.shape) × (n.following ≡ m.following) × (text ≡ []))
@@ -47,7 +47,7 @@ module _ (T : Type 0) where
 
     -- at one time
     pub followed_at : (now : Seen M) (turns : List (Turn M)) → AreTurns Rules.Answers 1 m turns → IsPromptAt 4097 old now turns
-        → IsFollowedSoFar args old.left now.left old.taken now.taken
+        → IsOutSoFar (heard_text args) old.left now.left old.taken now.taken
     followed_at now turns p u =
         let q = turns_front M Rules.Answers 1 m u.first u.later (rw u.among at p) in
         (u.bytes, u.consumed, rw (shows u.first q, u.lines) at u.out)
@@ -56,10 +56,10 @@ module _ (T : Type 0) where
       abbrev new : Seen M
       new = record { left = after.left; taken = after.taken; machine = n }
 
-      abbrev Run : Result ℕ (PumpFault OutOfMemory) → Type 0
+      abbrev Run : Result ℕ (PumpFault RunFault) → Type 0
       Run result = Pumped Rules 4097 4096 old new after.sink_failed result Prompt
 
-      module _ {r : Result ℕ (PumpFault OutOfMemory)} (p : Run r) where
+      module _ {r : Result ℕ (PumpFault RunFault)} (p : Run r) where
         shown : text_in p.turns ≡ sights args.shape (unseen args) (lines_in p.turns)
         shown = shows p.turns p.given.turned
 
@@ -79,7 +79,7 @@ module _ (T : Type 0) where
             → text_in p.turns ++ last ≡ follow_text args p.bytes
         whole_text e = ap (λ (l : List ℕ). text_in p.turns ++ l) e.last.2 ∙ append-nil (text_in p.turns) ∙ all_text e.all
 
-        runs_out : {fault : OutOfMemory}
+        runs_out : {fault : RunFault}
             → (StopsNext Rules.Stops 1 m n p.turns p.rest fault ⊎ StopsLast Rules 4097 old new p.bytes p.turns p.rest fault)
             → Appends old.taken new.taken (text_in p.turns) → HeardFirst args p.bytes old.taken new.taken
         runs_out (inl s) out =
@@ -89,7 +89,7 @@ module _ (T : Type 0) where
             record { front = p.bytes; rest = []; parts = sym (append-nil p.bytes); out = rw (all_text e.all) at out }
 
         stops : {written : ℕ} {text : List ℕ} {count : ℕ} → HasMade Rules 4097 4096 old new p.bytes p.turns p.rest text count
-            → StoppedShort 0 after.sink_failed old.taken new.taken text written → FollowStops args p.bytes before after written
+            → StoppedShort 0 after.sink_failed old.taken new.taken text written → StopsInText (follow_due args) p.bytes before after written
         stops {written} {text} (inl e) s = record {
           text = heard_text args p.bytes;
           text_is = inl refl;
@@ -107,7 +107,7 @@ module _ (T : Type 0) where
         run_counts =
             let e = p.ends.1.1 in whole _ old.left new.left p.bytes e.ended p.consumed (ap counts_of (e.last.1 ∙ reaches p e.all))
 
-      pub run_fails : (f : PumpFault OutOfMemory) → Run (Err f) → FollowFails args before after f
+      pub run_fails : (f : PumpFault RunFault) → Run (Err f) → Fails (follow_due args) before after f
       run_fails (WriteFailed written) p = let e = p.ends in record {
         bytes = p.bytes;
         consumed = p.consumed;

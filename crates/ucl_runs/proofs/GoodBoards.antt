@@ -1,8 +1,8 @@
 -- Boards of valid words, through an evening.
-use Rattle.ucl_runs.proofs.Common.{All, All-cons, All-get_or, All-nil, AreWords, Attempt, Bool, IsAttempt, IsValid, IsWord, List}
-use Rattle.ucl_runs.proofs.Common.{MatchRecord, None, Ok, Option, Refusal, Result, Some, [], and_parts, ap, arith, board_after, board_of}
-use Rattle.ucl_runs.proofs.Common.{false, game_at, get_or, length, nat_le, nat_tests, record_at, record_back, refl, refusal_of, set, subst}
-use Rattle.ucl_runs.proofs.Common.{true, version_of, word_of, word_valid, ℕ, ◌&&◌, ◌+◌, ◌-◌, ◌<◌, ◌==◌, ◌∙◌, ◌∷◌, ◌≡◌}
+use Rattle.ucl_runs.proofs.Common.{All-get_or, AreWords, Attempt, IsAttempt, IsValid, IsWord, List}
+use Rattle.ucl_runs.proofs.Common.{MatchRecord, None, Option, Refusal, Some, [], ap, arith, board_after, board_of}
+use Rattle.ucl_runs.proofs.Common.{game_at, get_or, length, record_at, record_back, refl, refusal_of, set}
+use Rattle.ucl_runs.proofs.Common.{version_of, word_of, word_valid, ℕ, ◌+◌, ◌-◌, ◌<◌, ◌∙◌, ◌≡◌}
 use Rattle.std.proofs.lemmas.List.{get_or-set_same, get_or-set_other, length-set}
 use Rattle.std.proofs.lemmas.List.Elements.{All-from_get_or}
 use Rattle.std.proofs.lemmas.List.Sums.{sum_by-set}

@@ -2,12 +2,12 @@
 use Rattle.ucl_runs.proofs.Common.{next}
 use Rattle.ucl_runs.proofs.Common.{Evening, NewBoard, again, stage_with, subst}
 use Rattle.std.proofs.lemmas.Bool.{cond_both, eqb-true}
-use Rattle.ucl_runs.proofs.Common.{All, All-cons, All-head, All-nil, AreWords, Beginning, Err, Event, IsAttempt, IsClub, IsRoster, List}
-use Rattle.ucl_runs.proofs.Common.{LiveArgs, NamedClub, Naming, None, Nothing, Ok, Open, Option, Other, OtherGroup, Refused, Request}
-use Rattle.ucl_runs.proofs.Common.{Result, Row, Said, Some, Stage, Title, [], after_beginning, after_club, after_row}
-use Rattle.ucl_runs.proofs.Common.{after_title, attempt_of, bad_slot, board_of, cases_Bool, club_said, inl, inr, is_as_asked}
-use Rattle.ucl_runs.proofs.Common.{is_group_row, length, next_board, next_stage, read_words, refl, request_of}
-use Rattle.ucl_runs.proofs.Common.{title_said, with_roster, ℕ, ⊤, ◌++◌, ◌+◌, ◌==◌, ◌||◌, ◌∷◌, ◌≡◌}
+use Rattle.ucl_runs.proofs.Common.{All, All-cons, All-head, All-nil, AreWords, Beginning, Event, IsAttempt, IsClub, IsRoster, List}
+use Rattle.ucl_runs.proofs.Common.{LiveArgs, NamedClub, Naming, None, Nothing, Open, Option, Other, OtherGroup, Refused, Request}
+use Rattle.ucl_runs.proofs.Common.{Row, Said, Some, Stage, Title, [], after_beginning, after_club, after_row}
+use Rattle.ucl_runs.proofs.Common.{after_title, attempt_of, bad_slot, cases_Bool, club_said, inl, inr, is_as_asked}
+use Rattle.ucl_runs.proofs.Common.{is_group_row, length, next_board, next_stage, refl, request_of}
+use Rattle.ucl_runs.proofs.Common.{title_said, with_roster, ℕ, ⊤, ◌++◌, ◌+◌, ◌==◌, ◌∷◌, ◌≡◌}
 use Rattle.ucl_order.specs.Roster.{bad_slot_from, is_club}
 use Rattle.ucl_runs.proofs.Boards.{AreAttempts, asked}
 use Rattle.ucl_runs.proofs.BegunAgain.{renewed}

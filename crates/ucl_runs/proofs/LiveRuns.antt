@@ -1,5 +1,5 @@
 -- Whole runs of an evening, from what the driver says of them.
-use Rattle.ucl_runs.proofs.Common.{Appends, BeginningFault, Device, Err, Evening, HasClosed, HasMade, HasNoAnswer, HasNoEnd, IfSome}
+use Rattle.ucl_runs.proofs.Common.{Appends, Device, Err, Evening, HasClosed, HasMade, HasNoAnswer, HasNoEnd, IfSome}
 use Rattle.ucl_runs.proofs.Common.{IsPromptAt, LineRules, List, LiveFault, Machine, None, Ok, PumpFault, Pumped, Refused, Result, Seen}
 use Rattle.ucl_runs.proofs.Common.{Some, StoppedShort, StopsLast, StopsNext, Turn, WriteFailed, [], after_bytes, answer_said, answers_to}
 use Rattle.ucl_runs.proofs.Common.{ap, append-nil, arith, begun_line, cut_at, ended_lines, evening_of, inl, inr, last_lines, length}
@@ -7,11 +7,11 @@ use Rattle.ucl_runs.proofs.Common.{live_text, missing_after, missing_at, next, r
 use Rattle.ucl_runs.proofs.Common.{stopped_short, sym, turns_front, whole, ℕ, ◌++◌, ◌+◌, ◌∙◌, ◌∷◌, ◌≡◌, ◌⊎◌}
 use Rattle.ucl_io.specs.Turns.{AreTurns, lines_in, state_after, text_in}
 use Rattle.ucl_runs.specs.declared.evening.Evening.{Evening as Held}
-use Rattle.ucl_runs.specs.declared.live_fault.LiveFault.TheVariants.{Beginning, OutOfMemory}
-use Rattle.ucl_runs.specs.Holding.{Closes, IsAnsweredSoFar, LiveFails, LiveFailsAfter, RanOut, WriteStops}
+use Rattle.ucl_runs.specs.Driven.{Fails, FailsAfter, IsOutSoFar, StopsInText}
+use Rattle.ucl_runs.specs.Holding.{AsksForMemory, Closes, RanOut, evening_due}
 use Rattle.ucl_runs.specs.LiveText.{after_lines, answers}
 use Rattle.ucl_runs.proofs.OneByOne.{after-append, after-one, answers-append, whole-missing, whole-text}
-use Rattle.ucl_runs.proofs.Silence.{missing-shut, refused-shut, shut-lines, silent, stays-refused}
+use Rattle.ucl_runs.proofs.Silence.{missing-shut, refused-shut, shut-lines, silent, stays-refused, stops-with}
 
 abbrev Rules : LineRules Held LiveFault
 Rules = rules_of
@@ -44,7 +44,7 @@ module _ (before : Device) (m : Held) where
 
   -- at one time
   pub answered_at : (now : Seen Held) (turns : List (Turn Held)) → AreTurns Rules.Answers 1 m turns → IsPromptAt 258 old now turns
-      → IsAnsweredSoFar start old.left now.left old.taken now.taken
+      → IsOutSoFar (answers_to start) old.left now.left old.taken now.taken
   answered_at now turns p u =
       let q = turns_front Held Rules.Answers 1 m u.first u.later (rw u.among at p) in
       (u.bytes, u.consumed, rw (shows u.first q, u.lines) at u.out)
@@ -90,19 +90,32 @@ module _ (before : Device) (m : Held) where
 
       -- ---- a refused evening, which has answered nothing
 
-      module _ {fault : BeginningFault} where
-        after_next : (s : StopsNext Rules.Stops 1 m n p.turns p.rest (Beginning fault))
-            → after_bytes start p.bytes ≡ after_lines (after_lines start (lines_in p.turns)) (s.line ∷ s.later)
-        after_next s = rw (p.given.lines_are, s.next, after-append)
+      module _ {fault : LiveFault} where
+        module _ (s : StopsNext Rules.Stops 1 m n p.turns p.rest fault) where
+          abbrev Refuses : Type 0
+          Refuses = (next reached (said_on reached.row s.line)).stage ≡ Refused fault
 
-        line_refused : StopsNext Rules.Stops 1 m n p.turns p.rest (Beginning fault) → (after_bytes start p.bytes).stage ≡ Refused fault
-        line_refused s =
-            rw (after_next s, ← reaches, after-one) (stays-refused (next reached (said_on reached.row s.line)) s.later fault s.stops)
+          after_next : after_bytes start p.bytes ≡ after_lines (after_lines start (lines_in p.turns)) (s.line ∷ s.later)
+          after_next = rw (p.given.lines_are, s.next, after-append)
 
-        line_silent : StopsNext Rules.Stops 1 m n p.turns p.rest (Beginning fault) → text_in p.turns ≡ []
-        line_silent s =
-            let early = rw (after_next s) at (refused-shut _ fault (line_refused s)) in
-            shown ∙ silent start (lines_in p.turns) (shut-lines (after_lines start (lines_in p.turns)) (s.line ∷ s.later) early)
+          line_refused : Refuses → (after_bytes start p.bytes).stage ≡ Refused fault
+          line_refused h = rw (after_next, ← reaches, after-one) (stays-refused (next reached (said_on reached.row s.line)) s.later fault h)
+
+          line_silent : Refuses → text_in p.turns ≡ []
+          line_silent h =
+              let early = rw after_next at (refused-shut _ fault (line_refused h)) in
+              shown ∙ silent start (lines_in p.turns) (shut-lines (after_lines start (lines_in p.turns)) (s.line ∷ s.later) early)
+
+          line_asks : AsksForMemory reached (said_on reached.row s.line) → Appends old.taken new.taken (text_in p.turns) → RanOut start p.bytes before after
+          line_asks h out =
+              let at = cut_at 258 [] p.bytes (lines_in p.turns) s.line s.later (p.given.lines_are ∙ rw s.next) in record {
+                front = at.front;
+                rest = 10 ∷ at.more;
+                parts = at.parts;
+                out = rw (shown, ← at.before) at out;
+                line = inl (at.more, refl);
+                asks = rw (at.begun, at.before, ← reaches) h;
+              }
 
         end_silent : p.rest ≡ [] → missing_at reached begun ≡ Some fault → text_in p.turns ≡ []
         end_silent none h =
@@ -110,42 +123,28 @@ module _ (before : Device) (m : Held) where
             all_text none ∙ silent start (ended_lines 258 [] p.bytes) (shut-lines (after_bytes start p.bytes) (last_lines begun)
             (missing-shut last.row last.stage fault (rw (all_reached none) at h)))
 
-      line_asks : StopsNext Rules.Stops 1 m n p.turns p.rest OutOfMemory → Appends old.taken new.taken (text_in p.turns)
-          → RanOut start p.bytes before after
-      line_asks s out =
-          let at = cut_at 258 [] p.bytes (lines_in p.turns) s.line s.later (p.given.lines_are ∙ rw s.next) in record {
-            front = at.front;
-            rest = 10 ∷ at.more;
-            parts = at.parts;
-            out = rw (shown, ← at.before) at out;
-            line = inl (at.more, refl);
-            asks = rw (at.begun, at.before, ← reaches) s.stops;
-          }
-
-      end_asks : StopsLast Rules 258 old new p.bytes p.turns p.rest OutOfMemory → Appends old.taken new.taken (text_in p.turns)
-          → RanOut start p.bytes before after
-      end_asks e out = record {
-        front = p.bytes;
-        rest = [];
-        parts = sym (append-nil p.bytes);
-        out = rw (all_text e.all) at out;
-        line = inr (refl, e.ended);
-        asks = rw (← all_reached e.all) e.stops;
-      }
+        end_asks : StopsLast Rules 258 old new p.bytes p.turns p.rest fault → AsksForMemory reached (said_on reached.row begun)
+            → Appends old.taken new.taken (text_in p.turns) → RanOut start p.bytes before after
+        end_asks e h out = record {
+          front = p.bytes;
+          rest = [];
+          parts = sym (append-nil p.bytes);
+          out = rw (all_text e.all) at out;
+          line = inr (refl, e.ended);
+          asks = rw (← all_reached e.all) h;
+        }
 
       stops : (fault : LiveFault)
           → (StopsNext Rules.Stops 1 m n p.turns p.rest fault ⊎ StopsLast Rules 258 old new p.bytes p.turns p.rest fault)
-          → Appends old.taken new.taken (text_in p.turns) → LiveFailsAfter start p.bytes before after (Machine fault)
-      stops OutOfMemory (inl s) out = line_asks s out
-      stops OutOfMemory (inr e) out = end_asks e out
-      stops (Beginning fault) (inl s) out = record { refused = inl (line_refused s); out = rw (line_silent s) at out }
-      stops (Beginning fault) (inr e) out = record {
-        refused = inr (e.ended, rw (whole-missing start p.bytes, ← all_reached e.all) e.stops);
-        out = rw (end_silent e.all e.stops) at out;
-      }
+          → Appends old.taken new.taken (text_in p.turns) → FailsAfter (evening_due start) p.bytes before after (Machine fault)
+      stops fault (inl s) out =
+          stops-with _ _ _ _ (λ h. line_asks s h out) (λ h. record { refused = inl (line_refused s h); out = rw (line_silent s h) at out }) fault s.stops
+      stops fault (inr e) out =
+          stops-with _ _ _ _ (λ h. end_asks e h out)
+          (λ h. record { refused = inr (e.ended, rw (whole-missing start p.bytes, ← all_reached e.all) h); out = rw (end_silent e.all h) at out }) fault e.stops
 
       cut : {written : ℕ} {text : List ℕ} {count : ℕ} → HasMade Rules 258 4096 old new p.bytes p.turns p.rest text count
-          → StoppedShort 0 after.sink_failed old.taken new.taken text written → WriteStops start p.bytes before after written
+          → StoppedShort 0 after.sink_failed old.taken new.taken text written → StopsInText (evening_due start) p.bytes before after written
       cut {written} {text} (inl e) s = record {
         text = answers_to start p.bytes;
         text_is = inl refl;
@@ -161,7 +160,7 @@ module _ (before : Device) (m : Held) where
       pub run_complete : IfSome old.left (λ input. missing_after start input ≡ None)
       run_complete = let e = p.ends.1 in whole _ old.left new.left p.bytes e.1.ended p.consumed (complete p e.1)
 
-    pub run_fails : (f : PumpFault LiveFault) → Run (Err f) → LiveFails start before after f
+    pub run_fails : (f : PumpFault LiveFault) → Run (Err f) → Fails (evening_due start) before after f
     run_fails (WriteFailed written) p = let e = p.ends in record {
       bytes = p.bytes;
       consumed = p.consumed;

@@ -1,17 +1,22 @@
 -- Lines that are answered one after the other.
 use Rattle.ucl_runs.proofs.Common.{NewBoard, answer_with, next_by}
-use Rattle.ucl_runs.proofs.Common.{Evening, HasNoAnswer, HasNoEnd, List, LiveArgs, LiveFault, Open, Refused, Some, Stage, []}
+use Rattle.ucl_runs.proofs.Common.{Evening, HasNoAnswer, HasNoEnd, List, LiveFault, Open, Refused, Some, Stage, []}
 use Rattle.ucl_runs.proofs.Common.{after_bytes, answer_said, answers_to, ap, append-nil, append_assoc, arith, begun_append, begun_ended}
-use Rattle.ucl_runs.proofs.Common.{begun_line, ended_append, ended_lines, if◌then◌else◌, last_lines, lines_of, live_text, min, missing}
-use Rattle.ucl_runs.proofs.Common.{missing_after, missing_at, next, refl, said_on, shown_text, sym, ℕ, ◌++◌, ◌+◌, ◌-◌, ◌^◌, ◌∙◌, ◌∷◌, ◌≡◌}
-use Rattle.std.specs.Prelude.{None, Option}
-use Rattle.ucl_runs.specs.declared.live_fault.BeginningFault.TheVariants.{BadRow}
+use Rattle.ucl_runs.proofs.Common.{begun_line, ended_append, ended_lines, last_lines, lines_of, live_text, min, missing}
+use Rattle.ucl_runs.proofs.Common.{missing_after, missing_at, next, refl, said_on, shown_text, same_Some, subst, sym, ℕ, ◌++◌, ◌+◌, ◌-◌, ◌^◌, ◌∙◌, ◌∷◌, ◌≡◌}
+use Rattle.std.specs.Prelude.{Option}
+use Rattle.ucl_rows.specs.declared.fault.RunFault.TheVariants.{Input}
+use Rattle.ucl_runs.specs.declared.live_fault.LiveFault.TheVariants.{Run}
+use Rattle.ucl_screen.specs.declared.fault.InputFault.TheVariants.{BadRow}
 use Rattle.ucl_runs.specs.Holding.{end_of}
 use Rattle.ucl_runs.specs.LiveLaws.{BeginningsAreAnswered, BoardsBeginAgain, ended}
-use Rattle.ucl_runs.specs.Stages.{told_row}
+use Rattle.ucl_runs.specs.Stages.{bad_row, told_row}
+use Rattle.ucl_runs.specs.declared.stage.Stage.{Stage as Reached}
+use Rattle.ucl_runs.specs.declared.stage.Stage.TheVariants as reached
+use Rattle.ucl_runs.specs.LiveFaults.{StopsBy}
+use Rattle.ucl_runs.specs.Seen.{stage_seen}
 use Rattle.ucl_runs.specs.LiveText.{after_lines, answers, missing_now}
-use Rattle.ucl_runs.proofs.Silence.{refused-missing}
-use Rattle.ucl_runs.specs.declared.live_fault.LiveFault.TheVariants as live
+use Rattle.ucl_runs.proofs.Silence.{refused-missing, stops-with}
 
 pub answers-none : (e : Evening) → answers e [] ≡ []
 unfolding answers
@@ -94,7 +99,7 @@ some-end e (b ∷ line) some = after-last e (b ∷ line)
 told-alike : (a b : ℕ) (s : Stage) → told_row a ≡ told_row b → missing a s ≡ missing b s
 told-alike a b (Open clubs board) e = refl
 told-alike a b (Refused fault) e = refl
-told-alike _ _ _ e = ap (λ (n : ℕ). Some (BadRow n)) e
+told-alike _ _ _ e = ap (λ (n : ℕ). Some (Run (Input (BadRow n)))) e
 
 -- the evening after the line is this one
 pub some-missing : (e f : Evening) (begun : List ℕ) → (begun ≡ [] → ⊥) → f ≡ next e (said_on e.row begun) → missing_at e begun ≡ missing (min (e.row + 1) (2 ^ 64 - 1)) f.stage
@@ -103,9 +108,15 @@ some-missing e f begun some is =
     ∙ told-alike (e.row + 1) (min (e.row + 1) (2 ^ 64 - 1)) f.stage (omega arith)
 
 pub some-stops : (e : Evening) (begun : List ℕ) (fault : LiveFault) → (begun ≡ [] → ⊥) → HasNoAnswer e (said_on e.row begun) fault → HasNoEnd e begun fault
-some-stops e begun live.OutOfMemory some h = h
-some-stops e begun (live.Beginning why) some h =
-    ap missing_now (some-end e begun some) ∙ refused-missing (e.row + 1) (next e (said_on e.row begun)).stage why h
+some-stops e begun fault some h =
+    stops-with _ _ _ _ (λ asks. asks)
+    (λ refused. ap missing_now (some-end e begun some) ∙ refused-missing (e.row + 1) (next e (said_on e.row begun)).stage fault refused) fault h
+
+-- a club that is missing is no want of memory
+pub misses : (row : ℕ) (s : Reached) (fault : LiveFault) (A B : Type 0) → missing row (stage_seen s) ≡ Some fault → B → StopsBy A B fault
+misses row (reached.Open table) fault A B e b = absurd (cc)
+misses row reached.Beginning fault A B e b = subst (StopsBy A B) (same_Some (bad_row row) fault e) b
+misses row (reached.Naming clubs) fault A B e b = subst (StopsBy A B) (same_Some (bad_row row) fault e) b
 
 -- ---- a board that is begun again
 

@@ -9,11 +9,10 @@ use Rattle.ucl_runs.proofs.Common.{board_after, board_of, ended_lines, ended_non
 use Rattle.ucl_runs.proofs.Common.{is_later, last_lines, length, length-append, lines_of, moment_at, moment_now, moment_on, moment_with}
 use Rattle.ucl_runs.proofs.Common.{nat_tests, newness_with, next_board, next_stage, next_title, refl, refusal_of, reply_answer}
 use Rattle.ucl_runs.proofs.Common.{reply_of, request_of, said_on, screen_after, screen_text, shown_text, stage_with, start_of}
-use Rattle.ucl_runs.proofs.Common.{stays_new, subst, sym, title_with, true, unseen, version_at, version_of, whole, ℕ, ◌++◌, ◌+◌, ◌<◌}
+use Rattle.ucl_runs.proofs.Common.{stays_new, subst, sym, title_with, true, unseen, version_at, version_of, ℕ, ◌++◌, ◌+◌, ◌<◌}
 use Rattle.ucl_runs.proofs.Common.{◌^◌, ◌∙◌, ◌∷◌, ◌≡◌, ◌≤◌, ◌⊎◌}
-use Rattle.std.proofs.lemmas.List.Elements.{All-weaker}
 use Rattle.std.proofs.lemmas.Grind.{flat_map-append}
-use Rattle.ucl_runs.proofs.AnswerLines.{IsLineThat, IsShown, TellsAlone, TellsAtMost, begun-then, lines-then, lines_in, shown-text}
+use Rattle.ucl_runs.proofs.AnswerLines.{IsShown, TellsAlone, TellsAtMost, begun-then, lines-then, lines_in, shown-text}
 use Rattle.ucl_runs.proofs.AnswerMoments.{Fits, IsSound, Lines, accepted-reply, fits-request, line-tells, sound-next, start-sound, told_after, told_now}
 use Rattle.ucl_runs.proofs.BegunAgain.{IsLaterTitle, RenewsAt, renewed}
 use Rattle.ucl_runs.proofs.Boards.{AreAttempts, board_on, stage-stays, title-stays}
@@ -22,11 +21,9 @@ use Rattle.ucl_runs.proofs.GoodStages.{IsGood, of-request}
 use Rattle.ucl_io.proofs.Cuts.{few_lines}
 use Rattle.ucl_runs.proofs.FollowShown.{others, titled-so, versions}
 use Rattle.ucl_runs.proofs.OneByOne.{after-none, after-one, answers-none, answers-one}
-use Rattle.ucl_runs.proofs.Silence.{is_open}
-use Rattle.ucl_runs.specs.Latest.{IsLatest, IsLineOfThese, IsNoNewer, IsOlder, IsToldIn, moments_shown}
+use Rattle.ucl_runs.specs.Latest.{IsLatest, IsLineOfThese, IsNoNewer, IsToldIn}
 use Rattle.ucl_runs.specs.Records.{FollowersEndWithTheBoard, IsRecord, SameRowsSameTable, after_record, answer_lines}
 use Rattle.ucl_runs.specs.LiveText.{after_lines, answers}
-use Rattle.ucl_runs.specs.Follow.{sights}
 
 -- ---- moments and titles
 

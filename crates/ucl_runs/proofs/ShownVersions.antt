@@ -1,5 +1,5 @@
 -- The versions that a reader shows, and the history that they are of.
-use Rattle.ucl_runs.proofs.Common.{All-push, Continues, Entry, HasShown, IsPrefix, List, Option, PassView, Reading, SharedReading, Some, []}
+use Rattle.ucl_runs.proofs.Common.{All-push, Continues, HasShown, List, Option, PassView, Reading, SharedReading, Some, []}
 use Rattle.ucl_runs.proofs.Common.{ap, arith, begins_length, begins_through, length, length-append, subst, sym, ℕ, ◌++◌}
 use Rattle.ucl_runs.proofs.Common.{◌+◌, ◌-◌, ◌∙◌, ◌∷◌, ◌≡◌, ◌≤◌}
 use Rattle.std.proofs.Common.{All}

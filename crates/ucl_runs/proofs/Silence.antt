@@ -1,8 +1,11 @@
 -- An evening whose board is not open has answered nothing, and one that is refused stays so.
 use Rattle.ucl_runs.proofs.Common.{NewBoard, None, answer_with, next_by, stage_with}
-use Rattle.ucl_runs.proofs.Common.{Beginning, BeginningFault, Bool, Evening, List, LiveArgs, Naming, Nothing, Open, Other, Refused}
-use Rattle.ucl_runs.proofs.Common.{Row, Said, Some, Stage, [], after_row, answer_at, answer_said, ap, cases_Bool, false, inl, Option}
-use Rattle.ucl_runs.proofs.Common.{inr, missing, next, next_stage, refl, request_of, said_on, shown_text, true, ℕ, ◌∙◌, ◌∷◌, ◌≡◌, again}
+use Rattle.ucl_runs.proofs.Common.{Beginning, Bool, Evening, List, LiveArgs, LiveFault, Naming, Nothing, Open, Other, Refused}
+use Rattle.ucl_runs.proofs.Common.{Row, Said, Some, Stage, [], after_row, answer_at, cases_Bool, false, inl, Option}
+use Rattle.ucl_runs.proofs.Common.{inr, missing, next, next_stage, refl, request_of, said_on, shown_text, true, ℕ, ◌∷◌, ◌≡◌, again}
+use Rattle.ucl_rows.specs.declared.fault.RunFault.TheVariants.{OutOfMemory}
+use Rattle.ucl_runs.specs.declared.live_fault.LiveFault.TheVariants.{Run}
+use Rattle.ucl_runs.specs.LiveFaults.{StopsBy}
 use Rattle.ucl_runs.specs.LiveText.{after_lines, answers}
 
 abbrev pub is_open : Stage → Bool
@@ -59,23 +62,28 @@ silent e (line ∷ lines) h =
 
 -- a refused evening stays refused
 
-refused-next : (e : Evening) (r : Said) (fault : BeginningFault) → e.stage ≡ Refused fault → (next e r).stage ≡ Refused fault
+refused-next : (e : Evening) (r : Said) (fault : LiveFault) → e.stage ≡ Refused fault → (next e r).stage ≡ Refused fault
 refused-next e Nothing fault h = h
 refused-next e Other fault h = rw h refl
 refused-next e (Row f) fault h = rw h refl
 
-pub stays-refused : (e : Evening) (lines : List (List ℕ)) (fault : BeginningFault) → e.stage ≡ Refused fault → (after_lines e lines).stage ≡ Refused fault
+pub stays-refused : (e : Evening) (lines : List (List ℕ)) (fault : LiveFault) → e.stage ≡ Refused fault → (after_lines e lines).stage ≡ Refused fault
 unfolding after_lines
 stays-refused e [] fault h = h
 stays-refused e (line ∷ lines) fault h =
     let r = said_on e.row line in stays-refused (next e r) lines fault (refused-next e r fault h)
 
-pub refused-shut : (s : Stage) (fault : BeginningFault) → s ≡ Refused fault → is_open s ≡ false
+pub refused-shut : (s : Stage) (fault : LiveFault) → s ≡ Refused fault → is_open s ≡ false
 refused-shut s fault h = rw h refl
 
-pub refused-missing : (row : ℕ) (s : Stage) (fault : BeginningFault) → s ≡ Refused fault → missing row s ≡ Some fault
+pub refused-missing : (row : ℕ) (s : Stage) (fault : LiveFault) → s ≡ Refused fault → missing row s ≡ Some fault
 refused-missing row s fault h = rw h refl
 
-pub missing-shut : (row : ℕ) (s : Stage) (fault : BeginningFault) → missing row s ≡ Some fault → is_open s ≡ false
+pub missing-shut : (row : ℕ) (s : Stage) (fault : LiveFault) → missing row s ≡ Some fault → is_open s ≡ false
 missing-shut row (Open clubs board) fault h = cc
 missing-shut _ _ _ _ = refl
+
+-- the same of weaker facts
+pub stops-with : (A B C D : Type 0) → (A → C) → (B → D) → (fault : LiveFault) → StopsBy A B fault → StopsBy C D fault
+stops-with A B C D f g (Run OutOfMemory) h = f h
+stops-with A B C D f g _ h = g h

@@ -1,5 +1,5 @@
 -- The lines as they are read, and as they came.
-use Rattle.ucl_runs.proofs.Common.{Evening, List, None, Other, [], answer_said, ap, arith, cases_Bool, false, fits, get_or, inl, inr}
+use Rattle.ucl_runs.proofs.Common.{Evening, List, Other, [], answer_said, ap, arith, cases_Bool, false, fits, get_or, inl, inr}
 use Rattle.ucl_runs.proofs.Common.{last_lines, length, length-append, lines_of, lt-leb, nat_le, nat_tests, next, refl, said_on, shown_text}
 use Rattle.ucl_runs.proofs.Common.{sym, take, take-append-le, ℕ, ⊤, ◌++◌, ◌+◌, ◌-◌, ◌<◌, ◌==◌, ◌∙◌, ◌∷◌, ◌≡◌, ◌≤◌}
 use Rattle.std.specs.Prelude.{◌⊎◌}

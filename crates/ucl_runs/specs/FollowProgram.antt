@@ -1,38 +1,21 @@
 -- What the program does with what its words ask for.
-use Rattle.std.specs.Prelude.{◌≡◌, ◌-◌, ℕ, Bool, List, [], ◌∷◌, ◌++◌, Option, IfSome, codes, decimal, Result, Ok, Err, IfErr, IfOk, OnOk}
-use Rattle.std.specs.Io.KnownBytes.{Appends}
+use Rattle.std.specs.Prelude.{◌≡◌, ◌-◌, ℕ, Bool, List, [], ◌∷◌, ◌++◌, Option, codes, decimal, Result, Ok, Err}
 use Rattle.ucl_io.specs.declared.stream.Source as reads
 use Rattle.ucl_io.specs.declared.stream.Sink as writes
 use Rattle.ucl_rows.specs.declared.fault.RunFault.{RunFault}
 use Rattle.ucl_rows.specs.Faults.{status}
-use Rattle.ucl_rows.specs.declared.fault.RunFault.TheVariants as run
-use Rattle.ucl_screen.specs.declared.fault.InputFault.TheVariants as input
-use Rattle.ucl_word.specs.declared.refusal.OutOfMemory.{OutOfMemory}
+use Rattle.ucl_rows.specs.Run.{IsOfDriver}
 use Rattle.ucl_io.specs.declared.fault.PumpFault.{PumpFault}
-use Rattle.ucl_io.specs.declared.fault.PumpFault.TheVariants.{Machine, ReadFailed, TooLong, WriteFailed}
-use Rattle.ucl_io.specs.Output.{SinkEnds}
-use Rattle.ucl_io.specs.Pumping.{is_source_failed}
 use Rattle.ucl_rows.specs.Telling.{Tells, fault_line}
 use Rattle.ucl_io.specs.declared.duplex.Duplex.{Duplex}
-use Rattle.ucl_io.specs.Calls.{LogsCalls, device}
 use Rattle.ucl_command.specs.declared.fault.LineFault.{LineFault}
 use Rattle.ucl_rows.specs.Ending.{AnsweredAlone}
 use Rattle.ucl_order.specs.Names.{profile_name}
 use Rattle.ucl_json.specs.declared.title.Title.{Title}
+use Rattle.ucl_runs.specs.Driven.{IsDriven}
+use Rattle.ucl_runs.specs.Hearing.{follow_due}
 use Rattle.ucl_runs.specs.declared.follow.Followed.{Followed}
 use Rattle.ucl_command.specs.declared.follow.FollowArgs.{FollowArgs}
-use Rattle.ucl_runs.specs.Follow.{follow_end, follow_text}
-use Rattle.ucl_runs.specs.Hearing.{FollowFails, IsFollowedSoFar, counts_of}
-
--- lines were followed over a device for both ways, or that has the fault r: what `follow_run` says
-pub record FollowsLines {S W M : Type 0} (source : reads.Ghosts S) (sink : writes.Ghosts W) (args : FollowArgs) (before after : Duplex S W M) (r : Result Followed (PumpFault OutOfMemory)) : Type 0 where
-  pub text : OnOk r (IfSome (source.left before.source) (λ bytes. Appends (sink.taken before.sink) (sink.taken after.sink) (follow_text args bytes)))
-  pub counts : IfOk r (λ followed. IfSome (source.left before.source) (λ bytes. followed ≡ counts_of (follow_end args bytes)))
-  pub read_failed : source.failed after.source ≡ is_source_failed r
-  pub prompt : LogsCalls (λ time. source.calls time.0) before.log.times after.log.times (source.calls before.source) (source.calls after.source)
-      (λ time. IsFollowedSoFar args (source.left before.source) (source.left time.0) (sink.taken before.sink) (sink.taken time.1))
-  pub sink_ends : SinkEnds (sink.failed before.sink) (sink.failed after.sink) r
-  pub fails : IfErr r (FollowFails args (device source.left source.failed sink.taken sink.failed before) (device source.left source.failed sink.taken sink.failed after))
 
 -- how many lines came, how many were shown, and how many were passed over
 abbrev pub counts_line : Followed → List ℕ
@@ -44,22 +27,16 @@ abbrev pub other_line : ℕ → Title → List ℕ
 other_line line title =
     codes "line " ++ decimal line ++ codes ": group " ++ (title.group ∷ []) ++ codes ", order " ++ profile_name title.profile ++ codes ", is passed over\n"
 
--- the fault of a program that follows
-abbrev pub told_fault : PumpFault OutOfMemory → RunFault
-told_fault (ReadFailed bytes) = run.Input (input.ReadFailed bytes)
-told_fault TooLong = run.Input input.TooLong
-told_fault (WriteFailed written) = run.WriteFailed written
-told_fault (Machine fault) = run.OutOfMemory
-
 -- the input has ended; or the line of the fault is told, and its status
-abbrev pub EndsFollowing : Result Followed (PumpFault OutOfMemory) → ℕ → Bool → Option (List ℕ) → Option (List ℕ) → Type 0
+abbrev pub EndsFollowing : Result Followed (PumpFault RunFault) → ℕ → Bool → Option (List ℕ) → Option (List ℕ) → Type 0
 EndsFollowing (Ok followed) code failed old new = (code ≡ 0) × Tells failed old new (counts_line followed)
-EndsFollowing (Err fault) code failed old new = (code ≡ status (told_fault fault)) × Tells failed old new (fault_line (told_fault fault))
+EndsFollowing (Err fault) code failed old new =
+    (told : RunFault) × IsOfDriver (λ own f. f ≡ own) fault told × (code ≡ status told) × Tells failed old new (fault_line told)
 
 -- what the program does where its words ask it to follow, ask for help, are refused, or could not be read for want of memory; and its
 -- exit status, and what it tells on the error sink
 abbrev pub RunsFollowing : {S W M : Type 0} → reads.Ghosts S → writes.Ghosts W → Result FollowArgs LineFault → Duplex S W M → Duplex S W M
     → ℕ → Bool → Option (List ℕ) → Option (List ℕ) → Type 0
 RunsFollowing source sink (Ok args) before after code failed old new =
-    (r : Result Followed (PumpFault OutOfMemory)) × FollowsLines source sink args before after r × EndsFollowing r code failed old new
+    (r : Result Followed (PumpFault RunFault)) × IsDriven (follow_due args) source sink before after r × EndsFollowing r code failed old new
 RunsFollowing source sink (Err fault) before after code failed old new = AnsweredAlone sink fault before after code failed old new

@@ -1,22 +1,19 @@
 -- An evening as a machine, and what is left of it where a run fails.
-use Rattle.std.specs.Prelude.{◌≡◌, ◌⊎◌, ⊤, ℕ, ◌^◌, ◌<◌, true, if◌then◌else◌, List, [], ◌∷◌, ◌++◌, length, Option, Some, None}
+use Rattle.std.specs.Prelude.{◌≡◌, ◌⊎◌, ⊤, ℕ, true, if◌then◌else◌, List, [], ◌∷◌, ◌++◌, Option, Some, None}
 use Rattle.std.specs.Result.{is_ok}
-use Rattle.std.specs.Io.KnownBytes.{Appends, Consumes}
+use Rattle.std.specs.Io.KnownBytes.{Appends}
 use Rattle.ucl_word.specs.Rules.{reply_of}
 use Rattle.ucl_board.specs.Words.{game_at}
-use Rattle.ucl_io.specs.declared.fault.PumpFault.{PumpFault}
-use Rattle.ucl_io.specs.declared.fault.PumpFault.TheVariants.{Machine, ReadFailed, TooLong, WriteFailed}
 use Rattle.ucl_io.specs.Calls.{Device, HasEnded}
 use Rattle.ucl_io.specs.Lines.{begun_line, ended_lines}
-use Rattle.ucl_io.specs.Output.{StoppedShort}
 use Rattle.ucl_runs.specs.declared.heading.Heading.{Heading}
 use Rattle.ucl_command.specs.declared.options.Format.TheVariants.{Json}
 use Rattle.ucl_command.specs.declared.live.LiveArgs.{LiveArgs}
 use Rattle.ucl_rows.specs.declared.answer.Answer.{Answer}
 use Rattle.ucl_runs.specs.declared.evening.Evening.{Evening as Held}
-use Rattle.ucl_runs.specs.declared.live_fault.BeginningFault.{BeginningFault}
 use Rattle.ucl_runs.specs.declared.live_fault.LiveFault.{LiveFault}
-use Rattle.ucl_runs.specs.declared.live_fault.LiveFault.TheVariants as live
+use Rattle.ucl_runs.specs.Driven.{Due}
+use Rattle.ucl_runs.specs.LiveFaults.{StopsBy}
 use Rattle.ucl_runs.specs.declared.request.Request.{Request}
 use Rattle.ucl_runs.specs.declared.request.Request.TheVariants.{Bad, Event, Screen, Words, Matches}
 use Rattle.ucl_runs.specs.declared.parts.Parts.{Parts}
@@ -80,18 +77,14 @@ abbrev pub evening_of : Held → ℕ → Evening
 evening_of e row = evening_at e.options e.heading row (stage_seen e.stage)
 
 -- a row has no answer: there was no memory for it, which it asks for, or the stage after it is refused
-abbrev pub StopsAt : Type 0 → Stage → LiveFault → Type 0
-StopsAt Asks after live.OutOfMemory = Asks
-StopsAt Asks after (live.Beginning why) = after ≡ Refused why
-
 abbrev pub HasNoAnswer : Evening → Said → LiveFault → Type 0
-HasNoAnswer e said fault = StopsAt (AsksForMemory e said) (next e said).stage fault
+HasNoAnswer e said fault = StopsBy (AsksForMemory e said) ((next e said).stage ≡ Refused fault) fault
 
 -- the input ends, where a last line has begun so: it may have no byte
 abbrev pub end_of : Evening → List ℕ → Evening
 end_of e begun = after_lines e (last_lines begun)
 
-abbrev pub missing_at : Evening → List ℕ → Option BeginningFault
+abbrev pub missing_at : Evening → List ℕ → Option LiveFault
 missing_at e begun = missing_now (end_of e begun)
 
 -- it is answered too, and no club or word is missing then
@@ -101,8 +94,7 @@ pub record Closes (e : Evening) (begun text : List ℕ) : Type 0 where
 
 -- there was no memory for it, which it asks for; or a club or a word has a fault, or is missing
 abbrev pub HasNoEnd : Evening → List ℕ → LiveFault → Type 0
-HasNoEnd e begun live.OutOfMemory = AsksForMemory e (said_on e.row begun)
-HasNoEnd e begun (live.Beginning why) = missing_at e begun ≡ Some why
+HasNoEnd e begun fault = StopsBy (AsksForMemory e (said_on e.row begun)) (missing_at e begun ≡ Some fault) fault
 
 -- ---- a whole run
 
@@ -112,19 +104,6 @@ answers_to start bytes = answers start (ended_lines 258 [] bytes)
 
 abbrev pub after_bytes : Evening → List ℕ → Evening
 after_bytes start bytes = after_lines start (ended_lines 258 [] bytes)
-
--- some bytes were taken by now, and the answers to all their lines that have an end are out, and nothing else
-abbrev pub IsAnsweredSoFar : Evening → Option (List ℕ) → Option (List ℕ) → Option (List ℕ) → Option (List ℕ) → Type 0
-IsAnsweredSoFar start left left2 taken taken2 = (bytes : List ℕ) × Consumes left left2 bytes × Appends taken taken2 (answers_to start bytes)
-
--- the text that the sink failed in: that of the lines that came; or the whole text, once the input has ended
-abbrev pub IsTextOf : Evening → List ℕ → Option (List ℕ) → Option (List ℕ) → List ℕ → Type 0
-IsTextOf start bytes left left2 text = (text ≡ answers_to start bytes) ⊎ (HasEnded left left2 × (text ≡ live_text start bytes))
-
-pub record WriteStops (start : Evening) (bytes : List ℕ) (old new : Device) (written : ℕ) : Type 0 where
-  pub text : List ℕ
-  pub text_is : IsTextOf start bytes old.left new.left text
-  pub stopped : StoppedShort 0 new.sink_failed old.taken new.taken text written
 
 -- the bytes end a line here, or are at their end
 abbrev pub EndsLine : List ℕ → Option (List ℕ) → Option (List ℕ) → Type 0
@@ -140,21 +119,16 @@ pub record RanOut (start : Evening) (bytes : List ℕ) (old new : Device) : Type
   pub asks : AsksForMemory (after_bytes start front) (said_on (after_bytes start front).row (begun_line 258 [] front))
 
 -- the evening is refused, by the bytes that were taken or by their end, and nothing was answered
-pub record IsTurnedAway (start : Evening) (bytes : List ℕ) (old new : Device) (fault : BeginningFault) : Type 0 where
+pub record IsTurnedAway (start : Evening) (bytes : List ℕ) (old new : Device) (fault : LiveFault) : Type 0 where
   pub refused : ((after_bytes start bytes).stage ≡ Refused fault)
       ⊎ (HasEnded old.left new.left × (missing_after start bytes ≡ Some fault))
   pub out : Appends old.taken new.taken []
 
--- why an evening fails that has taken these bytes: the source failed after them, they are more than any input has, or the sink failed; there
--- was no memory for a line, or it is refused
-abbrev pub LiveFailsAfter : Evening → List ℕ → Device → Device → PumpFault LiveFault → Type 0
-LiveFailsAfter start bytes old new (ReadFailed count) = (count ≡ length bytes) × Appends old.taken new.taken (answers_to start bytes)
-LiveFailsAfter start bytes old new TooLong = (2 ^ 62 < length bytes) × Appends old.taken new.taken (answers_to start bytes)
-LiveFailsAfter start bytes old new (WriteFailed written) = WriteStops start bytes old new written
-LiveFailsAfter start bytes old new (Machine live.OutOfMemory) = RanOut start bytes old new
-LiveFailsAfter start bytes old new (Machine (live.Beginning why)) = IsTurnedAway start bytes old new why
-
-pub record LiveFails (start : Evening) (old new : Device) (fault : PumpFault LiveFault) : Type 0 where
-  pub bytes : List ℕ
-  pub consumed : Consumes old.left new.left bytes
-  pub why : LiveFailsAfter start bytes old new fault
+-- an evening that is driven stops where there was no memory for a line, or it is refused; where it ends well, no club is missing
+abbrev pub evening_due : Evening → Due ⊤ LiveFault
+evening_due start = record {
+  so_far = answers_to start;
+  whole = live_text start;
+  Stops = λ bytes old new fault. StopsBy (RanOut start bytes old new) (IsTurnedAway start bytes old new fault) fault;
+  Ends = λ done bytes. missing_after start bytes ≡ None;
+}

@@ -8,9 +8,10 @@ pub mod Program
 pub mod Requests
 pub mod Titles
 pub mod NewBoards
+pub mod Driven
+pub mod LiveFaults
 pub mod Stages
 pub mod LiveText
-pub mod LiveFaults
 pub mod Seen
 pub mod Holding
 pub mod ByHistory

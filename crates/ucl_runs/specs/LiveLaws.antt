@@ -1,5 +1,5 @@
 -- What holds of all evenings.
-use Rattle.std.specs.Prelude.{◌≡◌, ⊤, ℕ, ◌+◌, List, [], ◌∷◌, ◌++◌, Some, None}
+use Rattle.std.specs.Prelude.{◌≡◌, ⊤, ℕ, List, [], ◌∷◌, ◌++◌, Some, None}
 use Rattle.std.specs.List.{fold}
 use Rattle.ucl_board.specs.declared.entry.Entry.{Entry}
 use Rattle.ucl_board.specs.History.{IsLegal, after_attempt, board_after, board_of}
@@ -12,7 +12,7 @@ use Rattle.ucl_board.specs.Words.{game_at, version_of}
 use Rattle.ucl_json.specs.Lines.{AreLinesOfValues}
 use Rattle.ucl_json.specs.declared.title.Title.{Title}
 use Rattle.ucl_command.specs.declared.options.Format.TheVariants.{Text, Json}
-use Rattle.ucl_runs.specs.declared.live_fault.BeginningFault.{BeginningFault}
+use Rattle.ucl_runs.specs.declared.live_fault.LiveFault.{LiveFault}
 use Rattle.ucl_runs.specs.ByHistory.{answers_by_history, attempts_in}
 use Rattle.ucl_rows.specs.InputLines.{lines_of}
 use Rattle.ucl_runs.specs.UncutLines.{uncut_lines}
@@ -73,7 +73,7 @@ JsonAnswersAreLines = (e : Evening) (lines : List (List ℕ)) → e.options.form
 
 -- where the clubs or the words have a fault, nothing was answered
 abbrev pub RefusedEveningsAreSilent : Type 0
-RefusedEveningsAreSilent = (e : Evening) (lines : List (List ℕ)) (fault : BeginningFault) → (after_lines e lines).stage ≡ Refused fault → answers e lines ≡ []
+RefusedEveningsAreSilent = (e : Evening) (lines : List (List ℕ)) (fault : LiveFault) → (after_lines e lines).stage ≡ Refused fault → answers e lines ≡ []
 
 -- the lines as they are read end with their 258th byte: the answers, and the evening after them, are those of the lines as they came
 pub record IsOfUncutLines (e : Evening) (bytes : List ℕ) : Type 0 where

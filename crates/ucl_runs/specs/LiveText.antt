@@ -9,7 +9,7 @@ use Rattle.ucl_rows.specs.Answers.{bad_answer, matches_answer, reply_answer, scr
 use Rattle.ucl_screen.specs.declared.night.NightEvent.{NightEvent}
 use Rattle.ucl_json.specs.declared.title.Title.{Title}
 use Rattle.ucl_command.specs.declared.live.LiveArgs.{LiveArgs}
-use Rattle.ucl_runs.specs.declared.live_fault.BeginningFault.{BeginningFault}
+use Rattle.ucl_runs.specs.declared.live_fault.LiveFault.{LiveFault}
 use Rattle.ucl_runs.specs.declared.request.Request.{Request}
 use Rattle.ucl_runs.specs.declared.request.Request.TheVariants.{Bad, Event, Screen, Words, Matches}
 use Rattle.ucl_rows.specs.InputLines.{lines_of}
@@ -151,9 +151,9 @@ abbrev pub live_text : Evening → List ℕ → List ℕ
 live_text e bytes = answers e (lines_of bytes)
 
 -- why an evening is refused that ends here
-abbrev pub missing_now : Evening → Option BeginningFault
+abbrev pub missing_now : Evening → Option LiveFault
 missing_now e = missing e.row e.stage
 
 -- why an evening is refused that begins here and has this whole input
-abbrev pub missing_after : Evening → List ℕ → Option BeginningFault
+abbrev pub missing_after : Evening → List ℕ → Option LiveFault
 missing_after e bytes = missing_now (after_lines e (lines_of bytes))

@@ -1,6 +1,6 @@
 -- A night: the rows of a script, entered by two reporters in threads of their own while readers look on.
 use Rattle.std.specs.Prelude.{◌≡◌, ◌≢◌, ◌⊎◌, ℕ, ◌+◌, ◌<◌, ◌≤◌, ◌==◌, true, false, List, [], ◌∷◌, ◌++◌}
-use Rattle.std.specs.Prelude.{⊤, All, length, map, take, slice_get, slice_index_or, Option, Some, None, option_map, if◌then◌else◌, codes, String, string_bytes}
+use Rattle.std.specs.Prelude.{All, length, map, take, slice_get, slice_index_or, Option, Some, None, option_map, if◌then◌else◌, codes, String, string_bytes}
 use mathlib.Core.List.{IsPrefix}
 use Rattle.std.specs.List.Sorted.{IsNonDecreasing}
 use Rattle.std.specs.Result.{is_ok}

@@ -1,9 +1,8 @@
 -- What the code's values stand for.
 use Rattle.std.specs.Prelude.{◌≡◌, ⊤, List, [], ◌∷◌, Result, Ok, Err}
 use Rattle.ucl_order.specs.Roster.{NamedClub, club_seen}
-use Rattle.ucl_runs.specs.declared.live_fault.BeginningFault.{BeginningFault}
 use Rattle.ucl_runs.specs.declared.live_fault.LiveFault.{LiveFault}
-use Rattle.ucl_runs.specs.declared.live_fault.LiveFault.TheVariants as live
+use Rattle.ucl_runs.specs.LiveFaults.{StopsBy}
 use Rattle.ucl_runs.specs.declared.stage.Clubs.{Clubs}
 use Rattle.ucl_runs.specs.declared.stage.Clubs.TheVariants.{NoClub, One, Two, Three}
 use Rattle.ucl_runs.specs.declared.stage.Table.{Table}
@@ -26,12 +25,11 @@ stage_seen (reached.Naming clubs) = Naming (clubs_seen clubs)
 stage_seen (reached.Open table) = table_seen table
 
 -- what became of a stage is this one
-abbrev pub Becomes : Stage → Result Reached BeginningFault → Type 0
+abbrev pub Becomes : Stage → Result Reached LiveFault → Type 0
 Becomes stage (Ok s) = stage_seen s ≡ stage
 Becomes stage (Err fault) = stage ≡ Refused fault
 
 -- or there was no memory
 abbrev pub BecomesIfMemory : Stage → Result Reached LiveFault → Type 0
 BecomesIfMemory stage (Ok s) = stage_seen s ≡ stage
-BecomesIfMemory stage (Err (live.Beginning why)) = stage ≡ Refused why
-BecomesIfMemory stage (Err live.OutOfMemory) = ⊤
+BecomesIfMemory stage (Err fault) = StopsBy ⊤ (stage ≡ Refused fault) fault

@@ -5,8 +5,10 @@ use Rattle.ucl_order.specs.Roster.{NamedClub, bad_slot}
 use Rattle.ucl_screen.specs.Events.{attempt_of}
 use Rattle.ucl_screen.specs.Script.{club_of}
 use Rattle.ucl_command.specs.declared.live.LiveArgs.{LiveArgs}
-use Rattle.ucl_runs.specs.declared.live_fault.BeginningFault.{BeginningFault}
-use Rattle.ucl_runs.specs.declared.live_fault.BeginningFault.TheVariants.{BadRow, BadRoster, OtherGroup}
+use Rattle.ucl_screen.specs.declared.fault.InputFault.TheVariants.{BadRow, BadRoster}
+use Rattle.ucl_rows.specs.declared.fault.RunFault.TheVariants.{Input}
+use Rattle.ucl_runs.specs.declared.live_fault.LiveFault.{LiveFault}
+use Rattle.ucl_runs.specs.declared.live_fault.LiveFault.TheVariants.{OtherGroup, Run}
 use Rattle.ucl_json.specs.declared.title.Title.{Title}
 use Rattle.ucl_runs.specs.Titles.{is_as_asked, is_group_row, title_said}
 use Rattle.ucl_rows.specs.Rows.{Said, Nothing, Other, Row}
@@ -19,14 +21,14 @@ pub data Stage : Type 0 where
   Beginning : Stage
   Naming : (clubs : List NamedClub) → Stage
   Open : (clubs : List NamedClub) (board : List ℕ) → Stage
-  Refused : (fault : BeginningFault) → Stage
+  Refused : (fault : LiveFault) → Stage
 
 -- the number of a row as a fault tells it: a greater one is told as the greatest that can be told
 abbrev pub told_row : ℕ → ℕ
 told_row row = min row (2 ^ 32 - 1)
 
-abbrev pub bad_row : ℕ → Stage
-bad_row row = Refused (BadRow (told_row row))
+abbrev pub bad_row : ℕ → LiveFault
+bad_row row = Run (Input (BadRow (told_row row)))
 
 -- ---- clubs
 
@@ -37,21 +39,21 @@ club_said slot Nothing = None
 
 abbrev pub with_roster : List NamedClub → Option ℕ → Stage
 with_roster clubs None = Open clubs (board_of [])
-with_roster clubs (Some slot) = Refused (BadRoster slot)
+with_roster clubs (Some slot) = Refused (Run (Input (BadRoster slot)))
 
 -- the roster is looked at once there are four clubs, and then the fresh board is open
 abbrev pub with_clubs : List NamedClub → Stage
 with_clubs clubs = if length clubs == 4 then with_roster clubs (bad_slot clubs) else Naming clubs
 
 abbrev pub after_club : ℕ → List NamedClub → Option NamedClub → Stage
-after_club row clubs None = bad_row row
+after_club row clubs None = Refused (bad_row row)
 after_club row clubs (Some club) = with_clubs (clubs ++ club ∷ [])
 
 -- ---- the first row
 
 -- a row of a group, or that of the first club
 abbrev pub after_title : LiveArgs → ℕ → Option Title → Stage
-after_title options row None = bad_row row
+after_title options row None = Refused (bad_row row)
 after_title options row (Some title) = if is_as_asked options title then Naming [] else Refused OtherGroup
 
 abbrev pub after_beginning : LiveArgs → ℕ → Said → Stage
@@ -81,8 +83,8 @@ next_stage options row stage Other = after_row options row stage Other
 next_stage options row stage (Row f) = after_row options row stage (Row f)
 
 -- why an evening is refused that ends here, before a line with this number: a club is missing
-abbrev pub missing : ℕ → Stage → Option BeginningFault
-missing row Beginning = Some (BadRow (told_row row))
-missing row (Naming clubs) = Some (BadRow (told_row row))
+abbrev pub missing : ℕ → Stage → Option LiveFault
+missing row Beginning = Some (bad_row row)
+missing row (Naming clubs) = Some (bad_row row)
 missing row (Open clubs board) = None
 missing row (Refused fault) = Some fault

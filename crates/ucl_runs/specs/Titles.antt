@@ -1,5 +1,5 @@
 -- What the first row may say of the board: its group, the order of its clubs, and its edition.
-use Rattle.std.specs.Prelude.{ℕ, ◌==◌, ◌&&◌, nat_lt, if◌then◌else◌, Bool, true, false, List, codes, Option, Some, None}
+use Rattle.std.specs.Prelude.{ℕ, ◌==◌, ◌&&◌, nat_lt, if◌then◌else◌, Bool, true, false, List, codes, Option, Some, None, unwrap_or}
 use Rattle.std.specs.Str.{bytes_eq}
 use Rattle.ucl_order.specs.declared.profile.Profile.{Profile}
 use Rattle.ucl_order.specs.declared.profile.Profile.TheVariants.{Uefa, AwayInTie}
@@ -60,16 +60,8 @@ abbrev pub is_as_asked : LiveArgs → Title → Bool
 is_as_asked options title = is_asked options.group options.profile title
 
 -- where no row says a title: what was asked for, else group A and the order of the Regulations; edition 0
-abbrev pub asked_group : Option ℕ → ℕ
-asked_group None = 65
-asked_group (Some group) = group
-
-abbrev pub asked_order : Option Profile → Profile
-asked_order None = Uefa
-asked_order (Some profile) = profile
-
 abbrev pub asked_title : LiveArgs → Title
-asked_title options = record { group = asked_group options.group; profile = asked_order options.profile; edition = 0 }
+asked_title options = record { group = unwrap_or options.group 65; profile = unwrap_or options.profile Uefa; edition = 0 }
 
 -- ---- a later edition
 

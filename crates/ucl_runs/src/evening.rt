@@ -177,13 +177,13 @@ impl LineMachine for Evening {
         if begun.is_empty() {
             text.put_nothing();
             return match self.stage.missing(row) {
-                Some(fault) => Err(LiveFault::Beginning(fault)),
+                Some(fault) => Err(fault),
                 None => Ok(()),
             };
         }
         self.answer(row, begun, text)?;
         match self.stage.missing(row.saturating_add(1)) {
-            Some(fault) => Err(LiveFault::Beginning(fault)),
+            Some(fault) => Err(fault),
             None => Ok(()),
         }
     }

@@ -1,19 +1,14 @@
 //! A whole run of a follower.
 
-ghost use Rattle.std.specs.Prelude.{◌≡◌, IfErr, IfOk, IfSome, OnOk};
-ghost use Rattle.std.specs.Io.KnownBytes.{Appends};
-ghost use Rattle.ucl_io.specs.Calls.{LogsCalls, device};
-ghost use Rattle.ucl_io.specs.Output.{SinkEnds};
-ghost use Rattle.ucl_io.specs.Pumping.{is_source_failed};
-ghost use Rattle.ucl_runs.specs.Follow.{follow_end, follow_text};
-ghost use Rattle.ucl_runs.specs.Hearing.{FollowFails, IsFollowedSoFar, counts_of};
+ghost use Rattle.ucl_runs.specs.Driven.{IsDriven};
+ghost use Rattle.ucl_runs.specs.Hearing.{follow_due};
 
 use crate::follower::Follower;
 use std::alloc::Global;
 use ucl_command::FollowArgs;
 use ucl_io::{Duplex, MOST_LINE_BYTES, PumpFault, pump};
+use ucl_rows::RunFault;
 use ucl_screen::{Sink, Source};
-use ucl_word::OutOfMemory;
 
 /// The most bytes that are gathered before they are written.
 const PAGE: usize = 4096;
@@ -44,28 +39,8 @@ pub fn follow_run<S: Source, W: Sink, T: Sink + Drop>(
     args: FollowArgs,
     others: T,
     duplex: &mut Duplex<S, W, Follower<T>>,
-) -> Result<Followed, PumpFault<OutOfMemory>>
-    ensures text { OnOk result (IfSome (S.left duplex.old.source)
-        (λ bytes. Appends (W.taken duplex.old.sink) (W.taken duplex.new.sink)
-        (follow_text args bytes))) }
-    ensures counts { IfOk result (λ followed. IfSome (S.left duplex.old.source)
-        (λ bytes. followed ≡ counts_of (follow_end args bytes))) }
-
-    // Just before each call for bytes, also in a run that failed, the screens of all lines that had an end by then were out.
-    ensures prompt { LogsCalls (λ time. S.calls time.0)
-        duplex.old.log.times duplex.new.log.times
-        (S.calls duplex.old.source) (S.calls duplex.new.source)
-        (λ time. IsFollowedSoFar args
-        (S.left duplex.old.source) (S.left time.0) (W.taken duplex.old.sink) (W.taken time.1)) }
-
-    // A failed read is answered exactly where the source has failed, and a failed write where the sink has.
-    ensures read_failed { S.failed duplex.new.source ≡ is_source_failed result }
-    ensures sink { SinkEnds (W.failed duplex.old.sink) (W.failed duplex.new.sink) result }
-
-    // Why it fails, and what is out then.
-    ensures fails { IfErr result (FollowFails args
-        (device S.left S.failed W.taken W.failed duplex.old)
-        (device S.left S.failed W.taken W.failed duplex.new)) }
+) -> Result<Followed, PumpFault<RunFault>>
+    ensures { IsDriven (follow_due args) S.Source W.Sink duplex.old duplex.new result }
 {
     let mut follower = Follower::new(alloc, args, others);
     pump(&mut follower, MOST_LINE_BYTES, PAGE, duplex)?;

@@ -3,7 +3,7 @@
 ghost use Rattle.std.specs.Prelude.{◌≡◌};
 ghost use Rattle.ucl_screen.specs.Screen.{IsGroup};
 ghost use Rattle.ucl_rows.specs.Telling.{Tells};
-ghost use Rattle.ucl_runs.specs.FollowProgram.{EndsFollowing, RunsFollowing, counts_line, other_line, told_fault};
+ghost use Rattle.ucl_runs.specs.FollowProgram.{EndsFollowing, RunsFollowing, counts_line, other_line};
 
 use crate::follow::{Followed, follow_run};
 use crate::follower::Follower;
@@ -13,9 +13,8 @@ use std::alloc::Global;
 use ucl_command::{FollowArgs, LineFault};
 use ucl_io::{Duplex, PumpFault};
 use ucl_json::Title;
-use ucl_rows::{RunFault, ended_unasked, put_text, tell};
-use ucl_screen::{InputFault, Sink, Source};
-use ucl_word::OutOfMemory;
+use ucl_rows::{RunFault, ended_unasked, of_driver, put_text, tell};
+use ucl_screen::{Sink, Source};
 
 /// How many lines came, how many were shown, and how many were passed over.
 fn counts_line(followed: Followed) -> ArrayString<128>
@@ -48,20 +47,8 @@ pub(crate) fn other_line(line: u64, title: Title) -> ArrayString<128>
     text
 }
 
-/// The fault of a program that follows.
-fn told_fault(fault: PumpFault<OutOfMemory>) -> RunFault
-    ensures { result ≡ told_fault fault }
-{
-    match fault {
-        PumpFault::ReadFailed { bytes } => RunFault::Input(InputFault::ReadFailed { bytes }),
-        PumpFault::TooLong => RunFault::Input(InputFault::TooLong),
-        PumpFault::WriteFailed { written } => RunFault::WriteFailed { written },
-        PumpFault::Machine(_) => RunFault::OutOfMemory,
-    }
-}
-
 /// Tells how the lines were followed, or the fault, and gives the exit status.
-fn told<E: Sink>(errors: &mut E, done: Result<Followed, PumpFault<OutOfMemory>>) -> u8
+fn told<E: Sink>(errors: &mut E, done: Result<Followed, PumpFault<RunFault>>) -> u8
     ensures { EndsFollowing done result
         (E.failed errors.new) (E.taken errors.old) (E.taken errors.new) }
 {
@@ -70,7 +57,7 @@ fn told<E: Sink>(errors: &mut E, done: Result<Followed, PumpFault<OutOfMemory>>)
             let _ = put_text(errors, counts_line(followed).as_str().as_bytes());
             0
         }
-        Err(fault) => tell(errors, told_fault(fault)),
+        Err(fault) => tell(errors, of_driver(fault)),
     }
 }
 

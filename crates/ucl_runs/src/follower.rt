@@ -14,6 +14,7 @@ use ucl_command::{FollowArgs, FollowShape};
 use ucl_io::{LineMachine, Text};
 use ucl_json::{Moment, Title, edition_screen_json, moment_on};
 use ucl_order::Profile;
+use ucl_rows::RunFault;
 use ucl_screen::{Sink, matches, screen};
 use ucl_word::OutOfMemory;
 
@@ -114,7 +115,7 @@ impl<T> Follower<T> {
 impl<T: Sink> LineMachine for Follower<T> {
     type Answer = Sight;
 
-    type Fault = OutOfMemory;
+    type Fault = RunFault;
 
     ghost ready = { λ _. ⊤ };
 
@@ -128,7 +129,7 @@ impl<T: Sink> LineMachine for Follower<T> {
 
     ghost stops_at_end = { λ _ _ _ _ _. ⊤ };
 
-    fn answer(&mut self, _row: u64, line: &[u8], text: &mut Sight) -> Result<(), OutOfMemory> {
+    fn answer(&mut self, _row: u64, line: &[u8], text: &mut Sight) -> Result<(), RunFault> {
         let told = moment_on(self.alloc, line)?;
         let row = self.following.lines.saturating_add(1);
         let (group, profile) = (self.following.group, self.following.profile);
@@ -157,7 +158,7 @@ impl<T: Sink> LineMachine for Follower<T> {
         Ok(())
     }
 
-    fn end(&mut self, _row: u64, _begun: &[u8], text: &mut Sight) -> Result<(), OutOfMemory> {
+    fn end(&mut self, _row: u64, _begun: &[u8], text: &mut Sight) -> Result<(), RunFault> {
         *text = Sight::Nothing;
         Ok(())
     }

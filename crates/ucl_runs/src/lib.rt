@@ -45,7 +45,7 @@ pub use follow_program::run_following;
 pub use follower::{Follower, Sight};
 pub use gate::{Gate, OpenGate};
 pub use live::live_run;
-pub use live_fault::{BeginningFault, LiveFault};
+pub use live_fault::LiveFault;
 pub use live_laws::{
     beginnings_are_answered, boards_begin_again, boards_take_events, evenings_are_sequential,
     json_answers_are_lines, lines_are_read_whole, refused_evenings_are_silent,

@@ -4,11 +4,11 @@ ghost use Rattle.ucl_runs.specs.LiveProgram.{EndsHeld, RunsEvening};
 
 use crate::evening::Evening;
 use crate::live::live_run;
-use crate::live_fault::{LiveFault, run_fault};
+use crate::live_fault::LiveFault;
 use std::alloc::Global;
 use ucl_command::{LineFault, LiveArgs};
 use ucl_io::{Duplex, PumpFault};
-use ucl_rows::{ended_unasked, tell, tell_refusal};
+use ucl_rows::{ended_unasked, of_driver, tell, tell_refusal};
 use ucl_screen::{Sink, Source};
 
 /// What is told where the first row says another group or order than was asked for.
@@ -20,9 +20,9 @@ fn told<E: Sink>(errors: &mut E, done: Result<(), PumpFault<LiveFault>>) -> u8
 {
     match done {
         Ok(()) => 0,
-        Err(fault) => match run_fault(fault) {
-            Some(fault) => tell(errors, fault),
-            None => tell_refusal(errors, OTHER_GROUP),
+        Err(fault) => match of_driver(fault) {
+            LiveFault::Run(fault) => tell(errors, fault),
+            LiveFault::OtherGroup => tell_refusal(errors, OTHER_GROUP),
         },
     }
 }

@@ -3,19 +3,19 @@
 ghost use Rattle.std.specs.Prelude.{◌≡◌, ◌+◌, ◌-◌, ◌^◌, ◌<◌, ◌≤◌, ◌++◌, [], ◌∷◌, IfOk, OnOk, length, map, option_map};
 ghost use Rattle.ucl_order.specs.Roster.{bad_slot, club_seen};
 ghost use Rattle.ucl_rows.specs.Rows.{fields_seen};
-ghost use Rattle.ucl_runs.specs.Stages.{Beginning, after_beginning, after_club, club_said, missing, told_row, with_clubs, with_roster};
+ghost use Rattle.ucl_runs.specs.Stages.{Beginning, after_beginning, after_club, bad_row, club_said, missing, told_row, with_clubs, with_roster};
 ghost use Rattle.ucl_runs.specs.LiveText.{next_title};
 ghost use Rattle.ucl_runs.specs.Seen.{Becomes, BecomesIfMemory, clubs_seen, stage_seen};
 
 use crate::heading::Heading;
-use crate::live_fault::{BeginningFault, LiveFault};
+use crate::live_fault::LiveFault;
 use crate::title::{is_as_asked, is_group_row, title_said};
 use std::alloc::{AllocError, Global};
 use ucl_board::Board;
 use ucl_command::LiveArgs;
 use ucl_order::{Club, Roster};
-use ucl_rows::RowFields;
-use ucl_screen::club_of_fields;
+use ucl_rows::{RowFields, RunFault};
+use ucl_screen::{InputFault, club_of_fields};
 
 /// The clubs that are named so far, fewer than four.
 #[derive(Drop)]
@@ -55,11 +55,11 @@ fn told_row(row: u64) -> u32
     }
 }
 
-/// A row that is missing, or is not as its place demands.
-fn bad_row(row: u64) -> BeginningFault
-    ensures { result ≡ BeginningFault.BadRow (told_row row) }
+/// That a row is missing, or is not as its place demands.
+fn bad_row(row: u64) -> LiveFault
+    ensures { result ≡ bad_row row }
 {
-    BeginningFault::BadRow { row: told_row(row) }
+    LiveFault::Run(RunFault::Input(InputFault::BadRow { row: told_row(row) }))
 }
 
 /// The club that a row says.
@@ -89,7 +89,7 @@ impl Clubs {
     }
 
     /// The stage with one club more.
-    fn with(self, club: Club) -> Result<Stage, BeginningFault>
+    fn with(self, club: Club) -> Result<Stage, LiveFault>
         ensures { Becomes (with_clubs (clubs_seen self ++ club_seen club ∷ [])) result }
     {
         let clubs = match self {
@@ -103,7 +103,7 @@ impl Clubs {
 }
 
 /// The stage after four clubs.
-fn named(clubs: [Club; 4]) -> Result<Stage, BeginningFault>
+fn named(clubs: [Club; 4]) -> Result<Stage, LiveFault>
     ensures { Becomes (with_roster (map club_seen clubs) (bad_slot (map club_seen clubs))) result }
 {
     match Roster::new(clubs) {
@@ -111,7 +111,7 @@ fn named(clubs: [Club; 4]) -> Result<Stage, BeginningFault>
             roster,
             board: Board::fresh(),
         })),
-        Err(bad) => Err(BeginningFault::BadRoster { slot: bad.slot }),
+        Err(bad) => Err(LiveFault::Run(RunFault::Input(InputFault::BadRoster { slot: bad.slot }))),
     }
 }
 
@@ -127,8 +127,8 @@ pub(crate) fn with_club(
         result }
 {
     match club_said(alloc, clubs.next_slot(), said)? {
-        None => Err(LiveFault::Beginning(bad_row(row))),
-        Some(club) => Ok(clubs.with(club)?),
+        None => Err(bad_row(row)),
+        Some(club) => clubs.with(club),
     }
 }
 
@@ -150,7 +150,7 @@ pub(crate) fn with_first(
         return with_club(alloc, row, Clubs::NoClub, said);
     }
     match title_said(said) {
-        None => Err(LiveFault::Beginning(bad_row(row))),
+        None => Err(bad_row(row)),
         Some(other) if is_as_asked(options, other) => {
             *heading = Heading {
                 title: other,
@@ -158,13 +158,13 @@ pub(crate) fn with_first(
             };
             Ok(Stage::Naming(Clubs::NoClub))
         }
-        Some(_) => Err(LiveFault::Beginning(BeginningFault::OtherGroup)),
+        Some(_) => Err(LiveFault::OtherGroup),
     }
 }
 
 impl Stage {
     /// Why an evening is refused that ends here, before a line with this number.
-    pub(crate) fn missing(&self, row: u64) -> Option<BeginningFault>
+    pub(crate) fn missing(&self, row: u64) -> Option<LiveFault>
         ensures { result ≡ missing row (stage_seen self.now) }
     {
         match self {

@@ -1,6 +1,6 @@
 //! A thread for each worker of a night.
 
-ghost use Rattle.std.specs.Prelude.{◌≡◌, IfOk};
+ghost use Rattle.std.specs.Prelude.{◌≡◌, IfErr, IfOk};
 ghost use Rattle.ucl_screen.specs.Screen.{IsGroup};
 ghost use Rattle.ucl_rows.specs.declared.fault.RunFault.TheVariants as RunFault;
 ghost use Rattle.ucl_runs.specs.Workers.{IsFreshOn, IsNewOn, HasEnteredOn, HasShownOn};
@@ -45,18 +45,6 @@ impl<'n, B: LiveBoard, G: Gate> Promise<Result<Shown<B::ReaderPass>, OutOfMemory
         IfOk end (HasShownOn B.LiveBoard p.board.value p.plan.value p.before.value) };
 }
 
-/// No thread could be had for a worker.
-#[derive(Clone, Copy, Debug, PartialEq, Eq)]
-pub struct NoThread;
-
-impl From<NoThread> for RunFault {
-    ghost from_gives = { λ _ f. f ≡ RunFault.NoThread };
-
-    fn from(_error: NoThread) -> RunFault {
-        RunFault::NoThread
-    }
-}
-
 /// Starts the thread of a reporter, who enters its rows of the script.
 fn start_reporter<'s, E, B: LiveBoard, G: Gate, R: Wait + Sync>(
     scope: &Scope<'s, E>,
@@ -65,7 +53,7 @@ fn start_reporter<'s, E, B: LiveBoard, G: Gate, R: Wait + Sync>(
     pass: B::ReporterPass,
     reporter: u8,
     plan: &'s Plan<'s, G>,
-) -> Result<PromisedHandle<B::ReporterPass, Entering<'s, B, G>>, NoThread>
+) -> Result<PromisedHandle<B::ReporterPass, Entering<'s, B, G>>, RunFault>
 where
     B::ReporterPass: 's,
     requires fresh { IsFreshOn B.LiveBoard board.now pass }
@@ -96,7 +84,7 @@ where
             )
         },
     );
-    started.map_err(|_| NoThread)
+    started.map_err(|_| RunFault::NoThread)
 }
 
 /// Starts the thread of a reader, who takes its readings.
@@ -108,7 +96,7 @@ fn start_reader<'s, E, B: LiveBoard, G: Gate, R: Wait + Sync>(
     pass: B::ReaderPass,
     worker: u8,
     plan: &'s Plan<'s, G>,
-) -> Result<PromisedHandle<Result<Shown<B::ReaderPass>, OutOfMemory>, Showing<'s, B, G>>, NoThread>
+) -> Result<PromisedHandle<Result<Shown<B::ReaderPass>, OutOfMemory>, Showing<'s, B, G>>, RunFault>
 where
     B::ReaderPass: 's,
     requires new { IsNewOn B.LiveBoard board.now pass }
@@ -129,7 +117,7 @@ where
             ensures { IfOk result (HasShownOn B.LiveBoard board.entry.now plan.entry.now pass) }
         { show_screens(rt, alloc, board, pass, worker, plan) },
     );
-    started.map_err(|_| NoThread)
+    started.map_err(|_| RunFault::NoThread)
 }
 
 /// The four workers of a night, each by what it is lent, or by what it hands back.
@@ -149,7 +137,7 @@ pub fn work<B: LiveBoard, G: Gate, R: Threads + Wait + Sync>(
     board: &B,
     lent: Workers<B::ReporterPass, B::ReaderPass>,
     plan: &Plan<'_, G>,
-) -> Result<Workers<B::ReporterPass, Result<Shown<B::ReaderPass>, OutOfMemory>>, NoThread>
+) -> Result<Workers<B::ReporterPass, Result<Shown<B::ReaderPass>, OutOfMemory>>, RunFault>
     requires reporters { IsFreshOn B.LiveBoard board.now lent.reporter_1
         × IsFreshOn B.LiveBoard board.now lent.reporter_2 }
     requires readers { IsNewOn B.LiveBoard board.now lent.reader_1
@@ -163,13 +151,14 @@ pub fn work<B: LiveBoard, G: Gate, R: Threads + Wait + Sync>(
         (HasShownOn B.LiveBoard board.entry.now plan.entry.now lent.reader_1)) }
     ensures reader_2 { IfOk result (λ w. IfOk w.reader_2
         (HasShownOn B.LiveBoard board.entry.now plan.entry.now lent.reader_2)) }
+    ensures failed { IfErr result (λ f. f ≡ RunFault.NoThread) }
 {
     thread::scope(
         thread::scope_env(),
         rt,
         move |scope| -> Result<
             Workers<B::ReporterPass, Result<Shown<B::ReaderPass>, OutOfMemory>>,
-            NoThread,
+            RunFault,
         >
             requires reporters { IsFreshOn B.LiveBoard board.now lent.reporter_1
                 × IsFreshOn B.LiveBoard board.now lent.reporter_2 }
@@ -184,6 +173,7 @@ pub fn work<B: LiveBoard, G: Gate, R: Threads + Wait + Sync>(
                 (HasShownOn B.LiveBoard board.entry.now plan.entry.now lent.reader_1)) }
             ensures reader_2 { IfOk result (λ w. IfOk w.reader_2
                 (HasShownOn B.LiveBoard board.entry.now plan.entry.now lent.reader_2)) }
+            ensures failed { IfErr result (λ f. f ≡ RunFault.NoThread) }
         {
             let reporter_1 = start_reporter(scope, rt, board, lent.reporter_1, 1, plan);
             let reporter_2 = start_reporter(scope, rt, board, lent.reporter_2, 2, plan);
@@ -196,7 +186,7 @@ pub fn work<B: LiveBoard, G: Gate, R: Threads + Wait + Sync>(
                     reader_1: reader_1.join(rt),
                     reader_2: reader_2.join(rt),
                 }),
-                _ => Err(NoThread),
+                _ => Err(RunFault::NoThread),
             }
         },
     )

@@ -1,12 +1,11 @@
 //! What the first row may say of the board.
 
-ghost use Rattle.std.specs.Prelude.{◌≡◌, true, IfSome};
+ghost use Rattle.std.specs.Prelude.{◌≡◌, IfSome};
 ghost use Rattle.ucl_order.specs.Names.{profile_named};
 ghost use Rattle.ucl_screen.specs.Rows.{four_seen};
 ghost use Rattle.ucl_screen.specs.Screen.{IsGroup};
-ghost use Rattle.ucl_command.specs.Groups.{may_be_asked};
 ghost use Rattle.ucl_rows.specs.Rows.{Row, fields_seen};
-ghost use Rattle.ucl_runs.specs.Titles.{asked_group, asked_order, asked_title, edition_said, is_as_asked, is_asked, is_asked_group, is_asked_order, is_group_row, is_same_order, title_by, title_said};
+ghost use Rattle.ucl_runs.specs.Titles.{asked_title, edition_said, is_as_asked, is_asked, is_group_row, title_by, title_said};
 
 use ucl_command::LiveArgs;
 use ucl_json::Title;
@@ -64,47 +63,11 @@ pub(crate) fn title_said(row: &RowFields<'_>) -> Option<Title>
     }
 }
 
-/// Whether a group is that which was asked for, where one was.
-fn is_asked_group(asked: Option<u8>, group: u8) -> bool
-    ensures { result ≡ is_asked_group asked group }
-{
-    match asked {
-        None => true,
-        Some(asked) => asked == group,
-    }
-}
-
-/// Whether two orders are the same.
-fn is_same_order(one: Profile, other: Profile) -> bool
-    ensures { result ≡ is_same_order one other }
-{
-    match one {
-        Profile::Uefa => match other {
-            Profile::Uefa => true,
-            Profile::AwayInTie => false,
-        },
-        Profile::AwayInTie => match other {
-            Profile::Uefa => false,
-            Profile::AwayInTie => true,
-        },
-    }
-}
-
-/// Whether an order is that which was asked for, where one was.
-fn is_asked_order(asked: Option<Profile>, order: Profile) -> bool
-    ensures { result ≡ is_asked_order asked order }
-{
-    match asked {
-        None => true,
-        Some(asked) => is_same_order(asked, order),
-    }
-}
-
 /// Whether the group and the order of a title are those that were asked for, where some were.
 pub(crate) fn is_asked(group: Option<u8>, profile: Option<Profile>, title: Title) -> bool
     ensures { result ≡ is_asked group profile title }
 {
-    is_asked_group(group, title.group) && is_asked_order(profile, title.profile)
+    group.unwrap_or(title.group) == title.group && profile.unwrap_or(title.profile) == title.profile
 }
 
 /// Whether the group and the order are those that the options ask for, where they do.
@@ -114,37 +77,15 @@ pub(crate) fn is_as_asked(options: &LiveArgs, title: Title) -> bool
     is_asked(options.group, options.profile, title)
 }
 
-/// The group that was asked for, else A.
+/// The title where no row says one: what was asked for, else group A and the order of the Regulations.
 #[tactic(auto, using(ucl_command::proofs::Letters::asked_letter))]
-fn asked_group(asked: Option<u8>) -> u8
-    requires { may_be_asked asked ≡ true }
-    ensures told { result ≡ asked_group asked }
-    ensures letter { IsGroup result }
-{
-    match asked {
-        None => b'A',
-        Some(group) => group,
-    }
-}
-
-/// The order that was asked for, else that of the Regulations.
-fn asked_order(asked: Option<Profile>) -> Profile
-    ensures { result ≡ asked_order asked }
-{
-    match asked {
-        None => Profile::Uefa,
-        Some(profile) => profile,
-    }
-}
-
-/// The title where no row says one.
 pub(crate) fn asked_title(options: &LiveArgs) -> Title
     ensures told { result ≡ asked_title options.now }
     ensures letter { IsGroup result.group }
 {
     Title {
-        group: asked_group(options.group),
-        profile: asked_order(options.profile),
+        group: options.group.unwrap_or(b'A'),
+        profile: options.profile.unwrap_or(Profile::Uefa),
         edition: 0,
     }
 }

@@ -14,11 +14,11 @@ returns-in_err-pump g c =
     let at = seen g.S.Source.left g.W.Sink.taken in
     rw (p.1, p.2) (record {
       text = tt;
-      counts = tt;
+      ends = tt;
       prompt = logs-as _ _ _ _ _ _ _
           (λ time u. followed_at _ c.args.args before m fresh.following fresh.shape (at time) run.turns run.given.turned u) run.prompt;
       read_failed = pump.read_failed;
-      sink = pump.sink;
+      sink_ends = pump.sink;
       fails = run_fails _ c.args.args before m fresh.following fresh.shape (seen_as c.pump.new.duplex) c.pump.new.machine _
           c.in_err-pump.field-0.0 run;
     })
@@ -35,10 +35,10 @@ returns g c =
     let at = seen g.S.Source.left g.W.Sink.taken in
     record {
       text = run_text _ c.args.args before m fresh.following fresh.shape after c.pump.new.machine _ _ run;
-      counts = run_counts _ c.args.args before m fresh.following fresh.shape after c.pump.new.machine _ _ run;
+      ends = run_counts _ c.args.args before m fresh.following fresh.shape after c.pump.new.machine _ _ run;
       prompt = logs-as _ _ _ _ _ _ _
           (λ time u. followed_at _ c.args.args before m fresh.following fresh.shape (at time) run.turns run.given.turned u) run.prompt;
       read_failed = pump.read_failed;
-      sink = pump.sink;
+      sink_ends = pump.sink;
       fails = tt;
     }

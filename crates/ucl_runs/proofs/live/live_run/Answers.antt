@@ -13,11 +13,11 @@ returns-in_err-pump g c =
     let at = seen g.S.Source.left g.W.Sink.taken in
     rw (p.1, p.2, ← c.new-evening.ensures) (record {
       text = tt;
-      complete = tt;
+      ends = tt;
       prompt = logs-as _ _ _ _ _ _ _
           (λ time u. answered_at before c.new-evening.result (at time) run.turns run.given.turned u) run.prompt;
       read_failed = pump.read_failed;
-      sink = pump.sink;
+      sink_ends = pump.sink;
       fails = run_fails before c.new-evening.result after c.pump.new.machine _ c.in_err-pump.field-0.0 run;
     })
 
@@ -31,10 +31,10 @@ returns g c =
     let at = seen g.S.Source.left g.W.Sink.taken in
     rw (← c.new-evening.ensures) (record {
       text = run_text before c.new-evening.result after c.pump.new.machine _ _ run;
-      complete = run_complete before c.new-evening.result after c.pump.new.machine _ _ run;
+      ends = run_complete before c.new-evening.result after c.pump.new.machine _ _ run;
       prompt = logs-as _ _ _ _ _ _ _
           (λ time u. answered_at before c.new-evening.result (at time) run.turns run.given.turned u) run.prompt;
       read_failed = pump.read_failed;
-      sink = pump.sink;
+      sink_ends = pump.sink;
       fails = tt;
     })

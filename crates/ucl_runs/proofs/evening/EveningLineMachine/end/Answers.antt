@@ -1,11 +1,12 @@
 use Rattle.ucl_runs.proofs.Common.{err_from_is_err_and, evening_of, sym, ◌∙◌}
-use Rattle.ucl_runs.proofs.OneByOne.{none-answers, none-missing, some-answers, some-missing, some-stops}
+use Rattle.ucl_runs.proofs.OneByOne.{misses, none-answers, none-missing, some-answers, some-missing, some-stops}
 use Rattle.ucl_rows.proofs.RowEnds.{empty-list, full-list}
 use Rattle.ucl_runs.proofs.evening.EveningLineMachine.end.Goals as goal
 
 pub returns-in-Some-clause-stops : goal.returns-in-Some-clause-stops
 returns-in-Some-clause-stops c =
-    none-missing (evening_of c.args.self.now c.args.row) c.args.begun.now (empty-list c.is_empty.result _ c.is_empty.ensures c.if-is_empty.true) ∙ sym c.in-Some.ensures
+    let none = empty-list c.is_empty.result _ c.is_empty.ensures c.if-is_empty.true in
+    misses _ _ c.in-Some.fault _ _ (sym c.in-Some.ensures) (none-missing (evening_of c.args.self.now c.args.row) c.args.begun.now none ∙ sym c.in-Some.ensures)
 
 pub returns-in-None-clause-answers : goal.returns-in-None-clause-answers
 returns-in-None-clause-answers c =
@@ -22,7 +23,9 @@ returns-in_err-answer-clause-stops c =
 pub returns-in-Some-missing-clause-stops : goal.returns-in-Some-missing-clause-stops
 returns-in-Some-missing-clause-stops c =
     let some = full-list c.is_empty.result _ c.is_empty.ensures c.if-is_empty.false in
-    some-missing (evening_of c.args.self.now c.args.row) _ c.args.begun.now some c.in_ok-answer.ensures.answers.0 ∙ rw (← c.saturating_add.ensures) (sym c.in-Some-missing.ensures)
+    misses _ _ c.in-Some-missing.fault _ _ (sym c.in-Some-missing.ensures)
+    (some-missing (evening_of c.args.self.now c.args.row) _ c.args.begun.now some c.in_ok-answer.ensures.answers.0
+    ∙ rw (← c.saturating_add.ensures) (sym c.in-Some-missing.ensures))
 
 pub returns-in-None-missing-clause-answers : goal.returns-in-None-missing-clause-answers
 returns-in-None-missing-clause-answers c =

@@ -1,5 +1,4 @@
-use Rattle.ucl_runs.proofs.Common.{Request, answer_of, ap, ap₂, err_from_is_err_and, is_bad, next_board, request_of, subst, ◌&&◌, ◌∙◌}
-use Rattle.ucl_rows.specs.Rows.{fields_seen}
+use Rattle.ucl_runs.proofs.Common.{Request, answer_of, ap, ap₂, err_from_is_err_and, is_bad, next_board, subst, ◌&&◌, ◌∙◌}
 use Rattle.ucl_rows.specs.BadRows.{shown_text}
 use Rattle.ucl_runs.specs.declared.heading.Heading.{Heading}
 use Rattle.ucl_runs.specs.declared.stage.Table.{Table}
