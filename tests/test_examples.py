@@ -58,8 +58,8 @@ def test_program_of_the_readme():
     assert next(line for line in text_of(TOP / "crates.txt").splitlines() if line.startswith("ucl_example:")) in README
 
 
-# Calls that lend out a board's cell or table and a pass's seat are there for their contracts, and have no example; nor have laws, whose body is empty.
-FOR_THEIR_CONTRACTS = {"cell", "table", "seat"}
+# The calls that lend out a pass's seat are there for their contracts, and have no example; nor have laws, whose body is empty.
+FOR_THEIR_CONTRACTS = {"seat"}
 CALL = re.compile(r"((?:^ *///(?: .*)?\n)*)(?:^ *#\[.*\n)*^(    )?(pub )?fn (\w+)((?s:.*?)(?:\{\}?|;)$)", re.M)
 BLOCK = re.compile(r"^ *//[/!] ```\w*\n(.*?)^ *//[/!] ```$", re.M | re.S)
 

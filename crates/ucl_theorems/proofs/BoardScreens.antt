@@ -52,6 +52,7 @@ boards_have s r =
         calls = records_are seat v.pass.number one.state v.doing (one.each seat (word_actor v) (at_map word_actor s.views seat v at));
       };
       only = all_of_passes s.views one.state.calls one.only;
+      apart = λ i j v w here there. r.shared.apart i j v.pass w.pass (at_map (λ (u : WordView). u.pass) s.views i v here) (at_map (λ (u : WordView). u.pass) s.views j w there);
       one = screens_of_run cast steps one.state one.run;
     }
 

@@ -1,5 +1,5 @@
 -- One history for all callers, and the screens of what its readers read.
-use Rattle.std.specs.Prelude.{◌≡◌, ℕ, ◌++◌, true, List, All, take, drop, flat_map, Some}
+use Rattle.std.specs.Prelude.{◌≡◌, ℕ, ◌<◌, ◌++◌, true, List, All, take, drop, flat_map, Some}
 use mathlib.Core.List.{IsPrefix}
 use mathlib.Core.Option.{some}
 use lib.ListN.{get_elem?}
@@ -56,8 +56,8 @@ pub record IsOfRun (state : MachineState) (seat : ℕ) (v : WordView) : Type 0 w
   pub calls : records_by seat v.pass.number state ≡ records_told seat v.pass.number v.doing
 
 -- a word board between two steps of any threads: there is one run of the machine, from the fresh board to the words that are there, in which
--- each call begins with its first access and ends with its last; each pass is of this run, there are no calls but those of passes, and all of
--- it is explained by one history
+-- each call begins with its first access and ends with its last; each pass is of this run, there are no calls but those of passes, no two of
+-- which have one number, and all of it is explained by one history
 pub record IsOneRun (s : State Entry WordView) : Type 0 where
   pub cast : Cast
   pub moves : List Move
@@ -66,6 +66,9 @@ pub record IsOneRun (s : State Entry WordView) : Type 0 where
   pub words : state.words ≡ drop 1 s.words
   pub each : (seat : ℕ) (v : WordView) → get_elem? s.views seat ≡ some v → IsOfRun state seat v
   pub only : All (IsOfPass s.views) state.calls
+  pub apart : (i j : ℕ) (v w : WordView)
+      → get_elem? s.views i ≡ some v → get_elem? s.views j ≡ some w
+      → 0 < v.pass.number → v.pass.number ≡ w.pass.number → i ≡ j
   pub one : HasOneHistory (steps_of_moves moves) state.history state.calls
 
 -- so is each state that meets the rule of the board

@@ -1,5 +1,5 @@
 use Rattle.ucl_pass.proofs.Common.{ℕ, ◌+◌, ◌≤◌, rules, arith, refl, sym, ◌∙◌, subst, length-append, cell_view, entry_of, pass_view_of}
-use Rattle.ucl_pass.proofs.Common.{greatest_version, IsNextBoard, StoresEvent, Ok, room}
+use Rattle.ucl_pass.proofs.Common.{greatest_version, IsNextBoard, StoresEvent, Ok, room, CellReported, cell_pass_of}
 use Rattle.ucl_pass.proofs.CallsBySteps.{are_words, tried_more, tries_again, next_words, refused_report, accepted_report}
 use Rattle.ucl_pass.proofs.cell_board.CellBoardLiveBoard.report.Goals as goal
 
@@ -53,22 +53,17 @@ overflow_add-pass g c =
     all.says.accepted refl all.says.always.sound (c.pass.invariant.2 ∙ sym c.retry.invariant.accepted) in
     omega arith
 
-pub invariant_of-pass-then-is_ok : goal.invariant_of-pass-then-is_ok
-invariant_of-pass-then-is_ok g c =
-    let all = accepted_report _ _ (c.store_event-stored.ensures.own ∙ (c.load-words.ensures.own ∙ c.retry.invariant.own))
+accepted : (g : _) (c : goal.After-drop-iterator-then-is_ok g)
+    → CellReported (cell_pass_of c.pass.inside.seat) c.args.call.now (Ok c.in_ok-accepted.accepted) (cell_pass_of c.store_event-stored.new.seat)
+accepted g c = accepted_report _ _ (c.store_event-stored.ensures.own ∙ (c.load-words.ensures.own ∙ c.retry.invariant.own))
     (cell_view c.pass.inside.seat) (cell_view c.retry.pass-inside.seat) (cell_view c.load-words.new.seat) c.load-words.result
     c.retry.invariant.tried c.load-words.ensures.looks (cell_view c.store_event-stored.new.seat) c.words_with-next.result
     c.store_event-stored.result c.args.call.now c.in_ok-accepted.accepted c.store_event-stored.ensures.stored
     (sym c.is_ok.ensures.value ∙ c.if-is_ok.true)
-    (λ h legal is. c.in_ok-accepted.ensures.sequential h legal (is ∙ sym c.board_at-board.ensures)) in
-    search (arith, all.says, length-append)
+    (λ h legal is. c.in_ok-accepted.ensures.sequential h legal (is ∙ sym c.board_at-board.ensures))
+
+pub invariant_of-pass-then-is_ok : goal.invariant_of-pass-then-is_ok
+invariant_of-pass-then-is_ok g c = let all = accepted g c in search (arith, all.says, length-append)
 
 pub returns-then-is_ok : goal.returns-then-is_ok
-returns-then-is_ok g c =
-    let all = accepted_report _ _ (c.store_event-stored.ensures.own ∙ (c.load-words.ensures.own ∙ c.retry.invariant.own))
-    (cell_view c.pass.inside.seat) (cell_view c.retry.pass-inside.seat) (cell_view c.load-words.new.seat) c.load-words.result
-    c.retry.invariant.tried c.load-words.ensures.looks (cell_view c.store_event-stored.new.seat) c.words_with-next.result
-    c.store_event-stored.result c.args.call.now c.in_ok-accepted.accepted c.store_event-stored.ensures.stored
-    (sym c.is_ok.ensures.value ∙ c.if-is_ok.true)
-    (λ h legal is. c.in_ok-accepted.ensures.sequential h legal (is ∙ sym c.board_at-board.ensures)) in
-    search (arith, rules, all)
+returns-then-is_ok g c = let all = accepted g c in search (arith, rules, all)
