@@ -1,5 +1,5 @@
 -- What holds of all words, of the numbers of faults, and of how long screens are.
-use Rattle.std.specs.Prelude.{◌≡◌, ◌↔◌, ◌<◌, ◌≤◌, ◌^◌, ℕ, ◌++◌, true, List, length, Option, None, Some, Ok, Err, codes, decimal}
+use Rattle.std.specs.Prelude.{◌≡◌, ◌↔◌, ◌<◌, ◌≤◌, ◌^◌, ℕ, ◌++◌, true, List, length, Some, Ok, Err, codes, decimal}
 use Rattle.ucl_word.specs.Layout.{IsWord}
 use Rattle.ucl_board.specs.Words.{AreReadAs, AreWords, IsFirstBad}
 use Rattle.ucl_order.specs.declared.profile.Profile.{Profile}
@@ -11,10 +11,9 @@ use Rattle.ucl_screen.specs.Texts.{input_fault_text}
 use Rattle.ucl_screen.specs.WordsRead.{is_word, read_words}
 use Rattle.ucl_json.specs.Lines.{json_line}
 use Rattle.ucl_json.specs.Values.{bad_row_value, bad_value, screen_value}
-use Rattle.ucl_c.specs.declared.fault.Fault.{Fault}
-use Rattle.ucl_c.specs.declared.fault.Fault.TheVariants.{BadWord, BadRow, BadRoster, OutOfMemory, TooLong}
+use Rattle.ucl_c.specs.declared.fault.Fault.TheVariants.{BadRow, OutOfMemory}
 use Rattle.ucl_c.specs.Codes.{name_of_status}
-use Rattle.ucl_c.specs.Faults.{fault_code}
+use Rattle.ucl_c.specs.Faults.{fault_code, of_input}
 
 -- the words that calls judge are read as the board that the definitions of a board say, or their first bad word is told
 pub record AreJudged (words : List ℕ) : Type 0 where
@@ -26,23 +25,16 @@ pub record WordsAreJudged : Type 0 where
   pub twelve : (words : List ℕ) → length words ≡ 12 → AreJudged words
   pub single : (word : ℕ) → (is_word word ≡ true) ↔ IsWord word
 
--- the faults of an input that calls tell too
-abbrev pub told_as : InputFault → Option Fault
-told_as (input.BadWordAt index) = Some (BadWord index)
-told_as (input.BadRow row) = Some (BadRow row)
-told_as (input.BadRoster slot) = Some (BadRoster slot)
-told_as input.TooLong = Some TooLong
-told_as _ = None
-
--- the command line writes this fault of an input by the number of this one
-pub record IsWrittenByNumber (fault : InputFault) (told : Fault) : Type 0 where
+-- the command line writes this fault of an input by the number of the fault that calls tell
+pub record IsWrittenByNumber (fault : InputFault) : Type 0 where
   pub place : List ℕ
-  pub written : input_fault_text fault ≡ codes "input refused " ++ decimal (fault_code told) ++ codes ": " ++ place
+  pub written : input_fault_text fault ≡ codes "input refused " ++ decimal (fault_code (of_input fault)) ++ codes ": " ++ place
 
--- the same, where this one is told at all
-abbrev pub IsWrittenAs : Option Fault → InputFault → Type 0
-IsWrittenAs (Some told) fault = IsWrittenByNumber fault told
-IsWrittenAs None fault = Unit {0}
+-- and so it writes want of memory; no call reads from a source that fails
+abbrev pub IsWrittenAsTold : InputFault → Type 0
+IsWrittenAsTold (input.ReadFailed bytes) = Unit {0}
+IsWrittenAsTold input.OutOfMemory = input_fault_text input.OutOfMemory ≡ codes "out of memory " ++ decimal (fault_code OutOfMemory)
+IsWrittenAsTold fault = IsWrittenByNumber fault
 
 -- an evening answers a bad row by the number and the name of its status
 pub record IsAnsweredByName (row : ℕ) : Type 0 where
@@ -52,8 +44,7 @@ pub record IsAnsweredByName (row : ℕ) : Type 0 where
 
 -- the programs write each fault that calls tell too by its number
 pub record FaultsAreWrittenByNumber : Type 0 where
-  pub inputs : (fault : InputFault) → IsWrittenAs (told_as fault) fault
-  pub memory : input_fault_text input.OutOfMemory ≡ codes "out of memory " ++ decimal (fault_code OutOfMemory)
+  pub inputs : (fault : InputFault) → IsWrittenAsTold fault
   pub rows : (row : ℕ) → IsAnsweredByName row
 
 -- the screen of any board has no more bytes than this, and neither has the line of JSON that answers a row with it

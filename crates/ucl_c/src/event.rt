@@ -77,19 +77,8 @@ fn event_of(word: u64, reporter: u32, kind: u32) -> Result<(ReporterNo, Kind), F
     Ok((reporter, kind))
 }
 
-/// The next word of a match, or why it has none. The reporter is judged first, then the kind, then the word, and then the rules.
-fn next_of(word: u64, reporter: u32, expected: u32, kind: u32) -> Result<u64, Fault>
-    ensures made { IfOk result (λ next. (next ≡ next_of word reporter kind)
-        × (fault_of_next word reporter expected kind ≡ None)) }
-    ensures refused { IfErr result (λ fault.
-        fault_of_next word reporter expected kind ≡ Some fault) }
-{
-    let (reporter, kind) = event_of(word, reporter, kind)?;
-    Ok(entered(word, reporter, expected, kind)?)
-}
-
-/// The next word of a match after an event of a reporter, or why it is not entered. Only a stale event writes to `found`, and only an accepted
-/// one to `next`.
+/// The next word of a match after an event of a reporter, or why it is not entered. The reporter is judged first, then the kind, then the
+/// word, and then the rules. Only a stale event writes to `found`, and only an accepted one to `next`.
 #[unsafe(no_mangle)]
 pub extern "C" fn uclboard_next_word(
     word: u64,
@@ -104,11 +93,14 @@ pub extern "C" fn uclboard_next_word(
     ensures unchanged { result ≢ 0 → next.new ≡ next.old }
     ensures found { found.new ≡ found_with (fault_of_next word reporter expected kind) found.old }
 {
-    match next_of(word, reporter, expected, kind) {
-        Ok(entered) => {
-            *next = entered;
-            0
-        }
+    match event_of(word, reporter, kind) {
+        Ok((reporter, kind)) => match entered(word, reporter, expected, kind) {
+            Ok(entered) => {
+                *next = entered;
+                0
+            }
+            Err(refusal) => Fault::from(refusal).tell_found(found),
+        },
         Err(fault) => fault.tell_found(found),
     }
 }
