@@ -1,4 +1,5 @@
-use Rattle.ucl_words.proofs.Common.{◌≡◌, ℕ, ◌<◌, ◌≤◌, ◌+◌, ap, ◌∙◌, arith, rules, refl, length, length-append, Ok, Err, Stale, Doing, record_at, begins_length, greatest_version, room, pass_view_of, pass_of}
+use Rattle.ucl_words.proofs.Common.{◌≡◌, ℕ, ◌<◌, ◌≤◌, ◌+◌, ap, ◌∙◌, arith, rules, refl, length}
+use Rattle.ucl_words.proofs.Common.{length-append, Ok, Err, Stale, Doing, record_at, begins_length, greatest_version, room, pass_view_of, pass_of}
 use Rattle.ucl_words.proofs.StepRuns.{found_valid}
 use Rattle.ucl_words.proofs.ReportFacts.{next_after}
 use Rattle.ucl_words.proofs.DoingFacts.{holding_for}
@@ -68,8 +69,12 @@ won_as c =
 
 pub invariant_of-pass-then-found-loaded : goal.invariant_of-pass-then-found-loaded
 invariant_of-pass-then-found-loaded c =
-    let by = won_as c in
-    (by.steady, by.always.number ∙ c.pass.invariant.1, ap length by.accepted.mine ∙ (length-append c.pass.inside.seat.me.0.pass.mine _ ∙ ap (λ (n : ℕ). n + 1) c.pass.invariant.2), ap (λ (d : Doing). d.held) by.answers.does)
+    let by = won_as c in (
+      by.steady,
+      by.always.number ∙ c.pass.invariant.1,
+      ap length by.accepted.mine ∙ (length-append c.pass.inside.seat.me.0.pass.mine _ ∙ ap (λ (n : ℕ). n + 1) c.pass.invariant.2),
+      ap (λ (d : Doing). d.held) by.answers.does,
+    )
 
 pub returns-then-found-loaded : goal.returns-then-found-loaded
 returns-then-found-loaded c =
