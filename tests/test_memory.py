@@ -93,8 +93,6 @@ RUNS = {
     "ucl_live --format text": (MORE_ROWS, 0, [0, 3]),
     "ucl_live --format json --screens": (MORE_ROWS, 0, [0, 2, 4, 6, 7]),
 }
-# For these `ucl_night` needs no board, so they end as ever where it found no memory for one.
-NO_BOARD = "ucl_night --help", "ucl_night show --order none"
 
 
 @pytest.mark.parametrize("mode", ["one", "all"])
@@ -105,6 +103,6 @@ def test_a_run_of_a_program(program, refuses, line, mode):
     assert whole.status == status and (not whole.errors if status == 0 else not whole.output)
     told = ["out of memory 23\n"] + ["no thread 27\n"] * ("night" in words)
     allowed = [(5, "".join(whole.output.splitlines(True)[:place]), fault) for place in places for fault in told]
-    spared = [whole] * (mode == "one" or line in NO_BOARD)
+    spared = [whole] * (mode == "one")
     assert [run for run in met if run not in allowed + spared] == []
     assert any(run in allowed for run in met)
