@@ -51,11 +51,12 @@ def test_first_look(program, place):
 
 
 @pytest.mark.quick
-def test_program_of_the_readme():
-    """The README shows lines of the crate ucl_example, which the gate proves and runs, and its line of crates.txt."""
-    shown = re.search(r"^```rust\n(.*?)^```$", README, re.M | re.S)[1]
+def test_program_of_the_page():
+    """A page shows lines of the crate ucl_example, which the gate proves and runs, and its line of crates.txt."""
+    page = text_of(TOP / "docs/ARCHITECTURE.md")
+    shown = re.search(r"^```rust\n(.*?)^```$", page, re.M | re.S)[1]
     assert f"\n{shown}" in re.sub(r"^ +", "", text_of(TOP / "crates/ucl_example/src/main.rt"), flags=re.M)
-    assert next(line for line in text_of(TOP / "crates.txt").splitlines() if line.startswith("ucl_example:")) in README
+    assert next(line for line in text_of(TOP / "crates.txt").splitlines() if line.startswith("ucl_example:")) in " ".join(page.split())
 
 
 # The calls that lend out a pass's seat are there for their contracts, and have no example; nor have laws, whose body is empty.

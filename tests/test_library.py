@@ -281,30 +281,29 @@ def blocks(page, language):
 @pytest.mark.quick
 @pytest.mark.parametrize("compiler", ["gcc", "clang"])
 def test_programs_of_the_pages_compile_without_a_warning(compiler):
-    assert [len(blocks(page, "c")) for page in ("README.md", "docs/C.md")] == [1, 1]
-    for page in "README.md", "docs/C.md":
-        for text in blocks(page, "c"):
-            assert compiled([compiler, "-std=c99", *STRICT.split(), "-c", "-o", "/dev/null", "-x", "c", "-"], text) == (0, "", "")
-        assert re.findall(r"^    .*;$", re.sub(r"^```.*?^```$", "", (TOP / page).read_text(), flags=re.M | re.S), re.M) == []
+    assert len(blocks("docs/C.md", "c")) == 2
+    for text in blocks("docs/C.md", "c"):
+        assert compiled([compiler, "-std=c99", *STRICT.split(), "-c", "-o", "/dev/null", "-x", "c", "-"], text) == (0, "", "")
+    assert re.findall(r"^    .*;$", re.sub(r"^```.*?^```$", "", (TOP / "docs/C.md").read_text(), flags=re.M | re.S), re.M) == []
 
 
 def test_programs_of_the_pages_print_the_screen_after_their_events(shell, tmp_path):
-    """Those of the README enter a kick-off and a goal, in Python after one that is stale; those of docs/C.md a kick-off alone."""
-    line = re.search(r"`(cc board\.c [^`]*) && \./board`", (TOP / "README.md").read_text())[1]
+    """The first of a language enters a kick-off and a goal, in Python after one that is stale; the second a kick-off alone."""
+    line = re.search(r"^    (cc board\.c .*)$", (TOP / "docs/C.md").read_text(), re.M)[1]
     in_python = re.search(r"^    (PYTHONPATH=\S+ .*) board\.py$", (TOP / "docs/C.md").read_text(), re.M)[1]
     matches = model.fresh()
     matches[0].enter(1, "kickoff")
     begun, word = (0, model.screen(matches), ""), matches[0].word()
     matches[0].enter(2, "goal-home")
     scored = (0, model.screen(matches), "")
-    (tmp_path / "board.c").write_text(blocks("README.md", "c")[0])
+    (tmp_path / "board.c").write_text(blocks("docs/C.md", "c")[0])
     assert shell(f"{line} && ./board") == scored
     for path in MODULE, tmp_path / "library/libuclboard.so":
         shutil.copy(path, tmp_path)
     for how in in_python, "python3":
-        assert [shell(f"{how} -", text) for page in ("README.md", "docs/C.md") for text in blocks(page, "python")] == [scored, begun]
+        assert [shell(f"{how} -", text) for text in blocks("docs/C.md", "python")] == [scored, begun]
     last = f"int main(void) {{\n    uint64_t words[UCLBOARD_WORDS];\n    return kick_off(words) != 0 || words[0] != UINT64_C(0x{word});\n}}\n"
-    (tmp_path / "board.c").write_text(blocks("docs/C.md", "c")[0] + last)
+    (tmp_path / "board.c").write_text(blocks("docs/C.md", "c")[1] + last)
     assert shell(f"{line} && ./board") == (0, "", "")
 
 
