@@ -103,8 +103,9 @@ def test_lintian_finds_nothing(dist):
 
 
 def test_units(tree, tmp_path):
-    """What systemd says of them by its own units, beside which they stand."""
+    """What systemd says of them by its own units, beside which they stand; and that it starts a board and a page that ended again."""
     needs("systemd-analyze")
+    assert ["Restart=always\n" in text_of(path) for path in tree.glob("usr/lib/systemd/system/ucl-*.service")] == [True, True]
     root = tmp_path / "root"
     shutil.copytree(tree, root, symlinks=True)
     shutil.copytree("/usr/lib/systemd/system", root / "usr/lib/systemd/system", symlinks=True, dirs_exist_ok=True)
