@@ -11,7 +11,7 @@ import re
 import subprocess
 import typing
 
-FUNCTION = re.compile(r'^( *)(?:(pub) |pub\(\w+\) )?(const )?(?:unsafe )?(extern "C" )?fn (\w+)')
+FUNCTION = re.compile(r'^( *)(?:(pub) |pub\(\w+\) )?(?:const )?(?:unsafe )?(extern "C" )?fn (\w+)')
 BLOCK = re.compile(r"^(?:pub )?(trait|impl)\b")
 TYPE = re.compile(r"^(?:pub(?:\(\w+\))? )?(?:struct|enum) (\w+)", re.M)
 LABEL = re.compile(r"^\s*ensures\s+(?:(\w+)\s+)?\{", re.M)
@@ -22,7 +22,7 @@ DISPLAY = "Display"
 
 class Function(typing.NamedTuple):
     """A function: its file, its name as the prover has it below the crate, the trait and the type that it is of, its own name, whether others
-    may call it, whether they may have its value without its contract, its text up to the body, and the first and last line of that."""
+    may call it, its text up to the body, and the first and last line of that."""
 
     path: str
     symbol: str
@@ -30,7 +30,6 @@ class Function(typing.NamedTuple):
     owner: typing.Optional[str]
     name: str
     is_public: bool
-    is_const: bool
     head: str
     body: int
     last: int
@@ -88,8 +87,8 @@ def functions_in(path, text, homes):
             trait, owner, more = block or (None, None, "")
             types = [owner + trait + more if trait and trait != owner else owner] if owner else []
             home = module_of(path) if trait else homes.get(owner, module_of(path))
-            symbol, is_public = "::".join([*home, *types, head[5]]), bool(head[2] or head[4])
-            yield Function(path, symbol, trait, owner, head[5], is_public, bool(head[3]), "\n".join(lines[at : body + 1]), body, after)
+            symbol, is_public = "::".join([*home, *types, head[4]]), bool(head[2] or head[3])
+            yield Function(path, symbol, trait, owner, head[4], is_public, "\n".join(lines[at : body + 1]), body, after)
 
 
 def functions_of(crate):
