@@ -1,9 +1,10 @@
 """Looks at the pages and texts: what they name and quote is there, the kit's logic sum is the kit's, and there is nothing that is of no use to a reader.
 
-docs/PROMISES.md: a cell under 'Carried by' is names in backticks, which commas part; after a colon the labels of their clauses; and semicolons
-between such groups. A name is a function, a method with its type before it, or a record of the definitions, whose labels are its fields;
-`the Display of` a type is what that writes, and `the type of` a function may carry a promise alone. A label stands at an `ensures` of the
-contract, or is a field of a record that the contract names. A function whose clauses have labels is named with one of them at least.
+crates/CRATE/PROMISES.md: each item of its lists is a promise, and after *By* what carries it: names in backticks, which commas part; after a colon
+the labels of their clauses; and semicolons between such groups. A name is a function, a method with its type before it, or a record of the
+definitions, whose labels are its fields; `the Display of` a type is what that writes, and `the type of` a function may carry a promise by itself. A
+label is at an `ensures` of the contract, or is a field of a record that the contract names. A function whose clauses have labels is named with one
+of them at least.
 """
 
 import re
@@ -27,8 +28,13 @@ MARKS = "<!-- checks/definitions writes what follows -->\n", "<!-- checks/defini
 
 
 def pages(top):
-    """The pages whose names are looked up. CHANGELOG.md tells of what was, so it names what is gone too."""
-    return [path for path in [top / "README.md", top / "CONTRIBUTING.md", *sorted((top / "docs").glob("*.md"))] if path.exists()]
+    """The pages whose names are looked up. CHANGELOG.md is about what was, so it names what is gone too."""
+    return [path for path in [top / "README.md", top / "CONTRIBUTING.md", *sorted((top / "docs").glob("*.md")), *sorted(top.glob("crates/*/*.md"))] if path.exists()]
+
+
+def readable(top):
+    """All pages."""
+    return [*pages(top), top / "CHANGELOG.md", *sorted(top.glob("bench/*.md")), *sorted(top.glob("examples/*/README.md"))]
 
 
 def file_is_there(top, path):
@@ -38,16 +44,34 @@ def file_is_there(top, path):
     return any(True for place in places for _ in top.glob(place))
 
 
+def anchors_of(page):
+    """The places of a page that a link can name."""
+    heads = re.findall(r"^#+ (.*)$", BLOCK.sub("", page.read_text()), re.M)
+    return {re.sub(r"[^\w\- ]", "", re.sub(r"\]\([^)]*\)", "", head)).lower().replace(" ", "-") for head in heads}
+
+
+def links_lead_somewhere(top):
+    """The file and the heading that a page links to are there."""
+    found = []
+    for page in readable(top):
+        text = BLOCK.sub(lambda block: "\n" * block[0].count("\n"), page.read_text())
+        for link in re.finditer(r"\]\(([^)#:\s]*)(?:#([^)\s]*))?\)", text):
+            target = page.parent / link[1] if link[1] else page
+            if not target.exists() or link[2] and link[2] not in anchors_of(target):
+                found.append(f"{page.relative_to(top)}:{text.count(chr(10), 0, link.start()) + 1}: {link[0][2:-1]} is not there")
+    return found
+
+
 def names_are_there(top):
-    """What stands in backticks on a page, outside blocks of code, and what it links to is there: its file where it begins with a path, else each of
-    its words somewhere in the sources. Other texts in backticks are no names."""
+    """A name in backticks on a page, outside blocks of code, is there: its file if it is a path, otherwise each of its words somewhere in the sources.
+    Other texts in backticks are no names."""
     files = [path for pattern in SOURCES.split() for path in top.glob(pattern) if path.is_file()]
     words, found = {path.stem for path in files}, []
     words |= {word for path in files for word in re.findall(WORD, path.read_text(errors="replace"))}
     for page in pages(top):
         text = BLOCK.sub(lambda block: "\n" * block[0].count("\n"), page.read_text())
         for number, line in enumerate(text.split("\n"), 1):
-            lost = [link for link in re.findall(r"\]\(([^)#:]+)(?:#[^)]*)?\)", line) if not (page.parent / link).exists()]
+            lost = []
             for name in re.findall(r"`([^`]+)`", line):
                 first = name.split(" ")[0]
                 is_name = re.fullmatch(rf"{WORD}(::{WORD})*", name)
@@ -82,7 +106,7 @@ def sentences_of(text):
 def sentences_are_short(top):
     """No sentence has over 40 words, and those of a page outside its tables have 25 at most on the average."""
     found = []
-    for page in [*pages(top), top / "CHANGELOG.md", *top.glob("bench/*.md"), *top.glob("examples/*/README.md")]:
+    for page in readable(top):
         sentences, name = [*sentences_of(page.read_text())], page.relative_to(top)
         prose = [len(words) for _, words, in_table in sentences if not in_table]
         found += [f"{name}:{line}: {len(words)} words: {' '.join(words[:9])} .." for line, words, _ in sentences if len(words) > 40]
@@ -151,22 +175,32 @@ def faults_of_name(told, labels, contracts, fields):
     return unnamed + [f"`{name}` has no clause `{label}`" for label in labels if label not in known]
 
 
+def promises_of(page):
+    """The items of a page of promises, each by its first line, with what stands behind *By*; None where that is missing."""
+    number = 1
+    for part in re.split(r"(?m)^(?=- |#|$)", page.read_text()):
+        if part.startswith("- "):
+            carried = re.search(r"\*By\* (.*)\.$", " ".join(part.split()))
+            yield number, carried and carried[1]
+        number += part.count("\n")
+
+
 def promises_are_carried(top):
     """Each promise names functions and clauses that are there. A method without clauses of its own has those of its trait."""
-    fields, contracts, heads, found, within = sources.records_of(top), {}, {}, [], False
+    fields, contracts, heads, found = sources.records_of(top), {}, {}, []
     every = [it for _, it in callable_functions(top)]
     for it in every:
         heads.setdefault((it.owner, it.name), it.head)
     for it in every:
         contracts.setdefault(it.named, []).append(it.head if "ensures" in it.head else heads.get((it.trait, it.name), it.head))
-    for number, line in enumerate((top / "docs/PROMISES.md").read_text().split("\n"), 1):
-        cells = [cell.strip() for cell in line.strip("|").split("|")]
-        within = line.startswith("|") and (within or cells[-1] == "Carried by")
-        for part in cells[1].split("; ") if within and len(cells) == 2 and cells[1] != "Carried by" and not cells[0].startswith("---") else []:
-            group = GROUP.fullmatch(part)
-            names, labels = (re.findall(NAME, group[1]), re.findall(r"`([^`]+)`", group[2] or "")) if group else ([], [])
-            faults = [fault for name in names for fault in faults_of_name(name, labels, contracts, fields)]
-            found += [f"docs/PROMISES.md:{number}: {fault}" for fault in faults + ([] if group else ["is not names in backticks, a colon and their labels"])]
+    for page in sorted(top.glob("crates/*/PROMISES.md")):
+        for number, carried in promises_of(page):
+            for part in carried.split("; ") if carried else [""]:
+                group = GROUP.fullmatch(part)
+                names, labels = (re.findall(NAME, group[1]), re.findall(r"`([^`]+)`", group[2] or "")) if group else ([], [])
+                faults = [fault for name in names for fault in faults_of_name(name, labels, contracts, fields)]
+                faults += [] if group else ["no *By* with names in backticks, a colon and their labels"]
+                found += [f"{page.relative_to(top)}:{number}: {fault}" for fault in faults]
     return found
 
 
@@ -176,14 +210,13 @@ def tables_are_of_signatures(top):
         "Calls that are given an allocator": lambda head: re.search(r"\balloc: ", head),
         "Calls that may wait": lambda head: re.search(r"<[^(]*\b\w+: [^,>]*\bWait\b", head.split(" requires ")[0]),
     }
-    found, page = [], (top / "docs/PROMISES.md").read_text()
+    found, pages = [], {page.parent.name: page.read_text() for page in top.glob("crates/*/PROMISES.md")}
     functions = [(crate, it) for crate, it in callable_functions(top) if it.trait in (None, it.owner) and (top / "crates" / crate / "specs").is_dir()]
     for heading, holds in tables.items():
-        rows = page.split(f"\n### {heading}\n", 1)[-1].split("\n#", 1)[0].split("\n")
-        cells = [[re.findall(r"`([^`]+)`", cell) for cell in line.strip("|").split("|")] for line in rows if line.startswith("| `")]
-        told = {(crates[0], name) for crates, names in cells for name in names}
+        sections = {crate: page.split(f"\n## {heading}\n", 1)[1].split("\n#", 1)[0] for crate, page in pages.items() if f"\n## {heading}\n" in page}
+        told = {(crate, name) for crate, section in sections.items() for name in re.findall(r"`([^`]+)`", section)}
         calls = {(crate, it.named) for crate, it in functions if holds(it.head)}
-        found += [f"{crate}: `{name}` is not as the table '{heading}' says" for crate, name in sorted(calls ^ told)]
+        found += [f"{crate}: `{name}` is not as its section '{heading}' says" for crate, name in sorted(calls ^ told)]
     return found
 
 
@@ -211,13 +244,14 @@ def texts_are_for_readers(top):
 
 
 LOOKS = [
-    ("what pages name and link to is there", names_are_there),
+    ("what pages name is there", names_are_there),
+    ("links lead to a file and a heading", links_lead_somewhere),
     ("sentences are short", sentences_are_short),
     ("the table of crates is that of crates.txt", crates_are_listed),
     ("where definitions live is as their files begin", definitions_are_mapped),
     ("each block of docs/READING.md stands in its file", reading_quotes),
     ("each promise names its function and its clause", promises_are_carried),
-    ("the tables of memory and of waiting are those of the signatures", tables_are_of_signatures),
+    ("the lists of calls that ask for memory or may wait are those of the signatures", tables_are_of_signatures),
     ("the README and --version tell the logic sum of the kit", logic_sum_is_told),
     ("texts have no label, no path of a machine and no word on the work", texts_are_for_readers),
 ]
