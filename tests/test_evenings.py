@@ -201,7 +201,7 @@ MATCH = "match {match:>2} v{number:04} {state:9} {:>2}-{} Y {}-{} E {}-{} by {re
 
 
 def said(members):
-    """The text that the members of an answer say, in the forms of docs/ROWS.md and docs/RULES.md."""
+    """The text that the members of an answer say, in the forms of docs/REFERENCE.md."""
     if members["reply"] == "ok":
         return "{row} ok {match} {number} {version}\n".format(**members)
     if members["reply"] == "refused":

@@ -53,7 +53,7 @@ def test_first_look(program, place):
 @pytest.mark.quick
 def test_program_of_the_page():
     """A page shows lines of the crate ucl_example, which the gate proves and runs, and its line of crates.txt."""
-    page = text_of(TOP / "docs/ARCHITECTURE.md")
+    page = text_of(TOP / "docs/LIBRARY.md")
     shown = re.search(r"^```rust\n(.*?)^```$", page, re.M | re.S)[1]
     assert f"\n{shown}" in re.sub(r"^ +", "", text_of(TOP / "crates/ucl_example/src/main.rt"), flags=re.M)
     assert next(line for line in text_of(TOP / "crates.txt").splitlines() if line.startswith("ucl_example:")) in " ".join(page.split())

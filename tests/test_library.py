@@ -169,9 +169,9 @@ def test_names_of_statuses(board):
             assert (status, length.value, out.raw) == (*wanted[:2], wanted[2] + b"\x55" * (40 - len(wanted[2])))
 
 
-# ---- the examples, as docs/C.md has them typed
+# ---- the examples, as docs/LIBRARY.md has them typed
 
-LINES = re.findall(r"^    (\S.*) < (examples/\w+\.csv)$", (TOP / "docs/C.md").read_text().split("\n## Examples\n")[-1], re.M)
+LINES = re.findall(r"^    (\S.*) < (examples/\w+\.csv)$", (TOP / "docs/LIBRARY.md").read_text().split("\n## Examples\n")[-1], re.M)
 LINKED = "-I library library/libuclboard.a"
 SANITIZED = f"{STRICT} -fsanitize=address,undefined -fno-sanitize-recover"
 # How a line of C or C++ is compiled: by which compiler, with which options, and by what in place of the archive.
@@ -186,7 +186,7 @@ VARIANTS = {
 
 def typed():
     """Each line with each way to compile it."""
-    assert len(LINES) >= 6, "docs/C.md has other examples"
+    assert len(LINES) >= 6, "docs/LIBRARY.md has other examples"
     for line, _ in LINES:
         name = re.search(r"examples/([\w/]+\.\w+)", line)[1]
         for variant in VARIANTS if line.startswith(("cc ", "c++ ")) else [None]:
@@ -281,29 +281,29 @@ def blocks(page, language):
 @pytest.mark.quick
 @pytest.mark.parametrize("compiler", ["gcc", "clang"])
 def test_programs_of_the_pages_compile_without_a_warning(compiler):
-    assert len(blocks("docs/C.md", "c")) == 2
-    for text in blocks("docs/C.md", "c"):
+    assert len(blocks("docs/LIBRARY.md", "c")) == 2
+    for text in blocks("docs/LIBRARY.md", "c"):
         assert compiled([compiler, "-std=c99", *STRICT.split(), "-c", "-o", "/dev/null", "-x", "c", "-"], text) == (0, "", "")
-    assert re.findall(r"^    .*;$", re.sub(r"^```.*?^```$", "", (TOP / "docs/C.md").read_text(), flags=re.M | re.S), re.M) == []
+    assert re.findall(r"^    .*;$", re.sub(r"^```.*?^```$", "", (TOP / "docs/LIBRARY.md").read_text(), flags=re.M | re.S), re.M) == []
 
 
 def test_programs_of_the_pages_print_the_screen_after_their_events(shell, tmp_path):
-    """The first of a language enters a kick-off and a goal, in Python after one that is stale; the second a kick-off alone."""
-    line = re.search(r"^    (cc board\.c .*)$", (TOP / "docs/C.md").read_text(), re.M)[1]
-    in_python = re.search(r"^    (PYTHONPATH=\S+ .*) board\.py$", (TOP / "docs/C.md").read_text(), re.M)[1]
+    """The first in C and that in Python enter a kick-off and a goal, in Python after one that is stale; the second in C only a kick-off."""
+    line = re.search(r"^    (cc board\.c .*)$", (TOP / "docs/LIBRARY.md").read_text(), re.M)[1]
+    in_python = re.search(r"^    (PYTHONPATH=\S+ .*) board\.py$", (TOP / "docs/LIBRARY.md").read_text(), re.M)[1]
     matches = model.fresh()
     matches[0].enter(1, "kickoff")
-    begun, word = (0, model.screen(matches), ""), matches[0].word()
+    word = matches[0].word()
     matches[0].enter(2, "goal-home")
     scored = (0, model.screen(matches), "")
-    (tmp_path / "board.c").write_text(blocks("docs/C.md", "c")[0])
+    (tmp_path / "board.c").write_text(blocks("docs/LIBRARY.md", "c")[0])
     assert shell(f"{line} && ./board") == scored
     for path in MODULE, tmp_path / "library/libuclboard.so":
         shutil.copy(path, tmp_path)
     for how in in_python, "python3":
-        assert [shell(f"{how} -", text) for text in blocks("docs/C.md", "python")] == [scored, begun]
+        assert [shell(f"{how} -", text) for text in blocks("docs/LIBRARY.md", "python")] == [scored]
     last = f"int main(void) {{\n    uint64_t words[UCLBOARD_WORDS];\n    return kick_off(words) != 0 || words[0] != UINT64_C(0x{word});\n}}\n"
-    (tmp_path / "board.c").write_text(blocks("docs/C.md", "c")[1] + last)
+    (tmp_path / "board.c").write_text(blocks("docs/LIBRARY.md", "c")[1] + last)
     assert shell(f"{line} && ./board") == (0, "", "")
 
 
@@ -312,7 +312,7 @@ def test_a_program_in_rust_sees_a_new_library_in_a_relative_folder(tmp_path):
     """The libraries are none: all that their calls answer is a number."""
     conftest.needs("cargo")
     manifest, folder = tmp_path / "Cargo.toml", tmp_path / "libraries"
-    (needed,) = blocks("docs/C.md", "toml")
+    (needed,) = blocks("docs/LIBRARY.md", "toml")
     manifest.write_text('[package]\nname = "board"\nedition = "2021"\n\n' + needed.replace("PATH", str(TOP)))
     (tmp_path / "src").mkdir()
     folder.mkdir()

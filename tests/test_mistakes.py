@@ -1,4 +1,4 @@
-"""docs/MISTAKES.md: of each kind of mistake the events that it says to type take it back."""
+"""docs/OPERATE.md: of each kind of mistake the events that it says to type take it back."""
 
 import re
 
@@ -16,7 +16,7 @@ MEANT = {
     "a reopening, and the match was over": ("1 kickoff, 1 fulltime, 1 reopen", "1 kickoff, 1 fulltime"),
     "a goal that was forgotten in a match that is over": ("1 kickoff, 1 fulltime", "1 kickoff, 1 goal-away, 1 fulltime"),
 }
-PAIRS = re.findall(r"^\| (.+?) \| ((?:`\d+ [a-z ]+` ?)+) \|$", text_of(TOP / "docs/MISTAKES.md"), re.M)
+PAIRS = re.findall(r"^\| (.+?) \| ((?:`\d+ [a-z ]+` ?)+) \|$", text_of(TOP / "docs/OPERATE.md"), re.M)
 TYPED = {mistake: re.findall(r"`(\d+) (.+?)`", typed) for mistake, typed in PAIRS}
 
 

@@ -1,5 +1,5 @@
 //! References for the benchmark, in plain Rust with its standard library alone: boards, the table with its screen, `feed` and evenings. They do
-//! what docs/RULES.md says, without a proof. `rustc -O --edition 2021 main.rs` builds them; bench/compare does so, and compares.
+//! what docs/RULES.md and docs/REFERENCE.md say, without a proof. `rustc -O --edition 2021 main.rs` builds them; bench/compare does so, and compares.
 
 mod boards;
 mod feed;

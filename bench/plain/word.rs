@@ -1,4 +1,4 @@
-//! A match as a word of 64 bits, and the rules by which an event changes it, as docs/RULES.md has both.
+//! A match as a word of 64 bits, and the rules by which an event changes it, as docs/REFERENCE.md and docs/RULES.md have them.
 
 /// The words of a board, for matches 1 to 12.
 pub type Words = [u64; 12];

@@ -1,4 +1,4 @@
-/* The table board of one group of the UEFA Champions League, for C and C++. docs/C.md says the same at length, and docs/RULES.md the rules.
+/* The table board of one group of the UEFA Champions League, for C and C++. docs/LIBRARY.md has programs, and docs/RULES.md the rules.
  *
  * Every call answers a status: 0 (UCLBOARD_DONE) where it was done, and else why not; but uclboard_version answers a number, and uclboard_pass_drop
  * nothing. At any other status whatever a call writes to is as it was, but for what the call says that it tells then.
@@ -192,7 +192,7 @@ UCLBOARD_NEEDS_LOOK uclboard_status uclboard_screen_json(uint64_t row, const uin
                                                          size_t clubs_length, uint32_t group, uint32_t profile, char *out, size_t out_length,
                                                          size_t *length, uint32_t *at);
 
-/* Plays a whole script, the bytes of rows as docs/ROWS.md has them: enters its events in turn on a new board. The four clubs go to `clubs`, with
+/* Plays a whole script, the bytes of rows as docs/REFERENCE.md has them: enters its events in turn on a new board. The four clubs go to `clubs`, with
    zeros behind a name of fewer than 20 bytes, the twelve words after the last event to `words`, what became of each event to the front of `replies`,
    and how many events there are to `count`. Judged in this order: UCLBOARD_NOT_TWELVE and UCLBOARD_NOT_FOUR, the room for words and for clubs;
    UCLBOARD_TOO_LONG; UCLBOARD_BAD_ROW of rows 1 to 4; UCLBOARD_BAD_ROSTER; UCLBOARD_BAD_ROW of rows from 5 on; and last UCLBOARD_NO_ROOM, which tells
