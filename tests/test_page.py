@@ -450,6 +450,44 @@ def test_matches_that_are_over_stay_until_their_clubs_play_again(sheet):
     assert sheet.take(SEASON["A"][11].line()) == {"A": SEASON["A"][11].shown()}
 
 
+# ---- without a board
+
+
+def replayed():
+    """The lines of a matchday that the page replays: of each group the screen before matchday 6, and then an event of each group in turn."""
+    before, turns = [], []
+    for group in "ABCDEFGH":
+        roster, events = model.parsed(conftest.text_of(conftest.EXAMPLES / f"season_2021_22/group_{group.lower()}.csv"))
+        ends = [at for at, event in enumerate(events) if event[3] == "fulltime"]
+        last, matches = ends[-3] + 1, model.fresh()
+        one, other = ([event for event in events[last:] if event[1] == events[end][1]] for end in ends[-2:])
+        middle = [event for pair in itertools.zip_longest(one[1:-1], other[1:-1]) for event in pair if event]
+        lines = []
+        for at, (reporter, game, _, word) in enumerate([*events[:last], one[0], other[0], *middle, one[-1], other[-1]]):
+            matches[game - 1].enter(reporter, word)
+            members = model.Style(["--group", group]).json(matches, roster, 5 + at)
+            lines += [model.line_of({name: it for name, it in members.items() if name not in ("edition", "matches")})] if at >= last - 1 else []
+        before.append(lines[0])
+        turns.append(lines[1:])
+    return "".join([*before, *(line for turn in itertools.zip_longest(*turns) for line in turn if line)])
+
+
+@pytest.mark.quick
+def test_a_matchday_that_is_replayed(browser):
+    """Whoever has the page and a server of files sees all groups, which end as the season did."""
+    assert conftest.text_of(PAGE.parent / "replay.jsonl") == replayed()
+    port = free_port()
+    with conftest.Started(["/usr/bin/python3", "-m", "http.server", "--bind", "127.0.0.1", str(port)], cwd=PAGE.parent) as server:
+        until(lambda: is_reached(port))
+        for words, letters in ("wall", "ABCDEFGH"), ("group=C", "C"), ("", "A"):
+            browser.get(f"http://127.0.0.1:{port}/?replay&pace=1&{words}")
+            shown = lambda: browser.execute_script(SHOWN + "return shown()")
+            wanted = {letter: {**SEASON[letter][-1].shown(), "signal": "Replay"} for letter in letters}
+            until(lambda: shown() == wanted, 20)
+            assert shown() == wanted
+        server.kill()
+
+
 # ---- over a broker
 
 
