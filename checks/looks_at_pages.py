@@ -23,8 +23,13 @@ SUM = re.compile(r"\blogic(?: sum)?(?: is)? `?([0-9a-f]{16})\b")
 # A path of the machine that a text was written on, and how the work is organised; data and marks of matches are no such texts.
 STRAY = re.compile(r"(?<![\w.])/(?:work|root)/|\.\./shared/|\bissue #?\d|\b(?:sessions? of the project|handover)\b", re.I)
 LABEL = re.compile(r"(?<![\w.'\"`-])(?:T[1-5]\.[1-7]|[DRW][1-9]\d?|K[1-8]|G2|S6)(?![\w'\"`])")
-MAP = "docs/ARCHITECTURE.md"
-MARKS = "<!-- checks/definitions writes what follows -->\n", "<!-- checks/definitions ends here -->\n"
+# Phrases of our own, each with the words that the field or plain English has: reports or prints, again, only, mutant, theorem, for X, if, such as.
+BANNED = [
+    r"[Ww]ant of memory", r"\b[Tt](?:ell|ells|old|elling)\b", r"\banew\b", r"\balone\b", r"[Ww]rong bod", r"\b[Ll]aws?\b", r"(?:^|[.;] |\*\* |^- )Of (?!course)",
+    r"(?:^|[.;] )Where ", r"\b(?:exactly|only|just) where\b", r", as (?=`)", r"\bso many\b", r"\b(?:is|that is) none\b", r"\bjust (?:the|its|their)\b", r", else\b",
+    r"\bleave to wait\b", r"\bstands? (?!for\b)", r"\bnot to be had\b", r"\bbeginning of (?:a|its|the) history\b",
+]
+MAP, CRATES = "crates/DEFINITIONS.md", "docs/ARCHITECTURE.md"
 
 
 def pages(top):
@@ -83,68 +88,93 @@ def names_are_there(top):
     return found
 
 
-def sentences_of(text):
-    """Of each sentence of a page, outside blocks of code and headings: where its paragraph begins, its words, and whether it stands in a table. Names in
-    backticks that stand side by side are one word."""
-    parts = [(0, False, "")]
-    for number, line in enumerate(BLOCK.sub(lambda block: "\n" * block[0].count("\n"), text).split("\n"), 1):
-        if line.startswith("|"):
-            parts += [(number, True, cell) for cell in line.split("|")]
-        elif re.match(r"#|    |$", line):
-            parts.append((number, False, ""))
-        elif re.match(r"- |\d+\. ", line) or parts[-1][1] or not parts[-1][2]:
-            parts.append((number, False, line))
-        else:
-            parts[-1] = (*parts[-1][:2], f"{parts[-1][2]} {line}")
-    for number, in_table, part in parts:
-        part = re.sub(r"(?:`[^`]*`(?:[,;:]? )?)+", "name ", re.sub(r"\]\([^)]*\)", "]", part))
-        for sentence in re.split(r"(?<=[.?!])[*)\"']*\s+", part):
-            if words := re.findall(r"\S*\w\S*", sentence):
-                yield number, words, in_table
+def text_by_lines(page):
+    """The lines of a page that are text, with their numbers: no block of code, no line to type, and no name in backticks."""
+    text = BLOCK.sub(lambda block: "\n" * block[0].count("\n"), page.read_text())
+    for number, line in enumerate(text.split("\n"), 1):
+        if not line.startswith("    "):
+            yield number, re.sub(r"`[^`]*`", "``", line)
 
 
-def sentences_are_short(top):
-    """No sentence has over 40 words, and those of a page outside its tables have 25 at most on the average."""
+def lines_fit(top):
+    """A line of text has at most 100 columns, and one to type at most 140; a cell of a table has at most 160 characters."""
     found = []
     for page in readable(top):
-        sentences, name = [*sentences_of(page.read_text())], page.relative_to(top)
-        prose = [len(words) for _, words, in_table in sentences if not in_table]
-        found += [f"{name}:{line}: {len(words)} words: {' '.join(words[:9])} .." for line, words, _ in sentences if len(words) > 40]
-        found += [f"{name}: {sum(prose)} words, {sum(prose) / len(prose):.1f} a sentence"] if sum(prose) > 25 * len(prose) else []
+        is_code = False
+        for number, line in enumerate(page.read_text().split("\n"), 1):
+            is_code ^= line.startswith("```")
+            most = 140 if is_code or line.startswith("    ") else 100
+            if line.startswith("|"):
+                longest = max(len(cell.strip()) for cell in line.strip("|").split("|"))
+                found += [f"{page.relative_to(top)}:{number}: a cell of {longest} characters"] if longest > 160 else []
+            elif len(line) > most and not line.startswith("!["):
+                found.append(f"{page.relative_to(top)}:{number}: {len(line)} columns")
     return found
+
+
+def phrases_are_plain(top):
+    """No page has a phrase of our own where the field, or plain English, has a better one."""
+    found = []
+    for page in readable(top):
+        for number, line in text_by_lines(page):
+            found += [f"{page.relative_to(top)}:{number}: {match[0].strip()}" for phrase in BANNED for match in re.finditer(phrase, line)]
+    return found
+
+
+def pages_name_their_readers(top):
+    """The third line of a page says whom it is for, but that of the README, which is for all."""
+    return [f"{page.relative_to(top)}: its third line does not begin with 'For'" for page in readable(top)
+            if page != top / "README.md" and not "".join(page.read_text().split("\n")[2:3]).startswith("For ")]
 
 
 def crates_are_listed(top):
     """The table of crates has each crate of crates.txt, once."""
-    section = (top / MAP).read_text().split("\n## The crates\n", 1)[-1].split("\n## ", 1)[0]
+    section = (top / CRATES).read_text().split("\n## The crates\n", 1)[-1].split("\n## ", 1)[0]
     told = [name for line in section.split("\n") if line.startswith("| `") for name in re.findall(r"`(\w+)`", line.split("|")[1])]
     crates = list(sources.crates_of(top))
     return [f"{name}: in the table of crates {told.count(name)} times" for name in sorted({*told, *crates}) if told.count(name) != crates.count(name)]
 
 
-def map_with_definitions(top):
-    """The page of the map as it has to be: between its marks stands a row for each file of definitions, with its first line, by the order of crates."""
-    before, rest = (top / MAP).read_text().split(MARKS[0])
-    rows = ["", "| File of `specs/` | What it defines |", "|---|---|"]
+def map_of_definitions(top):
+    """The page of the map as it has to be: a row for each file of definitions, with its first line, by the order of crates."""
+    rows = ["# Where each definition is", "", "For whoever looks one up. `checks/definitions` writes this page: the first line of each file of `specs/`.", ""]
+    rows += ["| File of `specs/` | What it defines |", "|---|---|"]
     for crate in sources.crates_of(top):
         files = [path for path in sorted((top / "crates" / crate / "specs").glob("*.antt")) if path.stem != "Lib"]
         rows += [f"| `{crate}`: `{path.stem}` | {path.read_text().split(chr(10))[0].lstrip('- ')} |" for path in files]
-    return before + MARKS[0] + "\n".join([*rows, "", ""]) + MARKS[1] + rest.split(MARKS[1])[1]
+    return "\n".join(rows) + "\n"
 
 
 def definitions_are_mapped(top):
-    """docs/ARCHITECTURE.md says where each definition lives, as the files of specs/ begin."""
-    return [] if (top / MAP).read_text() == map_with_definitions(top) else [f"{MAP}: run checks/definitions"]
+    """crates/DEFINITIONS.md says where each definition is, as the files of specs/ begin."""
+    return [] if (top / MAP).exists() and (top / MAP).read_text() == map_of_definitions(top) else [f"{MAP}: run checks/definitions"]
 
 
-def reading_quotes(top):
-    """Each block of docs/READING.md stands, line for line, in the file that is named above it."""
-    text, found = (top / "docs/READING.md").read_text(), []
-    for name, block in re.findall(r"^`(crates/[^`]+)`:\n\n```\w+\n(.*?)\n```$", text, re.M | re.S):
-        lines, wanted = ([line.strip() for line in it.split("\n")] for it in ((top / name).read_text() if (top / name).exists() else "", block))
-        if not any(lines[at : at + len(wanted)] == wanted for at in range(len(lines))):
-            found.append(f"docs/READING.md: these lines do not stand in {name}: {wanted[0]}")
-    return found + ([] if text.count("```") == 2 * text.count("`:\n\n```") else ["docs/READING.md: a block without a file above it"])
+def pages_quote(top):
+    """Each block of docs/READING.md and docs/PROOF.md is, line for line, in the file that is named above it."""
+    found = []
+    for page in "docs/READING.md", "docs/PROOF.md":
+        text = (top / page).read_text()
+        for name, block in re.findall(r"^`(crates/[^`]+)`:\n\n```\w+\n(.*?)\n```$", text, re.M | re.S):
+            lines, wanted = ([line.strip() for line in it.split("\n")] for it in ((top / name).read_text() if (top / name).exists() else "", block))
+            if not any(lines[at : at + len(wanted)] == wanted for at in range(len(lines))):
+                found.append(f"{page}: these lines are not in {name}: {wanted[0]}")
+        found += [] if text.count("```") == 2 * text.count("`:\n\n```") else [f"{page}: a block without a file above it"]
+    return found
+
+
+def counts_are_right(top):
+    """Pages that say how much one reads to believe the theorems, or how many mutants there are, say what `checks/closure` and the folders say."""
+    closure = subprocess.run([top / "checks/closure", "BoardsHaveOneHistory", "HistoriesGoOn"], stdout=subprocess.PIPE, universal_newlines=True).stdout
+    read = re.search(r"(\d+) definitions, (\d+) lines in (\d+) files; .* (\d+) names of the kit$", closure.strip())
+    mutants, found = len([*top.glob("crates/*/must-fail/*.edit")]), []
+    for page in readable(top):
+        text = " ".join(page.read_text().split())
+        told = [it for it in re.findall(r"(\d+) definitions of (\d+) lines in (\d+) files(?:, and (\d+) names of the kit)?", text) if it[:3] != read.groups()[:3] or it[3] not in ("", read[4])]
+        found += [f"{page.relative_to(top)}: {' '.join(it)}, and checks/closure has {' '.join(read.groups())}" for it in told]
+        counts = [] if page.parent.name == "bench" else re.findall(r"\b(\d+) mutants\b", text)
+        found += [f"{page.relative_to(top)}: {it} mutants, and there are {mutants}" for it in counts if int(it) != mutants]
+    return found
 
 
 def callable_functions(top):
@@ -246,10 +276,13 @@ def texts_are_for_readers(top):
 LOOKS = [
     ("what pages name is there", names_are_there),
     ("links lead to a file and a heading", links_lead_somewhere),
-    ("sentences are short", sentences_are_short),
+    ("lines and cells of pages are short", lines_fit),
+    ("pages have no phrase that is banned", phrases_are_plain),
+    ("each page names its reader in its third line", pages_name_their_readers),
     ("the table of crates is that of crates.txt", crates_are_listed),
     ("where definitions live is as their files begin", definitions_are_mapped),
-    ("each block of docs/READING.md stands in its file", reading_quotes),
+    ("quoted lines are in their files", pages_quote),
+    ("pages count definitions and mutants right", counts_are_right),
     ("each promise names its function and its clause", promises_are_carried),
     ("the lists of calls that ask for memory or may wait are those of the signatures", tables_are_of_signatures),
     ("the README and --version tell the logic sum of the kit", logic_sum_is_told),

@@ -79,7 +79,6 @@ def test_definitions_out_of_step(tmp_path):
     for folder in TOP.glob("crates/*/specs"):
         shutil.copytree(folder, tmp_path / folder.relative_to(TOP))
     for name in "crates.txt", looks_at_pages.MAP:
-        (tmp_path / name).parent.mkdir(exist_ok=True)
         shutil.copy(TOP / name, tmp_path / name)
     assert looks_at_pages.definitions_are_mapped(tmp_path) == []
     path = tmp_path / "crates/ucl_board/specs/Fixtures.antt"

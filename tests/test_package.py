@@ -94,7 +94,7 @@ def test_what_was_proved_is_told(dist, tree):
     assert all(command(["bash", "-c", line], cwd=TOP / "crates" / name).output.split()[0] == number for number, name in crates)
     logic = re.search(r"logic ([0-9a-f]{16})", command([tree / "usr/bin/ucl_live", "--version"]).output)[1]
     assert f"logic     {logic}\n" in told and f"commit    {command(['git', 'rev-parse', 'HEAD']).output.strip()} of" in told
-    assert "**Trusted**" in text_of(TOP / "README.md") and "Trusted: prover" in told
+    assert "\n- The prover. " in told and "\n- Compiler, linker, processor, " in told and "\nchecks/looks\n" in told
 
 
 def test_lintian_finds_nothing(dist):
