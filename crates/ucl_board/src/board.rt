@@ -1,4 +1,4 @@
-//! The board as one thread sees it.
+//! The board as one thread sees it: twelve words, and the calls on them. The rules by which an event changes a word are in `ucl_word`.
 
 ghost use Rattle.std.specs.Prelude.{◌≡◌, ℕ, ◌+◌, ◌-◌, ◌≤◌, List, [], ◌↔◌, Ok, IsOk, IfOk, IfErr};
 ghost use Rattle.ucl_word.specs.Record.{IsValid};
@@ -23,6 +23,16 @@ pub struct BadWordAt {
 }
 
 /// The twelve matches of a group, each as its packed word. Contracts see the list of these words.
+///
+/// # Examples
+///
+/// ```rust
+/// let mut board = Board::fresh();
+/// let call = EventCall { game: MatchNo::new(4)?, expected: 0, kind: Kind::KickOff };
+/// board.report(ReporterNo::new(1)?, &call).ok()?;
+/// assert_eq!(board.game(call.game).state, State::InPlay);
+/// assert_eq!(Board::of_words(&board.words()), Ok(board));
+/// ```
 #[derive(Clone, Copy, Debug, PartialEq, Eq)]
 pub struct Board {
     words: [u64; 12],
@@ -42,7 +52,7 @@ impl Model for Board {
 }
 
 impl Board {
-    /// The board before any event: twelve scheduled matches.
+    /// Creates the board before any event: twelve scheduled matches.
     pub fn fresh() -> Board
         ensures { result ≡ board_of [] }
     {
@@ -52,8 +62,12 @@ impl Board {
         }
     }
 
-    /// The board that these words for matches 1 to 12 are read as, each by `migrate`: words of the first layout, of the one that
-    /// `words` gives, or of both. Else the least index of a word that is of neither. `of_words` of a board's `words` is that board.
+    /// Reads the board of these words for matches 1 to 12, each by [`migrate`]: words of the first layout, of the one that
+    /// [`words`](Board::words) gives, or of both. From a board's own `words` it reads that board.
+    ///
+    /// # Errors
+    ///
+    /// [`BadWordAt`] with the least index of a word that is of neither layout.
     pub fn of_words(words: &[u64; 12]) -> Result<Board, BadWordAt>
         ensures board { IfOk result (λ b. AreReadAs words.now b) }
         ensures again { AreWords words.now → result ≡ Ok words.now }
@@ -70,8 +84,8 @@ impl Board {
         Ok(Board { words: read })
     }
 
-    /// The board with these words for matches 1 to 12, each of which has to be the packing of a valid record. They are not looked at
-    /// again, as `of_words` does.
+    /// Creates the board of these words for matches 1 to 12, each of which has to be the packing of a valid record. It does not test them
+    /// again, as [`of_words`](Board::of_words) does.
     pub fn of_packed(words: &[u64; 12]) -> Board
         requires { AreWords words.now }
         ensures { result ≡ words.now }
@@ -80,16 +94,17 @@ impl Board {
         Board { words: packed }
     }
 
-    /// The words of matches 1 to 12, each the packing of a valid record.
+    /// Returns the words of matches 1 to 12, each the packing of a valid record.
     pub fn words(&self) -> [u64; 12]
         ensures words { result ≡ self.now }
         ensures valid { AreWords result }
     {
+        // Through a reference, so that the prover knows that each word is within its type.
         let words = &self.words;
         *words
     }
 
-    /// The record of a match, which is valid.
+    /// Returns the record of a match, which is valid.
     pub fn game(&self, game: MatchNo) -> MatchRecord
         ensures value { result ≡ game_at self.now game }
         ensures valid { IsValid result }
@@ -97,8 +112,9 @@ impl Board {
         record_of(self.words[usize::from(game.get() - 1)])
     }
 
-    /// The sum of the event numbers of the matches, at most twelve times the greatest number. On a board that came from `fresh` by events it is how
-    /// many were accepted.
+    /// Returns the sum of the event numbers of the matches, at most twelve times the greatest number.
+    ///
+    /// On a board that came from [`fresh`](Board::fresh) by events it is how many were accepted.
     pub fn version(&self) -> u16
         ensures sum { result ≡ version_of self.now }
         ensures bound { result ≤ greatest_version }
@@ -110,11 +126,14 @@ impl Board {
         version
     }
 
-    /// Enters an event in its match by the rules of events, or answers the first rule that refuses it. The other eleven
-    /// matches stay as they were, and a refusal changes nothing.
+    /// Enters an event in its match by the rules of events, and leaves the other eleven matches as they were.
     ///
-    /// Over counting: where the board is that of a legal history, the reply is the sequential one after this history,
+    /// Over counting: if the board is that of a legal history, the reply is the sequential one after this history,
     /// and an accepted event leaves the board of the history with its entry, which is legal.
+    ///
+    /// # Errors
+    ///
+    /// The first rule that refuses the event. A refusal changes nothing.
     pub fn report(&mut self, reporter: ReporterNo, call: &EventCall) -> Result<Accepted, Refusal>
         ensures reply { result ≡ reply_of (game_at self.old call.now.game) call.now }
         ensures unchanged { IfErr result (λ r. self.new ≡ self.old) }

@@ -1,4 +1,16 @@
-//! The twelve matches of a group, the board as one thread sees it, and what histories are.
+//! The twelve matches of a group, the board as one thread sees it, and what histories are. Boards that threads share are in
+//! `ucl_pass` and `ucl_words`.
+//!
+//! # Examples
+//!
+//! ```rust
+//! let mut board = Board::fresh();
+//! let reporter = ReporterNo::new(1)?;
+//! let kick_off = EventCall { game: MatchNo::new(1)?, expected: 0, kind: Kind::KickOff };
+//! assert_eq!(board.report(reporter, &kick_off), Ok(Accepted { number: 1 }));
+//! assert_eq!(board.report(reporter, &kick_off), Err(Refusal::Stale { found: 1 }));
+//! assert_eq!(board.version(), 1);
+//! ```
 #![tactic(auto)]
 
 mod board;

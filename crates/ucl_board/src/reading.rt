@@ -6,6 +6,12 @@ ghost use Rattle.ucl_board.specs.History.{reading_of};
 use crate::board::Board;
 
 /// A copy of a board, and how many events it had taken in.
+///
+/// # Examples
+///
+/// ```rust
+/// assert_eq!(Reading::of(&Board::fresh()).version, 0);
+/// ```
 #[derive(Clone, Copy, Debug, PartialEq, Eq)]
 pub struct Reading {
     /// The board.
@@ -15,7 +21,7 @@ pub struct Reading {
 }
 
 impl Reading {
-    /// The copy of this board, with its version.
+    /// Copies a board, with its version.
     pub fn of(board: &Board) -> Reading
         ensures { result ≡ reading_of board.now }
     {

@@ -45,7 +45,7 @@ impl Model for BoardPass {
 }
 
 impl BoardPass {
-    /// A fresh board, and its first pass, a reader's.
+    /// Opens a fresh board, and returns its first pass, a reader's.
     pub fn open(alloc: Global) -> Result<Box<BoardPass>, Fault>
         ensures { MatchResult result (λ opened. IsOpened opened.value.pass) (λ fault. fault ≡ OutOfMemory) }
     {
@@ -55,7 +55,7 @@ impl BoardPass {
         Ok(Box::new(alloc, BoardPass { board, pass })?)
     }
 
-    /// Room for another pass of this board, which takes the memory that it needs.
+    /// Takes the memory for another pass of this board.
     fn room(board: &Arc<WordBoard, Global>, alloc: Global) -> Result<Box<BoardPass>, Fault>
         ensures { MatchResult result
             (λ room. room.value ≡ record { board = arc_value board.now; pass = Nobody })
@@ -74,7 +74,7 @@ impl BoardPass {
         self.pass = pass;
     }
 
-    /// A second reader's pass of the same board, which has seen as much. Without memory for it nothing is split.
+    /// Splits off a second reader's pass of the same board, which has seen as much. Without memory for it nothing is split.
     pub fn split_off(&mut self, alloc: Global) -> Result<Box<BoardPass>, Fault>
         ensures board { self.new.board ≡ self.old.board }
         ensures given { IfOk result (λ second.
@@ -110,7 +110,7 @@ impl BoardPass {
         Ok(room)
     }
 
-    /// A reporter's pass of the same board, under a number of its own. Without memory for it no number is spent.
+    /// Enlists another reporter of the same board, and returns its pass. Without memory for it no number is spent.
     pub fn enlist_another(&mut self, alloc: Global) -> Result<Box<BoardPass>, Fault>
         ensures board { self.new.board ≡ self.old.board }
         ensures given { IfOk result (λ second.
@@ -144,7 +144,7 @@ impl BoardPass {
         }
     }
 
-    /// The number of a reporter's pass.
+    /// Returns the number of a reporter's pass.
     pub fn number(&self) -> Result<ReporterNo, Fault>
         ensures number { IfOk result (IsNumberOf self.now.pass) }
         ensures refused { IfErr result (λ fault. fault_of_report self.now.pass ≡ Some fault) }
@@ -156,7 +156,7 @@ impl BoardPass {
         }
     }
 
-    /// The board as the pass reads it.
+    /// Reads the board by the pass.
     pub fn read(&mut self) -> Result<Reading, Fault>
         ensures board { self.new.board ≡ self.old.board }
         ensures reading { IfOk result (λ reading. IsRead self.old.pass reading self.new.pass) }

@@ -1,4 +1,4 @@
-//! What is done with a handle.
+//! Calls on a handle: what it holds is taken out, called, and put back. The calls that C makes are in `passes`.
 
 ghost use Rattle.std.specs.Prelude.{◌≡◌, true, false, IfOk, IfErr, MatchResult, Ok, None};
 ghost use Rattle.std.specs.Fn.{FnOnceReturnsAtMut};
@@ -14,7 +14,7 @@ use std::alloc::Global;
 use std::ptr::null_mut;
 
 impl Handle {
-    /// Whether the handle is null.
+    /// Returns whether the handle is null.
     pub fn is_null(&mut self) -> bool
         ensures { (result ≡ is_null self.old.at)
             × (result ≡ true → pass_held self.old ≡ Nobody) × (self.new ≡ self.old) }

@@ -32,7 +32,7 @@ pub struct MatchOfC {
     pub reporter: u32,
 }
 
-/// The reporter with this number, where the number is 1 to 255.
+/// Returns the reporter with this number, if the number is 1 to 255.
 fn reporter_with(number: u32) -> Option<ReporterNo>
     ensures exists { IsSome result ↔ IsReporter number }
     ensures value { IfSome result (λ reporter. reporter ≡ number) }
@@ -43,7 +43,7 @@ fn reporter_with(number: u32) -> Option<ReporterNo>
     }
 }
 
-/// The next word of a match, or the first rule that refuses the event. An expected number that no match can have is stale.
+/// Enters an event in the word of a match. An expected number that no match can have is stale.
 #[tactic(auto, unfolding(ucl_word::specs::Rules::refusal_of))]
 fn entered(word: u64, reporter: ReporterNo, expected: u32, kind: Kind) -> Result<u64, Refusal>
     requires { IsWord word }
@@ -59,7 +59,7 @@ fn entered(word: u64, reporter: ReporterNo, expected: u32, kind: Kind) -> Result
     }
 }
 
-/// The reporter and the kind of an event for the word of a match. The reporter is judged first, then the kind, then the word.
+/// Checks the reporter and the kind of an event for the word of a match: the reporter first, then the kind, then the word.
 fn event_of(word: u64, reporter: u32, kind: u32) -> Result<(ReporterNo, Kind), Fault>
     ensures taken { IfOk result (λ event. (event.0 ≡ reporter) × (kind_with kind ≡ Some event.1)
         × IsWord word × (fault_of_entry word reporter kind ≡ None)) }
@@ -77,8 +77,10 @@ fn event_of(word: u64, reporter: u32, kind: u32) -> Result<(ReporterNo, Kind), F
     Ok((reporter, kind))
 }
 
-/// The next word of a match after an event of a reporter, or why it is not entered. The reporter is judged first, then the kind, then the
-/// word, and then the rules. Only a stale event writes to `found`, and only an accepted one to `next`.
+/// Enters an event of a reporter in the word of a match.
+///
+/// The reporter is judged first, then the kind, then the word, and then the rules. Only a stale event writes to `found`, and only an accepted
+/// one to `next`.
 #[unsafe(no_mangle)]
 pub extern "C" fn uclboard_next_word(
     word: u64,
@@ -105,7 +107,7 @@ pub extern "C" fn uclboard_next_word(
     }
 }
 
-/// The word that a word of either layout is read as, or status 10, which leaves `read` as it was.
+/// Reads a word of either layout as one of this. Status 10 leaves `read` as it was.
 #[unsafe(no_mangle)]
 pub extern "C" fn uclboard_read_word(word: u64, read: &mut u64) -> u32
     ensures done { IsReadable word → (result ≡ 0) × IsReadAs word read.new }
@@ -124,7 +126,7 @@ pub extern "C" fn uclboard_read_word(word: u64, read: &mut u64) -> u32
     }
 }
 
-/// The number of a state.
+/// Returns the number of a state.
 fn state_code(state: State) -> u32
     ensures { result ≡ state_code_in_c state }
 {
@@ -135,7 +137,7 @@ fn state_code(state: State) -> u32
     }
 }
 
-/// The record of a word, written to `out`. Status 10 for a word of no valid record, and then `out` is as it was.
+/// Writes the record of a word to `out`. A word of no valid record has status 10, and leaves `out` as it was.
 #[unsafe(no_mangle)]
 pub extern "C" fn uclboard_match_of(word: u64, out: &mut MatchOfC) -> u32
     ensures done { IsWord word → (result ≡ 0) × (out.new ≡ match_seen (record_at word)) }

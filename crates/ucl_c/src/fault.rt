@@ -1,4 +1,4 @@
-//! Why a call is not done, and how that is told.
+//! Why a call is not done, and the numbers by which C knows it.
 
 ghost use Rattle.std.specs.Prelude.{◌≡◌, Some};
 ghost use Rattle.ucl_c.specs.declared.fault.Fault.TheVariants.{BadRoster, BadWord, FullBoard, OutOfMemory, Refused};
@@ -59,7 +59,7 @@ pub enum Fault {
 }
 
 impl Fault {
-    /// The number of a fault, which is the status of the call.
+    /// Returns the number of a fault, which is the status of the call.
     pub fn status(self) -> u32
         ensures { result ≡ fault_code self }
     {
@@ -88,7 +88,7 @@ impl Fault {
         }
     }
 
-    /// Tells of a fault: its number, and in `at` its word, its row or its slot, where it has one.
+    /// Writes to `at` the word, the row or the slot of a fault, if it has one, and returns the fault's number.
     pub fn tell(self, at: &mut u32) -> u32
         ensures told { result ≡ fault_code self }
         ensures placed { at.new ≡ place_with (Some self) at.old }
@@ -102,7 +102,7 @@ impl Fault {
         self.status()
     }
 
-    /// Tells of the fault of an event: its number, and in `found` the number found, where the event is stale.
+    /// Writes to `found` the number that a stale event has found, and returns the number of the fault.
     pub fn tell_found(self, found: &mut u32) -> u32
         ensures told { result ≡ fault_code self }
         ensures found { found.new ≡ found_with (Some self) found.old }

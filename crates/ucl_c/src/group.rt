@@ -39,7 +39,7 @@ pub struct Group {
     pub profile: Profile,
 }
 
-/// The order profile with this code.
+/// Returns the order profile with this code.
 pub fn profile_of(code: u32) -> Result<Profile, Fault>
     ensures taken { IfOk result (λ profile. profile_with code ≡ Some profile) }
     ensures refused { IfErr result (λ fault. fault_of_profile code ≡ Some fault) }
@@ -47,7 +47,7 @@ pub fn profile_of(code: u32) -> Result<Profile, Fault>
     Profile::from_code(code).ok_or(Fault::NoProfile)
 }
 
-/// The letter of a group, in a wider number.
+/// Returns the letter of a group, in a wider number.
 fn letter_of(letter: u32) -> Result<u8, Fault>
     ensures taken { IfOk result (λ group. (group ≡ letter) × IsGroup letter
         × (fault_of_group letter ≡ None)) }
@@ -60,7 +60,7 @@ fn letter_of(letter: u32) -> Result<u8, Fault>
     }
 }
 
-/// The board that twelve words are read as.
+/// Reads the board of twelve words.
 pub fn board_of(words: &[u64]) -> Result<Board, Fault>
     ensures board { IfOk result (λ board. (read_words 1 words.now ≡ Ok board)
         × (fault_of_words words.now ≡ None)) }
@@ -75,7 +75,7 @@ pub fn board_of(words: &[u64]) -> Result<Board, Fault>
     Ok(Board::of_words(&twelve)?)
 }
 
-/// A club as a roster takes it in.
+/// Returns a club as a roster takes it in.
 fn club_of(club: &ClubOfC) -> LentClub<'_>
     ensures { club_lent result ≡ club_handed club.now }
 {
@@ -90,7 +90,7 @@ fn club_of(club: &ClubOfC) -> LentClub<'_>
     }
 }
 
-/// The roster of four clubs.
+/// Creates the roster of four clubs.
 fn roster_of(clubs: &[ClubOfC]) -> Result<Roster, Fault>
     ensures taken { IfOk result (λ roster. (roster ≡ clubs_handed clubs.now)
         × (fault_of_clubs (clubs_handed clubs.now) ≡ None)) }
@@ -108,7 +108,7 @@ fn roster_of(clubs: &[ClubOfC]) -> Result<Roster, Fault>
     Ok(Roster::of_lent(&clubs)?)
 }
 
-/// A club of this coefficient, whose name is of no account.
+/// Creates a club of this coefficient, whose name is of no account.
 fn club_with(coefficient: u32) -> LentClub<'static>
     ensures { club_lent result ≡ club_with coefficient }
 {
@@ -118,7 +118,7 @@ fn club_with(coefficient: u32) -> LentClub<'static>
     }
 }
 
-/// A roster of clubs with these four coefficients.
+/// Creates a roster of clubs with these four coefficients.
 pub fn roster_with(coefficients: &[u32]) -> Result<Roster, Fault>
     ensures taken { IfOk result (λ roster. (roster ≡ map club_with coefficients.now)
         × (fault_of_coefficients coefficients.now ≡ None)) }
@@ -136,7 +136,7 @@ pub fn roster_with(coefficients: &[u32]) -> Result<Roster, Fault>
     Ok(Roster::of_lent(&clubs)?)
 }
 
-/// The group of twelve words, four clubs, a letter and the code of an order.
+/// Reads the group of twelve words, four clubs, a letter and the code of an order.
 pub fn group_of(words: &[u64], clubs: &[ClubOfC], letter: u32, profile: u32) -> Result<Group, Fault>
     ensures taken { IfOk result (IsGroupOf profile letter words.now (clubs_handed clubs.now)) }
     ensures refused { IfErr result (λ fault.

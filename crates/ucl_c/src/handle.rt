@@ -1,4 +1,4 @@
-//! A handle for C.
+//! A handle for C, which owns a pass and a share of its board, or nothing.
 
 ghost use Rattle.ucl_c.specs.declared.board_pass.BoardPass.{BoardPass};
 
@@ -27,10 +27,10 @@ impl Model for Handle {
 
 unsafe impl Send for Handle {}
 
-/// A handle may go to another thread.
+/// Asks of a type that its values may go to another thread.
 fn crosses<T: Send>() {}
 
-/// Handles may go to other threads.
+/// States that handles may go to other threads.
 pub fn handles_cross() {
     crosses::<Handle>();
 }

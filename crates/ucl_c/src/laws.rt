@@ -1,4 +1,4 @@
-//! What holds of all words, of the numbers of faults, and of how long screens are. The functions do nothing: they are there for their contracts.
+//! Theorems on all words, on the numbers of faults, and on how long screens are. The functions do nothing: they are there for their contracts.
 
 ghost use Rattle.ucl_c.specs.Laws.{FaultsAreWrittenByNumber, ScreensAreShort, WordsAreJudged};
 

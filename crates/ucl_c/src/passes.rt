@@ -15,7 +15,7 @@ use crate::handle::Handle;
 use std::alloc::Global;
 use ucl_word::{Accepted, EventCall, Kind, MatchNo, Refusal};
 
-/// A fresh board: a handle that is null is given its first pass, a reader's.
+/// Opens a fresh board, and gives its first pass, a reader's, to a handle that is null.
 #[unsafe(no_mangle)]
 pub extern "C" fn uclboard_open(alloc: Global, pass: &mut Handle) -> u32
     ensures opened { result ≡ 0 →
@@ -29,7 +29,7 @@ pub extern "C" fn uclboard_open(alloc: Global, pass: &mut Handle) -> u32
     pass.give(BoardPass::open(alloc))
 }
 
-/// A second reader's pass of the same board, for a handle that is null. Without memory for it nothing is split.
+/// Splits off a second reader's pass of the same board, for a handle that is null. Without memory for it nothing is split.
 #[unsafe(no_mangle)]
 pub extern "C" fn uclboard_pass_split(alloc: Global, pass: &mut Handle, other: &mut Handle) -> u32
     ensures given { result ≡ 0 →
@@ -46,7 +46,7 @@ pub extern "C" fn uclboard_pass_split(alloc: Global, pass: &mut Handle, other: &
     other.give(pass.with_held(alloc, |held| held.split_off(alloc)))
 }
 
-/// A reporter's pass of the same board, under a number of its own, for a handle that is null. Without memory for it no number is spent.
+/// Enlists another reporter of the same board, and gives its pass to a handle that is null. Without memory for it no number is spent.
 #[unsafe(no_mangle)]
 pub extern "C" fn uclboard_pass_enlist(alloc: Global, pass: &mut Handle, other: &mut Handle) -> u32
     ensures given { result ≡ 0 →
@@ -63,7 +63,7 @@ pub extern "C" fn uclboard_pass_enlist(alloc: Global, pass: &mut Handle, other: 
     other.give(pass.with_held(alloc, |held| held.enlist_another(alloc)))
 }
 
-/// The match with this number, where the number is 1 to 12.
+/// Returns the match with this number, if the number is 1 to 12.
 fn match_with(number: u32) -> Option<MatchNo>
     ensures exists { IsSome result ↔ IsMatch number }
     ensures value { IfSome result (λ game. game ≡ number) }
@@ -74,7 +74,7 @@ fn match_with(number: u32) -> Option<MatchNo>
     }
 }
 
-/// An expected number as it is told to the board: a number that no match can have stays one.
+/// Returns an expected number as the board takes it: a number that no match can have stays one.
 fn expected_told(expected: u32) -> u16
     ensures { result ≡ expected_told expected }
 {
@@ -84,7 +84,7 @@ fn expected_told(expected: u32) -> u16
     }
 }
 
-/// The event of these numbers. The kind is judged first, then the match.
+/// Checks the event of these numbers: the kind first, then the match.
 fn call_of(game: u32, expected: u32, kind: u32) -> Result<EventCall, Fault>
     ensures call { IfOk result (λ call. IsCallOf game expected kind call) }
     ensures sound { IfOk result (λ _. fault_of_call game kind ≡ None) }
@@ -103,7 +103,7 @@ fn call_of(game: u32, expected: u32, kind: u32) -> Result<EventCall, Fault>
     })
 }
 
-/// Answers a reply by its status; an accepted event and a stale one tell a number.
+/// Answers a reply by its status, and writes the number of an accepted event or of a stale one.
 fn answer(reply: Result<Accepted, Refusal>, number: &mut u32) -> u32
     ensures status { result ≡ status_of_reply reply }
     ensures number { number.new ≡ number_after reply number.old }
@@ -145,7 +145,7 @@ pub extern "C" fn uclboard_pass_report(
     }
 }
 
-/// The number of a reporter's pass.
+/// Returns the number of a reporter's pass.
 #[unsafe(no_mangle)]
 pub extern "C" fn uclboard_pass_number(alloc: Global, pass: &mut Handle, number: &mut u32) -> u32
     ensures told { fault_of_report (pass_held pass.old) ≡ None →

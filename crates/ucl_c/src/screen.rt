@@ -12,7 +12,7 @@ use std::alloc::Global;
 use ucl_json::screen_json;
 use ucl_screen::screen;
 
-/// The text of a screen.
+/// Formats the text of a screen.
 fn screen_of(
     alloc: Global,
     words: &[u64],
@@ -38,8 +38,10 @@ fn screen_of(
     )?)
 }
 
-/// The screen of twelve words and four clubs. Its bytes and a zero go to the front of `out`, and their number without the zero to
-/// `long`, also where the room is too small. What is beyond them stays as it was, and all of `out` where the call is not done.
+/// Writes the screen of twelve words and four clubs.
+///
+/// Its bytes and a zero go to the front of `out`, and their number without the zero to `long`, also if the room is too small. What is beyond
+/// them stays as it was, and all of `out` if the call is not done.
 #[unsafe(no_mangle)]
 pub extern "C" fn uclboard_screen(
     alloc: Global,
@@ -61,7 +63,7 @@ pub extern "C" fn uclboard_screen(
     answer(made, out, long, at)
 }
 
-/// How many bytes the screen of twelve words and four clubs has, without a zero, written to `long`.
+/// Counts the bytes of the screen of twelve words and four clubs, without a zero, and writes their number to `long`.
 #[unsafe(no_mangle)]
 pub extern "C" fn uclboard_screen_length(
     alloc: Global,
@@ -91,7 +93,7 @@ pub extern "C" fn uclboard_screen_length(
     }
 }
 
-/// The line of a screen in JSON, which answers this row.
+/// Formats the line of a screen in JSON, which answers this row.
 fn json_of(
     alloc: Global,
     row: u64,
@@ -119,8 +121,8 @@ fn json_of(
     )?)
 }
 
-/// The screen of twelve words and four clubs as one line of JSON, under this row: as `ucl_live` answers `screen,,,`, but for the edition and the
-/// matches. It is handed over as `uclboard_screen` hands over its text.
+/// Writes the screen of twelve words and four clubs as one line of JSON, under this row: as `ucl_live` answers `screen,,,`, but for the edition
+/// and the matches. It is handed over as [`uclboard_screen`] hands over its text.
 #[unsafe(no_mangle)]
 pub extern "C" fn uclboard_screen_json(
     alloc: Global,

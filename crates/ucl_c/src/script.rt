@@ -83,7 +83,7 @@ fn play(events: &[NightEvent], replies: &mut [ReplyOfC]) -> Board
     board
 }
 
-/// The club in a slot.
+/// Returns the club in a slot.
 fn club_of(roster: &Roster, slot: u8) -> ClubOfC
     requires { IsSlot slot }
     ensures { result ≡ club_written (club_in roster.now slot) }
@@ -98,7 +98,7 @@ fn club_of(roster: &Roster, slot: u8) -> ClubOfC
     }
 }
 
-/// The clubs of a roster.
+/// Returns the clubs of a roster.
 fn clubs_of(roster: &Roster) -> [ClubOfC; 4]
     requires { length roster.now ≡ 4 }
     ensures { result ≡ map club_written roster.now }
@@ -111,7 +111,7 @@ fn clubs_of(roster: &Roster) -> [ClubOfC; 4]
     ]
 }
 
-/// The script that the bytes say, where there is room for its words and its clubs.
+/// Reads a script from its bytes, if there is room for its words and its clubs.
 fn script_of(alloc: Global, script: &[u8], clubs: usize, words: usize) -> Result<Night, Fault>
     ensures said { IfOk result (λ night. night_of script.now ≡ Ok (night_seen night)) }
     ensures room { IfOk result (λ _. (words ≡ 12) × (clubs ≡ 4)) }

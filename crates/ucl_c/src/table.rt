@@ -29,7 +29,7 @@ pub struct RowOfC {
     pub points: u32,
 }
 
-/// The version of a board: the sum of the event numbers of its twelve words, written to `version`.
+/// Writes the version of a board to `version`: the sum of the event numbers of its twelve words.
 #[unsafe(no_mangle)]
 pub extern "C" fn uclboard_board_version(words: &[u64], version: &mut u32, at: &mut u32) -> u32
     ensures told { result ≡ status_with (fault_of_words words.now) }
@@ -46,7 +46,7 @@ pub extern "C" fn uclboard_board_version(words: &[u64], version: &mut u32, at: &
     }
 }
 
-/// The number of a mark.
+/// Returns the number of a mark.
 fn mark_code(mark: Mark) -> u32
     ensures { result ≡ mark_code mark }
 {
@@ -74,7 +74,7 @@ fn row_seen(row: &Row) -> RowOfC
     }
 }
 
-/// The four rows of a table, where there is room for just four.
+/// Returns the four rows of a table, if there is room for just four.
 fn rows_of(
     words: &[u64],
     coefficients: &[u32],
@@ -103,8 +103,9 @@ fn rows_of(
     ])
 }
 
-/// The table of twelve words and the coefficients of four clubs: four rows, in order of place. They are the rows for any clubs of these
-/// coefficients, since a table does not go by names. Where it is not done, `rows` is as it was.
+/// Writes the table of twelve words and the coefficients of four clubs: four rows, in order of place.
+///
+/// They are the rows for any clubs of these coefficients, since a table does not go by names. If it is not done, `rows` is as it was.
 #[unsafe(no_mangle)]
 pub extern "C" fn uclboard_standings(
     words: &[u64],

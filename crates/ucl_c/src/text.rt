@@ -8,7 +8,7 @@ ghost use Rattle.ucl_c.specs.Tables.{HandsOver};
 use crate::fault::Fault;
 use ucl_word::Refusal;
 
-/// Writes a text and a zero to the front of `out`, where there is room for both; its length goes to `length` in any case.
+/// Writes a text and a zero to the front of `out`, if there is room for both; its length goes to `length` in any case.
 pub fn hand_over(text: &[u8], out: &mut [u8], length: &mut usize) -> u32
     ensures { HandsOver text.now out.old out.new length.new result }
 {
@@ -22,7 +22,7 @@ pub fn hand_over(text: &[u8], out: &mut [u8], length: &mut usize) -> u32
     0
 }
 
-/// Hands over a text that was made, or tells of the fault.
+/// Hands over a text that was made, or returns the number of the fault.
 pub fn answer(made: Result<String, Fault>, out: &mut [u8], length: &mut usize, at: &mut u32) -> u32
     ensures handed { IfOk made (λ text.
         HandsOver (string_bytes text) out.old out.new length.new result × (at.new ≡ at.old)) }
@@ -36,7 +36,7 @@ pub fn answer(made: Result<String, Fault>, out: &mut [u8], length: &mut usize, a
     }
 }
 
-/// The name of a status that no refusal has, where there is one.
+/// Returns the name of a status that no refusal has, if there is one.
 fn other_name(status: u32) -> Option<&'static str>
     ensures { MatchOption result (name_in names_of_statuses status ≡ None)
         (λ name. name_in names_of_statuses status ≡ Some name.now) }
@@ -67,7 +67,7 @@ fn other_name(status: u32) -> Option<&'static str>
     }
 }
 
-/// The name of a status, where there is one: that of the refusal with this number, or one of the others.
+/// Returns the name of a status, if there is one: that of the refusal with this number, or one of the others.
 fn name_of_status(status: u32) -> Option<&'static str>
     ensures { MatchOption result (name_of_status status ≡ None)
         (λ name. name_of_status status ≡ Some name.now) }
@@ -78,8 +78,10 @@ fn name_of_status(status: u32) -> Option<&'static str>
     }
 }
 
-/// The name of a status. Its bytes and a zero go to the front of `out`, and their number without the zero to `length`, also where the room
-/// is too small. A number that is no status leaves both as they were.
+/// Writes the name of a status.
+///
+/// Its bytes and a zero go to the front of `out`, and their number without the zero to `length`, also if the room is too small. A number that
+/// is no status leaves both as they were.
 #[unsafe(no_mangle)]
 pub extern "C" fn uclboard_text_of_status(status: u32, out: &mut [u8], length: &mut usize) -> u32
     ensures known { (name : List ℕ) → name_of_status status ≡ Some name →
@@ -93,7 +95,7 @@ pub extern "C" fn uclboard_text_of_status(status: u32, out: &mut [u8], length: &
     }
 }
 
-/// The version of the library: its first number times 1,000,000, its second times 1,000, and its third.
+/// Returns the version of the library: its first number times 1,000,000, its second times 1,000, and its third.
 #[unsafe(no_mangle)]
 pub extern "C" fn uclboard_version() -> u32
     ensures { result ≡ 1000000 }

@@ -8,7 +8,7 @@ ghost use Rattle.ucl_c.specs.Inputs.{HasBegun};
 /// The word of a match before its kick-off.
 const SCHEDULED_WORD: u64 = 0x2000_0000_0000_0000;
 
-/// The bits of a word from `low` on, as many as `width`.
+/// Returns the bits of a word from `low` on, as many as `width`.
 fn bits(word: u64, low: u32, width: u32) -> u64
     requires low { low < 64 }
     requires width { width < 64 }
@@ -17,7 +17,7 @@ fn bits(word: u64, low: u32, width: u32) -> u64
     word >> low & (1 << width) - 1
 }
 
-/// Whether a word is that of a match that has begun.
+/// Returns whether a word is that of a match that has begun.
 fn has_begun(word: u64) -> bool
     ensures { IsTrue result ↔ HasBegun word }
 {
@@ -31,7 +31,7 @@ fn has_begun(word: u64) -> bool
         && number <= 4093 + state
 }
 
-/// Whether a word is that of a valid record. No record is made of it, as `unpack` makes one.
+/// Returns whether a word is that of a valid record. It makes no record of it, as [`unpack`](ucl_word::unpack) does.
 pub fn is_word(word: u64) -> bool
     ensures word { IsTrue result ↔ IsWord word }
     ensures test { result ≡ is_word word }

@@ -1,4 +1,4 @@
-//! The words of the command line, read by `clap`, and why they name nothing to do.
+//! The words of the command line, read by `clap`, and why they name nothing to do. What each program takes is in a module of its own.
 
 ghost use Rattle.ucl_command.specs.declared.fault.LineFault.TheVariants.{OutOfMemory};
 ghost use Rattle.ucl_command.specs.Arguments.{ReadsJust};
@@ -31,7 +31,7 @@ impl From<AllocError> for LineFault {
     }
 }
 
-/// A refusal with this text, where there is memory for it.
+/// Creates a refusal with this text, if there is memory for it.
 fn refusal(alloc: Global, text: &str) -> LineFault {
     match String::from_str(alloc, text) {
         Ok(text) => LineFault::Refused(text),
@@ -39,11 +39,11 @@ fn refusal(alloc: Global, text: &str) -> LineFault {
     }
 }
 
-/// The words of the command line. The first word is the program's name.
+/// Collects the words of the command line. The first word is the program's name.
 ///
 /// # Errors
 ///
-/// `Refused` where a word is not UTF-8, with a text that says so, and `OutOfMemory`.
+/// `Refused` if a word is not UTF-8, with a text that says so, and `OutOfMemory`.
 pub fn words_of<R: Env + AllocGlobal>(rt: &R, alloc: Global) -> Result<Vec<String>, LineFault> {
     match env::args(rt) {
         Ok(words) => Ok(words.collect::<Vec<String>>(alloc)?),
@@ -52,7 +52,7 @@ pub fn words_of<R: Env + AllocGlobal>(rt: &R, alloc: Global) -> Result<Vec<Strin
     }
 }
 
-/// What to tell of words that `clap` does not take: its text, or one of our own where that is empty.
+/// Returns the fault of words that `clap` does not take: with its text, or one of our own if that is empty.
 fn fault_of(alloc: Global, error: &Error) -> LineFault {
     if error.kind() == ErrorKind::OutOfMemory {
         return LineFault::OutOfMemory;
@@ -65,7 +65,7 @@ fn fault_of(alloc: Global, error: &Error) -> LineFault {
     }
 }
 
-/// What `clap` reads from the words by a command.
+/// Reads the words by a command of `clap`.
 pub(crate) fn matches_from<'a>(
     alloc: Global,
     command: Command<'a>,
@@ -77,7 +77,7 @@ pub(crate) fn matches_from<'a>(
     }
 }
 
-/// What was read, or a refusal where `clap` has left something out.
+/// Returns what was read, or a refusal if `clap` has left something out.
 pub(crate) fn read<T>(alloc: Global, found: Option<T>) -> Result<T, LineFault>
     ensures { ReadsJust found result }
 {

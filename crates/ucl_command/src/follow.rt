@@ -32,12 +32,12 @@ pub enum FollowShape {
     Matches,
 }
 
-/// `--matches`, which is text: it does not go with `--format`.
+/// Creates the option `--matches`, which is text: it does not go with `--format`.
 fn matches_option<'a>(alloc: Global) -> Result<Arg<'a>, AllocError> {
     flag_option(alloc, "matches", help::MATCHES).conflicts_with("format")
 }
 
-/// The program's command.
+/// Creates the program's command.
 fn command<'a>(alloc: Global) -> Result<Command<'a>, AllocError> {
     program(alloc, "ucl_follow", help::PROGRAM, help::PROGRAM_MORE)
         .arg(group_option(alloc, help::GROUP))?
@@ -46,7 +46,7 @@ fn command<'a>(alloc: Global) -> Result<Command<'a>, AllocError> {
         .arg(matches_option(alloc)?)
 }
 
-/// What was named to be written.
+/// Returns what was named to be written.
 fn shape_in(matches: &ArgMatches<'_>) -> Option<FollowShape> {
     let format = format_of(matches)?;
     if matches.get_flag("matches") {
@@ -58,7 +58,7 @@ fn shape_in(matches: &ArgMatches<'_>) -> Option<FollowShape> {
     }
 }
 
-/// The arguments that were named.
+/// Returns the arguments that were named.
 fn args_in(matches: &ArgMatches<'_>) -> Option<FollowArgs> {
     Some(FollowArgs {
         group: group_of(matches),
@@ -67,14 +67,14 @@ fn args_in(matches: &ArgMatches<'_>) -> Option<FollowArgs> {
     })
 }
 
-/// What the words ask of `ucl_follow`. The first word is the program's name.
+/// Parses the words of `ucl_follow`. The first word is the program's name.
 ///
 /// The options are `--group` with a letter from `A` to `H`; `--order` with `uefa` or `away-in-tie`; `--format` with `text` or `json`, which is
-/// `text` where it is left out; and `--matches`, which asks for the matches in place of screens, and does not go with `--format`.
+/// `text` if it is left out; and `--matches`, which asks for the matches in place of screens, and does not go with `--format`.
 ///
 /// # Errors
 ///
-/// `Help` where help is asked for, by `--help` or `-h`, or the version, by `--version` or `-V`; `Refused` where the words have anything else;
+/// `Help` if help is asked for, by `--help` or `-h`, or the version, by `--version` or `-V`; `Refused` if the words have anything else;
 /// and `OutOfMemory`.
 pub fn follow_args(alloc: Global, words: &[String]) -> Result<FollowArgs, LineFault> {
     let matches = matches_from(alloc, command(alloc)?, words)?;

@@ -27,7 +27,7 @@ pub struct LiveArgs {
     pub ghost letter: { may_be_asked group ≡ true },
 }
 
-/// The program's command.
+/// Creates the program's command.
 fn command<'a>(alloc: Global) -> Result<Command<'a>, AllocError> {
     program(alloc, "ucl_live", help::PROGRAM, help::PROGRAM_MORE)
         .arg(group_option(alloc, help::GROUP))?
@@ -36,7 +36,7 @@ fn command<'a>(alloc: Global) -> Result<Command<'a>, AllocError> {
         .arg(format_option(alloc, FORMAT))
 }
 
-/// The arguments that were named.
+/// Returns the arguments that were named.
 fn args_in(matches: &ArgMatches<'_>) -> Option<LiveArgs> {
     let format = format_of(matches)?;
     let group = group_of(matches);
@@ -48,14 +48,14 @@ fn args_in(matches: &ArgMatches<'_>) -> Option<LiveArgs> {
     })
 }
 
-/// What the words ask of `ucl_live`. The first word is the program's name.
+/// Parses the words of `ucl_live`. The first word is the program's name.
 ///
 /// The options are `--group` with a letter from `A` to `H`; `--order` with `uefa` or `away-in-tie`; `--screens`; and `--format` with `text` or
-/// `json`, which is `text` where it is left out.
+/// `json`, which is `text` if it is left out.
 ///
 /// # Errors
 ///
-/// `Help` where help is asked for, by `--help` or `-h`, or the version, by `--version` or `-V`; `Refused` where the words have anything else;
+/// `Help` if help is asked for, by `--help` or `-h`, or the version, by `--version` or `-V`; `Refused` if the words have anything else;
 /// and `OutOfMemory`.
 pub fn live_args(alloc: Global, words: &[String]) -> Result<LiveArgs, LineFault> {
     let matches = matches_from(alloc, command(alloc)?, words)?;

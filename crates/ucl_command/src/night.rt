@@ -35,7 +35,7 @@ pub enum Line {
     },
 }
 
-/// The program's command, with a subcommand for each line.
+/// Creates the program's command, with a subcommand for each line.
 fn command<'a>(alloc: Global) -> Result<Command<'a>, AllocError> {
     let feed = Command::new(alloc, "feed")
         .about(help::FEED)
@@ -58,7 +58,7 @@ fn command<'a>(alloc: Global) -> Result<Command<'a>, AllocError> {
         .subcommand(night)
 }
 
-/// The line that was named.
+/// Returns the line that was named.
 fn line_in(matches: &ArgMatches<'_>) -> Option<Line>
     ensures { IfSome result IsInRange }
 {
@@ -78,15 +78,15 @@ fn line_in(matches: &ArgMatches<'_>) -> Option<Line>
     }
 }
 
-/// What the words ask of `ucl_night`. The first word is the program's name.
+/// Parses the words of `ucl_night`. The first word is the program's name.
 ///
-/// The subcommand is `feed`, `show` or `night`. The latter two take `--group` with a letter from `A` to `H`, which is `A` where it is left
-/// out, and `--order` with `uefa` or `away-in-tie`, which is `uefa` where it is left out. `night` takes `--readings` too, with a number from 0
-/// to 1,000, which is 0 where it is left out.
+/// The subcommand is `feed`, `show` or `night`. The latter two take `--group` with a letter from `A` to `H`, which is `A` if it is left
+/// out, and `--order` with `uefa` or `away-in-tie`, which is `uefa` if it is left out. `night` takes `--readings` too, with a number from 0
+/// to 1,000, which is 0 if it is left out.
 ///
 /// # Errors
 ///
-/// `Help` where help is asked for, or the version, by `--version` or `-V` before any subcommand; `Refused` where the words have no subcommand,
+/// `Help` if help is asked for, or the version, by `--version` or `-V` before any subcommand; `Refused` if the words have no subcommand,
 /// an unknown one, or what it does not take; and `OutOfMemory`.
 pub fn line_of(alloc: Global, words: &[String]) -> Result<Line, LineFault>
     ensures in_range { IfOk result IsInRange }

@@ -30,7 +30,7 @@ const JSON: &str = "json";
 /// The most readings that `--readings` asks of each reader.
 const MOST_READINGS: u32 = 1000;
 
-/// A program's command, which tells the version, before it has options: its name, what it does, and what its help says after the options.
+/// Creates a program's command before it has options: its name, what it does, and what its help says after the options. It prints the version.
 pub(crate) fn program<'a>(
     alloc: Global,
     name: &'a str,
@@ -43,7 +43,7 @@ pub(crate) fn program<'a>(
         .after_help(more)
 }
 
-/// An option of one value.
+/// Creates an option of one value.
 fn option<'a>(alloc: Global, name: &'a str, value: &'a str, says: &'a str) -> Arg<'a> {
     Arg::new(alloc, name)
         .long(name)
@@ -52,31 +52,31 @@ fn option<'a>(alloc: Global, name: &'a str, value: &'a str, says: &'a str) -> Ar
         .help(says)
 }
 
-/// `--group` with a letter from `A` to `H`.
+/// Creates `--group` with a letter from `A` to `H`.
 pub(crate) fn group_option<'a>(alloc: Global, says: &'a str) -> Arg<'a> {
     option(alloc, "group", "GROUP", says).value_parser(GROUPS.as_slice())
 }
 
-/// `--order` with `uefa` or `away-in-tie`.
+/// Creates `--order` with `uefa` or `away-in-tie`.
 pub(crate) fn order_option<'a>(alloc: Global, says: &'a str) -> Arg<'a> {
     option(alloc, "order", "ORDER", says).value_parser(PROFILE_NAMES.as_slice())
 }
 
-/// `--format` with `text` or `json`, which is `text` where it is left out.
+/// Creates `--format` with `text` or `json`, which is `text` if it is left out.
 pub(crate) fn format_option<'a>(alloc: Global, says: &'a str) -> Arg<'a> {
     option(alloc, "format", "FORMAT", says)
         .value_parser(FORMATS.as_slice())
         .default_value(TEXT)
 }
 
-/// `--readings` with a number from 0 to 1,000, which is 0 where it is left out.
+/// Creates `--readings` with a number from 0 to 1,000, which is 0 if it is left out.
 pub(crate) fn readings_option<'a>(alloc: Global) -> Arg<'a> {
     option(alloc, "readings", "NUMBER", help::READINGS)
         .value_parser(value_parser!(u32).range(0..=i64::from(MOST_READINGS)))
         .default_value("0")
 }
 
-/// An option without a value, which is there or not.
+/// Creates an option without a value, which is there or not.
 pub(crate) fn flag_option<'a>(alloc: Global, name: &'a str, says: &'a str) -> Arg<'a> {
     Arg::new(alloc, name)
         .long(name)
@@ -84,7 +84,7 @@ pub(crate) fn flag_option<'a>(alloc: Global, name: &'a str, says: &'a str) -> Ar
         .help(says)
 }
 
-/// The group that was named.
+/// Returns the group that was named.
 #[tactic(auto, using(crate::proofs::Letters::letter_asked))]
 pub(crate) fn group_of(matches: &ArgMatches<'_>) -> Option<u8>
     ensures letter { IfSome result IsGroup }
@@ -96,12 +96,12 @@ pub(crate) fn group_of(matches: &ArgMatches<'_>) -> Option<u8>
     }
 }
 
-/// The order that was named.
+/// Returns the order that was named.
 pub(crate) fn order_of(matches: &ArgMatches<'_>) -> Option<Profile> {
     Profile::from_name(matches.get_str("order")?)
 }
 
-/// The form that was named.
+/// Returns the form that was named.
 pub(crate) fn format_of(matches: &ArgMatches<'_>) -> Option<Format> {
     match matches.get_str("format")? {
         TEXT => Some(Format::Text),
@@ -110,7 +110,7 @@ pub(crate) fn format_of(matches: &ArgMatches<'_>) -> Option<Format> {
     }
 }
 
-/// How many readings were asked for.
+/// Returns how many readings were asked for.
 pub(crate) fn readings_of(matches: &ArgMatches<'_>) -> Option<u32>
     ensures { IfSome result (λ n. n ≤ 1000) }
 {

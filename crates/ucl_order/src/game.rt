@@ -1,4 +1,4 @@
-//! The matches of a group, and how each of its clubs sees one.
+//! The matches of a group with their scores, and how each of its clubs sees one. What a club has done in several is in `results`.
 
 ghost use Rattle.std.specs.Prelude.{◌≡◌, ◌≤◌, [], All, length};
 ghost use Rattle.ucl_word.specs.Record.{IsValid};
@@ -52,7 +52,7 @@ pub(crate) struct Appearance {
 }
 
 impl Score {
-    /// That of a record.
+    /// Takes the score from a record.
     fn of(game: MatchRecord) -> Score
         requires { IsValid game }
         ensures value { result ≡ score_of game }
@@ -71,7 +71,7 @@ impl Score {
 }
 
 impl Match {
-    /// The match as the home club sees it.
+    /// Returns the match as the home club sees it.
     pub(crate) fn seen_from_home(&self) -> Appearance
         ensures { result ≡ seen_from_home self.now }
     {
@@ -85,7 +85,7 @@ impl Match {
         }
     }
 
-    /// The match as the visiting club sees it.
+    /// Returns the match as the visiting club sees it.
     pub(crate) fn seen_from_away(&self) -> Appearance
         ensures { result ≡ seen_from_away self.now }
     {
@@ -99,7 +99,7 @@ impl Match {
         }
     }
 
-    /// The match as the club sees it, if it plays in it.
+    /// Returns the match as the club sees it, if it plays in it.
     pub(crate) fn seen_by(&self, club: u8) -> Option<Appearance>
         ensures { result ≡ seen_by club self.now }
     {
@@ -112,7 +112,7 @@ impl Match {
         }
     }
 
-    /// The match as the club sees it, if it plays in it and both clubs are of the set.
+    /// Returns the match as the club sees it, if it plays in it and both clubs are of the set.
     pub(crate) fn seen_among(&self, club: u8, clubs: &[bool; 4]) -> Option<Appearance>
         ensures { result ≡ seen_among club (slots_in clubs.now) self.now }
     {
@@ -123,7 +123,7 @@ impl Match {
         }
     }
 
-    /// Whether the match is in play or finished.
+    /// Returns whether the match is in play or finished.
     fn has_started(&self) -> bool
         ensures { result ≡ has_started self.now }
     {
@@ -133,7 +133,7 @@ impl Match {
         }
     }
 
-    /// Whether the match is in play or finished, and its two clubs have the same key.
+    /// Returns whether the match is in play or finished, and its two clubs have the same key.
     pub(crate) fn is_level(&self, keys: &[u64; 4]) -> bool
         requires { IsPairing self.now }
         ensures { result ≡ is_level keys.now self.now }
@@ -141,7 +141,7 @@ impl Match {
         self.has_started() && keys[usize::from(self.home - 1)] == keys[usize::from(self.away - 1)]
     }
 
-    /// Whether the match is finished.
+    /// Returns whether the match is finished.
     pub(crate) fn has_finished(&self) -> bool
         ensures { result ≡ has_finished self.now }
     {
@@ -153,28 +153,28 @@ impl Match {
 }
 
 impl Appearance {
-    /// Whether the club scored more than its opponent.
+    /// Returns whether the club scored more than its opponent.
     pub(crate) fn is_won(&self) -> bool
         ensures { result ≡ is_won self.now }
     {
         self.conceded < self.scored
     }
 
-    /// Whether both scored the same.
+    /// Returns whether both scored the same.
     pub(crate) fn is_drawn(&self) -> bool
         ensures { result ≡ is_drawn self.now }
     {
         self.scored == self.conceded
     }
 
-    /// Whether the club scored less than its opponent.
+    /// Returns whether the club scored less than its opponent.
     pub(crate) fn is_lost(&self) -> bool
         ensures { result ≡ is_lost self.now }
     {
         self.scored < self.conceded
     }
 
-    /// Three for a win, one for a draw.
+    /// Returns the points of the club: three for a win, one for a draw.
     fn points(&self) -> u8
         ensures value { result ≡ worth self.now }
         ensures few { result ≤ 3 }
@@ -182,7 +182,7 @@ impl Appearance {
         WIN * u8::from(self.is_won()) + u8::from(self.is_drawn())
     }
 
-    /// The points that the club is sure of from the match, and the most that it can give: what a match that is over gave, and else no
+    /// Returns the points that the club is sure of from the match, and the most that it can give: what a match that is over gave, and else no
     /// point and those of a win.
     pub(crate) fn point_bounds(&self, is_over: bool) -> (u8, u8)
         ensures value { result ≡ point_bounds is_over self.now }
@@ -192,7 +192,7 @@ impl Appearance {
         if is_over { (points, points) } else { (0, WIN) }
     }
 
-    /// What the match adds to the disciplinary total of the club: 1 for each yellow card that stands, 3 for each expulsion.
+    /// Returns what the match adds to the disciplinary total of the club: 1 for each yellow card that stands, 3 for each expulsion.
     pub(crate) fn disciplinary_points(&self) -> u16
         ensures value { result ≡ disciplinary_points self.now }
         ensures few { result ≤ 1020 }
@@ -201,7 +201,7 @@ impl Appearance {
     }
 }
 
-/// Whether the slot is in the set, of which place i says whether slot i + 1 is in it.
+/// Returns whether the slot is in the set, of which place i says whether slot i + 1 is in it.
 fn is_in(clubs: &[bool; 4], slot: u8) -> bool
     ensures { result ≡ is_in (slots_in clubs.now) slot }
 {

@@ -1,4 +1,4 @@
-//! What holds of every order and of every mark. The functions do nothing: each is there for its contract.
+//! Theorems on every order and every mark. The functions do nothing: each is there for its contract.
 
 ghost use Rattle.ucl_order.specs.Laws.{BoardsFitKeys, ClassesAreLevel, HigherHasGreaterKey, MinusIsCertain, OrderGoesByStanding, OrderHasEachClub, OrderIsUnique, PlusIsCertain, RankingsAreOrders, TableGoesByCoefficients, TiesFollowRule};
 

@@ -1,4 +1,17 @@
-//! The clubs of a group, their order and the table.
+//! The clubs of a group, their order, their marks and the table. How a table is written is in `ucl_screen`.
+//!
+//! # Examples
+//!
+//! ```rust
+//! let roster = Roster::of_lent(&[
+//!     LentClub { name: b"Alpha".as_slice(), coefficient: 60_000 },
+//!     LentClub { name: b"Bravo".as_slice(), coefficient: 95_000 },
+//!     LentClub { name: b"Charlie".as_slice(), coefficient: 60_000 },
+//!     LentClub { name: b"Delta".as_slice(), coefficient: 81_500 },
+//! ]).ok()?;
+//! let [first, second, third, fourth] = standings(&Board::fresh(), &roster, Profile::Uefa);
+//! assert_eq!([first.slot, second.slot, third.slot, fourth.slot], [2, 4, 1, 3]);
+//! ```
 #![tactic(auto)]
 
 mod game;

@@ -1,4 +1,4 @@
-//! Which clubs are sure of their places.
+//! Marks: which clubs are sure of a place among the first two, or sure of none, by finished matches alone.
 
 ghost use Rattle.std.specs.Prelude.{◌≡◌, ◌≤◌, All, List, length, map};
 ghost use Rattle.std.specs.List.{list_all};
@@ -31,7 +31,7 @@ struct PointBounds {
 }
 
 impl PointBounds {
-    /// What the clubs can still become after these matches.
+    /// Returns what the clubs can still become after these matches.
     fn of(matches: &[Match]) -> PointBounds
         requires short { length matches.now ≤ 12 }
         requires pairings { All IsPairing matches.now }
@@ -53,7 +53,7 @@ impl PointBounds {
         PointBounds { sure, reach }
     }
 
-    /// The points of the club from finished matches.
+    /// Returns the points of the club from finished matches.
     fn sure_points(&self, club: u8) -> u8
         requires { IsSlot club }
         ensures { (matches : List Match) → ArePointBounds matches self.now
@@ -62,7 +62,7 @@ impl PointBounds {
         self.sure[usize::from(club - 1)]
     }
 
-    /// The points of the club if it wins each match that it has left.
+    /// Returns the points of the club if it wins each match that it has left.
     fn reach(&self, club: u8) -> u8
         requires { IsSlot club }
         ensures { (matches : List Match) → ArePointBounds matches self.now
@@ -71,7 +71,7 @@ impl PointBounds {
         self.reach[usize::from(club - 1)]
     }
 
-    /// Whether the other club can reach the club's points.
+    /// Returns whether the other club can reach the club's points.
     fn is_rival(&self, club: u8, other: u8) -> bool
         requires club { IsSlot club }
         requires other { IsSlot other }
@@ -81,7 +81,7 @@ impl PointBounds {
         other != club && self.sure_points(club) <= self.reach(other)
     }
 
-    /// Whether the other club has more points than the club can reach.
+    /// Returns whether the other club has more points than the club can reach.
     fn is_out_of_reach(&self, club: u8, other: u8) -> bool
         requires club { IsSlot club }
         requires other { IsSlot other }
@@ -91,7 +91,7 @@ impl PointBounds {
         other != club && self.reach(club) < self.sure_points(other)
     }
 
-    /// How many other clubs can reach the club's points.
+    /// Counts the other clubs that can reach the club's points.
     fn rivals(&self, club: u8) -> u8
         requires { IsSlot club }
         ensures { (matches : List Match) → ArePointBounds matches self.now
@@ -103,7 +103,7 @@ impl PointBounds {
             + u8::from(self.is_rival(club, 4))
     }
 
-    /// How many other clubs have more points than the club can reach.
+    /// Counts the other clubs that have more points than the club can reach.
     fn out_of_reach(&self, club: u8) -> u8
         requires { IsSlot club }
         ensures { (matches : List Match) → ArePointBounds matches self.now
@@ -115,7 +115,7 @@ impl PointBounds {
             + u8::from(self.is_out_of_reach(club, 4))
     }
 
-    /// The mark before the last match is finished: by points alone.
+    /// Returns the mark before the last match is finished: by points alone.
     fn early_mark(&self, club: u8) -> Mark
         requires { IsSlot club }
         ensures { (matches : List Match) → ArePointBounds matches self.now
@@ -131,14 +131,14 @@ impl PointBounds {
     }
 }
 
-/// Whether the group has ended.
+/// Returns whether the group has ended.
 fn are_all_finished(matches: &[Match]) -> bool
     ensures { result ≡ list_all has_finished matches.now }
 {
     matches.iter().all(|game| game.has_finished())
 }
 
-/// The mark when all matches are finished: by the order.
+/// Returns the mark when all matches are finished: by the order.
 fn final_mark(order: &[u8; 4], club: u8) -> Mark
     ensures { result ≡ final_mark order.now club }
 {
@@ -149,7 +149,7 @@ fn final_mark(order: &[u8; 4], club: u8) -> Mark
     }
 }
 
-/// The marks of the clubs, by place of this order, by these matches.
+/// Returns the marks of the clubs, by place of this order, by these matches.
 #[tactic(auto, using(crate::proofs::MarkFacts::early_marks))]
 pub(crate) fn marks_of(matches: &[Match], order: &[u8; 4]) -> [Mark; 4]
     requires short { length matches.now ≤ 12 }

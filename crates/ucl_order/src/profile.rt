@@ -1,4 +1,4 @@
-//! By what clubs that are level on points are compared in the matches among them.
+//! The profiles: by what clubs that are level on points are compared in the matches among them.
 
 ghost use Rattle.std.specs.Prelude.{◌≡◌};
 ghost use Rattle.ucl_order.specs.Names.{profile_name, profile_named, profile_with};
@@ -20,7 +20,7 @@ const AWAY_IN_TIE: &str = "away-in-tie";
 pub static PROFILE_NAMES: [&str; 2] = [UEFA, AWAY_IN_TIE];
 
 impl Profile {
-    /// The name of the order.
+    /// Returns the name of the order.
     pub fn name(self) -> &'static str
         ensures { result.now ≡ profile_name self }
     {
@@ -30,7 +30,7 @@ impl Profile {
         }
     }
 
-    /// The order with this code, where there is one.
+    /// Returns the order with this code, if there is one.
     pub fn from_code(code: u32) -> Option<Profile>
         ensures { result ≡ profile_with code }
     {
@@ -41,7 +41,7 @@ impl Profile {
         }
     }
 
-    /// The order with this name, where there is one.
+    /// Returns the order with this name, if there is one.
     pub fn from_name(name: &str) -> Option<Profile>
         ensures { result ≡ profile_named name.now }
     {

@@ -1,4 +1,4 @@
-//! What a club has done.
+//! What a club has done in several matches: wins, goals, cards and points. How clubs are compared by it is in `keys`.
 
 ghost use Rattle.std.specs.Prelude.{◌≡◌, ℕ, ◌≤◌, ◌+◌, ◌*◌, ◌++◌, ◌∷◌, [], All, List, length};
 ghost use Rattle.ucl_order.specs.declared.game.Match.{Match};
@@ -59,7 +59,7 @@ impl Results {
         }
     }
 
-    /// What the club has done in these matches.
+    /// Returns what the club has done in these matches.
     pub(crate) fn of(club: u8, matches: &[Match]) -> Results
         requires { length matches.now ≤ 12 }
         ensures value { result ≡ results_of club matches.now }
@@ -74,7 +74,7 @@ impl Results {
         results
     }
 
-    /// What the club has done in the matches between clubs of the set.
+    /// Returns what the club has done in the matches between clubs of the set.
     pub(crate) fn among(club: u8, clubs: &[bool; 4], matches: &[Match]) -> Results
         requires { length matches.now ≤ 12 }
         ensures value { result ≡ results_of club (among (slots_in clubs.now) matches.now) }
@@ -102,7 +102,7 @@ impl Results {
         results[usize::from(game.away - 1)].add(&game.seen_from_away());
     }
 
-    /// What each club has done in those matches in play and finished whose two clubs have the same key.
+    /// Returns what each club has done in those matches in play and finished whose two clubs have the same key.
     pub(crate) fn of_level(keys: &[u64; 4], matches: &[Match]) -> [Results; 4]
         requires short { length matches.now ≤ 12 }
         requires pairings { All IsPairing matches.now }
@@ -118,7 +118,7 @@ impl Results {
         results
     }
 
-    /// What each club has done in the matches in play and finished: before the first criterion all four are level.
+    /// Returns what each club has done in the matches in play and finished: before the first criterion all four are level.
     pub(crate) fn of_clubs(matches: &[Match]) -> [Results; 4]
         requires short { length matches.now ≤ 12 }
         requires pairings { All IsPairing matches.now }
@@ -128,7 +128,7 @@ impl Results {
         Results::of_level(&[0; 4], matches)
     }
 
-    /// Three for a win, one for a draw.
+    /// Returns the points: three for a win, one for a draw.
     pub(crate) fn points(&self) -> u8
         requires { points_for self.now.wins self.now.draws ≤ 48 }
         ensures value { result ≡ points_for self.now.wins self.now.draws }

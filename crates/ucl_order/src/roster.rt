@@ -1,4 +1,4 @@
-//! The clubs of a group, by their slots.
+//! The clubs of a group, by their slots: which clubs a roster takes in, and what it says of each.
 
 ghost use Rattle.std.specs.Prelude.{◌≡◌, ◌-◌, ◌≤◌, None, Some, true, false, IfOk, IfErr, OnOk, length, map, set};
 ghost use Rattle.std.specs.List.{list_all};
@@ -22,7 +22,7 @@ const LAST_PRINTED: u8 = 0x7e;
 /// The greatest coefficient of a club.
 const GREATEST_COEFFICIENT: u32 = 999_999;
 
-/// A club as a roster takes it in. Either field can hold anything; `Roster::new` says what a roster takes.
+/// A club as a roster takes it in. Either field can hold anything; [`Roster::new`] says what a roster takes.
 #[derive(Debug, Drop)]
 pub struct Club {
     /// The name: 1 to 20 bytes of printed ASCII, 0x20 to 0x7e.
@@ -31,7 +31,7 @@ pub struct Club {
     pub coefficient: u32,
 }
 
-/// A club as a roster takes it in, with a name that is lent. Either field can hold anything; `Roster::of_lent` says what a roster takes.
+/// A club as a roster takes it in, with a name that is lent. Either field can hold anything; [`Roster::of_lent`] says what a roster takes.
 #[derive(Clone, Copy)]
 pub struct LentClub<'a> {
     /// The name: 1 to 20 bytes of printed ASCII, 0x20 to 0x7e.
@@ -56,6 +56,14 @@ struct Member {
 }
 
 /// The four clubs of a group, by slots 1 to 4. Contracts see the list of their names and coefficients.
+///
+/// # Examples
+///
+/// ```rust
+/// let club = LentClub { name: b"Alpha".as_slice(), coefficient: 60_000 };
+/// let roster = Roster::of_lent(&[club; 4]).ok()?;
+/// assert_eq!((roster.name(3), roster.coefficient(3)), (b"Alpha".as_slice(), 60_000));
+/// ```
 #[derive(Debug, Drop)]
 pub struct Roster {
     members: [Member; 4],
@@ -73,7 +81,7 @@ impl Model for Roster {
     ghost invariant = { λ r. IsRoster (members_seen r.members) };
 }
 
-/// Whether each byte is one of printed ASCII.
+/// Returns whether each byte is one of printed ASCII.
 fn is_printed(name: &[u8]) -> bool
     ensures { result ≡ list_all is_printed name.now }
 {
@@ -81,7 +89,7 @@ fn is_printed(name: &[u8]) -> bool
         .all(|b| FIRST_PRINTED <= *b && *b <= LAST_PRINTED)
 }
 
-/// Whether a name has 1 to 20 bytes of printed ASCII.
+/// Returns whether a name has 1 to 20 bytes of printed ASCII.
 fn is_name(name: &[u8]) -> bool
     ensures { result ≡ is_name name.now }
 {
@@ -91,7 +99,11 @@ fn is_name(name: &[u8]) -> bool
     is_printed(name)
 }
 
-/// A club of this name and coefficient in this slot, where a roster takes it in. The name is copied.
+/// Copies a club of this name and coefficient for this slot.
+///
+/// # Errors
+///
+/// [`BadRoster`] with the slot, if no roster takes the club in.
 #[tactic(auto, unfolding(crate::specs::Roster::is_club))]
 fn member_with(slot: u8, name: &[u8], coefficient: u32) -> Result<Member, BadRoster>
     ensures taken { IfOk result (λ m. IsClub (named name.now coefficient)
@@ -114,7 +126,7 @@ fn member_with(slot: u8, name: &[u8], coefficient: u32) -> Result<Member, BadRos
     })
 }
 
-/// A copy of the club in this slot, where a roster takes it in.
+/// Copies the club for this slot, as [`member_with`] does.
 fn member_of(slot: u8, club: &Club) -> Result<Member, BadRoster>
     ensures taken { IfOk result (λ m. IsClub (club_seen club.now)
         × (member_seen m ≡ club_seen club.now)) }
@@ -124,7 +136,7 @@ fn member_of(slot: u8, club: &Club) -> Result<Member, BadRoster>
     member_with(slot, &club.name, club.coefficient)
 }
 
-/// A copy of the lent club in this slot, where a roster takes it in.
+/// Copies the lent club for this slot, as [`member_with`] does.
 fn member_lent(slot: u8, club: &LentClub<'_>) -> Result<Member, BadRoster>
     ensures taken { IfOk result (λ m. IsClub (club_lent club.now)
         × (member_seen m ≡ club_lent club.now)) }
@@ -135,11 +147,13 @@ fn member_lent(slot: u8, club: &LentClub<'_>) -> Result<Member, BadRoster>
 }
 
 impl Roster {
-    /// The roster of four clubs, the first of which is in slot 1. It takes no memory: the names are copied, and the
-    /// clubs are dropped, also where they are refused.
+    /// Creates the roster of four clubs, the first of which is in slot 1.
     ///
-    /// A club whose name is not 1 to 20 bytes of printed ASCII, or whose coefficient is over 999,999, is refused. The
-    /// answer names the least slot with such a club.
+    /// It takes no memory: the names are copied, and the clubs are dropped, also if they are refused.
+    ///
+    /// # Errors
+    ///
+    /// [`BadRoster`] with the least slot of a club whose name is not 1 to 20 bytes of printed ASCII, or whose coefficient is over 999,999.
     #[tactic(auto, unfolding(crate::specs::Roster::bad_slot_from))]
     pub fn new(clubs: [Club; 4]) -> Result<Roster, BadRoster>
         ensures taken { IfOk result (λ roster. (roster ≡ map club_seen clubs)
@@ -155,9 +169,11 @@ impl Roster {
         Ok(Roster { members })
     }
 
-    /// The roster of four clubs whose names are lent, the first of which is in slot 1. It takes no memory: the names are copied.
+    /// Creates the roster of four clubs whose names are lent, the first of which is in slot 1. It takes no memory: the names are copied.
     ///
-    /// It refuses what `new` refuses, and names the same slot.
+    /// # Errors
+    ///
+    /// Those of [`new`](Roster::new), with the same slot.
     #[tactic(auto, unfolding(crate::specs::Roster::bad_slot_from))]
     pub fn of_lent(clubs: &[LentClub<'_>; 4]) -> Result<Roster, BadRoster>
         ensures taken { IfOk result (λ roster. (roster ≡ map club_lent clubs.now)
@@ -177,7 +193,9 @@ impl Roster {
 
     /// Puts a club, whose name is lent, in a slot from 1 to 4. It takes no memory: the name is copied.
     ///
-    /// A club that `new` refuses is refused, and the roster stays as it was.
+    /// # Errors
+    ///
+    /// [`BadRoster`] with the slot, if [`new`](Roster::new) refuses such a club. The roster stays as it was.
     pub fn put(&mut self, slot: u8, club: &LentClub<'_>) -> Result<(), BadRoster>
         requires { IsSlot slot }
         ensures taken { OnOk result ((self.new ≡ set self.old (slot - 1) (club_lent club.now))
@@ -189,7 +207,7 @@ impl Roster {
         Ok(())
     }
 
-    /// The name of the club in a slot from 1 to 4: 1 to 20 bytes of printed ASCII.
+    /// Returns the name of the club in a slot from 1 to 4: 1 to 20 bytes of printed ASCII.
     pub fn name(&self, slot: u8) -> &[u8]
         requires { IsSlot slot }
         ensures value { result.now ≡ name_of self.now slot }
@@ -199,7 +217,7 @@ impl Roster {
         self.members[usize::from(slot - 1)].name.as_slice()
     }
 
-    /// The coefficient of the club in a slot from 1 to 4, at most 999,999.
+    /// Returns the coefficient of the club in a slot from 1 to 4, at most 999,999.
     pub fn coefficient(&self, slot: u8) -> u32
         requires { IsSlot slot }
         ensures value { result ≡ coefficient_of self.now slot }

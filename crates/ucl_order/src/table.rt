@@ -1,4 +1,4 @@
-//! The table of a group.
+//! The table of a group: a row for each place, made from results, order and marks.
 
 ghost use Rattle.std.specs.Prelude.{◌≡◌, ◌-◌, ◌≤◌, List, [], ◌∷◌, All, length, map, slice_index};
 ghost use Rattle.ucl_board.specs.Fixtures.{IsSlot};
@@ -44,7 +44,7 @@ pub struct Row {
     pub points: u8,
 }
 
-/// The row of a club at its place, by what it has done.
+/// Returns the row of a club at its place, by what it has done.
 fn row_with(place: u8, slot: u8, mark: Mark, results: &Results) -> Row
     requires { IsWithin 12 results.now }
     ensures { (matches : List Match) → results.now ≡ results_of slot matches
@@ -64,7 +64,7 @@ fn row_with(place: u8, slot: u8, mark: Mark, results: &Results) -> Row
     }
 }
 
-/// The row at this place of the order. The marks are by place, and the results are those of all clubs in the matches in play and
+/// Returns the row at this place of the order. The marks are by place, and the results are those of all clubs in the matches in play and
 /// finished.
 fn row_at(place: u8, order: &[u8; 4], marks: &[Mark; 4], results: &[Results; 4]) -> Row
     requires at_least { 1 ≤ place }
@@ -81,7 +81,7 @@ fn row_at(place: u8, order: &[u8; 4], marks: &[Mark; 4], results: &[Results; 4])
     row_with(place, slot, marks[index], &results[usize::from(slot - 1)])
 }
 
-/// The table of a board, in order of place.
+/// Returns the table of a board, in order of place.
 ///
 /// Clubs stand by points, three for a win and one for a draw, over the matches in play and finished. Clubs that are level on points
 /// stand in the order of the Regulations of the UEFA Champions League 2021/22, equality of points in the group stage: (a) points,
@@ -93,7 +93,7 @@ fn row_at(place: u8, order: &[u8; 4], marks: &[Mark; 4], results: &[Results; 4])
 /// Marks go by finished matches. When all twelve are finished, the first two clubs have `Plus` and the others `Minus`. Before, a club
 /// can reach its points and three more for each match that it has left: `Plus` where at most one other club can reach the club's
 /// points, `Minus` where at least two others have more points than the club can reach, else `Blank`. What `Plus` and `Minus` say then
-/// holds in every completion (`plus_is_certain`, `minus_is_certain`).
+/// holds in every completion ([`plus_is_certain`], [`minus_is_certain`]).
 pub fn standings(board: &Board, roster: &Roster, profile: Profile) -> [Row; 4]
     ensures rows { result ≡ rows_of profile board.now roster.now }
     ensures four { length result ≡ 4 }

@@ -1,4 +1,4 @@
-//! Why an input is refused.
+//! Why an input is refused, or was not read.
 
 ghost use Rattle.std.specs.Prelude.{◌≡◌, Some};
 ghost use Rattle.ucl_screen.specs.declared.fault.InputFault.TheVariants.{OutOfMemory};
@@ -26,7 +26,7 @@ pub enum InputFault {
 }
 
 impl InputFault {
-    /// The line that the program writes, without its line feed.
+    /// Returns the line that the program prints, without its line feed.
     pub fn line(&self) -> FaultLine
         ensures { line_text result ≡ input_fault_text self.now }
     {

@@ -1,4 +1,4 @@
-//! The line of a fault.
+//! The line that a program prints of a fault, in parts, so that it takes no memory.
 
 ghost use Rattle.std.specs.Prelude.{◌≡◌, ◌++◌, Some, codes, decimal};
 ghost use Rattle.ucl_screen.specs.Texts.{line_text};
@@ -17,7 +17,7 @@ pub struct FaultLine {
 }
 
 impl FaultLine {
-    /// A line with no number.
+    /// Creates a line with no number.
     #[tactic(auto, using(crate::proofs::FaultLines::one_part))]
     pub fn plain(before: &'static str) -> FaultLine
         ensures { line_text result ≡ before.now }
@@ -29,7 +29,7 @@ impl FaultLine {
         }
     }
 
-    /// A line that ends with a number.
+    /// Creates a line that ends with a number.
     #[tactic(auto, using(crate::proofs::FaultLines::two_parts))]
     pub fn ending(before: &'static str, number: usize) -> FaultLine
         ensures { line_text result ≡ before.now ++ decimal number }
@@ -41,7 +41,7 @@ impl FaultLine {
         }
     }
 
-    /// A line that ends with so many bytes.
+    /// Creates a line that ends with so many bytes.
     pub fn after_bytes(before: &'static str, bytes: usize) -> FaultLine
         ensures { line_text result ≡ before.now ++ decimal bytes ++ codes " bytes" }
     {

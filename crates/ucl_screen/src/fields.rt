@@ -1,4 +1,4 @@
-//! What single fields say.
+//! Single fields of a row, parsed. Whole rows are in `reading`.
 
 ghost use Rattle.std.specs.Prelude.{◌≡◌, ◌<◌, ◌≤◌, IfSome};
 ghost use Rattle.ucl_screen.specs.Events.{call_in, expected_in, match_in, reporter_in};
@@ -6,7 +6,7 @@ ghost use Rattle.ucl_screen.specs.Numbers.{number, hex_digit, hex_word};
 
 use ucl_word::{EventCall, Kind, MatchNo, ReporterNo};
 
-/// The number of a text of decimal digits, at least one and at most so many.
+/// Parses a number of decimal digits, at least one and at most so many.
 pub(crate) fn number(text: &[u8], most: usize) -> Option<u32>
     requires { most ≤ 9 }
     ensures { result ≡ number most text.now }
@@ -24,28 +24,28 @@ pub(crate) fn number(text: &[u8], most: usize) -> Option<u32>
     Some(n)
 }
 
-/// The reporter that a field says.
+/// Parses the number of a reporter.
 pub fn reporter_of_field(text: &[u8]) -> Option<ReporterNo>
     ensures { result ≡ reporter_in text.now }
 {
     ReporterNo::new(u8::try_from(number(text, 3)?).ok()?)
 }
 
-/// The match that a field says.
+/// Parses the number of a match.
 pub fn match_of_field(text: &[u8]) -> Option<MatchNo>
     ensures { result ≡ match_in text.now }
 {
     MatchNo::new(u8::try_from(number(text, 2)?).ok()?)
 }
 
-/// The expected number that a field says.
+/// Parses an expected event number.
 pub fn expected_of_field(text: &[u8]) -> Option<u16>
     ensures { result ≡ expected_in text.now }
 {
     u16::try_from(number(text, 5)?).ok()
 }
 
-/// The event of a match that three fields say.
+/// Parses the event of a match from three fields: the match, the expected number and the event word.
 pub fn call_of_fields(game: &[u8], expected: &[u8], kind: &[u8]) -> Option<EventCall>
     ensures { result ≡ call_in game.now expected.now kind.now }
 {
@@ -59,7 +59,7 @@ pub fn call_of_fields(game: &[u8], expected: &[u8], kind: &[u8]) -> Option<Event
     })
 }
 
-/// What a hexadecimal digit stands for.
+/// Returns what a hexadecimal digit stands for.
 fn hex_digit(b: u8) -> Option<u8>
     ensures value { result ≡ hex_digit b }
     ensures small { IfSome result (λ digit. digit < 16) }
@@ -72,7 +72,7 @@ fn hex_digit(b: u8) -> Option<u8>
     }
 }
 
-/// The word of a text of 16 hexadecimal digits, in upper case.
+/// Parses a word of 16 hexadecimal digits, of either case.
 pub fn hex_word(text: &[u8]) -> Option<u64>
     ensures { result ≡ hex_word text.now }
 {

@@ -10,7 +10,7 @@ use ucl_board::{Board, away_of, home_of};
 use ucl_order::Roster;
 use ucl_word::{MatchNo, MatchRecord, OutOfMemory, State};
 
-/// The name of a state.
+/// Returns the name of a state.
 pub fn state_name(state: State) -> &'static str
     ensures { result.now ≡ state_name state }
 {
@@ -93,10 +93,12 @@ fn push_match(
     Ok(())
 }
 
-/// The twelve matches of a board, a line each: its number, event number, state, goals, standing yellows and expulsions, who entered its last
-/// event, and its clubs.
+/// Formats the twelve matches of a board, a line each: its number, event number, state, goals, standing yellows and expulsions, who entered
+/// its last event, and its clubs.
 ///
-/// Where an allocation was refused, the answer is `OutOfMemory`.
+/// # Errors
+///
+/// [`OutOfMemory`] if an allocation was refused.
 pub fn matches(alloc: Global, board: &Board, roster: &Roster) -> Result<String, OutOfMemory>
     ensures { IfOk result (λ text. string_bytes text ≡ matches_text board.now roster.now) }
 {

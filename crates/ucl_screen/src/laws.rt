@@ -1,4 +1,4 @@
-//! What holds of all screens. The function does nothing: it is there for its contract.
+//! A theorem on all screens. The function does nothing: it is there for its contract.
 
 ghost use Rattle.ucl_screen.specs.Laws.{LinesHave53Columns};
 

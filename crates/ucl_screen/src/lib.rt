@@ -1,4 +1,17 @@
-//! The screen of a board; bytes in and out, and what the bytes of an input mean.
+//! The screen of a board, and the inputs of the programs: scripts and sheets. Lines of a live input, and answers to them, are in `ucl_rows`.
+//!
+//! # Examples
+//!
+//! ```rust
+//! let script = "club,1,Alpha,60000\nclub,2,Bravo,95000\nclub,3,Charlie,60000\nclub,4,Delta,81500\n1,1,0,kickoff\n";
+//! let night = read_night(rt.alloc(), &mut FromRead::new(script.as_bytes())).ok()?;
+//! let mut board = Board::fresh();
+//! for event in &night.events {
+//!     board.report(event.reporter, &event.call).ok()?;
+//! }
+//! let text = screen(rt.alloc(), &board, &night.roster, b'A', Profile::Uefa).ok()?;
+//! assert!(text.starts_with("GROUP A v00001 IN PLAY 1\n"));
+//! ```
 #![tactic(auto)]
 
 mod fault;

@@ -1,4 +1,4 @@
-//! Single lines of the screen.
+//! Single lines of the screen. The whole screen is in `text`.
 
 ghost use Rattle.std.specs.Prelude.{◌≡◌, ◌++◌, ◌≤◌, replicate, OnOk, string_bytes, decimal};
 ghost use Rattle.ucl_screen.specs.Lines.{header, place_line, mark_text, left, right, zeros_before, difference_text};
@@ -91,7 +91,7 @@ pub fn push_header(out: &mut String, group: u8, version: u16, in_play: u8) -> Re
     Ok(())
 }
 
-/// What is written between the place and the name.
+/// Returns what is written between the place and the name.
 fn sign_of(mark: Mark) -> &'static str
     ensures { result.now ≡ mark_text mark }
 {

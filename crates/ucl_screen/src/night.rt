@@ -1,4 +1,4 @@
-//! The script of a night.
+//! The script of a night, as a value. How it is read is in `reading`.
 
 use ucl_order::Roster;
 use ucl_word::{EventCall, ReporterNo};

@@ -1,4 +1,4 @@
-//! Reading scripts and sheets.
+//! Scripts and sheets, read from a source. What single fields say is in `fields`.
 
 ghost use Rattle.std.specs.Prelude.{◌≡◌, ◌+◌, ◌≤◌, length, Some, option_map, IfErr, IfOk, OnOk};
 ghost use Rattle.csv.specs.Records.{fields_of};
@@ -24,7 +24,7 @@ use ucl_order::{Club, LentClub, Roster};
 /// The row of the first event of a script: rows 1 to 4 are its clubs.
 pub const FIRST_EVENT_ROW: u8 = 5;
 
-/// The club of a row of this number, with a name that is lent.
+/// Parses the club of a row of this number, with a name that is lent.
 pub fn lent_club<'f>(row: u8, fields: &Four<'f>) -> Option<LentClub<'f>>
     requires { row ≤ 9 }
     ensures { option_map club_lent result ≡ club_of row (four_seen fields.now) }
@@ -38,7 +38,7 @@ pub fn lent_club<'f>(row: u8, fields: &Four<'f>) -> Option<LentClub<'f>>
     })
 }
 
-/// The club of a row of this number.
+/// Parses the club of a row of this number.
 pub fn club_of_fields(alloc: Global, row: u8, fields: &Four<'_>) -> Result<Option<Club>, AllocError>
     requires { row ≤ 9 }
     ensures { IfOk result (λ club. option_map club_seen club ≡ club_of row (four_seen fields.now)) }
@@ -52,7 +52,7 @@ pub fn club_of_fields(alloc: Global, row: u8, fields: &Four<'_>) -> Result<Optio
     }))
 }
 
-/// The club of the next row, which has this number.
+/// Parses the club of the next row, which has this number.
 #[tactic(auto, unfolding(crate::specs::Script::club_at))]
 fn club_at(alloc: Global, number: u8, rows: &mut Reader<&[u8]>) -> Result<Club, InputFault>
     requires digit { number ≤ 9 }
@@ -78,7 +78,7 @@ fn club_at(alloc: Global, number: u8, rows: &mut Reader<&[u8]>) -> Result<Club, 
     }
 }
 
-/// The roster of the next rows, which are rows 1 to 4.
+/// Parses the roster of the next rows, which are rows 1 to 4.
 #[tactic(auto, unfolding(crate::specs::Script::roster_at))]
 fn roster_at(alloc: Global, rows: &mut Reader<&[u8]>) -> Result<Roster, InputFault>
     requires { IsReading rows.old }
@@ -97,7 +97,7 @@ fn roster_at(alloc: Global, rows: &mut Reader<&[u8]>) -> Result<Roster, InputFau
     }
 }
 
-/// The event that four fields say.
+/// Parses the event of four fields.
 pub fn event_of_fields(fields: &Four<'_>) -> Option<NightEvent>
     ensures { result ≡ event_of (four_seen fields.now) }
 {
@@ -106,14 +106,14 @@ pub fn event_of_fields(fields: &Four<'_>) -> Option<NightEvent>
     Some(NightEvent { reporter, call })
 }
 
-/// The event that a row says.
+/// Parses the event of a row.
 fn event_of(row: &ByteRecord) -> Option<NightEvent>
     ensures { result ≡ said_by event_of (fields_of row.now) }
 {
     event_of_fields(&four_fields(row)?)
 }
 
-/// The events of the rows that are left.
+/// Parses the events of the rows that are left.
 fn events_at(alloc: Global, rows: &mut Reader<&[u8]>) -> Result<Vec<NightEvent>, InputFault>
     requires reading { IsReading rows.old }
     requires few { length (rows_left rows.old) ≤ most_bytes }
@@ -134,7 +134,7 @@ fn events_at(alloc: Global, rows: &mut Reader<&[u8]>) -> Result<Vec<NightEvent>,
     Ok(events)
 }
 
-/// The night that a text says.
+/// Parses the script of a text.
 #[tactic(auto, unfolding(crate::specs::Script::night_of_rows))]
 fn night_of(alloc: Global, text: &[u8]) -> Result<Night, InputFault>
     requires { length text.now ≤ most_bytes }
@@ -147,9 +147,11 @@ fn night_of(alloc: Global, text: &[u8]) -> Result<Night, InputFault>
     Ok(Night { roster, events })
 }
 
-/// Reads a script that lies in memory: what it means, or its first fault, is what `read_night` answers of the same bytes of a source.
+/// Reads a script that lies in memory: what it means, or its first fault, is what [`read_night`] answers of the same bytes of a source.
 ///
-/// `OutOfMemory` can come in place of any answer.
+/// # Errors
+///
+/// Those of [`read_night`], but for `ReadFailed`. `OutOfMemory` can come in place of any answer.
 pub fn night_of_bytes(alloc: Global, bytes: &[u8]) -> Result<Night, InputFault>
     ensures gives { AnswersAsSaid night_seen result (night_of bytes.now) }
     ensures kinds { IfErr result IsFaultOfScript }
@@ -163,17 +165,18 @@ pub fn night_of_bytes(alloc: Global, bytes: &[u8]) -> Result<Night, InputFault>
 
 /// Reads a script from a source to its end.
 ///
-/// The input is read whole before it is looked at: a source that fails is `ReadFailed`, with the number of bytes that
-/// it had given, and more than 4,194,304 bytes are `TooLong`. The source is called at most 4,194,306 times, at most once
-/// for each byte and once more.
+/// The input is read whole before it is looked at. The source is called at most 4,194,306 times, at most once for each byte and once more.
 ///
 /// Rows are the records that the crate `csv` reads in its default dialect, with no heading and with records of any
 /// length; each has to have four fields. Rows 1 to 4 are `club`, the row's number as one digit, the name, and the
 /// coefficient in 1 to 9 digits. Every row from row 5 on is a reporter in 1 to 3 digits, a match in 1 or 2, an
-/// expected number in 1 to 5, each in its range, and an event word. The first row that is missing or is not of this
-/// form is `BadRow`. A club that no roster takes in is `BadRoster`, found once row 4 is good and before row 5 is read.
+/// expected number in 1 to 5, each in its range, and an event word.
 ///
-/// `OutOfMemory` can come in place of any answer. A refusal leaves nothing but a source that has given bytes.
+/// # Errors
+///
+/// `ReadFailed` if the source fails, with the number of bytes that it had given; `TooLong` if it gives more than 4,194,304 bytes; `BadRow`
+/// with the first row that is missing or is not of this form; `BadRoster` if no roster takes in a club, found once row 4 is good and before
+/// row 5 is read. `OutOfMemory` can come in place of any answer. A fault leaves nothing but a source that has given bytes.
 pub fn read_night<S: Source>(alloc: Global, source: &mut S) -> Result<Night, InputFault>
     ensures reads { Reads MeansNight night_seen (S.left source.old) (S.left source.new)
         (S.failed source.new) result }
@@ -185,7 +188,7 @@ pub fn read_night<S: Source>(alloc: Global, source: &mut S) -> Result<Night, Inp
     night_of(alloc, &bytes)
 }
 
-/// The word that four fields say, in the row of this match.
+/// Parses the word of four fields, in the row of this match.
 fn word_of_fields(game: u8, fields: &Four<'_>) -> Option<u64>
     ensures { result ≡ word_of_row game (four_seen fields.now) }
 {
@@ -198,14 +201,14 @@ fn word_of_fields(game: u8, fields: &Four<'_>) -> Option<u64>
     hex_word(fields.third)
 }
 
-/// The word that the row of this match says.
+/// Parses the word of the row of this match.
 fn word_of_row(game: u8, row: &ByteRecord) -> Option<u64>
     ensures { result ≡ said_by (word_of_row game) (fields_of row.now) }
 {
     word_of_fields(game, &four_fields(row)?)
 }
 
-/// The words of the rows that are left, which are rows 5 to 16.
+/// Parses the words of the rows that are left, which are rows 5 to 16.
 fn words_at(alloc: Global, rows: &mut Reader<&[u8]>) -> Result<[u64; 12], InputFault>
     requires { IsReading rows.old }
     ensures { AnswersAsSaid (λ words. words) result (words_from 12 1 (rows_left rows.old)) }
@@ -230,7 +233,7 @@ fn words_at(alloc: Global, rows: &mut Reader<&[u8]>) -> Result<[u64; 12], InputF
     Ok(words)
 }
 
-/// The roster and the words that a text says.
+/// Parses the roster and the words of a text.
 #[tactic(auto, unfolding(crate::specs::Script::sheet_of_rows))]
 fn roster_and_words(alloc: Global, text: &[u8]) -> Result<(Roster, [u64; 12]), InputFault>
     ensures { AnswersAsSaid (λ p. record { clubs = p.0; words = p.1 }) result
@@ -244,12 +247,15 @@ fn roster_and_words(alloc: Global, text: &[u8]) -> Result<(Roster, [u64; 12]), I
 
 /// Reads a sheet from a source to its end.
 ///
-/// The input is read whole and taken apart into rows as by `read_night`, and rows 1 to 4 are the same. The rows of the
+/// The input is read whole and taken apart into rows as by [`read_night`], and rows 1 to 4 are the same. The rows of the
 /// twelve matches follow, row m + 4 for match m: `word`, the match in 1 or 2 digits, its word in 16 hexadecimal digits
-/// of either case, and an empty field. A row 17 is `BadRow`. Once all rows are good, the words are read by
-/// `Board::of_words`, so words of the first layout are taken too: the least match whose word is of neither layout is `BadWordAt`.
+/// of either case, and an empty field. Once all rows are good, the words are read by [`Board::of_words`], so words of the first layout are
+/// taken too.
 ///
-/// `OutOfMemory` can come in place of any answer. A refusal leaves nothing but a source that has given bytes.
+/// # Errors
+///
+/// Those of [`read_night`]. A row 17 is `BadRow`. `BadWordAt` has the least match whose word is of neither layout, once all rows are good.
+/// `OutOfMemory` can come in place of any answer. A fault leaves nothing but a source that has given bytes.
 pub fn read_words<S: Source>(alloc: Global, source: &mut S) -> Result<Sheet, InputFault>
     ensures reads { Reads MeansSheet sheet_seen (S.left source.old) (S.left source.new)
         (S.failed source.new) result }

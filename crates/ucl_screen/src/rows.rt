@@ -1,4 +1,4 @@
-//! The rows of an input, one after the other.
+//! The rows of an input, one after the other, by `csv`.
 
 ghost use Rattle.std.specs.Prelude.{◌≡◌, ◌≤◌, length, option_map, IfOk, true};
 ghost use Rattle.csv.specs.Records.{fields_of};
@@ -20,7 +20,7 @@ pub struct Four<'a> {
     pub fourth: &'a [u8],
 }
 
-/// A reader of the rows of a text, none of which is a heading.
+/// Opens a reader of the rows of a text, none of which is a heading.
 pub(crate) fn open(alloc: Global, text: &[u8]) -> Reader<&[u8]>
     ensures reading { IsReading result }
     ensures rows { rows_left result ≡ rows_of text.now }
@@ -45,7 +45,7 @@ pub(crate) fn next_row(rows: &mut Reader<&[u8]>, row: &mut ByteRecord) -> Result
     Ok(found)
 }
 
-/// The fields of a row that has four.
+/// Returns the fields of a row, if it has just four.
 #[tactic(auto, using(crate::proofs::FourFacts::four_by))]
 pub(crate) fn four_fields(row: &ByteRecord) -> Option<Four<'_>>
     ensures { option_map four_seen result ≡ four_of (fields_of row.now) }

@@ -1,4 +1,4 @@
-//! A board that was written down.
+//! The sheet of a board, as a value. How it is read is in `reading`.
 
 use ucl_board::Board;
 use ucl_order::Roster;

@@ -15,14 +15,14 @@ use ucl_word::{OutOfMemory, State, record_of};
 /// The names of the columns, 53 bytes and a line feed.
 const COLUMNS: &str = "    Club                  P  W  D  L  GF  GA   GD Pts\n";
 
-/// Whether a byte is the letter of a group: `A` to `H`, in upper case.
+/// Returns whether a byte is the letter of a group: `A` to `H`, in upper case.
 pub fn is_group(letter: u8) -> bool
     ensures { IsTrue result ↔ IsGroup letter }
 {
     b'A' <= letter && letter <= b'H'
 }
 
-/// The letter of a group, where a text is one: one byte, `A` to `H`.
+/// Parses the letter of a group: one byte, `A` to `H`.
 pub fn letter_in(text: &[u8]) -> Option<u8>
     ensures told { result ≡ letter_in text.now }
     ensures letter { IfSome result IsGroup }
@@ -33,7 +33,7 @@ pub fn letter_in(text: &[u8]) -> Option<u8>
     }
 }
 
-/// How many matches are in play.
+/// Counts the matches in play.
 pub fn matches_in_play(board: &Board) -> u8
     ensures { result ≡ in_play board.now }
 {
@@ -47,7 +47,7 @@ pub fn matches_in_play(board: &Board) -> u8
     count
 }
 
-/// A club's name as text.
+/// Returns the name of a club as text.
 pub fn text_of(name: &[u8]) -> &str
     requires { is_name name.now ≡ true }
     ensures { result.now ≡ name.now }
@@ -70,10 +70,12 @@ fn push_rows(out: &mut String, rows: &[Row], roster: &Roster) -> Result<(), Allo
     Ok(())
 }
 
-/// The screen of a group: a header, the names of the columns, and a line for each place of the table, in the order
-/// of the profile.
+/// Formats the screen of a group: a header, the names of the columns, and a line for each place of the table, in the order
+/// of the profile. `group` has to be the letter of a group.
 ///
-/// `group` has to be the letter of a group. Where an allocation was refused, the answer is `OutOfMemory`.
+/// # Errors
+///
+/// [`OutOfMemory`] if an allocation was refused.
 pub fn screen(
     alloc: Global,
     board: &Board,

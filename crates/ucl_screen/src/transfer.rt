@@ -1,4 +1,4 @@
-//! Reading to the end.
+//! A source, read to its end.
 
 ghost use Rattle.std.specs.Prelude.{◌≡◌, ◌+◌, ◌≤◌, length, IfOk};
 ghost use Rattle.ucl_screen.specs.Input.{Reads, CallsRead, most_bytes, whole_input};
@@ -13,11 +13,11 @@ pub(crate) const MOST_INPUT_BYTES: usize = 4_194_304;
 /// How many bytes are asked for at a time.
 const PIECE: usize = 65_536;
 
-/// All the bytes of a source, which are at most 4,194,304.
+/// Reads all the bytes of a source, which are at most 4,194,304.
 ///
 /// # Errors
 ///
-/// `ReadFailed` where the source fails, with the number of bytes that it had given; `TooLong` where it has more; `OutOfMemory`.
+/// `ReadFailed` if the source fails, with the number of bytes that it had given; `TooLong` if it has more; `OutOfMemory`.
 pub fn read_all<S: Source>(alloc: Global, source: &mut S) -> Result<Vec<u8>, InputFault>
     ensures reads { Reads (λ bytes r. whole_input bytes ≡ r) (λ v. v.items) (S.left source.old)
         (S.left source.new) (S.failed source.new) result }

@@ -1,4 +1,5 @@
-//! What reporters enter.
+//! What reporters enter: the kinds of events, an event for one match, and the reply to one that was entered. Refusals are in
+//! `refusal`, and what an event changes is in `rules`.
 
 ghost use Rattle.std.specs.Prelude.{◌≡◌};
 ghost use Rattle.ucl_word.specs.Names.{kind_name, kind_named, kind_with};
@@ -15,6 +16,13 @@ pub enum Side {
 }
 
 /// What an event says has happened.
+///
+/// # Examples
+///
+/// ```rust
+/// assert_eq!(Kind::from_name(b"goal-home".as_slice()), Some(Kind::Goal(Side::Home)));
+/// assert_eq!(Kind::Goal(Side::Home).name(), "goal-home");
+/// ```
 #[derive(Clone, Copy, Debug, PartialEq, Eq)]
 pub enum Kind {
     /// The match begins.
@@ -54,7 +62,7 @@ static KINDS: [Kind; 13] = [
 ];
 
 impl Kind {
-    /// The name by which a row asks for an event of this kind.
+    /// Returns the name by which a row asks for an event of this kind.
     pub fn name(self) -> &'static str
         ensures { result.now ≡ kind_name self }
     {
@@ -75,7 +83,7 @@ impl Kind {
         }
     }
 
-    /// The kind with this code, where there is one.
+    /// Returns the kind with this code, if there is one.
     #[inline]
     pub fn from_code(code: u32) -> Option<Kind>
         ensures { result ≡ kind_with code }
@@ -83,7 +91,7 @@ impl Kind {
         KINDS.get(code as usize).copied()
     }
 
-    /// The kind with this name, where there is one.
+    /// Returns the kind with this name, if there is one.
     #[tactic(auto, unfolding(crate::specs::Names::kind_named))]
     pub fn from_name(name: &[u8]) -> Option<Kind>
         ensures { result ≡ kind_named name.now }
@@ -121,6 +129,12 @@ impl Kind {
 }
 
 /// An event for one match, with the event number that its reporter last saw there.
+///
+/// # Examples
+///
+/// ```rust
+/// let call = EventCall { game: MatchNo::new(1)?, expected: 0, kind: Kind::KickOff };
+/// ```
 #[derive(Clone, Copy, Debug, PartialEq, Eq)]
 pub struct EventCall {
     /// The match, 1 to 12.

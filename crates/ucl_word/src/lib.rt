@@ -1,5 +1,16 @@
 //! One match of a group of the UEFA Champions League: its record, its packed word, and the rules by which an event is
-//! entered or refused.
+//! entered or refused. Which clubs play, and the twelve matches together, are in `ucl_board`.
+//!
+//! # Examples
+//!
+//! ```rust
+//! let reporter = ReporterNo::new(1)?;
+//! let scheduled = pack(&MatchRecord::default());
+//! let in_play = next_word(scheduled, reporter, 0, Kind::KickOff).ok()?;
+//! let goal = next_word(in_play, reporter, 1, Kind::Goal(Side::Home)).ok()?;
+//! assert_eq!(unpack(goal).ok()?.home_goals, 1);
+//! assert_eq!(next_word(goal, reporter, 1, Kind::FullTime), Err(Refusal::Stale { found: 2 }));
+//! ```
 #![tactic(auto)]
 
 mod event;

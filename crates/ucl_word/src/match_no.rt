@@ -5,6 +5,13 @@ ghost use Rattle.std.specs.Prelude.{◌≡◌, ℕ, ◌≤◌, ◌↔◌, IsSome
 use std::marker::Model;
 
 /// The number of a match in the group, 1 to 12. Contracts see it as that number.
+///
+/// # Examples
+///
+/// ```rust
+/// assert_eq!(MatchNo::new(12)?.get(), 12);
+/// assert!(MatchNo::new(13).is_none());
+/// ```
 #[derive(Clone, Copy, Debug, PartialEq, Eq)]
 pub struct MatchNo {
     number: u8,
@@ -21,7 +28,7 @@ impl Model for MatchNo {
 }
 
 impl MatchNo {
-    /// The match with this number, where the number is 1 to 12.
+    /// Creates the number of a match, if `number` is 1 to 12.
     pub fn new(number: u8) -> Option<MatchNo>
         ensures exists { IsSome result ↔ ((1 ≤ number) × (number ≤ 12)) }
         ensures value { IfSome result (λ m. m ≡ number) }
@@ -33,7 +40,7 @@ impl MatchNo {
         }
     }
 
-    /// The number, 1 to 12.
+    /// Returns the number, 1 to 12.
     pub fn get(self) -> u8
         ensures value { result ≡ self }
         ensures within { (1 ≤ result) × (result ≤ 12) }

@@ -1,4 +1,4 @@
-//! Words of the first layout, which boards were written down in before.
+//! Words of the first layout, in which boards were written down before. Words of this layout are in `word`.
 
 ghost use Rattle.std.specs.Prelude.{◌≡◌, ◌≤◌, ◌↔◌, IsTrue, Ok, IfOk, IfErr};
 ghost use Rattle.ucl_word.specs.declared.record.MatchRecord.{MatchRecord};
@@ -20,7 +20,7 @@ const FIRST_FIELDS_END: u32 = 54;
 /// The greatest event number in the first layout.
 const LAST_NUMBER: u16 = 1023;
 
-/// Whether the first layout had room for the event number, and in play for that of full time too.
+/// Returns whether the first layout had room for the event number, and in play for that of full time too.
 fn has_room(game: &MatchRecord) -> bool
     ensures { IsTrue result ↔ game.now.number ≤ most_in_first game.now.state }
 {
@@ -30,14 +30,14 @@ fn has_room(game: &MatchRecord) -> bool
     }
 }
 
-/// Whether nothing stands above the fields: the first layout had no mark.
+/// Returns whether nothing stands above the fields: the first layout had no mark.
 fn has_no_mark(word: u64) -> bool
     ensures { IsTrue result ↔ IsMarked first_layout word }
 {
     word >> FIRST_FIELDS_END == 0
 }
 
-/// The word with its fields where they stand now, and with the mark.
+/// Moves the fields of a word to where they stand now, and adds the mark.
 fn moved(word: u64) -> u64
     requires { IsMarked first_layout word }
     ensures { result ≡ moved_up word }
@@ -47,7 +47,11 @@ fn moved(word: u64) -> u64
     put_at(MARK, MARK_LOW, fields)
 }
 
-/// The record with this word in the first layout. A word that no record packed to which was valid in it is a bad word.
+/// Unpacks a word of the first layout.
+///
+/// # Errors
+///
+/// [`BadWord`] if no record that was valid in the first layout packed to the word.
 fn unpack_first(word: u64) -> Result<MatchRecord, BadWord>
     ensures valid { IfOk result IsFirstValid }
     ensures packed { IfOk result (λ m. first_word_of m ≡ word) }
@@ -68,8 +72,13 @@ fn unpack_first(word: u64) -> Result<MatchRecord, BadWord>
     }
 }
 
-/// The word of a record that may have been packed in the first layout: a word that `unpack` reads is answered as it is, and a word
-/// of the first layout as the word of the same record. A word that is neither is a bad word; none is both.
+/// Converts a word of either layout to a word of this one.
+///
+/// A word that [`unpack`] reads is answered as it is, and a word of the first layout as the word of the same record. No word is of both.
+///
+/// # Errors
+///
+/// [`BadWord`] if the word is of neither layout.
 pub fn migrate(word: u64) -> Result<u64, BadWord>
     ensures kept { IsWord word → result ≡ Ok word }
     ensures moved { (m : MatchRecord) → IsFirstValid m → first_word_of m ≡ word

@@ -1,4 +1,4 @@
-//! What is known of one match.
+//! The record of one match: its numbers, and which of them a match can have. How it is packed is in `word`.
 
 ghost use Rattle.std.specs.Prelude.{◌≡◌};
 ghost use Rattle.ucl_word.specs.Record.{is_valid, is_within_limits, suits_state};
@@ -30,8 +30,17 @@ pub enum State {
     Finished,
 }
 
-/// What is known of one match. Any field can hold any value of its type; `is_valid` says which records a match can have.
-/// The default is the record of a match that has not kicked off.
+/// What is known of one match. Any field can hold any value of its type; [`is_valid`](MatchRecord::is_valid) says which records a match
+/// can have. The default is the record of a match that has not kicked off.
+///
+/// # Examples
+///
+/// ```rust
+/// let scheduled = MatchRecord::default();
+/// assert!(scheduled.is_valid());
+/// let first = apply(&scheduled, ReporterNo::new(1)?, 0, Kind::KickOff).ok()?;
+/// assert_eq!((first.state, first.number, first.reporter), (State::InPlay, 1, 1));
+/// ```
 #[derive(Clone, Copy, Debug, Default, PartialEq, Eq)]
 pub struct MatchRecord {
     /// How many events were accepted: 0 before kick-off, 1 to `LAST_NUMBER_IN_PLAY` in play, 2 to `LAST_NUMBER` at the end.
@@ -55,9 +64,10 @@ pub struct MatchRecord {
 }
 
 impl MatchRecord {
-    /// Whether a match can have this record: goals and yellows of a side are at most 63 and expulsions at most 31,
-    /// and it is scheduled with every number 0, or in play with an event number from 1 to `LAST_NUMBER_IN_PLAY` and a
-    /// reporter, or finished with an event number from 2 to `LAST_NUMBER` and a reporter.
+    /// Returns whether a match can have this record.
+    ///
+    /// Goals and yellows of a side are at most 63 and expulsions at most 31, and the record is scheduled with every number 0, or in play with
+    /// an event number from 1 to `LAST_NUMBER_IN_PLAY` and a reporter, or finished with an event number from 2 to `LAST_NUMBER` and a reporter.
     #[tactic(auto, unfolding(crate::specs::Record::is_valid))]
     pub fn is_valid(&self) -> bool
         ensures { result ≡ is_valid self.now }
@@ -65,6 +75,7 @@ impl MatchRecord {
         self.is_within_limits() && self.suits_state()
     }
 
+    /// Returns whether goals, yellows and expulsions are within their limits.
     fn is_within_limits(&self) -> bool
         ensures { result ≡ is_within_limits self.now }
     {
@@ -76,6 +87,7 @@ impl MatchRecord {
             && self.away_expulsions <= MOST_EXPULSIONS
     }
 
+    /// Returns whether the numbers are those that a match in this state can have.
     fn suits_state(&self) -> bool
         ensures { result ≡ suits_state self.now.state self.now }
     {

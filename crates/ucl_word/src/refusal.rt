@@ -1,4 +1,4 @@
-//! Why events, words and calls are refused.
+//! Why events, words and calls are refused, with the numbers and the names of refusals.
 
 ghost use Rattle.std.specs.Prelude.{◌≡◌, ◌≤◌, Some, length};
 ghost use Rattle.ucl_word.specs.Names.{found_of, refusal_code, refusal_name, refusal_text, refusal_with};
@@ -31,7 +31,7 @@ pub enum Refusal {
 }
 
 impl Refusal {
-    /// The number of the refusal, 1 to 9.
+    /// Returns the number of the refusal, 1 to 9.
     pub fn code(self) -> u8
         ensures { result ≡ refusal_code self }
     {
@@ -48,7 +48,7 @@ impl Refusal {
         }
     }
 
-    /// The name of the refusal.
+    /// Returns the name of the refusal.
     pub fn name(self) -> &'static str
         ensures value { result.now ≡ refusal_name self }
         ensures short { length result.now ≤ 15 }
@@ -66,7 +66,7 @@ impl Refusal {
         }
     }
 
-    /// The number found, which a stale event is told.
+    /// Returns the event number that was found, if the event is stale.
     pub fn found(self) -> Option<u16>
         ensures { result ≡ found_of self }
     {
@@ -76,7 +76,7 @@ impl Refusal {
         }
     }
 
-    /// The refusal with this number, where there is one. A stale event is told `found`.
+    /// Returns the refusal with this number, if there is one. A stale event has found the number `found`.
     pub fn from_code(code: u32, found: u16) -> Option<Refusal>
         ensures { result ≡ refusal_with code found }
     {

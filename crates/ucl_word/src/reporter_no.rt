@@ -5,6 +5,13 @@ ghost use Rattle.std.specs.Prelude.{◌≡◌, ℕ, ◌≤◌, ◌↔◌, IsSome
 use std::marker::Model;
 
 /// The number of a reporter, 1 to 255. Contracts see it as that number.
+///
+/// # Examples
+///
+/// ```rust
+/// assert_eq!(ReporterNo::new(255)?.get(), 255);
+/// assert!(ReporterNo::new(0).is_none());
+/// ```
 #[derive(Clone, Copy, Debug, PartialEq, Eq)]
 pub struct ReporterNo {
     number: u8,
@@ -21,7 +28,7 @@ impl Model for ReporterNo {
 }
 
 impl ReporterNo {
-    /// The reporter with this number, where the number is 1 to 255.
+    /// Creates the number of a reporter, if `number` is 1 to 255.
     pub fn new(number: u8) -> Option<ReporterNo>
         ensures exists { IsSome result ↔ ((1 ≤ number) × (number ≤ 255)) }
         ensures value { IfSome result (λ r. r ≡ number) }
@@ -33,7 +40,7 @@ impl ReporterNo {
         }
     }
 
-    /// The number, 1 to 255.
+    /// Returns the number, 1 to 255.
     pub fn get(self) -> u8
         ensures value { result ≡ self }
         ensures within { (1 ≤ result) × (result ≤ 255) }

@@ -22,7 +22,7 @@ use crate::word::{
 /// One more in the state: from scheduled to in play, and from in play to finished.
 const NEXT_STATE: u64 = 1 << STATE_LOW;
 
-/// The state of a match in which an event of this kind is entered.
+/// Returns the state that a match must have for an event of this kind.
 fn state_for(kind: Kind) -> State
     ensures { result ≡ state_for kind }
 {
@@ -33,7 +33,7 @@ fn state_for(kind: Kind) -> State
     }
 }
 
-/// The lowest bit of the side's goals.
+/// Returns the lowest bit of the side's goals.
 fn goals_low(side: Side) -> u32
     ensures { result ≡ (goals_field side).low }
 {
@@ -43,7 +43,7 @@ fn goals_low(side: Side) -> u32
     }
 }
 
-/// The lowest bit of the side's standing yellows.
+/// Returns the lowest bit of the side's standing yellows.
 fn yellows_low(side: Side) -> u32
     ensures { result ≡ (yellows_field side).low }
 {
@@ -53,7 +53,7 @@ fn yellows_low(side: Side) -> u32
     }
 }
 
-/// The lowest bit of the side's expulsions.
+/// Returns the lowest bit of the side's expulsions.
 fn expelled_low(side: Side) -> u32
     ensures { result ≡ (expulsions_field side).low }
 {
@@ -63,7 +63,11 @@ fn expelled_low(side: Side) -> u32
     }
 }
 
-/// The rules on the event number and the state, which are the first six.
+/// Tries the rules on the event number and the state, which are the first six.
+///
+/// # Errors
+///
+/// The first of these rules that refuses the event.
 // Measured: put into its caller from the first, it makes a report on a shared board faster by a twentieth.
 #[inline(always)]
 #[tactic(auto, unfolding(crate::specs::Rules::refusal_of))]
@@ -92,7 +96,11 @@ fn in_turn(word: u64, expected: u16, kind: Kind) -> Result<(), Refusal>
     Ok(())
 }
 
-/// The word with one more in a field, which is refused where `most` are there.
+/// Adds one to a field of a word.
+///
+/// # Errors
+///
+/// [`Refusal::LimitReached`] if the field holds `most` or more.
 fn raised(word: u64, low: u32, width: u32, most: u8) -> Result<u64, Refusal>
     requires word { word < 2 ^ 63 }
     requires low { low < 63 }
@@ -106,7 +114,11 @@ fn raised(word: u64, low: u32, width: u32, most: u8) -> Result<u64, Refusal>
     }
 }
 
-/// The word with one less in a field, which is refused as `missing` where none is there.
+/// Takes one from a field of a word.
+///
+/// # Errors
+///
+/// `missing` if the field holds 0.
 fn lowered(word: u64, low: u32, width: u32, missing: Refusal) -> Result<u64, Refusal>
     requires low { low < 64 }
     requires width { width < 64 }
@@ -119,7 +131,11 @@ fn lowered(word: u64, low: u32, width: u32, missing: Refusal) -> Result<u64, Ref
     }
 }
 
-/// The word with what the kind of an event changes, or the first of the last three rules that refuses the change.
+/// Changes what the kind of an event names in a word.
+///
+/// # Errors
+///
+/// The first of the last three rules that refuses the change.
 // As calls of their own, this and `next_word` would hand the word back through memory, which a report on a shared board would wait for.
 #[inline(always)]
 fn changed(word: u64, kind: Kind) -> Result<u64, Refusal>
@@ -142,8 +158,13 @@ fn changed(word: u64, kind: Kind) -> Result<u64, Refusal>
     }
 }
 
-/// The word of a match after an event of this reporter, or the first rule that refuses the event. `word` has to be that of a valid record,
-/// and so is the next. What `apply` says of records, this says of the records of both words.
+/// Enters an event of this reporter in the word of a match, and returns the next word.
+///
+/// `word` has to be that of a valid record, and so is the next. What [`apply`] says of records, this says of the records of both words.
+///
+/// # Errors
+///
+/// The first rule that refuses the event.
 #[inline(always)]
 pub fn next_word(word: u64, reporter: ReporterNo, expected: u16, kind: Kind) -> Result<u64, Refusal>
     requires { IsWord word }
@@ -162,11 +183,15 @@ pub fn next_word(word: u64, reporter: ReporterNo, expected: u16, kind: Kind) -> 
     Ok(changed + 1 - before + now)
 }
 
-/// The record after an event of this reporter, or the first rule that refuses the event.
+/// Enters an event of this reporter in the record of a match, and returns the next record.
 ///
 /// `before` has to be a valid record. An accepted event raises the event number by one, sets the reporter, and
-/// changes what its kind names; the record is valid again. A refusal enters nothing. Over counting: where `before`
-/// is the count of a legal list of the match's entries, the new record is the count of that list with this entry.
+/// changes what its kind names; the record is valid again. Over counting: if `before` is the count of a legal list of
+/// the match's entries, the new record is the count of that list with this entry.
+///
+/// # Errors
+///
+/// The first rule that refuses the event.
 pub fn apply(
     before: &MatchRecord,
     reporter: ReporterNo,

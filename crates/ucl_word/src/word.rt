@@ -1,4 +1,5 @@
-//! A match as one word.
+//! A match as one word of 64 bits: where its fields stand, and how a record is packed and unpacked. What an event changes in a
+//! word is in `rules`.
 
 ghost use Rattle.std.specs.Prelude.{◌≡◌, ◌*◌, ◌+◌, ◌^◌, ◌<◌, ◌≤◌, ◌/◌, ◌↔◌, IsTrue, Ok, IfOk, IfErr};
 ghost use Rattle.ucl_word.specs.declared.record.MatchRecord.{MatchRecord};
@@ -45,6 +46,7 @@ pub(crate) const MARK_LOW: u32 = 60;
 
 pub(crate) const MARK: u64 = 2;
 
+/// Returns the code of a state in a word.
 fn code_of(state: State) -> u64
     ensures { result ≡ state_code state }
 {
@@ -65,7 +67,7 @@ pub(crate) fn put_at(value: u64, low: u32, below: u64) -> u64
     value << low | below
 }
 
-/// The word of a valid record: the sum of its fields and the mark of the layout, each times two to the power of its lowest bit.
+/// Packs a valid record into its word: the sum of its fields and the mark of the layout, each times two to the power of its lowest bit.
 ///
 /// From the lowest bits on these are the event number, the state (0 scheduled, 1 in play, 2 finished), the goals of the
 /// home and the visiting side, their standing yellows, their expulsions, the reporter, and the mark, where the
@@ -87,7 +89,7 @@ pub fn pack(game: &MatchRecord) -> u64
     put_at(MARK, MARK_LOW, word)
 }
 
-/// The bits of the word from `low` on, as many as `width`.
+/// Returns the bits of the word from `low` on, as many as `width`.
 pub(crate) fn field(word: u64, low: u32, width: u32) -> u64
     requires low { low < 64 }
     requires width { width < 64 }
@@ -97,7 +99,7 @@ pub(crate) fn field(word: u64, low: u32, width: u32) -> u64
     word >> low & (1 << width) - 1
 }
 
-/// The event number in a word, whatever its other fields hold.
+/// Returns the event number in a word, whatever its other fields hold.
 #[tactic(auto, unfolding(crate::specs::Layout::record_at))]
 #[inline]
 pub fn number_of(word: u64) -> u16
@@ -107,7 +109,7 @@ pub fn number_of(word: u64) -> u16
     field(word, 0, NUMBER_WIDTH) as u16
 }
 
-/// The state in a word, where 3 stands for finished.
+/// Returns the state in a word, where 3 stands for finished.
 #[tactic(auto, unfolding(crate::specs::Layout::record_at))]
 pub(crate) fn state_in(word: u64) -> State
     ensures { result ≡ (record_at word).state }
@@ -119,14 +121,14 @@ pub(crate) fn state_in(word: u64) -> State
     }
 }
 
-/// Whether the mark of the layout, and nothing else, stands above the fields.
+/// Returns whether the mark of the layout, and nothing else, stands above the fields.
 fn is_marked(word: u64) -> bool
     ensures { IsTrue result ↔ IsMarked layout word }
 {
     word >> FIELDS_END == MARK << (MARK_LOW - FIELDS_END)
 }
 
-/// What the fields of a word hold, whatever they hold.
+/// Reads the fields of a word, whatever they hold.
 fn fields_of(word: u64) -> MatchRecord
     ensures { result ≡ record_at word }
 {
@@ -143,7 +145,7 @@ fn fields_of(word: u64) -> MatchRecord
     }
 }
 
-/// Whether a word is that of a valid record, which is then what its fields hold.
+/// Returns whether a word is that of a valid record. `fields` is what its fields hold.
 fn is_packed(word: u64, fields: &MatchRecord) -> bool
     requires { fields.now ≡ record_at word }
     ensures { IsTrue result ↔ HoldsRecord word }
@@ -151,8 +153,12 @@ fn is_packed(word: u64, fields: &MatchRecord) -> bool
     is_marked(word) && field(word, STATE_LOW, STATE_WIDTH) < 3 && fields.is_valid()
 }
 
-/// The valid record with this word. A word that no valid record packs to is a bad word: one whose bits from
-/// `FIELDS_END` on are not the mark, with state 3, or with fields that no match can have.
+/// Unpacks the valid record of a word.
+///
+/// # Errors
+///
+/// [`BadWord`] if no valid record packs to the word: if its bits from `FIELDS_END` on are not the mark, its state is 3, or its fields are
+/// those of no match.
 pub fn unpack(word: u64) -> Result<MatchRecord, BadWord>
     ensures valid { IfOk result IsValid }
     ensures packed { IfOk result (λ m. word_of m ≡ word) }
@@ -168,7 +174,7 @@ pub fn unpack(word: u64) -> Result<MatchRecord, BadWord>
     }
 }
 
-/// The record of a word that a valid record has. The word is not looked at again, as `unpack` does.
+/// Unpacks the record of a word that a valid record has. It does not test the word again, as [`unpack`] does.
 pub fn record_of(word: u64) -> MatchRecord
     requires { IsWord word }
     ensures value { result ≡ record_at word }
