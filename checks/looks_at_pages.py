@@ -23,12 +23,13 @@ SUM = re.compile(r"\blogic(?: sum)?(?: is)? `?([0-9a-f]{16})\b")
 # A path of the machine that a text was written on, and how the work is organised; data and marks of matches are no such texts.
 STRAY = re.compile(r"(?<![\w.])/(?:work|root)/|\.\./shared/|\bissue #?\d|\b(?:sessions? of the project|handover)\b", re.I)
 LABEL = re.compile(r"(?<![\w.'\"`-])(?:T[1-5]\.[1-7]|[DRW][1-9]\d?|K[1-8]|G2|S6)(?![\w'\"`])")
-# Phrases of our own, each with the words that the field or plain English has: reports or prints, again, only, mutant, theorem, for X, if, such as.
-BANNED = [
-    r"[Ww]ant of memory", r"\b[Tt](?:ell|ells|old|elling)\b", r"\banew\b", r"\balone\b", r"[Ww]rong bod", r"\b[Ll]aws?\b", r"(?:^|[.;] |\*\* |^- )Of (?!course)",
-    r"(?:^|[.;] )Where ", r"\b(?:exactly|only|just) where\b", r", as (?=`)", r"\bso many\b", r"\b(?:is|that is) none\b", r"\bjust (?:the|its|their)\b", r", else\b",
-    r"\bleave to wait\b", r"\bstands? (?!for\b)", r"\bnot to be had\b", r"\bbeginning of (?:a|its|the) history\b",
-]
+# Phrases of our own, for which the field or plain English has words: out of memory, reports, again, only, mutant, theorem, if, such as, this many.
+START = r"(?:^|  |[.;] |- |\*\* )"
+BANNED = re.compile("|".join([
+    r"[Ww]ant of memory", r"\b[Tt](?:ell|ells|old|elling)\b", r"\banew\b", r"\balone\b", r"[Ww]rong bod", r"\b[Ll]aws?\b", rf"{START}Of (?!course)",
+    rf"{START}Where (?!each)", r"\b(?:exactly|only|just) where\b", r", as (?=#)", r"\bso many\b", r"\b(?:is|that is) none\b", r"\bjust (?:the|its|their)\b",
+    r", else\b", r"\bleave to wait\b", r"\bstands? (?!for\b)", r"\bnot to be had\b", r"\bbeginning of (?:a|its|the) history\b",
+]))
 MAP, CRATES = "crates/DEFINITIONS.md", "docs/ARCHITECTURE.md"
 
 
@@ -62,7 +63,7 @@ def links_lead_somewhere(top):
         text = BLOCK.sub(lambda block: "\n" * block[0].count("\n"), page.read_text())
         for link in re.finditer(r"\]\(([^)#:\s]*)(?:#([^)\s]*))?\)", text):
             target = page.parent / link[1] if link[1] else page
-            if not target.exists() or link[2] and link[2] not in anchors_of(target):
+            if not link[1] + (link[2] or "") or not target.exists() or link[2] and link[2] not in anchors_of(target):
                 found.append(f"{page.relative_to(top)}:{text.count(chr(10), 0, link.start()) + 1}: {link[0][2:-1]} is not there")
     return found
 
@@ -88,14 +89,6 @@ def names_are_there(top):
     return found
 
 
-def text_by_lines(page):
-    """The lines of a page that are text, with their numbers: no block of code, no line to type, and no name in backticks."""
-    text = BLOCK.sub(lambda block: "\n" * block[0].count("\n"), page.read_text())
-    for number, line in enumerate(text.split("\n"), 1):
-        if not line.startswith("    "):
-            yield number, re.sub(r"`[^`]*`", "``", line)
-
-
 def lines_fit(top):
     """A line of text has at most 100 columns, and one to type at most 140; a cell of a table has at most 160 characters."""
     found = []
@@ -113,11 +106,12 @@ def lines_fit(top):
 
 
 def phrases_are_plain(top):
-    """No page has a phrase of our own where the field, or plain English, has a better one."""
-    found = []
+    """No page has a phrase of our own where the field, or plain English, has a better one; code, lines to type and names in backticks do not count."""
+    found, blank = [], lambda it: re.sub(r"[^\n]", "#", it[0])
     for page in readable(top):
-        for number, line in text_by_lines(page):
-            found += [f"{page.relative_to(top)}:{number}: {match[0].strip()}" for phrase in BANNED for match in re.finditer(phrase, line)]
+        text = re.sub(r"(?m)^    .*$|`[^`]*`", blank, BLOCK.sub(blank, page.read_text()))
+        for match in BANNED.finditer(text.replace("\n", " ")):
+            found.append(f"{page.relative_to(top)}:{text.count(chr(10), 0, match.start()) + 1}: {match[0].strip()}")
     return found
 
 
@@ -137,7 +131,7 @@ def crates_are_listed(top):
 
 def map_of_definitions(top):
     """The page of the map as it has to be: a row for each file of definitions, with its first line, by the order of crates."""
-    rows = ["# Where each definition is", "", "For whoever looks one up. `checks/definitions` writes this page: the first line of each file of `specs/`.", ""]
+    rows = ["# Where each definition is", "", "For whoever looks one up. `checks/definitions` writes this page from the first lines of `specs/`.", ""]
     rows += ["| File of `specs/` | What it defines |", "|---|---|"]
     for crate in sources.crates_of(top):
         files = [path for path in sorted((top / "crates" / crate / "specs").glob("*.antt")) if path.stem != "Lib"]
@@ -170,8 +164,9 @@ def counts_are_right(top):
     mutants, found = len([*top.glob("crates/*/must-fail/*.edit")]), []
     for page in readable(top):
         text = " ".join(page.read_text().split())
-        told = [it for it in re.findall(r"(\d+) definitions of (\d+) lines in (\d+) files(?:, and (\d+) names of the kit)?", text) if it[:3] != read.groups()[:3] or it[3] not in ("", read[4])]
-        found += [f"{page.relative_to(top)}: {' '.join(it)}, and checks/closure has {' '.join(read.groups())}" for it in told]
+        for it in re.findall(r"(\d+) definitions of (\d+) lines in (\d+) files(?:, and (\d+) names of the kit)?", text):
+            is_right = it[:3] == read.groups()[:3] and it[3] in ("", read[4])
+            found += [] if is_right else [f"{page.relative_to(top)}: {' '.join(it)}, and checks/closure has {' '.join(read.groups())}"]
         counts = [] if page.parent.name == "bench" else re.findall(r"\b(\d+) mutants\b", text)
         found += [f"{page.relative_to(top)}: {it} mutants, and there are {mutants}" for it in counts if int(it) != mutants]
     return found
