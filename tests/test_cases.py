@@ -146,7 +146,7 @@ STARTS = ["\n  ucl_night feed < ", "\n  ucl_night show --group B < ", "\n  ucl_n
 SUBCOMMANDS = ["\n  feed ", "\n  show ", "\n  night ", "\n  -V, --version "]
 
 # What a good name and a good coefficient are, and where the codes are.
-RULES = ["club,1,", "printable", "up to 999,999", "docs/ROWS.md has"]
+RULES = ["club,1,", "printable", "up to 999,999", "docs/REFERENCE.md has"]
 
 test_helps = tabled({line: (line, "", Has("", *parts)) for line, parts in {
     "ucl_night --help": ["Usage: ucl_night <COMMAND>\n", *SUBCOMMANDS, CLUB_ROW, EVENT_ROW, WORD_ROW, *RULES, "1,1,0,kickoff", *STATUSES, *STARTS],
@@ -179,7 +179,7 @@ def test_version(run, line):
     needs("rt")
     ran, logic_sum = run(*line.split()), command(["rt", "version"]).output.split()[-1]
     assert (ran.status, ran.errors) == (0, "")
-    assert re.fullmatch(rf"{line.split()[0]} 1\.0\.0 \(.*\b{logic_sum}\b.*\)\n", ran.output)
+    assert re.fullmatch(rf"{line.split()[0]} 1\.0\.0\+dev \(.*\b{logic_sum}\b.*\)\n", ran.output)
     assert "rattle-kit-" not in ran.output
 
 

@@ -5,7 +5,7 @@ pub(crate) mod live;
 pub(crate) mod night;
 
 /// The version, and what it is proved with.
-pub(crate) const VERSION: &str = "1.0.0 (proved with logic dac8208d650f15bf)";
+pub(crate) const VERSION: &str = "1.0.0+dev (proved with logic dac8208d650f15bf)";
 
 /// What is told where a word of the command line is no text.
 pub(crate) const NOT_UTF_8: &str = "error: a word of the command line is not UTF-8\n";

@@ -35,7 +35,7 @@ Exit status:
 Examples:
   tail -n +1 -F evening.csv | ucl_live --format json | ucl_follow
 
-docs/ROWS.md has rows, answers and all codes; docs/RULES.md has the rules.";
+docs/REFERENCE.md has rows, answers and all codes; docs/RULES.md has the rules.";
 
 /// What `--group` does.
 pub(crate) const GROUP: &str = "\

@@ -55,7 +55,7 @@ Examples:
   ucl_live < examples/one_goal.csv
   tail -n +1 -F evening.csv | ucl_live --screens    follows a record of rows
 
-docs/ROWS.md has rows, answers and all codes; docs/RULES.md has the rules.";
+docs/REFERENCE.md has rows, answers and all codes; docs/RULES.md has the rules.";
 
 /// What `--group` is.
 pub(crate) const GROUP: &str = "\

@@ -30,7 +30,7 @@ Examples:
   ucl_night show --group B < examples/two_matches_sheet.csv
   ucl_night night --readings 3 < examples/group_a_2021_night.csv
 
-docs/ROWS.md has rows, answers and all codes; docs/RULES.md has the rules.";
+docs/REFERENCE.md has rows, answers and all codes; docs/RULES.md has the rules.";
 
 /// What `feed` does.
 pub(crate) const FEED: &str = "Enters a script, and writes a reply for each event";
