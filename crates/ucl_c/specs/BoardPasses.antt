@@ -6,7 +6,7 @@ use Rattle.ucl_word.specs.declared.event.Accepted.{Accepted}
 use Rattle.ucl_word.specs.declared.refusal.Refusal.{Refusal}
 use Rattle.ucl_board.specs.declared.reading.Reading.{Reading}
 use Rattle.ucl_words.specs.WordRecords.{WordOpened, WordReported, WordRead, WordSplit, WordEnlisted, WordFull}
-use Rattle.ucl_words.specs.WordViews.{WordPass}
+use Rattle.ucl_words.specs.WordViews.{WordPass, known}
 use Rattle.ucl_c.specs.declared.board_pass.AnyPass.{AnyPass}
 use Rattle.ucl_c.specs.declared.board_pass.AnyPass.TheVariants.{Nobody, Reader, Reporter}
 use Rattle.ucl_c.specs.declared.fault.Fault.{Fault}
@@ -71,7 +71,7 @@ IsRead _ _ _ = ⊥
 
 -- this is the number of the pass, a reporter's
 abbrev pub IsNumberOf : AnyPass → ℕ → Type 0
-IsNumberOf (Reporter k) number = number ≡ k.view.number
+IsNumberOf (Reporter k) number = number ≡ (known k.pass).number
 IsNumberOf _ number = ⊥
 
 -- Why a call is not done. --

@@ -4,7 +4,5 @@ pub mod Halves
 pub mod Alone
 pub mod SettledPasses
 pub mod KeptRule
-pub mod KeptBoards
 pub mod CallsBySteps
 pub mod LogFacts
-pub mod LaterLogs

@@ -24,9 +24,6 @@ pub use Rattle.ucl_board.specs.History.{IsLegal, MayFollow, attempted, board_of,
 pub use Rattle.ucl_board.specs.Log.{Access, AccessKind, Log, Logged, Taken, access, access_list, history_of, logged_by}
 pub use Rattle.ucl_board.specs.Words.{AreWords, greatest_version, version_of, word_at}
 pub use Rattle.ucl_board.specs.declared.entry.Entry.{Entry}
-pub use Rattle.ucl_steps.specs.Actors.{Actor, AreStepsOf, IsOfActor, IsRunOfLog, IsTakenBy, accesses_of_log}
-pub use Rattle.ucl_steps.specs.CallRuns.{IsInCast, access_in, accesses_holding, accesses_of_step, step_of}
-pub use Rattle.ucl_steps.specs.Growing.{HasGoneOn, HaveGoneOn, record_of, records_by, records_told}
 pub use Rattle.ucl_steps.specs.Laws.{ReadingsAreSnapshots, ReportsAreSequential, RunsAreLinearizable, UncleanTriesAreFew, UncleanTriesSeeMore, WordsAreOfTheHistory}
 pub use Rattle.ucl_steps.specs.Linearizable.{AcceptedIsEntry, BeginsAt, EndedBySteps, EndsAt, EntryHasOneCall, IsDecided, IsEntry, IsLinearizable, IsRefused, Makes, PointWithinCall}
 pub use Rattle.ucl_steps.specs.Linearizable.{Precedes}
@@ -36,13 +33,9 @@ pub use Rattle.ucl_steps.specs.Machine.{after_step_holding, after_steps}
 pub use Rattle.ucl_steps.specs.Machine.{caller_of, change_at, held_at_begin, held_by, initial_state, may_begin, set_held, state_after_first, state_after_look, state_after_second}
 pub use Rattle.ucl_steps.specs.Machine.{state_after_swap}
 pub use Rattle.ucl_steps.specs.Machine.{stored, with_end, with_held, with_reply}
-pub use Rattle.ucl_steps.specs.PassRuns.{AreRecordsOf, CanHold, FitsHeld, FitsRun, IsOf, IsRecordOf, IsUnderWay, Move, call_of, call_under_way, caller_for, calls_asked, calls_by, calls_told}
-pub use Rattle.ucl_steps.specs.PassRuns.{begin_by}
-pub use Rattle.ucl_steps.specs.PassRuns.{cast_for, end_by, is_of, left_by, steps_of_move, steps_of_moves}
-pub use Rattle.ucl_steps.specs.Progress.{SomeCallIsDecided, decided_in, finished_by, is_caller, most_between, steps_by}
-pub use Rattle.ucl_steps.specs.Protocol.{Answer, Answers, Checking, Collecting, Doing, GoesOn, Held, Holding, IsNext, MayAsk, Nothing, Outcome, after_first, after_look, after_second}
-pub use Rattle.ucl_steps.specs.Protocol.{after_swap}
-pub use Rattle.ucl_steps.specs.Protocol.{by_rules, collected, compared, done_by, ends, firsts_holding, goes, loaded, looked, nothing_done, seconds_holding, swapped, swaps_holding}
+pub use Rattle.ucl_steps.specs.Progress.{SomeCallIsDecided, decided_in, is_caller, most_between, steps_by}
+pub use Rattle.ucl_steps.specs.Protocol.{Answers, Checking, Collecting, GoesOn, Held, Holding, MayAsk, Nothing, Outcome}
+pub use Rattle.ucl_steps.specs.Protocol.{by_rules, collected, compared, loaded, looked, swapped}
 pub use Rattle.ucl_steps.specs.Running.{IsReachable, Takes, holds_of, state_of}
 pub use Rattle.ucl_steps.specs.Trails.{Does, Follows, IsClean, IsCollect, IsFoundIn, IsUnclean, accesses_of}
 pub use Rattle.ucl_steps.specs.declared.step.Call.{Call}

@@ -1,5 +1,5 @@
 -- Elements of a list by their seats, where one is put in the place of another, or added.
-use Rattle.ucl_steps.proofs.Common.{◌≡◌, ◌≢◌, ◌⊎◌, inl, inr, ⊎_elim, ℕ, suc, ◌<◌, List, ◌∷◌, ◌++◌, length, set, ap, arith, [], some, some-ne-none, some-injective, get_elem?}
+use Rattle.ucl_steps.proofs.Common.{◌≡◌, ◌≢◌, ◌⊎◌, inl, inr, ⊎_elim, ℕ, zero, suc, ◌<◌, List, ◌∷◌, ◌++◌, length, map, set, refl, sym, ap, arith, [], some, some-ne-none, some-injective, get_elem?}
 
 pub place_below : {X : Type 0} (xs : List X) (at : ℕ) (x : X) → get_elem? xs at ≡ some x → at < length xs
 place_below (y ∷ xs) (suc at) x e = let r = place_below xs at x e in omega arith
@@ -25,3 +25,9 @@ module _ {A : Type 0} where
   pub at_longer : (l m : List A) (i : ℕ) (a : A) → get_elem? l i ≡ some a → get_elem? (l ++ m) i ≡ some a
   at_longer (x ∷ xs) m (suc i) a e = at_longer xs m i a e
   at_longer l m i a e = search arith
+
+-- what an element of a mapped list is of
+pub there_is : {X Y : Type 0} (f : X → Y) (xs : List X) (j : ℕ) (y : Y) → get_elem? (map f xs) j ≡ some y → (x : X) × (get_elem? xs j ≡ some x) × (f x ≡ y)
+there_is f [] j y e = absurd (some-ne-none y (sym e))
+there_is f (x ∷ xs) zero y e = (x, refl, some-injective (f x) y e)
+there_is f (x ∷ xs) (suc j) y e = there_is f xs j y e

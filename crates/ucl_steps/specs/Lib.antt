@@ -1,12 +1,13 @@
 pub mod Trails
 pub mod Machine
-pub mod CallRuns
 pub mod Linearizable
 pub mod Traces
 pub mod Laws
 pub mod Running
 pub mod Protocol
-pub mod PassRuns
-pub mod Actors
-pub mod Growing
 pub mod Progress
+pub mod WordLog
+pub mod Doings
+pub mod LogHistory
+pub mod LogFacts
+pub mod LogRuns

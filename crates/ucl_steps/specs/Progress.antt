@@ -1,13 +1,11 @@
 -- While callers take steps, calls are decided: how many steps they take at most with no call decided.
 use Rattle.std.specs.Prelude.{◌≡◌, ℕ, ◌+◌, ◌*◌, ◌==◌, ◌≤◌, Bool, false, List, length, filter, Some, is_some}
-use Rattle.std.specs.List.{sum_by}
 use Rattle.ucl_steps.specs.declared.step.Cast.{Cast}
 use Rattle.ucl_steps.specs.declared.step.Caller.{Caller}
 use Rattle.ucl_steps.specs.declared.step.Caller.TheVariants.{Reporter, Reader}
 use Rattle.ucl_steps.specs.declared.step.Step.{Step}
 use Rattle.ucl_steps.specs.declared.trace.CallRecord.{CallRecord}
 use Rattle.ucl_steps.specs.Machine.{MachineState, initial_state, caller_of, after_steps}
-use Rattle.ucl_steps.specs.Actors.{Actor}
 
 -- The most steps of one caller while no call is decided: with no call decided no entry comes, so these are 12 of a try
 -- that an entry before them breaks, and 23 of the next one, which is clean and is decided by its 24th.
@@ -36,7 +34,3 @@ pub record TookFew (cast : Cast) (steps : List Step) : Type 0 where
 abbrev pub SomeCallIsDecided : Type 0
 SomeCallIsDecided = (cast : Cast) (before steps : List Step) (s t : MachineState) → after_steps before (initial_state cast) ≡ Some s → after_steps steps s ≡ Some t
     → decided_in t.calls ≡ decided_in s.calls → TookFew cast steps
-
--- how many calls actors have finished
-abbrev pub finished_by : List Actor → ℕ
-finished_by actors = sum_by (λ (a : Actor). length a.doing.calls) actors

@@ -1,7 +1,7 @@
 -- The protocol: what a caller holds between two steps on match words, and what comes of each step.
 -- That is one function of what was held and of the word that the step finds. The machine takes these steps for all its callers,
 -- and a pass of a board for its own calls.
-use Rattle.std.specs.Prelude.{◌≡◌, ℕ, ◌+◌, ◌==◌, if◌then◌else◌, List, [], ◌∷◌, ◌++◌, length, Option, Some, None, Result, Ok, Err, slice_index}
+use Rattle.std.specs.Prelude.{ℕ, ◌+◌, ◌==◌, if◌then◌else◌, List, [], ◌∷◌, ◌++◌, length, Option, Some, None, Result, Ok, Err, slice_index}
 use Rattle.ucl_word.specs.declared.event.EventCall.{EventCall}
 use Rattle.ucl_word.specs.declared.event.Accepted as event
 use Rattle.ucl_word.specs.declared.refusal.Refusal.{Refusal}
@@ -11,7 +11,6 @@ use Rattle.ucl_word.specs.Rules.{refusal_of, after}
 use Rattle.ucl_word.specs.Layout.{word_of, record_at}
 use Rattle.ucl_board.specs.Fixtures.{IsMatch}
 use Rattle.ucl_board.specs.History.{reading_of}
-use Rattle.ucl_board.specs.Log.{AccessKind, Look, Swap, First, Second, Target, Match, Taken, entry_list}
 use Rattle.ucl_steps.specs.declared.step.Call.{Call}
 use Rattle.ucl_steps.specs.declared.step.Call.TheVariants.{Event, Reading}
 use Rattle.ucl_steps.specs.declared.trace.Reply.{Reply}
@@ -69,95 +68,6 @@ compared words checked point found =
     then Answers (Copied (reading_of words))
     else GoesOn (Checking words (checked + 1) point))
     else GoesOn (Collecting [])
-
--- The protocol as seen from one pass.
-
--- a finished call: what it asked, its reply, and how many entries there were at its first step and after its last
-pub record Answer : Type 0 where
-  pub call : Call
-  pub reply : Reply
-  pub begun : ℕ
-  pub ended : ℕ
-
--- what a pass has done: its finished calls, the first of them first; what it holds; and how many entries there
--- were at the first step of its last call
-pub record Doing : Type 0 where
-  pub calls : List Answer
-  pub held : Held
-  pub begun : ℕ
-
-abbrev pub nothing_done : Doing
-nothing_done = record { calls = []; held = Nothing; begun = 0 }
-
--- a step that stays in its call
-abbrev pub goes : ℕ → Held → Doing → Doing
-goes begun held d = record { calls = d.calls; held = held; begun = begun }
-
--- a step that ends its call
-abbrev pub ends : Call → Reply → ℕ → ℕ → Doing → Doing
-ends call reply begun ended d = record {
-  calls = d.calls ++ record { call = call; reply = reply; begun = begun; ended = ended } ∷ [];
-  held = Nothing;
-  begun = begun;
-}
-
--- what a pass has done after a step of this call, by what comes of it
-abbrev pub done_by : Call → ℕ → ℕ → Outcome → Doing → Doing
-done_by call begun now (GoesOn held) d = goes begun held d
-done_by call begun now (Answers reply) d = ends call reply begun now d
-
--- which step on which match comes next
-abbrev pub IsNext : AccessKind → ℕ → Held → Type 0
-IsNext Look game Nothing = IsMatch game
-IsNext Swap game (Holding e old new) = game ≡ e.game
-IsNext First game Nothing = game ≡ 1
-IsNext First game (Collecting words) = game ≡ length words + 1
-IsNext Second game (Checking words checked point) = game ≡ checked + 1
-IsNext _ game _ = ⊥
-
--- What each step leaves as done, by the word that it found, and by how many entries there are after it. A call
--- begins with its first step: a report with its Look, a reading with its first First.
-abbrev pub after_look : ℕ → EventCall → ℕ → ℕ → Doing → Doing
-after_look number e found now d = done_by (Event e) now now (looked number e found) d
-
-abbrev pub swaps_holding : Held → ℕ → ℕ → Doing → Doing
-swaps_holding (Holding e old new) found now d = done_by (Event e) d.begun now (swapped old new found) d
-swaps_holding _ found now d = d
-
-abbrev pub after_swap : ℕ → ℕ → Doing → Doing
-after_swap found now d = swaps_holding d.held found now d
-
-abbrev pub firsts_holding : Held → ℕ → ℕ → Doing → Doing
-firsts_holding Nothing found now d = done_by Reading now now (loaded [] found now) d
-firsts_holding (Collecting words) found now d = done_by Reading d.begun now (loaded words found now) d
-firsts_holding _ found now d = d
-
-abbrev pub after_first : ℕ → ℕ → Doing → Doing
-after_first found now d = firsts_holding d.held found now d
-
-abbrev pub seconds_holding : Held → ℕ → ℕ → Doing → Doing
-seconds_holding (Checking words checked point) found now d =
-    done_by Reading d.begun now (compared words checked point found) d
-seconds_holding _ found now d = d
-
-abbrev pub after_second : ℕ → ℕ → Doing → Doing
-after_second found now d = seconds_holding d.held found now d
-
--- what a step of this call leaves as done; a step on no match word leaves all as it was
-abbrev pub after_target : ℕ → Call → Target → ℕ → Doing → Doing
-after_target number (Event e) (Match Look game found) now d = after_look number e found now d
-after_target number call (Match Swap game found) now d = after_swap found now d
-after_target number call (Match First game found) now d = after_first found now d
-after_target number call (Match Second game found) now d = after_second found now d
-after_target number call target now d = d
-
-abbrev pub after_taken : ℕ → Call → Taken → Doing → Doing
-after_taken number call x d = after_target number call x.target (x.at + length (entry_list x.entry)) d
-
--- the steps of a call, one after another
-abbrev pub along : ℕ → Call → List Taken → Doing → Doing
-along number call [] d = d
-along number call (x ∷ steps) d = along number call steps (after_taken number call x d)
 
 -- only a reporter enters events, of matches that there are
 abbrev pub MayAsk : ℕ → Call → Type 0

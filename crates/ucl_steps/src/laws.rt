@@ -1,6 +1,9 @@
 //! What holds of every list of steps. The functions do nothing: each is there for its contract.
 
 ghost use Rattle.ucl_steps.specs.Laws.{RunsAreLinearizable, WordsAreOfTheHistory, UncleanTriesSeeMore, UncleanTriesAreFew, ReadingsAreSnapshots, ReportsAreSequential};
+ghost use Rattle.ucl_steps.specs.LogHistory.{LogsAreLinearizable};
+ghost use Rattle.ucl_steps.specs.LogFacts.{LogsHaveFacts, CallsFinish};
+ghost use Rattle.ucl_steps.specs.LogRuns.{LogsAreRuns, LongerLogsAreLongerRuns};
 ghost use Rattle.ucl_steps.specs.Progress.{SomeCallIsDecided};
 
 /// Whatever steps the callers take, in whatever order, and wherever the list is cut: one legal history of the board of
@@ -48,4 +51,31 @@ pub fn reports_are_sequential()
 /// caller takes 35 at most, and all callers take 35 times as many as there are. It says nothing of which call it is.
 pub fn some_call_is_decided()
     ensures { SomeCallIsDecided }
+{}
+
+/// Every log of steps that are the protocol's, in whatever order their passes took them: its history is legal and holds each finished
+/// call of each pass once, with the reply of the board of one thread at its point, which is not before its first step and not after
+/// its last; the calls of a pass come one after another; and where one call ended before another began, it comes before it
+/// (linearizability: Herlihy and Wing).
+pub fn logs_are_linearizable()
+    ensures { LogsAreLinearizable }
+{}
+
+/// The numbers that a log gave are those from 1 to the number of the enlisted, which is at most 255, each to one pass; and the entries of
+/// a number are those that its pass added.
+pub fn logs_have_facts()
+    ensures { LogsHaveFacts }
+{}
+
+/// While passes take steps, calls finish: of further steps by which no call is finished each pass takes 35 on match words at most.
+pub fn calls_finish()
+    ensures { CallsFinish }
+{}
+
+/// Such a log is a run of the machine: each of its steps on a match word is one step of the machine, by a caller of its pass, with the
+/// beginning of a call just before its first and the end just after its last. The run leads to the history of the log and the words of its
+/// board; what each pass has done and holds is what its callers there have done and hold. A longer log is a longer run.
+pub fn logs_are_runs()
+    ensures runs { LogsAreRuns }
+    ensures longer { LongerLogsAreLongerRuns }
 {}

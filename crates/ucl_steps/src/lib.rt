@@ -10,8 +10,9 @@ mod step;
 mod trace;
 
 pub use laws::{
-    readings_are_snapshots, reports_are_sequential, runs_are_linearizable, some_call_is_decided,
-    unclean_tries_are_few, unclean_tries_see_more, words_are_of_the_history,
+    calls_finish, logs_are_linearizable, logs_are_runs, logs_have_facts, readings_are_snapshots,
+    reports_are_sequential, runs_are_linearizable, some_call_is_decided, unclean_tries_are_few,
+    unclean_tries_see_more, words_are_of_the_history,
 };
 pub use run::run_steps;
 pub use step::{Call, Caller, Cast, Step};

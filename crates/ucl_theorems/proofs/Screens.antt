@@ -19,7 +19,7 @@ use Rattle.ucl_theorems.specs.Headline.{screen_at, EveryRunHasOneHistory}
 version_at : (history : List Entry) (k : ℕ) → IsLegal history → k ≤ length history → version_of (board_of (take k history)) ≡ k
 version_at history k legal within = (versions (take k history) (legal_take history k legal)).0 ∙ length-take-le k history within
 
-screen_is : (history : List Entry) (k : ℕ) → IsLegal history → k ≤ length history → (profile : Profile) (roster : List NamedClub) (group : ℕ)
+pub screen_is : (history : List Entry) (k : ℕ) → IsLegal history → k ≤ length history → (profile : Profile) (roster : List NamedClub) (group : ℕ)
     → screen_text profile (board_of (take k history)) roster group ≡ screen_at profile history k roster group
 unfolding screen_text
 screen_is history k legal within profile roster group = rw (version_at history k legal within)

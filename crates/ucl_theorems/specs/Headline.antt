@@ -1,5 +1,5 @@
 -- One history for all callers, and the screens of what its readers read.
-use Rattle.std.specs.Prelude.{◌≡◌, ℕ, ◌<◌, ◌++◌, true, List, All, take, drop, flat_map, Some}
+use Rattle.std.specs.Prelude.{◌≡◌, ℕ, ◌<◌, ◌++◌, List, All, length, take, drop, flat_map, Some}
 use mathlib.Core.List.{IsPrefix}
 use mathlib.Core.Option.{some}
 use lib.ListN.{get_elem?}
@@ -18,10 +18,11 @@ use Rattle.ucl_steps.specs.declared.trace.CallRecord.{CallRecord}
 use Rattle.ucl_steps.specs.declared.trace.Reply.TheVariants.{Copied}
 use Rattle.ucl_steps.specs.Machine.{MachineState, initial_state, after_steps}
 use Rattle.ucl_steps.specs.Linearizable.{IsDecided, IsLinearizable}
+use Rattle.ucl_steps.specs.WordLog.{SeatStep, WordLog, taken_at, history_in, IsWordLog}
+use Rattle.ucl_steps.specs.Doings.{FinishedCall, doings_at, FollowsProtocol}
+use Rattle.ucl_steps.specs.LogHistory.{IsCall, IsLinearizableLog}
 use Rattle.ucl_words.specs.declared.view.WordView.{WordView}
 use Rattle.ucl_words.specs.Later.{Later}
-use Rattle.ucl_steps.specs.PassRuns.{is_of, Move, steps_of_moves}
-use Rattle.ucl_steps.specs.Growing.{records_by, records_told}
 
 -- the board after the first k entries of a history, as a screen shows it: version k, and the clubs in the order of the
 -- profile, each with its numbers and its mark
@@ -46,37 +47,40 @@ pub record HasOneHistory (steps : List Step) (history : List Entry) (calls : Lis
 abbrev pub EveryRunHasOneHistory : Type 0
 EveryRunHasOneHistory = (cast : Cast) (steps : List Step) (state : MachineState) → after_steps steps (initial_state cast) ≡ Some state → HasOneHistory steps state.history state.calls
 
--- a call is one of a pass that there is
-abbrev pub IsOfPass : List WordView → CallRecord → Type 0
-IsOfPass views c = (seat : ℕ) × (v : WordView) × (get_elem? views seat ≡ some v) × (is_of seat v.pass.number c.caller ≡ true)
+-- the screen of a reading, whatever the profile, the roster and the group, is that of the board at the reading's point
+abbrev pub ScreenIsOfItsPoint : List Entry → FinishedCall → Type 0
+ScreenIsOfItsPoint history c =
+    (reading : Reading) → c.reply ≡ Copied reading → (profile : Profile) (roster : List NamedClub) (group : ℕ)
+    → screen_text profile reading.board roster group ≡ screen_at profile history c.point roster group
 
--- the pass of a seat has seen a beginning of the history of a run, and its calls, with their replies, are those of its callers there
-pub record IsOfRun (state : MachineState) (seat : ℕ) (v : WordView) : Type 0 where
-  pub seen : IsPrefix v.pass.seen state.history
-  pub calls : records_by seat v.pass.number state ≡ records_told seat v.pass.number v.doing
+-- a pass knows a beginning of the log, and the calls that it has finished are those that its own steps there make
+pub record IsOfLog (log : WordLog) (seat : ℕ) (v : WordView) : Type 0 where
+  pub knows : IsPrefix v.log log
+  pub own : v.own ≡ taken_at seat log
 
--- a word board between two steps of any threads: there is one run of the machine, from the fresh board to the words that are there, in which
--- each call begins with its first access and ends with its last; each pass is of this run, there are no calls but those of passes, no two of
--- which have one number, and all of it is explained by one history
-pub record IsOneRun (s : State Entry WordView) : Type 0 where
-  pub cast : Cast
-  pub moves : List Move
-  pub state : MachineState
-  pub run : after_steps (steps_of_moves moves) (initial_state cast) ≡ Some state
-  pub words : state.words ≡ drop 1 s.words
-  pub each : (seat : ℕ) (v : WordView) → get_elem? s.views seat ≡ some v → IsOfRun state seat v
-  pub only : All (IsOfPass s.views) state.calls
-  pub apart : (i j : ℕ) (v w : WordView)
-      → get_elem? s.views i ≡ some v → get_elem? s.views j ≡ some w
-      → 0 < v.pass.number → v.pass.number ≡ w.pass.number → i ≡ j
-  pub one : HasOneHistory (steps_of_moves moves) state.history state.calls
+-- a word board between two steps of any threads: there is one log of all steps, each the next one of the protocol, whose history has the words
+-- that are there. Each pass is of this log, no step is of a seat without a pass, and no two passes have one number. One history of the board of
+-- one thread holds each finished call of each pass once, with the reply that it got, between its first step and its last; and each screen is
+-- the text of the chosen order of the board that its reading copied
+pub record IsOneHistory (s : State Entry WordView) : Type 0 where
+  pub log : WordLog
+  pub is_log : IsWordLog log
+  pub protocol : FollowsProtocol log
+  pub words : board_of (history_in log) ≡ drop 1 s.words
+  pub each : (seat : ℕ) (v : WordView) → get_elem? s.views seat ≡ some v → IsOfLog log seat v
+  pub only : All (λ (x : SeatStep). x.seat < length s.views) log
+  pub apart : (i j : ℕ)
+      → 0 < (doings_at i log).number → (doings_at i log).number ≡ (doings_at j log).number → i ≡ j
+  pub linearizable : IsLinearizableLog log
+  pub screens : (seat k : ℕ) (c : FinishedCall)
+      → IsCall log seat k c → ScreenIsOfItsPoint (history_in log) c
 
 -- so is each state that meets the rule of the board
 abbrev pub BoardsHaveOneHistory : (State Entry WordView → Type 0) → Type 0
-BoardsHaveOneHistory rule = (s : State Entry WordView) → rule s → IsOneRun s
+BoardsHaveOneHistory rule = (s : State Entry WordView) → rule s → IsOneHistory s
 
--- and over time: the run of a later state begins with that of the earlier one, whichever steps of whichever passes came between, and
--- whether these passes ever met
+-- and over time: the log of a later state begins with that of the earlier one, whichever steps of whichever passes came between, and whether
+-- these passes ever met; so no entry and no call ever moves
 pub record HistoriesGoOn (rule : State Entry WordView → Type 0) : Type 0 where
   pub boards : BoardsHaveOneHistory rule
-  pub later : (s t : State Entry WordView) (r : rule s) (q : rule t) → Later s t → IsPrefix (boards s r).moves (boards t q).moves
+  pub later : (s t : State Entry WordView) (r : rule s) (q : rule t) → Later s t → IsPrefix (boards s r).log (boards t q).log

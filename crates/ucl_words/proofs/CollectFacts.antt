@@ -1,13 +1,15 @@
 -- The clean double collect: loads of all words, twice, and anew where a word was another.
 use Rattle.ucl_words.proofs.Common.{◌≡◌, ◌≢◌, ℕ, ◌+◌, ◌<◌, ◌≤◌, List, ◌∷◌, ◌++◌, length, take, set, Option, Some, None, refl, sym, ap, ◌∙◌, subst, arith, le_refl, [], append_assoc, append-nil}
 use Rattle.ucl_words.proofs.Common.{length-append, get_or-set_same, slice_get, slice_index, take-append_seam, Entry, Reading, AreWords, greatest_version, version_of, board_of, reading_of}
-use Rattle.ucl_words.proofs.Common.{board_words, versions, AccessKind, Second, Access, access, Follows, most_loads, IsCollect, IsUnclean, IsClean, accesses_of, ReadingAccesses, collect_none}
-use Rattle.ucl_words.proofs.Common.{collect_more, collect_set, unclean_try, clean_shows, reading_whole, Continues, SharedReading, View, pass_view_of, count_of, LoadsMatch, Walks, Collects}
+use Rattle.ucl_words.proofs.Common.{board_words, versions, AccessKind, Access, access, Follows, most_loads, IsCollect, IsUnclean, IsClean, accesses_of, ReadingAccesses, collect_none}
+use Rattle.ucl_words.proofs.Common.{collect_more, collect_set, unclean_try, clean_shows, reading_whole, Continues, SharedReading, View, pass_view_of, count_of, Walks, Collects}
 use Rattle.ucl_words.proofs.Common.{FindsAgain, FindsAnother, IsSteady, ReadingSteps}
 use Rattle.std.specs.List.{AllByRecursion}
 use Rattle.std.proofs.lemmas.Option.{none-some}
 use Rattle.ucl_word.proofs.Sequences.{at_either}
 use Rattle.ucl_steps.specs.Laws.{IsReadFrom}
+use Rattle.ucl_board.specs.Log.{Second}
+use Rattle.ucl_words.proofs.StepFacts.{LoadsMatch}
 use Rattle.ucl_words.proofs.StepRuns.{walks_none, walks_on, walks_load, walks_continue}
 
 -- after some loads of a collect
@@ -59,7 +61,7 @@ module _ (kind : AccessKind) (v x w : View) (words : List ℕ) (i n : ℕ) (belo
   collected_other other is silent = search (arith, more_walks)
 
   -- with the twelfth
-  pub finds_again : n ≡ slice_index words i → i ≡ 11 → kind ≡ Second → w.shown ≡ x.shown ++ length v.seen ∷ [] → FindsAgain v words w
+  pub finds_again : n ≡ slice_index words i → i ≡ 11 → kind ≡ Second → w.shown ≡ x.shown ++ version_of words ∷ [] → FindsAgain v words w
   finds_again same eleven is shows =
       let many = was.many in
       record {
@@ -68,7 +70,7 @@ module _ (kind : AccessKind) (v x w : View) (words : List ℕ) (i n : ℕ) (belo
         twelve = omega (arith, length-append was.accesses (new_access ∷ []));
         again = subst (λ (a : AccessKind). IsCollect a words (was.accesses ++ new_access ∷ [])) is
             (collect_more kind words was.accesses new_access was.words_are (refl, ap (λ (k : ℕ). k + 1) (sym many)) (same ∙ ap (slice_index words) (sym many)));
-        shown = shows ∙ ap (λ (l : List ℕ). l ++ length v.seen ∷ []) was.shown;
+        shown = shows ∙ ap (λ (l : List ℕ). l ++ version_of words ∷ []) was.shown;
       }
 
 -- tries, none of them clean
@@ -169,6 +171,9 @@ module _ (x u w : View) (words : List ℕ) (long : length words ≡ 12) (collect
     whole : IsReadFrom w.seen (length v.seen) (length w.seen) clean_reading all_accesses reading_accesses
     whole = reading_whole w.seen (length v.seen) (length w.seen) clean_reading all_accesses all_walks.steady.sound.legal (le_refl (length w.seen)) all_walks.leaves.follows reading_accesses
 
+    shown_clean : w.shown ≡ v.shown ++ length u.seen ∷ []
+    shown_clean = again.shown ∙ (λ i. (collects.shown ∙ tried.shown) i ++ version_seen i ∷ [])
+
     reads_clean : Reads v clean_reading w
     reads_clean =
         let taken = all_walks.leaves.taken in
@@ -178,7 +183,7 @@ module _ (x u w : View) (words : List ℕ) (long : length words ≡ 12) (collect
         record {
           steady = all_walks.steady;
           always = walks_continue v w all_accesses all_walks;
-          shared = search (arith, whole, all_walks);
+          shared = search (arith, whole, all_walks, shown_clean);
           steps = record {
             accesses = all_accesses;
             leaves = all_walks.leaves;

@@ -1,42 +1,185 @@
 -- What the steps of a call leave as done and as held.
-use Rattle.ucl_words.proofs.Common.{◌≡◌, ◌≢◌, ◌⊎◌, inl, inr, ℕ, zero, suc, ◌+◌, ◌<◌, ◌≤◌, ◌==◌, Bool, true, cond, List, ◌∷◌, ◌++◌, take, length, set, Some, None, refl, sym, ap, ◌∙◌, subst, arith}
-use Rattle.ucl_words.proofs.Common.{[], eq-eqb, ne_eqb, slice_index, length-take-le, take-length, EventCall, Accepted, Refusal, Stale, refusal_of, after, reply_of, record_at, IsWord}
-use Rattle.ucl_words.proofs.Common.{after_number, word_packed, Reading, reading_of, First, Second, Reply, Held, Nothing, Holding, Collecting, Checking, Outcome, GoesOn, Answers, Doing, goes, ends}
-use Rattle.ucl_words.proofs.Common.{done_by, IsNext, after_look, after_swap, collected, firsts_holding, after_first, after_second, none_of, WordView, AnswersCall, point_shown, IsHoldingFor}
-use Rattle.ucl_words.proofs.Common.{MayCollect, IsBegun, HasFirsts, has_copied, begins_anew}
-use Rattle.std.proofs.Common.{Ok}
+use Rattle.ucl_words.proofs.Common.{◌≡◌, ◌≢◌, ◌⊎◌, inl, inr, ℕ, zero, suc, ◌+◌, ◌<◌, ◌≤◌, ◌==◌, Bool, true, cond, List, ◌∷◌, ◌++◌, take, length, set, Some, None, refl, sym, ap, ◌∙◌}
+use Rattle.ucl_words.proofs.Common.{subst, arith, [], eq-eqb, ne_eqb, slice_index, length-take-le, take-length, append-nil, EventCall, Refusal, Stale, refusal_of, after}
+use Rattle.ucl_words.proofs.Common.{record_at, word_of, reading_of, version_of, Call, Reply, Held, Nothing, Holding, Collecting, Checking, Outcome, GoesOn, by_rules, collected}
+use Rattle.ucl_words.proofs.Common.{WordView, WordTarget, Act, Doings, FinishedCall, doings_of, doings_at, outcome, with_outcome, call_answered, first_place, next_game}
+use Rattle.ucl_words.proofs.Common.{entry_by, known, versions_by, version_in, Steps, IsAnswered, AnswersCall, StaysIn, Finishes, MayCollect, IsBegun}
+use Rattle.ucl_board.specs.Log as plain
 use Rattle.ucl_steps.specs.declared.step.Call.TheVariants as calls
 use Rattle.ucl_steps.specs.declared.trace.Reply.TheVariants as replies
+use Rattle.ucl_steps.specs.Protocol as protocol
+use Rattle.ucl_steps.specs.Doings.{call_asked}
+use Rattle.ucl_steps.specs.WordLog.{Match, Look, Swap, First, Second}
+use Rattle.ucl_steps.proofs.LogHistory.{look_none, first_none, second_none}
+use Rattle.ucl_words.proofs.StepFacts.{LoadsMatch, Loads, ExchangeWon, ExchangeMissed, doings_is, first_later, shows_answer, loads_match, exchange_won, at_is}
 
--- a report
+-- one step on a match word, by what comes of it
 
-module _ (v u : WordView) (call : EventCall) (loaded number : ℕ) (is : v.pass.number ≡ number) (looked : u.doing ≡ after_look v.pass.number call loaded (length u.pass.seen) v.doing)
-    (grown : length v.pass.seen ≤ length u.pass.seen) where
-  pub look_answers : (refusal : Refusal) → refusal_of (record_at loaded) call.expected call.kind ≡ Some refusal → AnswersCall v (calls.Event call) (replies.Refused refusal) u
-  look_answers refusal refused = search arith
+module _ (seat game n : ℕ) (act : Act) (v w : WordView) (s : Steps seat (Match act game n) v w) where
+  abbrev target : WordTarget
+  target = Match act game n
 
-  module _ (accepts : refusal_of (record_at loaded) call.expected call.kind ≡ None) (next : ℕ) (valid : IsWord next) (next_is : record_at next ≡ after (record_at loaded) number call.kind) where
-    now_holding : u.doing ≡ goes (length u.pass.seen) (Holding call loaded next) v.doing
-    now_holding = search (arith, word_packed)
+  abbrev d : Doings
+  d = doings_of v.own
 
-    pub holding_for : (reporter : ℕ) → IsHoldingFor u.doing.held (record { game = call.game; reporter = reporter; kind = call.kind }) loaded next
-    holding_for reporter = record { e = call; holds = ap (λ (d : Doing). d.held) now_holding; game = refl; kind = refl }
+  module _ (o : Outcome) (comes : outcome (doings_of v.own).number (doings_of v.own).held (Match act game n) s.step.at ≡ o) where
+    pub done : doings_of w.own ≡ with_outcome o s.step (doings_of v.own)
+    done = doings_is seat target v w s ∙ ap (λ (z : Outcome). with_outcome z s.step (doings_of v.own)) comes
 
-    module _ (z : WordView) (found : ℕ) (swapped : z.doing ≡ after_swap found (length z.pass.seen) u.doing) where
-      abbrev reply_by : Bool → Reply
-      reply_by b = cond b (replies.Accepted (record { number = (record_at next).number })) (replies.Refused (Stale (record_at found).number))
+  -- the call goes on
+  module _ (held : Held) (comes : outcome (doings_of v.own).number (doings_of v.own).held (Match act game n) s.step.at ≡ GoesOn held) where
+    goes_calls : (doings_of w.own).calls ≡ (doings_of v.own).calls
+    goes_calls = ap (λ (z : Doings). z.calls) (done (GoesOn held) comes)
 
-      abbrev answer_by : Bool → Doing
-      answer_by b = ends (calls.Event call) (reply_by b) (length u.pass.seen) (length z.pass.seen) v.doing
+    goes_shown : versions_by (doings_of w.own) ≡ versions_by (doings_of v.own)
+    goes_shown = ap versions_by (done (GoesOn held) comes)
 
-      now_answered : z.doing ≡ answer_by (found == loaded)
-      now_answered = swapped ∙ ap (after_swap found (length z.pass.seen)) now_holding
+    goes_first : (doings_of w.own).first ≡ first_place (doings_of v.own).held (doings_of v.own).first s.step.place
+    goes_first = ap (λ (z : Doings). z.first) (done (GoesOn held) comes)
 
-      pub won_answers : found ≡ loaded → (reply : Accepted) → reply_of (record_at loaded) call ≡ Ok reply → AnswersCall v (calls.Event call) (replies.Accepted reply) z
-      won_answers same reply accepted = search (arith, after_number, none_of, now_answered, eq-eqb)
+    pub goes_on : StaysIn v held w
+    goes_on = record {
+      calls = goes_calls;
+      held_is = ap (λ (z : Doings). z.held) (done (GoesOn held) comes);
+      begun = begun_by (doings_of v.own).held refl;
+    }
+      where
+        begun_by : (h : Held) → (doings_of v.own).held ≡ h → IsBegun (doings_of v.own).held (length v.log) (doings_of v.own).first (doings_of w.own).first
+        begun_by Nothing is =
+            let first = goes_first ∙ ap (λ (k : Held). first_place k (doings_of v.own).first s.step.place) is in
+            let low = first_later seat target v w s in
+            subst (λ (k : Held). IsBegun k (length v.log) (doings_of v.own).first (doings_of w.own).first) (sym is) (omega arith)
+        begun_by (Holding e old new) is = subst (λ (k : Held). IsBegun k (length v.log) (doings_of v.own).first (doings_of w.own).first) (sym is)
+            (goes_first ∙ ap (λ (k : Held). first_place k (doings_of v.own).first s.step.place) is)
+        begun_by (Collecting words) is = subst (λ (k : Held). IsBegun k (length v.log) (doings_of v.own).first (doings_of w.own).first) (sym is)
+            (goes_first ∙ ap (λ (k : Held). first_place k (doings_of v.own).first s.step.place) is)
+        begun_by (Checking words checked point) is = subst (λ (k : Held). IsBegun k (length v.log) (doings_of v.own).first (doings_of w.own).first) (sym is)
+            (goes_first ∙ ap (λ (k : Held). first_place k (doings_of v.own).first s.step.place) is)
 
-      pub miss_answers : found ≢ loaded → (refusal : Refusal) → refusal ≡ Stale (record_at found).number → AnswersCall v (calls.Event call) (replies.Refused refusal) z
-      miss_answers other refusal stale = search (arith, now_answered, ne_eqb)
+  -- the call is answered
+  module _ (reply : Reply) (comes : outcome (doings_of v.own).number (doings_of v.own).held (Match act game n) s.step.at ≡ protocol.Answers reply) where
+    abbrev answer : FinishedCall
+    answer = call_answered reply s.step (doings_of v.own)
+
+    abbrev pub answered : (call : Call) → call_asked (doings_of v.own).held (Match act game n) ≡ call → IsAnswered v call reply w
+    answered call asked = record {
+      last = answer;
+      calls = ap (λ (z : Doings). z.calls) (done (protocol.Answers reply) comes);
+      asked = (ap (call_asked (doings_of v.own).held) s.of ∙ asked, refl, refl);
+      held = ap (λ (z : Doings). z.held) (done (protocol.Answers reply) comes);
+    }
+
+    pub answer_shown : versions_by (doings_of w.own) ≡ versions_by (doings_of v.own) ++ version_in reply
+    answer_shown = ap versions_by (done (protocol.Answers reply) comes) ∙ shows_answer (doings_of v.own) s.step reply
+
+-- steps of one call, one after another
+
+begun_on : (h : Held) (known was first then : ℕ) → IsBegun h known was first → then ≡ first → IsBegun h known was then
+begun_on h known was first then begun same = subst (IsBegun h known was) (sym same) begun
+
+under_way : (h : Held) (known was first : ℕ) → h ≢ Nothing → IsBegun h known was first → first ≡ was
+under_way Nothing known was first some begun = absurd (some refl)
+under_way (Holding e old new) known was first some begun = begun
+under_way (Collecting words) known was first some begun = begun
+under_way (Checking words checked point) known was first some begun = begun
+
+pub stays_on : (u v w : WordView) (h k : Held) → h ≢ Nothing → StaysIn u h v → StaysIn v k w → StaysIn u k w
+stays_on u v w h k some a b =
+    let same = under_way (doings_of v.own).held (length v.log) (doings_of v.own).first (doings_of w.own).first (λ none. some (sym a.held_is ∙ none)) b.begun in
+    record {
+      calls = b.calls ∙ a.calls;
+      held_is = b.held_is;
+      begun = begun_on (doings_of u.own).held (length u.log) (doings_of u.own).first
+          (doings_of v.own).first (doings_of w.own).first a.begun same;
+    }
+
+-- a call that began after all that its pass had known, and that was answered
+pub stays_answered : (v u w : WordView) (held : Held) (call : Call) (reply : Reply) → (doings_of v.own).held ≡ Nothing → (doings_of u.own).number ≡ (doings_of v.own).number
+    → StaysIn v held u → Finishes u call reply w → AnswersCall v call reply w
+stays_answered v u w held call reply nothing number stays finishes =
+    let a = finishes.answers in
+    let begun : length v.log ≤ (doings_of u.own).first = subst (λ (h : Held). IsBegun h (length v.log) (doings_of v.own).first (doings_of u.own).first) nothing stays.begun in
+    let first = finishes.first in
+    record {
+      answers = record { last = a.last; calls = a.calls ∙ ap (λ (l : List FinishedCall). l ++ a.last ∷ []) stays.calls; asked = (a.asked.0, a.asked.1, a.asked.2 ∙ number); held = a.held };
+      since = omega arith;
+    }
+
+-- a report's load, where nothing was held
+
+module _ (seat n : ℕ) (e : EventCall) (v w : WordView) (s : Steps seat (Match (Look e) e.game n) v w) (nothing : (doings_of v.own).held ≡ Nothing) where
+  look_adds : s.step.entry ≡ None
+  look_adds = s.next.entry ∙ (ap (entry_by (doings_at seat s.before).number (doings_at seat s.before).held) s.of ∙ look_none (doings_at seat s.before).held (doings_at seat s.before).number e.game n e)
+
+  pub look_loads : versions_by (doings_of w.own) ≡ versions_by (doings_of v.own) → Loads plain.Look e.game (known v) n (known w)
+  look_loads shown = record { loads = loads_match seat e.game n (Look e) v w s look_adds; shown = shown }
+
+  module _ (refusal : Refusal) (refused : refusal_of (record_at n) e.expected e.kind ≡ Some refusal) where
+    look_comes : outcome (doings_of v.own).number (doings_of v.own).held (Match (Look e) e.game n) s.step.at ≡ protocol.Answers (replies.Refused refusal)
+    look_comes = ap (by_rules (doings_of v.own).number e n) refused
+
+    pub look_refused : Loads plain.Look e.game (known v) n (known w)
+    look_refused = look_loads (answer_shown seat e.game n (Look e) v w s (replies.Refused refusal) look_comes ∙ append-nil (versions_by (doings_of v.own)))
+
+    pub look_answers : AnswersCall v (calls.Event e) (replies.Refused refusal) w
+    look_answers =
+        let first = ap (λ (h : Held). first_place h (doings_of v.own).first s.step.place) nothing in
+        let low = first_later seat (Match (Look e) e.game n) v w s in
+        record { answers = answered seat e.game n (Look e) v w s (replies.Refused refusal) look_comes (calls.Event e) refl; since = omega arith }
+
+  module _ (accepts : refusal_of (record_at n) e.expected e.kind ≡ None) where
+    look_goes : outcome (doings_of v.own).number (doings_of v.own).held (Match (Look e) e.game n) s.step.at ≡ GoesOn (Holding e n (word_of (after (record_at n) (doings_of v.own).number e.kind)))
+    look_goes = ap (by_rules (doings_of v.own).number e n) accepts
+
+    pub look_holds : StaysIn v (Holding e n (word_of (after (record_at n) (doings_of v.own).number e.kind))) w
+    look_holds = goes_on seat e.game n (Look e) v w s (Holding e n (word_of (after (record_at n) (doings_of v.own).number e.kind))) look_goes
+
+    pub look_accepted : Loads plain.Look e.game (known v) n (known w)
+    look_accepted = look_loads (goes_shown seat e.game n (Look e) v w s (Holding e n (word_of (after (record_at n) (doings_of v.own).number e.kind))) look_goes)
+
+-- the exchange
+
+module _ (seat game n old new : ℕ) (e : EventCall) (v w : WordView) (s : Steps seat (Match Swap game n) v w) (held : (doings_of v.own).held ≡ Holding e old new) (of : game ≡ e.game) where
+  abbrev pub reply_by : Bool → Reply
+  reply_by b = cond b (replies.Accepted (record { number = (record_at new).number })) (replies.Refused (Stale (record_at n).number))
+
+  swap_comes : outcome (doings_of v.own).number (doings_of v.own).held (Match Swap game n) s.step.at ≡ protocol.Answers (reply_by (n == old))
+  swap_comes = ap (λ (h : Held). outcome (doings_of v.own).number h (Match Swap game n) s.step.at) held
+
+  swap_asked : call_asked (doings_of v.own).held (Match Swap game n) ≡ calls.Event e
+  swap_asked = ap (λ (h : Held). call_asked h (Match Swap game n)) held
+
+  module _ (b : Bool) (is : (n == old) ≡ b) where
+    comes_as : outcome (doings_of v.own).number (doings_of v.own).held (Match Swap game n) s.step.at ≡ protocol.Answers (reply_by b)
+    comes_as = swap_comes ∙ ap (λ (c : Bool). protocol.Answers (reply_by c)) is
+
+    pub swap_finishes : Finishes v (calls.Event e) (reply_by b) w
+    swap_finishes = record {
+      answers = answered seat game n Swap v w s (reply_by b) comes_as (calls.Event e) swap_asked;
+      first = ap (λ (h : Held). first_place h (doings_of v.own).first s.step.place) held;
+    }
+
+    swap_shown : versions_by (doings_of w.own) ≡ versions_by (doings_of v.own) ++ version_in (reply_by b)
+    swap_shown = answer_shown seat game n Swap v w s (reply_by b) comes_as
+
+  pub swap_missed : n ≢ old → ExchangeMissed e.game (known v) n (known w)
+  swap_missed other =
+      let none : s.step.entry ≡ None = s.next.entry ∙ ((λ i. entry_by (doings_of (sym s.own i)).number (doings_of (sym s.own i)).held (s.of i))
+      ∙ (ap (λ (h : Held). entry_by (doings_of v.own).number h (Match Swap game n)) held
+      ∙ ap (λ (b : Bool). cond b (Some (Rattle.ucl_board.specs.History.entry_of (doings_of v.own).number e)) None) (ne_eqb n old other))) in
+      subst (λ (g : ℕ). ExchangeMissed g (known v) n (known w)) of
+      (record {
+        loads = loads_match seat game n Swap v w s none;
+        shown = swap_shown (n == old) refl
+            ∙ (ap (λ (b : Bool). versions_by (doings_of v.own) ++ version_in (reply_by b)) (ne_eqb n old other)
+            ∙ append-nil (versions_by (doings_of v.own)));
+      })
+
+  pub swap_won : n ≡ old → ExchangeWon (Rattle.ucl_board.specs.History.entry_of (doings_of v.own).number e) (known v) n (known w)
+  swap_won same =
+      let shown = swap_shown (n == old) refl ∙ (ap (λ (b : Bool). versions_by (doings_of v.own) ++ version_in (reply_by b)) (eq-eqb n old same) ∙ append-nil (versions_by (doings_of v.own))) in
+      subst (λ (k : ℕ). ExchangeWon (Rattle.ucl_board.specs.History.entry_of (doings_of v.own).number e) (known v) k (known w)) (sym same)
+      (exchange_won seat game old new e v w (subst (λ (k : ℕ). Steps seat (Match Swap game k) v w) same s) held of shown)
 
 -- a first collect
 
@@ -45,114 +188,205 @@ take_set [] i n less = absurd (omega arith)
 take_set (x ∷ ws) zero n less = refl
 take_set (x ∷ ws) (suc i) n less = let e : suc i + 1 ≡ suc (i + 1) = omega arith in ap (λ (k : ℕ). take k (x ∷ set ws i n)) e ∙ ap (λ (l : List ℕ). x ∷ l) (take_set ws i n (omega arith))
 
-pub record FirstsOn (seen : ℕ) (d : Doing) (words : List ℕ) (count now : ℕ) (f : Doing) : Type 0 where
-  pub begun : ℕ
-  pub begins : IsBegun d.held seen d.begun begun
-  pub does : f ≡ goes begun (collected (take count words) now) d
+-- after so many loads
+abbrev pub Firsts : WordView → List ℕ → ℕ → WordView → Type 0
+Firsts v words i x = ((i ≡ 0) × (x ≡ v)) ⊎ ((0 < i) × StaysIn v (collected (take i words) (length (known x).seen)) x)
 
--- after some of its loads
-abbrev pub Firsts : ℕ → Doing → List ℕ → ℕ → ℕ → Doing → Type 0
-Firsts seen d words count now f = ((count ≡ 0) × (f ≡ d)) ⊎ ((0 < count) × FirstsOn seen d words count now f)
-
-begin_by : (h : Held) → MayCollect h → (n now : ℕ) (d : Doing)
-    → IsNext First 1 h × ((begun : ℕ) × (firsts_holding h n now d ≡ goes begun (collected (n ∷ []) now) d) × ((seen : ℕ) → seen ≤ now → IsBegun h seen d.begun begun))
-begin_by Nothing may n now d = (refl, (now, refl, λ seen le. le))
-begin_by (Collecting words) may n now d = (ap (λ (l : List ℕ). length l + 1) (sym may), (d.begun, ap (λ (l : List ℕ). goes d.begun (collected (l ++ n ∷ []) now) d) may, λ seen le. refl))
-begin_by x may n now d = absurd may
-
-module _ (seen : ℕ) (d : Doing) (words : List ℕ) (i now : ℕ) (f : Doing) (less : i < 12) (long : length words ≡ 12) (may : MayCollect d.held) where
+module _ (v x : WordView) (words : List ℕ) (i : ℕ) (less : i < 12) (long : length words ≡ 12) (may : MayCollect (doings_of v.own).held) where
   some_words : length (take i words) ≡ i
   some_words = length-take-le i words (omega arith)
 
-  still_collecting : FirstsOn seen d words i now f → (begun : ℕ) × (f ≡ goes begun (Collecting (take i words)) d) × IsBegun d.held seen d.begun begun
-  still_collecting on = search (arith, some_words, ne_eqb)
+  collecting_still : (now : ℕ) → collected (take i words) now ≡ Collecting (take i words)
+  collecting_still now = ap (λ (b : Bool). cond b (Checking (take i words) 0 now) (Collecting (take i words))) (ne_eqb (length (take i words)) 12 (λ full. let l = some_words in omega arith))
 
-  pub first_next : Firsts seen d words i now f → IsNext First (i + 1) f.held
-  first_next is = search (arith, begin_by, still_collecting, some_words)
+  first_begins : (h : Held) → MayCollect h → 1 ≡ next_game First h
+  first_begins Nothing m = refl
+  first_begins (Collecting ws) m = ap (λ (l : List ℕ). length l + 1) (sym m)
+  first_begins (Holding e old new) m = absurd m
+  first_begins (Checking ws checked point) m = absurd m
 
-  pub first_on : (n later : ℕ) (g : Doing) → seen ≤ later → g ≡ after_first n later f → Firsts seen d words i now f → Firsts seen d (set words i n) (i + 1) later g
-  first_on n later g grown is (inl t) = search (arith, begin_by d.held may n later d, take_set)
-  first_on n later g grown is (inr t) = search (arith, still_collecting, take_set)
+  pub first_next : Firsts v words i x → i + 1 ≡ next_game First (doings_of x.own).held
+  first_next (inl t) = ap (λ (k : ℕ). k + 1) t.0 ∙ (first_begins (doings_of v.own).held may ∙ ap (λ (z : WordView). next_game First (doings_of z.own).held) (sym t.1))
+  first_next (inr t) = ap (λ (k : ℕ). k + 1) (sym some_words) ∙ ap (next_game First) (sym (t.1.held_is ∙ collecting_still (length (known x).seen)))
 
-pub firsts_all : (seen : ℕ) (d : Doing) (words : List ℕ) (i now : ℕ) (f : Doing) → length words ≡ 12 → i ≡ 12 → Firsts seen d words i now f → HasFirsts seen d words now f
-firsts_all seen d words i now f long all is = search (arith, take-length, eq-eqb)
+  module _ (seat n : ℕ) (w : WordView) (s : Steps seat (Match First (i + 1) n) x w) where
+    pub first_adds : s.step.entry ≡ None
+    first_adds = s.next.entry ∙ (ap (entry_by (doings_at seat s.before).number (doings_at seat s.before).held) s.of
+        ∙ first_none (doings_at seat s.before).held (doings_at seat s.before).number (i + 1) n)
+
+    now_is : s.step.at ≡ length (known w).seen
+    now_is = at_is seat (Match First (i + 1) n) x w s first_adds
+
+    abbrev more : Held
+    more = collected (take (i + 1) (set words i n)) (length (known w).seen)
+
+    words_on : take i words ++ n ∷ [] ≡ take (i + 1) (set words i n)
+    words_on = sym (take_set words i n (omega arith))
+
+    first_comes : (h : Held) → (doings_of x.own).held ≡ h → ((h ≡ Nothing) ⊎ (h ≡ Collecting [])) × (i ≡ 0) ⊎ (h ≡ Collecting (take i words))
+        → outcome (doings_of x.own).number (doings_of x.own).held (Match First (i + 1) n) s.step.at ≡ GoesOn more
+    first_comes h is by = ap (λ (k : Held). outcome (doings_of x.own).number k (Match First (i + 1) n) s.step.at) is ∙ (held_by h by ∙ (λ j. GoesOn (collected (words_on j) (now_is j))))
+      where
+        held_by : (h : Held) → ((h ≡ Nothing) ⊎ (h ≡ Collecting [])) × (i ≡ 0) ⊎ (h ≡ Collecting (take i words))
+            → outcome (doings_of x.own).number h (Match First (i + 1) n) s.step.at ≡ GoesOn (collected (take i words ++ n ∷ []) s.step.at)
+        held_by h (inl t) = elim t.0 [
+          | inl none ↦ ap (λ (k : Held). outcome (doings_of x.own).number k (Match First (i + 1) n) s.step.at) none ∙ ap (λ (k : ℕ). GoesOn (collected (take k words ++ n ∷ []) s.step.at)) (sym t.1)
+          | inr anew ↦ ap (λ (k : Held). outcome (doings_of x.own).number k (Match First (i + 1) n) s.step.at) anew ∙ ap (λ (k : ℕ). GoesOn (collected (take k words ++ n ∷ []) s.step.at)) (sym t.1)
+        ]
+        held_by h (inr t) = ap (λ (k : Held). outcome (doings_of x.own).number k (Match First (i + 1) n) s.step.at) t
+
+    may_be : (h : Held) → MayCollect h → (h ≡ Nothing) ⊎ (h ≡ Collecting [])
+    may_be Nothing m = inl refl
+    may_be (Collecting ws) m = inr (ap Collecting m)
+    may_be (Holding e old new) m = absurd m
+    may_be (Checking ws checked point) m = absurd m
+
+    comes : Firsts v words i x → outcome (doings_of x.own).number (doings_of x.own).held (Match First (i + 1) n) s.step.at ≡ GoesOn more
+    comes (inl t) = first_comes (doings_of x.own).held refl
+        (inl (
+          subst (λ (z : WordView). ((doings_of z.own).held ≡ Nothing) ⊎ ((doings_of z.own).held ≡ Collecting [])) (sym t.1)
+              (may_be (doings_of v.own).held may),
+          t.0,
+        ))
+    comes (inr t) = first_comes (doings_of x.own).held refl (inr (t.1.held_is ∙ collecting_still (length (known x).seen)))
+
+    pub first_shown : Firsts v words i x → (known w).shown ≡ (known x).shown
+    first_shown so_far = goes_shown seat (i + 1) n First x w s more (comes so_far)
+
+    pub first_loads : LoadsMatch plain.First (i + 1) (known x) n (known w)
+    first_loads = loads_match seat (i + 1) n First x w s first_adds
+
+    pub first_on : Firsts v words i x → Firsts v (set words i n) (i + 1) w
+    first_on so_far = inr (omega arith, by so_far)
+      where
+        by : Firsts v words i x → StaysIn v more w
+        by (inl t) = subst (λ (z : WordView). StaysIn z more w) t.1 (goes_on seat (i + 1) n First x w s more (comes so_far))
+        by (inr t) = stays_on v x w (collected (take i words) (length (known x).seen)) more
+            (λ none. collecting (sym (collecting_still (length (known x).seen)) ∙ none)) t.1 (goes_on seat (i + 1) n First x w s more (comes so_far))
+          where
+            collecting : Collecting (take i words) ≡ Nothing → ⊥
+            collecting e = cc
+
+pub firsts_all : (v x : WordView) (words : List ℕ) (i : ℕ) → length words ≡ 12 → i ≡ 12 → Firsts v words i x → StaysIn v (Checking words 0 (length (known x).seen)) x
+firsts_all v x words i long all (inl t) = absurd (let e = t.0 in omega arith)
+firsts_all v x words i long all (inr t) =
+    let whole : take i words ≡ words = ap (λ (k : ℕ). take k words) (all ∙ sym long) ∙ take-length words in
+    subst (λ (h : Held). StaysIn v h x)
+    (ap (λ (l : List ℕ). collected l (length (known x).seen)) whole ∙ ap (λ (b : Bool). cond b (Checking words 0 (length (known x).seen)) (Collecting words)) (eq-eqb (length words) 12 long)) t.1
 
 -- a second collect
 
-abbrev pub Seconds : Doing → List ℕ → ℕ → ℕ → Doing → Type 0
-Seconds d words point count f = f ≡ goes d.begun (Checking words count point) d
+pub record Seconds (v : WordView) (words : List ℕ) (point count : ℕ) (x : WordView) : Type 0 where
+  pub calls : (doings_of x.own).calls ≡ (doings_of v.own).calls
+  pub held : (doings_of x.own).held ≡ Checking words count point
+  pub first : (doings_of x.own).first ≡ (doings_of v.own).first
+  pub number : (doings_of x.own).number ≡ (doings_of v.own).number
 
-pub seconds_none : (d : Doing) (words : List ℕ) (point : ℕ) → d.held ≡ Checking words 0 point → Seconds d words point 0 d
-seconds_none d words point is = λ i. record { calls = d.calls; held = is i; begun = d.begun }
+pub seconds_none : (v : WordView) (words : List ℕ) (point : ℕ) → (doings_of v.own).held ≡ Checking words 0 point → Seconds v words point 0 v
+seconds_none v words point is = record { calls = refl; held = is; first = refl; number = refl }
 
-module _ (d : Doing) (words : List ℕ) (point i : ℕ) (f : Doing) (so_far : Seconds d words point i f) where
-  pub second_next : IsNext Second (i + 1) f.held
-  second_next = subst (λ (x : Doing). IsNext Second (i + 1) x.held) (sym so_far) refl
+module _ (v x w : WordView) (words : List ℕ) (point i seat n : ℕ) (so_far : Seconds v words point i x) (s : Steps seat (Match Second (i + 1) n) x w) where
+  pub second_adds : s.step.entry ≡ None
+  second_adds = s.next.entry ∙ (ap (entry_by (doings_at seat s.before).number (doings_at seat s.before).held) s.of
+      ∙ second_none (doings_at seat s.before).held (doings_at seat s.before).number (i + 1) n)
 
-  -- what a load then shows
-  module _ (n : ℕ) where
-    abbrev shown_if : Bool → Bool → List ℕ
-    shown_if same last = cond same (cond last (point ∷ []) []) []
+  pub second_loads : LoadsMatch plain.Second (i + 1) (known x) n (known w)
+  second_loads = loads_match seat (i + 1) n Second x w s second_adds
 
-    shows : point_shown f.held n ≡ shown_if (n == slice_index words i) (i == 11)
-    shows = ap (λ (x : Doing). point_shown x.held n) so_far
+  abbrev compared_by : Bool → Bool → Outcome
+  compared_by same last = cond same (cond last (protocol.Answers (replies.Copied (reading_of words))) (GoesOn (Checking words (i + 1) point))) (GoesOn (Collecting []))
 
-    shows_same : n ≡ slice_index words i → point_shown f.held n ≡ shown_if true (i == 11)
-    shows_same same = shows ∙ ap (λ (b : Bool). shown_if b (i == 11)) (eq-eqb n (slice_index words i) same)
+  second_comes : outcome (doings_of x.own).number (doings_of x.own).held (Match Second (i + 1) n) s.step.at ≡ compared_by (n == slice_index words i) (i == 11)
+  second_comes = ap (λ (h : Held). outcome (doings_of x.own).number h (Match Second (i + 1) n) s.step.at) so_far.held
 
-    pub shows_none : n ≡ slice_index words i → i < 11 → point_shown f.held n ≡ []
-    shows_none same less = shows_same same ∙ ap (shown_if true) (ne_eqb i 11 (λ z. omega arith))
+  first_kept : (first : ℕ) → first ≡ first_place (doings_of x.own).held (doings_of x.own).first s.step.place → first ≡ (doings_of v.own).first
+  first_kept first is = is ∙ (ap (λ (h : Held). first_place h (doings_of x.own).first s.step.place) so_far.held ∙ so_far.first)
 
-    pub shows_none_of_another : n ≢ slice_index words i → point_shown f.held n ≡ []
-    shows_none_of_another other = shows ∙ ap (λ (b : Bool). shown_if b (i == 11)) (ne_eqb n (slice_index words i) other)
+  module _ (same : n ≡ slice_index words i) where
+    same_comes : outcome (doings_of x.own).number (doings_of x.own).held (Match Second (i + 1) n) s.step.at ≡ compared_by true (i == 11)
+    same_comes = second_comes ∙ ap (λ (b : Bool). compared_by b (i == 11)) (eq-eqb n (slice_index words i) same)
 
-    pub shows_point : n ≡ slice_index words i → i ≡ 11 → point_shown f.held n ≡ point ∷ []
-    shows_point same eleven = shows_same same ∙ ap (shown_if true) (eq-eqb i 11 eleven)
+    module _ (less : i < 11) where
+      on_comes : outcome (doings_of x.own).number (doings_of x.own).held (Match Second (i + 1) n) s.step.at ≡ GoesOn (Checking words (i + 1) point)
+      on_comes = same_comes ∙ ap (compared_by true) (ne_eqb i 11 (λ z. omega arith))
 
-  module _ (n now : ℕ) (g : Doing) (is : g ≡ after_second n now f) where
-    abbrev before : Doing
-    before = goes d.begun (Checking words i point) d
+      pub second_on : Seconds v words point (i + 1) w
+      second_on = record {
+        calls = goes_calls seat (i + 1) n Second x w s (Checking words (i + 1) point) on_comes ∙ so_far.calls;
+        held = (goes_on seat (i + 1) n Second x w s (Checking words (i + 1) point) on_comes).held_is;
+        first = first_kept (doings_of w.own).first (goes_first seat (i + 1) n Second x w s (Checking words (i + 1) point) on_comes);
+        number = ap (λ (z : Doings). z.number) (done seat (i + 1) n Second x w s (GoesOn (Checking words (i + 1) point)) on_comes) ∙ so_far.number;
+      }
 
-    abbrev compared_by : Bool → Bool → Outcome
-    compared_by same last = cond same (cond last (Answers (replies.Copied (reading_of words))) (GoesOn (Checking words (i + 1) point))) (GoesOn (Collecting []))
+      pub second_shown : (known w).shown ≡ (known x).shown
+      second_shown = goes_shown seat (i + 1) n Second x w s (Checking words (i + 1) point) on_comes
 
-    step_is : g ≡ done_by calls.Reading d.begun now (compared_by (n == slice_index words i) (i == 11)) before
-    step_is = is ∙ ap (after_second n now) so_far
+    module _ (eleven : i ≡ 11) where
+      all_comes : outcome (doings_of x.own).number (doings_of x.own).held (Match Second (i + 1) n) s.step.at ≡ protocol.Answers (replies.Copied (reading_of words))
+      all_comes = same_comes ∙ ap (compared_by true) (eq-eqb i 11 eleven)
 
-    same_by : n ≡ slice_index words i → g ≡ done_by calls.Reading d.begun now (compared_by true (i == 11)) before
-    same_by same = step_is ∙ ap (λ (b : Bool). done_by calls.Reading d.begun now (compared_by b (i == 11)) before) (eq-eqb n (slice_index words i) same)
+      pub second_last : Finishes v calls.Reading (replies.Copied (reading_of words)) w
+      second_last =
+          let a = answered seat (i + 1) n Second x w s (replies.Copied (reading_of words)) all_comes calls.Reading (ap (λ (h : Held). call_asked h (Match Second (i + 1) n)) so_far.held) in
+          record {
+            answers = record {
+              last = a.last;
+              calls = a.calls ∙ ap (λ (l : List FinishedCall). l ++ a.last ∷ []) so_far.calls;
+              asked = (a.asked.0, a.asked.1, a.asked.2 ∙ so_far.number);
+              held = a.held;
+            };
+            first = first_kept a.last.first refl;
+          }
 
-    pub second_on : n ≡ slice_index words i → i < 11 → Seconds d words point (i + 1) g
-    second_on same less = same_by same ∙ ap (λ (b : Bool). done_by calls.Reading d.begun now (compared_by true b) before) (ne_eqb i 11 (λ z. omega arith))
+      pub last_shown : (known w).shown ≡ (known x).shown ++ version_of words ∷ []
+      last_shown = answer_shown seat (i + 1) n Second x w s (replies.Copied (reading_of words)) all_comes
 
-    pub second_other : n ≢ slice_index words i → g ≡ begins_anew d
-    second_other other = step_is ∙ ap (λ (b : Bool). done_by calls.Reading d.begun now (compared_by b (i == 11)) before) (ne_eqb n (slice_index words i) other)
+  module _ (other : n ≢ slice_index words i) where
+    anew_comes : outcome (doings_of x.own).number (doings_of x.own).held (Match Second (i + 1) n) s.step.at ≡ GoesOn (Collecting [])
+    anew_comes = second_comes ∙ ap (λ (b : Bool). compared_by b (i == 11)) (ne_eqb n (slice_index words i) other)
 
-    pub second_last : n ≡ slice_index words i → i ≡ 11 → g ≡ has_copied words now d
-    second_last same eleven = same_by same ∙ ap (λ (b : Bool). done_by calls.Reading d.begun now (compared_by true b) before) (eq-eqb i 11 eleven)
+    pub second_other : (doings_of v.own).held ≡ Checking words 0 point → StaysIn v (Collecting []) w
+    second_other was = record {
+      calls = goes_calls seat (i + 1) n Second x w s (Collecting []) anew_comes ∙ so_far.calls;
+      held_is = (goes_on seat (i + 1) n Second x w s (Collecting []) anew_comes).held_is;
+      begun = subst (λ (h : Held). IsBegun h (length v.log) (doings_of v.own).first (doings_of w.own).first) (sym was)
+          (first_kept (doings_of w.own).first (goes_first seat (i + 1) n Second x w s (Collecting []) anew_comes));
+    }
+
+    pub other_shown : (known w).shown ≡ (known x).shown
+    other_shown = goes_shown seat (i + 1) n Second x w s (Collecting []) anew_comes
 
 -- tries of a reading
 
-abbrev pub Tries : ℕ → Doing → Doing → Type 0
-Tries seen d f = (f ≡ d) ⊎ ((begun : ℕ) × (f ≡ goes begun (Collecting []) d) × (seen ≤ begun))
+abbrev pub Tries : WordView → WordView → Type 0
+Tries v x = (x ≡ v) ⊎ StaysIn v (Collecting []) x
 
-module _ (seen : ℕ) (d : Doing) (none : d.held ≡ Nothing) where
-  pub tries_may : (f : Doing) → Tries seen d f → MayCollect f.held
-  tries_may f is = search arith
+module _ (v x : WordView) (none : (doings_of v.own).held ≡ Nothing) where
+  pub tries_may : Tries v x → MayCollect (doings_of x.own).held
+  tries_may (inl same) = subst MayCollect (sym (ap (λ (z : WordView). (doings_of z.own).held) same ∙ none)) tt
+  tries_may (inr t) = subst MayCollect (sym t.held_is) refl
 
-  module _ (x u : Doing) (words : List ℕ) (later now : ℕ) (grown : seen ≤ later) (tries : Tries seen d x) (collected_all : HasFirsts later x words now u) where
-    collected_now : u ≡ goes collected_all.begun (Checking words 0 now) d
-    collected_now = search arith
+  pub tries_on : (h : Held) (u : WordView) → Tries v x → StaysIn x h u → StaysIn v h u
+  tries_on h u (inl same) stays = subst (λ (z : WordView). StaysIn z h u) same stays
+  tries_on h u (inr t) stays = stays_on v x u (Collecting []) h collecting t stays
+    where
+      collecting : Collecting [] ≡ Nothing → ⊥
+      collecting e = cc
 
-    begun_since : seen ≤ collected_all.begun
-    begun_since = search arith
+pub tries_again : (v u w : WordView) (words : List ℕ) (point : ℕ) → StaysIn v (Checking words 0 point) u → StaysIn u (Collecting []) w → StaysIn v (Collecting []) w
+tries_again v u w words point a b = stays_on v u w (Checking words 0 point) (Collecting []) checking a b
+  where
+    checking : Checking words 0 point ≡ Nothing → ⊥
+    checking e = cc
 
-    pub tries_held : u.held ≡ Checking words 0 now
-    tries_held = ap (λ (y : Doing). y.held) collected_now
+-- a step on the enlist word leaves what was done
+pub counted_does : (seat n : ℕ) (v w : WordView) → Steps seat (Rattle.ucl_steps.specs.WordLog.Enlisted n) v w → Rattle.ucl_words.specs.WordDoings.DoneAsBefore v w
+counted_does seat n v w s =
+    let is = doings_is seat (Rattle.ucl_steps.specs.WordLog.Enlisted n) v w s ∙ ap (λ (o : Outcome). with_outcome o s.step (doings_of v.own)) (stays (doings_of v.own).held) in
+    record { calls = ap (λ (z : Doings). z.calls) is; held = ap (λ (z : Doings). z.held) is }
+  where
+    stays : (k : Held) → outcome (doings_of v.own).number k (Rattle.ucl_steps.specs.WordLog.Enlisted n) s.step.at ≡ GoesOn k
+    stays k = search arith
 
-    pub tries_again : (w : Doing) → w ≡ begins_anew u → Tries seen d w
-    tries_again w is = inr (collected_all.begun, is ∙ ap begins_anew collected_now, begun_since)
-
-    pub tries_clean : (w : Doing) (end : ℕ) (reading : Reading) → w ≡ has_copied words end u → reading_of words ≡ reading
-        → (begun : ℕ) × (seen ≤ begun) × (w ≡ ends calls.Reading (replies.Copied reading) begun end d)
-    tries_clean w end reading is same = search (arith, begun_since, collected_now)
+pub enlisted_does : (seat n : ℕ) (v w : WordView) → Steps seat (Rattle.ucl_steps.specs.WordLog.Enlists n) v w → Rattle.ucl_words.specs.WordDoings.DoneAsBefore v w
+enlisted_does seat n v w s = let is = doings_is seat (Rattle.ucl_steps.specs.WordLog.Enlists n) v w s in record { calls = ap (λ (z : Doings). z.calls) is; held = ap (λ (z : Doings). z.held) is }

@@ -1,10 +1,16 @@
 -- What an enlistment and a meeting leave a pass with.
 use Rattle.ucl_words.proofs.Common.{◌≡◌, ◌≢◌, ℕ, ◌+◌, ◌<◌, ◌≤◌, ◌∷◌, ◌++◌, length, List, Some, None, inl, inr, refl, sym, ap, ◌∙◌, subst, arith, le_refl, append-nil, [], All-head, All-tail}
-use Rattle.ucl_words.proofs.Common.{IsPrefix, Access, Enlisted, Taken, step_taken, accesses_in, begins_same, begins_through, Follows, View, SeesOn, Continues, Enlistment}
-use Rattle.ucl_words.proofs.Common.{Meeting, pass_view_of, steps_of, count_of, trail_of, Takes, kept_of, second_of, note_of, told_by, FoundEnlisted, IsOnEnlisted, EnlistSteps, MeetingSteps}
-use Rattle.ucl_words.proofs.Common.{all_more, takes_none, takes_on, takes_count, one_more, sound_kept, LoadsEnlisted, EnlistWon, HasTrail, IsSteady, Enlisting, EnlistTries, KeepsTrail}
+use Rattle.ucl_words.proofs.Common.{IsPrefix, Access, Taken, step_taken, accesses_in, begins_same, begins_through, Follows, View, SeesOn, Continues, Enlistment}
+use Rattle.ucl_words.proofs.Common.{Meeting, pass_view_of, steps_of, count_of, trail_of, Takes, FoundEnlisted, IsOnEnlisted, EnlistSteps, MeetingSteps}
+use Rattle.ucl_words.proofs.Common.{all_more, takes_none, takes_on, takes_count, one_more, sound_kept, HasTrail, IsSteady, Enlisting, EnlistTries, KeepsTrail}
 use Rattle.ucl_live_board.proofs.Lists.{none_by_zero}
 use Rattle.ucl_live_board.proofs.Halves.{half_acts, half_not_whole}
+use Rattle.ucl_words.proofs.Common.{true, WordView, Steps, known, left_pass, second_pass, note_pass, told_pass, plain_step, map-append}
+use Rattle.ucl_board.specs.Log.{Enlisted}
+use Rattle.ucl_steps.specs.WordLog as words
+use Rattle.ucl_live_board.specs.CallSteps.{HasCopyOf}
+use Rattle.ucl_words.proofs.SharedRule.{enlisted_on}
+use Rattle.ucl_words.proofs.StepFacts.{LoadsEnlisted, EnlistWon, loads_enlisted, log_is}
 use Rattle.ucl_words.proofs.StepRuns.{trail_longer, takes_trail}
 
 -- a step on the enlist word leaves no access
@@ -111,47 +117,87 @@ module _ (v x w : View) (n found : ℕ) (was : Missed v x n) where
 pub missed_tries : (v x : View) (n : ℕ) → Missed v x n → 255 ≤ n → EnlistTries v None x
 missed_tries v x n was high = record { steps = was.steps.steps; takes = was.steps.takes; tries = tries_full 0 n was.steps.steps was.tries high }
 
--- a second pass
-second_trail : (v : View) → trail_of (second_of v) ≡ trail_of v
-second_trail v = ap accesses_in (append-nil (steps_of v))
+-- a second pass, whose steps are those that it has a copy of
+module _ (v : WordView) where
+  second_copies : (known (second_pass v)).copied ≡ steps_of (known v)
+  second_copies = map-append plain_step v.copied v.own
 
-pub second_steady : (v : View) → IsSteady v → IsSteady (second_of v)
-second_steady v steady = search (arith, none_by_zero, half_acts, half_not_whole, second_trail)
+  second_steps_of : steps_of (known (second_pass v)) ≡ steps_of (known v)
+  second_steps_of = append-nil (known (second_pass v)).copied ∙ second_copies
 
--- and the pass that it was split off
-pub kept_steady : (v : View) → IsSteady v → IsSteady (kept_of v)
-kept_steady v steady = record { sound = sound_kept v steady.sound; told = steady.told; trail = steady.trail }
+  pub second_steady : IsSteady (known v) → IsSteady (known (second_pass v))
+  second_steady steady = record {
+    sound = record {
+      legal = steady.sound.legal;
+      own = sym (none_by_zero (known v).seen steady.sound.legal);
+      few = steady.sound.few;
+      acts = half_acts true v.share steady.sound.acts;
+      alone = λ is. absurd (half_not_whole true v.share is);
+    };
+    told = refl;
+    trail = subst (λ (l : List Taken). Follows (known v).seen 0 (accesses_in l) (length (known v).seen)) (sym second_steps_of) steady.trail;
+  }
 
-pub second_steps : (v : View) → (count_of (second_of v) ≡ count_of v) × (trail_of (second_of v) ≡ trail_of v)
-second_steps v = (ap length (append-nil (steps_of v)), second_trail v)
+  -- and the pass that it was split off
+  pub kept_steady : IsSteady (known v) → IsSteady (known (left_pass v))
+  kept_steady steady = record { sound = sound_kept (known v) steady.sound; told = steady.told; trail = steady.trail }
 
--- a load of the enlist word
-pub counted_steady : (v w : View) (n : ℕ) → LoadsEnlisted v n w → IsSteady v → IsSteady w
-counted_steady v w n loads steady = search (arith, trail_kept, no_access)
+  pub second_steps : (count_of (known (second_pass v)) ≡ count_of (known v)) × (trail_of (known (second_pass v)) ≡ trail_of (known v))
+  second_steps = (ap length second_steps_of, ap accesses_in second_steps_of)
+
+  pub second_copy : HasCopyOf (known (second_pass v)) (known v)
+  second_copy = (second_copies, refl)
 
 -- a note of a pass was joined to another, which then loaded the enlist word
-module _ (a v b x w : View) (n : ℕ) (noted : b ≡ note_of a) (told : x ≡ told_by v b) (steady : IsSteady v)
-    (counted : LoadsEnlisted x n w) where
-  loads : LoadsEnlisted (told_by v (note_of a)) n w
-  loads = subst (λ (u : View). LoadsEnlisted u n w) (told ∙ ap (told_by v) noted) counted
+module _ (a v w : WordView) (seat n : ℕ) (steady : IsSteady (known v)) (s : Steps seat (words.Enlisted n) (told_pass v (note_pass a)) w) where
+  loads : LoadsEnlisted (known (told_pass v (note_pass a))) n (known w)
+  loads = loads_enlisted seat n (told_pass v (note_pass a)) w s
 
-  own_first : IsPrefix v.seen w.seen
-  own_first = All-head (λ l. IsPrefix l w.seen) v.seen (a.seen ∷ v.told) loads.sees.goes.heard
+  own_first : IsPrefix (known v).seen (known w).seen
+  own_first = All-head (λ l. IsPrefix l (known w).seen) (known v).seen ((known a).seen ∷ (known v).told) loads.sees.goes.heard
 
-  met_takes : Takes v (step_taken (Enlisted n) (length w.seen) None ∷ []) w
+  listed_more : (known v).listed ≤ (known w).listed
+  listed_more =
+      let first = All-head (λ l. IsPrefix l s.before) v.log (a.log ∷ v.told) s.heard in
+      let low = enlisted_on v.log w.log (begins_through v.log s.before w.log first (subst (IsPrefix s.before) (sym (log_is seat (words.Enlisted n) (told_pass v (note_pass a)) w s)) (_, refl))) in
+      low
+
+  met_takes : Takes (known v) (step_taken (Enlisted n) (length (known w).seen) None ∷ []) (known w)
   met_takes = record { own = loads.sees.takes.own; copied = loads.sees.takes.copied }
 
-  pub met_steps : MeetingSteps v w
+  pub met_steps : MeetingSteps (known v) (known w)
   met_steps = record { found = n; takes = met_takes; listed = loads.listed }
 
-  pub met_steady : IsSteady w
-  met_steady = search (arith, trail_kept, own_first, no_access, met_takes)
+  met_trail_is : trail_of (known w) ≡ trail_of (known v)
+  met_trail_is = no_access (known v) (known w) n met_takes
 
-  pub met_continues : Continues (pass_view_of v) (pass_view_of w)
-  met_continues = search (arith, met_steady, own_first)
+  pub met_steady : IsSteady (known w)
+  met_steady =
+      let goes = loads.sees.goes in
+      record {
+        sound = record { legal = goes.legal; own = goes.own; few = goes.few; acts = goes.acts; alone = goes.alone };
+        told = goes.told;
+        trail = trail_kept (known v) (known w) steady.trail own_first met_trail_is;
+      }
 
-  pub met_says : Meeting (pass_view_of a) (pass_view_of v) (pass_view_of w)
-  met_says = search (arith, All-head, All-tail)
+  pub met_continues : Continues (pass_view_of (known v)) (pass_view_of (known w))
+  met_continues = record {
+    sound = met_steady.sound;
+    on = record { seen = own_first; listed = listed_more; share = loads.sees.goes.share };
+    number = loads.sees.number;
+  }
 
-  pub met_trail : KeepsTrail v w
-  met_trail = search (arith, met_takes, no_access, met_steady)
+  pub met_says : Meeting (pass_view_of (known a)) (pass_view_of (known v)) (pass_view_of (known w))
+  met_says = record {
+    met = All-head (λ l. IsPrefix l (known w).seen) (known a).seen (known v).told
+        (All-tail (λ l. IsPrefix l (known w).seen) (known v).seen ((known a).seen ∷ (known v).told) loads.sees.goes.heard);
+    mine = loads.sees.mine;
+    shown = loads.shown;
+  }
+
+  pub met_trail : KeepsTrail (known v) (known w)
+  met_trail = record {
+    steps = record { steps = step_taken (Enlisted n) (length (known w).seen) None ∷ []; takes = met_takes; on_enlisted = ((n, (refl, refl)), tt) };
+    trail = met_trail_is;
+    whole_trail = met_steady.trail;
+  }

@@ -1,25 +1,14 @@
 -- What a report says: one load on whose word the rules refuse, or a load and an exchange.
-use Rattle.ucl_words.proofs.Common.{◌≡◌, ◌≢◌, inl, inr, ℕ, ◌+◌, ◌-◌, ◌<◌, ◌≤◌, List, ◌∷◌, ◌++◌, length, refl, sym, ap, ◌∙◌, subst, arith, le_refl, append_assoc, length-append, get_or-set_same, []}
-use Rattle.ucl_words.proofs.Common.{Result, Ok, Err, IsOk, take-length, IsPrefix, MatchRecord, EventCall, Accepted, Refusal, Stale, refusal_of, after, reply_of, word_of, record_at, IsWord}
-use Rattle.ucl_words.proofs.Common.{after_number, word_packed, Entry, IsMatch, word_at, board_of, IsLegal, followed_by, entry_of, beginnings, board_length, word_after, game_after}
-use Rattle.ucl_words.proofs.Common.{next_board, accepted_reply, refused_reply, Look, Swap, Access, access, Match, Taken, step_taken, begins_length, begins_more, begins_same, begins_through, Follows}
+use Rattle.ucl_words.proofs.Common.{◌≡◌, ◌≢◌, inl, inr, ℕ, ◌+◌, ◌<◌, ◌≤◌, List, ◌∷◌, ◌++◌, length, refl, sym, ap, ◌∙◌, subst, arith, le_refl, append_assoc, length-append, []}
+use Rattle.ucl_words.proofs.Common.{Result, Ok, Err, IsOk, take-length, IsPrefix, MatchRecord, EventCall, Accepted, Refusal, Stale, refusal_of, after, reply_of, record_at}
+use Rattle.ucl_words.proofs.Common.{after_number, Entry, IsMatch, IsLegal, followed_by, entry_of, beginnings, word_after, game_after}
+use Rattle.ucl_words.proofs.Common.{accepted_reply, refused_reply, Access, access, Taken, step_taken, begins_length, begins_more, begins_same, begins_through, Follows}
 use Rattle.ucl_words.proofs.Common.{ReportAccesses, follows_longer, follows_wider, follows_append, follows_one, report_whole, Continues, AcceptedReport, RefusedReport, View, pass_view_of, trail_of}
-use Rattle.ucl_words.proofs.Common.{Takes, takes_on, takes_count, Loads, ExchangeMissed, ExchangeWon, IsNextWord, Walks, steps_with, HasTrail, IsSteady, ReportSteps}
+use Rattle.ucl_words.proofs.Common.{Takes, takes_on, takes_count, Walks, steps_with, HasTrail, IsSteady, ReportSteps}
 use Rattle.std.specs.Prelude.{Some, None}
-use Rattle.ucl_word.specs.declared.event.Kind.{Kind}
-use Rattle.ucl_word.specs.Counts.{MatchEntry, counted_match, IsLegalMatch}
-use Rattle.ucl_word.proofs.EntryCounts.{entered}
+use Rattle.ucl_board.specs.Log.{Look, Swap, Match}
+use Rattle.ucl_words.proofs.StepFacts.{Loads, ExchangeMissed, ExchangeWon}
 use Rattle.ucl_words.proofs.StepRuns.{trail_on, takes_trail, walks_on, walks_load}
-
--- the word with one event more, whatever the history is
-pub next_after : (game reporter : ℕ) (kind : Kind) (loaded next : ℕ) → IsMatch game → IsWord next
-    → ((es : List MatchEntry) → IsLegalMatch es → counted_match es ≡ record_at loaded → (record_at next ≡ counted_match (entered es reporter kind)) × IsLegalMatch (entered es reporter kind))
-    → IsNextWord (record { game = game; reporter = reporter; kind = kind }) loaded next
-next_after game reporter kind loaded next is valid counted h legal word =
-    let there : record_at loaded ≡ record_at (word_at (board_of h) game) = ap record_at (sym word) in
-    let made = next_board h (board_of h) game reporter kind (record_at next) legal refl is (λ es legal_es same. counted es legal_es (same ∙ sym there)) in
-    let long = board_length h in
-    (sym (word_packed next valid) ∙ (sym (get_or-set_same (board_of h) (game - 1) (word_of (record_at next)) 0 (omega arith)) ∙ ap (λ (ws : List ℕ). word_at ws game) made.0), made.1)
 
 -- a load, for a report
 module _ (v u : View) (call : EventCall) (loaded : ℕ) (is : IsMatch call.game) (me : (0 < v.number) × (v.number ≤ 255)) (steady : IsSteady v) (looked : Loads Look call.game v loaded u) where
@@ -151,14 +140,6 @@ pub accepts_by : (word next number reporter : ℕ) (call : EventCall) → refusa
     → number ≡ (record_at next).number
     → reply_of (record_at word) call ≡ Ok (record { number = number })
 accepts_by word next number reporter call none is said = search (arith, accepted_reply, after_number)
-
--- the entry under the number of the pass
-pub as_entry : (v u z : View) (call : EventCall) (entry : Entry) (reporter found : ℕ) → entry ≡ entry_of reporter call → v.number ≡ reporter → ExchangeWon entry u found z
-    → ExchangeWon (entry_of v.number call) u found z
-as_entry v u z call entry reporter found made is won = subst (λ (e : Entry). ExchangeWon e u found z) (made ∙ ap (λ (n : ℕ). entry_of n call) (sym is)) won
-
-pub as_missed : (u z : View) (call : EventCall) (entry : Entry) (reporter found : ℕ) → entry ≡ entry_of reporter call → ExchangeMissed entry.game u found z → ExchangeMissed call.game u found z
-as_missed u z call entry reporter found made missed = subst (λ (e : Entry). ExchangeMissed e.game u found z) made missed
 
 -- the number of a reporter's pass
 pub me_in : (v : View) (reporter : ℕ) → (0 < reporter) × (reporter ≤ 255) × (v.number ≡ reporter) → (0 < v.number) × (v.number ≤ 255)

@@ -1,9 +1,11 @@
 -- Steps on match words, one after another.
 use Rattle.ucl_words.proofs.Common.{◌≡◌, ℕ, ◌+◌, List, ◌∷◌, ◌++◌, length, map, None, refl, sym, ap, ◌∙◌, arith, le_refl, append_assoc, append-nil, length-append, [], map-append, IsPrefix}
-use Rattle.ucl_words.proofs.Common.{word_of, IsWord, Entry, IsMatch, match_after, IsLegal, AccessKind, Access, access, Match, Taken, step_taken, accesses_in, match_valid, begins_length, begins_same}
+use Rattle.ucl_words.proofs.Common.{Entry, AccessKind, Access, access, Taken, step_taken, accesses_in, begins_length, begins_same}
 use Rattle.ucl_words.proofs.Common.{begins_through, Follows, follows_longer, follows_wider, follows_append, follows_one, View, Continues, pass_view_of, count_of, trail_of, Takes, takes_none}
-use Rattle.ucl_words.proofs.Common.{takes_on, takes_count, LoadsMatch, Walks, steps_with, IsSteady}
+use Rattle.ucl_words.proofs.Common.{takes_on, takes_count, Walks, steps_with, IsSteady}
+use Rattle.ucl_board.specs.Log.{Match}
 use Rattle.ucl_board.proofs.Logs.{accesses_append}
+use Rattle.ucl_words.proofs.StepFacts.{LoadsMatch}
 
 -- accesses that follow what a trail has, over a history that is longer
 pub trail_on : (s h : List Entry) (old new : List Access) → IsPrefix s h → Follows s 0 old (length s) → Follows h (length s) new (length h) → Follows h 0 (old ++ new) (length h)
@@ -35,10 +37,6 @@ walks_none v steady = search (arith, begins_same, le_refl, takes_none, append-ni
 pub walks_on : (u v w : View) (ms ns : List Access) → Walks u ms v → Walks v ns w → Walks u (ms ++ ns) w
 walks_on u v w ms ns a b =
     search (arith, begins_through u.seen v.seen w.seen a.on.seen b.on.seen, plain_append ms ns, length-append ms ns, takes_on, append_assoc, follows_append, follows_longer, le_refl)
-
--- a word that a load found is that of a valid record
-pub found_valid : (h : List Entry) (game n : ℕ) → IsLegal h → IsMatch game → n ≡ word_of (match_after h game) → IsWord n
-found_valid h game n legal is word = record { of = match_after h game; valid = match_valid game h legal; packed = sym word }
 
 -- one load of a match word
 module _ (kind : AccessKind) (game n : ℕ) (v w : View) (l : LoadsMatch kind game v n w) where

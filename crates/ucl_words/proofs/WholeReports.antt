@@ -1,104 +1,119 @@
 -- A report as a whole, by each way in which it ends.
-use Rattle.ucl_words.proofs.Common.{◌≡◌, ◌≢◌, ℕ, ◌<◌, ◌≤◌, length, refl, ap, Result, Ok, Err, IfOk, IfErr, EventCall, Accepted, Refusal, Stale, refusal_of, after, reply_of, record_at, IsWord, Entry}
-use Rattle.ucl_words.proofs.Common.{IsMatch, entry_of, Look, begins_length, after_look, after_swap, report_reply, Continues, AcceptedReport, RefusedReport, pass_view_of, WordView, Loads}
-use Rattle.ucl_words.proofs.Common.{ExchangeMissed, ExchangeWon, IsSteady, ReportSteps, AnswersCall, GoesAlong}
+use Rattle.ucl_words.proofs.Common.{◌≡◌, ◌≢◌, ℕ, ◌<◌, ◌≤◌, ◌==◌, Bool, true, false, List, length, refl, sym, ap, ◌∙◌, subst, arith, eq-eqb, ne_eqb, Result, Ok, Err, IfOk, IfErr}
+use Rattle.ucl_words.proofs.Common.{EventCall, Accepted, Refusal, Stale, refusal_of, after, reply_of, record_at, word_of, IsWord, word_packed, IsMatch, Access, report_reply}
+use Rattle.ucl_words.proofs.Common.{Continues, AcceptedReport, RefusedReport, pass_view_of, WordView, WordPass, known, Steps, doings_of, Held, Nothing, Holding}
+use Rattle.ucl_words.proofs.Common.{IsSteady, ReportSteps, AnswersCall, StaysIn, IsHoldingFor}
 use Rattle.std.specs.Prelude.{Some, None}
 use Rattle.ucl_steps.specs.declared.step.Call.TheVariants as calls
-use Rattle.ucl_words.proofs.StepRuns.{walks_continue}
-use Rattle.ucl_words.proofs.ReportFacts.{look_walks, look_steps, look_refuses, miss_walks, miss_steps, miss_refuses, won_steady, won_continues, won_steps, won_accepts, accepts_by, as_entry, as_missed}
-use Rattle.ucl_words.proofs.ReportFacts.{me_in}
-use Rattle.ucl_words.proofs.DoingFacts.{look_answers, won_answers, miss_answers}
+use Rattle.ucl_steps.specs.declared.trace.Reply.TheVariants as replies
+use Rattle.ucl_steps.specs.WordLog.{Match, Look, Swap}
 use Rattle.ucl_steps.specs.Trails.{ReportAccesses}
 use Rattle.ucl_words.specs.WordRecords.{WordReported}
-use Rattle.ucl_words.proofs.Common.{List, Access, arith, WordPass, view_of, Stands}
-use Rattle.ucl_words.proofs.AlongFacts.{along_on, along_look, along_swap}
+use Rattle.ucl_words.proofs.StepRuns.{walks_continue}
+use Rattle.ucl_words.proofs.ReportFacts.{look_walks, look_steps, look_refuses, miss_walks, miss_steps, miss_refuses, won_steady, won_continues, won_steps}
+use Rattle.ucl_words.proofs.ReportFacts.{won_accepts, accepts_by, me_in}
+use Rattle.ucl_words.proofs.DoingFacts.{look_refused, look_answers, look_holds, look_accepted, swap_finishes, swap_missed, swap_won, stays_answered}
 
 -- what a report says
 pub record Reported (v : WordView) (call : EventCall) (reply : Result Accepted Refusal) (w : WordView) : Type 0 where
-  pub steady : IsSteady w.pass
-  pub always : Continues (pass_view_of v.pass) (pass_view_of w.pass)
-  pub accepted : IfOk reply (λ r. AcceptedReport (pass_view_of v.pass) call r (pass_view_of w.pass))
-  pub refused : IfErr reply (λ r. RefusedReport (pass_view_of v.pass) call r (pass_view_of w.pass))
-  pub steps : ReportSteps v.pass call reply w.pass
+  pub steady : IsSteady (known w)
+  pub always : Continues (pass_view_of (known v)) (pass_view_of (known w))
+  pub accepted : IfOk reply (λ r. AcceptedReport (pass_view_of (known v)) call r (pass_view_of (known w)))
+  pub refused : IfErr reply (λ r. RefusedReport (pass_view_of (known v)) call r (pass_view_of (known w)))
+  pub steps : ReportSteps (known v) call reply (known w)
   pub answers : AnswersCall v (calls.Event call) (report_reply reply) w
-  pub along : GoesAlong v (calls.Event call) w
 
-module _ (v u : WordView) (call : EventCall) (reporter loaded : ℕ) (game : IsMatch call.game) (me : (0 < reporter) × (reporter ≤ 255) × (v.pass.number ≡ reporter)) (steady : IsSteady v.pass)
-    (looks : Loads Look call.game v.pass loaded u.pass) (looked : u.doing ≡ after_look v.pass.number call loaded (length u.pass.seen) v.doing) where
-  abbrev mine : (0 < v.pass.number) × (v.pass.number ≤ 255)
-  mine = me_in v.pass reporter me
-
-  grown : length v.pass.seen ≤ length u.pass.seen
-  grown = begins_length v.pass.seen u.pass.seen looks.loads.sees.goes.seen
-
-  look_along : GoesAlong v (calls.Event call) u
-  look_along = along_look v u call.game loaded call looks.loads looked
+module _ (v u : WordView) (call : EventCall) (reporter loaded seat : ℕ) (game : IsMatch call.game) (me : (0 < reporter) × (reporter ≤ 255) ×
+    ((known v).number ≡ reporter)) (steady : IsSteady (known v))
+    (nothing : (doings_of v.own).held ≡ Nothing) (s : Steps seat (Match (Look call) call.game loaded) v u) where
+  abbrev mine : (0 < (known v).number) × ((known v).number ≤ 255)
+  mine = me_in (known v) reporter me
 
   -- the rules refuse
   pub refused_report : (refusal : Refusal) → refusal_of (record_at loaded) call.expected call.kind ≡ Some refusal → Reported v call (Err refusal) u
   refused_report refusal refused =
-      let walks = look_walks v.pass u.pass call loaded game mine steady looks in
+      let looks = look_refused seat loaded call v u s nothing refusal refused in
+      let walks = look_walks (known v) (known u) call loaded game mine steady looks in
       record {
         steady = walks.steady;
-        always = walks_continue v.pass u.pass _ walks;
+        always = walks_continue (known v) (known u) _ walks;
         accepted = tt;
-        refused = look_refuses v.pass u.pass call loaded game mine steady looks refusal refused;
-        steps = look_steps v.pass u.pass call loaded game mine steady looks refusal refused;
-        answers = look_answers v u call loaded reporter me.2 looked grown refusal refused;
-        along = look_along;
+        refused = look_refuses (known v) (known u) call loaded game mine steady looks refusal refused;
+        steps = look_steps (known v) (known u) call loaded game mine steady looks refusal refused;
+        answers = look_answers seat loaded call v u s nothing refusal refused;
       }
 
-  -- they accept, and an exchange was made for this entry
-  module _ (accepts : refusal_of (record_at loaded) call.expected call.kind ≡ None) (next : ℕ) (valid : IsWord next) (next_is : record_at next ≡ after (record_at loaded) reporter call.kind)
-      (entry : Entry) (made : entry ≡ entry_of reporter call)
-      (z : WordView) (found : ℕ) (won : found ≡ loaded → ExchangeWon entry u.pass found z.pass) (missed : found ≢ loaded → ExchangeMissed entry.game u.pass found z.pass)
-      (swapped : z.doing ≡ after_swap found (length z.pass.seen) u.doing) where
-    both_along : GoesAlong v (calls.Event call) z
-    both_along = along_on v u z (calls.Event call) looks.loads.sees.number look_along (along_swap u z entry.game found call entry loaded refl won missed swapped)
+  -- they accept
+  module _ (accepts : refusal_of (record_at loaded) call.expected call.kind ≡ None) (next : ℕ) (valid : IsWord next) (next_is : record_at next ≡ after (record_at loaded) reporter call.kind) where
+    abbrev next_held : Held
+    next_held = Holding call loaded (word_of (after (record_at loaded) (doings_of v.own).number call.kind))
+
+    stays : StaysIn v next_held u
+    stays = look_holds seat loaded call v u s nothing accepts
+
+    word_is : word_of (after (record_at loaded) (doings_of v.own).number call.kind) ≡ next
+    word_is = ap (λ (k : ℕ). word_of (after (record_at loaded) k call.kind)) me.2 ∙ (ap word_of (sym next_is) ∙ word_packed next valid)
+
+    pub held_then : (doings_of u.own).held ≡ Holding call loaded next
+    held_then = stays.held_is ∙ ap (λ (k : ℕ). Holding call loaded k) word_is
+
+    pub holding_for : IsHoldingFor (doings_of u.own).held call.game loaded next
+    holding_for = record { e = call; holds = held_then; of = refl }
+
+    number_kept : (doings_of u.own).number ≡ (doings_of v.own).number
+    number_kept = (look_accepted seat loaded call v u s nothing accepts).loads.sees.number
 
     accepted_as : (number : ℕ) → number ≡ (record_at next).number → reply_of (record_at loaded) call ≡ Ok (record { number = number })
     accepted_as number is = accepts_by loaded next number reporter call accepts next_is is
 
-    pub accepted_report : found ≡ loaded → (number : ℕ) → number ≡ (record_at next).number → Reported v call (Ok (record { number = number })) z
-    accepted_report same number is =
-        let reply : Accepted = record { number = number } in
-        let ok = accepted_as number is in
-        let stored = as_entry v.pass u.pass z.pass call entry reporter found made me.2 (won same) in
-        record {
-          steady = won_steady v.pass u.pass call loaded game mine steady looks reply ok z.pass found same stored;
-          always = won_continues v.pass u.pass call loaded game mine steady looks reply ok z.pass found same stored;
-          accepted = won_accepts v.pass u.pass call loaded game mine steady looks reply ok z.pass found same stored;
-          refused = tt;
-          steps = won_steps v.pass u.pass call loaded game mine steady looks reply ok z.pass found same stored;
-          answers = won_answers v u call loaded reporter me.2 looked grown accepts next valid next_is z found swapped same reply ok;
-          along = both_along;
-        }
+    -- and an exchange was made
+    module _ (z : WordView) (found place : ℕ) (t : Steps place (Match Swap call.game found) u z) where
+      answered_as : (reply : Result Accepted Refusal) (b : Bool) → (found == loaded) ≡ b
+          → report_reply reply ≡ Rattle.ucl_words.proofs.DoingFacts.reply_by place call.game found loaded next call u z t held_then refl b → AnswersCall v (calls.Event call) (report_reply reply) z
+      answered_as reply b is same = subst (λ (r : Rattle.ucl_steps.specs.declared.trace.Reply.Reply). AnswersCall v (calls.Event call) r z) (sym same)
+          (stays_answered v u z next_held (calls.Event call) _ nothing number_kept stays (swap_finishes place call.game found loaded next call u z t held_then refl b is))
 
-    pub missed_report : found ≢ loaded → (number : ℕ) → number ≡ (record_at found).number → Reported v call (Err (Stale number)) z
-    missed_report other number is =
-        let reply : Accepted = record { number = (record_at next).number } in
-        let ok = accepted_as (record_at next).number refl in
-        let stale = ap (λ (n : ℕ). Stale n) is in
-        let lost = as_missed u.pass z.pass call entry reporter found made (missed other) in
-        let walks = miss_walks v.pass u.pass call loaded game mine steady looks reply ok z.pass found other lost in
-        record {
-          steady = walks.steady;
-          always = walks_continue v.pass z.pass _ walks;
-          accepted = tt;
-          refused = miss_refuses v.pass u.pass call loaded game mine steady looks reply ok z.pass found other lost (Stale number) stale;
-          steps = miss_steps v.pass u.pass call loaded game mine steady looks reply ok z.pass found other lost (Stale number) stale;
-          answers = miss_answers v u call loaded reporter me.2 looked grown accepts next valid next_is z found swapped other (Stale number) stale;
-          along = both_along;
-        }
+      pub accepted_report : found ≡ loaded → (number : ℕ) → number ≡ (record_at next).number → Reported v call (Ok (record { number = number })) z
+      accepted_report same number is =
+          let reply : Accepted = record { number = number } in
+          let ok = accepted_as number is in
+          let looks = look_accepted seat loaded call v u s nothing accepts in
+          let stored = subst (λ (k : ℕ). Rattle.ucl_words.proofs.StepFacts.ExchangeWon (Rattle.ucl_board.specs.History.entry_of k call) (known u) found (known z)) number_kept
+          (swap_won place call.game found loaded next call u z t held_then refl same) in
+          record {
+            steady = won_steady (known v) (known u) call loaded game mine steady looks reply ok (known z) found same stored;
+            always = won_continues (known v) (known u) call loaded game mine steady looks reply ok (known z) found same stored;
+            accepted = won_accepts (known v) (known u) call loaded game mine steady looks reply ok (known z) found same stored;
+            refused = tt;
+            steps = won_steps (known v) (known u) call loaded game mine steady looks reply ok (known z) found same stored;
+            answers = answered_as (Ok reply) true (eq-eqb found loaded same) (λ i. replies.Accepted (record { number = is i }));
+          }
+
+      pub missed_report : found ≢ loaded → (number : ℕ) → number ≡ (record_at found).number → Reported v call (Err (Stale number)) z
+      missed_report other number is =
+          let reply : Accepted = record { number = (record_at next).number } in
+          let ok = accepted_as (record_at next).number refl in
+          let stale = ap (λ (n : ℕ). Stale n) is in
+          let looks = look_accepted seat loaded call v u s nothing accepts in
+          let lost = swap_missed place call.game found loaded next call u z t held_then refl other in
+          let walks = miss_walks (known v) (known u) call loaded game mine steady looks reply ok (known z) found other lost in
+          record {
+            steady = walks.steady;
+            always = walks_continue (known v) (known z) _ walks;
+            accepted = tt;
+            refused = miss_refuses (known v) (known u) call loaded game mine steady looks reply ok (known z) found other lost (Stale number) stale;
+            steps = miss_steps (known v) (known u) call loaded game mine steady looks reply ok (known z) found other lost (Stale number) stale;
+            answers = answered_as (Err (Stale number)) false (ne_eqb found loaded other) (ap (λ (n : ℕ). replies.Refused (Stale n)) is);
+          }
 
 -- a report's accesses are one or two
 report_few : (call : EventCall) (reply : Result Accepted Refusal) (ms : List Access) (now : ℕ) → ReportAccesses call reply ms now → length ms ≤ 2
 report_few call reply ms now r = search arith
 
-module _ (k m : WordPass) (call : EventCall) (reply : Result Accepted Refusal) (r : Reported (view_of k) call reply (view_of m)) where
-  pub was_reported : m.board ≡ k.board → m.seat ≡ k.seat → Stands m.seat (view_of m) → WordReported k call reply m
+module _ (k m : WordPass) (call : EventCall) (reply : Result Accepted Refusal) (r : Reported k.pass call reply m.pass) where
+  pub was_reported : m.board ≡ k.board → m.seat ≡ k.seat → Rattle.ucl_words.specs.WordRule.Stands m.seat m.pass → WordReported k call reply m
   was_reported own seat stands =
-      let few = report_few call reply r.steps.accesses (length m.view.seen) r.steps.report in
+      let few = report_few call reply r.steps.accesses (length (known m.pass).seen) r.steps.report in
       let taken = r.steps.leaves.taken in
       record {
         own = own;
@@ -106,7 +121,6 @@ module _ (k m : WordPass) (call : EventCall) (reply : Result Accepted Refusal) (
         says = record { always = r.always; accepted = r.accepted; refused = r.refused };
         steps = r.steps;
         answers = r.answers;
-        along = r.along;
         most = omega arith;
         stands = stands;
       }

@@ -2,24 +2,25 @@
 -- The pass was v and is w.
 use Rattle.std.specs.Prelude.{◌≡◌, ℕ, ◌≤◌, List, [], ◌∷◌, ◌++◌, length, Some, None, slice_get}
 use Rattle.ucl_word.specs.declared.event.EventCall.{EventCall}
-use Rattle.ucl_board.specs.declared.entry.Entry.{Entry}
-use Rattle.ucl_board.specs.History.{reading_of}
+use Rattle.ucl_board.specs.Words.{version_of}
 use Rattle.ucl_board.specs.Log.{First, Second, Access}
-use Rattle.ucl_steps.specs.declared.step.Call.TheVariants.{Reading}
-use Rattle.ucl_steps.specs.declared.trace.Reply.TheVariants.{Copied}
-use Rattle.ucl_steps.specs.Protocol.{Held, Nothing, Holding, Collecting, Checking, Doing, goes, ends}
+use Rattle.ucl_steps.specs.declared.step.Call.{Call}
+use Rattle.ucl_steps.specs.declared.trace.Reply.{Reply}
+use Rattle.ucl_steps.specs.Protocol.{Held, Nothing, Holding, Collecting}
+use Rattle.ucl_steps.specs.Doings.{doings_of}
 use Rattle.ucl_steps.specs.Trails.{IsCollect, IsBroken}
 use Rattle.ucl_live_board.specs.Passes.{SeesOn}
 use Rattle.ucl_live_board.specs.declared.view.View.{View}
 use Rattle.ucl_live_board.specs.Views.{pass_view_of}
+use Rattle.ucl_words.specs.declared.view.WordView.{WordView}
 use Rattle.ucl_words.specs.WordCalls.{IsSteady, LeavesAccesses}
+use Rattle.ucl_words.specs.WordDoings.{IsAnswered}
 
--- a report holds the word that it loaded, for this entry
-pub record IsHoldingFor (held : Held) (entry : Entry) (loaded next : ℕ) : Type 0 where
+-- a report of this match holds the word that it loaded, and the one that is to take its place
+pub record IsHoldingFor (held : Held) (game loaded next : ℕ) : Type 0 where
   pub e : EventCall
   pub holds : held ≡ Holding e loaded next
-  pub game : e.game ≡ entry.game
-  pub kind : e.kind ≡ entry.kind
+  pub of : game ≡ e.game
 
 -- steps on match words that stored nothing
 pub record Walks (v : View) (accesses : List Access) (w : View) : Type 0 where
@@ -41,13 +42,13 @@ pub record Collects (v : View) (words : List ℕ) (w : View) : Type 0 where
   pub collect : IsFirstCollect words accesses (length w.seen)
   pub shown : w.shown ≡ v.shown
 
--- a second collect that found all words again: the version that it shows is the length of the history at the end of the first
+-- a second collect that found all words again: their version is shown
 pub record FindsAgain (v : View) (words : List ℕ) (w : View) : Type 0 where
   pub accesses : List Access
   pub walks : Walks v accesses w
   pub twelve : length accesses ≡ 12
   pub again : IsCollect Second words accesses
-  pub shown : w.shown ≡ v.shown ++ length v.seen ∷ []
+  pub shown : w.shown ≡ v.shown ++ version_of words ∷ []
 
 -- a second collect that found another word
 pub record FindsAnother (v : View) (words : List ℕ) (w : View) : Type 0 where
@@ -64,21 +65,18 @@ MayCollect Nothing = Unit {0}
 MayCollect (Collecting words) = words ≡ []
 MayCollect _ = ⊥
 
--- where nothing was held, the call begins with its first step, when there are no fewer entries than had been seen;
--- else it began before
+-- where nothing was held, the call begins with its first step, at a place after so many; else it began before
 abbrev pub IsBegun : Held → ℕ → ℕ → ℕ → Type 0
-IsBegun Nothing seen was begun = seen ≤ begun
-IsBegun _ seen was begun = begun ≡ was
+IsBegun Nothing known was first = known ≤ first
+IsBegun _ known was first = first ≡ was
 
--- a first collect was taken
-pub record HasFirsts (seen : ℕ) (d : Doing) (words : List ℕ) (now : ℕ) (f : Doing) : Type 0 where
-  pub begun : ℕ
-  pub begins : IsBegun d.held seen d.begun begun
-  pub does : f ≡ goes begun (Checking words 0 now) d
+-- steps of one call, which goes on: no call is finished, and this is held
+pub record StaysIn (v : WordView) (held : Held) (w : WordView) : Type 0 where
+  pub calls : (doings_of w.own).calls ≡ (doings_of v.own).calls
+  pub held_is : (doings_of w.own).held ≡ held
+  pub begun : IsBegun (doings_of v.own).held (length v.log) (doings_of v.own).first (doings_of w.own).first
 
--- a second collect found all words again, or another
-abbrev pub has_copied : List ℕ → ℕ → Doing → Doing
-has_copied words now d = ends Reading (Copied (reading_of words)) d.begun now d
-
-abbrev pub begins_anew : Doing → Doing
-begins_anew d = goes d.begun (Collecting []) d
+-- the last steps of the call that was under way
+pub record Finishes (v : WordView) (call : Call) (reply : Reply) (w : WordView) : Type 0 where
+  pub answers : IsAnswered v call reply w
+  pub first : answers.last.first ≡ (doings_of v.own).first

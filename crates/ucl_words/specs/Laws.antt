@@ -1,65 +1,80 @@
 -- What holds of all exchanges of match words, and of every running board.
-use Rattle.std.specs.Prelude.{◌≡◌, ℕ, ◌<◌, ◌≤◌, ◌*◌, List, ◌∷◌, ◌++◌, length, map}
+use Rattle.std.specs.Prelude.{◌≡◌, ◌<◌, ◌≤◌, ◌*◌, ◌++◌, ℕ, List, ◌∷◌, [], map, length}
+use Rattle.std.specs.List.{sum_by}
 use mathlib.Core.List.{IsPrefix}
 use mathlib.Core.Option.{some}
 use lib.ListN.{get_elem?}
 use Rattle.atomic_table.specs.Table.{State}
+use Rattle.ucl_word.specs.Sequence.{GainsOne}
 use Rattle.ucl_board.specs.declared.entry.Entry.{Entry}
 use Rattle.ucl_board.specs.Words.{word_at}
 use Rattle.ucl_board.specs.History.{board_of, IsLegal}
-use Rattle.ucl_board.specs.Log.{Logged, Log, taken_by, history_of, accesses_in}
-use Rattle.ucl_steps.specs.Linearizable.{IsLinearizable}
-use Rattle.ucl_steps.specs.PassRuns.{steps_of_moves}
-use Rattle.ucl_steps.specs.Actors.{IsRunOfLog}
-use Rattle.ucl_steps.specs.Progress.{most_between, finished_by}
-use Rattle.ucl_words.specs.declared.view.WordView.{WordView}
+use Rattle.ucl_steps.specs.WordLog.{SeatStep, WordLog, taken_at, enlisted_by}
+use Rattle.ucl_steps.specs.Doings.{doings_of}
+use Rattle.ucl_steps.specs.LogHistory.{IsLinearizableLog}
+use Rattle.ucl_steps.specs.LogFacts.{matches_in}
+use Rattle.ucl_steps.specs.Progress.{most_between}
 use Rattle.ucl_live_board.specs.Numbers.{IsGivenAfter}
-use Rattle.ucl_words.specs.WordRule.{known, word_actors, TableKeepsOneHistory}
-use Rattle.ucl_words.specs.WordSteps.{IsNextWord}
+use Rattle.ucl_live_board.specs.OneHistory.{KeepsOneHistory}
+use Rattle.ucl_words.specs.declared.view.WordView.{WordView}
+use Rattle.ucl_words.specs.WordRule.{TableKeepsOneHistory, words_after}
+use Rattle.ucl_words.specs.WordViews.{known, first_pass}
 use Rattle.ucl_words.specs.Later.{Later}
+
+-- the word that takes the place of another where an entry is added, whatever the history is
+abbrev pub IsNextWord : Entry → ℕ → ℕ → Type 0
+IsNextWord e old new = GainsOne IsLegal (λ history. word_at (board_of history) e.game) e old new
 
 -- two entries of one match with one word before and one word after are one entry
 abbrev pub WordsTellTheEntry : Type 0
 WordsTellTheEntry = (history : List Entry) (e f : Entry) (old new : ℕ) → IsLegal history → e.game ≡ f.game → word_at (board_of history) e.game ≡ old → IsNextWord e old new → IsNextWord f old new → e ≡ f
 
--- the log is one run of the passes as actors of the machine, from the fresh board to the history of the log and the words
--- of the table: each of its steps on match words is the machine's step of a caller of its pass, each call begins with its
--- first access and ends with its last, what each pass has done and holds is what its callers have done and hold, and there
--- are no other calls; and all calls of all passes, those under way among them, are linearizable
-pub record IsRunOfBoard (s : State Entry WordView) (r : TableKeepsOneHistory s) : Type 0 where
-  pub one : IsRunOfLog (length s.views) r.shared.enlisted r.shared.log (word_actors s.views)
-  pub words : s.words ≡ r.shared.enlisted ∷ one.state.words
-  pub linearizable : IsLinearizable (steps_of_moves one.moves) (history_of r.shared.log) one.state.calls
+-- the rule of every shared board, with the same history and as many enlisted reporters
+pub record IsSharedBoard (s : State Entry WordView) (r : TableKeepsOneHistory s) : Type 0 where
+  pub rule : KeepsOneHistory words_after s.words (map known s.views)
+  pub enlisted : rule.enlisted ≡ enlisted_by r.log
 
--- whatever the steps of a board are, and between any two of them
-abbrev pub BoardsAreRuns : Type 0
-BoardsAreRuns = (s : State Entry WordView) (r : TableKeepsOneHistory s) → IsRunOfBoard s r
+-- whatever the steps of a board are, and between any two of them: it keeps the rule of every shared board, and all calls of all
+-- passes are linearizable
+pub record BoardIsLinearizable (s : State Entry WordView) (r : TableKeepsOneHistory s) : Type 0 where
+  pub shared : IsSharedBoard s r
+  pub linearizable : IsLinearizableLog r.log
+
+abbrev pub BoardsAreLinearizable : Type 0
+BoardsAreLinearizable = (s : State Entry WordView) (r : TableKeepsOneHistory s) → BoardIsLinearizable s r
 
 -- the log of a later state goes on from that of the earlier one
 abbrev pub LaterBoardsGoOn : Type 0
 LaterBoardsGoOn =
-    (s t : State Entry WordView) (r : TableKeepsOneHistory s) (q : TableKeepsOneHistory t) → Later s t → IsPrefix r.shared.log q.shared.log
+    (s t : State Entry WordView) (r : TableKeepsOneHistory s) (q : TableKeepsOneHistory t) → Later s t → IsPrefix r.log q.log
 
--- the run of a later state begins with the run of the earlier one: so a state has one run, and no call's place in it ever moves
-abbrev pub RunsGrow : Type 0
-RunsGrow =
-    (s t : State Entry WordView) (r : TableKeepsOneHistory s) (q : TableKeepsOneHistory t) → Later s t
-    → (earlier : IsRunOfBoard s r) (later : IsRunOfBoard t q) → IsPrefix earlier.one.moves later.one.moves
+-- how many calls passes have finished
+abbrev pub calls_finished : List WordView → ℕ
+calls_finished views = sum_by (λ (v : WordView). length (doings_of v.own).calls) views
 
 -- each pass took few of the steps on match words, and so all passes did
-pub record PassesTookFew (views : List WordView) (since : Log) : Type 0 where
-  pub each : (seat : ℕ) → length (accesses_in (taken_by seat since)) ≤ most_between
-  pub all : length (accesses_in (map (λ (x : Logged). x.step) since)) ≤ length views * most_between
+pub record PassesTookFew (views : List WordView) (since : WordLog) : Type 0 where
+  pub each : (seat : ℕ) → matches_in (taken_at seat since) ≤ most_between
+  pub all : matches_in (map (λ (x : SeatStep). x.step) since) ≤ length views * most_between
 
 -- while passes take steps, calls finish: between two moments at which as many calls were finished, passes took few steps
 abbrev pub SomeCallFinishes : Type 0
 SomeCallFinishes =
-    (s t : State Entry WordView) (r : TableKeepsOneHistory s) (q : TableKeepsOneHistory t) → Later s t
-    → finished_by (word_actors t.views) ≡ finished_by (word_actors s.views) → (since : Log) → q.shared.log ≡ r.shared.log ++ since → PassesTookFew t.views since
+    (s t : State Entry WordView) (r : TableKeepsOneHistory s) (q : TableKeepsOneHistory t) (since : WordLog) → q.log ≡ r.log ++ since
+    → calls_finished t.views ≡ calls_finished s.views → PassesTookFew t.views since
 
 -- the number that a reader was given is above all that had been given when it had none
 abbrev pub NumbersRiseInTime : Type 0
 NumbersRiseInTime =
     (s t : State Entry WordView) (r : TableKeepsOneHistory s) → TableKeepsOneHistory t → Later s t
-    → (seat : ℕ) (v w : WordView) → get_elem? s.views seat ≡ some v → v.pass.number ≡ 0 → get_elem? t.views seat ≡ some w → 0 < w.pass.number
-    → IsGivenAfter r.shared.enlisted (known s.views) w.pass.number
+    → (seat : ℕ) (v w : WordView) → get_elem? s.views seat ≡ some v → (known v).number ≡ 0 → get_elem? t.views seat ≡ some w → 0 < (known w).number
+    → IsGivenAfter (enlisted_by r.log) (map known s.views) (known w).number
+
+-- what the rule says of a board that was just opened, with one pass that knows nothing: whatever its words are, they are those of no event and
+-- no reporter
+pub record OpensWithNothing (s : State Entry WordView) (r : TableKeepsOneHistory s) : Type 0 where
+  pub words_are : s.words ≡ words_after [] 0
+  pub no_step : r.log ≡ []
+
+abbrev pub TablesOpenFresh : Type 0
+TablesOpenFresh = (s : State Entry WordView) (r : TableKeepsOneHistory s) → s.views ≡ first_pass ∷ [] → OpensWithNothing s r

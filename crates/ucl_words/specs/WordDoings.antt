@@ -1,22 +1,25 @@
 -- What calls of the word board leave among the finished calls of their pass.
-use Rattle.std.specs.Prelude.{◌≡◌, ℕ, ◌≤◌, List, length}
+-- The pass was v and is w.
+use Rattle.std.specs.Prelude.{◌≡◌, ◌≤◌, [], ◌∷◌, ◌++◌, length}
 use Rattle.ucl_steps.specs.declared.step.Call.{Call}
 use Rattle.ucl_steps.specs.declared.trace.Reply.{Reply}
-use Rattle.ucl_steps.specs.Protocol.{ends, along}
-use Rattle.ucl_board.specs.Log.{Taken}
-use Rattle.ucl_live_board.specs.Views.{Takes}
+use Rattle.ucl_steps.specs.Protocol.{Nothing}
+use Rattle.ucl_steps.specs.Doings.{FinishedCall, doings_of}
 use Rattle.ucl_words.specs.declared.view.WordView.{WordView}
 
--- a call was answered: it is the last of the finished ones, nothing is held, and it began when there were no fewer entries
--- than its pass had seen before the call, and ended when there were as many as the pass has then seen
-pub record AnswersCall (v : WordView) (call : Call) (reply : Reply) (w : WordView) : Type 0 where
-  pub begun : ℕ
-  pub after_seen : length v.pass.seen ≤ begun
-  pub does : w.doing ≡ ends call reply begun (length w.pass.seen) v.doing
+-- a call was answered: it is the last of the finished ones, and nothing is held
+pub record IsAnswered (v : WordView) (call : Call) (reply : Reply) (w : WordView) : Type 0 where
+  pub last : FinishedCall
+  pub calls : (doings_of w.own).calls ≡ (doings_of v.own).calls ++ last ∷ []
+  pub asked : (last.call ≡ call) × (last.reply ≡ reply) × (last.number ≡ (doings_of v.own).number)
+  pub held : (doings_of w.own).held ≡ Nothing
 
--- the steps of a call are the protocol's: what its pass has done is that which they make, one after another, of
--- what it had done, as steps of this call
-pub record GoesAlong (v : WordView) (call : Call) (w : WordView) : Type 0 where
-  pub steps : List Taken
-  pub takes : Takes v.pass steps w.pass
-  pub does : w.doing ≡ along v.pass.number call steps v.doing
+-- and its first step came after all that its pass had known
+pub record AnswersCall (v : WordView) (call : Call) (reply : Reply) (w : WordView) : Type 0 where
+  pub answers : IsAnswered v call reply w
+  pub since : length v.log ≤ answers.last.first
+
+-- no call was finished, and as much is held
+pub record DoneAsBefore (v w : WordView) : Type 0 where
+  pub calls : (doings_of w.own).calls ≡ (doings_of v.own).calls
+  pub held : (doings_of w.own).held ≡ (doings_of v.own).held

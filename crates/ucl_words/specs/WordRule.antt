@@ -1,11 +1,14 @@
--- The words of the table, and its rule: its log is one run of the machine.
-use Rattle.std.specs.Prelude.{ℕ, ◌≤◌, List, ◌∷◌, map, length}
+-- The words of the table, and its rule: its log is one of the protocol.
+use Rattle.std.specs.Prelude.{◌≡◌, ℕ, ◌<◌, List, [], ◌∷◌, All, length, None}
+use mathlib.Core.List.{IsPrefix}
+use mathlib.Core.Option.{some}
+use lib.ListN.{get_elem?}
 use Rattle.atomic_table.specs.Table.{State}
 use Rattle.ucl_board.specs.declared.entry.Entry.{Entry}
 use Rattle.ucl_board.specs.History.{board_of}
-use Rattle.ucl_steps.specs.Actors.{Actor, IsRunOfLog}
-use Rattle.ucl_live_board.specs.declared.view.View.{View}
-use Rattle.ucl_live_board.specs.OneHistory.{KeepsOneHistory}
+use Rattle.ucl_steps.specs.WordLog.{SeatStep, WordLog, taken_at, history_in, enlisted_by, IsWordLog}
+use Rattle.ucl_steps.specs.Doings.{FollowsProtocol}
+use Rattle.ucl_live_board.specs.Shares.{Overlap}
 use Rattle.ucl_live_board.specs.Standing.{StandsIn, StandTogether}
 use Rattle.ucl_words.specs.declared.view.WordView.{WordView}
 
@@ -13,21 +16,23 @@ use Rattle.ucl_words.specs.declared.view.WordView.{WordView}
 abbrev pub words_after : List Entry → ℕ → List ℕ
 words_after history enlisted = enlisted ∷ board_of history
 
-abbrev pub known : List WordView → List View
-known views = map (λ v. v.pass) views
+-- what the pass of a seat knows are beginnings of the log, the last of which has all its own steps; without a share it took none
+pub record FitsLog (log : WordLog) (seat : ℕ) (v : WordView) : Type 0 where
+  pub knows : IsPrefix v.log log
+  pub told : All (λ (l : WordLog). IsPrefix l log) v.told
+  pub own : (v.own ≡ taken_at seat v.log) × (v.own ≡ taken_at seat log)
+  pub idle : v.share ≡ None → v.own ≡ []
 
--- a pass as an actor of the machine
-abbrev pub word_actor : WordView → Actor
-word_actor v = record { number = v.pass.number; doing = v.doing }
-
-abbrev pub word_actors : List WordView → List Actor
-word_actors views = map word_actor views
-
--- the rule of the table: that of every shared board, and that its log is one run of the machine, with as many
--- readers as there are seats, or more
+-- the rule of the table: there is one log of all steps, each the next one of the protocol, which has the words that are there; all passes fit
+-- it, no other seat took a step, and what one pass has of the board is no other's
 pub record TableKeepsOneHistory (s : State Entry WordView) : Type 0 where
-  pub shared : KeepsOneHistory words_after s.words (known s.views)
-  pub one_run : (readers : ℕ) → length s.views ≤ readers → IsRunOfLog readers shared.enlisted shared.log (word_actors s.views)
+  pub log : WordLog
+  pub is_log : IsWordLog log
+  pub protocol : FollowsProtocol log
+  pub words_are : s.words ≡ words_after (history_in log) (enlisted_by log)
+  pub seated : All (λ (x : SeatStep). x.seat < length s.views) log
+  pub fits : (seat : ℕ) (v : WordView) → get_elem? s.views seat ≡ some v → FitsLog log seat v
+  pub shared : (i j : ℕ) (v w : WordView) → get_elem? s.views i ≡ some v → get_elem? s.views j ≡ some w → Overlap v.share w.share → i ≡ j
 
 -- whatever keeps this rule keeps that of the table
 abbrev pub IsTheRule : (State Entry WordView → Type 0) → Type 0

@@ -1,113 +1,65 @@
 -- What each kind of atomic step on the table tells its pass.
 -- The pass was v and is w; n is the word that was found.
-use Rattle.std.specs.Prelude.{◌≡◌, ◌≢◌, ℕ, ◌+◌, ◌==◌, ◌≤◌, List, [], ◌∷◌, ◌++◌, length, slice_index, if◌then◌else◌}
-use mathlib.Core.Option.{Option, none, some}
+use Rattle.std.specs.Prelude.{◌≡◌, ℕ, ◌==◌, [], ◌∷◌, ◌++◌, All, IsSome, if◌then◌else◌}
+use mathlib.Core.List.{IsPrefix}
 use Rattle.atomic_table.specs.Table.{Step, Me}
-use Rattle.ucl_word.specs.Sequence.{GainsOne}
+use Rattle.ucl_word.specs.declared.event.EventCall.{EventCall}
 use Rattle.ucl_board.specs.declared.entry.Entry.{Entry}
-use Rattle.ucl_board.specs.Words.{word_at}
-use Rattle.ucl_board.specs.History.{board_of, IsLegal}
-use Rattle.ucl_board.specs.Log.{AccessKind, Look, First, Second, Swap, Match, Enlisted, Taken}
-use Rattle.ucl_live_board.specs.declared.view.View.{View}
+use Rattle.ucl_board.specs.Log.{Taken}
+use Rattle.ucl_steps.specs.WordLog.{Look, Swap, First, Second, WordTarget, Match, Enlisted, Enlists, WordStep, WordLog, step_by, taken_at, IsWordLog, MayComeNext}
+use Rattle.ucl_steps.specs.Doings.{FollowsProtocol, IsProtocols}
 use Rattle.ucl_live_board.specs.Views.{Takes}
-use Rattle.ucl_live_board.specs.Steps.{Sees, Adds, Enlists}
-use Rattle.ucl_steps.specs.Protocol.{Held, Nothing, Checking, after_look, after_swap, after_first, after_second}
 use Rattle.ucl_words.specs.declared.view.WordView.{WordView}
 use Rattle.ucl_words.specs.WordRule.{Stands}
-use Rattle.ucl_word.specs.declared.event.EventCall.{EventCall}
+use Rattle.ucl_words.specs.WordViews.{known}
 
--- a load of the word of a match, or an exchange of it that was missed
-pub record LoadsMatch (kind : AccessKind) (game : ℕ) (v : View) (n : ℕ) (w : View) : Type 0 where
-  pub sees : Sees (Match kind game n) v w
-  pub listed : w.listed ≡ v.listed
+-- the pass of a seat after a step, which came after this log
+abbrev pub stepped_to : WordLog → ℕ → WordStep → WordView → WordView
+stepped_to before seat x v = record { log = before ++ step_by seat x ∷ []; told = []; own = v.own ++ x ∷ []; share = v.share; copied = v.copied }
 
--- one that shows nothing
-pub record Loads (kind : AccessKind) (game : ℕ) (v : View) (n : ℕ) (w : View) : Type 0 where
-  pub loads : LoadsMatch kind game v n w
-  pub shown : w.shown ≡ v.shown
+-- a step on this target: it came after this log, all of which the pass then knows, and in which stands what it had known or been told; the
+-- pass acts by its share, and then stands at its seat
+pub record Steps (seat : ℕ) (target : WordTarget) (v w : WordView) : Type 0 where
+  pub before : WordLog
+  pub is_log : IsWordLog before
+  pub protocol : FollowsProtocol before
+  pub since : IsPrefix v.log before
+  pub heard : All (λ (l : WordLog). IsPrefix l before) v.told
+  pub own : v.own ≡ taken_at seat before
+  pub step : WordStep
+  pub of : step.target ≡ target
+  pub may : MayComeNext before (step_by seat step)
+  pub next : IsProtocols before (step_by seat step)
+  pub is : w ≡ stepped_to before seat step v
+  pub acts : IsSome v.share
+  pub stands : Stands seat w
 
--- what a load of a second collect shows: where it finds the twelfth word again, the version, which is how many entries there were at the end
--- of the first collect
-abbrev pub point_shown : Held → ℕ → List ℕ
-point_shown (Checking words checked point) found = if found == slice_index words checked then (if checked == 11 then point ∷ [] else []) else []
-point_shown _ found = []
+-- the steps of the table, by what they found
 
--- an exchange of a match word that was missed
-abbrev pub ExchangeMissed : ℕ → View → ℕ → View → Type 0
-ExchangeMissed = Loads Swap
+-- a report's load, which begins the call for this event
+abbrev pub LookStep : ℕ → EventCall → Step Entry → Me Entry WordView → ℕ → Me Entry WordView → Type 0
+LookStep seat e st m n m' = Steps seat (Match (Look e) st.word n) m.0 m'.0
 
--- an exchange of a match word that was won: its entry is the last that the pass has seen
-pub record ExchangeWon (e : Entry) (v : View) (n : ℕ) (w : View) : Type 0 where
-  pub before : List Entry
-  pub adds : Adds e before n v w
-  pub listed : w.listed ≡ v.listed
-
--- the word that takes the place of another where an entry is added, whatever the history is
-abbrev pub IsNextWord : Entry → ℕ → ℕ → Type 0
-IsNextWord e old new = GainsOne IsLegal (λ history. word_at (board_of history) e.game) e old new
-
--- a load of the enlist word, or an exchange of it that was missed: the pass then knows how many it found
-pub record LoadsEnlisted (v : View) (n : ℕ) (w : View) : Type 0 where
-  pub sees : Sees (Enlisted n) v w
-  pub above : v.listed ≤ n
-  pub listed : w.listed ≡ n
-  pub shown : w.shown ≡ v.shown
-
--- an exchange of the enlist word that was won: the pass is a reporter's
-pub record EnlistWon (v : View) (n : ℕ) (w : View) : Type 0 where
-  pub enlists : Enlists n v w
-  pub above : v.listed ≤ n
-  pub listed : w.listed ≡ n + 1
-
--- the steps of the table, by what they found: each says what the pass knows after it, and what it then holds of
--- its call; those that can end a call say that the pass then stands at its seat
-
--- a report's load, which begins the call for this event, where no call is under way
-pub record LookStep (seat : ℕ) (e : EventCall) (st : Step Entry) (m : Me Entry WordView) (n : ℕ) (m' : Me Entry WordView) : Type 0 where
-  pub nothing : m.0.doing.held ≡ Nothing
-  pub loads : Loads Look st.word m.0.pass n m'.0.pass
-  pub doing : m'.0.doing ≡ after_look m.0.pass.number e n (length m'.0.pass.seen) m.0.doing
-  pub stands : Stands seat m'.0
-
--- a load of a first collect
-pub record FirstStep (st : Step Entry) (m : Me Entry WordView) (n : ℕ) (m' : Me Entry WordView) : Type 0 where
-  pub loads : Loads First st.word m.0.pass n m'.0.pass
-  pub doing : m'.0.doing ≡ after_first n (length m'.0.pass.seen) m.0.doing
+-- a load of a first collect, by the pass of some seat
+abbrev pub FirstStep : Step Entry → Me Entry WordView → ℕ → Me Entry WordView → Type 0
+FirstStep st m n m' = (seat : ℕ) × Steps seat (Match First st.word n) m.0 m'.0
 
 -- a load of a second collect
-pub record SecondStep (seat : ℕ) (st : Step Entry) (m : Me Entry WordView) (n : ℕ) (m' : Me Entry WordView) : Type 0 where
-  pub loads : LoadsMatch Second st.word m.0.pass n m'.0.pass
-  pub shown : m'.0.pass.shown ≡ m.0.pass.shown ++ point_shown m.0.doing.held n
-  pub doing : m'.0.doing ≡ after_second n (length m'.0.pass.seen) m.0.doing
-  pub stands : Stands seat m'.0
+abbrev pub SecondStep : ℕ → Step Entry → Me Entry WordView → ℕ → Me Entry WordView → Type 0
+SecondStep seat st m n m' = Steps seat (Match Second st.word n) m.0 m'.0
 
--- one of the enlist word, and of no other
-pub record EnlistedStep (seat : ℕ) (st : Step Entry) (m : Me Entry WordView) (n : ℕ) (m' : Me Entry WordView) : Type 0 where
-  pub word : st.word ≡ 0
-  pub loads : LoadsEnlisted m.0.pass n m'.0.pass
-  pub doing : m'.0.doing ≡ m.0.doing
-  pub stands : Stands seat m'.0
+-- an exchange of a match word, won or missed
+abbrev pub ExchangeStep : ℕ → Step Entry → Me Entry WordView → ℕ → Me Entry WordView → Type 0
+ExchangeStep seat st m n m' = Steps seat (Match Swap st.word n) m.0 m'.0
 
--- an exchange is won for the entry that was said; none is made where none was said
-abbrev pub WonFor : Option Entry → View → ℕ → View → Type 0
-WonFor (some e) v n w = ExchangeWon e v n w
-WonFor none v n w = ⊥
+-- a load of the enlist word, and of no other
+abbrev pub EnlistedStep : ℕ → Step Entry → Me Entry WordView → ℕ → Me Entry WordView → Type 0
+EnlistedStep seat st m n m' = (st.word ≡ 0) × Steps seat (Enlisted n) m.0 m'.0
 
-pub record ExchangeStep (seat : ℕ) (st : Step Entry) (m : Me Entry WordView) (n : ℕ) (m' : Me Entry WordView) : Type 0 where
-  pub won : n ≡ st.first → WonFor st.said m.0.pass n m'.0.pass
-  pub missed : n ≢ st.first → ExchangeMissed st.word m.0.pass n m'.0.pass
-  pub doing : m'.0.doing ≡ after_swap n (length m'.0.pass.seen) m.0.doing
-  pub stands : Stands seat m'.0
-
--- an exchange of the enlist word, and of no other, by a reader's pass
-pub record EnlistStep (seat : ℕ) (st : Step Entry) (m : Me Entry WordView) (n : ℕ) (m' : Me Entry WordView) : Type 0 where
-  pub reader : m.0.pass.number ≡ 0
-  pub word : st.word ≡ 0
-  pub won : n ≡ st.first → EnlistWon m.0.pass n m'.0.pass
-  pub missed : n ≢ st.first → LoadsEnlisted m.0.pass n m'.0.pass
-  pub doing : m'.0.doing ≡ m.0.doing
-  pub stands : Stands seat m'.0
+-- an exchange of the enlist word, and of no other: it is won where it finds what was expected
+abbrev pub EnlistStep : ℕ → Step Entry → Me Entry WordView → ℕ → Me Entry WordView → Type 0
+EnlistStep seat st m n m' = (st.word ≡ 0) × Steps seat (if n == st.first then Enlists n else Enlisted n) m.0 m'.0
 
 -- whatever it finds, a step of this kind is one step in the log, of the pass that took it
 abbrev pub LogsOneStep : (Step Entry → Me Entry WordView → ℕ → Me Entry WordView → Type 0) → Type 0
-LogsOneStep tells = (st : Step Entry) (m : Me Entry WordView) (n : ℕ) (m' : Me Entry WordView) → tells st m n m' → (x : Taken) × Takes m.0.pass (x ∷ []) m'.0.pass
+LogsOneStep tells = (st : Step Entry) (m : Me Entry WordView) (n : ℕ) (m' : Me Entry WordView) → tells st m n m' → (x : Taken) × Takes (known m.0) (x ∷ []) (known m'.0)

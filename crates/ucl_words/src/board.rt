@@ -1,20 +1,22 @@
 //! The board over thirteen atomic words, and its calls.
 
-ghost use Rattle.std.specs.Prelude.{◌≡◌, ◌≢◌, ◌+◌, ◌<◌, [], ◌++◌, length, IfOk, IsSome, MatchResult, MatchBool, Some, None};
+ghost use Rattle.std.specs.Prelude.{◌≡◌, ◌≢◌, ◌<◌, [], length, IfOk, IsSome, MatchResult, MatchBool};
 ghost use Rattle.atomic_table.specs.Seated.{TableId};
 ghost use Rattle.ucl_board.specs.Fixtures.{IsMatch};
-ghost use Rattle.ucl_board.specs.Log as trails;
-ghost use Rattle.ucl_live_board.specs.OneHistory.{BoardsOpenFresh};
+ghost use Rattle.ucl_board.specs.History.{reading_of};
 ghost use Rattle.ucl_words.specs.WordRule.{words_after, IsTheRule, Stands};
-ghost use Rattle.ucl_words.specs.WordSteps.{Loads, LoadsMatch, LoadsEnlisted, point_shown, ExchangeWon, ExchangeMissed, IsNextWord, EnlistWon};
-ghost use Rattle.ucl_words.specs.Code.{Collects, FindsAgain, FindsAnother, IsHoldingFor, MayCollect, HasFirsts, has_copied, begins_anew};
+ghost use Rattle.ucl_words.specs.WordSteps.{Steps};
+ghost use Rattle.ucl_words.specs.Code.{Collects, FindsAgain, FindsAnother, IsHoldingFor, MayCollect, StaysIn, Finishes};
 ghost use Rattle.ucl_words.specs.WordCalls.{IsSteady};
 ghost use Rattle.ucl_words.specs.WordRecords.{WordOpened, WordReported, WordRead, WordSplit, WordEnlisted, WordFull, WordMet};
-ghost use Rattle.ucl_words.specs.WordViews.{pass_of};
-ghost use Rattle.ucl_words.specs.WordDoings.{GoesAlong};
+ghost use Rattle.ucl_words.specs.WordViews.{pass_of, known};
+ghost use Rattle.ucl_words.specs.Laws.{TablesOpenFresh};
 ghost use Rattle.ucl_word.specs.Record.{IsReporter};
-ghost use Rattle.ucl_steps.specs.Protocol.{Nothing, Checking, IsNext, after_look, after_swap, after_second};
+ghost use Rattle.ucl_steps.specs.Protocol.{Nothing, Collecting, Checking};
+ghost use Rattle.ucl_steps.specs.WordLog as logs;
+ghost use Rattle.ucl_steps.specs.Doings.{doings_of, next_game};
 ghost use Rattle.ucl_steps.specs.declared.step.Call.TheVariants as calls;
+ghost use Rattle.ucl_steps.specs.declared.trace.Reply.TheVariants as replies;
 
 use crate::passes::{WordReaderPass, WordReporterPass};
 use crate::rule::{
@@ -36,8 +38,8 @@ const ENLISTED: usize = 0;
 /// Contracts see which table it is.
 ///
 /// Each load and exchange of a match word leaves an access on the trail of its pass: what it did, of which match, the word that it found,
-/// and how many events had been accepted. By the rule of the table the accesses of all passes are those of one run of the protocol's machine
-/// (`ucl_steps`), of which each report and each reading is a call, with the answer that was given. None of the six calls whose names end
+/// and how many events had been accepted. By the rule of the table the steps of all passes are one log, each the next one of the protocol
+/// (`ucl_steps`), and each report and each reading is a call of it, with the answer that was given. None of the six calls whose names end
 /// in `_now` can wait.
 #[derive(Drop)]
 pub struct WordBoard {
@@ -75,7 +77,7 @@ impl WordBoard {
     pub fn open<R>(_rt: &R, alloc: Global) -> Result<(WordBoard, WordReaderPass), OutOfMemory>
         ensures own { IfOk result (λ opened. opened.1.board ≡ opened.0) }
         ensures opened { IfOk result (λ opened. WordOpened opened.1) }
-        ensures rule { BoardsOpenFresh words_after }
+        ensures rule { TablesOpenFresh }
         ensures tied { IsTheRule (⟦<OneHistory as TableRule<Entry, WordView, ()>>⟧.holds tt) }
     {
         let (table, seat) = Table::of_words(alloc, &fresh_words(), &())?;
@@ -85,19 +87,16 @@ impl WordBoard {
     /// Loads the word of an event's match, for a report.
     fn look<K: Asking>(&self, seat: &mut Seat, call: &EventCall) -> u64
         requires table { seat.old.table_id ≡ self.now }
-        requires acts { IsSome seat.old.me.0.pass.share }
+        requires acts { IsSome seat.old.me.0.share }
         requires place { K.seat ≡ seat.old.id }
         requires call { K.call ≡ call.now }
-        requires me { IsReporter seat.old.me.0.pass.number }
-        requires next { seat.old.me.0.doing.held ≡ Nothing }
+        requires me { IsReporter (doings_of seat.old.me.0.own).number }
+        requires next { (doings_of seat.old.me.0.own).held ≡ Nothing }
         ensures own { seat.new.table_id ≡ seat.old.table_id }
         ensures seat { seat.new.id ≡ seat.old.id }
         ensures game { IsMatch call.now.game }
-        ensures looks { Loads trails.Look call.now.game seat.old.me.0.pass result
-            seat.new.me.0.pass }
-        ensures does { seat.new.me.0.doing ≡ after_look seat.old.me.0.pass.number call.now result
-            (length seat.new.me.0.pass.seen) seat.old.me.0.doing }
-        ensures stands { Stands seat.new.id seat.new.me.0 }
+        ensures looks { Steps seat.new.id (logs.Match (logs.Look call.now) call.now.game result)
+            seat.old.me.0 seat.new.me.0 }
     {
         let word = usize::from(call.game.get());
         self.table.shared.load::<Look<K>>(seat, word)
@@ -106,21 +105,13 @@ impl WordBoard {
     /// Puts the next word of a match in the place of the one that was loaded, where it is still there, and answers the word that was found.
     fn swap<K: Asking>(&self, seat: &mut Seat, loaded: u64, next: u64, entry: Entry) -> u64
         requires table { seat.old.table_id ≡ self.now }
-        requires acts { IsSome seat.old.me.0.pass.share }
-        requires me { (0 < seat.old.me.0.pass.number)
-            × (entry.reporter ≡ seat.old.me.0.pass.number) }
+        requires acts { IsSome seat.old.me.0.share }
         requires place { K.seat ≡ seat.old.id }
-        requires word { IsNextWord entry loaded next }
-        requires next { IsHoldingFor seat.old.me.0.doing.held entry loaded next }
+        requires next { IsHoldingFor (doings_of seat.old.me.0.own).held entry.game loaded next }
         ensures own { seat.new.table_id ≡ seat.old.table_id }
         ensures seat { seat.new.id ≡ seat.old.id }
-        ensures won { result ≡ loaded
-            → ExchangeWon entry seat.old.me.0.pass result seat.new.me.0.pass }
-        ensures missed { result ≢ loaded
-            → ExchangeMissed entry.game seat.old.me.0.pass result seat.new.me.0.pass }
-        ensures does { seat.new.me.0.doing
-            ≡ after_swap result (length seat.new.me.0.pass.seen) seat.old.me.0.doing }
-        ensures stands { Stands seat.new.id seat.new.me.0 }
+        ensures swaps { Steps seat.new.id (logs.Match logs.Swap entry.game result) seat.old.me.0
+            seat.new.me.0 }
     {
         let word = usize::from(entry.game.get());
         self.table
@@ -131,15 +122,14 @@ impl WordBoard {
     /// The first collect: loads words 1 to 12.
     fn collect(&self, seat: &mut Seat) -> [u64; 12]
         requires table { seat.old.table_id ≡ self.now }
-        requires steady { IsSteady seat.old.me.0.pass }
-        requires next { MayCollect seat.old.me.0.doing.held }
+        requires steady { IsSteady (known seat.old.me.0) }
+        requires next { MayCollect (doings_of seat.old.me.0.own).held }
         ensures own { seat.new.table_id ≡ seat.old.table_id }
         ensures seat { seat.new.id ≡ seat.old.id }
         ensures long { length result ≡ 12 }
-        ensures collects { Collects seat.old.me.0.pass result seat.new.me.0.pass }
-        ensures does { HasFirsts (length seat.old.me.0.pass.seen) seat.old.me.0.doing result
-            (length seat.new.me.0.pass.seen) seat.new.me.0.doing }
-        ensures along { GoesAlong seat.old.me.0 calls.Reading seat.new.me.0 }
+        ensures collects { Collects (known seat.old.me.0) result (known seat.new.me.0) }
+        ensures does { StaysIn seat.old.me.0
+            (Checking result 0 (length (known seat.new.me.0).seen)) seat.new.me.0 }
     {
         let mut words = [0; 12];
         for i in 0..12 {
@@ -151,18 +141,14 @@ impl WordBoard {
     /// A load of the second collect.
     fn load_again<K: Asking>(&self, seat: &mut Seat, word: usize) -> u64
         requires table { seat.old.table_id ≡ self.now }
-        requires acts { IsSome seat.old.me.0.pass.share }
+        requires acts { IsSome seat.old.me.0.share }
         requires place { K.seat ≡ seat.old.id }
         requires word { IsMatch word }
-        requires next { IsNext trails.Second word seat.old.me.0.doing.held }
+        requires next { word ≡ next_game logs.Second (doings_of seat.old.me.0.own).held }
         ensures own { seat.new.table_id ≡ seat.old.table_id }
         ensures seat { seat.new.id ≡ seat.old.id }
-        ensures loads { LoadsMatch trails.Second word seat.old.me.0.pass result seat.new.me.0.pass }
-        ensures shown { seat.new.me.0.pass.shown
-            ≡ seat.old.me.0.pass.shown ++ point_shown seat.old.me.0.doing.held result }
-        ensures does { seat.new.me.0.doing
-            ≡ after_second result (length seat.new.me.0.pass.seen) seat.old.me.0.doing }
-        ensures stands { Stands seat.new.id seat.new.me.0 }
+        ensures loads { Steps seat.new.id (logs.Match logs.Second word result) seat.old.me.0
+            seat.new.me.0 }
     {
         self.table.shared.load::<Second<K>>(seat, word)
     }
@@ -170,19 +156,18 @@ impl WordBoard {
     /// The second collect: loads words 1 to 12 again, up to the first that is another.
     fn is_clean(&self, seat: &mut Seat, words: &[u64; 12]) -> bool
         requires table { seat.old.table_id ≡ self.now }
-        requires steady { IsSteady seat.old.me.0.pass }
-        requires next { seat.old.me.0.doing.held
-            ≡ Checking words.now 0 (length seat.old.me.0.pass.seen) }
+        requires steady { IsSteady (known seat.old.me.0) }
+        requires next { (doings_of seat.old.me.0.own).held
+            ≡ Checking words.now 0 (length (known seat.old.me.0).seen) }
         ensures own { seat.new.table_id ≡ seat.old.table_id }
         ensures seat { seat.new.id ≡ seat.old.id }
         ensures compared { MatchBool result
-            (FindsAgain seat.old.me.0.pass words.now seat.new.me.0.pass)
-            (FindsAnother seat.old.me.0.pass words.now seat.new.me.0.pass) }
+            (FindsAgain (known seat.old.me.0) words.now (known seat.new.me.0))
+            (FindsAnother (known seat.old.me.0) words.now (known seat.new.me.0)) }
         ensures does { MatchBool result
-            (seat.new.me.0.doing
-            ≡ has_copied words.now (length seat.new.me.0.pass.seen) seat.old.me.0.doing)
-            (seat.new.me.0.doing ≡ begins_anew seat.old.me.0.doing) }
-        ensures along { GoesAlong seat.old.me.0 calls.Reading seat.new.me.0 }
+            (Finishes seat.old.me.0 calls.Reading (replies.Copied (reading_of words.now))
+            seat.new.me.0)
+            (StaysIn seat.old.me.0 (Collecting []) seat.new.me.0) }
         ensures stands { MatchBool result (Stands seat.new.id seat.new.me.0) (Unit {0}) }
     {
         for checked in 0..12 {
@@ -196,9 +181,9 @@ impl WordBoard {
     /// The clean double collect. Each try that is not clean has seen a longer history, so there are few.
     fn read_by(&self, seat: &mut Seat) -> Reading
         requires table { seat.old.table_id ≡ self.now }
-        requires steady { IsSteady seat.old.me.0.pass }
-        requires next { seat.old.me.0.doing.held ≡ Nothing }
-        ensures steady { IsSteady seat.new.me.0.pass }
+        requires steady { IsSteady (known seat.old.me.0) }
+        requires next { (doings_of seat.old.me.0.own).held ≡ Nothing }
+        ensures steady { IsSteady (known seat.new.me.0) }
         ensures read { WordRead (pass_of seat.old.table_id seat.old.id seat.old.me.0) result
             (pass_of seat.new.table_id seat.new.id seat.new.me.0) }
     {
@@ -211,37 +196,33 @@ impl WordBoard {
     }
 
     /// Puts one more in the place of the number of enlisted reporters, where it is still as many as are known, and answers how many were found.
-    fn add_reporter<K: Asking>(&self, seat: &mut Seat, known: u64) -> u64
+    fn add_reporter<K: Asking>(&self, seat: &mut Seat, tried: u64) -> u64
         requires table { seat.old.table_id ≡ self.now }
-        requires acts { IsSome seat.old.me.0.pass.share }
-        requires reader { seat.old.me.0.pass.number ≡ 0 }
+        requires acts { IsSome seat.old.me.0.share }
+        requires reader { (doings_of seat.old.me.0.own).number ≡ 0 }
         requires place { K.seat ≡ seat.old.id }
-        requires next { seat.old.me.0.doing.held ≡ Nothing }
-        requires room { known < 255 }
+        requires next { (doings_of seat.old.me.0.own).held ≡ Nothing }
+        requires room { tried < 255 }
         ensures own { seat.new.table_id ≡ seat.old.table_id }
         ensures seat { seat.new.id ≡ seat.old.id }
-        ensures won { result ≡ known → EnlistWon seat.old.me.0.pass result seat.new.me.0.pass }
-        ensures missed { result ≢ known
-            → LoadsEnlisted seat.old.me.0.pass result seat.new.me.0.pass }
-        ensures does { seat.new.me.0.doing ≡ seat.old.me.0.doing }
-        ensures stands { Stands seat.new.id seat.new.me.0 }
+        ensures won { result ≡ tried
+            → Steps seat.new.id (logs.Enlists result) seat.old.me.0 seat.new.me.0 }
+        ensures missed { result ≢ tried
+            → Steps seat.new.id (logs.Enlisted result) seat.old.me.0 seat.new.me.0 }
     {
         self.table
             .shared
-            .compare_exchange::<Enlist<K>>(seat, ENLISTED, known, known + 1)
+            .compare_exchange::<Enlist<K>>(seat, ENLISTED, tried, tried + 1)
     }
 
     /// Loads the number of enlisted reporters.
     fn count<K: Asking>(&self, seat: &mut Seat) -> u64
         requires table { seat.old.table_id ≡ self.now }
-        requires acts { IsSome seat.old.me.0.pass.share }
+        requires acts { IsSome seat.old.me.0.share }
         requires place { K.seat ≡ seat.old.id }
         ensures own { seat.new.table_id ≡ seat.old.table_id }
         ensures seat { seat.new.id ≡ seat.old.id }
-        ensures loads { LoadsEnlisted seat.old.me.0.pass result seat.new.me.0.pass }
-        ensures steady { IsSteady seat.old.me.0.pass → IsSteady seat.new.me.0.pass }
-        ensures does { seat.new.me.0.doing ≡ seat.old.me.0.doing }
-        ensures stands { Stands seat.new.id seat.new.me.0 }
+        ensures counts { Steps seat.new.id (logs.Enlisted result) seat.old.me.0 seat.new.me.0 }
     {
         self.table.shared.load::<CountEnlisted<K>>(seat, ENLISTED)
     }

@@ -1,7 +1,7 @@
 //! What holds of all exchanges of match words, and of every running board. The functions do nothing: each is there for its contract.
 
-ghost use Rattle.ucl_words.specs.Laws.{WordsTellTheEntry, BoardsAreRuns, LaterBoardsGoOn, RunsGrow, SomeCallFinishes, NumbersRiseInTime};
-ghost use Rattle.ucl_words.specs.Later.{PassGoesOn, LetsGoOn, FindsEnlisted};
+ghost use Rattle.ucl_words.specs.Laws.{WordsTellTheEntry, BoardsAreLinearizable, LaterBoardsGoOn, SomeCallFinishes, NumbersRiseInTime};
+ghost use Rattle.ucl_words.specs.Later.{PassGoesOn, LetsGoOn, SplitsGoOn, JoinsGoOn, FindsEnlisted};
 ghost use Rattle.ucl_words.specs.declared.view.WordView.{WordView};
 ghost use Rattle.ucl_words.specs.WordSteps.{LogsOneStep};
 
@@ -15,13 +15,11 @@ pub fn words_tell_the_entry()
     ensures { WordsTellTheEntry }
 {}
 
-/// Between any two steps of any threads there is one run of the protocol's machine (`ucl_steps`) from the fresh board, with the history of
-/// the log and the words that are there. What each pass has done and holds is what its callers in that run have done and hold: each of its
-/// finished calls has its reply, and a call under way has taken the steps of the protocol so far. There are no other calls, and each begins
-/// with its first access and ends with its last. All reports and readings of all passes are linearizable in real time (Herlihy and Wing),
-/// also where two passes never met.
-pub fn boards_are_runs()
-    ensures { BoardsAreRuns }
+/// Between any two steps of any threads there is one log of all steps, each the next one of the protocol. Its history is legal and has the
+/// words that are there; what each pass has done is what its own steps make of it; and all reports and readings of all passes are
+/// linearizable in real time (Herlihy and Wing), also where two passes never met. So the board keeps the rule of every shared board.
+pub fn boards_are_linearizable()
+    ensures { BoardsAreLinearizable }
 {}
 
 /// Each kind of step on the words of a board, whatever it finds, is one step in the log, of the pass that took it: so what a call's
@@ -35,9 +33,8 @@ pub fn each_step_is_logged<K: Asking>()
     ensures enlists { LogsOneStep ⟦<Enlist<K> as Play<Entry, WordView>>⟧.then }
 {}
 
-/// Each kind of step on the words of a board, whatever it finds, lets its pass go on: it keeps its number, once it has one; what it had
-/// finished stays finished; the call that was under way is finished, or still under way, and no other begins before it is finished; and the log
-/// that it knows goes on. So do a split, a note and a meeting: a state to which steps of the passes lead is later in the sense of the laws below.
+/// Each kind of step on the words of a board, whatever it finds, lets its pass go on: it knows what it had known of the log, and has done
+/// what it had done. A split, and a note that is taken in, lead to later states, as steps do: in the sense of the laws below.
 pub fn each_step_goes_on<K: Asking>()
     ensures looks { LetsGoOn ⟦<Look<K> as Play<Entry, WordView>>⟧.then }
     ensures first { LetsGoOn ⟦<First as Play<Entry, WordView>>⟧.then }
@@ -45,21 +42,15 @@ pub fn each_step_goes_on<K: Asking>()
     ensures swaps { LetsGoOn ⟦<Swap<K> as Play<Entry, WordView>>⟧.then }
     ensures counts { LetsGoOn ⟦<CountEnlisted<K> as Play<Entry, WordView>>⟧.then }
     ensures enlists { LetsGoOn ⟦<Enlist<K> as Play<Entry, WordView>>⟧.then }
-    ensures splits { (v : WordView) → PassGoesOn v (⟦<SecondPass as Split<WordView>>⟧.left v) }
+    ensures splits { SplitsGoOn (⟦<SecondPass as Split<WordView>>⟧.left)
+        (⟦<SecondPass as Split<WordView>>⟧.right) }
     ensures notes { (v : WordView) → PassGoesOn v (⟦<Note as Split<WordView>>⟧.left v) }
-    ensures hears { (v note : WordView) → PassGoesOn v (⟦<Note as Join<WordView>>⟧.both v note) }
-    ensures spent { (v : WordView) → PassGoesOn (⟦<Note as Split<WordView>>⟧.right v)
-        ⟦<Note as Join<WordView>>⟧.spent }
+    ensures hears { JoinsGoOn (⟦<Note as Join<WordView>>⟧.both) ⟦<Note as Join<WordView>>⟧.spent }
 {}
 
 /// The log of a later state begins with that of the earlier one, whichever steps of whichever passes came between.
 pub fn later_boards_go_on()
     ensures { LaterBoardsGoOn }
-{}
-
-/// The run of a later state is a longer run: each run of the later state begins with each run of the earlier one. So a state has one run, and the place of a call in it, once it is there, never moves.
-pub fn runs_grow()
-    ensures { RunsGrow }
 {}
 
 /// While passes take steps, calls finish: between two states of which the later one has as many finished calls, each pass has taken 35

@@ -11,8 +11,8 @@ mod view;
 
 pub use board::WordBoard;
 pub use laws::{
-    boards_are_runs, each_step_goes_on, each_step_is_logged, later_boards_go_on, numbers_are_there,
-    numbers_rise_in_time, runs_grow, some_call_finishes, words_tell_the_entry,
+    boards_are_linearizable, each_step_goes_on, each_step_is_logged, later_boards_go_on,
+    numbers_are_there, numbers_rise_in_time, some_call_finishes, words_tell_the_entry,
 };
 pub use passes::{WordReaderPass, WordReporterPass};
 pub use view::WordView;

@@ -3,7 +3,8 @@
 ghost use Rattle.std.specs.Prelude.{◌≡◌, length};
 ghost use Rattle.ucl_steps.specs.Protocol.{Nothing};
 ghost use Rattle.ucl_words.specs.WordCalls.{IsSteady};
-ghost use Rattle.ucl_words.specs.WordViews.{WordPass, pass_of};
+ghost use Rattle.ucl_steps.specs.Doings.{doings_of};
+ghost use Rattle.ucl_words.specs.WordViews.{WordPass, pass_of, known};
 
 use crate::rule::Seat;
 use std::marker::Model;
@@ -20,8 +21,9 @@ impl Model for WordReaderPass {
 
     ghost view = { λ reader. pass_of reader.seat.table_id reader.seat.id reader.seat.me.0 };
 
-    ghost invariant = { λ reader. IsSteady reader.seat.me.0.pass
-        × (reader.seat.me.0.pass.number ≡ 0) × (reader.seat.me.0.doing.held ≡ Nothing) };
+    ghost invariant = { λ reader. IsSteady (known reader.seat.me.0)
+        × ((known reader.seat.me.0).number ≡ 0)
+        × ((doings_of reader.seat.me.0.own).held ≡ Nothing) };
 }
 
 impl WordReaderPass {
@@ -46,10 +48,10 @@ impl Model for WordReporterPass {
 
     ghost view = { λ reporter. pass_of reporter.seat.table_id reporter.seat.id reporter.seat.me.0 };
 
-    ghost invariant = { λ reporter. IsSteady reporter.seat.me.0.pass
-        × (reporter.seat.me.0.pass.number ≡ reporter.number)
-        × (length reporter.seat.me.0.pass.mine ≡ reporter.accepted)
-        × (reporter.seat.me.0.doing.held ≡ Nothing) };
+    ghost invariant = { λ reporter. IsSteady (known reporter.seat.me.0)
+        × ((known reporter.seat.me.0).number ≡ reporter.number)
+        × (length (known reporter.seat.me.0).mine ≡ reporter.accepted)
+        × ((doings_of reporter.seat.me.0.own).held ≡ Nothing) };
 }
 
 impl WordReporterPass {

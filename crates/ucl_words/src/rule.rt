@@ -11,7 +11,8 @@ use std::marker::PhantomData;
 use ucl_board::Entry;
 pub use ucl_live_board::Asking;
 
-/// One log of all steps, whose history has the twelve match words and whose reporters are as many as the enlist word says.
+/// One log of all steps, each the next one of the protocol, whose history has the twelve match words and whose reporters are as many as the
+/// enlist word says.
 #[derive(Clone, Copy)]
 pub struct OneHistory;
 

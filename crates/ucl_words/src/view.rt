@@ -1,17 +1,25 @@
 //! What a pass of the word board knows, and what it has done.
 
+ghost use Rattle.std.specs.Prelude.{List};
 ghost use Rattle.std.specs.Borrow.{ftrue};
-ghost use Rattle.ucl_live_board.specs.declared.view.View.{View};
-ghost use Rattle.ucl_steps.specs.Protocol.{Doing};
+ghost use Rattle.ucl_live_board.specs.Shares.{Share};
+ghost use Rattle.ucl_steps.specs.WordLog.{WordStep, WordLog};
 
 use std::marker::Model;
 
-/// What contracts see of a pass of the word board. It is there for proofs alone: no value of it is ever made.
+/// What contracts see of a pass of the word board. It is there for proofs alone: no value of it is ever made. All else that they say of a
+/// pass is a function of these: what it has seen is the history of the log that it knows, and what it has done follows from its own steps.
 pub struct WordView {
-    // What the pass of every shared board knows.
-    pub ghost pass: { View },
-    // Its calls of the protocol, and what it holds within one.
-    pub ghost doing: { Doing },
+    // The beginning of the log that it knows.
+    pub ghost log: { WordLog },
+    // The logs of both sides of a meeting, until its next step.
+    pub ghost told: { List WordLog },
+    // Its own steps.
+    pub ghost own: { List WordStep },
+    // Its share of the board, without which it takes no step.
+    pub ghost share: { Share },
+    // The steps of the passes that it comes from, before it was split off.
+    pub ghost copied: { List WordStep },
 }
 
 impl Model for WordView {

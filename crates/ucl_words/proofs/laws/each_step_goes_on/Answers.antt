@@ -1,17 +1,16 @@
-use Rattle.ucl_words.proofs.Common.{refl, left_pass, told_pass}
-use Rattle.ucl_words.proofs.LaterBoards.{looks_on, firsts_on, seconds_on, swaps_on, counts_on, enlists_on, gone_still, spent_goes}
+use Rattle.ucl_words.proofs.Common.{refl}
+use Rattle.ucl_words.proofs.BoardLaws.{steps_on, goes_still, splits_on, hears_on}
 use Rattle.ucl_words.proofs.laws.each_step_goes_on.Goals as goal
 
 pub returns : goal.returns
 returns g c = record {
-  looks = looks_on g.K.Asking.seat g.K.Asking.call;
-  first = firsts_on;
-  second = seconds_on g.K.Asking.seat;
-  swaps = swaps_on g.K.Asking.seat;
-  counts = counts_on g.K.Asking.seat;
-  enlists = enlists_on g.K.Asking.seat;
-  splits = λ v. gone_still v (left_pass v) refl refl refl;
-  notes = λ v. gone_still v v refl refl refl;
-  hears = λ v note. gone_still v (told_pass v note) refl refl refl;
-  spent = spent_goes;
+  looks = λ st m n m' s. steps_on _ _ m.0 m'.0 s;
+  first = λ st m n m' s. steps_on s.0 _ m.0 m'.0 s.1;
+  second = λ st m n m' s. steps_on _ _ m.0 m'.0 s;
+  swaps = λ st m n m' s. steps_on _ _ m.0 m'.0 s;
+  counts = λ st m n m' s. steps_on _ _ m.0 m'.0 s.1;
+  enlists = λ st m n m' s. steps_on _ _ m.0 m'.0 s.1;
+  splits = splits_on;
+  notes = λ v. goes_still v v refl refl;
+  hears = hears_on;
 }

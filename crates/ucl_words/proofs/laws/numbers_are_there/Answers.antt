@@ -1,4 +1,4 @@
-use Rattle.ucl_words.proofs.LaterBoards.{counts_find, enlists_find}
+use Rattle.ucl_words.proofs.BoardLaws.{counts_find, enlists_find}
 use Rattle.ucl_words.proofs.laws.numbers_are_there.Goals as goal
 
 pub returns-clause-counts : goal.returns-clause-counts

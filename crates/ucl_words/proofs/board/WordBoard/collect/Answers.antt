@@ -1,26 +1,42 @@
-use Rattle.ucl_words.proofs.Common.{length, arith, length-set, begins_length, begins_through}
+use Rattle.ucl_words.proofs.Common.{◌+◌, ◌∙◌, arith, length-set, known}
+use Rattle.ucl_board.specs.Log.{First}
 use Rattle.ucl_words.proofs.KeptRule.{firsts}
 use Rattle.ucl_words.proofs.CollectFacts.{collected_none, collected_set}
-use Rattle.ucl_words.proofs.DoingFacts.{first_next, first_on, firsts_all}
-use Rattle.ucl_words.proofs.AlongFacts.{along_none, along_on, along_first}
+use Rattle.ucl_words.proofs.DoingFacts.{first_next, first_on, first_loads, first_shown, firsts_all}
 use Rattle.ucl_words.proofs.board.WordBoard.collect.Goals as goal
 
 pub loop-i-init : goal.loop-i-init
-loop-i-init c = search (arith, collected_none, along_none)
+loop-i-init c = search (arith, collected_none)
 
 pub load-requires : goal.load-requires
 load-requires c = search (
   arith,
-  first_next (length c.args.seat.now.me.0.pass.seen) c.args.seat.now.me.0.doing c.loop-i.words c.loop-i.i _ c.loop-i.seat.me.0.doing (omega arith)
-      c.loop-i.invariant.long c.requires.next c.loop-i.invariant.does,
-  firsts,
+  firsts c.self.inside.table.shared.table_id.slots c.loop-i.seat.id (c.loop-i.i + 1) c.loop-i.seat.me c.loop-i.invariant.collected.walks.steady.sound.acts (omega arith, omega arith)
+      (first_next c.args.seat.now.me.0 c.loop-i.seat.me.0 c.loop-i.words c.loop-i.i (omega arith) c.loop-i.invariant.long c.requires.next c.loop-i.invariant.does),
 )
 
 pub loop-i-preserved : goal.loop-i-preserved
-loop-i-preserved c = search (arith, length-set, collected_set, first_on, begins_length, begins_through, along_on, along_first)
+loop-i-preserved c =
+    let v = c.args.seat.now.me.0 in
+    let x = c.loop-i.seat.me.0 in
+    let w = c.load.new.seat.me.0 in
+    let was = c.loop-i.invariant in
+    let step = c.load.ensures.2 in
+    let words = c.loop-i.words in
+    let i = c.loop-i.i in
+    let n = c.load.result in
+    let loads = first_loads v x words i (omega arith) was.long c.requires.next step.0 n w step.1 in
+    let shown = first_shown v x words i (omega arith) was.long c.requires.next step.0 n w step.1 was.does in
+    record {
+      same = c.load.ensures.0 ∙ was.same;
+      place = c.load.ensures.1 ∙ was.place;
+      long = length-set words i n ∙ was.long;
+      collected = collected_set First (known v) (known x) (known w) words i n (omega arith) was.collected loads was.long shown;
+      does = first_on v x words i (omega arith) was.long c.requires.next step.0 n w step.1 was.does;
+    }
 
 pub returns-clause-does : goal.returns-clause-does
-returns-clause-does c = search (arith, firsts_all)
-
-pub returns-clause-along : goal.returns-clause-along
-returns-clause-along c = c.loop-i.invariant.along
+returns-clause-does c =
+    let test = c.loop-i-test.false in
+    let end = c.loop-i.auto.i-end in
+    firsts_all c.args.seat.now.me.0 c.loop-i.seat.me.0 c.loop-i.words c.loop-i.i c.loop-i.invariant.long (omega arith) c.loop-i.invariant.does

@@ -1,5 +1,7 @@
-use Rattle.ucl_words.proofs.Common.{inl, inr, refl, sym, ap, ◌∙◌, arith, rules, length, Doing, Stands, pass_of}
+use Rattle.ucl_words.proofs.Common.{inl, inr, refl, sym, ap, ◌∙◌, arith, rules, length, Stands, pass_of, known}
 use Rattle.ucl_words.proofs.EnlistmentFacts.{missed_none, missed_higher, missed_more, won_steady, won_number}
+use Rattle.ucl_words.proofs.StepFacts.{loads_enlisted, enlist_won}
+use Rattle.ucl_words.proofs.DoingFacts.{counted_does, enlisted_does}
 use Rattle.ucl_words.proofs.WholeCalls.{was_enlisted, was_full}
 use Rattle.ucl_words.proofs.board.WordBoard.enlist_now.Goals as goal
 
@@ -8,8 +10,8 @@ tries-init c = record {
   same = refl;
   place = refl;
   bound = omega arith;
-  missed = missed_none c.pass.inside.seat.me.0.pass c.pass.invariant.0;
-  does = refl;
+  missed = missed_none (known c.pass.inside.seat.me.0) c.pass.invariant.0;
+  does = record { calls = refl; held = refl };
   stands = inl refl;
 }
 
@@ -17,13 +19,18 @@ pub invariant_of-result : goal.invariant_of-result
 invariant_of-result c =
     let same = c.if-found-known.true in
     let less = c.tries-test.true in
-    let won = c.add_reporter-found.ensures.won same in
-    let v = c.pass.inside.seat.me.0.pass in
-    let number = won_number v c.tries.seat.me.0.pass c.add_reporter-found.new.seat.me.0.pass c.tries.known c.add_reporter-found.result c.tries.invariant.missed (omega arith) same won in (
-      won_steady v c.tries.seat.me.0.pass c.add_reporter-found.new.seat.me.0.pass c.tries.known c.add_reporter-found.result c.tries.invariant.missed (omega arith) same won,
+    let m = c.add_reporter-found.new.seat in
+    let n = c.add_reporter-found.result in
+    let x = c.tries.seat.me.0 in
+    let was = c.tries.invariant in
+    let step = c.add_reporter-found.ensures.won same in
+    let won = enlist_won m.id n x m.me.0 step in
+    let v = known c.pass.inside.seat.me.0 in
+    let number = won_number v (known x) (known m.me.0) c.tries.known n was.missed (omega arith) same won in (
+      won_steady v (known x) (known m.me.0) c.tries.known n was.missed (omega arith) same won,
       number ∙ sym c.in-Some.ensures.value,
       ap length won.enlists.mine,
-      ap (λ (d : Doing). d.held) (c.add_reporter-found.ensures.does ∙ c.tries.invariant.does) ∙ c.pass.invariant.2,
+      (enlisted_does m.id n x m.me.0 step).held ∙ (was.does.held ∙ c.pass.invariant.2),
     )
 
 pub returns-in-Some : goal.returns-in-Some
@@ -31,28 +38,48 @@ returns-in-Some c =
     let k = c.pass.inside.seat in
     let m = c.add_reporter-found.new.seat in
     let found = c.add_reporter-found.ensures in
+    let n = c.add_reporter-found.result in
+    let x = c.tries.seat.me.0 in
     let same = c.if-found-known.true in
     let less = c.tries-test.true in
     let was = c.tries.invariant in
-    let all = was_enlisted (pass_of k.table_id k.id k.me.0) (pass_of m.table_id m.id m.me.0) (found.own ∙ was.same) (found.seat ∙ was.place) (found.does ∙ was.does)
-    found.stands c.tries.seat.me.0.pass c.tries.known c.add_reporter-found.result was.missed (omega arith) same (found.won same) in
+    let step = found.won same in
+    let done = enlisted_does m.id n x m.me.0 step in
+    let all = was_enlisted (pass_of k.table_id k.id k.me.0) (pass_of m.table_id m.id m.me.0) (found.own ∙ was.same) (found.seat ∙ was.place)
+    (record { calls = done.calls ∙ was.does.calls; held = done.held ∙ was.does.held })
+    step.stands (known x) c.tries.known n was.missed (omega arith) same (enlist_won m.id n x m.me.0 step) in
     search (arith, rules, all)
+
+pub tries-smaller : goal.tries-smaller
+tries-smaller c =
+    let other = c.if-found-known.false in
+    let m = c.add_reporter-found.new.seat in
+    let n = c.add_reporter-found.result in
+    let x = c.tries.seat.me.0 in
+    let missed = loads_enlisted m.id n x m.me.0 (c.add_reporter-found.ensures.missed other) in
+    let less = c.tries-test.true in
+    let higher = (missed_higher (known c.pass.inside.seat.me.0) (known x) (known m.me.0) c.tries.known n c.tries.invariant.missed other missed).0 in
+    omega arith
 
 pub tries-preserved : goal.tries-preserved
 tries-preserved c =
     let other = c.if-found-known.false in
     let less = c.tries-test.true in
-    let v = c.pass.inside.seat.me.0.pass in
-    let x = c.tries.seat.me.0.pass in
-    let w = c.add_reporter-found.new.seat.me.0.pass in
-    let missed = c.add_reporter-found.ensures.missed other in
+    let v = known c.pass.inside.seat.me.0 in
+    let x = c.tries.seat.me.0 in
+    let m = c.add_reporter-found.new.seat in
+    let n = c.add_reporter-found.result in
+    let was = c.tries.invariant in
+    let step = c.add_reporter-found.ensures.missed other in
+    let missed = loads_enlisted m.id n x m.me.0 step in
+    let done = counted_does m.id n x m.me.0 step in
     record {
-      same = c.add_reporter-found.ensures.own ∙ c.tries.invariant.same;
-      place = c.add_reporter-found.ensures.seat ∙ c.tries.invariant.place;
-      bound = (missed_higher v x w c.tries.known c.add_reporter-found.result c.tries.invariant.missed other missed).1;
-      missed = missed_more v x w c.tries.known c.add_reporter-found.result c.tries.invariant.missed other missed (omega arith);
-      does = c.add_reporter-found.ensures.does ∙ c.tries.invariant.does;
-      stands = inr c.add_reporter-found.ensures.stands;
+      same = c.add_reporter-found.ensures.own ∙ was.same;
+      place = c.add_reporter-found.ensures.seat ∙ was.place;
+      bound = (missed_higher v (known x) (known m.me.0) c.tries.known n was.missed other missed).1;
+      missed = missed_more v (known x) (known m.me.0) c.tries.known n was.missed other missed (omega arith);
+      does = record { calls = done.calls ∙ was.does.calls; held = done.held ∙ was.does.held };
+      stands = inr step.stands;
     }
 
 pub returns : goal.returns

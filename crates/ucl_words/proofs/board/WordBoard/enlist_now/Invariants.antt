@@ -1,4 +1,5 @@
-use Rattle.ucl_words.proofs.Common.{◌≡◌, ◌-◌, ◌≤◌, ◌⊎◌, Stands, no_call}
+use Rattle.ucl_words.proofs.Common.{◌≡◌, ◌-◌, ◌≤◌, ◌⊎◌, Stands, known, DoneAsBefore}
+use Rattle.ucl_live_board.specs.Steps.{no_call}
 use Rattle.ucl_words.proofs.EnlistmentFacts.{Missed}
 use Rattle.ucl_words.proofs.board.WordBoard.enlist_now.Given as goal
 
@@ -7,8 +8,8 @@ invariant-tries l = record {
   same : l.seat.table_id ≡ l.initial.seat.table_id;
   place : l.seat.id ≡ l.initial.seat.id;
   bound : l.known ≤ 255;
-  missed : Missed l.initial.seat.me.0.pass l.seat.me.0.pass l.known;
-  does : l.seat.me.0.doing ≡ l.initial.seat.me.0.doing;
+  missed : Missed (known l.initial.seat.me.0) (known l.seat.me.0) l.known;
+  does : DoneAsBefore l.initial.seat.me.0 l.seat.me.0;
   stands : (l.known ≡ 0) ⊎ Stands l.seat.id l.seat.me.0;
 }
 

@@ -1,5 +1,5 @@
-use Rattle.ucl_words.proofs.Common.{◌≡◌, ◌<◌, no_call, Stands, GoesAlong}
-use Rattle.ucl_steps.specs.declared.step.Call.TheVariants as calls
+use Rattle.ucl_words.proofs.Common.{◌≡◌, ◌<◌, Stands}
+use Rattle.ucl_live_board.specs.Steps.{no_call}
 use Rattle.ucl_words.proofs.SecondCollect.{Comparing, FoundAgain}
 use Rattle.ucl_words.proofs.board.WordBoard.is_clean.Given as goal
 
@@ -9,7 +9,6 @@ invariant-loop-checked l = record {
   place : l.seat.id ≡ l.fn.seat.id;
   so_far : l.checked < 12 → Comparing l.fn.seat.me.0 l.words l.checked l.seat.me.0;
   all : l.checked ≡ 12 → FoundAgain l.fn.seat.me.0 l.words l.seat.me.0;
-  along : GoesAlong l.fn.seat.me.0 calls.Reading l.seat.me.0;
   stands : l.checked ≡ 12 → Stands l.seat.id l.seat.me.0;
 }
 

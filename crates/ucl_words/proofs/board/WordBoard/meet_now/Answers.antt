@@ -1,8 +1,10 @@
-use Rattle.ucl_words.proofs.Common.{◌≡◌, ap, length, sym, ◌∙◌, subst, arith, rules, IsSome, Doing, WordView, pass_of, told_pass, new_pass}
+use Rattle.ucl_words.proofs.Common.{◌≡◌, ap, length, sym, ◌∙◌, subst, arith, rules, IsSome, WordView, Steps, pass_of, told_pass, new_pass}
+use Rattle.ucl_steps.specs.WordLog.{Enlisted}
 use Rattle.atomic_table.specs.Table.{Joins}
 use Rattle.ucl_words.specs.WordRule.{TableKeepsOneHistory}
 use Rattle.ucl_words.proofs.KeptRule.{notes, joins}
-use Rattle.ucl_words.proofs.EnlistmentFacts.{met_steady}
+use Rattle.ucl_words.proofs.DoingFacts.{counted_does}
+use Rattle.ucl_words.proofs.EnlistmentFacts.{met_steady, met_continues, met_says}
 use Rattle.ucl_words.proofs.WholeCalls.{was_met}
 use Rattle.ucl_words.proofs.board.WordBoard.meet_now.Goals as goal
 
@@ -22,20 +24,21 @@ join_seat-requires c =
     )
 
 pub count-requires-clause-acts : goal.count-requires-clause-acts
-count-requires-clause-acts c =
-    subst (λ (u : WordView). IsSome u.pass.share) (sym (ap (λ m. m.0) c.join_seat.ensures.2)) c.second.invariant.0.sound.acts
+count-requires-clause-acts c = subst (λ (u : WordView). IsSome u.share) (sym (ap (λ m. m.0) c.join_seat.ensures.2)) c.second.invariant.0.sound.acts
 
 pub invariant_of-second : goal.invariant_of-second
 invariant_of-second c =
-    let is = ap (λ m. m.0) c.join_seat.ensures.2 in
-    let steady = met_steady c.first.inside.seat.me.0.pass c.second.inside.seat.me.0.pass _ _ _ _
-    (ap (λ m. m.0.pass) c.split_seat-note.ensures.4) (ap (λ m. m.0.pass) c.join_seat.ensures.2) c.second.invariant.0 c.count.ensures.loads in
-    let sees = c.count.ensures.loads.sees in
+    let a = c.first.inside.seat.me.0 in
+    let k = c.second.inside.seat.me.0 in
+    let m = c.count.new.seat in
+    let n = c.count.result in
+    let joined = ap (λ m. m.0) c.join_seat.ensures.2 ∙ ap (told_pass k) (ap (λ m. m.0) c.split_seat-note.ensures.4) in
+    let s = subst (λ (u : WordView). Steps m.id (Enlisted n) u m.me.0) joined c.count.ensures.counts in
     let v = c.second.invariant in (
-      steady,
-      sees.number ∙ (ap (λ m. m.0.pass.number) c.join_seat.ensures.2 ∙ v.1),
-      ap length (sees.mine ∙ ap (λ m. m.0.pass.mine) c.join_seat.ensures.2) ∙ v.2,
-      ap (λ (d : Doing). d.held) (c.count.ensures.does ∙ ap (λ m. m.0.doing) c.join_seat.ensures.2) ∙ v.3,
+      met_steady a k m.me.0 m.id n v.0 s,
+      (met_continues a k m.me.0 m.id n v.0 s).number ∙ v.1,
+      ap length (met_says a k m.me.0 m.id n v.0 s).mine ∙ v.2,
+      (counted_does m.id n _ m.me.0 s).held ∙ v.3,
     )
 
 pub returns : goal.returns
@@ -44,11 +47,12 @@ returns c =
     let b = c.split_seat-note.new.seat in
     let k = c.second.inside.seat in
     let m = c.count.new.seat in
+    let n = c.count.result in
     let note = c.split_seat-note.ensures in
-    let joined = c.join_seat.ensures in
     let count = c.count.ensures in
+    let joined = ap (λ m. m.0) c.join_seat.ensures.2 ∙ ap (told_pass k.me.0) (ap (λ m. m.0) note.4) in
+    let s = subst (λ (u : WordView). Steps m.id (Enlisted n) u m.me.0) joined count.counts in
     let same : pass_of b.table_id b.id b.me.0 ≡ pass_of a.table_id a.id a.me.0 = (λ i. pass_of (note.0 i) (note.1 i) (ap (λ m. m.0) note.2 i)) in
     let all = was_met (pass_of a.table_id a.id a.me.0) (pass_of b.table_id b.id b.me.0) (pass_of k.table_id k.id k.me.0) (pass_of m.table_id m.id m.me.0)
-    _ _ c.count.result same (count.own ∙ joined.0) (count.seat ∙ joined.1) c.first.invariant.0.sound (ap (λ m. m.0.pass) note.4) (ap (λ m. m.0.pass) joined.2)
-    c.second.invariant.0 count.loads (count.does ∙ ap (λ m. m.0.doing) joined.2) count.stands in
+    n same (count.own ∙ c.join_seat.ensures.0) (count.seat ∙ c.join_seat.ensures.1) c.first.invariant.0.sound c.second.invariant.0 s in
     search (arith, rules, all)

@@ -1,21 +1,19 @@
-use Rattle.ucl_live_board.proofs.LogFacts.{opens_fresh}
-use Rattle.ucl_words.proofs.Common.{rules, words_after, ℕ, sym, subst, Stands}
+use Rattle.ucl_words.proofs.Common.{rules, ℕ, sym, subst, Stands}
 use Rattle.ucl_words.proofs.KeptRule.{opens, opened_stands}
+use Rattle.ucl_words.proofs.BoardLaws.{opens_fresh}
 use Rattle.ucl_words.proofs.board.WordBoard.open.Goals as goal
 
 pub of_words-requires : goal.of_words-requires
 of_words-requires g c = opens _ c.fresh_words.ensures
 
 pub returns-clause-rule : goal.returns-clause-rule
-returns-clause-rule g c = opens_fresh words_after
+returns-clause-rule g c = opens_fresh
 
 pub returns-in_err-table-clause-rule : goal.returns-in_err-table-clause-rule
-returns-in_err-table-clause-rule g c = opens_fresh words_after
+returns-in_err-table-clause-rule g c = opens_fresh
 
 pub returns-clause-opened : goal.returns-clause-opened
 returns-clause-opened g c =
     let made = c.in_ok-table.ensures in
-    let stands =
-    subst (λ (k : ℕ). Stands k (record { pass = c.in_ok-table.seat.me.0.pass; doing = c.in_ok-table.seat.me.0.doing })) (sym made.3)
-    (subst (λ m. Stands 0 (record { pass = m.0.pass; doing = m.0.doing })) (sym made.4) (opened_stands _ c.fresh_words.ensures)) in
+    let stands = subst (λ (k : ℕ). Stands k c.in_ok-table.seat.me.0) (sym made.3) (subst (λ m. Stands 0 m.0) (sym made.4) (opened_stands _ c.fresh_words.ensures)) in
     record { fresh = search rules; untaken = search rules; stands = stands }

@@ -1,79 +1,82 @@
-use Rattle.ucl_words.proofs.Common.{◌≡◌, ℕ, ◌<◌, ◌≤◌, ◌+◌, ap, ◌∙◌, arith, rules, refl, length}
-use Rattle.ucl_words.proofs.Common.{length-append, Ok, Err, Stale, Doing, record_at, begins_length, greatest_version, room, pass_view_of, pass_of}
-use Rattle.ucl_words.proofs.StepRuns.{found_valid}
-use Rattle.ucl_words.proofs.ReportFacts.{next_after}
-use Rattle.ucl_words.proofs.DoingFacts.{holding_for}
-use Rattle.ucl_words.proofs.WholeReports.{Reported, refused_report, accepted_report, missed_report, was_reported}
+use Rattle.ucl_words.proofs.Common.{◌≡◌, ℕ, ◌<◌, ◌≤◌, ◌+◌, sym, ap, ◌∙◌, subst, arith, rules, refl, length, length-append, Ok, Err, Stale, Entry, Steps}
+use Rattle.ucl_words.proofs.Common.{record_at, greatest_version, room, pass_view_of, pass_of, known, IsHoldingFor, doings_of}
+use Rattle.ucl_steps.specs.WordLog.{Match, Swap}
+use Rattle.ucl_words.proofs.StepFacts.{found_word}
+use Rattle.ucl_words.proofs.WholeReports.{Reported, refused_report, holding_for, accepted_report, missed_report, was_reported}
 use Rattle.ucl_words.proofs.board.WordBoard.report_now.Goals as goal
 
 pub next_word-requires : goal.next_word-requires
-next_word-requires c = search (arith, found_valid)
+next_word-requires c = found_word _ _ _ _ _ _ c.look-loaded.ensures.looks
 
 -- the rules refuse
 refused : (c : goal.After-from_residual) → Reported c.pass.inside.seat.me.0 c.args.call.now (Err c.in_err-next.field-0.0) c.look-loaded.new.seat.me.0
 refused c =
-    let me : (0 < c.pass.inside.number) × (c.pass.inside.number ≤ 255) × (c.pass.inside.seat.me.0.pass.number ≡ c.pass.inside.number) = search (arith, c.pass.ranges) in
+    let me : (0 < c.pass.inside.number) × (c.pass.inside.number ≤ 255) × ((known c.pass.inside.seat.me.0).number ≡ c.pass.inside.number) = search (arith, c.pass.ranges) in
     let said = c.look-loaded.ensures in
-    refused_report c.pass.inside.seat.me.0 c.look-loaded.new.seat.me.0 c.args.call.now c.pass.inside.number c.look-loaded.result said.game me
-    c.pass.invariant.0 said.looks said.does c.in_err-next.field-0.0 c.in_err-next.ensures.refused
+    refused_report c.pass.inside.seat.me.0 c.look-loaded.new.seat.me.0 c.args.call.now c.pass.inside.number c.look-loaded.result c.look-loaded.new.seat.id said.game me
+    c.pass.invariant.0 c.pass.invariant.3 said.looks c.in_err-next.field-0.0 c.in_err-next.ensures.refused
 
 pub invariant_of-pass : goal.invariant_of-pass
 invariant_of-pass c =
     let by = refused c in
-    (by.steady, by.always.number ∙ c.pass.invariant.1, ap length by.refused.mine ∙ c.pass.invariant.2, ap (λ (d : Doing). d.held) by.answers.does)
+    (by.steady, by.always.number ∙ c.pass.invariant.1, ap length by.refused.mine ∙ c.pass.invariant.2, by.answers.answers.held)
 
 pub returns-in_err-next : goal.returns-in_err-next
 returns-in_err-next c =
     let k = c.pass.inside.seat in
     let m = c.look-loaded.new.seat in
     let all = was_reported (pass_of k.table_id k.id k.me.0) (pass_of m.table_id m.id m.me.0) c.args.call.now _ (refused c)
-    (c.look-loaded.ensures.own) (c.look-loaded.ensures.seat) c.look-loaded.ensures.stands in
+    (c.look-loaded.ensures.own) (c.look-loaded.ensures.seat) c.look-loaded.ensures.looks.stands in
     search (arith, rules, all)
 
-pub swap-found-requires-clause-word : goal.swap-found-requires-clause-word
-swap-found-requires-clause-word c =
-    let call = c.args.call.now in
-    search (arith, next_after call.game c.pass.inside.number call.kind c.look-loaded.result c.in_ok-next.next c.look-loaded.ensures.game c.in_ok-next.ensures.valid c.in_ok-next.ensures.counted)
-
 pub swap-found-requires-clause-next : goal.swap-found-requires-clause-next
-swap-found-requires-clause-next c = search (arith, holding_for, begins_length)
-
--- the exchange was won
-won : (c : goal.Then-found-loaded) → Reported c.pass.inside.seat.me.0 c.args.call.now (Ok (record { number = (record_at c.in_ok-next.next).number })) c.swap-found.new.seat.me.0
-won c =
-    let me : (0 < c.pass.inside.number) × (c.pass.inside.number ≤ 255) × (c.pass.inside.seat.me.0.pass.number ≡ c.pass.inside.number) = search (arith, c.pass.ranges) in
+swap-found-requires-clause-next c =
+    let me : (0 < c.pass.inside.number) × (c.pass.inside.number ≤ 255) × ((known c.pass.inside.seat.me.0).number ≡ c.pass.inside.number) = search (arith, c.pass.ranges) in
     let said = c.look-loaded.ensures in
     let next = c.in_ok-next.ensures in
-    let stored = c.swap-found.ensures in
-    accepted_report c.pass.inside.seat.me.0 c.look-loaded.new.seat.me.0 c.args.call.now c.pass.inside.number c.look-loaded.result said.game me
-    c.pass.invariant.0 said.looks said.does next.accepted.0 c.in_ok-next.next next.valid next.record c.of-entry.result c.of-entry.ensures
-    c.swap-found.new.seat.me.0 c.swap-found.result stored.won stored.missed stored.does c.if-found-loaded.true _ refl
+    subst (λ (e : Entry). IsHoldingFor (doings_of c.look-loaded.new.seat.me.0.own).held e.game c.look-loaded.result c.in_ok-next.next) (sym c.of-entry.ensures)
+    (holding_for c.pass.inside.seat.me.0 c.look-loaded.new.seat.me.0 c.args.call.now c.pass.inside.number c.look-loaded.result c.look-loaded.new.seat.id said.game me
+    c.pass.invariant.0 c.pass.invariant.3 said.looks next.accepted.0 c.in_ok-next.next next.valid next.record)
+
+-- the exchange was won
+won : (c : goal.Then-found-loaded) (number : ℕ) → number ≡ (record_at c.in_ok-next.next).number
+    → Reported c.pass.inside.seat.me.0 c.args.call.now (Ok (record { number = number })) c.swap-found.new.seat.me.0
+won c number is =
+    let me : (0 < c.pass.inside.number) × (c.pass.inside.number ≤ 255) × ((known c.pass.inside.seat.me.0).number ≡ c.pass.inside.number) = search (arith, c.pass.ranges) in
+    let said = c.look-loaded.ensures in
+    let next = c.in_ok-next.ensures in
+    let step = subst (λ (e : Entry). Steps c.swap-found.new.seat.id
+    (Match Swap e.game c.swap-found.result) c.look-loaded.new.seat.me.0 c.swap-found.new.seat.me.0) c.of-entry.ensures c.swap-found.ensures.swaps in
+    accepted_report c.pass.inside.seat.me.0 c.look-loaded.new.seat.me.0 c.args.call.now c.pass.inside.number c.look-loaded.result c.look-loaded.new.seat.id said.game me
+    c.pass.invariant.0 c.pass.invariant.3 said.looks next.accepted.0 c.in_ok-next.next next.valid next.record
+    c.swap-found.new.seat.me.0 c.swap-found.result c.swap-found.new.seat.id step c.if-found-loaded.true number is
 
 pub overflow_add-pass : goal.overflow_add-pass
 overflow_add-pass c =
-    let by = won c in
+    let by = won c (record_at c.in_ok-next.next).number refl in
     let r : c.pass.inside.accepted + 1 ≤ greatest_version =
-    room (pass_view_of c.pass.inside.seat.me.0.pass) (pass_view_of c.swap-found.new.seat.me.0.pass) c.args.call.now (Ok _) c.pass.inside.accepted by.accepted refl
+    room (pass_view_of (known c.pass.inside.seat.me.0)) (pass_view_of (known c.swap-found.new.seat.me.0)) c.args.call.now (Ok _) c.pass.inside.accepted by.accepted refl
     by.always.sound c.pass.invariant.2 in
     omega arith
 
 won_as : (c : goal.After-number_of) → Reported c.pass.inside.seat.me.0 c.args.call.now (Ok (record { number = c.number_of.result })) c.swap-found.new.seat.me.0
 won_as c =
-    let me : (0 < c.pass.inside.number) × (c.pass.inside.number ≤ 255) × (c.pass.inside.seat.me.0.pass.number ≡ c.pass.inside.number) = search (arith, c.pass.ranges) in
+    let me : (0 < c.pass.inside.number) × (c.pass.inside.number ≤ 255) × ((known c.pass.inside.seat.me.0).number ≡ c.pass.inside.number) = search (arith, c.pass.ranges) in
     let said = c.look-loaded.ensures in
     let next = c.in_ok-next.ensures in
-    let stored = c.swap-found.ensures in
-    accepted_report c.pass.inside.seat.me.0 c.look-loaded.new.seat.me.0 c.args.call.now c.pass.inside.number c.look-loaded.result said.game me
-    c.pass.invariant.0 said.looks said.does next.accepted.0 c.in_ok-next.next next.valid next.record c.of-entry.result c.of-entry.ensures
-    c.swap-found.new.seat.me.0 c.swap-found.result stored.won stored.missed stored.does c.if-found-loaded.true c.number_of.result c.number_of.ensures.value
+    let step = subst (λ (e : Entry). Steps c.swap-found.new.seat.id
+    (Match Swap e.game c.swap-found.result) c.look-loaded.new.seat.me.0 c.swap-found.new.seat.me.0) c.of-entry.ensures c.swap-found.ensures.swaps in
+    accepted_report c.pass.inside.seat.me.0 c.look-loaded.new.seat.me.0 c.args.call.now c.pass.inside.number c.look-loaded.result c.look-loaded.new.seat.id said.game me
+    c.pass.invariant.0 c.pass.invariant.3 said.looks next.accepted.0 c.in_ok-next.next next.valid next.record
+    c.swap-found.new.seat.me.0 c.swap-found.result c.swap-found.new.seat.id step c.if-found-loaded.true c.number_of.result c.number_of.ensures.value
 
 pub invariant_of-pass-then-found-loaded : goal.invariant_of-pass-then-found-loaded
 invariant_of-pass-then-found-loaded c =
     let by = won_as c in (
       by.steady,
       by.always.number ∙ c.pass.invariant.1,
-      ap length by.accepted.mine ∙ (length-append c.pass.inside.seat.me.0.pass.mine _ ∙ ap (λ (n : ℕ). n + 1) c.pass.invariant.2),
-      ap (λ (d : Doing). d.held) by.answers.does,
+      ap length by.accepted.mine ∙ (length-append (known c.pass.inside.seat.me.0).mine _ ∙ ap (λ (n : ℕ). n + 1) c.pass.invariant.2),
+      by.answers.answers.held,
     )
 
 pub returns-then-found-loaded : goal.returns-then-found-loaded
@@ -81,29 +84,30 @@ returns-then-found-loaded c =
     let k = c.pass.inside.seat in
     let m = c.swap-found.new.seat in
     let all = was_reported (pass_of k.table_id k.id k.me.0) (pass_of m.table_id m.id m.me.0) c.args.call.now _ (won_as c)
-    (c.swap-found.ensures.own ∙ c.look-loaded.ensures.own) (c.swap-found.ensures.seat ∙ c.look-loaded.ensures.seat) c.swap-found.ensures.stands in
+    (c.swap-found.ensures.own ∙ c.look-loaded.ensures.own) (c.swap-found.ensures.seat ∙ c.look-loaded.ensures.seat) c.swap-found.ensures.swaps.stands in
     search (arith, rules, all)
 
 -- or missed
 missed : (c : goal.After-number_of-else-found-loaded) → Reported c.pass.inside.seat.me.0 c.args.call.now (Err (Stale c.number_of-else-found-loaded.result)) c.swap-found.new.seat.me.0
 missed c =
-    let me : (0 < c.pass.inside.number) × (c.pass.inside.number ≤ 255) × (c.pass.inside.seat.me.0.pass.number ≡ c.pass.inside.number) = search (arith, c.pass.ranges) in
+    let me : (0 < c.pass.inside.number) × (c.pass.inside.number ≤ 255) × ((known c.pass.inside.seat.me.0).number ≡ c.pass.inside.number) = search (arith, c.pass.ranges) in
     let said = c.look-loaded.ensures in
     let next = c.in_ok-next.ensures in
-    let stored = c.swap-found.ensures in
-    missed_report c.pass.inside.seat.me.0 c.look-loaded.new.seat.me.0 c.args.call.now c.pass.inside.number c.look-loaded.result said.game me
-    c.pass.invariant.0 said.looks said.does next.accepted.0 c.in_ok-next.next next.valid next.record c.of-entry.result c.of-entry.ensures
-    c.swap-found.new.seat.me.0 c.swap-found.result stored.won stored.missed stored.does c.if-found-loaded.false c.number_of-else-found-loaded.result c.number_of-else-found-loaded.ensures.value
+    let step = subst (λ (e : Entry). Steps c.swap-found.new.seat.id
+    (Match Swap e.game c.swap-found.result) c.look-loaded.new.seat.me.0 c.swap-found.new.seat.me.0) c.of-entry.ensures c.swap-found.ensures.swaps in
+    missed_report c.pass.inside.seat.me.0 c.look-loaded.new.seat.me.0 c.args.call.now c.pass.inside.number c.look-loaded.result c.look-loaded.new.seat.id said.game me
+    c.pass.invariant.0 c.pass.invariant.3 said.looks next.accepted.0 c.in_ok-next.next next.valid next.record
+    c.swap-found.new.seat.me.0 c.swap-found.result c.swap-found.new.seat.id step c.if-found-loaded.false c.number_of-else-found-loaded.result c.number_of-else-found-loaded.ensures.value
 
 pub invariant_of-pass-else-found-loaded : goal.invariant_of-pass-else-found-loaded
 invariant_of-pass-else-found-loaded c =
     let by = missed c in
-    (by.steady, by.always.number ∙ c.pass.invariant.1, ap length by.refused.mine ∙ c.pass.invariant.2, ap (λ (d : Doing). d.held) by.answers.does)
+    (by.steady, by.always.number ∙ c.pass.invariant.1, ap length by.refused.mine ∙ c.pass.invariant.2, by.answers.answers.held)
 
 pub returns-else-found-loaded : goal.returns-else-found-loaded
 returns-else-found-loaded c =
     let k = c.pass.inside.seat in
     let m = c.swap-found.new.seat in
     let all = was_reported (pass_of k.table_id k.id k.me.0) (pass_of m.table_id m.id m.me.0) c.args.call.now _ (missed c)
-    (c.swap-found.ensures.own ∙ c.look-loaded.ensures.own) (c.swap-found.ensures.seat ∙ c.look-loaded.ensures.seat) c.swap-found.ensures.stands in
+    (c.swap-found.ensures.own ∙ c.look-loaded.ensures.own) (c.swap-found.ensures.seat ∙ c.look-loaded.ensures.seat) c.swap-found.ensures.swaps.stands in
     search (arith, rules, all)

@@ -1,24 +1,19 @@
-use Rattle.ucl_words.proofs.Common.{ℕ, ◌≤◌, sym, ◌∙◌, subst, arith, Entry, Stands}
+use Rattle.ucl_words.proofs.Common.{ℕ, sym, ◌∙◌, subst, arith, Steps}
+use Rattle.ucl_steps.specs.WordLog.{Match, Swap}
 use Rattle.ucl_words.proofs.KeptRule.{swaps}
 use Rattle.ucl_words.proofs.board.WordBoard.swap.Goals as goal
 
 pub compare_exchange_with-requires : goal.compare_exchange_with-requires
 compare_exchange_with-requires g c =
-    let range = c.get.ensures.within in let a = range.0 in let b = range.1 in
-    let e : Entry = c.args.entry in
-    let low : (1 ≤ e.game) × (e.game ≤ 12) = (omega arith, omega arith) in
+    let range = c.get.ensures.within in
     let slots : ℕ = c.self.inside.table.shared.table_id.slots in
     let seat = c.args.seat.now in
-    search (arith, swaps slots seat.id _ seat.me e c.args.loaded c.args.next c.requires.place c.requires.acts low c.requires.me.0 c.requires.me.1 c.requires.word c.requires.next)
+    let next = c.requires.next in
+    search (arith, swaps slots seat.id _ _ seat.me next.e c.args.entry c.args.loaded c.args.next c.requires.place c.requires.acts next.holds next.of)
 
-pub returns-clause-won : goal.returns-clause-won
-returns-clause-won g c hit = c.compare_exchange_with.ensures.2.won hit
-
-pub returns-clause-missed : goal.returns-clause-missed
-returns-clause-missed g c miss = search arith
-
-pub returns-clause-does : goal.returns-clause-does
-returns-clause-does g c = c.compare_exchange_with.ensures.2.doing
-
-pub returns-clause-stands : goal.returns-clause-stands
-returns-clause-stands g c = subst (λ (k : ℕ). Stands k c.compare_exchange_with.new.seat.me.0) (c.requires.place ∙ sym c.compare_exchange_with.ensures.1) c.compare_exchange_with.ensures.2.stands
+pub returns-clause-swaps : goal.returns-clause-swaps
+returns-clause-swaps g c =
+    let v = c.args.seat.now.me.0 in
+    let w = c.compare_exchange_with.new.seat.me.0 in
+    subst (λ (k : ℕ). Steps k (Match Swap c.args.entry.game c.compare_exchange_with.result) v w) (c.requires.place ∙ sym c.compare_exchange_with.ensures.1)
+    (subst (λ (game : ℕ). Steps g.K.Asking.seat (Match Swap game c.compare_exchange_with.result) v w) (c.from-word.ensures ∙ c.get.ensures.value) c.compare_exchange_with.ensures.2)
