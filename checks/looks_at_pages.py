@@ -122,11 +122,13 @@ def pages_name_their_readers(top):
 
 
 def crates_are_listed(top):
-    """The table of crates has each crate of crates.txt, once."""
+    """The table of crates has each crate of crates.txt, once. The crates of the kit that are trusted are those on which ours stand, but for those of tests."""
     section = (top / CRATES).read_text().split("\n## The crates\n", 1)[-1].split("\n## ", 1)[0]
     told = [name for line in section.split("\n") if line.startswith("| `") for name in re.findall(r"`(\w+)`", line.split("|")[1])]
-    crates = list(sources.crates_of(top))
-    return [f"{name}: in the table of crates {told.count(name)} times" for name in sorted({*told, *crates}) if told.count(name) != crates.count(name)]
+    uses, [trusted] = sources.crates_of(top), re.findall(r"Statements of the kit's crates\*\*:([^.]*), and `mathlib`\.", (top / "docs/PROOF.md").read_text())
+    kit = {it for crate, below in uses.items() if not UNPROVED.search(crate) for it in below} - {*uses}
+    found = [f"{name}: in the table of crates {told.count(name)} times" for name in sorted({*told, *uses}) if told.count(name) != (name in uses)]
+    return found + [f"{name}: of the kit, and trusted or used alone" for name in sorted(kit ^ {*re.findall(r"`(\w+)`", trusted)})]
 
 
 def map_of_definitions(top):

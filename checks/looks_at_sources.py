@@ -11,11 +11,16 @@ import sources
 
 # What goes beside the log: a load, a wait or a wake of a cell or a table that is no step of a pass; and that a board's own is lent out to make one.
 UNCOUNTED = re.compile(r"\b(peek|park\w*|wake_\w+|load_new_seat|swap_new_seat|into_badge|close|close_with)\b|(?:\.|::)(pass|table|cell)\(")
-STEP = re.compile(r"\bimpl\b[^{]*\b(Play|Outcome|Split|Join)\b[^{]* for (?:\w+::)*([A-Za-z]+)")
-# The kinds of step of each board, in the order of the file of its rule.
+STEP = re.compile(
+    r"\bimpl\b[^{]*\b(Play|Outcome|Split|Join)\b[^{]* for (?:\w+::)*([A-Za-z]+)"
+    r"|\b((?:load|store|swap|fetch|compare_exchange|split|join)(?:_\w+)?)::<(?!Brand\b)(\w+)"
+)
+# The kinds of step of each board, in the order of the file of its rule, and the calls by which its steps are taken, of which a load writes nothing.
 KINDS = {
     "crates/ucl_pass/src/rule.rt": "Outcome Looks, Outcome Reads, Outcome Adds, Outcome Enlists, Split SecondPass, Split Note, Join Note",
     "crates/ucl_words/src/rule.rt": "Play Look, Play First, Play Second, Play CountEnlisted, Play Swap, Play Enlist, Split SecondPass, Split Note, Join Note",
+    "crates/ucl_pass/src/cell_board.rt": "load_as Looks, compare_exchange_as Adds, load_as Reads, split_pass SecondPass, compare_exchange_as Enlists, split_pass Note, join_pass Note",
+    "crates/ucl_words/src/board.rt": "load Look, compare_exchange_with Swap, load First, load Second, compare_exchange Enlist, load CountEnlisted, split_seat SecondPass, split_seat Note, join_seat Note",
 }
 # What boards, passes and handles of C have, and what that is of.
 PARTS = """struct WordBoard { table: Table, }
@@ -32,10 +37,12 @@ struct BoardPass { board: Arc<WordBoard, Global>, pass: AnyPass, }
 enum AnyPass { Nobody, Reader(WordReaderPass), Reporter(WordReporterPass), }
 struct Handle { at: *mut UclboardPass, ghost value: { BoardPass }, }""".split("\n")
 TESTS = re.compile(r"_tests$|_hostile$|_bench")  # crates of tests and of the benchmark, which hold no board of a user
-# What threads may share, by the lines that name such: a pointer, leave to wait, a board's table or cell, and a flag by which the example's loops end.
-SHARED = re.compile(r"\bsync\b|\bstatic mut\b|\b(?:atomic_table|crossbeam_\w+)::")
+# What threads may share, by the lines that name such: a pointer, whose count of handles changes where one is made, leave to wait, a board's table or cell, and
+# a flag by which the example's loops end.
+SHARED = re.compile(r"\bsync\b|\bstatic mut\b|\b(?:atomic_table|crossbeam_\w+)::|\bArc::|\bclone\(")
 SHARES = re.compile(
     r": (?:ghost |use std::sync::(?:Arc|Wait);$)|/ucl_example/.*: use std::sync::atomic::{AtomicBool, Ordering};$"
+    r"|/ucl_c/.*: +let board = Arc::(?:new\(alloc, board\)|try_clone\(board\))\?;$"
     r"|/ucl_words/.*\batomic_table::|/ucl_theorems/.*: use atomic_table::TableRule;$|/ucl_pass/.*: use (?:atomic_table|crossbeam_utils::(?:atomic::seq_cell|rule))::"
 )
 # What types of boards and readings implement, derived and behind a bar written, and no more: so no equality and no load is of its own kind.
@@ -64,11 +71,12 @@ TRAITS = {
 DERIVES = re.compile(r"#\s*\[derive\(([^)]*)\)\](?:\s*#\s*\[[^\]]*\])*\s*(?:pub(?:\([^)]*\))?\s+)?(?:struct|enum)\s+(\w+)")
 IMPL = re.compile(r"\bimpl\b\s*(?:<[^{]*?>\s*)?([\w:]+(?:<[^{]*?>)?)\s+for\s+([^{]+?)\s*\{")
 ALIAS = re.compile(r"(?<!ghost )\buse\b[^;]*\bas\b[^;]*;|\bmacro_rules\b")
-# What is written of letting go: a count that contracts alone see has nothing to let go, and a handle of C lets its pass go.
-LETS_GO = re.compile(r"[^{}]*{ fn drop\b|\bfn (?:drop|let_go|uclboard_pass_drop)\b")
+# What is written of letting go: a count that contracts alone see has nothing to let go, and a handle of C keeps its pass until it lets it go.
+LETS_GO = re.compile(r"[^{}]*{ fn drop\b|\bfn (?:drop|let_go|uclboard_pass_drop)\b|\b(?:forget|leak|into_raw\w*|ManuallyDrop)\b")
 LET_GO = re.compile(
     r"impl Drop for Tally { fn drop\(self\) { let Self { marker: _ } = self; } }"
     r"|fn let_go\(&mut self, alloc: Global\) ensures {[^{}]*} { if !self\.is_null\(\) { drop\(self\.take\(alloc\)\.into_box\(\)\); } }"
+    r"|let \(ptr, alloc\) = Box::into_raw_with_allocator\(b\);"
     r"|fn uclboard_pass_drop\(alloc: Global, pass: &mut Handle\)(?: ensures \w+ {[^{}]*})+ { pass\.let_go\(alloc\); }"
 )
 # What makes, lengthens or replaces the list of the times at which a source was called; `duplex.rt` does so twice.
@@ -109,12 +117,12 @@ def boards_go_through_passes(top):
 
 
 def kinds_of_step(top):
-    """The kinds of step of a board are these, and stand in the file of its rule: each leaves a mark in the log."""
+    """The kinds of step of a board are these, and stand in the file of its rule: each leaves a mark in the log. Each is taken by one call of the board's."""
     texts = collections.defaultdict(str, dict.fromkeys(KINDS, ""))
     for path, _, line in lines_of(top, *sources.crates_of(top)):
         texts[str(path.relative_to(top))] += f"{line.strip()} "
-    told = ((file, ", ".join(map(" ".join, STEP.findall(text)))) for file, text in texts.items())
-    return [f"{file}: the kinds of step are {kinds}" for file, kinds in told if kinds != KINDS.get(file, "")]
+    told = ((file, ", ".join(" ".join(filter(None, step)) for step in STEP.findall(text))) for file, text in texts.items())
+    return [f"{file}: the steps are {steps}" for file, steps in told if steps != KINDS.get(file, "")]
 
 
 def code_of(top, crate):
@@ -139,9 +147,9 @@ def traits_are_listed(top):
 
 
 def nothing_acts_when_let_go(top):
-    """No value of any crate does anything when it is let go, but let go of its parts."""
+    """No value of any crate does anything when it is let go, but let go of its parts; and each is let go."""
     rest, count = LET_GO.subn("", " ".join(" ".join(code_of(top, crate) for crate in sources.crates_of(top)).split()))
-    return LETS_GO.findall(rest) + ([] if count == 3 else ["a count or a handle is not let go as it was"])
+    return LETS_GO.findall(rest) + ([] if count == 4 else ["a count or a handle is not let go as it was"])
 
 
 def boards_hold_words_alone(top):

@@ -6,6 +6,7 @@ import re
 import resource
 import subprocess
 
+import model
 import pytest
 from conftest import EXAMPLES, Has, built, command, needs, tabled, text_of
 from model import CLUBS
@@ -93,6 +94,7 @@ test_inputs_that_are_taken = tabled({
     "a name with a comma and a quote": ("ucl_night show", SHEET.replace("Alpha", '"Al,p""ha"'), SECOND_SCREEN.replace("Alpha  ", 'Al,p"ha')),
     "quotes, zeros and line ends": ("ucl_night feed", WITH_QUOTES, "5 ok 1 1 1\n6 ok 1 2 2\n7 ok 1 3 3\nword,1,2001000000006003,\n" + "".join(FRESH[1:])),
     "clubs alone": ("ucl_night feed", CLUBS, "".join(FRESH)),
+    "a night of clubs alone": ("ucl_night night", CLUBS, "FINAL\n" + model.screen(model.fresh())),
     "a night of group C": ("ucl_night night --group C", STORED, STORED_END.replace("GROUP A", "GROUP C")),
     "a night of a whole group": ("ucl_night night", WHOLE, FINAL),
     "a night by away goals in a tie": ("ucl_night night --order away-in-tie", AWAY, AWAY_IN_TIE),
