@@ -149,19 +149,6 @@ rest_ended cap line bytes i clean =
     (sym (no_ended cap (begun_line cap line (take i bytes)) (drop i bytes) clean))
     ∙ sym (ended_all cap line bytes i)
 
-full : (n : ℕ) → true ≡ (suc n == 0) → ⊥
-full n h = grind (arith, nat_tests)
-
-pub empty_list : (b : Bool) (xs : List ℕ) → b ≡ (length xs == 0) → b ≡ true → xs ≡ []
-empty_list b [] e h = refl
-empty_list b (x ∷ xs) e h = absurd (full (length xs) (sym h ∙ e))
-
--- what is kept of more bytes
-pub kept_of : (cap : ℕ) (line bytes : List ℕ) → length line ≤ cap → line ++ take (cap - length line) bytes ≡ take cap (line ++ bytes)
-kept_of cap line bytes h =
-    let n : cap ≡ length line + (cap - length line) = omega (arith, h) in
-    sym (ap (λ (k : ℕ). take k (line ++ bytes)) n ∙ take_past line bytes (cap - length line))
-
 -- one of the lines ends where a line feed is, and those before it are the lines of the bytes before this
 pub record IsCutAt (cap : ℕ) (line bytes : List ℕ) (lines : List (List ℕ)) (last : List ℕ) : Type 0 where
   pub front : List ℕ

@@ -1,9 +1,12 @@
 -- Texts that are put one after the other.
 use Rattle.std.proofs.Common.{◌≡◌, ℕ, suc, ◌+◌, ◌-◌, ◌^◌, ◌≤◌, min, Bool, List, [], ◌∷◌, ◌++◌}
-use Rattle.std.proofs.Common.{length, take, Option, sym, ap, ◌∙◌, subst, append_assoc, append-nil, arith, length-append, true, false, true≢false}
+use Rattle.std.proofs.Common.{length, take, Option, sym, ap, ◌∙◌, subst, append_assoc, append-nil, arith, length-append, refl}
 use Rattle.std.proofs.lemmas.List.{take-append-le}
 use Rattle.std.specs.Io.KnownBytes.{Appends}
-use Rattle.ucl_io.specs.Output.{IsHeldBack, HasPut, StoppedAt, StoppedShort, Waiting}
+use Rattle.std.specs.Prelude.{⊤, Err}
+use Rattle.ucl_io.specs.declared.fault.PumpFault.{PumpFault}
+use Rattle.ucl_io.specs.declared.fault.PumpFault.TheVariants.{Machine, ReadFailed, TooLong, WriteFailed}
+use Rattle.ucl_io.specs.Output.{HasPut, Outlet, PutsOrStops, StopsIn, StoppedShort, WritesOn}
 use Rattle.ucl_io.proofs.MovedBytes.{appends-none, appends-then}
 
 pub take_past : (a b : List ℕ) (n : ℕ) → take (length a + n) (a ++ b) ≡ a ++ take n b
@@ -13,9 +16,7 @@ take_past (x ∷ a) b n = let one : length (x ∷ a) + n ≡ suc (length a + n) 
 count_then : (before mid after a b : ℕ) → mid ≡ min (before + a) (2 ^ 64 - 1) → after ≡ min (mid + b) (2 ^ 64 - 1) → after ≡ min (before + (a + b)) (2 ^ 64 - 1)
 count_then before mid after a b p q = omega arith
 
--- ---- where the sink failed
-
--- in the first of two parts
+-- the sink failed in the first of two parts
 pub stopped_first : (before : ℕ) (failed : Bool) (old new : Option (List ℕ)) (a b : List ℕ) (written : ℕ) → StoppedShort before failed old new a written
     → StoppedShort before failed old new (a ++ b) written
 stopped_first before failed old new a b written s = let cut = s.first.cut in let long = length-append a b in record {
@@ -25,81 +26,67 @@ stopped_first before failed old new a b written s = let cut = s.first.cut in let
   told = s.told;
 }
 
-pub stopped_at : (before : ℕ) (failed : Bool) (old new : Option (List ℕ)) (text : List ℕ) (written : ℕ) (s : StoppedShort before failed old new text written)
-    → StoppedAt before failed old new text written s.count
-stopped_at before failed old new text written s = record { failed_is = s.failed_is; first = s.first; told = s.told }
-
-pub stopped_short : (before : ℕ) (failed : Bool) (old new : Option (List ℕ)) (text : List ℕ) (written count : ℕ) → StoppedAt before failed old new text written count
-    → StoppedShort before failed old new text written
-stopped_short before failed old new text written count s = record { failed_is = s.failed_is; count = count; first = s.first; told = s.told }
-
 -- in the second of two parts, after the first went out
-pub at_second : (before total : ℕ) (failed : Bool) (old mid new : Option (List ℕ)) (a b : List ℕ) (written count : ℕ) → Appends old mid a → total ≡ min (before + length a) (2 ^ 64 - 1)
-    → StoppedAt total failed mid new b written count → StoppedAt before failed old new (a ++ b) written (length a + count)
-at_second before total failed old mid new a b written count out total_is s = let cut = s.first.cut in let long = length-append a b in record {
+pub stopped_second : (before total : ℕ) (failed : Bool) (old mid new : Option (List ℕ)) (a b : List ℕ) (written : ℕ) → Appends old mid a → total ≡ min (before + length a) (2 ^ 64 - 1)
+    → StoppedShort total failed mid new b written → StoppedShort before failed old new (a ++ b) written
+stopped_second before total failed old mid new a b written out total_is s = let cut = s.first.cut in let long = length-append a b in record {
   failed_is = s.failed_is;
+  count = length a + s.count;
   first = record {
     cut = omega arith;
-    out = subst (Appends old new) (sym (take_past a b count)) (appends-then old mid new a (take count b) out s.first.out);
+    out = subst (Appends old new) (sym (take_past a b s.count)) (appends-then old mid new a (take s.count b) out s.first.out);
   };
-  told = count_then before total written (length a) count total_is s.told;
+  told = count_then before total written (length a) s.count total_is s.told;
 }
 
 -- ---- texts that were put
 
-pub put_nothing : (a : Waiting) (x : Option (List ℕ)) → a.out ≤ 2 ^ 64 - 1 → HasPut a a x x []
-put_nothing a x h = record { given = []; went = appends-none x; rest = sym (append-nil a.held); told = omega arith }
+pub put_nothing : (a : Outlet) → a.out ≤ 2 ^ 64 - 1 → HasPut a a []
+put_nothing a h = record { given = []; went = appends-none a.taken; rest = sym (append-nil a.held); told = omega arith; sound = refl }
 
-pub put_then : (a b c : Waiting) (x y z : Option (List ℕ)) (t u : List ℕ) → HasPut a b x y t → HasPut b c y z u → HasPut a c x z (t ++ u)
-put_then a b c x y z t u p q =
+all_put : (a b : Outlet) (t u : List ℕ) (p : HasPut a b t) → p.given ++ (b.held ++ u) ≡ a.held ++ (t ++ u)
+all_put a b t u p = sym (append_assoc p.given b.held u) ∙ ap (λ (l : List ℕ). l ++ u) p.rest ∙ append_assoc a.held t u
+
+pub put_then : (a b c : Outlet) (t u : List ℕ) → HasPut a b t → HasPut b c u → HasPut a c (t ++ u)
+put_then a b c t u p q =
     let long = length-append p.given q.given in record {
       given = p.given ++ q.given;
-      went = appends-then x y z p.given q.given p.went q.went;
-      rest = append_assoc p.given q.given c.held ∙ ap (λ (l : List ℕ). p.given ++ l) q.rest ∙ sym (append_assoc p.given b.held u) ∙ ap (λ (l : List ℕ). l ++ u) p.rest ∙ append_assoc a.held t u;
+      went = appends-then a.taken b.taken c.taken p.given q.given p.went q.went;
+      rest = append_assoc p.given q.given c.held ∙ ap (λ (l : List ℕ). p.given ++ l) q.rest ∙ all_put a b t u p;
       told = rw long (count_then a.out b.out c.out (length p.given) (length q.given) p.told q.told);
+      sound = q.sound ∙ p.sound;
     }
 
 -- the sink failed while a further text was put
-pub at_put : (a b : Waiting) (failed : Bool) (x y z : Option (List ℕ)) (t u : List ℕ) (n count : ℕ) (p : HasPut a b x y t) → StoppedAt b.out failed y z (b.held ++ u) n count
-    → StoppedAt a.out failed x z (a.held ++ (t ++ u)) n (length p.given + count)
-at_put a b failed x y z t u n count p s =
-    let all = sym (append_assoc p.given b.held u) ∙ ap (λ (l : List ℕ). l ++ u) p.rest ∙ append_assoc a.held t u in
-    subst (λ (l : List ℕ). StoppedAt a.out failed x z l n (length p.given + count)) all (at_second a.out b.out failed x y z p.given (b.held ++ u) n count p.went p.told s)
+pub put_stops : (a b c : Outlet) (t u : List ℕ) (n : ℕ) → HasPut a b t → StopsIn b c u n → StopsIn a c (t ++ u) n
+put_stops a b c t u n p s =
+    subst (λ (l : List ℕ). StoppedShort a.out c.failed a.taken c.taken l n) (all_put a b t u p)
+    (stopped_second a.out b.out c.failed a.taken b.taken c.taken p.given (b.held ++ u) n p.went p.told s)
 
-pub put_stopped : (a b : Waiting) (failed : Bool) (x y z : Option (List ℕ)) (t u : List ℕ) (n : ℕ) → HasPut a b x y t → StoppedShort b.out failed y z (b.held ++ u) n
-    → StoppedShort a.out failed x z (a.held ++ (t ++ u)) n
-put_stopped a b failed x y z t u n p s =
-    stopped_short a.out failed x z (a.held ++ (t ++ u)) n (length p.given + s.count) (at_put a b failed x y z t u n s.count p (stopped_at b.out failed y z (b.held ++ u) n s))
+-- what waited is given to the sink once a text was put
+pub put_flushed : (a b c : Outlet) (t : List ℕ) → HasPut a b t → HasPut b c [] → HasPut a c t
+put_flushed a b c t p q = subst (HasPut a c) (append-nil t) (put_then a b c t [] p q)
 
--- it failed in the first of two texts
-pub stopped_before : (out : ℕ) (failed : Bool) (x y : Option (List ℕ)) (h t u : List ℕ) (n : ℕ) → StoppedShort out failed x y (h ++ t) n → StoppedShort out failed x y (h ++ (t ++ u)) n
-stopped_before out failed x y h t u n s = subst (λ (l : List ℕ). StoppedShort out failed x y l n) (append_assoc h t u) (stopped_first out failed x y (h ++ t) u n s)
+pub put_cut : (a b c : Outlet) (t : List ℕ) (n : ℕ) → HasPut a b t → StopsIn b c [] n → StopsIn a c t n
+put_cut a b c t n p s = subst (λ (l : List ℕ). StopsIn a c l n) (append-nil t) (put_stops a b c t [] n p s)
 
--- where nothing waits any more, all went out
-pub all_out : (a b : Waiting) (x y : Option (List ℕ)) (t : List ℕ) → HasPut a b x y t → a.held ≡ [] → b.held ≡ [] → Appends x y t
-all_out a b x y t p none none2 =
+-- where nothing waited and nothing waits, all went out
+pub all_out : (a b : Outlet) (t : List ℕ) → HasPut a b t → a.held ≡ [] → b.held ≡ [] → Appends a.taken b.taken t
+all_out a b t p none none2 =
     let e : p.given ≡ t = sym (append-nil p.given) ∙ ap (λ (l : List ℕ). p.given ++ l) (sym none2) ∙ p.rest ∙ ap (λ (l : List ℕ). l ++ t) none in
-    subst (Appends x y) e p.went
+    subst (Appends a.taken b.taken) e p.went
 
--- all was told that went out
-pub told_out : (a b : Waiting) (x y : Option (List ℕ)) (t : List ℕ) → HasPut a b x y t → a.held ≡ [] → b.held ≡ [] → b.out ≡ min (a.out + length t) (2 ^ 64 - 1)
-told_out a b x y t p none none2 =
-    let e : p.given ≡ t = sym (append-nil p.given) ∙ ap (λ (l : List ℕ). p.given ++ l) (sym none2) ∙ p.rest ∙ ap (λ (l : List ℕ). l ++ t) none in
-    p.told ∙ ap (λ (l : List ℕ). min (a.out + length l) (2 ^ 64 - 1)) e
+-- bytes are given to the sink where nothing waits
+pub given_after : (a b : Outlet) (text : List ℕ) → a.held ≡ [] → b.held ≡ [] → Appends a.taken b.taken text → b.out ≡ min (a.out + length text) (2 ^ 64 - 1) → b.failed ≡ a.failed → HasPut a b text
+given_after a b text none none2 went told sound = record { given = text; went = went; rest = rw (none, none2) (append-nil text); told = told; sound = sound }
 
--- a text that was held back
-pub put_held : (a b : Waiting) (x : Option (List ℕ)) (text : List ℕ) → a.out ≤ 2 ^ 64 - 1 → b.held ≡ a.held ++ text → b.out ≡ a.out → HasPut a b x x text
-put_held a b x text h e k = record { given = []; went = appends-none x; rest = e; told = rw k (omega arith) }
+-- ---- what a call of the sink comes to
 
--- a text that went out
-pub put_given : (a b : Waiting) (x y : Option (List ℕ)) (text : List ℕ) → a.held ≡ [] → b.held ≡ a.held → Appends x y text → b.out ≡ min (a.out + length text) (2 ^ 64 - 1) → HasPut a b x y text
-put_given a b x y text none same out told = record { given = text; went = out; rest = rw (same, none) (append-nil text); told = told }
-
--- of what was held back, or was not
-pub held_back : (page : ℕ) (a b : Waiting) (x : Option (List ℕ)) (text : List ℕ) (r : Bool) → IsHeldBack page a b text r → r ≡ true → a.out ≤ 2 ^ 64 - 1 → HasPut a b x x text × (length b.held ≤ page)
-held_back page a b x text true p e h = (put_held a b x text h (ap (λ (w : Waiting). w.held) p.0) (ap (λ (w : Waiting). w.out) p.0), subst (λ (w : Waiting). length w.held ≤ page) (sym p.0) p.1)
-held_back page a b x text false p e h = absurd (true≢false (sym e))
-
-pub not_held : (page : ℕ) (a b : Waiting) (text : List ℕ) (r : Bool) → IsHeldBack page a b text r → r ≡ false → b ≡ a
-not_held page a b text true p e = absurd (true≢false e)
-not_held page a b text false p e = p
+module _ (F : Type 0) where
+  -- the sink failed in the text
+  pub short_within : (a b c : Outlet) (text : List ℕ) (f : PumpFault F) → HasPut a b [] → b.held ≡ [] → WritesOn b.out b.failed c.failed b.taken c.taken text (Err f)
+      → PutsOrStops {V = ⊤} a c text (Err f)
+  short_within a b c text (WriteFailed n) put none s = put_stops a b c [] text n put (rw none s)
+  short_within a b c text (Machine fault) put none s = absurd s
+  short_within a b c text (ReadFailed k) put none s = absurd s
+  short_within a b c text TooLong put none s = absurd s

@@ -1,24 +1,20 @@
 -- What a run comes to.
-use Rattle.std.proofs.Common.{◌≡◌, ℕ, ◌+◌, ◌-◌, ◌^◌, ◌<◌, min, Bool, List, [], ◌∷◌, ◌++◌, length, Option, refl, sym, ap, ◌∙◌, subst, inl, inr, append_assoc, append-nil, arith}
+use Rattle.std.proofs.Common.{◌≡◌, ℕ, ◌+◌, ◌^◌, ◌<◌, List, [], ◌∷◌, ◌++◌, length, refl, sym, ap, ◌∙◌, subst, inl, inr, append_assoc, append-nil, arith}
 use Rattle.std.specs.Prelude.{⊤, Result, Ok, Err}
 use Rattle.std.specs.Io.KnownBytes.{Appends, Consumes, IsAtEnd, Keeps}
 use Rattle.ucl_io.specs.declared.fault.PumpFault.{PumpFault}
 use Rattle.ucl_io.specs.declared.fault.PumpFault.TheVariants.{Machine, ReadFailed, TooLong, WriteFailed}
-use Rattle.ucl_io.specs.Calls.{LogsCalls}
+use Rattle.ucl_io.specs.Calls.{HasEnded, LogsCalls}
 use Rattle.ucl_io.specs.Lines.{begun_line, ended_lines}
-use Rattle.ucl_io.specs.Output.{StoppedAt, Waiting}
-use Rattle.ucl_io.specs.Turns.{AreAnsweredBy, AreGiven, FailsAtEnd, FailsInBytes, IsEnded, Turn, lines_in, state_after, text_in}
-use Rattle.ucl_io.specs.Pumping.{LineRules, IsPromptAt, Pumped, Seen}
-use Rattle.ucl_io.proofs.Answers.{answered_then, kept_after}
+use Rattle.ucl_io.specs.Turns.{AreAnswered, Closed, FallShort, Progress, Turn, WhyShort, lines_in, state_after, text_in}
+use Rattle.ucl_io.specs.Output.{Outlet}
+use Rattle.ucl_io.specs.Pumping.{PumpEnds, HasClosed, IsOut, IsPromptAt, LineRules, Pumped, Run, Seen}
+use Rattle.ucl_io.proofs.Answers.{answered_then, short_then}
 use Rattle.ucl_io.proofs.Calls.{ended, ended-since, logs-as, logs-then}
 use Rattle.ucl_io.proofs.Cuts.{ended_append}
-use Rattle.ucl_io.proofs.MovedBytes.{appends-then, consumes-kept, consumes-then}
-use Rattle.ucl_io.proofs.Puts.{all_out, at_second, stopped_at, told_out}
-use Rattle.ucl_io.proofs.Turns.{given_count, given_then, left_then, next_then, text_then}
-
--- nothing waits, and nothing went out
-abbrev pub nothing : Waiting
-nothing = record { held = []; out = 0 }
+use Rattle.ucl_io.proofs.MovedBytes.{consumes-kept, consumes-then}
+use Rattle.ucl_io.proofs.Puts.{all_out, put_stops, put_then}
+use Rattle.ucl_io.proofs.Turns.{lines_count}
 
 -- ---- each time that the source was called
 
@@ -45,18 +41,24 @@ module _ (M T : Type 0) (cap : ℕ) (count : T → ℕ) (at : T → Seen M) (ori
       logs-as count old new calls calls3 (Prompt turns) (Prompt (turns ++ later)) (prompt_longer turns later)
       (logs-then count old mid new calls calls2 calls3 (Prompt turns) time p e n is now)
 
--- ---- how a run ends
+-- ---- how a run ends that has answered the lines of these bytes, and nothing waits
 
-module _ (M F : Type 0) (D : LineRules M F) (cap page : ℕ) (old mid : Seen M) (bytes : List ℕ) (turns : List (Turn M)) (a : Waiting) (consumed : Consumes old.left mid.left bytes)
-    (p : AreAnsweredBy D.Answers 1 old.machine mid.machine (ended_lines cap [] bytes) nothing a old.taken mid.taken turns) (none : a.held ≡ []) where
-  abbrev done : List (List ℕ)
-  done = ended_lines cap [] bytes
+-- before the first line
+abbrev pub first_of : {M : Type 0} → Seen M → Progress M
+first_of s = record { row = 1; machine = s.machine; outlet = record { held = []; out = 0; taken = s.device.taken; failed = s.device.failed } }
 
-  out : Appends old.taken mid.taken (text_in turns)
-  out = all_out nothing a old.taken mid.taken (text_in turns) p.put refl none
+-- before this line
+abbrev pub stands : {M : Type 0} → Seen M → ℕ → List ℕ → ℕ → Progress M
+stands s row held out = record { row = row; machine = s.machine; outlet = record { held = held; out = out; taken = s.device.taken; failed = s.device.failed } }
 
-  told : a.out ≡ min (0 + length (text_in turns)) (2 ^ 64 - 1)
-  told = told_out nothing a old.taken mid.taken (text_in turns) p.put refl none
+module _ (M F : Type 0) (D : LineRules M F) (cap : ℕ) (old mid : Seen M) (row : ℕ) (held : List ℕ) (written : ℕ) (bytes : List ℕ) (turns : List (Turn M))
+    (consumed : Consumes old.device.left mid.device.left bytes)
+    (p : AreAnswered D.line (first_of old) (stands mid row held written) (ended_lines cap [] bytes) turns) (none : held ≡ []) where
+  abbrev here : Progress M
+  here = stands mid row held written
+
+  out : Appends old.device.taken mid.device.taken (text_in turns)
+  out = all_out (first_of old).outlet here.outlet (text_in turns) p.put refl none
 
   pub prompt_now : IsPromptAt cap old mid turns
   prompt_now = record {
@@ -65,164 +67,159 @@ module _ (M F : Type 0) (D : LineRules M F) (cap page : ℕ) (old mid : Seen M) 
     later = [];
     among = sym (append-nil turns);
     consumed = consumed;
-    lines = sym (p.given.lines_are ∙ append-nil (lines_in turns));
+    lines = sym p.lines_are;
     machine = p.machine;
     out = out;
   }
 
-  module _ (new : Seen M) (failed : Bool) (Prompt : List (Turn M) → Type 0) where
-    abbrev Run : Result ℕ (PumpFault F) → Type 0
-    Run result = Pumped D cap page old new failed result Prompt
+  module _ (new : Seen M) (Prompt : List (Turn M) → Type 0) where
+    abbrev Done : Result ℕ (PumpFault F) → Type 0
+    Done result = Pumped D cap old new result Prompt
+
+    abbrev so_far : Run M
+    so_far = record { bytes = bytes; turns = turns; rest = []; last = [] }
+
+    all_lines : ended_lines cap [] bytes ≡ lines_in turns ++ []
+    all_lines = p.lines_are ∙ sym (append-nil (lines_in turns))
+
+    all_text : new.device.taken ≡ mid.device.taken → new.device.failed ≡ mid.device.failed
+        → Appends old.device.taken new.device.taken (text_in turns ++ []) × (new.device.failed ≡ old.device.failed)
+    all_text same sound = (rw (same, append-nil) out, sound ∙ p.put.sound)
 
     -- the source failed
-    pub run_read_failed : (read : ℕ) → Keeps mid.left new.left → new.taken ≡ mid.taken → new.machine ≡ mid.machine → read ≡ length bytes → Prompt turns → Run (Err (ReadFailed read))
-    run_read_failed read kept same still is prompt = record {
-      bytes = bytes;
-      turns = turns;
-      rest = [];
-      consumed = consumes-kept old.left mid.left new.left bytes consumed kept;
-      given = p.given;
+    pub run_read_failed : (read : ℕ) → Keeps mid.device.left new.device.left → new.device.taken ≡ mid.device.taken → new.device.failed ≡ mid.device.failed → read ≡ length bytes → Prompt turns
+        → Done (Err (ReadFailed read))
+    run_read_failed read kept same sound is prompt = record {
+      run = so_far;
+      consumed = consumes-kept old.device.left mid.device.left new.device.left bytes consumed kept;
+      turned = p.turned;
+      lines_are = all_lines;
       prompt = prompt;
-      ends = (is, record { all = refl; machine = still ∙ p.machine; out = subst (λ (t : Option (List ℕ)). Appends old.taken t (text_in turns)) (sym same) out });
+      out = all_text same sound;
+      ends = (is, refl, refl);
+    }
+
+    -- more bytes came than any input has
+    pub run_too_long : new ≡ mid → 2 ^ 62 < length bytes → Prompt turns → Done (Err TooLong)
+    run_too_long same long prompt = record {
+      run = so_far;
+      consumed = rw same consumed;
+      turned = p.turned;
+      lines_are = all_lines;
+      prompt = prompt;
+      out = all_text (ap (λ (s : Seen M). s.device.taken) same) (ap (λ (s : Seen M). s.device.failed) same);
+      ends = (long, refl, refl);
     }
 
     -- the sink failed in some lines of more bytes, or the machine had no answer to one
-    more_given : (more : List ℕ) (rest : List (List ℕ)) (later : List (Turn M)) → AreGiven D.Answers (1 + length done) mid.machine (ended_lines cap (begun_line cap [] bytes) more) later rest
-        → AreGiven D.Answers 1 old.machine (ended_lines cap [] (bytes ++ more)) (turns ++ later) rest
-    more_given more rest later q =
-        subst (λ (l : List (List ℕ)). AreGiven D.Answers 1 old.machine l (turns ++ later) rest) (sym (ended_append cap [] bytes more))
-        (given_then M D.Answers 1 old.machine mid.machine done (ended_lines cap (begun_line cap [] bytes) more) rest turns later p.given p.machine q)
+    module _ (row2 out2 : ℕ) (held2 : List ℕ) (more : List ℕ) (moved : Consumes mid.device.left new.device.left more) where
+      abbrev there : Progress M
+      there = stands new row2 held2 out2
 
-    pub run_stopped : (more : List ℕ) (f : PumpFault F) → Consumes mid.left new.left more
-        → FailsInBytes D.Answers D.Stops page (1 + length done) mid.machine new.machine (ended_lines cap (begun_line cap [] bytes) more) a.out failed mid.taken new.taken f
-        → ((later : List (Turn M)) → Prompt (turns ++ later)) → Run (Err f)
-    run_stopped more (WriteFailed written) moved q prompt = record {
-      bytes = bytes ++ more;
-      turns = turns ++ q.turns;
-      rest = q.rest;
-      consumed = consumes-then old.left mid.left new.left bytes more consumed moved;
-      given = more_given more q.rest q.turns q.given;
-      prompt = prompt q.turns;
-      ends = (
-        text_in (turns ++ q.turns),
-        length (text_in turns) + q.count,
-        inl (
-          refl,
-          left_then M D.Answers F D.Stops page 1 old.machine mid.machine new.machine done q.rest turns q.turns p.given p.machine q.left,
-          kept_after M page turns q.turns q.count q.kept,
-        ),
-        subst (λ (l : List ℕ). StoppedAt 0 failed old.taken new.taken l written (length (text_in turns) + q.count)) (sym (text_then M turns q.turns))
-            (at_second 0 a.out failed old.taken mid.taken new.taken (text_in turns) (text_in q.turns) written q.count out told q.stopped),
-      );
-    }
-    run_stopped more (Machine fault) moved q prompt = record {
-      bytes = bytes ++ more;
-      turns = turns ++ q.turns;
-      rest = q.rest;
-      consumed = consumes-then old.left mid.left new.left bytes more consumed moved;
-      given = more_given more q.rest q.turns q.given;
-      prompt = prompt q.turns;
-      ends = (
-        inl (next_then M D.Answers F D.Stops 1 old.machine mid.machine new.machine done q.rest turns q.turns fault p.given p.machine q.stops),
-        subst (Appends old.taken new.taken) (sym (text_then M turns q.turns)) (appends-then old.taken mid.taken new.taken (text_in turns) (text_in q.turns) out q.out),
-      );
-    }
-    run_stopped more (ReadFailed k) moved q prompt = absurd q
-    run_stopped more TooLong moved q prompt = absurd q
+      abbrev longer : List (Turn M) → List (List ℕ) → Run M
+      longer all rest = record { bytes = bytes ++ more; turns = all; rest = rest; last = [] }
 
-    -- ---- at the end of the input
+      why : (all : List (Turn M)) (rest : List (List ℕ)) (f : PumpFault F) → WhyShort D.line (first_of old) there all rest f
+          → IsOut old.device new.device (text_in all ++ []) (Err f) × PumpEnds D cap old new (longer all rest) (Err f)
+      why all rest (WriteFailed count) s = (rw append-nil s, inl refl)
+      why all rest (Machine fault) (s, put, none2) =
+          ((rw append-nil (all_out (first_of old).outlet there.outlet (text_in all) put refl none2), put.sound), (inl s, refl))
+      why all rest (ReadFailed k) s = absurd s
+      why all rest TooLong s = absurd s
 
-    count : length done ≡ length turns
-    count = given_count M D.Answers 1 old.machine done turns p.given
+      pub run_stopped : (f : PumpFault F) → FallShort D.line here there (ended_lines cap (begun_line cap [] bytes) more) f
+          → ((later : List (Turn M)) → Prompt (turns ++ later)) → Done (Err f)
+      run_stopped f q prompt =
+          let s = short_then M F D.line (first_of old) here there (ended_lines cap [] bytes) turns p (ended_lines cap (begun_line cap [] bytes) more) f q in
+          let w = why s.turns s.rest f s.why in record {
+            run = longer s.turns s.rest;
+            consumed = consumes-then old.device.left mid.device.left new.device.left bytes more consumed moved;
+            turned = s.turned;
+            lines_are = ended_append cap [] bytes more ∙ s.lines_are;
+            prompt = prompt q.turns;
+            out = w.0;
+            ends = w.1;
+          }
 
-    at_end : {X : Type 0} (P : M → ℕ → X → Type 0) (x : X) → P mid.machine (1 + length done) x → P (state_after old.machine turns) (1 + length turns) x
-    at_end P x h = subst (λ (k : M). P k (1 + length turns) x) p.machine (subst (λ (n : ℕ). P mid.machine (1 + n) x) count h)
+      module _ (over : IsAtEnd mid.device.left) (none_more : more ≡ []) (prompt : Prompt turns) where
+        last_of : {X : Type 0} (P : M → ℕ → X → Type 0) (x : X) → P mid.machine row x → P (state_after old.machine turns) (1 + length turns) x
+        last_of P x h = subst (λ (k : M). P k (1 + length turns) x) p.machine (subst (λ (n : ℕ). P mid.machine n x) p.row h)
 
-    took_all : Consumes mid.left new.left [] → Consumes old.left new.left bytes
-    took_all moved = subst (Consumes old.left new.left) (append-nil bytes) (consumes-then old.left mid.left new.left bytes [] consumed moved)
+        took_all : Consumes old.device.left new.device.left bytes
+        took_all =
+            subst (Consumes old.device.left new.device.left) (rw (none_more, append-nil))
+            (consumes-then old.device.left mid.device.left new.device.left bytes more consumed moved)
 
-    abbrev Last : ℕ → M → List ℕ → Type 0
-    Last n k text = D.Ends k n (begun_line cap [] bytes) new.machine text
+        at_end : HasEnded old.device.left new.device.left
+        at_end = ended-since old.device.left mid.device.left new.device.left bytes consumed (ended mid.device.left new.device.left over (rw none_more at moved))
 
-    -- it was answered
-    pub run_ended : (rows : ℕ) → IsAtEnd mid.left → Consumes mid.left new.left [] → IsEnded D.Ends (1 + length done) mid.machine new.machine (begun_line cap [] bytes) mid.taken new.taken
-        → rows ≡ length done → Prompt turns → Run (Ok rows)
-    run_ended rows over moved q is prompt = record {
-      bytes = bytes;
-      turns = turns;
-      rest = [];
-      consumed = took_all moved;
-      given = p.given;
-      prompt = prompt;
-      ends = (
-        is ∙ count,
-        (
-          q.text,
-          record { ended = ended-since old.left mid.left new.left bytes consumed (ended mid.left new.left over moved); all = refl; last = at_end (λ (k : M) (n : ℕ). Last n k) q.text q.last },
-          appends-then old.taken mid.taken new.taken (text_in turns) q.text out q.out,
-        ),
-      );
-    }
+        abbrev with_last : List ℕ → Run M
+        with_last text = record { bytes = bytes; turns = turns; rest = []; last = text }
 
-    -- it was not
-    pub run_ends_badly : (f : PumpFault F) → IsAtEnd mid.left → Consumes mid.left new.left []
-        → FailsAtEnd D.Ends D.StopsAtEnd (1 + length done) mid.machine new.machine (begun_line cap [] bytes) a.out failed mid.taken new.taken f → Prompt turns → Run (Err f)
-    run_ends_badly (WriteFailed written) over moved q prompt = record {
-      bytes = bytes;
-      turns = turns;
-      rest = [];
-      consumed = took_all moved;
-      given = p.given;
-      prompt = prompt;
-      ends = (
-        text_in turns ++ q.text,
-        length (text_in turns) + q.stopped.count,
-        inr (
-          q.text,
-          refl,
-          record { ended = ended-since old.left mid.left new.left bytes consumed (ended mid.left new.left over moved); all = refl; last = at_end (λ (k : M) (n : ℕ). Last n k) q.text q.last },
-          omega arith,
-        ),
-        at_second 0 a.out failed old.taken mid.taken new.taken (text_in turns) q.text written q.stopped.count out told (stopped_at a.out failed mid.taken new.taken q.text written q.stopped),
-      );
-    }
-    run_ends_badly (Machine fault) over moved q prompt = record {
-      bytes = bytes;
-      turns = turns;
-      rest = [];
-      consumed = took_all moved;
-      given = p.given;
-      prompt = prompt;
-      ends = (
-        inr (record {
-          ended = ended-since old.left mid.left new.left bytes consumed (ended mid.left new.left over moved);
+        closed : (text : List ℕ) → D.last.Answers mid.machine row (begun_line cap [] bytes) new.machine text → HasClosed D cap old new (with_last text)
+        closed text h = record {
+          ended = at_end;
           all = refl;
-          stops = at_end (λ (k : M) (n : ℕ) (line : List ℕ). D.StopsAtEnd k n line new.machine fault) (begun_line cap [] bytes) q.0;
-        }),
-        subst (λ (t : Option (List ℕ)). Appends old.taken t (text_in turns)) (sym q.1) out,
-      );
-    }
-    run_ends_badly (ReadFailed k) over moved q prompt = absurd q
-    run_ends_badly TooLong over moved q prompt = absurd q
+          answer = last_of (λ (k : M) (n : ℕ) (t : List ℕ). D.last.Answers k n (begun_line cap [] bytes) new.machine t) text h;
+        }
 
-  -- more bytes came than any input has
-  pub run_too_long : (failed : Bool) (Prompt : List (Turn M) → Type 0) → 2 ^ 62 < length bytes → Prompt turns → Pumped D cap page old mid failed (Err TooLong) Prompt
-  run_too_long failed Prompt long prompt = record {
-    bytes = bytes;
-    turns = turns;
-    rest = [];
-    consumed = consumed;
-    given = p.given;
-    prompt = prompt;
-    ends = (long, record { all = refl; machine = p.machine; out = out });
-  }
+        -- what has begun of a last line was answered, at the end of the input
+        pub run_ended : (rows : ℕ) → rows + 1 ≡ row → Closed {V = ⊤} D.last here there (begun_line cap [] bytes) (Ok tt) → Done (Ok rows)
+        run_ended rows is (text, answered, put, none2) = record {
+          run = with_last text;
+          consumed = took_all;
+          turned = p.turned;
+          lines_are = all_lines;
+          prompt = prompt;
+          out = (
+            all_out (first_of old).outlet there.outlet (text_in turns ++ text)
+                (put_then (first_of old).outlet here.outlet there.outlet (text_in turns) text p.put put) refl none2,
+            put.sound ∙ p.put.sound,
+          );
+          ends = ((let e = p.row in omega arith), closed text answered);
+        }
+
+        -- it was not
+        pub run_ends_badly : (f : PumpFault F) → Closed {V = ⊤} D.last here there (begun_line cap [] bytes) (Err f) → Done (Err f)
+        run_ends_badly (WriteFailed count) (text, answered, s) = record {
+          run = with_last text;
+          consumed = took_all;
+          turned = p.turned;
+          lines_are = all_lines;
+          prompt = prompt;
+          out = put_stops (first_of old).outlet here.outlet there.outlet (text_in turns) text count p.put s;
+          ends = inr (closed text answered);
+        }
+        run_ends_badly (Machine fault) (s, same) = record {
+          run = so_far;
+          consumed = took_all;
+          turned = p.turned;
+          lines_are = all_lines;
+          prompt = prompt;
+          out = all_text (ap (λ (o : Outlet). o.taken) same) (ap (λ (o : Outlet). o.failed) same);
+          ends = (
+            inr (record {
+              ended = at_end;
+              all = refl;
+              stops = last_of (λ (k : M) (n : ℕ) (g : F). D.last.Stops k n (begun_line cap [] bytes) new.machine g) fault s;
+            }),
+            refl,
+          );
+        }
+        run_ends_badly (ReadFailed k) q = absurd q
+        run_ends_badly TooLong q = absurd q
 
 -- it goes on
-pub goes_further : (M : Type 0) (A : M → ℕ → List ℕ → M → List ℕ → Type 0) (cap row : ℕ) (m n z : M) (line bytes more : List ℕ) (turns later : List (Turn M)) (a b c : Waiting)
-    (w x y : Option (List ℕ))
-    → AreAnsweredBy A row m n (ended_lines cap line bytes) a b w x turns
-    → AreAnsweredBy A (row + length (ended_lines cap line bytes)) n z (ended_lines cap (begun_line cap line bytes) more) b c x y later
-    → AreAnsweredBy A row m z (ended_lines cap line (bytes ++ more)) a c w y (turns ++ later)
-goes_further M A cap row m n z line bytes more turns later a b c w x y p q =
-    subst (λ (l : List (List ℕ)). AreAnsweredBy A row m z l a c w y (turns ++ later)) (sym (ended_append cap line bytes more))
-    (answered_then M A ⊤ (λ _ _ _ _ _. ⊤) 0 row m n z (ended_lines cap line bytes) (ended_lines cap (begun_line cap line bytes) more) turns a b c w x y p later q)
+pub goes_further : (M F : Type 0) (D : LineRules M F) (cap : ℕ) (a b c : Progress M) (bytes more : List ℕ) (turns later : List (Turn M))
+    → AreAnswered D.line a b (ended_lines cap [] bytes) turns → AreAnswered D.line b c (ended_lines cap (begun_line cap [] bytes) more) later
+    → AreAnswered D.line a c (ended_lines cap [] (bytes ++ more)) (turns ++ later)
+goes_further M F D cap a b c bytes more turns later p q =
+    subst (λ (l : List (List ℕ)). AreAnswered D.line a c l (turns ++ later)) (sym (ended_append cap [] bytes more))
+    (answered_then M F D.line a b c (ended_lines cap [] bytes) turns p (ended_lines cap (begun_line cap [] bytes) more) later q)
+
+-- the number of the next line
+pub row_then : (M F : Type 0) (D : LineRules M F) (cap : ℕ) (a b : Progress M) (bytes : List ℕ) (turns : List (Turn M)) → AreAnswered D.line a b (ended_lines cap [] bytes) turns → a.row ≡ 1
+    → b.row ≡ 1 + length (ended_lines cap [] bytes)
+row_then M F D cap a b bytes turns p one =
+    let count : length (ended_lines cap [] bytes) ≡ length turns = ap (length {A = List ℕ}) p.lines_are ∙ lines_count M turns in
+    let row = p.row in omega arith

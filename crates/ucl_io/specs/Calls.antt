@@ -1,6 +1,5 @@
--- When a source was called for bytes, and a device as a run leaves it.
+-- When a source was called for bytes, and a source and a sink as contracts see them.
 use Rattle.std.specs.Prelude.{◌≡◌, ⊤, ℕ, ◌+◌, Bool, List, [], ◌∷◌, ◌++◌, length, All, Option, Some, IfSome}
-use Rattle.ucl_io.specs.declared.duplex.Duplex.{Duplex}
 
 -- each time was just before its call: as many calls had been made at the first, and one more at each that follows
 unfoldable pub InTurn : {T : Type 0} (count : T → ℕ) → ℕ → List T → Type 0
@@ -19,17 +18,11 @@ pub record LogsCalls {T : Type 0} (count : T → ℕ) (old new : List T) (calls 
 abbrev pub HasEnded : Option (List ℕ) → Option (List ℕ) → Type 0
 HasEnded left left2 = IfSome left (λ _. left2 ≡ Some [])
 
--- a device for both ways as a run leaves it: what its source has left and its sink has taken, where these are known, and which has failed
+-- a source and a sink at one time: what the source has left and the sink has taken, where these are known, and whether the sink has failed
 pub record Device : Type 0 where
   pub left : Option (List ℕ)
-  pub source_failed : Bool
   pub taken : Option (List ℕ)
-  pub sink_failed : Bool
+  pub failed : Bool
 
-abbrev pub device : {S W M : Type 0} → (S → Option (List ℕ)) → (S → Bool) → (W → Option (List ℕ)) → (W → Bool) → Duplex S W M → Device
-device left source_failed taken sink_failed duplex = record {
-  left = left duplex.source;
-  source_failed = source_failed duplex.source;
-  taken = taken duplex.sink;
-  sink_failed = sink_failed duplex.sink;
-}
+abbrev pub device : {S W : Type 0} → (S → Option (List ℕ)) → (W → Option (List ℕ)) → (W → Bool) → S → W → Device
+device left taken failed source sink = record { left = left source; taken = taken sink; failed = failed sink }

@@ -1,42 +1,53 @@
--- What of the answers waits to be given to a sink, and what went out.
-use Rattle.std.specs.Prelude.{◌≡◌, ℕ, ◌+◌, ◌-◌, ◌^◌, ◌≤◌, min, Bool, true, false, List, ◌++◌, length, Option, Result, Err}
+-- A sink with what waits to be given to it, and what goes out.
+use Rattle.std.specs.Prelude.{◌≡◌, ℕ, ◌+◌, ◌-◌, ◌^◌, min, Bool, true, List, ◌++◌, length, Option, Result, Ok, Err}
 use Rattle.std.specs.Io.KnownBytes.{Appends}
 use Rattle.ucl_io.specs.declared.fault.PumpFault.{PumpFault}
 use Rattle.ucl_io.specs.declared.fault.PumpFault.TheVariants.{WriteFailed}
 use Rattle.ucl_io.specs.Stream.{WroteFirst}
 
--- what is held back, and how many bytes went out before
+-- what waits, and how many bytes went out before
 pub record Waiting : Type 0 where
   pub held : List ℕ
   pub out : ℕ
 
--- whether a text is held back, after what was held: then both have at most so many bytes
-abbrev pub IsHeldBack : ℕ → Waiting → Waiting → List ℕ → Bool → Type 0
-IsHeldBack page before after text true = (after ≡ record { held = before.held ++ text; out = before.out }) × (length (before.held ++ text) ≤ page)
-IsHeldBack page before after text false = after ≡ before
+-- what waits for a sink, how many bytes went out before, what the sink has taken, where that is known, and whether it has failed
+pub record Outlet : Type 0 where
+  pub held : List ℕ
+  pub out : ℕ
+  pub taken : Option (List ℕ)
+  pub failed : Bool
 
--- a text was put after what was held: of what was held and the text a first part went out, and the rest is held
-pub record HasPut (before after : Waiting) (old new : Option (List ℕ)) (text : List ℕ) : Type 0 where
+abbrev pub outlet : {W : Type 0} → (W → Option (List ℕ)) → (W → Bool) → Waiting → W → Outlet
+outlet taken failed waiting sink = record { held = waiting.held; out = waiting.out; taken = taken sink; failed = failed sink }
+
+-- a text was put after what waited: of both a first part went out, and the rest waits
+pub record HasPut (before after : Outlet) (text : List ℕ) : Type 0 where
   pub given : List ℕ
-  pub went : Appends old new given
+  pub went : Appends before.taken after.taken given
   pub rest : given ++ after.held ≡ before.held ++ text
   pub told : after.out ≡ min (before.out + length given) (2 ^ 64 - 1)
+  pub sound : after.failed ≡ before.failed
 
--- the sink has failed: the first so many bytes of the text went out, and not all of them; others were out before, and the number of all
--- that went out is told (at most the greatest that can be told)
-pub record StoppedAt (before : ℕ) (failed : Bool) (old new : Option (List ℕ)) (text : List ℕ) (written count : ℕ) : Type 0 where
-  pub failed_is : failed ≡ true
-  pub first : WroteFirst old new count text
-  pub told : written ≡ min (before + count) (2 ^ 64 - 1)
-
--- the same, after some number of bytes
+-- the sink has failed: the first bytes of the text went out, and not all of them; others were out before, and the number of all that went out is
+-- told (at most the greatest that can be told)
 pub record StoppedShort (before : ℕ) (failed : Bool) (old new : Option (List ℕ)) (text : List ℕ) (written : ℕ) : Type 0 where
   pub failed_is : failed ≡ true
   pub count : ℕ
   pub first : WroteFirst old new count text
   pub told : written ≡ min (before + count) (2 ^ 64 - 1)
 
--- a failed write is told only where the sink has failed; else the sink is as it was in this
-abbrev pub SinkEnds : {V F : Type 0} → Bool → Bool → Result V (PumpFault F) → Type 0
-SinkEnds failed failed2 (Err (WriteFailed written)) = failed2 ≡ true
-SinkEnds failed failed2 _ = failed2 ≡ failed
+-- a text was given to a sink after so many bytes, and how many are out then is told; or the sink failed in it
+abbrev pub WritesOn : {F : Type 0} → ℕ → Bool → Bool → Option (List ℕ) → Option (List ℕ) → List ℕ → Result ℕ (PumpFault F) → Type 0
+WritesOn before failed failed2 old new text (Ok out) = Appends old new text × (out ≡ min (before + length text) (2 ^ 64 - 1)) × (failed2 ≡ failed)
+WritesOn before failed failed2 old new text (Err (WriteFailed written)) = StoppedShort before failed2 old new text written
+WritesOn before failed failed2 old new text (Err _) = ⊥
+
+-- so it was in what waited and the text after it
+abbrev pub StopsIn : Outlet → Outlet → List ℕ → ℕ → Type 0
+StopsIn before after text written = StoppedShort before.out after.failed before.taken after.taken (before.held ++ text) written
+
+-- a text was put, or the sink failed
+abbrev pub PutsOrStops : {V F : Type 0} → Outlet → Outlet → List ℕ → Result V (PumpFault F) → Type 0
+PutsOrStops before after text (Ok done) = HasPut before after text
+PutsOrStops before after text (Err (WriteFailed written)) = StopsIn before after text written
+PutsOrStops before after text (Err _) = ⊥

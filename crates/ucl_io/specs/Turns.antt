@@ -1,9 +1,43 @@
 -- What a machine answers to lines, one after the other.
-use Rattle.std.specs.Prelude.{◌≡◌, ◌⊎◌, ⊤, ℕ, ◌+◌, ◌≤◌, Bool, List, [], ◌∷◌, ◌++◌, length, Option}
-use Rattle.std.specs.Io.KnownBytes.{Appends}
+use Rattle.std.specs.Prelude.{◌≡◌, ◌⊎◌, ⊤, ℕ, ◌+◌, Bool, List, [], ◌∷◌, ◌++◌, length, Option, Result, Ok, Err}
 use Rattle.ucl_io.specs.declared.fault.PumpFault.{PumpFault}
 use Rattle.ucl_io.specs.declared.fault.PumpFault.TheVariants.{Machine, WriteFailed}
-use Rattle.ucl_io.specs.Output.{HasPut, StoppedAt, StoppedShort, Waiting}
+use Rattle.ucl_io.specs.Output.{HasPut, Outlet, StopsIn, Waiting, outlet}
+
+-- what a machine does with a line of this number: it answers it and is another then, or has no answer
+pub record Rules (M F : Type 0) : Type 1 where
+  pub Answers : M → ℕ → List ℕ → M → List ℕ → Type 0
+  pub Stops : M → ℕ → List ℕ → M → F → Type 0
+
+abbrev pub rules : {M F : Type 0} → (M → ℕ → List ℕ → M → List ℕ → Type 0) → (M → ℕ → List ℕ → M → F → Type 0) → Rules M F
+rules answers stops = record { Answers = answers; Stops = stops }
+
+-- between two lines: the number of the next, the machine, and the sink with the answers that wait
+pub record Progress (M : Type 0) : Type 0 where
+  pub row : ℕ
+  pub machine : M
+  pub outlet : Outlet
+
+abbrev pub progress : {W M : Type 0} → (W → Option (List ℕ)) → (W → Bool) → ℕ → M → Waiting → W → Progress M
+progress taken failed row machine waiting sink = record { row = row; machine = machine; outlet = outlet taken failed waiting sink }
+
+-- a line was answered, and the answer was put; or the sink failed, in this answer or in those that waited; or the machine has no answer, and
+-- nothing waits
+abbrev pub Turned : {V M F : Type 0} → Rules M F → Progress M → Progress M → List ℕ → Result V (PumpFault F) → Type 0
+Turned R a b line (Ok done) = (text : List ℕ) × R.Answers a.machine a.row line b.machine text × HasPut a.outlet b.outlet text
+Turned R a b line (Err (WriteFailed written)) =
+    ((text : List ℕ) × R.Answers a.machine a.row line b.machine text × StopsIn a.outlet b.outlet text written) ⊎ StopsIn a.outlet b.outlet [] written
+Turned R a b line (Err (Machine fault)) = R.Stops a.machine a.row line b.machine fault × HasPut a.outlet b.outlet [] × (b.outlet.held ≡ [])
+Turned R a b line (Err _) = ⊥
+
+-- the same of what has begun of a last line: once it was answered, nothing waits; where the machine has no answer, what waits still does
+abbrev pub Closed : {V M F : Type 0} → Rules M F → Progress M → Progress M → List ℕ → Result V (PumpFault F) → Type 0
+Closed R a b line (Ok done) = (text : List ℕ) × R.Answers a.machine a.row line b.machine text × HasPut a.outlet b.outlet text × (b.outlet.held ≡ [])
+Closed R a b line (Err (WriteFailed written)) = (text : List ℕ) × R.Answers a.machine a.row line b.machine text × StopsIn a.outlet b.outlet text written
+Closed R a b line (Err (Machine fault)) = R.Stops a.machine a.row line b.machine fault × (b.outlet ≡ a.outlet)
+Closed R a b line (Err _) = ⊥
+
+-- ---- several lines
 
 -- a line, its answer, and the machine then
 pub record Turn (M : Type 0) : Type 0 where
@@ -28,39 +62,13 @@ unfoldable pub AreTurns : {M : Type 0} → (M → ℕ → List ℕ → M → Lis
 AreTurns Answers row m [] = ⊤
 AreTurns Answers row m (t ∷ turns) = Answers m row t.line t.after t.text × AreTurns Answers (row + 1) t.after turns
 
--- of these lines the first were answered by these turns, and the rest were not
-pub record AreGiven {M : Type 0} (Answers : M → ℕ → List ℕ → M → List ℕ → Type 0) (row : ℕ) (m : M) (lines : List (List ℕ)) (turns : List (Turn M)) (rest : List (List ℕ)) : Type 0 where
-  pub turned : AreTurns Answers row m turns
-  pub lines_are : lines ≡ lines_in turns ++ rest
-
--- a machine, m before and m2 after, has answered the lines by these turns, and the answers were put
-pub record AreAnsweredBy {M : Type 0} (Answers : M → ℕ → List ℕ → M → List ℕ → Type 0) (row : ℕ) (m m2 : M) (lines : List (List ℕ)) (before after : Waiting) (old new : Option (List ℕ))
-    (turns : List (Turn M)) : Type 0 where
-  pub given : AreGiven Answers row m lines turns []
-  pub machine : m2 ≡ state_after m turns
-  pub put : HasPut before after old new (text_in turns)
-
-abbrev pub AreAnswered : {M : Type 0} → (M → ℕ → List ℕ → M → List ℕ → Type 0) → ℕ → M → M → List (List ℕ) → Waiting → Waiting → Option (List ℕ) → Option (List ℕ) → Type 0
-AreAnswered {M} Answers row m m2 lines before after old new = (turns : List (Turn M)) × AreAnsweredBy Answers row m m2 lines before after old new turns
-
--- this was held when a machine began to answer, and the sink failed after so many bytes: of the answers before the last one all are out, but
--- so many bytes as a page may hold
-pub record KeptBack {M : Type 0} (page : ℕ) (held : List ℕ) (turns : List (Turn M)) (count : ℕ) : Type 0 where
-  pub before : List (Turn M)
-  pub last : Turn M
-  pub in_last : turns ≡ before ++ last ∷ []
-  pub most : length (held ++ text_in before) ≤ count + page
-
--- the sink failed in the answers to some first lines, and no other line was given to the machine
-pub record AnswersStop {M : Type 0} (Answers : M → ℕ → List ℕ → M → List ℕ → Type 0) (page row : ℕ) (m m2 : M) (lines : List (List ℕ)) (before : Waiting) (failed : Bool)
-    (old new : Option (List ℕ)) (written : ℕ) : Type 0 where
-  pub turns : List (Turn M)
-  pub rest : List (List ℕ)
-  pub given : AreGiven Answers row m lines turns rest
-  pub machine : m2 ≡ state_after m turns
-  pub count : ℕ
-  pub stopped : StoppedAt before.out failed old new (before.held ++ text_in turns) written count
-  pub kept : KeptBack page before.held turns count
+-- the lines were answered by these turns, and the answers were put
+pub record AreAnswered {M F : Type 0} (R : Rules M F) (a b : Progress M) (lines : List (List ℕ)) (turns : List (Turn M)) : Type 0 where
+  pub turned : AreTurns R.Answers a.row a.machine turns
+  pub lines_are : lines ≡ lines_in turns
+  pub row : b.row ≡ a.row + length turns
+  pub machine : b.machine ≡ state_after a.machine turns
+  pub put : HasPut a.outlet b.outlet (text_in turns)
 
 -- the machine has no answer to the first of the rest, and is m2 then
 pub record StopsNext {M F : Type 0} (Stops : M → ℕ → List ℕ → M → F → Type 0) (row : ℕ) (m m2 : M) (turns : List (Turn M)) (rest : List (List ℕ)) (fault : F) : Type 0 where
@@ -69,70 +77,23 @@ pub record StopsNext {M F : Type 0} (Stops : M → ℕ → List ℕ → M → F 
   pub next : rest ≡ line ∷ later
   pub stops : Stops (state_after m turns) (row + length turns) line m2 fault
 
--- so it was with a line; those before it were answered, whole
-pub record LineStops {M F : Type 0} (Answers : M → ℕ → List ℕ → M → List ℕ → Type 0) (Stops : M → ℕ → List ℕ → M → F → Type 0) (row : ℕ) (m m2 : M) (lines : List (List ℕ)) (before after : Waiting)
-    (old new : Option (List ℕ)) (fault : F) : Type 0 where
+-- why no more lines were answered than by these turns: the sink failed in their answers; or those were put, and the machine has no answer to the
+-- first of the rest
+abbrev pub WhyShort : {M F : Type 0} → Rules M F → Progress M → Progress M → List (Turn M) → List (List ℕ) → PumpFault F → Type 0
+WhyShort R a b turns rest (WriteFailed written) = StopsIn a.outlet b.outlet (text_in turns) written
+WhyShort R a b turns rest (Machine fault) =
+    StopsNext R.Stops a.row a.machine b.machine turns rest fault × HasPut a.outlet b.outlet (text_in turns) × (b.outlet.held ≡ [])
+WhyShort R a b turns rest _ = ⊥
+
+-- the first of the lines were answered, and the rest were not
+pub record FallShort {M F : Type 0} (R : Rules M F) (a b : Progress M) (lines : List (List ℕ)) (fault : PumpFault F) : Type 0 where
   pub turns : List (Turn M)
   pub rest : List (List ℕ)
-  pub given : AreGiven Answers row m lines turns rest
-  pub stops : StopsNext Stops row m m2 turns rest fault
-  pub put : HasPut before after old new (text_in turns)
+  pub turned : AreTurns R.Answers a.row a.machine turns
+  pub lines_are : lines ≡ lines_in turns ++ rest
+  pub why : WhyShort R a b turns rest fault
 
-abbrev pub FailsToAnswer : {M F : Type 0} → (M → ℕ → List ℕ → M → List ℕ → Type 0) → (M → ℕ → List ℕ → M → F → Type 0) → ℕ → ℕ → M → M → List (List ℕ) → Waiting → Waiting
-    → Bool → Option (List ℕ) → Option (List ℕ) → PumpFault F → Type 0
-FailsToAnswer Answers Stops page row m m2 lines before after failed old new (WriteFailed written) = AnswersStop Answers page row m m2 lines before failed old new written
-FailsToAnswer Answers Stops page row m m2 lines before after failed old new (Machine fault) = LineStops Answers Stops row m m2 lines before after old new fault
-FailsToAnswer Answers Stops page row m m2 lines before after failed old new _ = ⊥
-
--- ---- the same once the answers were given to the sink
-
--- the machine is as the turns left it; or answers may wait, and it has no answer to the next line
-abbrev pub IsLeft : {M F : Type 0} → (M → ℕ → List ℕ → M → F → Type 0) → ℕ → ℕ → M → M → List (Turn M) → List (List ℕ) → Type 0
-IsLeft {M} {F} Stops page row m m2 turns rest = (m2 ≡ state_after m turns) ⊎ ((1 ≤ page) × ((fault : F) × StopsNext Stops row m m2 turns rest fault))
-
-pub record GivesShort {M F : Type 0} (Answers : M → ℕ → List ℕ → M → List ℕ → Type 0) (Stops : M → ℕ → List ℕ → M → F → Type 0) (page row : ℕ) (m m2 : M) (lines : List (List ℕ)) (out : ℕ)
-    (failed : Bool) (old new : Option (List ℕ)) (written : ℕ) : Type 0 where
-  pub turns : List (Turn M)
-  pub rest : List (List ℕ)
-  pub given : AreGiven Answers row m lines turns rest
-  pub left : IsLeft Stops page row m m2 turns rest
-  pub count : ℕ
-  pub stopped : StoppedAt out failed old new (text_in turns) written count
-  pub kept : KeptBack page [] turns count
-
-pub record GivesUp {M F : Type 0} (Answers : M → ℕ → List ℕ → M → List ℕ → Type 0) (Stops : M → ℕ → List ℕ → M → F → Type 0) (row : ℕ) (m m2 : M) (lines : List (List ℕ))
-    (old new : Option (List ℕ)) (fault : F) : Type 0 where
-  pub turns : List (Turn M)
-  pub rest : List (List ℕ)
-  pub given : AreGiven Answers row m lines turns rest
-  pub stops : StopsNext Stops row m m2 turns rest fault
-  pub out : Appends old new (text_in turns)
-
-abbrev pub FailsInBytes : {M F : Type 0} → (M → ℕ → List ℕ → M → List ℕ → Type 0) → (M → ℕ → List ℕ → M → F → Type 0) → ℕ → ℕ → M → M → List (List ℕ) → ℕ
-    → Bool → Option (List ℕ) → Option (List ℕ) → PumpFault F → Type 0
-FailsInBytes Answers Stops page row m m2 lines out failed old new (WriteFailed written) = GivesShort Answers Stops page row m m2 lines out failed old new written
-FailsInBytes Answers Stops page row m m2 lines out failed old new (Machine fault) = GivesUp Answers Stops row m m2 lines old new fault
-FailsInBytes Answers Stops page row m m2 lines out failed old new _ = ⊥
-
--- ---- what has begun of a last line
-
-pub record IsEnded {M : Type 0} (Ends : M → ℕ → List ℕ → M → List ℕ → Type 0) (row : ℕ) (m m2 : M) (begun : List ℕ) (old new : Option (List ℕ)) : Type 0 where
-  pub text : List ℕ
-  pub last : Ends m row begun m2 text
-  pub out : Appends old new text
-
-pub record EndStops {M : Type 0} (Ends : M → ℕ → List ℕ → M → List ℕ → Type 0) (row : ℕ) (m m2 : M) (begun : List ℕ) (out : ℕ) (failed : Bool) (old new : Option (List ℕ)) (written : ℕ) : Type 0 where
-  pub text : List ℕ
-  pub last : Ends m row begun m2 text
-  pub stopped : StoppedShort out failed old new text written
-
-abbrev pub FailsAtEnd : {M F : Type 0} → (M → ℕ → List ℕ → M → List ℕ → Type 0) → (M → ℕ → List ℕ → M → F → Type 0) → ℕ → M → M → List ℕ → ℕ
-    → Bool → Option (List ℕ) → Option (List ℕ) → PumpFault F → Type 0
-FailsAtEnd Ends Stops row m m2 begun out failed old new (WriteFailed written) = EndStops Ends row m m2 begun out failed old new written
-FailsAtEnd Ends Stops row m m2 begun out failed old new (Machine fault) = Stops m row begun m2 fault × (new ≡ old)
-FailsAtEnd Ends Stops row m m2 begun out failed old new _ = ⊥
-
--- a text was not put after what waited
-abbrev pub IsPutShort : {F : Type 0} → Waiting → Bool → Option (List ℕ) → Option (List ℕ) → List ℕ → PumpFault F → Type 0
-IsPutShort before failed old new text (WriteFailed written) = StoppedShort before.out failed old new (before.held ++ text) written
-IsPutShort before failed old new text _ = ⊥
+-- all lines were answered and nothing waits, or some were not
+abbrev pub Answered : {V M F : Type 0} → Rules M F → Progress M → Progress M → List (List ℕ) → Result V (PumpFault F) → Type 0
+Answered {M = M} R a b lines (Ok done) = (turns : List (Turn M)) × AreAnswered R a b lines turns × (b.outlet.held ≡ [])
+Answered R a b lines (Err fault) = FallShort R a b lines fault

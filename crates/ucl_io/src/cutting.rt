@@ -6,7 +6,7 @@ ghost use Rattle.ucl_io.specs.Lines.{HasNoFeed, BeginsWithLine};
 use arrayvec::ArrayVec;
 
 /// The most bytes of a line that can be kept.
-pub const MOST_LINE_BYTES: usize = 4097;
+pub const MOST_KEPT_BYTES: usize = 4097;
 
 /// The first line of a text, without its line feed, where it has ended.
 pub fn first_line(text: &[u8]) -> Option<&[u8]>
@@ -33,7 +33,7 @@ pub(crate) fn at_most(text: &[u8], most: usize) -> &[u8]
 }
 
 /// Puts bytes to what is kept of a line, of which at most so many bytes are kept.
-pub(crate) fn keep(line: &mut ArrayVec<u8, MOST_LINE_BYTES>, cap: usize, bytes: &[u8])
+pub(crate) fn keep(line: &mut ArrayVec<u8, MOST_KEPT_BYTES>, cap: usize, bytes: &[u8])
     requires cap { cap ≤ 4097 }
     requires short { length line.old.items ≤ cap }
     ensures { line.new.items ≡ take cap (line.old.items ++ bytes.now) }

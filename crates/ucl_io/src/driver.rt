@@ -2,7 +2,6 @@
 
 ghost use Rattle.std.specs.Prelude.{◌≡◌, ◌≤◌};
 ghost use Rattle.ucl_io.specs.Calls.{LogsCalls};
-ghost use Rattle.ucl_io.specs.Output.{SinkEnds};
 ghost use Rattle.ucl_io.specs.Pumping.{IsPromptAt, Pumped, rules_of, is_source_failed, seen};
 
 use crate::duplex::Duplex;
@@ -20,8 +19,7 @@ const MOST_READ: usize = 0x4000_0000_0000_0000;
 /// Answers the lines of a source until it ends: each before more is asked for. Says how many lines had an end.
 ///
 /// Of a line `cap` bytes are kept, and what comes after them is passed over. A machine that tells long lines apart takes one byte more
-/// than a line may have. Answers are gathered as long as they have at most `page` bytes, and at most 4,096: where it is 0, each is put
-/// before the next line is given to the machine.
+/// than a line may have. Answers to lines that came together are gathered, at most 4,096 bytes of them.
 ///
 /// # Errors
 ///
@@ -30,7 +28,6 @@ const MOST_READ: usize = 0x4000_0000_0000_0000;
 pub fn pump<S: Source, W: Sink, M: LineMachine>(
     machine: &mut M,
     cap: usize,
-    page: usize,
     duplex: &mut Duplex<S, W, M>,
 ) -> Result<u64, PumpFault<M::Fault>>
     requires ready { M.ready machine.old }
@@ -39,20 +36,19 @@ pub fn pump<S: Source, W: Sink, M: LineMachine>(
 
     // Which bytes it took, which lines the machine answered and how, what is out, and how it ended. Just before each call for bytes, also
     // in a run that failed, the answers to all lines that had an end by then were out, and nothing else.
-    ensures pumped { Pumped (rules_of M.answers M.stops M.ends M.stops_at_end) cap page
-        (seen S.left W.taken (duplex.old.source, duplex.old.sink, machine.old))
-        (seen S.left W.taken (duplex.new.source, duplex.new.sink, machine.new))
-        (W.failed duplex.new.sink) result
+    ensures pumped { Pumped (rules_of M.answers M.stops M.ends M.stops_at_end) cap
+        (seen S.left W.taken W.failed (duplex.old.source, duplex.old.sink, machine.old))
+        (seen S.left W.taken W.failed (duplex.new.source, duplex.new.sink, machine.new))
+        result
         (λ turns. LogsCalls (λ time. S.calls time.0)
         duplex.old.log.times duplex.new.log.times
         (S.calls duplex.old.source) (S.calls duplex.new.source)
         (λ time. IsPromptAt cap
-        (seen S.left W.taken (duplex.old.source, duplex.old.sink, machine.old))
-        (seen S.left W.taken time) turns)) }
+        (seen S.left W.taken W.failed (duplex.old.source, duplex.old.sink, machine.old))
+        (seen S.left W.taken W.failed time) turns)) }
 
-    // A failed read is answered exactly where the source has failed, and a failed write where the sink has.
+    // A failed read is answered exactly where the source has failed.
     ensures read_failed { S.failed duplex.new.source ≡ is_source_failed result }
-    ensures sink { SinkEnds (W.failed duplex.old.sink) (W.failed duplex.new.sink) result }
 {
     let mut lines = Lines::new();
     let mut text = M::Answer::new();
@@ -65,11 +61,11 @@ pub fn pump<S: Source, W: Sink, M: LineMachine>(
         match duplex.take(machine, &mut piece) {
             None => return Err(PumpFault::ReadFailed { bytes: read }),
             Some(0) => {
-                lines.end(machine, page, &mut text, &mut duplex.sink)?;
+                lines.end(machine, &mut text, &mut duplex.sink)?;
                 return Ok(lines.row - 1);
             }
             Some(n) => {
-                lines.enter(machine, cap, page, &piece[..n], &mut text, &mut duplex.sink)?;
+                lines.enter(machine, cap, &piece[..n], &mut text, &mut duplex.sink)?;
                 read += n;
             }
         }

@@ -15,7 +15,7 @@ mod stream;
 mod tally;
 mod transfer;
 
-pub use cutting::{MOST_LINE_BYTES, first_line};
+pub use cutting::{MOST_KEPT_BYTES, first_line};
 pub use devices::{FromRead, ToWrite};
 pub use driver::pump;
 pub use duplex::Duplex;

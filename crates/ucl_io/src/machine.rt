@@ -1,26 +1,18 @@
 //! What answers lines.
 
-ghost use Rattle.std.specs.Prelude.{◌≡◌, ◌++◌, ℕ, List, IfErr, OnOk};
+ghost use Rattle.std.specs.Prelude.{◌≡◌, ℕ, List, IfErr, OnOk};
 
-/// What can be written: a text in two parts, so that two that were made apart need not be copied together. There is one for a whole run, into
-/// which each answer is put.
+/// A text that can be written. There is one for a whole run, into which each answer is put.
 pub trait Text {
     // Its bytes.
     ghost bytes: { Self → List ℕ };
 
-    // The first of them.
-    ghost front: { Self → List ℕ };
-
     /// Room for the answers of a run.
     fn new() -> Self;
 
-    /// The first part of its bytes, which may be all.
-    fn front(&self) -> &[u8]
-        ensures { result.now ≡ front self.now };
-
-    /// The rest of its bytes.
-    fn back(&self) -> &[u8]
-        ensures { bytes self.now ≡ front self.now ++ result.now };
+    /// Its bytes.
+    fn text(&self) -> &[u8]
+        ensures { result.now ≡ bytes self.now };
 }
 
 /// What answers lines, one after the other. It is given no device: who gives it a line writes its answer.

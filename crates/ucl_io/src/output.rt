@@ -1,15 +1,16 @@
 //! Text that is gathered before it is given to a sink.
 
-ghost use Rattle.std.specs.Prelude.{◌≡◌, ◌-◌, ◌^◌, ◌+◌, ◌≤◌, [], ◌++◌, length, min, IfErr, IfOk, OnOk};
+ghost use Rattle.std.specs.Prelude.{◌≡◌, ◌-◌, ◌^◌, ◌+◌, ◌≤◌, [], ◌++◌, length, min, true, false, IfOk, OnOk};
 ghost use Rattle.std.specs.Io.KnownBytes.{Appends};
-ghost use Rattle.ucl_io.specs.Output.{IsHeldBack, HasPut, StoppedShort};
+ghost use Rattle.ucl_io.specs.Output.{PutsOrStops, Waiting, WritesOn, outlet};
 
+use crate::fault::PumpFault;
 use crate::stream::Sink;
 use crate::transfer::give_all;
 use arrayvec::ArrayVec;
 use std::marker::Model;
 
-/// The most bytes that can be gathered.
+/// The most bytes that are gathered.
 const PAGE: usize = 4096;
 
 /// A page of text that waits to be given to a sink, and how many bytes went out. A number past `usize::MAX` is told as that.
@@ -28,16 +29,15 @@ impl Model for Output {
 }
 
 /// Gives bytes to a sink after so many, and says how many are out then, also where it fails.
-fn put_bytes<W: Sink>(sink: &mut W, out: usize, bytes: &[u8]) -> Result<usize, usize>
-    ensures all { OnOk result (Appends (W.taken sink.old) (W.taken sink.new) bytes.now) }
-    ensures count { IfOk result (λ after. after ≡ min (out + length bytes.now) (2 ^ 64 - 1)) }
-    ensures part { IfErr result
-        (StoppedShort out (W.failed sink.new) (W.taken sink.old) (W.taken sink.new) bytes.now) }
-    ensures sound { OnOk result (W.failed sink.new ≡ W.failed sink.old) }
+fn put_bytes<W: Sink, F>(sink: &mut W, out: usize, bytes: &[u8]) -> Result<usize, PumpFault<F>>
+    ensures { WritesOn out (W.failed sink.old) (W.failed sink.new)
+        (W.taken sink.old) (W.taken sink.new) bytes.now result }
 {
     match give_all(sink, bytes) {
         Ok(()) => Ok(out.saturating_add(bytes.len())),
-        Err(more) => Err(out.saturating_add(more)),
+        Err(more) => Err(PumpFault::WriteFailed {
+            written: out.saturating_add(more),
+        }),
     }
 }
 
@@ -61,80 +61,39 @@ impl Output {
     }
 
     /// Gives to the sink what waits.
-    pub(crate) fn flush<W: Sink>(&mut self, sink: &mut W) -> Result<(), usize>
-        ensures put { OnOk result
-            (HasPut self.old self.new (W.taken sink.old) (W.taken sink.new) []) }
+    pub(crate) fn flush<W: Sink, F>(&mut self, sink: &mut W) -> Result<(), PumpFault<F>>
+        ensures put { PutsOrStops (outlet W.taken W.failed self.old sink.old)
+            (outlet W.taken W.failed self.new sink.new) [] result }
         ensures empty { OnOk result (self.new.held ≡ []) }
-        ensures no_more { length self.new.held ≤ length self.old.held }
-        ensures stopped { IfErr result (StoppedShort self.old.out (W.failed sink.new)
-            (W.taken sink.old) (W.taken sink.new) self.old.held) }
-        ensures sound { OnOk result (W.failed sink.new ≡ W.failed sink.old) }
     {
         self.out = put_bytes(sink, self.out, self.held.as_slice())?;
         self.held.clear();
         Ok(())
     }
 
-    /// Holds a text back, after what waits, where both have at most so many bytes. Says whether it does.
-    fn hold(&mut self, page: usize, text: &[u8]) -> bool
-        requires { length self.old.held ≤ page }
-        ensures { IsHeldBack page self.old self.new text.now result }
+    /// Holds a text back, after what waits, where there is room for both. Says whether it does.
+    fn hold(&mut self, text: &[u8]) -> bool
+        ensures held { result ≡ true → self.new
+            ≡ record { held = self.old.held ++ text.now; out = self.old.out } }
+        ensures not { result ≡ false → self.new ≡ self.old }
     {
-        if text.len() > page - self.held.len() {
-            return false;
-        }
         match self.held.try_extend_from_slice(text) {
             Ok(()) => true,
             Err(_) => false,
         }
     }
 
-    /// Puts a text after what waits. Where both have more bytes than may wait, both are given to the sink.
-    #[tactic(auto, using(crate::proofs::Puts::put_held, crate::proofs::Puts::put_given, crate::proofs::Puts::put_then, crate::proofs::Puts::put_stopped))]
-    pub(crate) fn put<W: Sink>(
-        &mut self,
-        page: usize,
-        sink: &mut W,
-        text: &[u8],
-    ) -> Result<(), usize>
-        requires { length self.old.held ≤ page }
-        ensures few { length self.new.held ≤ page }
-        ensures put { OnOk result
-            (HasPut self.old self.new (W.taken sink.old) (W.taken sink.new) text.now) }
-        ensures stopped { IfErr result (StoppedShort self.old.out (W.failed sink.new)
-            (W.taken sink.old) (W.taken sink.new) (self.old.held ++ text.now)) }
-        ensures sound { OnOk result (W.failed sink.new ≡ W.failed sink.old) }
+    /// Puts a text after what waits. Where there is no room for both, both are given to the sink.
+    pub(crate) fn put<W: Sink, F>(&mut self, sink: &mut W, text: &[u8]) -> Result<(), PumpFault<F>>
+        ensures { PutsOrStops (outlet W.taken W.failed self.old sink.old)
+            (outlet W.taken W.failed self.new sink.new) text.now result }
     {
         let _written = self.written();
-        if self.hold(page, text) {
+        if self.hold(text) {
             return Ok(());
         }
         self.flush(sink)?;
         self.out = put_bytes(sink, self.out, text)?;
         Ok(())
-    }
-
-    /// Puts two texts, one after the other. The second, which most answers do not have, may be empty.
-    #[tactic(auto, using(crate::proofs::Puts::put_then, crate::proofs::Puts::put_stopped, crate::proofs::Puts::stopped_before))]
-    pub(crate) fn put_both<W: Sink>(
-        &mut self,
-        page: usize,
-        sink: &mut W,
-        text: &[u8],
-        more: &[u8],
-    ) -> Result<(), usize>
-        requires { length self.old.held ≤ page }
-        ensures few { length self.new.held ≤ page }
-        ensures put { OnOk result (HasPut self.old self.new
-            (W.taken sink.old) (W.taken sink.new) (text.now ++ more.now)) }
-        ensures stopped { IfErr result (StoppedShort self.old.out (W.failed sink.new)
-            (W.taken sink.old) (W.taken sink.new) (self.old.held ++ (text.now ++ more.now))) }
-        ensures sound { OnOk result (W.failed sink.new ≡ W.failed sink.old) }
-    {
-        self.put(page, sink, text)?;
-        if more.is_empty() {
-            return Ok(());
-        }
-        self.put(page, sink, more)
     }
 }

@@ -1,5 +1,5 @@
 -- What the members of a value tell.
-use Rattle.std.proofs.Common.{◌≡◌, ◌∙◌, ℕ, suc, ◌+◌, ◌<◌, ◌≤◌, ◌&&◌, ◌==◌, Bool, cond, true, false, refl, sym, ap, arith, List, [], ◌∷◌, ◌++◌, codes, length, take, drop}
+use Rattle.std.proofs.Common.{◌≡◌, ◌∙◌, ℕ, suc, ◌+◌, ◌<◌, ◌≤◌, ◌&&◌, ◌==◌, Bool, cond, true, false, refl, sym, ap, arith, List, [], ◌∷◌, ◌++◌, length, take, drop}
 use Rattle.std.proofs.Common.{get_or, append_assoc, Option, Some, None, le-leb, inl, inr}
 use Rattle.std.specs.Prelude.{nat_le, map, option_and_then}
 use Rattle.std.specs.Str.{is_utf8}

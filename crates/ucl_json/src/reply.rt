@@ -139,27 +139,44 @@ fn refused_value(
     }
 }
 
-/// The line of the reply to an event, with the row as it was read, and the board after the event. Where the event was entered, the line stands
-/// for itself: the title, the clubs and the words of that board are in it. Where it is stale, its match as it stands is in it.
+/// What an event came to: its row, the reply, and the board after it.
+#[derive(Drop)]
+pub struct Reply<'r> {
+    /// The number of its row.
+    pub row: u64,
+    /// The event, as its row asks for it.
+    pub event: &'r NightEvent,
+    /// The reply.
+    pub outcome: Result<Accepted, Refusal>,
+    /// What the board is told under.
+    pub title: Title,
+    /// The board after the event.
+    pub board: &'r Board,
+    /// Its clubs.
+    pub roster: &'r Roster,
+}
+
+/// The line of the reply to an event. Where the event was entered, the line stands for itself: the title, the clubs and the words of the board after
+/// it are in it. Where it is stale, its match as it stands is in it.
 ///
 /// # Errors
 ///
 /// Where there is no memory.
-pub fn reply_json(
-    alloc: Global,
-    row: u64,
-    event: &NightEvent,
-    reply: Result<Accepted, Refusal>,
-    board: &Board,
-    roster: &Roster,
-    title: Title,
-) -> Result<String, AllocError>
-    requires { IsGroup title.group }
-    ensures { IfOk result (λ line.
-        IsLineOf (reply_value row event.now reply title board.now roster.now)
+pub fn reply_json(alloc: Global, reply: &Reply<'_>) -> Result<String, AllocError>
+    requires { IsGroup reply.now.title.group }
+    ensures { IfOk result (λ line. IsLineOf (reply_value reply.now.row reply.now.event.now
+        reply.now.outcome reply.now.title reply.now.board.now reply.now.roster.now)
         (string_bytes line)) }
 {
-    let value = match reply {
+    let Reply {
+        row,
+        event,
+        outcome,
+        title,
+        board,
+        roster,
+    } = *reply;
+    let value = match outcome {
         Ok(accepted) => accepted_value(alloc, row, event, accepted.number, board, roster, title)?,
         Err(refusal) => refused_value(alloc, row, event, refusal, &board.game(event.call.game))?,
     };

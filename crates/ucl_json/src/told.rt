@@ -1,6 +1,6 @@
 //! The moment that a line tells.
 
-ghost use Rattle.std.specs.Prelude.{◌≡◌, ◌<◌, ◌≤◌, Some, IfOk, IfSome, length, map, option_map};
+ghost use Rattle.std.specs.Prelude.{◌≡◌, ◌<◌, ◌≤◌, Some, IfErr, IfOk, IfSome, length, map, option_map};
 ghost use Rattle.serde_json.specs.View.{items_view, view};
 ghost use Rattle.ucl_order.specs.Roster.{bad_slot, club_lent};
 ghost use Rattle.ucl_screen.specs.Screen.{IsGroup};
@@ -203,6 +203,7 @@ fn moment_in(value: &Value) -> Option<Moment>
 /// The moment that a line tells, where it tells one: of JSON, of at most 4,096 bytes, with the members of a moment. The error is want of memory.
 pub fn moment_on(alloc: Global, line: &[u8]) -> Result<Option<Moment>, AllocError>
     ensures told { IfOk result (λ moment. moment ≡ moment_on line.now) }
+    ensures memory { IfErr result (λ _. length line.now ≤ 4096) }
     ensures letter { IfOk result (λ told. IfSome told (λ moment. IsGroup moment.title.group)) }
 {
     if line.len() > MOST_ANSWER_BYTES {

@@ -9,7 +9,7 @@ use ucl_command::words_of;
 pub use ucl_command::{Line, LineFault, line_of};
 pub use ucl_rows::{RunFault, status_of};
 pub use ucl_runs::{
-    Gate, NightEnd, OpenGate, feed_run, night_run, obey, put_night, run, schedule_does_not_matter,
+    Gate, NightEnd, OpenGate, feed_run, night_run, put_night, run, schedule_does_not_matter,
     show_run,
 };
 use ucl_screen::{FromRead, ToWrite};

@@ -1,10 +1,10 @@
 -- The fields of a row, and the rows of a line.
-use Rattle.ucl_rows.proofs.Common.{Bool, FourFields, IsBehindEnds, List, None, Option, Read, RowAction, RowState, Some, StartField, State}
+use Rattle.ucl_rows.proofs.Common.{Bool, IsBehindEnds, List, None, Option, Read, RowAction, RowState, Some, StartField, State}
 use Rattle.ucl_rows.proofs.Common.{[], after_action, ap, arith, begins_row, csv_state_of, default_config, drop, drop-length, drop_more}
 use Rattle.ucl_rows.proofs.Common.{ends_at_end, false, get_or, inl, inr, length, made, nat_tests, records, refl, step, suc, sym, take}
 use Rattle.ucl_rows.proofs.Common.{take_all, true, ℕ, ◌++◌, ◌+◌, ◌-◌, ◌<◌, ◌==◌, ◌∙◌, ◌∷◌, ◌≡◌, ◌≤◌}
 use Rattle.csv.specs.Machine.{next_record}
-use Rattle.csv.specs.Records.{Rising, cut_from, field_at, last_end}
+use Rattle.csv.specs.Records.{Rising, cut_from, last_end}
 use Rattle.csv.proofs.RecordFacts.{last-append, rising-last}
 use Rattle.std.proofs.lemmas.List.{drop-append-le, drop_all, length-drop}
 use Rattle.ucl_screen.specs.Rows.{Fields as Row, rows_from}

@@ -11,10 +11,20 @@ use Rattle.ucl_rows.specs.Telling.{Tells, fault_line}
 use Rattle.ucl_command.specs.declared.fault.LineFault.{LineFault}
 use Rattle.ucl_command.specs.declared.fault.LineFault.TheVariants as words
 
+-- how a program ended: its exit status, and the sink on which it tells faults, before and after
+pub record Ended : Type 0 where
+  pub code : ℕ
+  pub failed : Bool
+  pub old : Option (List ℕ)
+  pub new : Option (List ℕ)
+
+abbrev pub ended_with : {E : Type 0} → (E → Bool) → (E → Option (List ℕ)) → ℕ → E → E → Ended
+ended_with failed taken code old new = record { code = code; failed = failed new; old = taken old; new = taken new }
+
 -- status 0 and nothing is told; or the line of the fault is told, and its status
-abbrev pub Ends : Result ⊤ RunFault → ℕ → Bool → Option (List ℕ) → Option (List ℕ) → Type 0
-Ends (Ok done) code failed old new = (code ≡ 0) × (new ≡ old)
-Ends (Err fault) code failed old new = (code ≡ status fault) × Tells failed old new (fault_line fault)
+abbrev pub Ends : Result ⊤ RunFault → Ended → Type 0
+Ends (Ok done) e = (e.code ≡ 0) × (e.new ≡ e.old)
+Ends (Err fault) e = (e.code ≡ status fault) × Tells e.failed e.old e.new (fault_line fault)
 
 -- a text was written whole, or has the fault r
 pub record WritesText (text : List ℕ) (failed : Bool) (old new : Option (List ℕ)) (r : Result ⊤ RunFault) : Type 0 where
@@ -24,13 +34,13 @@ pub record WritesText (text : List ℕ) (failed : Bool) (old new : Option (List 
 -- what a program does whose words name nothing to do: help is written on its output, a refusal is told as it is, and want of memory by its
 -- line. Of the output it is known whether it has failed, and what it took
 module _ {W : Type 0} (failed_of : W → Bool) (taken_of : W → Option (List ℕ)) where
-  abbrev pub EndsUnasked : LineFault → W → W → ℕ → Bool → Option (List ℕ) → Option (List ℕ) → Type 0
-  EndsUnasked (words.Help text) before after code failed old new =
-      (r : Result ⊤ RunFault) × WritesText (string_bytes text) (failed_of after) (taken_of before) (taken_of after) r × Ends r code failed old new
-  EndsUnasked (words.Refused text) before after code failed old new = (after ≡ before) × (code ≡ 2) × Tells failed old new (string_bytes text)
-  EndsUnasked words.OutOfMemory before after code failed old new = (after ≡ before) × Ends (Err OutOfMemory) code failed old new
+  abbrev pub EndsUnasked : LineFault → W → W → Ended → Type 0
+  EndsUnasked (words.Help text) before after e =
+      (r : Result ⊤ RunFault) × WritesText (string_bytes text) (failed_of after) (taken_of before) (taken_of after) r × Ends r e
+  EndsUnasked (words.Refused text) before after e = (after ≡ before) × (e.code ≡ 2) × Tells e.failed e.old e.new (string_bytes text)
+  EndsUnasked words.OutOfMemory before after e = (after ≡ before) × Ends (Err OutOfMemory) e
 
 -- nothing was read, and it was answered that the words name nothing to do
-abbrev pub AnsweredAlone : {S W M : Type 0} → writes.Ghosts W → LineFault → Duplex S W M → Duplex S W M → ℕ → Bool → Option (List ℕ) → Option (List ℕ) → Type 0
-AnsweredAlone sink fault before after code failed old new =
-    (after ≡ record before { sink = after.sink }) × EndsUnasked sink.failed sink.taken fault before.sink after.sink code failed old new
+abbrev pub AnsweredAlone : {S W M : Type 0} → writes.Ghosts W → LineFault → Duplex S W M → Duplex S W M → Ended → Type 0
+AnsweredAlone sink fault before after e =
+    (after ≡ record before { sink = after.sink }) × EndsUnasked sink.failed sink.taken fault before.sink after.sink e

@@ -8,7 +8,7 @@ ghost use Rattle.ucl_rows.specs.Lines.{line_of_reply};
 ghost use Rattle.ucl_rows.specs.Lines.{accepted_line, refused_line};
 ghost use Rattle.ucl_rows.specs.BadRows.{shown_text};
 ghost use Rattle.ucl_rows.specs.Answers.{bytes_of};
-ghost use Rattle.ucl_rows.specs.Answers.{bad_answer, bad_line, matches_answer, reply_answer, screen_answer};
+ghost use Rattle.ucl_rows.specs.Answers.{bad_answer, bad_line, matches_answer, screen_answer};
 
 use crate::bad_row::{BadField, shown_text};
 use arrayvec::ArrayString;
@@ -17,9 +17,9 @@ use std::alloc::{AllocError, Global};
 use ucl_board::Board;
 use ucl_command::Format;
 use ucl_io::Text;
-use ucl_json::{Title, bad_row_json, edition_screen_json, matches_json, reply_json};
+use ucl_json::{Title, bad_row_json, edition_screen_json, matches_json};
 use ucl_order::Roster;
-use ucl_screen::{NightEvent, matches, screen};
+use ucl_screen::{matches, screen};
 use ucl_word::{Accepted, OutOfMemory, Refusal};
 
 /// The line of a reply, which takes no memory.
@@ -37,18 +37,12 @@ pub enum Answer {
 impl Text for Answer {
     ghost bytes = { bytes_of };
 
-    ghost front = { bytes_of };
-
     fn new() -> Answer {
         Answer::nothing()
     }
 
-    fn front(&self) -> &[u8] {
-        self.bytes()
-    }
-
-    fn back(&self) -> &[u8] {
-        b"".as_slice()
+    fn text(&self) -> &[u8] {
+        self.as_str().as_bytes()
     }
 }
 
@@ -60,14 +54,28 @@ impl Answer {
         Answer::Short(ReplyLine::new())
     }
 
-    /// The bytes of the answer.
-    pub fn bytes(&self) -> &[u8]
+    /// The answer as text.
+    fn as_str(&self) -> &str
         ensures { result.now ≡ bytes_of self.now }
     {
         match self {
-            Answer::Short(line) => line.as_str().as_bytes(),
-            Answer::Long(text) => text.as_str().as_bytes(),
+            Answer::Short(line) => line.as_str(),
+            Answer::Long(text) => text.as_str(),
         }
+    }
+
+    /// The answer, and then another.
+    ///
+    /// # Errors
+    ///
+    /// Where there is no memory.
+    pub fn then(&self, alloc: Global, other: &Answer) -> Result<Answer, AllocError>
+        ensures { IfOk result (λ both. bytes_of both ≡ bytes_of self.now ++ bytes_of other.now) }
+    {
+        let mut both = String::new(alloc);
+        both.push_str(self.as_str())?;
+        both.push_str(other.as_str())?;
+        Ok(Answer::Long(both))
     }
 }
 
@@ -132,36 +140,6 @@ pub fn reply_line(row: u64, game: u8, before: u16, reply: Result<Accepted, Refus
     match reply {
         Ok(accepted) => accepted_line(row, game, accepted.number, before + 1),
         Err(refusal) => refused_line(row, refusal),
-    }
-}
-
-/// The reply to an event, where so many events were accepted before, and the board is one after it.
-///
-/// # Errors
-///
-/// Where there is no memory for an answer in JSON.
-pub fn reply_answer(
-    alloc: Global,
-    format: Format,
-    title: Title,
-    row: u64,
-    event: &NightEvent,
-    before: u16,
-    reply: Result<Accepted, Refusal>,
-    board: &Board,
-    roster: &Roster,
-) -> Result<Answer, AllocError>
-    requires few { before < 2 ^ 16 - 1 }
-    requires letter { IsGroup title.group }
-    ensures text { IfOk result (λ answer. bytes_of answer
-        ≡ reply_answer format title row roster.now event.now before reply board.now) }
-    ensures memory { IfErr result (λ _. format ≡ Format.Json) }
-{
-    match format {
-        Format::Text => Ok(Answer::Short(reply_line(row, event.call.game.get(), before, reply))),
-        Format::Json => Ok(Answer::Long(reply_json(
-            alloc, row, event, reply, board, roster, title,
-        )?)),
     }
 }
 

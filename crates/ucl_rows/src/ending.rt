@@ -2,7 +2,7 @@
 
 ghost use Rattle.std.specs.Prelude.{◌≡◌};
 ghost use Rattle.ucl_rows.specs.Telling.{Tells};
-ghost use Rattle.ucl_rows.specs.Ending.{Ends, EndsUnasked};
+ghost use Rattle.ucl_rows.specs.Ending.{Ends, EndsUnasked, ended_with};
 
 use crate::fault::RunFault;
 use crate::output::put_text;
@@ -24,7 +24,7 @@ pub fn tell_refusal<E: Sink>(errors: &mut E, text: &str) -> u8
 
 /// The exit status of what was done, where a fault is told by its line.
 pub fn ended<E: Sink>(errors: &mut E, done: Result<(), RunFault>) -> u8
-    ensures { Ends done result (E.failed errors.new) (E.taken errors.old) (E.taken errors.new) }
+    ensures { Ends done (ended_with E.failed E.taken result errors.old errors.new) }
 {
     match done {
         Ok(()) => 0,
@@ -35,8 +35,8 @@ pub fn ended<E: Sink>(errors: &mut E, done: Result<(), RunFault>) -> u8
 /// The exit status where the arguments name nothing to do. Help goes to the output, where it ends as what was done; a refusal, or want of
 /// memory, is told on the error sink.
 pub fn ended_unasked<W: Sink, E: Sink>(sink: &mut W, errors: &mut E, fault: LineFault) -> u8
-    ensures { EndsUnasked W.failed W.taken fault sink.old sink.new result
-        (E.failed errors.new) (E.taken errors.old) (E.taken errors.new) }
+    ensures { EndsUnasked W.failed W.taken fault sink.old sink.new
+        (ended_with E.failed E.taken result errors.old errors.new) }
 {
     match fault {
         LineFault::Help(text) => {

@@ -14,9 +14,7 @@ mod row;
 mod telling;
 mod words;
 
-pub use answer::{
-    Answer, ReplyLine, bad_answer, matches_answer, reply_answer, reply_line, screen_answer,
-};
+pub use answer::{Answer, ReplyLine, bad_answer, matches_answer, reply_line, screen_answer};
 pub use bad_row::{BadField, bad_field};
 pub use ending::{ended, ended_unasked, tell_refusal};
 pub use fault::{RunFault, of_driver, status_of};

@@ -39,12 +39,12 @@ pub use Rattle.ucl_command.specs.declared.options.Format.{Format}
 pub use Rattle.ucl_command.specs.declared.options.Format.TheVariants.{Json, Text}
 pub use Rattle.ucl_io.proofs.Calls.{logs-as, whole}
 pub use Rattle.ucl_io.proofs.Cuts.{begun_append, begun_ended, begun_none, cut_at, ended_append, ended_line, ended_none}
-pub use Rattle.ucl_io.proofs.Puts.{stopped_first, stopped_short}
+pub use Rattle.ucl_io.proofs.Puts.{stopped_first}
 pub use Rattle.ucl_io.proofs.Turns.{turns_front}
 pub use Rattle.ucl_io.specs.Calls.{Device, device}
 pub use Rattle.ucl_io.specs.Lines.{HasNoFeed, begun_line, ended_lines}
 pub use Rattle.ucl_io.specs.Output.{StoppedShort}
-pub use Rattle.ucl_io.specs.Pumping.{HasClosed, HasMade, IsPromptAt, LineRules, Pumped, Seen, StopsLast, rules_of, seen}
+pub use Rattle.ucl_io.specs.Pumping.{HasClosed, IsPromptAt, LineRules, Pumped, Run, Seen, StopsLast, rules_of, seen}
 pub use Rattle.ucl_io.specs.Turns.{StopsNext, Turn}
 pub use Rattle.ucl_io.specs.declared.fault.PumpFault.{PumpFault}
 pub use Rattle.ucl_io.specs.declared.fault.PumpFault.TheVariants.{Machine, WriteFailed}

@@ -1,5 +1,5 @@
 -- Runs whose lines a driver hands to a machine: what they write while they go on, how they end, and why they fail.
-use Rattle.std.specs.Prelude.{◌≡◌, ◌⊎◌, ℕ, ◌^◌, ◌<◌, List, length, Option, IfSome, Result, IfErr, IfOk, OnOk}
+use Rattle.std.specs.Prelude.{◌≡◌, ◌⊎◌, ℕ, ◌^◌, ◌<◌, Bool, true, List, length, Option, IfSome, Result, Err, IfErr, IfOk, OnOk}
 use Rattle.std.specs.Io.KnownBytes.{Appends, Consumes}
 use Rattle.ucl_io.specs.declared.duplex.Duplex.{Duplex}
 use Rattle.ucl_io.specs.declared.fault.PumpFault.{PumpFault}
@@ -7,7 +7,7 @@ use Rattle.ucl_io.specs.declared.fault.PumpFault.TheVariants.{Machine, ReadFaile
 use Rattle.ucl_io.specs.declared.stream.Source as reads
 use Rattle.ucl_io.specs.declared.stream.Sink as writes
 use Rattle.ucl_io.specs.Calls.{Device, HasEnded, LogsCalls, device}
-use Rattle.ucl_io.specs.Output.{SinkEnds, StoppedShort}
+use Rattle.ucl_io.specs.Output.{StoppedShort}
 use Rattle.ucl_io.specs.Pumping.{is_source_failed}
 
 -- what is due of the lines that end among the bytes that came, and of a whole input; what holds where the machine stopped in these bytes, and
@@ -22,12 +22,17 @@ pub record Due (V F : Type 0) : Type 1 where
 abbrev pub IsOutSoFar : (List ℕ → List ℕ) → Option (List ℕ) → Option (List ℕ) → Option (List ℕ) → Option (List ℕ) → Type 0
 IsOutSoFar so_far left left2 taken taken2 = (bytes : List ℕ) × Consumes left left2 bytes × Appends taken taken2 (so_far bytes)
 
+-- a failed write is told only where the sink has failed; else the sink is as it was in this
+abbrev pub SinkEnds : {V F : Type 0} → Bool → Bool → Result V (PumpFault F) → Type 0
+SinkEnds failed failed2 (Err (WriteFailed written)) = failed2 ≡ true
+SinkEnds failed failed2 _ = failed2 ≡ failed
+
 module _ {V F : Type 0} (D : Due V F) where
   -- the sink failed in what is due of the lines that came; or in the whole text, once the input has ended
   pub record StopsInText (bytes : List ℕ) (old new : Device) (written : ℕ) : Type 0 where
     pub text : List ℕ
     pub text_is : (text ≡ D.so_far bytes) ⊎ (HasEnded old.left new.left × (text ≡ D.whole bytes))
-    pub stopped : StoppedShort 0 new.sink_failed old.taken new.taken text written
+    pub stopped : StoppedShort 0 new.failed old.taken new.taken text written
 
   -- why a run fails that has taken these bytes: the source failed after them, they are more than any input has, the sink failed, or the machine
   -- stopped
@@ -52,4 +57,4 @@ module _ {V F : Type 0} (D : Due V F) where
     -- a failed read is answered exactly where the source has failed, and a failed write where the sink has
     pub read_failed : source.failed after.source ≡ is_source_failed r
     pub sink_ends : SinkEnds (sink.failed before.sink) (sink.failed after.sink) r
-    pub fails : IfErr r (Fails (device source.left source.failed sink.taken sink.failed before) (device source.left source.failed sink.taken sink.failed after))
+    pub fails : IfErr r (Fails (device source.left sink.taken sink.failed before.source before.sink) (device source.left sink.taken sink.failed after.source after.sink))

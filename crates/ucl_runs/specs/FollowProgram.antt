@@ -1,5 +1,5 @@
 -- What the program does with what its words ask for.
-use Rattle.std.specs.Prelude.{◌≡◌, ◌-◌, ℕ, Bool, List, [], ◌∷◌, ◌++◌, Option, codes, decimal, Result, Ok, Err}
+use Rattle.std.specs.Prelude.{◌≡◌, ◌-◌, ℕ, List, [], ◌∷◌, ◌++◌, codes, decimal, Result, Ok, Err}
 use Rattle.ucl_io.specs.declared.stream.Source as reads
 use Rattle.ucl_io.specs.declared.stream.Sink as writes
 use Rattle.ucl_rows.specs.declared.fault.RunFault.{RunFault}
@@ -9,7 +9,7 @@ use Rattle.ucl_io.specs.declared.fault.PumpFault.{PumpFault}
 use Rattle.ucl_rows.specs.Telling.{Tells, fault_line}
 use Rattle.ucl_io.specs.declared.duplex.Duplex.{Duplex}
 use Rattle.ucl_command.specs.declared.fault.LineFault.{LineFault}
-use Rattle.ucl_rows.specs.Ending.{AnsweredAlone}
+use Rattle.ucl_rows.specs.Ending.{AnsweredAlone, Ended}
 use Rattle.ucl_order.specs.Names.{profile_name}
 use Rattle.ucl_json.specs.declared.title.Title.{Title}
 use Rattle.ucl_runs.specs.Driven.{IsDriven}
@@ -28,15 +28,15 @@ other_line line title =
     codes "line " ++ decimal line ++ codes ": group " ++ (title.group ∷ []) ++ codes ", order " ++ profile_name title.profile ++ codes ", is passed over\n"
 
 -- the input has ended; or the line of the fault is told, and its status
-abbrev pub EndsFollowing : Result Followed (PumpFault RunFault) → ℕ → Bool → Option (List ℕ) → Option (List ℕ) → Type 0
-EndsFollowing (Ok followed) code failed old new = (code ≡ 0) × Tells failed old new (counts_line followed)
-EndsFollowing (Err fault) code failed old new =
-    (told : RunFault) × IsOfDriver (λ own f. f ≡ own) fault told × (code ≡ status told) × Tells failed old new (fault_line told)
+abbrev pub EndsFollowing : Result Followed (PumpFault RunFault) → Ended → Type 0
+EndsFollowing (Ok followed) e = (e.code ≡ 0) × Tells e.failed e.old e.new (counts_line followed)
+EndsFollowing (Err fault) e =
+    (told : RunFault) × IsOfDriver (λ own f. f ≡ own) fault told × (e.code ≡ status told) × Tells e.failed e.old e.new (fault_line told)
 
 -- what the program does where its words ask it to follow, ask for help, are refused, or could not be read for want of memory; and its
 -- exit status, and what it tells on the error sink
 abbrev pub RunsFollowing : {S W M : Type 0} → reads.Ghosts S → writes.Ghosts W → Result FollowArgs LineFault → Duplex S W M → Duplex S W M
-    → ℕ → Bool → Option (List ℕ) → Option (List ℕ) → Type 0
-RunsFollowing source sink (Ok args) before after code failed old new =
-    (r : Result Followed (PumpFault RunFault)) × IsDriven (follow_due args) source sink before after r × EndsFollowing r code failed old new
-RunsFollowing source sink (Err fault) before after code failed old new = AnsweredAlone sink fault before after code failed old new
+    → Ended → Type 0
+RunsFollowing source sink (Ok args) before after e =
+    (r : Result Followed (PumpFault RunFault)) × IsDriven (follow_due args) source sink before after r × EndsFollowing r e
+RunsFollowing source sink (Err fault) before after e = AnsweredAlone sink fault before after e

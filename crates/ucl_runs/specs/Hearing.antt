@@ -1,7 +1,9 @@
 -- A follower as a machine, and what is left of it where a run fails.
-use Rattle.std.specs.Prelude.{◌≡◌, ℕ, List, [], ◌++◌, Option, string_bytes}
+use Rattle.std.specs.Prelude.{◌≡◌, ◌≤◌, ℕ, List, [], ◌∷◌, ◌++◌, length, Option, string_bytes}
 use Rattle.std.specs.Io.KnownBytes.{Appends}
+use Rattle.ucl_io.specs.Lines.{begun_line}
 use Rattle.ucl_rows.specs.declared.fault.RunFault.{RunFault}
+use Rattle.ucl_rows.specs.declared.fault.RunFault.TheVariants.{OutOfMemory}
 use Rattle.ucl_runs.specs.declared.follower.Follower.{Follower}
 use Rattle.ucl_runs.specs.declared.follower.Sight.{Sight}
 use Rattle.ucl_runs.specs.declared.follower.Sight.TheVariants.{Nothing, Screen}
@@ -37,18 +39,19 @@ counts_of f = record { lines = f.lines; shown = f.shown }
 abbrev pub heard_text : FollowArgs → List ℕ → List ℕ
 heard_text args bytes = sights args.shape (unseen args) (whole_lines bytes)
 
--- a first part of bytes was heard, and all that its lines made it write went out
-pub record HeardFirst (args : FollowArgs) (bytes : List ℕ) (old new : Option (List ℕ)) : Type 0 where
+-- there was no memory for a line that ended among bytes, and had at most 4,096 of them; all that the lines before it made it write went out
+pub record StopsAtLine (args : FollowArgs) (bytes : List ℕ) (old new : Option (List ℕ)) : Type 0 where
   pub front : List ℕ
   pub rest : List ℕ
-  pub parts : bytes ≡ front ++ rest
+  pub parts : bytes ≡ front ++ 10 ∷ rest
+  pub short : length (begun_line 4097 [] front) ≤ 4096
   pub out : Appends old new (heard_text args front)
 
--- a follower that is driven stops where there was no memory for a line; where it ends well, its counts are those of the whole input
+-- a follower that is driven stops for want of memory alone; where it ends well, its counts are those of the whole input
 abbrev pub follow_due : FollowArgs → Due Followed RunFault
 follow_due args = record {
   so_far = heard_text args;
   whole = follow_text args;
-  Stops = λ bytes old new fault. HeardFirst args bytes old.taken new.taken;
+  Stops = λ bytes old new fault. (fault ≡ OutOfMemory) × StopsAtLine args bytes old.taken new.taken;
   Ends = λ followed bytes. followed ≡ counts_of (follow_end args bytes);
 }

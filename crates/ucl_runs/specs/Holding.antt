@@ -9,7 +9,6 @@ use Rattle.ucl_io.specs.Lines.{begun_line, ended_lines}
 use Rattle.ucl_runs.specs.declared.heading.Heading.{Heading}
 use Rattle.ucl_command.specs.declared.options.Format.TheVariants.{Json}
 use Rattle.ucl_command.specs.declared.live.LiveArgs.{LiveArgs}
-use Rattle.ucl_rows.specs.declared.answer.Answer.{Answer}
 use Rattle.ucl_runs.specs.declared.evening.Evening.{Evening as Held}
 use Rattle.ucl_runs.specs.declared.live_fault.LiveFault.{LiveFault}
 use Rattle.ucl_runs.specs.Driven.{Due}
@@ -56,17 +55,9 @@ AsksForMemory e said = AsksBy e (again e said) said
 
 -- ---- the machine
 
--- what a line is answered: the first part of it, and all
-
-abbrev pub parts_front : Parts → List ℕ
-parts_front p = if p.is_words then p.words.items else bytes_of p.first
-
-abbrev pub with_second : List ℕ → Option Answer → List ℕ
-with_second text None = text
-with_second text (Some answer) = text ++ bytes_of answer
-
+-- what a line is answered
 abbrev pub parts_bytes : Parts → List ℕ
-parts_bytes p = with_second (parts_front p) p.second
+parts_bytes p = if p.is_words then p.words.items else bytes_of p.answer
 
 -- the evening before a line of this number
 abbrev pub evening_at : LiveArgs → Heading → ℕ → Stage → Evening

@@ -1,7 +1,6 @@
 pub mod Feed
 pub mod Styles
 pub mod Nights
-pub mod Gates
 pub mod Workers
 pub mod Show
 pub mod Program

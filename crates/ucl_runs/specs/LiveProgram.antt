@@ -1,5 +1,5 @@
 -- What `ucl_live` does for its arguments, and how it ends.
-use Rattle.std.specs.Prelude.{◌≡◌, ℕ, ⊤, Bool, List, Option, Result, Ok, Err}
+use Rattle.std.specs.Prelude.{◌≡◌, ⊤, Result, Ok, Err}
 use Rattle.ucl_io.specs.declared.stream.Source as reads
 use Rattle.ucl_io.specs.declared.stream.Sink as writes
 use Rattle.ucl_rows.specs.Run.{IsOfDriver}
@@ -16,21 +16,21 @@ use Rattle.ucl_runs.specs.Driven.{IsDriven}
 use Rattle.ucl_runs.specs.Holding.{evening_due}
 use Rattle.ucl_runs.specs.LiveText.{start_of}
 use Rattle.ucl_command.specs.declared.fault.LineFault.{LineFault}
-use Rattle.ucl_rows.specs.Ending.{AnsweredAlone}
+use Rattle.ucl_rows.specs.Ending.{AnsweredAlone, Ended}
 
 -- the line of a fault is told, and its status; or a row differs from what was asked for, and is refused as the words of a command line are
-abbrev pub EndsBy : LiveFault → ℕ → Bool → Option (List ℕ) → Option (List ℕ) → Type 0
-EndsBy (Run fault) code failed old new = (code ≡ status fault) × Tells failed old new (fault_line fault)
-EndsBy OtherGroup code failed old new = (code ≡ 2) × Tells failed old new other_group_text
+abbrev pub EndsBy : LiveFault → Ended → Type 0
+EndsBy (Run fault) e = (e.code ≡ status fault) × Tells e.failed e.old e.new (fault_line fault)
+EndsBy OtherGroup e = (e.code ≡ 2) × Tells e.failed e.old e.new other_group_text
 
-abbrev pub EndsHeld : Result ⊤ (PumpFault LiveFault) → ℕ → Bool → Option (List ℕ) → Option (List ℕ) → Type 0
-EndsHeld (Ok done) code failed old new = (code ≡ 0) × (new ≡ old)
-EndsHeld (Err fault) code failed old new = (told : LiveFault) × IsOfDriver (λ own f. f ≡ Run own) fault told × EndsBy told code failed old new
+abbrev pub EndsHeld : Result ⊤ (PumpFault LiveFault) → Ended → Type 0
+EndsHeld (Ok done) e = (e.code ≡ 0) × (e.new ≡ e.old)
+EndsHeld (Err fault) e = (told : LiveFault) × IsOfDriver (λ own f. f ≡ Run own) fault told × EndsBy told e
 
 -- what the program does where its words ask for an evening, ask for help, are refused, or could not be read for want of memory; and its
 -- exit status, and what it tells on the error sink
 abbrev pub RunsEvening : {S W : Type 0} → reads.Ghosts S → writes.Ghosts W → Result LiveArgs LineFault → Duplex S W Held → Duplex S W Held
-    → ℕ → Bool → Option (List ℕ) → Option (List ℕ) → Type 0
-RunsEvening source sink (Ok options) before after code failed old new =
-    (r : Result ⊤ (PumpFault LiveFault)) × IsDriven (evening_due (start_of options)) source sink before after r × EndsHeld r code failed old new
-RunsEvening source sink (Err fault) before after code failed old new = AnsweredAlone sink fault before after code failed old new
+    → Ended → Type 0
+RunsEvening source sink (Ok options) before after e =
+    (r : Result ⊤ (PumpFault LiveFault)) × IsDriven (evening_due (start_of options)) source sink before after r × EndsHeld r e
+RunsEvening source sink (Err fault) before after e = AnsweredAlone sink fault before after e

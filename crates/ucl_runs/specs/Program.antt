@@ -12,7 +12,7 @@ use Rattle.ucl_command.specs.declared.night.Line.TheVariants.{Feed, Show, Night}
 use Rattle.ucl_command.specs.declared.fault.LineFault.{LineFault}
 use Rattle.ucl_rows.specs.declared.fault.RunFault.{RunFault}
 use Rattle.ucl_rows.specs.declared.fault.RunFault.TheVariants.{Input, OutOfMemory, WriteFailed, NotOnDuty, NoThread, TooManyReporters, Strangers}
-use Rattle.ucl_rows.specs.Ending.{Ends, EndsUnasked}
+use Rattle.ucl_rows.specs.Ending.{Ended, Ends, EndsUnasked}
 use Rattle.ucl_rows.specs.Faults.{IsOfOneThread}
 use Rattle.ucl_runs.specs.Feed.{IsFed}
 use Rattle.ucl_runs.specs.Show.{IsShown}
@@ -109,7 +109,7 @@ module _ {B R P X : Type 0} (live : boards.Ghosts B R P) (Opens : Result (B × R
 
   -- what the program does where its words ask for a line, ask for help, are refused, or could not be read for want of memory; and its
   -- exit status, and what it tells on the error sink
-  abbrev pub Runs : Result Line LineFault → Streams → Streams → ℕ → Bool → Option (List ℕ) → Option (List ℕ) → Type 0
-  Runs (Ok line) before after code failed old new = (r : Result ⊤ RunFault) × Obeys line before after r × Ends r code failed old new
-  Runs (Err fault) before after code failed old new =
-      EndsUnasked (λ (s : Streams). s.write_failed) (λ (s : Streams). s.taken) fault before after code failed old new
+  abbrev pub Runs : Result Line LineFault → Streams → Streams → Ended → Type 0
+  Runs (Ok line) before after e = (r : Result ⊤ RunFault) × Obeys line before after r × Ends r e
+  Runs (Err fault) before after e =
+      EndsUnasked (λ (s : Streams). s.write_failed) (λ (s : Streams). s.taken) fault before after e

@@ -6,12 +6,9 @@ ghost use Rattle.ucl_runs.specs.Hearing.{follow_due};
 use crate::follower::Follower;
 use std::alloc::Global;
 use ucl_command::FollowArgs;
-use ucl_io::{Duplex, MOST_LINE_BYTES, PumpFault, pump};
+use ucl_io::{Duplex, MOST_KEPT_BYTES, PumpFault, pump};
 use ucl_rows::RunFault;
 use ucl_screen::{Sink, Source};
-
-/// The most bytes that are gathered before they are written.
-const PAGE: usize = 4096;
 
 /// How many lines came, and how many of them were shown: all others were passed over. A number past `u64::MAX` is told as that.
 #[derive(Clone, Copy, Debug, PartialEq, Eq)]
@@ -43,7 +40,7 @@ pub fn follow_run<S: Source, W: Sink, T: Sink + Drop>(
     ensures { IsDriven (follow_due args) S.Source W.Sink duplex.old duplex.new result }
 {
     let mut follower = Follower::new(alloc, args, others);
-    pump(&mut follower, MOST_LINE_BYTES, PAGE, duplex)?;
+    pump(&mut follower, MOST_KEPT_BYTES, duplex)?;
     Ok(Followed {
         lines: follower.following.lines,
         shown: follower.following.shown,

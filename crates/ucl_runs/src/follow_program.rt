@@ -2,7 +2,7 @@
 
 ghost use Rattle.std.specs.Prelude.{◌≡◌};
 ghost use Rattle.ucl_screen.specs.Screen.{IsGroup};
-ghost use Rattle.ucl_rows.specs.Telling.{Tells};
+ghost use Rattle.ucl_rows.specs.Ending.{ended_with};
 ghost use Rattle.ucl_runs.specs.FollowProgram.{EndsFollowing, RunsFollowing, counts_line, other_line};
 
 use crate::follow::{Followed, follow_run};
@@ -49,8 +49,7 @@ pub(crate) fn other_line(line: u64, title: Title) -> ArrayString<128>
 
 /// Tells how the lines were followed, or the fault, and gives the exit status.
 fn told<E: Sink>(errors: &mut E, done: Result<Followed, PumpFault<RunFault>>) -> u8
-    ensures { EndsFollowing done result
-        (E.failed errors.new) (E.taken errors.old) (E.taken errors.new) }
+    ensures { EndsFollowing done (ended_with E.failed E.taken result errors.old errors.new) }
 {
     match done {
         Ok(followed) => {
@@ -71,8 +70,8 @@ pub fn run_following<S: Source, W: Sink, T: Sink + Drop, E: Sink>(
     duplex: &mut Duplex<S, W, Follower<T>>,
     errors: &mut E,
 ) -> u8
-    ensures { RunsFollowing S.Source W.Sink asked duplex.old duplex.new result
-        (E.failed errors.new) (E.taken errors.old) (E.taken errors.new) }
+    ensures { RunsFollowing S.Source W.Sink asked duplex.old duplex.new
+        (ended_with E.failed E.taken result errors.old errors.new) }
 {
     match asked {
         Ok(args) => {

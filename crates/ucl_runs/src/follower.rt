@@ -1,6 +1,7 @@
 //! A follower, which answers lines with screens.
 
-ghost use Rattle.std.specs.Prelude.{◌≡◌, ⊤, [], IfOk};
+ghost use Rattle.std.specs.Prelude.{◌≡◌, ◌≤◌, ⊤, [], length, IfOk};
+ghost use Rattle.ucl_rows.specs.declared.fault.RunFault.TheVariants.{OutOfMemory};
 ghost use Rattle.ucl_screen.specs.Screen.{IsGroup};
 ghost use Rattle.ucl_runs.specs.Follow.{sight_text, told_text, unseen};
 ghost use Rattle.ucl_runs.specs.Hearing.{IsHeard, following_of, shape_of, sight_bytes};
@@ -30,21 +31,15 @@ pub enum Sight {
 impl Text for Sight {
     ghost bytes = { sight_bytes };
 
-    ghost front = { sight_bytes };
-
     fn new() -> Sight {
         Sight::Nothing
     }
 
-    fn front(&self) -> &[u8] {
+    fn text(&self) -> &[u8] {
         match self {
             Sight::Nothing => b"".as_slice(),
             Sight::Screen(text) => text.as_str().as_bytes(),
         }
-    }
-
-    fn back(&self) -> &[u8] {
-        b"".as_slice()
     }
 }
 
@@ -122,12 +117,12 @@ impl<T: Sink> LineMachine for Follower<T> {
     ghost answers = { λ m row line n text. IsHeard m n (moment_on line)
         × (text ≡ told_text (shape_of m) (following_of m) (moment_on line)) };
 
-    ghost stops = { λ _ _ _ _ _. ⊤ };
+    ghost stops = { λ _ _ line _ fault. (fault ≡ OutOfMemory) × (length line ≤ 4096) };
 
     ghost ends = { λ m row begun n text. (shape_of n ≡ shape_of m)
         × (following_of n ≡ following_of m) × (text ≡ []) };
 
-    ghost stops_at_end = { λ _ _ _ _ _. ⊤ };
+    ghost stops_at_end = { λ _ _ _ _ _. ⊥ };
 
     fn answer(&mut self, _row: u64, line: &[u8], text: &mut Sight) -> Result<(), RunFault> {
         let told = moment_on(self.alloc, line)?;

@@ -55,5 +55,5 @@ pub use live_program::run_evening;
 pub use night::{NightEnd, night_run, put_night};
 pub use night_laws::schedule_does_not_matter;
 pub use parts::Parts;
-pub use program::{obey, run};
+pub use program::run;
 pub use show::show_run;

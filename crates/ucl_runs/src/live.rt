@@ -12,9 +12,6 @@ use ucl_io::{Duplex, PumpFault, pump};
 use ucl_rows::MOST_LINE_BYTES;
 use ucl_screen::{Sink, Source};
 
-/// The most bytes that are gathered before they are written.
-const PAGE: usize = 4096;
-
 /// Answers the rows of a source until it ends: each at once, before more is asked for.
 ///
 /// The first four lines with something on them name the clubs, after the row of a group, where one stands first; then come events and what is
@@ -34,6 +31,6 @@ pub fn live_run<S: Source, W: Sink>(
     ensures { IsDriven (evening_due (start_of options)) S.Source W.Sink duplex.old duplex.new result }
 {
     let mut evening = Evening::new(alloc, options);
-    pump(&mut evening, MOST_LINE_BYTES, PAGE, duplex)?;
+    pump(&mut evening, MOST_LINE_BYTES, duplex)?;
     Ok(())
 }

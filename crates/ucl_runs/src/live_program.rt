@@ -1,5 +1,6 @@
 //! The evening that `ucl_live` holds for its arguments.
 
+ghost use Rattle.ucl_rows.specs.Ending.{ended_with};
 ghost use Rattle.ucl_runs.specs.LiveProgram.{EndsHeld, RunsEvening};
 
 use crate::evening::Evening;
@@ -16,7 +17,7 @@ const OTHER_GROUP: &str = "error: the row of the group differs from --group or -
 
 /// Tells the fault of an evening, where it has one, and gives the exit status.
 fn told<E: Sink>(errors: &mut E, done: Result<(), PumpFault<LiveFault>>) -> u8
-    ensures { EndsHeld done result (E.failed errors.new) (E.taken errors.old) (E.taken errors.new) }
+    ensures { EndsHeld done (ended_with E.failed E.taken result errors.old errors.new) }
 {
     match done {
         Ok(()) => 0,
@@ -36,8 +37,8 @@ pub fn run_evening<S: Source, W: Sink, E: Sink>(
     duplex: &mut Duplex<S, W, Evening>,
     errors: &mut E,
 ) -> u8
-    ensures { RunsEvening S.Source W.Sink asked duplex.old duplex.new result
-        (E.failed errors.new) (E.taken errors.old) (E.taken errors.new) }
+    ensures { RunsEvening S.Source W.Sink asked duplex.old duplex.new
+        (ended_with E.failed E.taken result errors.old errors.new) }
 {
     match asked {
         Ok(options) => {

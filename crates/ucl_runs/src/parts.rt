@@ -1,19 +1,18 @@
 //! What a line is answered.
 
-ghost use Rattle.std.specs.Prelude.{◌≡◌, [], ◌++◌};
+ghost use Rattle.std.specs.Prelude.{◌≡◌, []};
 ghost use Rattle.ucl_rows.specs.Lines.{word_lines};
 ghost use Rattle.ucl_rows.specs.Answers.{bytes_of};
-ghost use Rattle.ucl_runs.specs.Holding.{parts_bytes, parts_front};
+ghost use Rattle.ucl_runs.specs.Holding.{parts_bytes};
 
 use ucl_board::Board;
 use ucl_io::Text;
 use ucl_rows::{Answer, Lines, word_lines};
 
-/// What a line is answered: an answer, with another behind it where there is one; or the words of a board.
+/// What a line is answered: an answer, or the words of a board.
 #[derive(Drop)]
 pub struct Parts {
-    first: Answer,
-    second: Option<Answer>,
+    answer: Answer,
     words: Lines,
     is_words: bool,
 }
@@ -21,29 +20,19 @@ pub struct Parts {
 impl Text for Parts {
     ghost bytes = { parts_bytes };
 
-    ghost front = { parts_front };
-
     fn new() -> Parts {
         Parts {
-            first: Answer::nothing(),
-            second: None,
+            answer: Answer::nothing(),
             words: Lines::new(),
             is_words: false,
         }
     }
 
-    fn front(&self) -> &[u8] {
+    fn text(&self) -> &[u8] {
         if self.is_words {
             self.words.as_slice()
         } else {
-            self.first.bytes()
-        }
-    }
-
-    fn back(&self) -> &[u8] {
-        match &self.second {
-            Some(answer) => answer.bytes(),
-            None => b"".as_slice(),
+            self.answer.text()
         }
     }
 }
@@ -61,17 +50,7 @@ impl Parts {
         ensures { parts_bytes self.new ≡ bytes_of answer }
     {
         self.is_words = false;
-        self.first = answer;
-        self.second = None;
-    }
-
-    /// This answer, and another.
-    pub(crate) fn put_both(&mut self, answer: Answer, other: Answer)
-        ensures { parts_bytes self.new ≡ bytes_of answer ++ bytes_of other }
-    {
-        self.is_words = false;
-        self.first = answer;
-        self.second = Some(other);
+        self.answer = answer;
     }
 
     /// The words of this board.
@@ -80,6 +59,5 @@ impl Parts {
     {
         self.is_words = true;
         self.words = word_lines(board);
-        self.second = None;
     }
 }

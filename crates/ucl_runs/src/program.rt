@@ -2,6 +2,7 @@
 
 ghost use Rattle.std.specs.Prelude.{IfOk};
 ghost use Rattle.ucl_command.specs.Arguments.{IsInRange};
+ghost use Rattle.ucl_rows.specs.Ending.{ended_with};
 ghost use Rattle.ucl_runs.specs.Program.{Obeys, Runs, streams_at};
 
 use crate::feed::feed_run;
@@ -24,7 +25,7 @@ use ucl_word::OutOfMemory;
 ///
 /// Those of `feed_run` and of `show_run`; for a night those of `read_night`, want of memory for the board, and those of `night_run` and of
 /// `put_night`. Where the source has failed, the input is refused or there is no memory, nothing is written.
-pub fn obey<B: LiveBoard + Drop, O, S: Source, W: Sink, R: Threads + Wait + Sync>(
+fn obey<B: LiveBoard + Drop, O, S: Source, W: Sink, R: Threads + Wait + Sync>(
     rt: &R,
     alloc: Global,
     line: Line,
@@ -76,8 +77,8 @@ where
     requires own { (r : _) → O.post opening r → IfOk r (λ it. B.is_reader it.0 it.1) }
     requires in_range { IfOk asked IsInRange }
     ensures { Runs B.LiveBoard (O.post opening) asked (streams_at S.Source W.Sink source.old sink.old)
-        (streams_at S.Source W.Sink source.new sink.new) result
-        (E.failed errors.new) (E.taken errors.old) (E.taken errors.new) }
+        (streams_at S.Source W.Sink source.new sink.new)
+        (ended_with E.failed E.taken result errors.old errors.new) }
 {
     match asked {
         Ok(line) => {

@@ -13,8 +13,8 @@ use crate::request::Request;
 use crate::stage::Table;
 use std::alloc::Global;
 use ucl_command::{Format, LiveArgs};
-use ucl_json::{Title, words_json};
-use ucl_rows::{Answer, bad_answer, matches_answer, reply_answer, screen_answer};
+use ucl_json::{Reply, Title, reply_json, words_json};
+use ucl_rows::{Answer, bad_answer, matches_answer, reply_line, screen_answer};
 use ucl_screen::NightEvent;
 use ucl_word::OutOfMemory;
 
@@ -38,19 +38,22 @@ impl Table {
             (λ _. AsksOf options.now self.old.board (Event event.now)) }
     {
         let before = self.board.version();
-        let reply = self.board.report(event.reporter, &event.call);
-        let line = reply_answer(
-            alloc,
-            options.format,
-            title,
-            row,
-            event,
-            before,
-            reply,
-            &self.board,
-            &self.roster,
-        )?;
-        if options.screens && reply.is_ok() {
+        let outcome = self.board.report(event.reporter, &event.call);
+        let line = match options.format {
+            Format::Text => Answer::Short(reply_line(row, event.call.game.get(), before, outcome)),
+            Format::Json => Answer::Long(reply_json(
+                alloc,
+                &Reply {
+                    row,
+                    event,
+                    outcome,
+                    title,
+                    board: &self.board,
+                    roster: &self.roster,
+                },
+            )?),
+        };
+        if options.screens && outcome.is_ok() {
             let screen = screen_answer(
                 alloc,
                 options.format,
@@ -59,7 +62,7 @@ impl Table {
                 &self.board,
                 &self.roster,
             )?;
-            parts.put_both(line, screen);
+            parts.put(line.then(alloc, &screen)?);
         } else {
             parts.put(line);
         }

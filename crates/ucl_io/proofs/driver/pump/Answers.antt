@@ -1,13 +1,15 @@
-use Rattle.std.proofs.Common.{[], ◌++◌, ◌≡◌, List, ℕ, length, take, inl, inr, refl, sym, ap, ◌∙◌, arith, length-append, true≢false}
+use Rattle.std.specs.Prelude.{⊤, Err}
+use Rattle.std.proofs.Common.{[], subst, ◌+◌, ◌++◌, ◌≡◌, List, ℕ, length, take, inl, inr, refl, sym, ap, ◌∙◌, arith, length-append, true≢false}
 use Rattle.std.proofs.lemmas.List.{length-take}
 use Rattle.std.proofs.lemmas.Result.{err_from_is_err_and}
-use Rattle.ucl_io.specs.Lines.{begun_line, ended_lines}
+use Rattle.ucl_io.specs.Lines.{begun_line}
 use Rattle.ucl_io.specs.Pumping.{rules_of, seen}
+use Rattle.ucl_io.specs.Turns.{Closed, progress, rules}
 use Rattle.ucl_io.proofs.Answers.{answered_none}
 use Rattle.ucl_io.proofs.Calls.{logs-none, logs-then, sound}
-use Rattle.ucl_io.proofs.Cuts.{begun_append, begun_none, ended_append, ended_none, few_lines}
+use Rattle.ucl_io.proofs.Cuts.{begun_append, begun_none, ended_none, few_lines}
 use Rattle.ucl_io.proofs.MovedBytes.{consumes-none, consumes-then}
-use Rattle.ucl_io.proofs.Runs.{called_again, goes_further, nothing, prompt_now, run_ended, run_ends_badly, run_read_failed, run_stopped}
+use Rattle.ucl_io.proofs.Runs.{called_again, goes_further, prompt_now, run_ended, run_ends_badly, run_read_failed, row_then, run_stopped, run_too_long}
 use Rattle.ucl_io.proofs.driver.pump.Goals as goal
 
 pub pieces-init : goal.pieces-init
@@ -25,24 +27,37 @@ pieces-init g c =
       short = rw c.new-lines.ensures.begun (omega arith);
       row = omega arith;
       waiting = rw c.new-lines.ensures.output refl;
-      answered = rw (ended_none c.args.cap [], c.new-lines.ensures.output)
-          (answered_none _ g.M.LineMachine.answers 1 c.args.machine.now nothing (g.W.Sink.taken c.args.duplex.now.sink) (omega arith));
+      answered = rw (ended_none c.args.cap [], c.new-lines.ensures.output, one) (answered_none _ _ _ _ (omega arith));
       logged = logs-none _ _ _ _;
       source_sound = inl refl;
-      sound = refl;
     }
+
+pub returns-then-read-gt-MOST_READ-clause-pumped : goal.returns-then-read-gt-MOST_READ-clause-pumped
+returns-then-read-gt-MOST_READ-clause-pumped g c =
+    let so_far = c.pieces.invariant in
+    let m = g.M.LineMachine in
+    let D = rules_of m.answers m.stops m.ends m.stops_at_end in
+    let at = seen g.S.Source.left g.W.Sink.taken g.W.Sink.failed in
+    let old = at (c.args.duplex.now.source, c.args.duplex.now.sink, c.args.machine.now) in
+    let mid = at (c.pieces.duplex.source, c.pieces.duplex.sink, c.pieces.machine) in
+    let long = c.if-read-gt-MOST_READ.true in
+    let read = so_far.read in
+    run_too_long _ _ D c.args.cap old mid _ _ _ so_far.bytes so_far.turns so_far.consumed so_far.answered so_far.waiting mid _ refl (omega arith) so_far.logged
 
 pub returns-in-None-clause-pumped : goal.returns-in-None-clause-pumped
 returns-in-None-clause-pumped g c =
     let so_far = c.pieces.invariant in
     let m = g.M.LineMachine in
     let D = rules_of m.answers m.stops m.ends m.stops_at_end in
-    let old = seen g.S.Source.left g.W.Sink.taken (c.args.duplex.now.source, c.args.duplex.now.sink, c.args.machine.now) in
-    let mid = seen g.S.Source.left g.W.Sink.taken (c.pieces.duplex.source, c.pieces.duplex.sink, c.pieces.machine) in
-    let now = prompt_now _ _ D c.args.cap c.args.page old mid so_far.bytes so_far.turns c.pieces.lines.output so_far.consumed so_far.answered so_far.waiting in
-    run_read_failed _ _ D c.args.cap c.args.page old mid so_far.bytes so_far.turns c.pieces.lines.output so_far.consumed so_far.answered so_far.waiting _ _ _
-    _ c.in-None.ensures.moves (ap g.W.Sink.taken c.take.ensures.sink) refl so_far.read
-    (logs-then _ _ _ _ _ _ _ _ (c.pieces.duplex.source, c.pieces.duplex.sink, c.pieces.machine) so_far.logged c.take.ensures.log c.take.ensures.counts refl now)
+    let at = seen g.S.Source.left g.W.Sink.taken g.W.Sink.failed in
+    let old = at (c.args.duplex.now.source, c.args.duplex.now.sink, c.args.machine.now) in
+    let mid = at (c.pieces.duplex.source, c.pieces.duplex.sink, c.pieces.machine) in
+    let new = at (c.take.new.self.source, c.take.new.self.sink, c.pieces.machine) in
+    let now = prompt_now _ _ D c.args.cap old mid _ _ _ so_far.bytes so_far.turns so_far.consumed so_far.answered so_far.waiting in
+    run_read_failed _ _ D c.args.cap old mid _ _ _ so_far.bytes so_far.turns so_far.consumed so_far.answered so_far.waiting new _ _
+    c.in-None.ensures.moves (ap g.W.Sink.taken c.take.ensures.sink) (ap g.W.Sink.failed c.take.ensures.sink) so_far.read
+    (logs-then _ _ _ _ _ _ _ _ (c.pieces.duplex.source, c.pieces.duplex.sink, c.pieces.machine)
+    so_far.logged c.take.ensures.log c.take.ensures.counts refl now)
 
 pub returns-in_err-end-in-Some-eq0-clause-pumped : goal.returns-in_err-end-in-Some-eq0-clause-pumped
 returns-in_err-end-in-Some-eq0-clause-pumped g c =
@@ -51,31 +66,45 @@ returns-in_err-end-in-Some-eq0-clause-pumped g c =
     let room = so_far.room in
     let e = err_from_is_err_and c.from_residual.result c.from_residual.ensures.1 in
     let D = rules_of m.answers m.stops m.ends m.stops_at_end in
-    let old = seen g.S.Source.left g.W.Sink.taken (c.args.duplex.now.source, c.args.duplex.now.sink, c.args.machine.now) in
-    let mid = seen g.S.Source.left g.W.Sink.taken (c.pieces.duplex.source, c.pieces.duplex.sink, c.pieces.machine) in
-    let now = prompt_now _ _ D c.args.cap c.args.page old mid so_far.bytes so_far.turns c.pieces.lines.output so_far.consumed so_far.answered so_far.waiting in
-    let moved = rw c.in-Some-eq0.field-0-test at c.in-Some-eq0.ensures.moves in
-    let fails = rw (c.take.ensures.sink, so_far.row, so_far.begun) at c.in_err-end-in-Some-eq0.ensures.fails in
-    rw (e.1, e.2) (run_ends_badly _ _ D c.args.cap c.args.page old mid so_far.bytes so_far.turns c.pieces.lines.output so_far.consumed so_far.answered so_far.waiting _ _ _
-    _ (c.in-Some-eq0.ensures.end c.in-Some-eq0.field-0-test (omega arith)) moved fails
-    (logs-then _ _ _ _ _ _ _ _ (c.pieces.duplex.source, c.pieces.duplex.sink, c.pieces.machine) so_far.logged c.take.ensures.log c.take.ensures.counts refl now))
+    let at = seen g.S.Source.left g.W.Sink.taken g.W.Sink.failed in
+    let old = at (c.args.duplex.now.source, c.args.duplex.now.sink, c.args.machine.now) in
+    let mid = at (c.pieces.duplex.source, c.pieces.duplex.sink, c.pieces.machine) in
+    let new = at (c.take.new.self.source, c.end.new.sink, c.end.new.machine) in
+    let now = prompt_now _ _ D c.args.cap old mid _ _ _ so_far.bytes so_far.turns so_far.consumed so_far.answered so_far.waiting in
+    let none : take c.in-Some-eq0.field-0 c.take.new.buf ≡ [] = rw c.in-Some-eq0.field-0-test refl in
+    let to = progress g.W.Sink.taken g.W.Sink.failed in
+    let there = to (c.pieces.lines.row + 1) c.end.new.machine c.end.new.self.output c.end.new.sink in
+    let R = rules m.ends m.stops_at_end in
+    let f = c.in_err-end-in-Some-eq0.field-0.0 in
+    let took = subst (λ (k : g.row.W.Denot). Closed {V = ⊤} R (to c.pieces.lines.row c.pieces.machine c.pieces.lines.output k) there c.pieces.lines.begun.items (Err f)) c.take.ensures.sink
+    c.in_err-end-in-Some-eq0.ensures.closed in
+    let closed = subst (λ (l : List ℕ). Closed {V = ⊤} R (to c.pieces.lines.row c.pieces.machine c.pieces.lines.output c.pieces.duplex.sink) there l (Err f)) so_far.begun took in
+    rw (e.1, e.2) (run_ends_badly _ _ D c.args.cap old mid _ _ _ so_far.bytes so_far.turns so_far.consumed so_far.answered so_far.waiting new _
+    (c.pieces.lines.row + 1) c.end.new.self.output.out c.end.new.self.output.held _
+    c.in-Some-eq0.ensures.moves (c.in-Some-eq0.ensures.end c.in-Some-eq0.field-0-test (omega arith)) none
+    (logs-then _ _ _ _ _ _ _ _ (c.pieces.duplex.source, c.pieces.duplex.sink, c.pieces.machine)
+    so_far.logged c.take.ensures.log c.take.ensures.counts refl now) _ closed)
 
 pub returns-in-Some-eq0-clause-pumped : goal.returns-in-Some-eq0-clause-pumped
 returns-in-Some-eq0-clause-pumped g c =
     let so_far = c.pieces.invariant in
     let m = g.M.LineMachine in
     let room = so_far.room in
-    let rows = so_far.row in
-    let same = c.in_ok-end-in-Some-eq0.ensures.row in
     let D = rules_of m.answers m.stops m.ends m.stops_at_end in
-    let old = seen g.S.Source.left g.W.Sink.taken (c.args.duplex.now.source, c.args.duplex.now.sink, c.args.machine.now) in
-    let mid = seen g.S.Source.left g.W.Sink.taken (c.pieces.duplex.source, c.pieces.duplex.sink, c.pieces.machine) in
-    let now = prompt_now _ _ D c.args.cap c.args.page old mid so_far.bytes so_far.turns c.pieces.lines.output so_far.consumed so_far.answered so_far.waiting in
-    let moved = rw c.in-Some-eq0.field-0-test at c.in-Some-eq0.ensures.moves in
-    let last = rw (c.take.ensures.sink, so_far.row, so_far.begun) at c.in_ok-end-in-Some-eq0.ensures.ended in
-    run_ended _ _ D c.args.cap c.args.page old mid so_far.bytes so_far.turns c.pieces.lines.output so_far.consumed so_far.answered so_far.waiting _ _ _
-    _ (c.in-Some-eq0.ensures.end c.in-Some-eq0.field-0-test (omega arith)) moved last (omega arith)
-    (logs-then _ _ _ _ _ _ _ _ (c.pieces.duplex.source, c.pieces.duplex.sink, c.pieces.machine) so_far.logged c.take.ensures.log c.take.ensures.counts refl now)
+    let at = seen g.S.Source.left g.W.Sink.taken g.W.Sink.failed in
+    let old = at (c.args.duplex.now.source, c.args.duplex.now.sink, c.args.machine.now) in
+    let mid = at (c.pieces.duplex.source, c.pieces.duplex.sink, c.pieces.machine) in
+    let new = at (c.take.new.self.source, c.end.new.sink, c.end.new.machine) in
+    let now = prompt_now _ _ D c.args.cap old mid _ _ _ so_far.bytes so_far.turns so_far.consumed so_far.answered so_far.waiting in
+    let none : take c.in-Some-eq0.field-0 c.take.new.buf ≡ [] = rw c.in-Some-eq0.field-0-test refl in
+    let closed = rw (c.take.ensures.sink, so_far.begun) at c.in_ok-end-in-Some-eq0.ensures.closed in
+    let row = so_far.row in
+    let same = c.in_ok-end-in-Some-eq0.ensures.row in
+    run_ended _ _ D c.args.cap old mid _ _ _ so_far.bytes so_far.turns so_far.consumed so_far.answered so_far.waiting new _
+    (c.pieces.lines.row + 1) c.end.new.self.output.out c.end.new.self.output.held _
+    c.in-Some-eq0.ensures.moves (c.in-Some-eq0.ensures.end c.in-Some-eq0.field-0-test (omega arith)) none
+    (logs-then _ _ _ _ _ _ _ _ (c.pieces.duplex.source, c.pieces.duplex.sink, c.pieces.machine)
+    so_far.logged c.take.ensures.log c.take.ensures.counts refl now) _ (omega arith) closed
 
 pub enter-requires-clause-few : goal.enter-requires-clause-few
 enter-requires-clause-few g c =
@@ -94,36 +123,35 @@ returns-in_err-enter-in-Some-clause-pumped g c =
     let m = g.M.LineMachine in
     let e = err_from_is_err_and c.from_residual-in_err-enter-in-Some.result c.from_residual-in_err-enter-in-Some.ensures.1 in
     let D = rules_of m.answers m.stops m.ends m.stops_at_end in
-    let old = seen g.S.Source.left g.W.Sink.taken (c.args.duplex.now.source, c.args.duplex.now.sink, c.args.machine.now) in
-    let mid = seen g.S.Source.left g.W.Sink.taken (c.pieces.duplex.source, c.pieces.duplex.sink, c.pieces.machine) in
-    let now = prompt_now _ _ D c.args.cap c.args.page old mid so_far.bytes so_far.turns c.pieces.lines.output so_far.consumed so_far.answered so_far.waiting in
-    let fails = rw (c.take.ensures.sink, so_far.row, so_far.begun) at c.in_err-enter-in-Some.ensures.fails in
-    rw (e.1, e.2) (run_stopped _ _ D c.args.cap c.args.page old mid so_far.bytes so_far.turns c.pieces.lines.output so_far.consumed so_far.answered so_far.waiting _ _ _
-    (take c.in-Some.n c.take.new.buf) _ c.in-Some.ensures.moves fails
-    (λ later. called_again _ _ c.args.cap _ (seen g.S.Source.left g.W.Sink.taken) old _ _ _ _ _ _
-    so_far.turns later (c.pieces.duplex.source, c.pieces.duplex.sink, c.pieces.machine) so_far.logged c.take.ensures.log c.take.ensures.counts refl now))
+    let at = seen g.S.Source.left g.W.Sink.taken g.W.Sink.failed in
+    let old = at (c.args.duplex.now.source, c.args.duplex.now.sink, c.args.machine.now) in
+    let mid = at (c.pieces.duplex.source, c.pieces.duplex.sink, c.pieces.machine) in
+    let new = at (c.take.new.self.source, c.enter.new.sink, c.enter.new.machine) in
+    let now = prompt_now _ _ D c.args.cap old mid _ _ _ so_far.bytes so_far.turns so_far.consumed so_far.answered so_far.waiting in
+    let short = rw (c.take.ensures.sink, so_far.begun) at c.in_err-enter-in-Some.ensures.answered in
+    rw (e.1, e.2) (run_stopped _ _ D c.args.cap old mid _ _ _ so_far.bytes so_far.turns so_far.consumed so_far.answered so_far.waiting new _ _ _ _
+    (take c.in-Some.n c.take.new.buf) c.in-Some.ensures.moves _ short
+    (λ later. called_again _ _ c.args.cap _ at old _ _ _ _ _ _ so_far.turns later (c.pieces.duplex.source, c.pieces.duplex.sink, c.pieces.machine)
+    so_far.logged c.take.ensures.log c.take.ensures.counts refl now))
 
 pub pieces-preserved : goal.pieces-preserved
 pieces-preserved g c =
     let so_far = c.pieces.invariant in
     let m = g.M.LineMachine in
     let cap = c.args.cap in
-    let taken = g.W.Sink.taken in
     let D = rules_of m.answers m.stops m.ends m.stops_at_end in
-    let old = seen g.S.Source.left g.W.Sink.taken (c.args.duplex.now.source, c.args.duplex.now.sink, c.args.machine.now) in
-    let mid = seen g.S.Source.left g.W.Sink.taken (c.pieces.duplex.source, c.pieces.duplex.sink, c.pieces.machine) in
-    let now = prompt_now _ _ D cap c.args.page old mid so_far.bytes so_far.turns c.pieces.lines.output so_far.consumed so_far.answered so_far.waiting in
+    let at = seen g.S.Source.left g.W.Sink.taken g.W.Sink.failed in
+    let old = at (c.args.duplex.now.source, c.args.duplex.now.sink, c.args.machine.now) in
+    let mid = at (c.pieces.duplex.source, c.pieces.duplex.sink, c.pieces.machine) in
+    let now = prompt_now _ _ D cap old mid _ _ _ so_far.bytes so_far.turns so_far.consumed so_far.answered so_far.waiting in
     let new = c.in_ok-enter-in-Some.ensures in
     let n = c.in-Some.n in
     let more = take n c.take.new.buf in
     let fits = c.in-Some.ensures.fits in
     let same = c.take.auto.buf in
     let count : length more ≡ n = omega (arith, length-take n c.take.new.buf) in
-    let there = rw (c.take.ensures.sink, so_far.row, so_far.begun) at new.answered in
-    let lines = ap (length {A = List ℕ}) (ended_append cap [] so_far.bytes more) ∙ length-append (ended_lines cap [] so_far.bytes) (ended_lines cap (begun_line cap [] so_far.bytes) more) in
-    let at = ap (λ (l : List ℕ). length (ended_lines cap l more)) so_far.begun in
-    let was = so_far.row in
-    let is = new.row in
+    let there = rw (c.take.ensures.sink, so_far.begun) at new.answered in
+    let all = goes_further _ _ D cap _ _ _ so_far.bytes more so_far.turns there.0 so_far.answered there.1 in
     let long = length-append so_far.bytes more in
     let before = so_far.read in
     record {
@@ -135,12 +163,10 @@ pieces-preserved g c =
       read = omega arith;
       begun = new.begun ∙ ap (λ (l : List ℕ). begun_line cap l more) so_far.begun ∙ sym (begun_append cap [] so_far.bytes more);
       short = new.short;
-      row = omega arith;
-      waiting = new.waiting;
-      answered = goes_further _ m.answers cap 1 c.args.machine.now c.pieces.machine c.enter.new.machine [] so_far.bytes more so_far.turns there.0 nothing c.pieces.lines.output c.enter.new.self.output
-          (taken c.args.duplex.now.sink) (taken c.pieces.duplex.sink) (taken c.enter.new.sink) so_far.answered there.1;
-      logged = called_again _ _ cap _ (seen g.S.Source.left g.W.Sink.taken) old _ _ _ _ _ _
-          so_far.turns there.0 (c.pieces.duplex.source, c.pieces.duplex.sink, c.pieces.machine) so_far.logged c.take.ensures.log c.take.ensures.counts refl now;
+      row = row_then _ _ D cap _ _ (so_far.bytes ++ more) (so_far.turns ++ there.0) all refl;
+      waiting = there.2;
+      answered = all;
+      logged = called_again _ _ cap _ at old _ _ _ _ _ _ so_far.turns there.0 (c.pieces.duplex.source, c.pieces.duplex.sink, c.pieces.machine)
+          so_far.logged c.take.ensures.log c.take.ensures.counts refl now;
       source_sound = inr (sound _ (λ h. true≢false (c.in-Some.ensures.fails.1 h)));
-      sound = new.sink ∙ ap g.W.Sink.failed c.take.ensures.sink ∙ so_far.sound;
     }

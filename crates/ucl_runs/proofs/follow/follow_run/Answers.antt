@@ -1,5 +1,5 @@
 use Rattle.ucl_runs.proofs.Common.{device, err_from_is_err_and, logs-as, seen}
-use Rattle.ucl_runs.proofs.FollowRuns.{followed_at, run_counts, run_fails, run_text}
+use Rattle.ucl_runs.proofs.FollowRuns.{followed_at, run_counts, run_fails, run_sink, run_text}
 use Rattle.ucl_runs.proofs.follow.follow_run.Goals as goal
 
 pub returns-in_err-pump : goal.returns-in_err-pump
@@ -9,17 +9,18 @@ returns-in_err-pump g c =
     let fresh = c.new-follower.ensures in
     let m = c.new-follower.result in
     let p = err_from_is_err_and c.from_residual.result c.from_residual.ensures.1 in
-    let seen_as = device g.S.Source.left g.S.Source.failed g.W.Sink.taken g.W.Sink.failed in
-    let before = seen_as c.args.duplex.now in
-    let at = seen g.S.Source.left g.W.Sink.taken in
+    let seen_as = device g.S.Source.left g.W.Sink.taken g.W.Sink.failed in
+    let before = seen_as c.args.duplex.now.source c.args.duplex.now.sink in
+    let at = seen g.S.Source.left g.W.Sink.taken g.W.Sink.failed in
     rw (p.1, p.2) (record {
       text = tt;
       ends = tt;
       prompt = logs-as _ _ _ _ _ _ _
-          (λ time u. followed_at _ c.args.args before m fresh.following fresh.shape (at time) run.turns run.given.turned u) run.prompt;
+          (λ time u. followed_at _ c.args.args before m fresh.following fresh.shape (at time) run.run.turns run.turned u) run.prompt;
       read_failed = pump.read_failed;
-      sink_ends = pump.sink;
-      fails = run_fails _ c.args.args before m fresh.following fresh.shape (seen_as c.pump.new.duplex) c.pump.new.machine _
+      sink_ends = run_sink _ c.args.args before m fresh.following fresh.shape (seen_as c.pump.new.duplex.source c.pump.new.duplex.sink) c.pump.new.machine _
+          c.in_err-pump.field-0.0 run;
+      fails = run_fails _ c.args.args before m fresh.following fresh.shape (seen_as c.pump.new.duplex.source c.pump.new.duplex.sink) c.pump.new.machine _
           c.in_err-pump.field-0.0 run;
     })
 
@@ -29,16 +30,16 @@ returns g c =
     let run = pump.pumped in
     let fresh = c.new-follower.ensures in
     let m = c.new-follower.result in
-    let seen_as = device g.S.Source.left g.S.Source.failed g.W.Sink.taken g.W.Sink.failed in
-    let before = seen_as c.args.duplex.now in
-    let after = seen_as c.pump.new.duplex in
-    let at = seen g.S.Source.left g.W.Sink.taken in
+    let seen_as = device g.S.Source.left g.W.Sink.taken g.W.Sink.failed in
+    let before = seen_as c.args.duplex.now.source c.args.duplex.now.sink in
+    let after = seen_as c.pump.new.duplex.source c.pump.new.duplex.sink in
+    let at = seen g.S.Source.left g.W.Sink.taken g.W.Sink.failed in
     record {
       text = run_text _ c.args.args before m fresh.following fresh.shape after c.pump.new.machine _ _ run;
       ends = run_counts _ c.args.args before m fresh.following fresh.shape after c.pump.new.machine _ _ run;
       prompt = logs-as _ _ _ _ _ _ _
-          (λ time u. followed_at _ c.args.args before m fresh.following fresh.shape (at time) run.turns run.given.turned u) run.prompt;
+          (λ time u. followed_at _ c.args.args before m fresh.following fresh.shape (at time) run.run.turns run.turned u) run.prompt;
       read_failed = pump.read_failed;
-      sink_ends = pump.sink;
+      sink_ends = run.out.1;
       fails = tt;
     }

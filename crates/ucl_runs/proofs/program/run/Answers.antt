@@ -8,4 +8,4 @@ returns-in-Ok g c = search rules
 
 pub returns-in-Err : goal.returns-in-Err
 returns-in-Err g c =
-    rw c.in-Err.is (over_streams g.S.Source g.W.Sink c.args.source.now c.in-Err.fault c.args.sink.now _ _ _ _ _ c.ended_unasked.ensures)
+    rw c.in-Err.is (over_streams g.S.Source g.W.Sink c.args.source.now c.in-Err.fault c.args.sink.now _ _ c.ended_unasked.ensures)

@@ -1,31 +1,27 @@
-use Rattle.std.proofs.Common.{[], ap, subst}
+use Rattle.std.proofs.Common.{[], ap, subst, ℕ, ◌≡◌, ◌∙◌}
+use Rattle.std.specs.Prelude.{Err}
 use Rattle.std.proofs.lemmas.Result.{err_from_is_err_and}
-use Rattle.ucl_io.specs.Output.{HasPut, Waiting}
-use Rattle.ucl_io.proofs.Puts.{held_back, not_held, put_given, put_stopped, put_then}
+use Rattle.ucl_io.specs.Output.{Waiting, WritesOn, outlet}
+use Rattle.ucl_io.proofs.Puts.{given_after, put_then, short_within}
 use Rattle.ucl_io.proofs.output.Output.put.Goals as goal
 
-pub returns-then-hold-clause-put : goal.returns-then-hold-clause-put
-returns-then-hold-clause-put g c =
-    (held_back c.args.page c.args.self.now c.hold.new.self (g.W.Sink.taken c.args.sink.now) c.args.text.now c.hold.result c.hold.ensures c.if-hold.true c.written-written.ensures.bound).0
-
-pub returns-in_err-self-inside-clause-stopped : goal.returns-in_err-self-inside-clause-stopped
-returns-in_err-self-inside-clause-stopped g c =
+pub returns-in_err-self-inside : goal.returns-in_err-self-inside
+returns-in_err-self-inside g c =
     let p = err_from_is_err_and c.from_residual-in_err-self-inside.result c.from_residual-in_err-self-inside.ensures.1 in
-    let out = ap (λ (x : Waiting). x.out) c.self.view_is in
-    let x = g.W.Sink.taken c.args.sink.now in
-    let y = g.W.Sink.taken c.flush.new.sink in
-    let same = not_held c.args.page c.args.self.now c.hold.new.self c.args.text.now c.hold.result c.hold.ensures c.if-hold.false in
-    let put = subst (λ (w : Waiting). HasPut w c.flush.new.self x y []) same c.in_ok-flush.ensures.put in
-    rw (p.1, p.2) (put_stopped c.args.self.now c.flush.new.self _ x y _ [] c.args.text.now _ put (rw (c.in_ok-flush.ensures.empty, ← out) c.in_err-self-inside.ensures.part))
+    let at = outlet g.W.Sink.taken g.W.Sink.failed in
+    let out : c.self.inside.out ≡ c.flush.new.self.out = ap (λ (x : Waiting). x.out) c.self.view_is in
+    let flushed = rw (c.hold.ensures.not c.if-hold.false) at c.in_ok-flush.ensures.put in
+    rw (p.1, p.2) (short_within _ (at c.args.self.now c.args.sink.now) (at c.flush.new.self c.flush.new.sink)
+    (at c.flush.new.self c.put_bytes.new.sink) c.args.text.now _ flushed
+    c.in_ok-flush.ensures.empty (subst (λ (n : ℕ). WritesOn n (g.W.Sink.failed c.flush.new.sink) (g.W.Sink.failed c.put_bytes.new.sink) (g.W.Sink.taken c.flush.new.sink)
+    (g.W.Sink.taken c.put_bytes.new.sink) c.args.text.now (Err c.in_err-self-inside.field-0.0)) out c.in_err-self-inside.ensures))
 
-pub returns-clause-put : goal.returns-clause-put
-returns-clause-put g c =
-    let out = ap (λ (x : Waiting). x.out) c.self.view_is in
+pub returns : goal.returns
+returns g c =
+    let at = outlet g.W.Sink.taken g.W.Sink.failed in
+    let out : c.self.inside.out ≡ c.flush.new.self.out = ap (λ (x : Waiting). x.out) c.self.view_is in
     let held = ap (λ (x : Waiting). x.held) c.self.view_is in
-    let x = g.W.Sink.taken c.args.sink.now in
-    let y = g.W.Sink.taken c.flush.new.sink in
-    let z = g.W.Sink.taken c.put_bytes.new.sink in
-    let same = not_held c.args.page c.args.self.now c.hold.new.self c.args.text.now c.hold.result c.hold.ensures c.if-hold.false in
-    let put = subst (λ (w : Waiting). HasPut w c.flush.new.self x y []) same c.in_ok-flush.ensures.put in
-    put_then c.args.self.now c.flush.new.self _ x y z [] c.args.text.now put
-    (put_given c.flush.new.self _ y z c.args.text.now c.in_ok-flush.ensures.empty held c.in_ok-self-inside.ensures.all (rw (← out) c.in_ok-self-inside.ensures.count))
+    let flushed = rw (c.hold.ensures.not c.if-hold.false) at c.in_ok-flush.ensures.put in
+    let given = c.in_ok-self-inside.ensures in
+    put_then (at c.args.self.now c.args.sink.now) (at c.flush.new.self c.flush.new.sink) _ [] c.args.text.now flushed
+    (given_after (at c.flush.new.self c.flush.new.sink) _ c.args.text.now c.in_ok-flush.ensures.empty (held ∙ c.in_ok-flush.ensures.empty) given.0 (rw (← out) given.1) given.2)
