@@ -70,6 +70,7 @@ impl Table {
     }
 
     /// Does what a row asks for, whose text is this, and answers it.
+    #[inline(always)]
     pub(crate) fn answered(
         &mut self,
         alloc: Global,

@@ -9,8 +9,8 @@ use Rattle.ucl_steps.specs.Doings.{doings_at, FollowsProtocol}
 abbrev pub number_at : ℕ → WordLog → ℕ
 number_at seat log = (doings_at seat log).number
 
--- the numbers of reporters are those from 1 to the number of the enlisted, which is at most 255, each of one seat; each entry has one of
--- them; and the entries that the steps of a seat added are those of its number
+-- the numbers of reporters are those from 1 to the number of the enlisted, which is at most 255, each of one seat; each entry has
+-- one of them; and the entries that the steps of a seat added are those of its number
 pub record LogFacts (log : WordLog) : Type 0 where
   pub few : enlisted_by log ≤ 255
   pub low : (seat : ℕ) → number_at seat log ≤ enlisted_by log

@@ -63,8 +63,8 @@ VersionsNeverFall log =
     (seat k l : ℕ) (a b : FinishedCall) (read again : reading.Reading) → IsCall log seat k a → IsCall log seat l b → k < l
     → a.reply ≡ Copied read → b.reply ≡ Copied again → read.version ≤ again.version
 
--- one history of the board of one thread holds each finished call once, with the reply that it got, between its first step and its
--- last; the calls of a pass come one after another, and a call that ended before another began comes before it
+-- one history of the board of one thread holds each finished call once, with the reply that it got, between its first step and
+-- its last; the calls of a pass come one after another, and a call that ended before another began comes before it
 pub record IsLinearizableLog (log : WordLog) : Type 0 where
   pub legal : IsLegal (history_in log)
   pub explained : (seat k : ℕ) (c : FinishedCall) → IsCall log seat k c → IsExplained log c

@@ -15,7 +15,8 @@ use Rattle.ucl_steps.specs.Linearizable.{IsLinearizable}
 use Rattle.ucl_steps.specs.WordLog.{Act, Look, Swap, First, Second, WordTarget, Match, SeatStep, WordLog, history_in, IsWordLog}
 use Rattle.ucl_steps.specs.Doings.{doings_at, call_asked, outcome, FollowsProtocol}
 
--- A pass is two callers of the machine: the reader of its seat, seats being counted from 0, by its readings, and the reporter of its number (0 for none) by its events.
+-- A pass is two callers of the machine: the reader of its seat, seats being counted from 0, by its readings, and the reporter of
+-- its number (0 for none) by its events.
 abbrev pub IsOf : ℕ → ℕ → Caller → Type 0
 IsOf seat number c = (c ≡ Reader (seat + 1)) ⊎ ((c ≡ Reporter number) × IsReporter number)
 
@@ -29,8 +30,8 @@ caller_at seat number Second = Reader (seat + 1)
 abbrev pub cast_for : ℕ → Cast
 cast_for readers = record { reporters = 255; readers = readers }
 
--- the machine's steps for one of a pass: that of its act, with the beginning of the call just before it where it is the first of it, and the end just after it where
--- it is the last
+-- the machine's steps for one of a pass: that of its act, with the beginning of the call just before it where it is the first of
+-- it, and the end just after it where it is the last
 
 abbrev pub act_step : Act → Caller → Step
 act_step (Look e) c = machine.Look c
@@ -83,8 +84,8 @@ abbrev pub HoldsAs : MachineState → ℕ → ℕ → Held → Type 0
 HoldsAs state seat number Nothing = (c : Caller) → IsOf seat number c → held_by state.callers c ≡ Some Idle
 HoldsAs state seat number held = IsHeldBy state seat number held
 
--- where these steps lead: to the history of the log and the words of its board, with the callers of each pass holding what the pass holds; and all calls, those under way among
--- them, are linearizable
+-- where these steps lead: to the history of the log and the words of its board, with the callers of each pass holding what the
+-- pass holds; and all calls, those under way among them, are linearizable
 pub record LeadsToLog (readers : ℕ) (log : WordLog) : Type 0 where
   pub state : MachineState
   pub run : after_steps (machine_steps log) (initial_state (cast_for readers)) ≡ Some state

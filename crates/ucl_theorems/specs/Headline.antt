@@ -31,7 +31,8 @@ screen_at profile history k roster group =
     let board = board_of (take k history) in
     header group k (in_play board) ++ columns ++ flat_map (row_line roster) (rows_of profile board roster)
 
--- the screen of a reading, whatever the profile, the roster and the group, is that of the board at the reading's place in the history
+-- the screen of a reading, whatever the profile, the roster and the group, is that of the board at the reading's place in the
+-- history
 abbrev pub ScreenIsOfItsPlace : List Entry → CallRecord → Type 0
 ScreenIsOfItsPlace history c =
     (k : ℕ) (reading : Reading) → IsDecided c k (Copied reading) → (profile : Profile) (roster : List NamedClub) (group : ℕ)
@@ -58,10 +59,10 @@ pub record IsOfLog (log : WordLog) (seat : ℕ) (v : WordView) : Type 0 where
   pub knows : IsPrefix v.log log
   pub own : v.own ≡ taken_at seat log
 
--- a word board between two steps of any threads: there is one log of all steps, each the next one of the protocol, whose history has the words
--- that are there. Each pass is of this log, no step is of a seat without a pass, and no two passes have one number. One history of the board of
--- one thread holds each finished call of each pass once, with the reply that it got, between its first step and its last; and each screen is
--- the text of the chosen order of the board that its reading copied
+-- a word board between two steps of any threads: there is one log of all steps, each the next one of the protocol, whose history
+-- has the words that are there. Each pass is of this log, no step is of a seat without a pass, and no two passes have one number.
+-- One history of the board of one thread holds each finished call of each pass once, with the reply that it got, between its
+-- first step and its last; and each screen is the text of the chosen order of the board that its reading copied
 pub record IsOneHistory (s : State Entry WordView) : Type 0 where
   pub log : WordLog
   pub is_log : IsWordLog log
@@ -79,8 +80,8 @@ pub record IsOneHistory (s : State Entry WordView) : Type 0 where
 abbrev pub BoardsHaveOneHistory : (State Entry WordView → Type 0) → Type 0
 BoardsHaveOneHistory rule = (s : State Entry WordView) → rule s → IsOneHistory s
 
--- and over time: the log of a later state begins with that of the earlier one, whichever steps of whichever passes came between, and whether
--- these passes ever met; so no entry and no call ever moves
+-- and over time: the log of a later state begins with that of the earlier one, whichever steps of whichever passes came between,
+-- and whether these passes ever met; so no entry and no call ever moves
 pub record HistoriesGoOn (rule : State Entry WordView → Type 0) : Type 0 where
   pub boards : BoardsHaveOneHistory rule
   pub later : (s t : State Entry WordView) (r : rule s) (q : rule t) → Later s t → IsPrefix (boards s r).log (boards t q).log

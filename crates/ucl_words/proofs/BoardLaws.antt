@@ -13,6 +13,7 @@ use Rattle.ucl_steps.specs.LogFacts.{number_at}
 use Rattle.ucl_steps.proofs.Seats.{place_below, set_else, there_is}
 use Rattle.ucl_steps.proofs.LogHistory.{taken_append, one_taken, doing_own, doing_other}
 use Rattle.ucl_steps.proofs.LogTurns.{logs_linearizable}
+use Rattle.ucl_steps.proofs.LogRuns.{logs_run}
 use Rattle.ucl_steps.proofs.LogFacts.{number_kept, logs_facts}
 use Rattle.ucl_steps.proofs.LogSeats.{last_of, knows_all, some_at, last_all, took, shorter}
 use Rattle.ucl_board.specs.Log as plain
@@ -28,7 +29,11 @@ use Rattle.ucl_words.proofs.KeptRule.{count_there}
 use Rattle.ucl_words.proofs.TableRule.{Position}
 
 pub boards_linearizable : BoardsAreLinearizable
-boards_linearizable s r = record { shared = record { rule = shared_rule s r; enlisted = shared_enlisted s r }; linearizable = logs_linearizable r.log r.is_log r.protocol }
+boards_linearizable s r = record {
+  shared = record { rule = shared_rule s r; enlisted = shared_enlisted s r };
+  linearizable = logs_linearizable r.log r.is_log r.protocol;
+  run = logs_run (length s.views) r.log r.is_log r.protocol r.seated;
+}
 
 -- a board opens with no step
 

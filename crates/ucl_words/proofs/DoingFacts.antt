@@ -11,7 +11,7 @@ use Rattle.ucl_steps.specs.Protocol as protocol
 use Rattle.ucl_steps.specs.Doings.{call_asked}
 use Rattle.ucl_steps.specs.WordLog.{Match, Look, Swap, First, Second}
 use Rattle.ucl_steps.proofs.LogHistory.{look_none, first_none, second_none}
-use Rattle.ucl_words.proofs.StepFacts.{LoadsMatch, Loads, ExchangeWon, ExchangeMissed, doings_is, first_later, shows_answer, loads_match, exchange_won, at_is}
+use Rattle.ucl_words.proofs.StepFacts.{LoadsMatch, Loads, ExchangeWon, ExchangeMissed, doings_is, first_later, log_long, shows_answer, loads_match, exchange_won, at_is}
 
 -- one step on a match word, by what comes of it
 
@@ -66,6 +66,7 @@ module _ (seat game n : ℕ) (act : Act) (v w : WordView) (s : Steps seat (Match
       last = answer;
       calls = ap (λ (z : Doings). z.calls) (done (protocol.Answers reply) comes);
       asked = (ap (call_asked (doings_of v.own).held) s.of ∙ asked, refl, refl);
+      ended = log_long seat target v w s;
       held = ap (λ (z : Doings). z.held) (done (protocol.Answers reply) comes);
     }
 
@@ -101,7 +102,13 @@ stays_answered v u w held call reply nothing number stays finishes =
     let begun : length v.log ≤ (doings_of u.own).first = subst (λ (h : Held). IsBegun h (length v.log) (doings_of v.own).first (doings_of u.own).first) nothing stays.begun in
     let first = finishes.first in
     record {
-      answers = record { last = a.last; calls = a.calls ∙ ap (λ (l : List FinishedCall). l ++ a.last ∷ []) stays.calls; asked = (a.asked.0, a.asked.1, a.asked.2 ∙ number); held = a.held };
+      answers = record {
+        last = a.last;
+        calls = a.calls ∙ ap (λ (l : List FinishedCall). l ++ a.last ∷ []) stays.calls;
+        asked = (a.asked.0, a.asked.1, a.asked.2 ∙ number);
+        ended = a.ended;
+        held = a.held;
+      };
       since = omega arith;
     }
 
@@ -333,6 +340,7 @@ module _ (v x w : WordView) (words : List ℕ) (point i seat n : ℕ) (so_far : 
               last = a.last;
               calls = a.calls ∙ ap (λ (l : List FinishedCall). l ++ a.last ∷ []) so_far.calls;
               asked = (a.asked.0, a.asked.1, a.asked.2 ∙ so_far.number);
+              ended = a.ended;
               held = a.held;
             };
             first = first_kept a.last.first refl;

@@ -141,6 +141,9 @@ module _ (seat : ℕ) (target : WordTarget) (v w : WordView) (s : Steps seat tar
   pub one_more : (x : Taken) × Takes (known v) (x ∷ []) (known w)
   one_more = (plain_step s.step, takes)
 
+  pub log_long : length w.log ≡ s.step.place + 1
+  log_long = let place = s.may.place.0 in let l = ap length log_is ∙ length-append s.before (step_by seat s.step ∷ []) in omega arith
+
   pub first_later : length v.log ≤ s.step.place
   first_later = let place = s.may.place.0 in let p = ap length (s.since).1 ∙ refl in let l = length-append v.log s.since.0 in omega arith
 
@@ -171,9 +174,6 @@ module _ (seat : ℕ) (target : WordTarget) (v w : WordView) (s : Steps seat tar
     }
 
 -- what readings show, by what comes of a step
-
-pub shows_on : (d : Doings) (x : WordStep) (held : Held) → versions_by (with_outcome (GoesOn held) x d) ≡ versions_by d
-shows_on d x held = refl
 
 abbrev pub shown_of : ℕ → FinishedCall → List ℕ
 shown_of number c = cond (c.number == number) (version_in c.reply) []

@@ -12,7 +12,9 @@ use Rattle.ucl_words.specs.WordRule.{TableKeepsOneHistory}
 use Rattle.ucl_words.specs.WordViews.{known}
 
 abbrev pub Later : State Entry WordView → State Entry WordView → Type 0
-Later s t = (seat : ℕ) (v : WordView) → get_elem? s.views seat ≡ some v → v.share ≢ None → (w : WordView) × (get_elem? t.views seat ≡ some w) × IsPrefix v.log w.log
+Later s t =
+    (seat : ℕ) (v : WordView) → get_elem? s.views seat ≡ some v → v.share ≢ None
+    → (w : WordView) × (get_elem? t.views seat ≡ some w) × IsPrefix v.log w.log
 
 -- what a step tells: of the step, the pass before it, the word that was found, and the pass after it
 abbrev pub StepKind : Type 1
@@ -36,7 +38,8 @@ SplitsGoOn left right =
 -- and after a note was taken in
 abbrev pub JoinsGoOn : (WordView → WordView → WordView) → WordView → Type 0
 JoinsGoOn both spent =
-    (s : State Entry WordView) → TableKeepsOneHistory s → (seat other : ℕ) (v note : WordView) → get_elem? s.views seat ≡ some v → get_elem? s.views other ≡ some note → other ≢ seat → note.share ≡ None
+    (s : State Entry WordView) → TableKeepsOneHistory s → (seat other : ℕ) (v note : WordView)
+    → get_elem? s.views seat ≡ some v → get_elem? s.views other ≡ some note → other ≢ seat → note.share ≡ None
     → Later s (record s { views = slice_set (slice_set s.views seat (both v note)) other spent })
 
 -- a step of this kind that found the word that was there says that it found as many reporters as were enlisted

@@ -13,6 +13,7 @@ use Rattle.ucl_steps.specs.WordLog.{SeatStep, WordLog, taken_at, enlisted_by}
 use Rattle.ucl_steps.specs.Doings.{doings_of}
 use Rattle.ucl_steps.specs.LogHistory.{IsLinearizableLog}
 use Rattle.ucl_steps.specs.LogFacts.{matches_in}
+use Rattle.ucl_steps.specs.LogRuns.{LeadsToLog}
 use Rattle.ucl_steps.specs.Progress.{most_between}
 use Rattle.ucl_live_board.specs.Numbers.{IsGivenAfter}
 use Rattle.ucl_live_board.specs.OneHistory.{KeepsOneHistory}
@@ -27,18 +28,21 @@ IsNextWord e old new = GainsOne IsLegal (λ history. word_at (board_of history) 
 
 -- two entries of one match with one word before and one word after are one entry
 abbrev pub WordsTellTheEntry : Type 0
-WordsTellTheEntry = (history : List Entry) (e f : Entry) (old new : ℕ) → IsLegal history → e.game ≡ f.game → word_at (board_of history) e.game ≡ old → IsNextWord e old new → IsNextWord f old new → e ≡ f
+WordsTellTheEntry =
+    (history : List Entry) (e f : Entry) (old new : ℕ) → IsLegal history → e.game ≡ f.game
+    → word_at (board_of history) e.game ≡ old → IsNextWord e old new → IsNextWord f old new → e ≡ f
 
 -- the rule of every shared board, with the same history and as many enlisted reporters
 pub record IsSharedBoard (s : State Entry WordView) (r : TableKeepsOneHistory s) : Type 0 where
   pub rule : KeepsOneHistory words_after s.words (map known s.views)
   pub enlisted : rule.enlisted ≡ enlisted_by r.log
 
--- whatever the steps of a board are, and between any two of them: it keeps the rule of every shared board, and all calls of all
--- passes are linearizable
+-- whatever the steps of a board are, and between any two of them: it keeps the rule of every shared board, all calls of all
+-- passes are linearizable, and the log is a run of the machine, of which each step on a match word is one step
 pub record BoardIsLinearizable (s : State Entry WordView) (r : TableKeepsOneHistory s) : Type 0 where
   pub shared : IsSharedBoard s r
   pub linearizable : IsLinearizableLog r.log
+  pub run : LeadsToLog (length s.views) r.log
 
 abbrev pub BoardsAreLinearizable : Type 0
 BoardsAreLinearizable = (s : State Entry WordView) (r : TableKeepsOneHistory s) → BoardIsLinearizable s r
@@ -70,8 +74,8 @@ NumbersRiseInTime =
     → (seat : ℕ) (v w : WordView) → get_elem? s.views seat ≡ some v → (known v).number ≡ 0 → get_elem? t.views seat ≡ some w → 0 < (known w).number
     → IsGivenAfter (enlisted_by r.log) (map known s.views) (known w).number
 
--- what the rule says of a board that was just opened, with one pass that knows nothing: whatever its words are, they are those of no event and
--- no reporter
+-- what the rule says of a board that was just opened, with one pass that knows nothing: whatever its words are, they are those of
+-- no event and no reporter
 pub record OpensWithNothing (s : State Entry WordView) (r : TableKeepsOneHistory s) : Type 0 where
   pub words_are : s.words ≡ words_after [] 0
   pub no_step : r.log ≡ []

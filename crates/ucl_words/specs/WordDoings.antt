@@ -1,17 +1,18 @@
 -- What calls of the word board leave among the finished calls of their pass.
 -- The pass was v and is w.
-use Rattle.std.specs.Prelude.{◌≡◌, ◌≤◌, [], ◌∷◌, ◌++◌, length}
+use Rattle.std.specs.Prelude.{◌≡◌, ◌+◌, ◌≤◌, [], ◌∷◌, ◌++◌, length}
 use Rattle.ucl_steps.specs.declared.step.Call.{Call}
 use Rattle.ucl_steps.specs.declared.trace.Reply.{Reply}
 use Rattle.ucl_steps.specs.Protocol.{Nothing}
 use Rattle.ucl_steps.specs.Doings.{FinishedCall, doings_of}
 use Rattle.ucl_words.specs.declared.view.WordView.{WordView}
 
--- a call was answered: it is the last of the finished ones, and nothing is held
+-- a call was answered: it is the last of the finished ones, its last step is the last that its pass knows, and nothing is held
 pub record IsAnswered (v : WordView) (call : Call) (reply : Reply) (w : WordView) : Type 0 where
   pub last : FinishedCall
   pub calls : (doings_of w.own).calls ≡ (doings_of v.own).calls ++ last ∷ []
   pub asked : (last.call ≡ call) × (last.reply ≡ reply) × (last.number ≡ (doings_of v.own).number)
+  pub ended : length w.log ≡ last.last + 1
   pub held : (doings_of w.own).held ≡ Nothing
 
 -- and its first step came after all that its pass had known

@@ -23,8 +23,8 @@ pub record FitsLog (log : WordLog) (seat : ℕ) (v : WordView) : Type 0 where
   pub own : (v.own ≡ taken_at seat v.log) × (v.own ≡ taken_at seat log)
   pub idle : v.share ≡ None → v.own ≡ []
 
--- the rule of the table: there is one log of all steps, each the next one of the protocol, which has the words that are there; all passes fit
--- it, no other seat took a step, and what one pass has of the board is no other's
+-- the rule of the table: there is one log of all steps, each the next one of the protocol, which has the words that are there;
+-- all passes fit it, no other seat took a step, and what one pass has of the board is no other's
 pub record TableKeepsOneHistory (s : State Entry WordView) : Type 0 where
   pub log : WordLog
   pub is_log : IsWordLog log

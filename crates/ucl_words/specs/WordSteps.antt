@@ -17,8 +17,8 @@ use Rattle.ucl_words.specs.WordViews.{known}
 abbrev pub stepped_to : WordLog → ℕ → WordStep → WordView → WordView
 stepped_to before seat x v = record { log = before ++ step_by seat x ∷ []; told = []; own = v.own ++ x ∷ []; share = v.share; copied = v.copied }
 
--- a step on this target: it came after this log, all of which the pass then knows, and in which stands what it had known or been told; the
--- pass acts by its share, and then stands at its seat
+-- a step on this target: it came after this log, all of which the pass then knows, and in which stands what it had known or been
+-- told; the pass acts by its share, and then stands at its seat
 pub record Steps (seat : ℕ) (target : WordTarget) (v w : WordView) : Type 0 where
   pub before : WordLog
   pub is_log : IsWordLog before

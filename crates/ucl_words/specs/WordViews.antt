@@ -75,8 +75,8 @@ first_pass = record new_pass { share = whole }
 abbrev pub left_pass : WordView → WordView
 left_pass v = record v { share = first_half v.share }
 
--- a second reader's pass that is split off: it knows as much, has a copy of the steps, has taken none, and has the second half of the
--- share
+-- a second reader's pass that is split off: it knows as much, has a copy of the steps, has taken none, and has the second half of
+-- the share
 abbrev pub second_pass : WordView → WordView
 second_pass v = record { log = v.log; told = []; own = []; share = second_half v.share; copied = v.copied ++ v.own }
 

@@ -17,7 +17,8 @@ pub fn words_tell_the_entry()
 
 /// Between any two steps of any threads there is one log of all steps, each the next one of the protocol. Its history is legal and has the
 /// words that are there; what each pass has done is what its own steps make of it; and all reports and readings of all passes are
-/// linearizable in real time (Herlihy and Wing), also where two passes never met. So the board keeps the rule of every shared board.
+/// linearizable in real time (Herlihy and Wing), also where two passes never met. The log is a run of the protocol's machine (`ucl_steps`), of
+/// which each step on a match word is one step; and the board keeps the rule of every shared board.
 pub fn boards_are_linearizable()
     ensures { BoardsAreLinearizable }
 {}
