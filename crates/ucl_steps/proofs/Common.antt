@@ -21,20 +21,20 @@ pub use Rattle.ucl_board.proofs.Histories.{board_length, entries-append, entries
 pub use Rattle.ucl_board.proofs.HistoryLaws.{may_attempt, same_number, same_word, versions}
 pub use Rattle.ucl_board.specs.Fixtures.{IsMatch}
 pub use Rattle.ucl_board.specs.History.{IsLegal, MayFollow, attempted, board_of, entries_of, entry_of, match_after, reading_of, sequential_reply, snapshot_at}
-pub use Rattle.ucl_board.specs.Log.{Access, AccessKind, Log, Logged, Taken, access, access_list, history_of, logged_by}
+pub use Rattle.ucl_board.specs.Log.{Access, AccessKind, access}
 pub use Rattle.ucl_board.specs.Words.{AreWords, greatest_version, version_of, word_at}
 pub use Rattle.ucl_board.specs.declared.entry.Entry.{Entry}
 pub use Rattle.ucl_steps.specs.Laws.{ReadingsAreSnapshots, ReportsAreSequential, RunsAreLinearizable, UncleanTriesAreFew, UncleanTriesSeeMore, WordsAreOfTheHistory}
 pub use Rattle.ucl_steps.specs.Linearizable.{AcceptedIsEntry, BeginsAt, EndedBySteps, EndsAt, EntryHasOneCall, IsDecided, IsEntry, IsLinearizable, IsRefused, Makes, PointWithinCall}
 pub use Rattle.ucl_steps.specs.Linearizable.{Precedes}
 pub use Rattle.ucl_steps.specs.Linearizable.{ReadingIsSnapshot, RealTimeOrder, RefusedAtPoint, VersionsRise, begun_in, caller_and_call, is_accepted, version_read}
-pub use Rattle.ucl_steps.specs.Machine.{Answered, begun_call, Callers, Holds, Idle, MachineState, Wanting, Within, after_begin, after_end, after_outcome, after_reply, after_step}
+pub use Rattle.ucl_steps.specs.Machine.{Answered, Callers, Holds, Idle, MachineState, Wanting, Within, after_begin, after_end, after_outcome, after_reply, after_step}
 pub use Rattle.ucl_steps.specs.Machine.{after_step_holding, after_steps}
-pub use Rattle.ucl_steps.specs.Machine.{caller_of, change_at, held_at_begin, held_by, initial_state, may_begin, set_held, state_after_first, state_after_look, state_after_second}
+pub use Rattle.ucl_steps.specs.Machine.{caller_of, change_at, held_at_begin, held_by, initial_state, may_begin, set_held, state_after_first, state_after_second}
 pub use Rattle.ucl_steps.specs.Machine.{state_after_swap}
 pub use Rattle.ucl_steps.specs.Machine.{stored, with_end, with_held, with_reply}
 pub use Rattle.ucl_steps.specs.Progress.{SomeCallIsDecided, decided_in, is_caller, most_between, steps_by}
-pub use Rattle.ucl_steps.specs.Protocol.{Answers, Checking, Collecting, GoesOn, Held, Holding, MayAsk, Nothing, Outcome}
+pub use Rattle.ucl_steps.specs.Protocol.{Answers, Checking, Collecting, GoesOn, Held, Holding, Nothing, Outcome}
 pub use Rattle.ucl_steps.specs.Protocol.{by_rules, collected, compared, loaded, looked, swapped}
 pub use Rattle.ucl_steps.specs.Running.{IsReachable, Takes, holds_of, state_of}
 pub use Rattle.ucl_steps.specs.Trails.{Does, Follows, IsClean, IsCollect, IsFoundIn, IsUnclean, accesses_of}
@@ -58,5 +58,4 @@ pub use Rattle.ucl_word.specs.declared.refusal.Refusal.{Refusal}
 pub use Rattle.ucl_word.specs.declared.refusal.Refusal.TheVariants.{Stale}
 pub use lib.ListN.{get_elem?}
 pub use mathlib.Core.List.{IsPrefix}
-pub use mathlib.Core.Logic.{dite}
 pub use mathlib.Core.Option.{some, some-injective, some-ne-none}

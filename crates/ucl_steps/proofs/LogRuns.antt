@@ -15,6 +15,7 @@ use Rattle.ucl_steps.proofs.Lists.{same_caller, held_here, held_else}
 use Rattle.ucl_steps.proofs.Runs.{linearizable_run, words_of_run}
 use Rattle.ucl_steps.proofs.LogHistory.{history_more, by_seat, look_none, first_none, second_none, count_none, enlist_none}
 use Rattle.ucl_steps.proofs.Common.{Refusal, refusal_of, record_at, reading_of, by_rules, Copied}
+use Rattle.ucl_steps.proofs.LogTurns.{holding, collecting, checking}
 use Rattle.ucl_steps.proofs.LogFacts.{enlisted_more, logs_facts}
 use Rattle.ucl_steps.specs.WordLog.{Act, Look, Swap, First, Second, WordTarget, Match, Enlisted, Enlists, WordStep, SeatStep, WordLog, history_in, enlists}
 use Rattle.ucl_steps.specs.WordLog.{enlisted_by, IsFoundThere, MayComeNext, IsWordLog}
@@ -264,15 +265,6 @@ holds_after seat number c w steps (Answers reply) history l of idle stays = λ d
   | inl same ↦ ap (held_by l.last.callers) same ∙ l.holds
   | inr not ↦ l.others d not ∙ idle d is not
 ]
-
-holding : (e : EventCall) (old new : ℕ) → Holding e old new ≢ Nothing
-holding e old new is = cc
-
-collecting : (words : List ℕ) → Collecting words ≢ Nothing
-collecting words is = cc
-
-checking : (words : List ℕ) (checked point : ℕ) → Checking words checked point ≢ Nothing
-checking words checked point is = cc
 
 look_stays : (seat number : ℕ) (e : EventCall) (found : ℕ) (o : Option Refusal) → Stays seat number (Reporter number) (by_rules number e found o)
 look_stays seat number e found None = (holding e found _, refl)

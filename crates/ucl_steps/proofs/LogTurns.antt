@@ -2,7 +2,7 @@
 use Rattle.ucl_steps.proofs.Common.{◌≡◌, ◌≢◌, inl, inr, ℕ, ◌+◌, ◌<◌, ◌≤◌, List, ◌∷◌, ◌++◌, length, Some, refl, sym, ap, ◌∙◌}
 use Rattle.ucl_steps.proofs.Common.{subst, arith, [], slice_get, none-some, at_either, length_push, Held, Nothing, Holding}
 use Rattle.ucl_steps.proofs.Common.{Collecting, Checking, Outcome, GoesOn, Answers}
-use Rattle.ucl_steps.proofs.Common.{take, Entry, Refusal, snapshot_at, board_of, sequential_reply, take-length, Call, Copied}
+use Rattle.ucl_steps.proofs.Common.{EventCall, take, Entry, Refusal, snapshot_at, board_of, sequential_reply, take-length, Call, Copied}
 use Rattle.std.specs.Prelude.{Result, Ok, Err}
 use Rattle.std.proofs.lemmas.List.{length-take-le}
 use Rattle.ucl_word.specs.declared.event.Accepted.{Accepted}
@@ -25,22 +25,24 @@ record InTurn (n : ℕ) (d : Doings) : Type 0 where
 later : (n m : ℕ) (d : Doings) → n ≤ m → InTurn n d → InTurn m d
 later n m d le t = record { past = λ k a at. let l = t.past k a at in omega arith; turns = t.turns; under = t.under }
 
+-- what is held within a call
+
+pub holding : (e : EventCall) (old new : ℕ) → Holding e old new ≢ Nothing
+holding e old new is = cc
+
+pub collecting : (words : List ℕ) → Collecting words ≢ Nothing
+collecting words is = cc
+
+pub checking : (words : List ℕ) (checked point : ℕ) → Checking words checked point ≢ Nothing
+checking words checked point is = cc
+
 -- the first step of the call that a step is of comes after all finished calls
 first_after : (n : ℕ) (d : Doings) (h : Held) → d.held ≡ h → InTurn n d → (k : ℕ) (a : FinishedCall) → slice_get d.calls k ≡ Some a
     → a.last < first_place h d.first n
 first_after n d Nothing is t k a at = t.past k a at
-first_after n d (Holding e old new) is t k a at = t.under k a at (λ none. other (sym is ∙ none))
-  where
-    other : Holding e old new ≡ Nothing → ⊥
-    other e = cc
-first_after n d (Collecting words) is t k a at = t.under k a at (λ none. other (sym is ∙ none))
-  where
-    other : Collecting words ≡ Nothing → ⊥
-    other e = cc
-first_after n d (Checking words checked point) is t k a at = t.under k a at (λ none. other (sym is ∙ none))
-  where
-    other : Checking words checked point ≡ Nothing → ⊥
-    other e = cc
+first_after n d (Holding e old new) is t k a at = t.under k a at (λ none. holding e old new (sym is ∙ none))
+first_after n d (Collecting words) is t k a at = t.under k a at (λ none. collecting words (sym is ∙ none))
+first_after n d (Checking words checked point) is t k a at = t.under k a at (λ none. checking words checked point (sym is ∙ none))
 
 turns_outcome : (n : ℕ) (d : Doings) (y : WordStep) (o : Outcome) → y.place ≡ n → InTurn n d → InTurn (n + 1) (with_outcome o y d)
 turns_outcome n d y (GoesOn k) place t = record {

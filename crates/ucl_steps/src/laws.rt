@@ -74,7 +74,7 @@ pub fn calls_finish()
 
 /// Such a log is a run of the machine: each of its steps on a match word is one step of the machine, by a caller of its pass, with the
 /// beginning of a call just before its first and the end just after its last. The run leads to the history of the log and the words of its
-/// board; what each pass has done and holds is what its callers there have done and hold. A longer log is a longer run.
+/// board; what each pass holds is what its callers there hold. A longer log is a longer run.
 pub fn logs_are_runs()
     ensures runs { LogsAreRuns }
     ensures longer { LongerLogsAreLongerRuns }

@@ -1,15 +1,15 @@
 -- The words and lemmas from elsewhere that the proofs of this crate share.
-pub use Rattle.atomic_table.proofs.Lists.{at_last, at_longer, at_map, exchanged, set_again, set_here}
+pub use Rattle.atomic_table.proofs.Lists.{at_last, at_longer, at_map, exchanged, set_here}
 pub use Rattle.atomic_table.specs.Table.{Allows, Joins, Me, Splits, State, Valid, carried_after, keeps, opening, step, stepped}
-pub use Rattle.std.proofs.Common.{Bool, List, None, Option, Some, [], ap, append-nil, append_assoc, arith, cond, eq-eqb, false, get_or, get_or-set_same, if◌then◌else◌, inl, inr, le_refl, length}
+pub use Rattle.std.proofs.Common.{Bool, List, None, Option, Some, [], ap, append-nil, append_assoc, arith, cond, eq-eqb, false, get_or, get_or-set_same, inl, inr, le_refl, length}
 pub use Rattle.std.proofs.Common.{length-append, length-set, map, ne_eqb, refl, rules, set, subst, suc, sym, take, true, zero, ℕ, ◌++◌, ◌+◌, ◌-◌, ◌<◌, ◌==◌, ◌∙◌, ◌∷◌, ◌≡◌, ◌≢◌, ◌≤◌, ◌⊎◌}
 pub use Rattle.std.proofs.Math.Seq.{take-append_seam, take-length}
-pub use Rattle.std.proofs.lemmas.Bool.{cases_eq, cases_lt, eqb-false, false≢true}
-pub use Rattle.std.proofs.lemmas.List.{length-map, length-take-le, length_push, map-append, map-set, set-get_or}
-pub use Rattle.std.proofs.lemmas.List.Elements.{All-append, All-cons, All-head, All-nil, All-tail, filter-append}
-pub use Rattle.std.specs.Prelude.{All, Err, IfErr, IfOk, IfSome, IsOk, IsSome, Ok, Result, filter, slice_get, slice_index, ◌*◌}
-pub use Rattle.ucl_board.proofs.Beginnings.{begins_length, begins_more, begins_none, begins_same, begins_through}
-pub use Rattle.ucl_board.proofs.Histories.{accepted_reply, board_length, board_with, board_words, game_after, match_valid, next_board, refused_reply, word_after}
+pub use Rattle.std.proofs.lemmas.Bool.{cases_eq, cases_lt, eqb-false}
+pub use Rattle.std.proofs.lemmas.List.{length-map, length-take-le, map-append, set-get_or}
+pub use Rattle.std.proofs.lemmas.List.Elements.{All-append, All-cons, All-head, All-nil, All-tail}
+pub use Rattle.std.specs.Prelude.{All, Err, IfErr, IfOk, IsOk, IsSome, Ok, Result, filter, slice_get, slice_index, ◌*◌}
+pub use Rattle.ucl_board.proofs.Beginnings.{begins_length, begins_more, begins_same, begins_through}
+pub use Rattle.ucl_board.proofs.Histories.{accepted_reply, board_words, game_after, match_valid, refused_reply, word_after}
 pub use Rattle.ucl_board.proofs.HistoryLaws.{beginnings, entry_known, versions}
 pub use Rattle.ucl_board.specs.Fixtures.{IsMatch}
 pub use Rattle.ucl_board.specs.History.{IsLegal, board_of, entry_of, followed_by, match_after, reading_of}
@@ -19,8 +19,7 @@ pub use Rattle.ucl_board.specs.declared.reading.Reading.{Reading}
 pub use Rattle.ucl_live_board.proofs.CallsBySteps.{all_more, one_more, room, sound_kept, takes_count, takes_none, takes_on}
 pub use Rattle.ucl_live_board.specs.CallSteps.{EnlistSteps, FoundEnlisted, IsOnEnlisted, MeetingSteps, steps_with}
 pub use Rattle.ucl_live_board.specs.Passes.{AcceptedReport, Continues, Enlistment, Meeting, RefusedReport, SeesOn, SharedReading}
-pub use Rattle.ucl_live_board.specs.Steps.{no_call}
-pub use Rattle.ucl_live_board.specs.Views.{Takes, count_of, kept_of, note_of, opener, pass_view_of, second_of, steps_of, told_by, trail_of}
+pub use Rattle.ucl_live_board.specs.Views.{Takes, count_of, pass_view_of, steps_of, trail_of}
 pub use Rattle.ucl_live_board.specs.declared.view.View.{View}
 pub use Rattle.ucl_word.proofs.AcceptedEvents.{after_number}
 pub use Rattle.ucl_word.proofs.Words.{word_packed}
@@ -31,21 +30,20 @@ pub use Rattle.ucl_word.specs.declared.event.EventCall.{EventCall}
 pub use Rattle.ucl_word.specs.declared.record.MatchRecord.{MatchRecord}
 pub use Rattle.ucl_word.specs.declared.refusal.Refusal.{Refusal}
 pub use Rattle.ucl_word.specs.declared.refusal.Refusal.TheVariants.{Stale}
-pub use Rattle.ucl_board.specs.Log.{Access, AccessKind, IsThere, Taken, access, access_list, accesses_in, step_taken}
+pub use Rattle.ucl_board.specs.Log.{Access, AccessKind, Taken, access, accesses_in, step_taken}
 pub use Rattle.ucl_steps.proofs.Accesses.{clean_shows, collect_more, collect_none, collect_set, follows_append, follows_longer, follows_one, follows_wider}
 pub use Rattle.ucl_steps.proofs.Accesses.{reading_whole, report_whole, unclean_try}
-pub use Rattle.ucl_steps.proofs.Seats.{place_below}
-pub use Rattle.ucl_steps.specs.Doings.{Doings, FinishedCall, FollowsProtocol, IsNextFor, IsProtocols, call_answered, call_asked, doings_at, doings_of, entry_by}
+pub use Rattle.ucl_steps.specs.Doings.{Doings, FinishedCall, FollowsProtocol, IsNextFor, IsProtocols, call_answered, doings_at, doings_of, entry_by}
 pub use Rattle.ucl_steps.specs.Doings.{first_place, next_game, nothing_yet, outcome, with_outcome, with_step, with_target}
-pub use Rattle.ucl_steps.specs.Protocol.{Checking, Collecting, GoesOn, Held, Holding, Nothing, Outcome, by_rules, collected, compared, loaded, looked}
-pub use Rattle.ucl_steps.specs.Protocol.{report_reply, swapped}
+pub use Rattle.ucl_steps.specs.Protocol.{Checking, Collecting, GoesOn, Held, Holding, Nothing, Outcome, by_rules, collected}
+pub use Rattle.ucl_steps.specs.Protocol.{report_reply}
 pub use Rattle.ucl_steps.specs.Trails.{Follows, IsClean, IsCollect, IsUnclean, ReadingAccesses, ReportAccesses, accesses_of, most_loads, most_tries}
 pub use Rattle.ucl_steps.specs.WordLog.{Act, IsFoundThere, IsWordLog, MayComeNext, SeatStep, WordLog, WordStep, WordTarget, enlisted_by}
 pub use Rattle.ucl_steps.specs.WordLog.{enlists, entries_added, history_in, step_by, taken_at}
 pub use Rattle.ucl_steps.specs.declared.step.Call.{Call}
 pub use Rattle.ucl_steps.specs.declared.trace.Reply.{Reply}
 pub use Rattle.ucl_words.specs.Code.{Collects, FindsAgain, FindsAnother, Finishes, IsBegun, IsHoldingFor, MayCollect, StaysIn, Walks}
-pub use Rattle.ucl_words.specs.Laws.{IsNextWord, WordsTellTheEntry}
+pub use Rattle.ucl_words.specs.Laws.{WordsTellTheEntry}
 pub use Rattle.ucl_words.specs.WordCalls.{EnlistTries, Enlisting, HasTrail, IsSteady, KeepsTrail, ReadingSteps, ReportSteps}
 pub use Rattle.ucl_words.specs.WordDoings.{AnswersCall, DoneAsBefore, IsAnswered}
 pub use Rattle.ucl_words.specs.WordRule.{FitsLog, StandAfterSplit, Stands, TableKeepsOneHistory, words_after}
@@ -55,5 +53,5 @@ pub use Rattle.ucl_words.specs.WordViews.{second_pass, told_pass, version_in, ve
 pub use Rattle.ucl_words.specs.declared.view.WordView.{WordView}
 pub use lib.ListN.{get_elem?}
 pub use mathlib.Core.List.{IsPrefix}
-pub use mathlib.Core.Option.{none, some}
+pub use mathlib.Core.Option.{some}
 pub use prog.Atomic.{either}

@@ -11,7 +11,19 @@ use Rattle.ucl_steps.specs.Protocol as protocol
 use Rattle.ucl_steps.specs.Doings.{call_asked}
 use Rattle.ucl_steps.specs.WordLog.{Match, Look, Swap, First, Second}
 use Rattle.ucl_steps.proofs.LogHistory.{look_none, first_none, second_none}
+use Rattle.ucl_steps.proofs.LogTurns.{collecting, checking}
 use Rattle.ucl_words.proofs.StepFacts.{LoadsMatch, Loads, ExchangeWon, ExchangeMissed, doings_is, first_later, log_long, shows_answer, loads_match, exchange_won, at_is}
+
+-- when a call began
+
+begun_place : (h : Held) (known was place : ℕ) → known ≤ place → IsBegun h known was (first_place h was place)
+begun_place Nothing known was place le = le
+begun_place (Holding e old new) known was place le = refl
+begun_place (Collecting words) known was place le = refl
+begun_place (Checking words checked point) known was place le = refl
+
+begun_on : (h : Held) (known was first then : ℕ) → IsBegun h known was first → then ≡ first → IsBegun h known was then
+begun_on h known was first then begun same = subst (IsBegun h known was) (sym same) begun
 
 -- one step on a match word, by what comes of it
 
@@ -41,20 +53,9 @@ module _ (seat game n : ℕ) (act : Act) (v w : WordView) (s : Steps seat (Match
     goes_on = record {
       calls = goes_calls;
       held_is = ap (λ (z : Doings). z.held) (done (GoesOn held) comes);
-      begun = begun_by (doings_of v.own).held refl;
+      begun = begun_on (doings_of v.own).held (length v.log) (doings_of v.own).first _ (doings_of w.own).first
+          (begun_place (doings_of v.own).held (length v.log) (doings_of v.own).first s.step.place (first_later seat target v w s)) goes_first;
     }
-      where
-        begun_by : (h : Held) → (doings_of v.own).held ≡ h → IsBegun (doings_of v.own).held (length v.log) (doings_of v.own).first (doings_of w.own).first
-        begun_by Nothing is =
-            let first = goes_first ∙ ap (λ (k : Held). first_place k (doings_of v.own).first s.step.place) is in
-            let low = first_later seat target v w s in
-            subst (λ (k : Held). IsBegun k (length v.log) (doings_of v.own).first (doings_of w.own).first) (sym is) (omega arith)
-        begun_by (Holding e old new) is = subst (λ (k : Held). IsBegun k (length v.log) (doings_of v.own).first (doings_of w.own).first) (sym is)
-            (goes_first ∙ ap (λ (k : Held). first_place k (doings_of v.own).first s.step.place) is)
-        begun_by (Collecting words) is = subst (λ (k : Held). IsBegun k (length v.log) (doings_of v.own).first (doings_of w.own).first) (sym is)
-            (goes_first ∙ ap (λ (k : Held). first_place k (doings_of v.own).first s.step.place) is)
-        begun_by (Checking words checked point) is = subst (λ (k : Held). IsBegun k (length v.log) (doings_of v.own).first (doings_of w.own).first) (sym is)
-            (goes_first ∙ ap (λ (k : Held). first_place k (doings_of v.own).first s.step.place) is)
 
   -- the call is answered
   module _ (reply : Reply) (comes : outcome (doings_of v.own).number (doings_of v.own).held (Match act game n) s.step.at ≡ protocol.Answers reply) where
@@ -74,9 +75,6 @@ module _ (seat game n : ℕ) (act : Act) (v w : WordView) (s : Steps seat (Match
     answer_shown = ap versions_by (done (protocol.Answers reply) comes) ∙ shows_answer (doings_of v.own) s.step reply
 
 -- steps of one call, one after another
-
-begun_on : (h : Held) (known was first then : ℕ) → IsBegun h known was first → then ≡ first → IsBegun h known was then
-begun_on h known was first then begun same = subst (IsBegun h known was) (sym same) begun
 
 under_way : (h : Held) (known was first : ℕ) → h ≢ Nothing → IsBegun h known was first → first ≡ was
 under_way Nothing known was first some begun = absurd (some refl)
@@ -269,10 +267,7 @@ module _ (v x : WordView) (words : List ℕ) (i : ℕ) (less : i < 12) (long : l
         by : Firsts v words i x → StaysIn v more w
         by (inl t) = subst (λ (z : WordView). StaysIn z more w) t.1 (goes_on seat (i + 1) n First x w s more (comes so_far))
         by (inr t) = stays_on v x w (collected (take i words) (length (known x).seen)) more
-            (λ none. collecting (sym (collecting_still (length (known x).seen)) ∙ none)) t.1 (goes_on seat (i + 1) n First x w s more (comes so_far))
-          where
-            collecting : Collecting (take i words) ≡ Nothing → ⊥
-            collecting e = cc
+            (λ none. collecting (take i words) (sym (collecting_still (length (known x).seen)) ∙ none)) t.1 (goes_on seat (i + 1) n First x w s more (comes so_far))
 
 pub firsts_all : (v x : WordView) (words : List ℕ) (i : ℕ) → length words ≡ 12 → i ≡ 12 → Firsts v words i x → StaysIn v (Checking words 0 (length (known x).seen)) x
 firsts_all v x words i long all (inl t) = absurd (let e = t.0 in omega arith)
@@ -376,16 +371,10 @@ module _ (v x : WordView) (none : (doings_of v.own).held ≡ Nothing) where
 
   pub tries_on : (h : Held) (u : WordView) → Tries v x → StaysIn x h u → StaysIn v h u
   tries_on h u (inl same) stays = subst (λ (z : WordView). StaysIn z h u) same stays
-  tries_on h u (inr t) stays = stays_on v x u (Collecting []) h collecting t stays
-    where
-      collecting : Collecting [] ≡ Nothing → ⊥
-      collecting e = cc
+  tries_on h u (inr t) stays = stays_on v x u (Collecting []) h (collecting []) t stays
 
 pub tries_again : (v u w : WordView) (words : List ℕ) (point : ℕ) → StaysIn v (Checking words 0 point) u → StaysIn u (Collecting []) w → StaysIn v (Collecting []) w
-tries_again v u w words point a b = stays_on v u w (Checking words 0 point) (Collecting []) checking a b
-  where
-    checking : Checking words 0 point ≡ Nothing → ⊥
-    checking e = cc
+tries_again v u w words point a b = stays_on v u w (Checking words 0 point) (Collecting []) (checking words 0 point) a b
 
 -- a step on the enlist word leaves what was done
 pub counted_does : (seat n : ℕ) (v w : WordView) → Steps seat (Rattle.ucl_steps.specs.WordLog.Enlisted n) v w → Rattle.ucl_words.specs.WordDoings.DoneAsBefore v w

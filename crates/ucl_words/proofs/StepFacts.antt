@@ -103,6 +103,9 @@ module _ (seat : ℕ) (target : WordTarget) (v w : WordView) (s : Steps seat tar
   facts : LogFacts w.log
   facts = logs_facts w.log is_log follows
 
+  mine_is : entries_added w.own ≡ entries_by (doings_of w.own).number (history_in w.log)
+  mine_is = ap entries_added own_taken ∙ (facts.mine seat ∙ (λ i. entries_by (doings_of (sym own_taken i)).number (history_in w.log)))
+
   -- alone with the whole board
   alone : w.share ≡ whole → IsAlone (pass_view_of (known w))
   alone is =
@@ -110,15 +113,11 @@ module _ (seat : ℕ) (target : WordTarget) (v w : WordView) (s : Steps seat tar
       let here = at_map known s.stands.state.views seat w s.stands.here in
       let fits = r.fits seat (known w) here in
       let did = whole_is_alone words_after s.stands.state.words (map known s.stands.state.views) r seat (known w) here is in
-      let mine : entries_added w.own ≡ entries_by (doings_of w.own).number (history_in w.log) = mine_is in
-      let seen = all_seen (doings_of w.own).number (history_in w.log) _ fits.seen (sym mine ∙ did.mine) in
+      let seen = all_seen (doings_of w.own).number (history_in w.log) _ fits.seen (sym mine_is ∙ did.mine) in
       let listed = fits.listed in
       let number = did.number in
       let one = did.one in
       record { seen = seen ∙ sym did.mine; listed = omega arith; one = omega arith }
-    where
-      mine_is : entries_added w.own ≡ entries_by (doings_of w.own).number (history_in w.log)
-      mine_is = ap entries_added own_taken ∙ (facts.mine seat ∙ (λ i. entries_by (doings_of (sym own_taken i)).number (history_in w.log)))
 
   pub goes : Goes (known v) (known w)
   goes = record {
@@ -128,7 +127,7 @@ module _ (seat : ℕ) (target : WordTarget) (v w : WordView) (s : Steps seat tar
         (subst (IsPrefix s.before) (sym log_is) (step_by seat s.step ∷ [], refl)));
     told = ap (λ (z : WordView). map history_in z.told) s.is;
     log = plain_on v.log w.log since;
-    own = ap entries_added own_taken ∙ (facts.mine seat ∙ (λ i. entries_by (doings_of (sym own_taken i)).number (history_in w.log)));
+    own = mine_is;
     few = facts.few;
     share = ap (λ (z : WordView). z.share) s.is;
     acts = subst IsSome (sym (ap (λ (z : WordView). z.share) s.is)) s.acts;
