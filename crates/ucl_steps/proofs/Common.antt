@@ -33,7 +33,6 @@ pub use Rattle.ucl_steps.specs.Machine.{after_step_holding, after_steps}
 pub use Rattle.ucl_steps.specs.Machine.{caller_of, change_at, held_at_begin, held_by, initial_state, may_begin, set_held, state_after_first, state_after_second}
 pub use Rattle.ucl_steps.specs.Machine.{state_after_swap}
 pub use Rattle.ucl_steps.specs.Machine.{stored, with_end, with_held, with_reply}
-pub use Rattle.ucl_steps.specs.Progress.{SomeCallIsDecided, decided_in, is_caller, most_between, steps_by}
 pub use Rattle.ucl_steps.specs.Protocol.{Answers, Checking, Collecting, GoesOn, Held, Holding, Nothing, Outcome}
 pub use Rattle.ucl_steps.specs.Protocol.{by_rules, collected, compared, loaded, looked, swapped}
 pub use Rattle.ucl_steps.specs.Running.{IsReachable, Takes, holds_of, state_of}

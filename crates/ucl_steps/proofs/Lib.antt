@@ -13,7 +13,6 @@ pub mod Runs
 pub mod Accesses
 pub mod Reachable
 pub mod Seats
-pub mod FewSteps
 pub mod LogHistory
 pub mod LogTurns
 pub mod LogSeats

@@ -5,7 +5,6 @@ pub mod Traces
 pub mod Laws
 pub mod Running
 pub mod Protocol
-pub mod Progress
 pub mod WordLog
 pub mod Doings
 pub mod LogHistory

@@ -2,7 +2,6 @@
 use Rattle.std.specs.Prelude.{◌≡◌, ℕ, ◌==◌, ◌<◌, ◌≤◌, List, All, ◌++◌, filter, length}
 use Rattle.std.specs.List.{sum_by}
 use Rattle.ucl_board.specs.declared.entry.Entry.{Entry}
-use Rattle.ucl_steps.specs.Progress.{most_between}
 use Rattle.ucl_steps.specs.WordLog.{WordTarget, Match, WordStep, WordLog, taken_at, entries_added, history_in, enlisted_by, IsWordLog}
 use Rattle.ucl_steps.specs.Doings.{doings_at, FollowsProtocol}
 
@@ -29,6 +28,11 @@ on_match target = 0
 
 abbrev pub matches_in : List WordStep → ℕ
 matches_in steps = sum_by (λ (x : WordStep). on_match x.target) steps
+
+-- the most steps of one seat while no call is finished: with none finished no entry comes, so these are 12 of a try that an
+-- entry before them breaks, and 23 of the next one, which is clean and ends with its 24th
+abbrev pub most_between : ℕ
+most_between = 35
 
 -- between two moments at which as many calls of each seat were finished, each took few steps
 abbrev pub CallsFinish : Type 0

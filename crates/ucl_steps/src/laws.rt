@@ -4,7 +4,6 @@ ghost use Rattle.ucl_steps.specs.Laws.{RunsAreLinearizable, WordsAreOfTheHistory
 ghost use Rattle.ucl_steps.specs.LogHistory.{LogsAreLinearizable};
 ghost use Rattle.ucl_steps.specs.LogFacts.{LogsHaveFacts, CallsFinish};
 ghost use Rattle.ucl_steps.specs.LogRuns.{LogsAreRuns, LongerLogsAreLongerRuns};
-ghost use Rattle.ucl_steps.specs.Progress.{SomeCallIsDecided};
 
 /// Whatever steps the callers take, in whatever order, and wherever the list is cut: one legal history of the board of
 /// one thread holds each finished call once, with the reply that it got, between its invocation and its response; each
@@ -45,12 +44,6 @@ pub fn readings_are_snapshots()
 #[tactic(auto, using(crate::proofs::Accesses::report_whole))]
 pub fn reports_are_sequential()
     ensures { ReportsAreSequential }
-{}
-
-/// While callers take steps, calls are decided: wherever a run stands, of further steps by which no call is decided each
-/// caller takes 35 at most, and all callers take 35 times as many as there are. It says nothing of which call it is.
-pub fn some_call_is_decided()
-    ensures { SomeCallIsDecided }
 {}
 
 /// Every log of steps that are the protocol's, in whatever order their passes took them: its history is legal and holds each finished

@@ -11,7 +11,7 @@ mod trace;
 
 pub use laws::{
     calls_finish, logs_are_linearizable, logs_are_runs, logs_have_facts, readings_are_snapshots,
-    reports_are_sequential, runs_are_linearizable, some_call_is_decided, unclean_tries_are_few,
+    reports_are_sequential, runs_are_linearizable, unclean_tries_are_few,
     unclean_tries_see_more, words_are_of_the_history,
 };
 pub use run::run_steps;

@@ -4,8 +4,7 @@ use Rattle.ucl_words.proofs.Common.{subst, arith, [], All, filter, cases_lt, eqb
 use Rattle.ucl_words.proofs.Common.{taken_at, doings_of, doings_at, IsWordLog, FollowsProtocol}
 use Rattle.std.proofs.lemmas.List.Sums.{sum_by-cons}
 use mathlib.Core.Bool.{not}
-use Rattle.ucl_steps.specs.LogFacts.{matches_in, on_match}
-use Rattle.ucl_steps.specs.Progress.{most_between}
+use Rattle.ucl_steps.specs.LogFacts.{most_between, matches_in, on_match}
 use Rattle.ucl_steps.proofs.LogProgress.{some_finish, calls_grow}
 use Rattle.ucl_steps.proofs.LogSeats.{taken_none, below_more}
 use Rattle.ucl_words.specs.Laws.{SomeCallFinishes, calls_finished}

@@ -48,10 +48,6 @@ apart_last views w lone apart i j a b at bt over = elim (at_last views w a i at)
   ]
 ]
 
-none_overlaps : (s t : Share) → s ≡ None → Overlap s t → ⊥
-none_overlaps None t is over = over
-none_overlaps s t is over = (subst (λ (z : Share). Overlap z t) is over)
-
 -- with this share for another one that overlaps with no more
 module _ (views : List WordView) (seat : ℕ) (v : WordView) (here : get_elem? views seat ≡ some v) (apart : ApartShares views) where
   lone_by : (w : WordView) → ((t : Share) → Overlap w.share t → Overlap v.share t) → (j : ℕ) (u : WordView) → j ≢ seat → get_elem? views j ≡ some u

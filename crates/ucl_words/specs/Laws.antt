@@ -12,9 +12,8 @@ use Rattle.ucl_board.specs.History.{board_of, IsLegal}
 use Rattle.ucl_steps.specs.WordLog.{SeatStep, WordLog, taken_at, enlisted_by}
 use Rattle.ucl_steps.specs.Doings.{doings_of}
 use Rattle.ucl_steps.specs.LogHistory.{IsLinearizableLog}
-use Rattle.ucl_steps.specs.LogFacts.{matches_in}
+use Rattle.ucl_steps.specs.LogFacts.{matches_in, most_between}
 use Rattle.ucl_steps.specs.LogRuns.{LeadsToLog}
-use Rattle.ucl_steps.specs.Progress.{most_between}
 use Rattle.ucl_live_board.specs.Numbers.{IsGivenAfter}
 use Rattle.ucl_live_board.specs.OneHistory.{KeepsOneHistory}
 use Rattle.ucl_words.specs.declared.view.WordView.{WordView}
