@@ -190,6 +190,18 @@ def block_of(text, heading):
     return text.split(heading + "\n", 1)[1].split("\n\n", 1)[0].splitlines()
 
 
+@pytest.mark.parametrize("line", ["ucl_night --help", "ucl_live --help", "ucl_follow --help", "ucl_night --version", "ucl_night feed --gruop"])
+def test_help_leaves_the_input(program, line):
+    """A program that is not asked to do anything ends although its input is held open, and takes none of it."""
+    name, *words = line.split()
+    reading, writing = os.pipe()
+    os.write(writing, b"4,1,0,kickoff\n")
+    subprocess.run([program(name), *words], stdin=reading, stdout=subprocess.DEVNULL, stderr=subprocess.DEVNULL, timeout=20)
+    os.close(writing)
+    with open(reading, "rb") as left:
+        assert left.read() == b"4,1,0,kickoff\n"
+
+
 def test_events_of_the_help_are_those_that_are_taken(run):
     events = re.findall(r"[a-z-]+", " ".join(block_of(run("ucl_night", "feed", "--help").output, "Events:")))
     assert len(events) == 13

@@ -86,11 +86,11 @@ use ucl_words::WordBoard;
 
 @pytest.mark.quick
 def test_doc_comments():
-    """Each public call of a board has one example of 3 to 10 lines, which calls it, and there are no other blocks."""
+    """Each public call of a board has one example of 3 to 10 lines, which calls it, and there are no other blocks but at the heads of crates."""
     assert [call for call, blocks in CALLS if len(blocks) != 1 or not re.search(rf"\b{call}\(", blocks[0])] == []
     assert [call for call, (block,) in CALLS if not 3 <= block.count("\n") <= 10] == []
     files = [path for crate in BOARD_CRATES for path in (TOP / "crates" / crate).glob("src/*.rt")]
-    assert sum(len(BLOCK.findall(text_of(path))) for path in files) == len(CALLS) > 0
+    assert sum(len(BLOCK.findall(re.sub(r"^//!.*\n", "", text_of(path), flags=re.M))) for path in files) == len(CALLS) > 0
 
 
 @pytest.mark.limit(300)

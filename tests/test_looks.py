@@ -55,7 +55,7 @@ FAULTS = {
     "a wake by a program": (looks.boards_go_through_passes, "ucl_night/src/main.rt", "    let alloc = rt.alloc();", "    words.wake_all(0);\n    let alloc = rt.alloc();"),
     "a pass that acts": (looks.nothing_acts_when_let_go, "ucl_words/src/passes.rt", "impl WordReporterPass {", "impl ops::Drop\n    for WordReporterPass { fn drop(self) {} }\n\nimpl WordReporterPass {"),
     "a writer that writes a line more": (looks.nothing_acts_when_let_go, "ucl_io/src/devices.rt", "impl<W: Write> ToWrite<W> {", TO_WRITE + "impl<W: Write> ToWrite<W> {"),
-    "memory that is never given back": (looks.nothing_acts_when_let_go, "ucl_runs/src/table.rt", "        let before = self.board.version();\n", "        let before = self.board.version();\n        mem::forget(text);\n"),
+    "memory that is never given back": (looks.nothing_acts_when_let_go, "ucl_*runs/src/*.rt", "        let before = self.board.version();\n", "        let before = self.board.version();\n        mem::forget(text);\n"),
     "a count that acts": (looks.nothing_acts_when_let_go, "ucl_io/src/tally.rt", "let Self { marker: _ } = self;", "tell(self);"),
     "a handle that acts": (looks.nothing_acts_when_let_go, "ucl_c*/src/*.rt", "            drop(self.take(alloc).into_box());", "            report(self.take(alloc));"),
     "a call of C that acts": (looks.nothing_acts_when_let_go, "ucl_c*/src/*.rt", "    pass.let_go(alloc);\n", "    report(pass);\n    pass.let_go(alloc);\n"),
@@ -115,3 +115,15 @@ def test_planted_in_a_page(tmp_path, fault):
     assert look(tmp_path) == []
     (tmp_path / "docs/PAGE.md").write_text(text)
     assert look(tmp_path)
+
+
+@pytest.mark.quick
+def test_a_crate_that_is_not_trusted(tmp_path):
+    """No crate may use one of the kit that the page of the proof does not name: by `libc` any function could write to standard output."""
+    for name in "crates.txt", looks_at_pages.CRATES, "docs/PROOF.md":
+        (tmp_path / name).parent.mkdir(exist_ok=True)
+        shutil.copy(TOP / name, tmp_path / name)
+    assert looks_at_pages.crates_are_listed(tmp_path) == []
+    path = tmp_path / "crates.txt"
+    path.write_text(path.read_text().replace("ucl_runs: ", "ucl_runs: libc "))
+    assert looks_at_pages.crates_are_listed(tmp_path)

@@ -9,7 +9,7 @@ from model import CLUBS, entered, parsed, screen
 # By the mistake what was typed, and what was meant: matches and events.
 MEANT = {
     "a goal that was none": ("1 kickoff, 1 goal-home", "1 kickoff"),
-    "a goal for the wrong side": ("1 kickoff, 1 goal-home", "1 kickoff, 1 goal-away"),
+    "a goal for the wrong side: home for away": ("1 kickoff, 1 goal-home", "1 kickoff, 1 goal-away"),
     "a goal for the wrong match": ("1 kickoff, 2 kickoff, 1 goal-home", "1 kickoff, 2 kickoff, 2 goal-home"),
     "a goal that was disallowed, and counts": ("1 kickoff, 1 goal-home, 1 disallow-home", "1 kickoff, 1 goal-home"),
     "full time, and the match goes on": ("1 kickoff, 1 goal-away, 1 fulltime", "1 kickoff, 1 goal-away"),

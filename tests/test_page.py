@@ -27,7 +27,7 @@ STATES = {model.IN_PLAY: "In play", model.FINISHED: "Full time"}
 FIGURES = ["played", "won", "drawn", "lost", "goals_for", "goals_against"]
 HEADS = ["Place", "Certain", "Plays now", "Club", "Played", "Won", "Drawn", "Lost", "Goals for", "Goals against", "Goal difference", "Points"]
 MEANINGS = {"+": "certain to be among the first two", "-": "certain not to be among the first two", "": ""}
-LEGEND = "+ certain to be among the first two, \u2212 certain not to be: by points alone, while matches are open; a blank promises nothing"
+LEGEND = "+ certain to be among the first two, \u2212 certain not to be; a blank promises nothing"
 # Ten matches that are finished: the first and the last club are certain then, and two are level.
 FINISHED = {1: (2, 0), 2: (1, 1), 3: (1, 2), 4: (0, 3), 5: (0, 2), 6: (4, 0), 7: (3, 0), 8: (0, 1), 9: (1, 1), 10: (1, 2)}
 WORDS = ["--headless=new", "--no-sandbox", "--disable-gpu", "--disable-dev-shm-usage", "--hide-scrollbars", "--window-size=1920,1080"]

@@ -15,7 +15,7 @@ mod words;
 
 pub use games::matches_json;
 pub use moment::Moment;
-pub use reply::{Reply, bad_row_json, reply_json};
+pub use reply::{EventReply, bad_row_json, reply_json};
 pub use screen::{edition_screen_json, screen_json};
 pub use title::Title;
 pub use told::moment_on;

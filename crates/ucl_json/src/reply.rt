@@ -141,7 +141,7 @@ fn refused_value(
 
 /// What an event came to: its row, the reply, and the board after it.
 #[derive(Drop)]
-pub struct Reply<'r> {
+pub struct EventReply<'r> {
     /// The number of its row.
     pub row: u64,
     /// The event, as its row asks for it.
@@ -162,13 +162,13 @@ pub struct Reply<'r> {
 /// # Errors
 ///
 /// Where there is no memory.
-pub fn reply_json(alloc: Global, reply: &Reply<'_>) -> Result<String, AllocError>
+pub fn reply_json(alloc: Global, reply: &EventReply<'_>) -> Result<String, AllocError>
     requires { IsGroup reply.now.title.group }
     ensures { IfOk result (λ line. IsLineOf (reply_value reply.now.row reply.now.event.now
         reply.now.outcome reply.now.title reply.now.board.now reply.now.roster.now)
         (string_bytes line)) }
 {
-    let Reply {
+    let EventReply {
         row,
         event,
         outcome,

@@ -1,4 +1,4 @@
-//! What the workers of a night have in common, and the gate that they tell.
+//! What the workers of a night have in common, and the gate that they call.
 
 ghost use Rattle.std.specs.Prelude.{◌≡◌};
 ghost use Rattle.ucl_live_board.specs.Passes.{IsSound};
@@ -12,14 +12,14 @@ use ucl_live_board::LiveBoard;
 use ucl_order::Profile;
 use ucl_screen::Night;
 
-/// The gate of a night. No other file reaches it, so it is told what `come` and `Plan::shown` tell, and nothing else.
+/// Keeps the gate of a night to this file, so that only `come` and `Plan::shown` call it.
 #[derive(Drop)]
 pub struct Onlooker<'n, G> {
     gate: &'n G,
 }
 
 impl<'n, G: Gate> Onlooker<'n, G> {
-    /// The onlooker that is this gate.
+    /// Wraps this gate.
     pub fn of(gate: &'n G) -> Onlooker<'n, G> {
         Onlooker { gate }
     }
@@ -30,7 +30,7 @@ impl<'n, G: Gate> Onlooker<'n, G> {
     }
 }
 
-/// What the workers of a night have in common: the script, how often each reader reads, how it shows what it has read, and who looks on.
+/// What the workers of a night have in common: the script, how often each reader reads, how it shows what it has read, and the gate.
 #[derive(Drop)]
 pub struct Plan<'n, G> {
     /// The clubs, and the events that the reporters enter.

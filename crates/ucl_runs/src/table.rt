@@ -13,7 +13,7 @@ use crate::request::Request;
 use crate::stage::Table;
 use std::alloc::Global;
 use ucl_command::{Format, LiveArgs};
-use ucl_json::{Reply, Title, reply_json, words_json};
+use ucl_json::{EventReply, Title, reply_json, words_json};
 use ucl_rows::{Answer, bad_answer, matches_answer, reply_line, screen_answer};
 use ucl_screen::NightEvent;
 use ucl_word::OutOfMemory;
@@ -43,7 +43,7 @@ impl Table {
             Format::Text => Answer::Short(reply_line(row, event.call.game.get(), before, outcome)),
             Format::Json => Answer::Long(reply_json(
                 alloc,
-                &Reply {
+                &EventReply {
                     row,
                     event,
                     outcome,

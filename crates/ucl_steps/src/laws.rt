@@ -32,9 +32,9 @@ pub fn unclean_tries_are_few()
     ensures { UncleanTriesAreFew }
 {}
 
-/// What a reading answers is the board of the first entries of the history, as many as its version says: those that
-/// there were when it loaded the twelfth word of its last first collect. It takes 24 steps at least, 24 more for each
-/// time that it begins anew at most, and never more than the most loads, 24 of each of the most tries.
+/// A reading answers the board after the first entries of the history, as many as its version says: those that there were
+/// when the first collect of its last try loaded the twelfth word. It takes at least 24 steps, at most 24 more for each time
+/// that it begins anew, and never more than 24 for each of the greatest number of tries.
 pub fn readings_are_snapshots()
     ensures { ReadingsAreSnapshots }
 {}
@@ -65,9 +65,9 @@ pub fn calls_finish()
     ensures { CallsFinish }
 {}
 
-/// Such a log is a run of the machine: each of its steps on a match word is one step of the machine, by a caller of its pass, with the
-/// beginning of a call just before its first and the end just after its last. The run leads to the history of the log and the words of its
-/// board; what each pass holds is what its callers there hold. A longer log is a longer run.
+/// Every log that follows the protocol is a run of the machine: each of its steps on a match word is one step of the machine, by a caller of
+/// its pass, with the beginning of a call just before its first step and the end just after its last. The run leads to the history of the log
+/// and the words of its board; what each pass holds is what its callers there hold. A longer log is a longer run.
 pub fn logs_are_runs()
     ensures runs { LogsAreRuns }
     ensures longer { LongerLogsAreLongerRuns }
