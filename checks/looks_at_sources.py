@@ -74,25 +74,25 @@ ALIAS = re.compile(r"(?<!ghost )\buse\b[^;]*\bas\b[^;]*;|\bmacro_rules\b")
 # What is written of letting go: a count that contracts alone see has nothing to let go, and a handle of C keeps its pass until it lets it go.
 LETS_GO = re.compile(r"[^{}]*{ fn drop\b|\bfn (?:drop|let_go|uclboard_pass_drop)\b|\b(?:forget|leak|into_raw\w*|ManuallyDrop)\b")
 LET_GO = re.compile(
-    r"impl Drop for Tally { fn drop\(self\) { let Self { marker: _ } = self; } }"
+    r"impl Drop for CallCount { fn drop\(self\) { let Self { marker: _ } = self; } }"
     r"|fn let_go\(&mut self, alloc: Global\) ensures {[^{}]*} { if !self\.is_null\(\) { drop\(self\.take\(alloc\)\.into_box\(\)\); } }"
     r"|let \(ptr, alloc\) = Box::into_raw_with_allocator\(b\);"
     r"|fn uclboard_pass_drop\(alloc: Global, pass: &mut Handle\)(?: ensures \w+ {[^{}]*})+ { pass\.let_go\(alloc\); }"
 )
-# What makes, lengthens or replaces the list of the times at which a source was called; `duplex.rt` does so twice.
-LISTS = re.compile(r"\blog\.and\(|\.log\s*=(?!=)|&mut [\w.]+\.log\b|\bCallLog::(?:new|and)\b")
-LISTED = ["log: CallLog::new(),", "self.log = self.log.and(&self.source, &self.sink, machine);"]
+# What makes, lengthens or replaces the list of the times at which a source was called; `logged_io.rt` does so twice.
+LISTS = re.compile(r"\blog\.and\(|\.log\s*=(?!=)|&mut [\w.]+\.log\b|\bIoTrace::(?:new|and)\b")
+LISTED = ["log: IoTrace::new(),", "self.log = self.log.and(&self.source, &self.sink, handler);"]
 HANDLES = "e3846fb4d06c"
 DEFINED = re.compile(r"^ *(?:abbrev pub|unfoldable pub|pub record|pub data) (\S+)", re.M)
 # Names that definitions of two files have, and that stand for one thing of two kinds, as the words of either board.
-TWICE = {"taken_by", "club_at", "rows_of", "words_after", "IsTheRule", "LogsOneStep", "Takes", "◌>>=◌", "state_of"}
+TWICE = {"taken_by", "club_at", "rows_of", "words_after", "ImpliesInvariant", "LogsOneStep", "Takes", "◌>>=◌", "state_of"}
 # A struct or an enum with its parts; what a part is of; and the types of other crates and of the language that have a fixed size, as an
 # option of one has. A roster and a club hold names, each of which came on one line.
 TYPE = re.compile(r"^(?:pub(?:\(crate\))? )?(?:struct|enum) (\w+)(?:<[^>]*>)? \{\n(.*?)^\}", re.M | re.S)
 PART = re.compile(r"^ *(?:pub(?:\(crate\))? )?\w+: (.*),$|^ *\w+\((.*)\),$", re.M)
-FIXED = {"u8", "u16", "u32", "u64", "usize", "bool", "ArrayVec", "Board", "Club", "FollowArgs", "FollowShape", "Global", "LineReader", "LiveArgs", "Moment", "Option", "Profile", "Roster", "Title"}
+FIXED = {"u8", "u16", "u32", "u64", "usize", "bool", "ArrayVec", "Board", "Club", "FollowArgs", "FollowShape", "Global", "LineReader", "LiveArgs", "BoardState", "Option", "Profile", "Roster", "BoardHeader"}
 # What is kept from one line to the next: the crate, the type, and types that have to be found among its parts.
-KEPT = [("ucl_rows", "LineReader", {"Fields"}), ("ucl_runs", "Evening", {"Stage", "Table"}), ("ucl_runs", "Follower", {"Following"}), ("ucl_io", "Lines", {"Output"})]
+KEPT = [("ucl_rows", "LineReader", {"Fields"}), ("ucl_live_runs", "Session", {"Phase", "OpenBoard"}), ("ucl_live_runs", "Follower", {"FollowState"}), ("ucl_io", "Lines", {"Output"})]
 # Where a lemma begins, or a module with parameters, in which lemmas stand two columns further in.
 LEMMA = re.compile(r"( *)(?:(module _)\b|(?:pub )?([^\s:(){}]+) :(?: |$))")
 
@@ -165,8 +165,8 @@ def calls_are_listed_once(top):
     """The list of the times at which a source was called begins empty, and `take` alone adds to it, once. Devices of tests have lists of their own."""
     crates = [crate for crate in sources.crates_of(top) if not TESTS.search(crate)]
     found = [(at, line.strip()) for _, at, line in lines_of(top, *crates) if LISTS.search(line)]
-    other = [f"{at}: lists when a source was called" for at, line in found if line not in LISTED or "/ucl_io/src/duplex.rt:" not in at]
-    return other + ([] if [line for _, line in found] == LISTED else ["duplex.rt does not list each call of `take` once"])
+    other = [f"{at}: lists when a source was called" for at, line in found if line not in LISTED or "/ucl_io/src/logged_io.rt:" not in at]
+    return other + ([] if [line for _, line in found] == LISTED else ["logged_io.rt does not list each call of `take` once"])
 
 
 def parts_are_of_fixed_size(top):

@@ -1,7 +1,7 @@
 """What the sources of a crate say: what it stands on, its functions with their clauses, and the lines that a wrong body changes.
 
 A clause is named by its function and its label, as in `Board::report reply`, and by the function alone where it has no label. A method is
-named by its type, also where its clauses are those of its trait. The record of a rule is named with its fields, as `KeepsOneHistory few`.
+named by its type, also where its clauses are those of its trait. The record of a rule is named with its fields, as `BoardInvariant few`.
 
 A wrong body is a file crates/CRATE/must-fail/NAME.edit: lines `breaks: FUNCTION LABEL..`, a line `file:`, and pairs of lines `old:` and `new:`.
 Each text is one line, and each old one stands in that file exactly once.

@@ -381,7 +381,7 @@ def night(subcommand, words, text):
     return 0, replies + sheet(matches) if subcommand == "feed" else "FINAL\n" + Style(words).screen(matches, roster), ""
 
 
-class Evening:
+class Session:
     """An evening of `ucl_live` by the rules: how it answers, its clubs, and its matches once the board is open."""
 
     def __init__(self, words):

@@ -641,7 +641,7 @@ def need_screens(text, screens):
     return versions[-1] if versions else None
 
 
-class Evening:
+class Session:
     """An evening: its rows, its lines, its followers."""
 
     def __init__(self, site, seed):
@@ -690,7 +690,7 @@ class Evening:
 
 
 def test_the_broker_is_killed_and_started_again(site):
-    evening = Evening(site, 1)
+    evening = Session(site, 1)
 
     def trouble(_):
         site.broker.kill()
@@ -703,7 +703,7 @@ def test_the_broker_is_killed_and_started_again(site):
 
 def test_the_board_is_killed_and_goes_on_from_its_record(site):
     """Its program is killed alone, and it ends; it is killed itself, and the record's last row is cut, or lacks its end alone."""
-    evening = Evening(site, 2)
+    evening = Session(site, 2)
 
     def trouble(number):
         if number % 3 == 0:
@@ -723,7 +723,7 @@ def test_the_board_is_killed_and_goes_on_from_its_record(site):
 
 def test_every_row_comes_twice_and_some_ten_rows_later(site):
     """All are one reporter's, and some are no rows; the answers are those of the rules, one by one."""
-    evening = Evening(site, 3)
+    evening = Session(site, 3)
     evening.rows = ["1" + row[1:] for row in evening.rows]
     again, sent = collections.deque([], 10), []
     for row in evening.rows:
@@ -738,13 +738,13 @@ def test_every_row_comes_twice_and_some_ten_rows_later(site):
     begun = f"group,A,uefa,0\n{model.CLUBS}screen,,,\n"
     until(lambda: len((site.path / "answers").read_text().splitlines()) == len(sent))
     assert site.record.read_text() == begun + "".join(sent)
-    wanted = [line for line in model.Evening(["--format", "json"]).of(begun + "".join(sent))[1].splitlines()]
+    wanted = [line for line in model.Session(["--format", "json"]).of(begun + "".join(sent))[1].splitlines()]
     assert (site.path / "answers").read_text().splitlines() == wanted[1:]
     evening.settle()
 
 
 def test_followers_are_killed_come_late_miss_lines_or_are_not_read(site):
-    evening = Evening(site, 4)
+    evening = Session(site, 4)
     (site.path / "turned.py").write_text(TURNED)
     evening.follow("turned", evening.screen.replace(" | ", f" | {sys.executable} turned.py | "))
     reading, writing = os.pipe()

@@ -6,7 +6,7 @@ import shutil
 
 import pytest
 from conftest import EXAMPLES, Case, tabled, text_of
-from model import CLUBS, FIXTURES, ROSTER, Evening, fresh, screen
+from model import CLUBS, FIXTURES, ROSTER, Session, fresh, screen
 
 example = lambda name: text_of(EXAMPLES / name)
 FED = ["one_goal", "two_matches", "head_to_head", "reopened", "plus_lost"]
@@ -59,7 +59,7 @@ test_beginnings_that_are_refused = tabled({name: ("ucl_live", text, "", 3, f"inp
 @pytest.mark.parametrize("words", [[], ["--screens"], ["--format", "json", "--screens"]], ids=" ".join)
 def test_row_by_row(start, words):
     """Each answer is there before the next row is written; at the end of the night the screen is the closing one."""
-    evening, rules = start("ucl_live", *words), Evening(words)
+    evening, rules = start("ucl_live", *words), Session(words)
     for number, row in enumerate(example("group_a_2021_night.csv").splitlines(True) + ["bad\n", "screen,,,\n", "words,,,\n"], 1):
         evening.write(row)
         for answer in rules.answers(number, row.rstrip("\n")):
@@ -84,7 +84,7 @@ def test_cut_after_each_byte(run):
     """The rows that are complete are answered, and the last one as if it ended there."""
     script = example("two_matches.csv")
     for cut in range(len(script) + 1):
-        assert run("ucl_live", input=script[:cut]) == Evening([]).of(script[:cut]), f"cut after {cut} bytes"
+        assert run("ucl_live", input=script[:cut]) == Session([]).of(script[:cut]), f"cut after {cut} bytes"
 
 
 @pytest.mark.parametrize("row, field, text", [
@@ -134,7 +134,7 @@ def test_json(run):
     ]
     text = CLUBS.replace("Alpha", '"Al""p\\h/a"') + rows
     assert run("ucl_live", "--format", "json", "--screens", "--group", "C", input=text) == (0, "".join(line + "\n" for line in wanted), "")
-    assert Evening(["--format", "json", "--screens", "--group", "C"]).of(text) == (0, "".join(line + "\n" for line in wanted), "")
+    assert Session(["--format", "json", "--screens", "--group", "C"]).of(text) == (0, "".join(line + "\n" for line in wanted), "")
 
 
 # ---- a record of rows
@@ -247,12 +247,12 @@ ASKED = {
     **{name: ("", example(f"{name}.csv") + "words,,,\n", example(f"{name}.expected")) for name in FED},
     **{f"{name}, its screen": (" --group H", example(f"{name}.csv") + "words,,,\nscreen,,,\n",
                                example(f"{name}.expected") + example(f"{name}_sheet.expected").replace("GROUP A", "GROUP H")) for name in SHOWN},
-    "an order": (" --order away-in-tie", AWAY + "screen,,,\n", "".join(Evening([]).of(AWAY)[1]) + AWAY_IN_TIE),
+    "an order": (" --order away-in-tie", AWAY + "screen,,,\n", "".join(Session([]).of(AWAY)[1]) + AWAY_IN_TIE),
     "refusals": ("", CLUBS + REFUSED, REPLIES),
     "too many goals": ("", CLUBS + "1,3,0,kickoff\n" + GOALS, "".join(f"{n + 4} ok 3 {n} {n}\n" for n in range(1, 65)) + "69 refused 8 limit-reached\n"),
     "matches": ("", PLAYED + "matches,,,\n", "5 ok 1 1 1\n6 ok 1 2 2\n7 ok 1 3 3\n8 ok 1 4 4\n" + MATCHES),
     "editions": ("", RECORD + "screen,,,\n", ANSWERS + TABLE),
-    "screens": (" --screens", RECORD, Evening(["--screens"]).of(RECORD)[1]),
+    "screens": (" --screens", RECORD, Session(["--screens"]).of(RECORD)[1]),
 }
 
 test_text = tabled({name: ("ucl_live" + words, *more) for name, (words, *more) in ASKED.items()})

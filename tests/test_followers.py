@@ -8,16 +8,16 @@ import time
 
 import pytest
 from conftest import EXAMPLES, Started, command, decoded, tabled, text_of
-from model import CLUBS, Evening, followed
+from model import CLUBS, Session, followed
 
 NIGHT = text_of(EXAMPLES / "group_a_2021_night.csv")
-answers_of = lambda text, *words: Evening(["--format", "json", *words]).of(text)[1]
-screens_of = lambda text, *words: [line for line in Evening(["--screens", *words]).of(text)[1].splitlines(True) if " ok " not in line and " refused " not in line]
+answers_of = lambda text, *words: Session(["--format", "json", *words]).of(text)[1]
+screens_of = lambda text, *words: [line for line in Session(["--screens", *words]).of(text)[1].splitlines(True) if " ok " not in line and " refused " not in line]
 ANSWERS, SCREENS = answers_of(NIGHT), "".join(screens_of(NIGHT))
 LINES = ANSWERS.splitlines(True)
 FIRST, SECOND = answers_of(CLUBS + "1,1,0,kickoff\n1,1,1,goal-home\n").splitlines(True)
 SCREEN, BOTH = ("".join(screens_of(CLUBS + f"1,1,0,kickoff\n{more}")) for more in ("", "1,1,1,goal-home\n"))
-MATCHES = Evening([]).of(CLUBS + "1,1,0,kickoff\nmatches,,,\n1,1,1,goal-home\nmatches,,,\n")[1].replace("5 ok 1 1 1\n", "").replace("7 ok 1 2 2\n", "")
+MATCHES = Session([]).of(CLUBS + "1,1,0,kickoff\nmatches,,,\n1,1,1,goal-home\nmatches,,,\n")[1].replace("5 ok 1 1 1\n", "").replace("7 ok 1 2 2\n", "")
 told = lambda lines, shown: f"{lines} lines, {shown} shown, {lines - shown} passed over\n"
 count = SCREENS.count("GROUP")
 in_edition = lambda edition, line: line.replace('"edition":0', f'"edition":{edition}').replace("Alpha", "Alfa!")
@@ -54,8 +54,8 @@ test_answers = tabled({
 TITLED = "group,C,away-in-tie,1\n"
 
 test_rows_of_a_group = tabled({
-    "asked for": ("ucl_live --group C --order away-in-tie", TITLED + NIGHT, *Evening([]).of(TITLED + NIGHT)[1::-1], ""),
-    "not asked for": ("ucl_live --screens", TITLED + NIGHT, *Evening(["--screens"]).of(TITLED + NIGHT)[1::-1], ""),
+    "asked for": ("ucl_live --group C --order away-in-tie", TITLED + NIGHT, *Session([]).of(TITLED + NIGHT)[1::-1], ""),
+    "not asked for": ("ucl_live --screens", TITLED + NIGHT, *Session(["--screens"]).of(TITLED + NIGHT)[1::-1], ""),
     "another group than was asked for": ("ucl_live --group A", TITLED + NIGHT, "", 2, "error: the row of the group differs from --group or --order\n"),
     "another order than was asked for": ("ucl_live --order uefa", TITLED + NIGHT, "", 2, "error: the row of the group differs from --group or --order\n"),
     "twice": ("ucl_live", TITLED * 2 + NIGHT, "", 3, "input refused 20: row 2\n"),

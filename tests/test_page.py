@@ -141,7 +141,7 @@ def shown_of(matches, roster, games, edition=0):
     return {"rows": rows, "heads": HEADS, "matches": lines or ["No match is in play"], "version": version, "signal": ""}
 
 
-class Moment(NamedTuple):
+class BoardState(NamedTuple):
     """A moment of a group: its matches, its clubs, which of the matches are the evening's, and its edition."""
 
     group: str
@@ -176,7 +176,7 @@ def season(group):
         for over in [[], games[:1], games[1:]] if len(games) == 2 else []:
             for number in over:
                 matches[number - 1].enter(2 - number % 2, "fulltime")
-            moments.append(Moment(group, [model.match_of(match.word()) for match in matches], roster, sorted(games)))
+            moments.append(BoardState(group, [model.match_of(match.word()) for match in matches], roster, sorted(games)))
         games = games if len(games) < 2 else []
     assert len(moments) == 18 and {match.state for match in matches} == {model.FINISHED}
     return moments
@@ -290,7 +290,7 @@ def large():
     for number, (match, slots) in enumerate(zip(matches, model.FIXTURES), 1):
         match.number, match.reporter, match.state = 4094, 255, model.IN_PLAY if number > 10 else model.FINISHED
         match.goals = [63 * (slot < 3) for slot in slots]
-    return Moment("A", matches, model.ROSTER, [11, 12])
+    return BoardState("A", matches, model.ROSTER, [11, 12])
 
 
 NAMES = {
@@ -321,7 +321,7 @@ def test_long_names_large_figures_and_no_signal(sheet, name, words):
 @pytest.mark.parametrize("count", [0, 1, 3, 12])
 def test_another_count_of_matches_in_play(sheet, count):
     sheet.open("group=A")
-    moment = Moment("A", model.fresh(), SEASON["A"][0].roster, [*range(1, count + 1)])
+    moment = BoardState("A", model.fresh(), SEASON["A"][0].roster, [*range(1, count + 1)])
     for game in moment.games:
         moment.matches[game - 1].enter(1, "kickoff")
     for edition, _, name in sheet.looks():
@@ -373,11 +373,11 @@ def test_a_newer_screen_is_of_a_later_edition_or_of_the_same_and_a_higher_versio
 @pytest.mark.quick
 def test_a_board_that_is_begun_again_takes_back_a_kick_off_and_brings_its_own_clubs(sheet):
     """Its version is lower. The match is not of the evening any more, who listens is told, and what comes late of the edition before is passed over."""
-    wrong = Moment("A", model.fresh(), SEASON["A"][0].roster, [1, 2])
+    wrong = BoardState("A", model.fresh(), SEASON["A"][0].roster, [1, 2])
     for game in wrong.games:
         wrong.matches[game - 1].enter(1, "kickoff")
     wrong.matches[1].enter(1, "goal-home")
-    mended = Moment("A", [model.Match(), *wrong.matches[1:]], [("Atletico", 9), *wrong.roster[1:]], [2], 1)
+    mended = BoardState("A", [model.Match(), *wrong.matches[1:]], [("Atletico", 9), *wrong.roster[1:]], [2], 1)
     sheet.open("group=A")
     assert [sheet.take(it.line(row))["A"] for row, it in enumerate([wrong, mended, wrong], 1)] == [it.shown() for it in (wrong, mended, mended)]
     home, away = (mended.roster[slot - 1][0] for slot in model.FIXTURES[0])

@@ -11,7 +11,7 @@ import pytest
 from conftest import Started, command, decoded, encoded
 from hypothesis import given, settings
 from hypothesis import strategies as st
-from model import CLUBS, FINISHED, IN_PLAY, SCHEDULED, WORDS, Evening, followed, fresh, night, sheet
+from model import CLUBS, FINISHED, IN_PLAY, SCHEDULED, WORDS, Session, followed, fresh, night, sheet
 from test_followers import FIRST, SCREEN, in_edition, renamed
 
 pytestmark = pytest.mark.limit(600)
@@ -132,7 +132,7 @@ def test_evenings(program, data):
         if at < len(rows) and len(rows[at]) > 1:
             rows[at] = "\r" * (length - len(encoded(rows[at])) + 1) + rows[at]
     text = cut(draw, "\ufeff" * draw(st.booleans()) + "".join(row[:-1] + draw(st.sampled_from(["\n", "\n", "\r\n"])) for row in rows))
-    assert fed(program("ucl_live"), words, text, draw(PIECES)) == Evening(words).of(text)
+    assert fed(program("ucl_live"), words, text, draw(PIECES)) == Session(words).of(text)
 
 
 @given(st.data())
@@ -140,7 +140,7 @@ def test_followers(program, data):
     """`ucl_follow`, on lines of evenings of two groups of which some are lost, doubled, turned round and torn."""
     draw = data.draw
     words = ["--format", "json"] + draw(st.sampled_from([[], ["--screens"]]))
-    evening = lambda: Evening(words + draw(GROUPS) + draw(ORDERS)).of(CLUBS + "screen,,,\n" + "".join(event_rows(draw(PICKS))))[1].splitlines(True)
+    evening = lambda: Session(words + draw(GROUPS) + draw(ORDERS)).of(CLUBS + "screen,,,\n" + "".join(event_rows(draw(PICKS))))[1].splitlines(True)
     lines = evening() + evening()
     some = [lines[at % len(lines)] for at in draw(st.lists(st.integers(0, 120), max_size=40))]
     for at, end, more in draw(st.lists(st.tuples(st.integers(0, 40), st.integers(0, 1200), st.sampled_from(["", "\n", "}\n", " \r\n"])), max_size=5)):

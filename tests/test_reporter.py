@@ -19,7 +19,7 @@ import time
 import model
 import pytest
 from conftest import TOP, Run, command, encoded, text_of
-from model import ROSTER, Evening
+from model import ROSTER, Session
 from test_broker import random_rows
 
 pytestmark = pytest.mark.limit(100)
@@ -170,7 +170,7 @@ class Hall:
 
 def evening_of(text):
     """The board of a record by the rules, and the answers to its rows."""
-    evening = Evening([])
+    evening = Session([])
     lines = text.split("\n")[:-1]
     return evening, [answer for row, line in enumerate(lines, 1) for answer in evening.answers(row, line)]
 

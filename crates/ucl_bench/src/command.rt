@@ -28,10 +28,10 @@ ucl_bench run SUBJECT WORKLOAD MS [FILE]    measures for about so many milliseco
 ";
 
 /// How many readers a night can have.
-const MOST_READERS: u8 = 16;
+const MAX_READERS: u8 = 16;
 
 /// How many reporters a night can have: one for each match.
-const MOST_REPORTERS: u8 = 12;
+const MAX_REPORTERS: u8 = 12;
 
 /// How many readers, or reporters, a name asks for: 0 to `most`.
 fn workers_of(digits: &str, most: u8) -> Option<u8> {
@@ -49,8 +49,8 @@ fn plan_of(name: &str) -> Option<Plan> {
     };
     Some(Plan {
         is_paced,
-        readers: workers_of(readers, MOST_READERS)?,
-        reporters: workers_of(reporters, MOST_REPORTERS)?,
+        readers: workers_of(readers, MAX_READERS)?,
+        reporters: workers_of(reporters, MAX_REPORTERS)?,
     })
 }
 

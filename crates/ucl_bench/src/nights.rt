@@ -12,7 +12,7 @@ use std::sync::{Mutex, Wait};
 use std::thread::{Scope, Threads};
 use std::time::{Clock, Duration};
 use std::{fmt, thread};
-use ucl_pass::{LiveBoard, MOST_REPORTERS};
+use ucl_pass::{LiveBoard, MAX_REPORTERS};
 use ucl_word::EventCall;
 
 /// How far apart the events of a paced reporter are.
@@ -360,7 +360,7 @@ fn work<B: LiveBoard, R: Threads + Wait + Clock + Sync>(
             }
             if started.is_err() || night.plan.reporters == 0 {
                 thread::sleep(rt, Duration::from_millis(QUIET_NIGHT_MILLIS));
-                night.ended.fetch_add(MOST_REPORTERS, Ordering::SeqCst);
+                night.ended.fetch_add(MAX_REPORTERS, Ordering::SeqCst);
             }
             started
         },

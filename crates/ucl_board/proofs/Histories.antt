@@ -1,7 +1,7 @@
 -- The entries of a match and the words of the board after one entry more.
-use Rattle.std.proofs.Common.{◌≡◌, ◌≢◌, ℕ, ◌+◌, ◌-◌, ◌<◌, Bool, cond, ◌==◌, List, [], ◌∷◌, ◌++◌, length, map, filter, get_or, set, replicate, Option, Some, None, Ok, Err, refl, sym, ap, ◌∙◌, subst}
-use Rattle.std.proofs.Common.{arith, append-nil, eq-eqb, ne_eqb}
-use Rattle.std.proofs.lemmas.List.{map-append, get_or-map, get_or-set_same, get_or-set_other, length-set}
+use Rattle.std.proofs.Common.{◌≡◌, ◌≢◌, ℕ, ◌+◌, ◌-◌, ◌<◌, Bool, cond, ◌==◌, List, [], ◌∷◌, ◌++◌, length, map, filter, get_or, set, replicate, Option, Some, None, Ok}
+use Rattle.std.proofs.Common.{Err, refl, sym, ap, ◌∙◌, subst, arith, append-nil, eq-eqb, ne_eqb}
+use Rattle.std.proofs.lemmas.List.{map-append, get_or-map, get_or-set_same, get_or-set_other, length-set, get_or_default}
 use Rattle.std.proofs.lemmas.List.Elements.{filter-append}
 use Rattle.std.proofs.lemmas.Grind.{same_number_lists}
 use mathlib.Core.Logic.{dite}
@@ -19,8 +19,10 @@ use Rattle.ucl_word.proofs.EntryCounts.{entered, legal_valid}
 use Rattle.ucl_word.proofs.Words.{record_back}
 use Rattle.ucl_board.specs.declared.entry.Entry.{Entry}
 use Rattle.ucl_board.specs.Fixtures.{match_numbers, IsMatch, IsSlot}
-use Rattle.ucl_board.specs.Words.{AreWords, word_at, game_at}
+use Rattle.ucl_board.specs.Words.{AreWords, word_at, game_at, AreReadable, AreReadAs}
 use Rattle.ucl_board.specs.History.{of_match, entries_of, match_after, board_of, MayFollow, IsLegal, followed_by, sequential_reply}
+use Rattle.ucl_word.specs.Migration.{IsReadAs}
+use Rattle.ucl_word.proofs.FirstWords.{read_valid, read_kept, readable}
 
 pub entries-append : (g : ℕ) (h l : List Entry) → entries_of g (h ++ l) ≡ entries_of g h ++ entries_of g l
 entries-append g h l = ap (map of_match) (filter-append (λ e. e.game == g) h l) ∙ map-append of_match (filter (λ e. e.game == g) h) (filter (λ e. e.game == g) l)
@@ -132,3 +134,33 @@ accepted_reply m g call number same none is = subst (λ (g : MatchRecord). Ok (r
 
 pub refused_reply : (m g : MatchRecord) (call : EventCall) (refusal : Refusal) → m ≡ g → refusal_of m call.expected call.kind ≡ Some refusal → Err refusal ≡ reply_of g call
 refused_reply m g call refusal same some = subst (λ (g : MatchRecord). Err refusal ≡ reply_of g call) same (sym (ap (λ (o : Option Refusal). answer m.number o) some))
+
+-- ---- the board that twelve words are read as
+
+-- one word more
+pub next_read : (words read : List ℕ) (i from at word : ℕ) → length read ≡ 12 → i < 12 → from ≡ i → at ≡ i
+    → ((k : ℕ) → k < i → IsReadAs (get_or words k 0) (get_or read k 0)) → IsReadAs (get_or words from 0) word
+    → (k : ℕ) → k < i + 1 → IsReadAs (get_or words k 0) (get_or (set read at word) k 0)
+next_read words read i from at word long few from_is at_is before now k below = rw at_is (dite (ℕ_discrete k i)
+    (λ is. rw (is, get_or-set_same read i word 0 (omega arith)) (subst (λ (n : ℕ). IsReadAs (get_or words n 0) word) from_is now))
+    (λ not. rw (get_or-set_other read i k word 0 not) (before k (omega arith))))
+
+module _ (words read : List ℕ) (long : length words ≡ 12) (read_long : length read ≡ 12) (each : (k : ℕ) → k < 12 → IsReadAs (get_or words k 0) (get_or read k 0)) where
+  pub are_read : AreReadAs words read
+  are_read = record { twelve = read_long; each = λ game is. each (game - 1) (omega arith) }
+
+  pub are_words : AreWords read
+  are_words = record {
+    twelve = read_long;
+    each = λ k d below. let in_range : k < 12 = omega arith in rw (get_or_default read k d 0 below) (read_valid (get_or words k 0) (get_or read k 0) (each k in_range));
+  }
+
+  pub are_readable : AreReadable words
+  are_readable = record {
+    twelve = long;
+    each = λ k d below. let in_range : k < 12 = omega arith in rw (get_or_default words k d 0 below) (readable (get_or words k 0) (get_or read k 0) (each k in_range));
+  }
+
+  pub are_kept : AreWords words → read ≡ words
+  are_kept is = same_boards read words read_long long (λ game within. let in_range : game - 1 < 12 = omega arith in let below : game - 1 < length words = omega arith in
+      read_kept (get_or words (game - 1) 0) (get_or read (game - 1) 0) (is.each (game - 1) 0 below) (each (game - 1) in_range))

@@ -9,8 +9,7 @@ use Rattle.ucl_word.specs.declared.refusal.Refusal.{Refusal}
 use Rattle.ucl_word.specs.Record.{IsReporter}
 use Rattle.ucl_word.specs.Layout.{word_of}
 use Rattle.ucl_word.specs.Rules.{after, reply_of}
-use Rattle.ucl_word.specs.Sequence.{EachMay, GainsOne}
-use Rattle.ucl_word.specs.Counts.{MatchEntry, counted_match, IsAccepted}
+use Rattle.ucl_word.specs.Counts.{EachMay, GainsOne, MatchEntry, counted_match, IsAccepted}
 use Rattle.ucl_board.specs.declared.entry.Entry.{Entry}
 use Rattle.ucl_board.specs.declared.reading.Reading.{Reading}
 use Rattle.ucl_board.specs.Fixtures.{match_numbers, IsMatch}

@@ -4,7 +4,7 @@ ghost use Rattle.std.specs.Prelude.{◌≡◌, ℕ, ◌+◌, ◌-◌, ◌≤◌,
 ghost use Rattle.ucl_word.specs.Record.{IsValid};
 ghost use Rattle.ucl_word.specs.Rules.{reply_of};
 ghost use Rattle.ucl_board.specs.declared.entry.Entry.{Entry};
-ghost use Rattle.ucl_board.specs.Words.{AreWords, AreReadable, AreReadAs, IsFirstBad, game_at, greatest_version, version_of};
+ghost use Rattle.ucl_board.specs.Words.{AreWords, AreReadable, AreReadAs, IsFirstBad, game_at, max_version, version_of};
 ghost use Rattle.ucl_board.specs.History.{GainsEntry, IsLegal, board_of, board_after, sequential_reply, attempted, entry_of};
 
 use std::marker::Model;
@@ -117,7 +117,7 @@ impl Board {
     /// On a board that came from [`fresh`](Board::fresh) by events it is how many were accepted.
     pub fn version(&self) -> u16
         ensures sum { result ≡ version_of self.now }
-        ensures bound { result ≤ greatest_version }
+        ensures bound { result ≤ max_version }
     {
         let mut version = 0;
         for word in &self.words {

@@ -16,16 +16,16 @@
 mod board;
 mod entry;
 mod fixtures;
-mod laws;
 mod reading;
+mod theorems;
 
 pub use board::{BadWordAt, Board};
 pub use entry::Entry;
 pub use fixtures::{away_of, home_of};
-pub use laws::{
+pub use reading::Reading;
+pub use theorems::{
     accepted_events_go_stale, added_entry_is_known, attempts_are_counted, beginnings_are_legal,
     boards_are_counted, boards_go_on, each_pair_meets_once, one_word_changes,
     repeated_events_change_nothing, same_number_same_word, same_word_same_entries,
     versions_are_lengths,
 };
-pub use reading::Reading;

@@ -1,5 +1,6 @@
 -- Boards and rosters of inputs with no fault, and tables by coefficients.
-use Rattle.std.proofs.Common.{◌≡◌, ℕ, ◌+◌, ◌-◌, ◌==◌, Bool, true, false, List, [], ◌∷◌, length, map, get_or, Option, Some, None, refl, ap, subst, arith, All, inl, inr}
+use Rattle.std.proofs.Common.{◌≡◌, ℕ, ◌+◌, ◌-◌, ◌==◌, Bool, true, false, List, [], ◌∷◌, length, map, get_or, Option, Some, None, refl, ap, subst, arith, All, inl}
+use Rattle.std.proofs.Common.{inr}
 use Rattle.std.specs.Prelude.{Result, Ok, Err}
 use Rattle.std.proofs.lemmas.Bool.{cases_Bool}
 use Rattle.std.proofs.lemmas.Bool.Decides.{nat_tests}
@@ -14,7 +15,7 @@ use Rattle.ucl_order.proofs.Coefficients.{table-same}
 use Rattle.ucl_screen.specs.WordsRead.{read_words}
 use Rattle.ucl_screen.proofs.ReadWords.{are-read, first-bad}
 use Rattle.ucl_c.specs.declared.fault.Fault.TheVariants.{BadWord, NotFour}
-use Rattle.ucl_c.specs.Faults.{club_with, fault_of_clubs, fault_of_words, fault_unless, first_fault, of_slot}
+use Rattle.ucl_c.specs.Faults.{club_with, fault_of_clubs, fault_of_words, fault_unless, first_fault, fault_of_slot}
 use Rattle.ucl_c.specs.Tables.{row_seen, table_by, table_shown}
 
 pub board-read : (words twelve board : List ℕ) → length words ≡ 12 → twelve ≡ words → AreReadAs twelve board → (read_words 1 words ≡ Ok board) × (fault_of_words words ≡ None)
@@ -43,7 +44,7 @@ all-good slot (club ∷ clubs) none = elim (cases_Bool (is_club club)) [
   | inr bad ↦ absurd (let e = rw bad at none in grind (arith, e))
 ]
 
-parts : (b : Bool) (slot : Option ℕ) → first_fault (fault_unless b NotFour ∷ of_slot slot ∷ []) ≡ None → (b ≡ true) × (slot ≡ None)
+parts : (b : Bool) (slot : Option ℕ) → first_fault (fault_unless b NotFour ∷ fault_of_slot slot ∷ []) ≡ None → (b ≡ true) × (slot ≡ None)
 parts true None e = (refl, refl)
 parts true (Some slot) e = absurd (grind (arith, e))
 parts false slot e = absurd (grind (arith, e))

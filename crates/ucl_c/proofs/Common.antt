@@ -41,8 +41,8 @@ pub use prog.Wp.{Tables, WpFn}
 pub use seplogic.Ra.Ura.{Ura}
 pub use sound.WpLaws.{WpFn-mono, fm_of}
 pub use types.ByLocal.{alloc_all, env, free_all, get, get_in, lands_as, lands_last, look_at, pass_all, sets, through}
-pub use types.Kit.{ !, Goal, Item, Seq, at_ret, await, by, done, drop, feq_i, feq_l, fjoin, fpack, fpick, frame, fsplit, fsplit3, given, group, join, keep, later, learn, move, pick, qed, raw}
-pub use types.Kit.{rewrite, some, split, split3, suffices, use1, ‵, ◌$◌, ◌∵◌, ◌⊛◌}
+pub use types.Kit.{ !, Goal, Item, Seq, at_ret, await, by, done, drop, feq_i, feq_l, fjoin, fpack, fpick, frame, fsplit, fsplit3, given, group, join, keep, later}
+pub use types.Kit.{learn, move, pick, qed, raw, rewrite, some, split, split3, suffices, use1, ‵, ◌$◌, ◌∵◌, ◌⊛◌}
 pub use types.Logic.{Logic, sem}
 pub use types.Part.{agg, look_in, store_in, sub, whole}
 pub use types.Run.{and_then, assigns, bin, blocks, enter, exec, first, fld, lit, load, no_more, of_opd, returns, stop, unit_lit}

@@ -1,9 +1,6 @@
 pub mod Boards
 pub mod ScreenLength
-pub mod JsonLength
-pub mod LineLength
 pub mod PlayedScripts
-pub mod ScriptClubs
 pub mod WordBits
 pub mod Common
 pub mod NullOrOwned

@@ -1,6 +1,7 @@
 -- Steps of walks: a pointer that is null, or owns a box that `Global` frees.
-use Rattle.ucl_c.proofs.Common.{◌≡◌, ℕ, false, List, ◌∷◌, refl, sym, subst, T, Ura, ftrue, ent, via, guard, snd∗, guard_i, fact, fact_use, fact_mono, Logic, sem, Item, Goal, Seq, ‵, given}
-use Rattle.ucl_c.proofs.Common.{use1, learn, ◌$◌, RattleType, lone, full_share, Ptr, block_ptr, null_ptr, count_of, lies_at, Testable, box_owns, freed, heap, owned_at, is_null}
+use Rattle.ucl_c.proofs.Common.{◌≡◌, ℕ, false, List, ◌∷◌, refl, sym, subst, T, Ura, ftrue, ent, via, guard, snd∗, guard_i, fact, fact_use, fact_mono, Logic, sem}
+use Rattle.ucl_c.proofs.Common.{Item, Goal, Seq, ‵, given, use1, learn, ◌$◌, RattleType, lone, full_share, Ptr, block_ptr, null_ptr, count_of, lies_at, Testable}
+use Rattle.ucl_c.proofs.Common.{box_owns, freed, heap, owned_at, is_null}
 use lib.Dec.{lit<}
 use Prim.Native.Nat.{zero, ◌<◌, ◌^◌}
 use mir.Raw.{raw as bare}

@@ -3,8 +3,7 @@ use Rattle.std.proofs.Common.{◌≡◌, ℕ, zero, suc, ◌<◌, ◌≤◌, ◌
 use Rattle.std.proofs.lemmas.Bool.{cases_Bool}
 use Rattle.std.proofs.lemmas.Bool.Decides.{nat_tests}
 use Rattle.ucl_word.specs.Record.{is_valid, is_within_limits, scheduled, suits_state, IsValid}
-use Rattle.ucl_word.specs.Layout.{IsWord, layout, held_at, record_at, state_at, word_of}
-use Rattle.ucl_word.specs.Code.Reading.{HoldsRecord}
+use Rattle.ucl_word.specs.Layout.{IsWord, layout, held_at, record_at, state_at, word_of, HoldsRecord}
 use Rattle.ucl_word.proofs.ValidRecords.{parts, scheduled_valid, untouched as untouched_is, whole}
 use Rattle.ucl_word.proofs.Words.{held_word, word_holds, word_packed, word_valid}
 use Rattle.ucl_screen.specs.WordsRead.{is_word}

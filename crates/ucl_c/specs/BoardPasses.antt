@@ -92,7 +92,7 @@ abbrev pub fault_of_read : AnyPass → Option Fault
 fault_of_read Nobody = Some NoPass
 fault_of_read _ = None
 
--- where a call that asks for memory finds no other fault, want of memory is the one that is left
+-- where a call that asks for memory finds no other fault, lack of memory is the one that is left
 abbrev pub or_memory : Option Fault → Fault
 or_memory None = OutOfMemory
 or_memory (Some fault) = fault

@@ -15,8 +15,9 @@ use Rattle.ucl_screen.specs.declared.fault.InputFault.TheVariants as input
 use Rattle.ucl_screen.specs.Script.{Script, night_of}
 use Rattle.ucl_screen.specs.WordsRead.{is_word, read_words}
 use Rattle.ucl_c.specs.declared.fault.Fault.{Fault}
-use Rattle.ucl_c.specs.declared.fault.Fault.TheVariants.{Refused, BadWord, BadRow, BadRoster, OutOfMemory, TooLong, FullBoard, NoReporter, NoKind, NoProfile, NoGroup}
-use Rattle.ucl_c.specs.declared.fault.Fault.TheVariants.{NotTwelve, NotFour, NoRoom, NotFourRows, NoStatus, InUse, NoPass, NotAReader, NoMatch, NotAReporter}
+use Rattle.ucl_c.specs.declared.fault.Fault.TheVariants.{Refused, BadWord, BadRow, BadRoster, OutOfMemory, TooLong, FullBoard, NoReporter, NoKind, NoProfile}
+use Rattle.ucl_c.specs.declared.fault.Fault.TheVariants.{NoGroup, NotTwelve, NotFour, NoRoom, NotFourRows, NoStatus, InUse, NoPass, NotAReader, NoMatch}
+use Rattle.ucl_c.specs.declared.fault.Fault.TheVariants.{NotAReporter}
 
 abbrev pub fault_code : Fault → ℕ
 fault_code (Refused refusal) = refusal_code refusal
@@ -105,16 +106,16 @@ fault_of_twelve count = fault_unless (count == 12) NotTwelve
 abbrev pub fault_of_words : List ℕ → Option Fault
 fault_of_words words = first_fault (fault_of_twelve (length words) ∷ of_words (read_words 1 words) ∷ [])
 
-abbrev pub of_slot : Option ℕ → Option Fault
-of_slot (Some slot) = Some (BadRoster slot)
-of_slot None = None
+abbrev pub fault_of_slot : Option ℕ → Option Fault
+fault_of_slot (Some slot) = Some (BadRoster slot)
+fault_of_slot None = None
 
 abbrev pub fault_of_four : ℕ → Option Fault
 fault_of_four count = fault_unless (count == 4) NotFour
 
 -- not four clubs, or the least slot whose club no roster takes in
 abbrev pub fault_of_clubs : List NamedClub → Option Fault
-fault_of_clubs clubs = first_fault (fault_of_four (length clubs) ∷ of_slot (bad_slot clubs) ∷ [])
+fault_of_clubs clubs = first_fault (fault_of_four (length clubs) ∷ fault_of_slot (bad_slot clubs) ∷ [])
 
 -- a club of this coefficient, and of a name that any roster takes in
 abbrev pub club_with : ℕ → NamedClub

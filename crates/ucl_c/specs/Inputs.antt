@@ -1,6 +1,6 @@
 -- Definitions that private functions alone cite: what the code has of inputs with no fault.
 use Rattle.std.specs.Prelude.{◌≡◌, ℕ, ◌+◌, ◌≤◌, List, None, Some, Ok}
-use Rattle.ucl_word.specs.Layout.{layout, held_at, IsMarked}
+use Rattle.ucl_word.specs.Layout.{layout, held_at, HasLayoutTag}
 use Rattle.ucl_board.specs.Words.{AreWords}
 use Rattle.ucl_order.specs.Names.{profile_with}
 use Rattle.ucl_order.specs.Roster.{NamedClub}
@@ -22,7 +22,7 @@ pub record IsGroupOf (code letter : ℕ) (words : List ℕ) (clubs : List NamedC
 
 -- what a word holds that is of a match which has begun: the mark, a reporter, a state, and an event number that a match in this state can have
 pub record HasBegun (word : ℕ) : Type 0 where
-  pub marked : IsMarked layout word
+  pub marked : HasLayoutTag layout word
   pub reporter : 1 ≤ held_at word layout.reporter
   pub not_scheduled : 1 ≤ held_at word layout.state
   pub known : held_at word layout.state ≤ 2

@@ -1,10 +1,9 @@
 pub mod Codes
 pub mod Faults
-pub mod Answers
 pub mod Tables
 pub mod Replies
 pub mod Inputs
-pub mod Laws
+pub mod Theorems
 pub mod BoardPasses
 pub mod OwnedAt
 pub mod Handles

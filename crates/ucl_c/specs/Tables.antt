@@ -89,7 +89,7 @@ pub record TextLeft : Type 0 where
   pub long : ℕ
   pub at : ℕ
 
--- the answer of a call with a text of at most so many bytes, where its inputs have this fault or none; want of memory, 23, may come in place of any
+-- the answer of a call with a text of at most so many bytes, where its inputs have this fault or none; lack of memory, 23, may come in place of any
 pub record AnswersWithText (fault : Option Fault) (text : List ℕ) (most : ℕ) (before after : TextLeft) (status : ℕ) : Type 0 where
   pub told : status ≢ 23 → status ≡ status_with (fault_with_text fault text (length before.out))
   pub placed : status ≢ 23 → after.at ≡ place_with (fault_with_text fault text (length before.out)) before.at

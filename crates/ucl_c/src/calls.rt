@@ -9,7 +9,7 @@ ghost use Rattle.ucl_c.specs.Handles.{is_null, pass_held, fault_of_room, IsCallO
 use crate::board_pass::BoardPass;
 use crate::fault::Fault;
 use crate::handle::{Handle, UclboardPass};
-use crate::parts::Parts;
+use crate::raw_box::RawBox;
 use std::alloc::Global;
 use std::ptr::null_mut;
 
@@ -23,22 +23,22 @@ impl Handle {
     }
 
     /// Takes out what the handle owns, and leaves it null.
-    fn take(&mut self, alloc: Global) -> Parts<BoardPass, Global>
+    fn take(&mut self, alloc: Global) -> RawBox<BoardPass, Global>
         requires { is_null self.old.at ≡ false }
         ensures { (result.value.pass ≡ pass_held self.old)
             × (is_null self.new.at ≡ true) × (pass_held self.new ≡ Nobody) }
     {
         let ptr = self.at as *mut BoardPass;
         self.at = null_mut();
-        Parts { ptr, alloc }
+        RawBox { ptr, alloc }
     }
 
     /// Makes a null handle own this.
-    fn put(&mut self, parts: Parts<BoardPass, Global>)
+    fn put(&mut self, parts: RawBox<BoardPass, Global>)
         requires { is_null self.old.at ≡ true }
         ensures { pass_held self.new ≡ parts.value.pass }
     {
-        let Parts { ptr, alloc: _ } = parts;
+        let RawBox { ptr, alloc: _ } = parts;
         self.at = ptr as *mut UclboardPass;
     }
 
@@ -60,7 +60,7 @@ impl Handle {
         }
         let mut held = self.take(alloc).into_box();
         let made = call(held.as_mut());
-        self.put(Parts::of(held));
+        self.put(RawBox::of(held));
         made
     }
 
@@ -73,7 +73,7 @@ impl Handle {
     {
         match made {
             Ok(held) => {
-                self.put(Parts::of(held));
+                self.put(RawBox::of(held));
                 0
             }
             Err(fault) => fault.status(),

@@ -6,8 +6,7 @@ ghost use Rattle.ucl_word.specs.Layout.{IsWord, record_at, word_of};
 ghost use Rattle.ucl_word.specs.Migration.{IsReadable, IsReadAs};
 ghost use Rattle.ucl_word.specs.Names.{kind_with};
 ghost use Rattle.ucl_word.specs.Rules.{refusal_of, after};
-ghost use Rattle.ucl_c.specs.Answers.{match_seen, next_of};
-ghost use Rattle.ucl_c.specs.Codes.{state_code_in_c};
+ghost use Rattle.ucl_c.specs.Codes.{match_seen, next_of, state_code_in_c};
 ghost use Rattle.ucl_c.specs.Faults.{fault_of_entry, fault_of_next, found_with, status_with};
 
 use crate::fault::Fault;

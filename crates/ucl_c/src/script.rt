@@ -2,11 +2,11 @@
 
 ghost use Rattle.std.specs.Prelude.{◌≡◌, ◌≢◌, ◌≤◌, ◌⊎◌, List, [], ◌∷◌, length, map, Ok, Some, IfOk, IfErr};
 ghost use Rattle.ucl_board.specs.Fixtures.{IsSlot};
-ghost use Rattle.ucl_board.specs.Words.{greatest_version};
+ghost use Rattle.ucl_board.specs.Words.{max_version};
 ghost use Rattle.ucl_board.specs.declared.entry.Entry.{Entry};
 ghost use Rattle.ucl_board.specs.History.{after_attempt};
 ghost use Rattle.ucl_order.specs.Roster.{club_in};
-ghost use Rattle.ucl_screen.specs.Input.{most_bytes};
+ghost use Rattle.ucl_screen.specs.Input.{max_bytes};
 ghost use Rattle.ucl_screen.specs.Script.{night_of};
 ghost use Rattle.ucl_screen.specs.Parsing.{night_seen};
 ghost use Rattle.ucl_screen.specs.Events.{IsBoardAfter, attempt_of};
@@ -39,7 +39,7 @@ pub struct ReplyOfC {
 
 /// Enters the event of a row on a board of this version.
 fn reply_to(board: &mut Board, version: u32, row: u32, event: &NightEvent) -> ReplyOfC
-    requires { version ≤ greatest_version }
+    requires { version ≤ max_version }
     ensures reply { (h : List Entry) → IsBoardAfter h board.old version →
         result ≡ reply_after row h event.now }
     ensures after { (h : List Entry) → IsBoardAfter h board.old version →
@@ -67,7 +67,7 @@ fn reply_to(board: &mut Board, version: u32, row: u32, event: &NightEvent) -> Re
 /// Enters the events in turn on a fresh board, and writes what becomes of each. Gives the board afterwards.
 fn play(events: &[NightEvent], replies: &mut [ReplyOfC]) -> Board
     requires room { length replies.old ≡ length events.now }
-    requires few { length events.now ≤ most_bytes }
+    requires few { length events.now ≤ max_bytes }
     ensures replies { replies.new ≡ replies_to events.now }
     ensures after { result ≡ words_after events.now }
 {
@@ -116,7 +116,7 @@ fn script_of(alloc: Global, script: &[u8], clubs: usize, words: usize) -> Result
     ensures said { IfOk result (λ night. night_of script.now ≡ Ok (night_seen night)) }
     ensures room { IfOk result (λ _. (words ≡ 12) × (clubs ≡ 4)) }
     ensures four { IfOk result (λ night. length night.roster ≡ 4) }
-    ensures few { IfOk result (λ night. length night.events.items ≤ most_bytes) }
+    ensures few { IfOk result (λ night. length night.events.items ≤ max_bytes) }
     ensures refused { IfErr result (λ fault. fault ≢ OutOfMemory →
         first_fault (fault_of_twelve words ∷ fault_of_four clubs ∷ fault_of_script script.now ∷ [])
         ≡ Some fault) }

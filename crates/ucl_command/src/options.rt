@@ -28,7 +28,7 @@ const TEXT: &str = "text";
 const JSON: &str = "json";
 
 /// The most readings that `--readings` asks of each reader.
-const MOST_READINGS: u32 = 1000;
+const MAX_READINGS: u32 = 1000;
 
 /// Creates a program's command before it has options: its name, what it does, and what its help says after the options. It prints the version.
 pub(crate) fn program<'a>(
@@ -72,7 +72,7 @@ pub(crate) fn format_option<'a>(alloc: Global, says: &'a str) -> Arg<'a> {
 /// Creates `--readings` with a number from 0 to 1,000, which is 0 if it is left out.
 pub(crate) fn readings_option<'a>(alloc: Global) -> Arg<'a> {
     option(alloc, "readings", "NUMBER", help::READINGS)
-        .value_parser(value_parser!(u32).range(0..=i64::from(MOST_READINGS)))
+        .value_parser(value_parser!(u32).range(0..=i64::from(MAX_READINGS)))
         .default_value("0")
 }
 
@@ -115,5 +115,5 @@ pub(crate) fn readings_of(matches: &ArgMatches<'_>) -> Option<u32>
     ensures { IfSome result (λ n. n ≤ 1000) }
 {
     let readings = matches.get_one::<u32>("readings")?;
-    (readings <= MOST_READINGS).then_some(readings)
+    (readings <= MAX_READINGS).then_some(readings)
 }

@@ -1,23 +1,23 @@
-//! A follower of the board of one group of the UEFA Champions League: the program shows each moment that is newer than all before, of the lines
+//! A follower of the board of one group of the UEFA Champions League: the program shows each board state that is newer than all before, of the lines
 //! of its standard input.
 #![tactic(auto)]
 
 use std::process::ExitCode;
 use ucl_command::words_of;
 pub use ucl_command::{LineFault, follow_args};
-use ucl_io::Duplex;
-pub use ucl_runs::run_following;
+use ucl_io::LoggedIo;
+pub use ucl_live_runs::run_following;
 use ucl_screen::{FromRead, ToWrite};
 
 /// Runs the program over the standard streams. Standard output has no buffer, so that nothing is left to flush.
 fn main(rt: HostRuntime) -> ExitCode {
     let alloc = rt.alloc();
-    let mut duplex = Duplex::new(FromRead::new(rt.stdin()), ToWrite::new(rt.stdout()));
+    let mut logged_io = LoggedIo::new(FromRead::new(rt.stdin()), ToWrite::new(rt.stdout()));
     let others = ToWrite::new(rt.stderr());
     let mut errors = ToWrite::new(rt.stderr());
     let asked = match words_of(&rt, alloc) {
         Ok(words) => follow_args(alloc, &words),
         Err(fault) => Err(fault),
     };
-    ExitCode::from(run_following(alloc, asked, others, &mut duplex, &mut errors))
+    ExitCode::from(run_following(alloc, asked, others, &mut logged_io, &mut errors))
 }

@@ -1,8 +1,8 @@
--- Bytes whose lines a machine has answered, one after the other.
+-- Bytes whose lines a handler has answered, one after the other.
 use Rattle.std.proofs.Common.{◌≡◌, ℕ, ◌+◌, ◌≤◌, ◌<◌, ◌^◌, List, [], ◌∷◌, ◌++◌, length, take, drop, ap, ◌∙◌, subst, arith}
 use Rattle.std.proofs.lemmas.List.{length-take}
 use Rattle.std.specs.Prelude.{⊤, Err, Ok}
-use Rattle.ucl_io.specs.declared.fault.PumpFault.{PumpFault}
+use Rattle.ucl_io.specs.declared.fault.ServeFault.{ServeFault}
 use Rattle.ucl_io.specs.Turns.{AreAnswered, FallShort, Progress, Rules, Turn, Turned}
 use Rattle.ucl_io.proofs.Answers.{answered_one, answered_then, short_more, short_one, short_then}
 use Rattle.ucl_io.specs.Lines.{BeginsWithLine, begun_line, ended_lines}
@@ -41,13 +41,13 @@ module _ (cap i : ℕ) (line bytes end : List ℕ) (short : length line ≤ cap)
     pub line_answered : c.row ≡ b.row + 1 → Turned {V = ⊤} R b c (take cap (begun ++ end)) (Ok tt)
         → (later : List (Turn M)) × AreAnswered R a c (ended_lines cap line (take next bytes)) later
     line_answered row (text, answered, put) =
-        let t : Turn M = record { line = kept; text = text; after = c.machine } in (
+        let t : Turn M = record { line = kept; text = text; after = c.handler } in (
           turns ++ t ∷ [],
           rw line_ended (answered_then M F R a b c before turns p (kept ∷ []) (t ∷ [])
               (answered_one M F R b c kept text row (rw begun_is at answered) put)),
         )
 
-    pub line_short : (f : PumpFault F) → Turned {V = ⊤} R b c (take cap (begun ++ end)) (Err f) → FallShort R a c (ended_lines cap line bytes) f
+    pub line_short : (f : ServeFault F) → Turned {V = ⊤} R b c (take cap (begun ++ end)) (Err f) → FallShort R a c (ended_lines cap line bytes) f
     line_short f q =
         let rest = ended_lines cap (begun_line cap line (take next bytes)) (drop next bytes) in
         let all : ended_lines cap line bytes ≡ (before ++ kept ∷ []) ++ rest = ended_all cap line bytes next ∙ ap (λ (l : List (List ℕ)). l ++ rest) line_ended in

@@ -1,11 +1,11 @@
 -- Texts that are put one after the other.
-use Rattle.std.proofs.Common.{◌≡◌, ℕ, suc, ◌+◌, ◌-◌, ◌^◌, ◌≤◌, min, Bool, List, [], ◌∷◌, ◌++◌}
-use Rattle.std.proofs.Common.{length, take, Option, sym, ap, ◌∙◌, subst, append_assoc, append-nil, arith, length-append, refl}
+use Rattle.std.proofs.Common.{◌≡◌, ℕ, suc, ◌+◌, ◌-◌, ◌^◌, ◌≤◌, min, Bool, List, [], ◌∷◌, ◌++◌, length, take, Option, sym, ap, ◌∙◌, subst, append_assoc, append-nil}
+use Rattle.std.proofs.Common.{arith, length-append, refl}
 use Rattle.std.proofs.lemmas.List.{take-append-le}
 use Rattle.std.specs.Io.KnownBytes.{Appends}
 use Rattle.std.specs.Prelude.{⊤, Err}
-use Rattle.ucl_io.specs.declared.fault.PumpFault.{PumpFault}
-use Rattle.ucl_io.specs.declared.fault.PumpFault.TheVariants.{Machine, ReadFailed, TooLong, WriteFailed}
+use Rattle.ucl_io.specs.declared.fault.ServeFault.{ServeFault}
+use Rattle.ucl_io.specs.declared.fault.ServeFault.TheVariants.{Handler, ReadFailed, TooLong, WriteFailed}
 use Rattle.ucl_io.specs.Output.{HasPut, Outlet, PutsOrStops, StopsIn, StoppedShort, WritesOn}
 use Rattle.ucl_io.proofs.MovedBytes.{appends-none, appends-then}
 
@@ -84,9 +84,9 @@ given_after a b text none none2 went told sound = record { given = text; went = 
 
 module _ (F : Type 0) where
   -- the sink failed in the text
-  pub short_within : (a b c : Outlet) (text : List ℕ) (f : PumpFault F) → HasPut a b [] → b.held ≡ [] → WritesOn b.out b.failed c.failed b.taken c.taken text (Err f)
+  pub short_within : (a b c : Outlet) (text : List ℕ) (f : ServeFault F) → HasPut a b [] → b.held ≡ [] → WritesOn b.out b.failed c.failed b.taken c.taken text (Err f)
       → PutsOrStops {V = ⊤} a c text (Err f)
   short_within a b c text (WriteFailed n) put none s = put_stops a b c [] text n put (rw none s)
-  short_within a b c text (Machine fault) put none s = absurd s
+  short_within a b c text (Handler fault) put none s = absurd s
   short_within a b c text (ReadFailed k) put none s = absurd s
   short_within a b c text TooLong put none s = absurd s

@@ -2,13 +2,13 @@
 use Rattle.std.proofs.Common.{◌≡◌, ℕ, ◌+◌, ◌^◌, ◌<◌, List, [], ◌∷◌, ◌++◌, length, refl, sym, ap, ◌∙◌, subst, inl, inr, append_assoc, append-nil, arith}
 use Rattle.std.specs.Prelude.{⊤, Result, Ok, Err}
 use Rattle.std.specs.Io.KnownBytes.{Appends, Consumes, IsAtEnd, Keeps}
-use Rattle.ucl_io.specs.declared.fault.PumpFault.{PumpFault}
-use Rattle.ucl_io.specs.declared.fault.PumpFault.TheVariants.{Machine, ReadFailed, TooLong, WriteFailed}
+use Rattle.ucl_io.specs.declared.fault.ServeFault.{ServeFault}
+use Rattle.ucl_io.specs.declared.fault.ServeFault.TheVariants.{Handler, ReadFailed, TooLong, WriteFailed}
 use Rattle.ucl_io.specs.Calls.{HasEnded, LogsCalls}
 use Rattle.ucl_io.specs.Lines.{begun_line, ended_lines}
 use Rattle.ucl_io.specs.Turns.{AreAnswered, Closed, FallShort, Progress, Turn, WhyShort, lines_in, state_after, text_in}
 use Rattle.ucl_io.specs.Output.{Outlet}
-use Rattle.ucl_io.specs.Pumping.{PumpEnds, HasClosed, IsOut, IsPromptAt, LineRules, Pumped, Run, Seen}
+use Rattle.ucl_io.specs.Serving.{ServeEnds, HasClosed, IsOut, IsPromptAt, LineRules, Served, Run, Seen}
 use Rattle.ucl_io.proofs.Answers.{answered_then, short_then}
 use Rattle.ucl_io.proofs.Calls.{ended, ended-since, logs-as, logs-then}
 use Rattle.ucl_io.proofs.Cuts.{ended_append}
@@ -30,7 +30,7 @@ module _ (M T : Type 0) (cap : ℕ) (count : T → ℕ) (at : T → Seen M) (ori
     among = ap (λ (l : List (Turn M)). l ++ later) p.among ∙ append_assoc p.first p.later later;
     consumed = p.consumed;
     lines = p.lines;
-    machine = p.machine;
+    handler = p.handler;
     out = p.out;
   }
 
@@ -45,11 +45,11 @@ module _ (M T : Type 0) (cap : ℕ) (count : T → ℕ) (at : T → Seen M) (ori
 
 -- before the first line
 abbrev pub first_of : {M : Type 0} → Seen M → Progress M
-first_of s = record { row = 1; machine = s.machine; outlet = record { held = []; out = 0; taken = s.device.taken; failed = s.device.failed } }
+first_of s = record { row = 1; handler = s.handler; outlet = record { held = []; out = 0; taken = s.device.taken; failed = s.device.failed } }
 
 -- before this line
 abbrev pub stands : {M : Type 0} → Seen M → ℕ → List ℕ → ℕ → Progress M
-stands s row held out = record { row = row; machine = s.machine; outlet = record { held = held; out = out; taken = s.device.taken; failed = s.device.failed } }
+stands s row held out = record { row = row; handler = s.handler; outlet = record { held = held; out = out; taken = s.device.taken; failed = s.device.failed } }
 
 module _ (M F : Type 0) (D : LineRules M F) (cap : ℕ) (old mid : Seen M) (row : ℕ) (held : List ℕ) (written : ℕ) (bytes : List ℕ) (turns : List (Turn M))
     (consumed : Consumes old.device.left mid.device.left bytes)
@@ -68,13 +68,13 @@ module _ (M F : Type 0) (D : LineRules M F) (cap : ℕ) (old mid : Seen M) (row 
     among = sym (append-nil turns);
     consumed = consumed;
     lines = sym p.lines_are;
-    machine = p.machine;
+    handler = p.handler;
     out = out;
   }
 
   module _ (new : Seen M) (Prompt : List (Turn M) → Type 0) where
-    abbrev Done : Result ℕ (PumpFault F) → Type 0
-    Done result = Pumped D cap old new result Prompt
+    abbrev Done : Result ℕ (ServeFault F) → Type 0
+    Done result = Served D cap old new result Prompt
 
     abbrev so_far : Run M
     so_far = record { bytes = bytes; turns = turns; rest = []; last = [] }
@@ -111,7 +111,7 @@ module _ (M F : Type 0) (D : LineRules M F) (cap : ℕ) (old mid : Seen M) (row 
       ends = (long, refl, refl);
     }
 
-    -- the sink failed in some lines of more bytes, or the machine had no answer to one
+    -- the sink failed in some lines of more bytes, or the handler had no answer to one
     module _ (row2 out2 : ℕ) (held2 : List ℕ) (more : List ℕ) (moved : Consumes mid.device.left new.device.left more) where
       abbrev there : Progress M
       there = stands new row2 held2 out2
@@ -119,15 +119,15 @@ module _ (M F : Type 0) (D : LineRules M F) (cap : ℕ) (old mid : Seen M) (row 
       abbrev longer : List (Turn M) → List (List ℕ) → Run M
       longer all rest = record { bytes = bytes ++ more; turns = all; rest = rest; last = [] }
 
-      why : (all : List (Turn M)) (rest : List (List ℕ)) (f : PumpFault F) → WhyShort D.line (first_of old) there all rest f
-          → IsOut old.device new.device (text_in all ++ []) (Err f) × PumpEnds D cap old new (longer all rest) (Err f)
+      why : (all : List (Turn M)) (rest : List (List ℕ)) (f : ServeFault F) → WhyShort D.line (first_of old) there all rest f
+          → IsOut old.device new.device (text_in all ++ []) (Err f) × ServeEnds D cap old new (longer all rest) (Err f)
       why all rest (WriteFailed count) s = (rw append-nil s, inl refl)
-      why all rest (Machine fault) (s, put, none2) =
+      why all rest (Handler fault) (s, put, none2) =
           ((rw append-nil (all_out (first_of old).outlet there.outlet (text_in all) put refl none2), put.sound), (inl s, refl))
       why all rest (ReadFailed k) s = absurd s
       why all rest TooLong s = absurd s
 
-      pub run_stopped : (f : PumpFault F) → FallShort D.line here there (ended_lines cap (begun_line cap [] bytes) more) f
+      pub run_stopped : (f : ServeFault F) → FallShort D.line here there (ended_lines cap (begun_line cap [] bytes) more) f
           → ((later : List (Turn M)) → Prompt (turns ++ later)) → Done (Err f)
       run_stopped f q prompt =
           let s = short_then M F D.line (first_of old) here there (ended_lines cap [] bytes) turns p (ended_lines cap (begun_line cap [] bytes) more) f q in
@@ -142,8 +142,8 @@ module _ (M F : Type 0) (D : LineRules M F) (cap : ℕ) (old mid : Seen M) (row 
           }
 
       module _ (over : IsAtEnd mid.device.left) (none_more : more ≡ []) (prompt : Prompt turns) where
-        last_of : {X : Type 0} (P : M → ℕ → X → Type 0) (x : X) → P mid.machine row x → P (state_after old.machine turns) (1 + length turns) x
-        last_of P x h = subst (λ (k : M). P k (1 + length turns) x) p.machine (subst (λ (n : ℕ). P mid.machine n x) p.row h)
+        last_of : {X : Type 0} (P : M → ℕ → X → Type 0) (x : X) → P mid.handler row x → P (state_after old.handler turns) (1 + length turns) x
+        last_of P x h = subst (λ (k : M). P k (1 + length turns) x) p.handler (subst (λ (n : ℕ). P mid.handler n x) p.row h)
 
         took_all : Consumes old.device.left new.device.left bytes
         took_all =
@@ -156,11 +156,11 @@ module _ (M F : Type 0) (D : LineRules M F) (cap : ℕ) (old mid : Seen M) (row 
         abbrev with_last : List ℕ → Run M
         with_last text = record { bytes = bytes; turns = turns; rest = []; last = text }
 
-        closed : (text : List ℕ) → D.last.Answers mid.machine row (begun_line cap [] bytes) new.machine text → HasClosed D cap old new (with_last text)
+        closed : (text : List ℕ) → D.last.Answers mid.handler row (begun_line cap [] bytes) new.handler text → HasClosed D cap old new (with_last text)
         closed text h = record {
           ended = at_end;
           all = refl;
-          answer = last_of (λ (k : M) (n : ℕ) (t : List ℕ). D.last.Answers k n (begun_line cap [] bytes) new.machine t) text h;
+          answer = last_of (λ (k : M) (n : ℕ) (t : List ℕ). D.last.Answers k n (begun_line cap [] bytes) new.handler t) text h;
         }
 
         -- what has begun of a last line was answered, at the end of the input
@@ -180,7 +180,7 @@ module _ (M F : Type 0) (D : LineRules M F) (cap : ℕ) (old mid : Seen M) (row 
         }
 
         -- it was not
-        pub run_ends_badly : (f : PumpFault F) → Closed {V = ⊤} D.last here there (begun_line cap [] bytes) (Err f) → Done (Err f)
+        pub run_ends_badly : (f : ServeFault F) → Closed {V = ⊤} D.last here there (begun_line cap [] bytes) (Err f) → Done (Err f)
         run_ends_badly (WriteFailed count) (text, answered, s) = record {
           run = with_last text;
           consumed = took_all;
@@ -190,7 +190,7 @@ module _ (M F : Type 0) (D : LineRules M F) (cap : ℕ) (old mid : Seen M) (row 
           out = put_stops (first_of old).outlet here.outlet there.outlet (text_in turns) text count p.put s;
           ends = inr (closed text answered);
         }
-        run_ends_badly (Machine fault) (s, same) = record {
+        run_ends_badly (Handler fault) (s, same) = record {
           run = so_far;
           consumed = took_all;
           turned = p.turned;
@@ -201,7 +201,7 @@ module _ (M F : Type 0) (D : LineRules M F) (cap : ℕ) (old mid : Seen M) (row 
             inr (record {
               ended = at_end;
               all = refl;
-              stops = last_of (λ (k : M) (n : ℕ) (g : F). D.last.Stops k n (begun_line cap [] bytes) new.machine g) fault s;
+              stops = last_of (λ (k : M) (n : ℕ) (g : F). D.last.Stops k n (begun_line cap [] bytes) new.handler g) fault s;
             }),
             refl,
           );

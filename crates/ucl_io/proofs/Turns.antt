@@ -1,4 +1,4 @@
--- Lines that a machine has answered, one after the other.
+-- Lines that a handler has answered, one after the other.
 use Rattle.std.proofs.Common.{◌≡◌, ℕ, ◌+◌, List, [], ◌∷◌, ◌++◌, length, refl, sym, ap, ◌∙◌, subst, append_assoc, append-nil, arith}
 use Rattle.ucl_io.specs.Turns.{AreTurns, Turn, lines_in, state_after, text_in}
 

@@ -4,4 +4,4 @@ pub mod Lines
 pub mod Output
 pub mod Calls
 pub mod Turns
-pub mod Pumping
+pub mod Serving

@@ -1,8 +1,8 @@
 -- A sink with what waits to be given to it, and what goes out.
 use Rattle.std.specs.Prelude.{◌≡◌, ℕ, ◌+◌, ◌-◌, ◌^◌, min, Bool, true, List, ◌++◌, length, Option, Result, Ok, Err}
 use Rattle.std.specs.Io.KnownBytes.{Appends}
-use Rattle.ucl_io.specs.declared.fault.PumpFault.{PumpFault}
-use Rattle.ucl_io.specs.declared.fault.PumpFault.TheVariants.{WriteFailed}
+use Rattle.ucl_io.specs.declared.fault.ServeFault.{ServeFault}
+use Rattle.ucl_io.specs.declared.fault.ServeFault.TheVariants.{WriteFailed}
 use Rattle.ucl_io.specs.Stream.{WroteFirst}
 
 -- what waits, and how many bytes went out before
@@ -37,7 +37,7 @@ pub record StoppedShort (before : ℕ) (failed : Bool) (old new : Option (List �
   pub told : written ≡ min (before + count) (2 ^ 64 - 1)
 
 -- a text was given to a sink after so many bytes, and how many are out then is told; or the sink failed in it
-abbrev pub WritesOn : {F : Type 0} → ℕ → Bool → Bool → Option (List ℕ) → Option (List ℕ) → List ℕ → Result ℕ (PumpFault F) → Type 0
+abbrev pub WritesOn : {F : Type 0} → ℕ → Bool → Bool → Option (List ℕ) → Option (List ℕ) → List ℕ → Result ℕ (ServeFault F) → Type 0
 WritesOn before failed failed2 old new text (Ok out) = Appends old new text × (out ≡ min (before + length text) (2 ^ 64 - 1)) × (failed2 ≡ failed)
 WritesOn before failed failed2 old new text (Err (WriteFailed written)) = StoppedShort before failed2 old new text written
 WritesOn before failed failed2 old new text (Err _) = ⊥
@@ -47,7 +47,7 @@ abbrev pub StopsIn : Outlet → Outlet → List ℕ → ℕ → Type 0
 StopsIn before after text written = StoppedShort before.out after.failed before.taken after.taken (before.held ++ text) written
 
 -- a text was put, or the sink failed
-abbrev pub PutsOrStops : {V F : Type 0} → Outlet → Outlet → List ℕ → Result V (PumpFault F) → Type 0
+abbrev pub PutsOrStops : {V F : Type 0} → Outlet → Outlet → List ℕ → Result V (ServeFault F) → Type 0
 PutsOrStops before after text (Ok done) = HasPut before after text
 PutsOrStops before after text (Err (WriteFailed written)) = StopsIn before after text written
 PutsOrStops before after text (Err _) = ⊥

@@ -1,10 +1,10 @@
--- What a machine answers to lines, one after the other.
+-- What a handler answers to lines, one after the other.
 use Rattle.std.specs.Prelude.{◌≡◌, ◌⊎◌, ⊤, ℕ, ◌+◌, Bool, List, [], ◌∷◌, ◌++◌, length, Option, Result, Ok, Err}
-use Rattle.ucl_io.specs.declared.fault.PumpFault.{PumpFault}
-use Rattle.ucl_io.specs.declared.fault.PumpFault.TheVariants.{Machine, WriteFailed}
+use Rattle.ucl_io.specs.declared.fault.ServeFault.{ServeFault}
+use Rattle.ucl_io.specs.declared.fault.ServeFault.TheVariants.{Handler, WriteFailed}
 use Rattle.ucl_io.specs.Output.{HasPut, Outlet, StopsIn, Waiting, outlet}
 
--- what a machine does with a line of this number: it answers it and is another then, or has no answer
+-- what a handler does with a line of this number: it answers it and is another then, or has no answer
 pub record Rules (M F : Type 0) : Type 1 where
   pub Answers : M → ℕ → List ℕ → M → List ℕ → Type 0
   pub Stops : M → ℕ → List ℕ → M → F → Type 0
@@ -12,34 +12,34 @@ pub record Rules (M F : Type 0) : Type 1 where
 abbrev pub rules : {M F : Type 0} → (M → ℕ → List ℕ → M → List ℕ → Type 0) → (M → ℕ → List ℕ → M → F → Type 0) → Rules M F
 rules answers stops = record { Answers = answers; Stops = stops }
 
--- between two lines: the number of the next, the machine, and the sink with the answers that wait
+-- between two lines: the number of the next, the handler, and the sink with the answers that wait
 pub record Progress (M : Type 0) : Type 0 where
   pub row : ℕ
-  pub machine : M
+  pub handler : M
   pub outlet : Outlet
 
 abbrev pub progress : {W M : Type 0} → (W → Option (List ℕ)) → (W → Bool) → ℕ → M → Waiting → W → Progress M
-progress taken failed row machine waiting sink = record { row = row; machine = machine; outlet = outlet taken failed waiting sink }
+progress taken failed row handler waiting sink = record { row = row; handler = handler; outlet = outlet taken failed waiting sink }
 
--- a line was answered, and the answer was put; or the sink failed, in this answer or in those that waited; or the machine has no answer, and
+-- a line was answered, and the answer was put; or the sink failed, in this answer or in those that waited; or the handler has no answer, and
 -- nothing waits
-abbrev pub Turned : {V M F : Type 0} → Rules M F → Progress M → Progress M → List ℕ → Result V (PumpFault F) → Type 0
-Turned R a b line (Ok done) = (text : List ℕ) × R.Answers a.machine a.row line b.machine text × HasPut a.outlet b.outlet text
+abbrev pub Turned : {V M F : Type 0} → Rules M F → Progress M → Progress M → List ℕ → Result V (ServeFault F) → Type 0
+Turned R a b line (Ok done) = (text : List ℕ) × R.Answers a.handler a.row line b.handler text × HasPut a.outlet b.outlet text
 Turned R a b line (Err (WriteFailed written)) =
-    ((text : List ℕ) × R.Answers a.machine a.row line b.machine text × StopsIn a.outlet b.outlet text written) ⊎ StopsIn a.outlet b.outlet [] written
-Turned R a b line (Err (Machine fault)) = R.Stops a.machine a.row line b.machine fault × HasPut a.outlet b.outlet [] × (b.outlet.held ≡ [])
+    ((text : List ℕ) × R.Answers a.handler a.row line b.handler text × StopsIn a.outlet b.outlet text written) ⊎ StopsIn a.outlet b.outlet [] written
+Turned R a b line (Err (Handler fault)) = R.Stops a.handler a.row line b.handler fault × HasPut a.outlet b.outlet [] × (b.outlet.held ≡ [])
 Turned R a b line (Err _) = ⊥
 
--- the same of what has begun of a last line: once it was answered, nothing waits; where the machine has no answer, what waits still does
-abbrev pub Closed : {V M F : Type 0} → Rules M F → Progress M → Progress M → List ℕ → Result V (PumpFault F) → Type 0
-Closed R a b line (Ok done) = (text : List ℕ) × R.Answers a.machine a.row line b.machine text × HasPut a.outlet b.outlet text × (b.outlet.held ≡ [])
-Closed R a b line (Err (WriteFailed written)) = (text : List ℕ) × R.Answers a.machine a.row line b.machine text × StopsIn a.outlet b.outlet text written
-Closed R a b line (Err (Machine fault)) = R.Stops a.machine a.row line b.machine fault × (b.outlet ≡ a.outlet)
+-- the same of what has begun of a last line: once it was answered, nothing waits; where the handler has no answer, what waits still does
+abbrev pub Closed : {V M F : Type 0} → Rules M F → Progress M → Progress M → List ℕ → Result V (ServeFault F) → Type 0
+Closed R a b line (Ok done) = (text : List ℕ) × R.Answers a.handler a.row line b.handler text × HasPut a.outlet b.outlet text × (b.outlet.held ≡ [])
+Closed R a b line (Err (WriteFailed written)) = (text : List ℕ) × R.Answers a.handler a.row line b.handler text × StopsIn a.outlet b.outlet text written
+Closed R a b line (Err (Handler fault)) = R.Stops a.handler a.row line b.handler fault × (b.outlet ≡ a.outlet)
 Closed R a b line (Err _) = ⊥
 
 -- ---- several lines
 
--- a line, its answer, and the machine then
+-- a line, its answer, and the handler then
 pub record Turn (M : Type 0) : Type 0 where
   pub line : List ℕ
   pub text : List ℕ
@@ -57,43 +57,43 @@ unfoldable pub state_after : {M : Type 0} → M → List (Turn M) → M
 state_after m [] = m
 state_after m (t ∷ turns) = state_after t.after turns
 
--- a machine answers lines, of which the first has this number, by these turns
+-- a handler answers lines, of which the first has this number, by these turns
 unfoldable pub AreTurns : {M : Type 0} → (M → ℕ → List ℕ → M → List ℕ → Type 0) → ℕ → M → List (Turn M) → Type 0
 AreTurns Answers row m [] = ⊤
 AreTurns Answers row m (t ∷ turns) = Answers m row t.line t.after t.text × AreTurns Answers (row + 1) t.after turns
 
 -- the lines were answered by these turns, and the answers were put
 pub record AreAnswered {M F : Type 0} (R : Rules M F) (a b : Progress M) (lines : List (List ℕ)) (turns : List (Turn M)) : Type 0 where
-  pub turned : AreTurns R.Answers a.row a.machine turns
+  pub turned : AreTurns R.Answers a.row a.handler turns
   pub lines_are : lines ≡ lines_in turns
   pub row : b.row ≡ a.row + length turns
-  pub machine : b.machine ≡ state_after a.machine turns
+  pub handler : b.handler ≡ state_after a.handler turns
   pub put : HasPut a.outlet b.outlet (text_in turns)
 
--- the machine has no answer to the first of the rest, and is m2 then
+-- the handler has no answer to the first of the rest, and is m2 then
 pub record StopsNext {M F : Type 0} (Stops : M → ℕ → List ℕ → M → F → Type 0) (row : ℕ) (m m2 : M) (turns : List (Turn M)) (rest : List (List ℕ)) (fault : F) : Type 0 where
   pub line : List ℕ
   pub later : List (List ℕ)
   pub next : rest ≡ line ∷ later
   pub stops : Stops (state_after m turns) (row + length turns) line m2 fault
 
--- why no more lines were answered than by these turns: the sink failed in their answers; or those were put, and the machine has no answer to the
+-- why no more lines were answered than by these turns: the sink failed in their answers; or those were put, and the handler has no answer to the
 -- first of the rest
-abbrev pub WhyShort : {M F : Type 0} → Rules M F → Progress M → Progress M → List (Turn M) → List (List ℕ) → PumpFault F → Type 0
+abbrev pub WhyShort : {M F : Type 0} → Rules M F → Progress M → Progress M → List (Turn M) → List (List ℕ) → ServeFault F → Type 0
 WhyShort R a b turns rest (WriteFailed written) = StopsIn a.outlet b.outlet (text_in turns) written
-WhyShort R a b turns rest (Machine fault) =
-    StopsNext R.Stops a.row a.machine b.machine turns rest fault × HasPut a.outlet b.outlet (text_in turns) × (b.outlet.held ≡ [])
+WhyShort R a b turns rest (Handler fault) =
+    StopsNext R.Stops a.row a.handler b.handler turns rest fault × HasPut a.outlet b.outlet (text_in turns) × (b.outlet.held ≡ [])
 WhyShort R a b turns rest _ = ⊥
 
 -- the first of the lines were answered, and the rest were not
-pub record FallShort {M F : Type 0} (R : Rules M F) (a b : Progress M) (lines : List (List ℕ)) (fault : PumpFault F) : Type 0 where
+pub record FallShort {M F : Type 0} (R : Rules M F) (a b : Progress M) (lines : List (List ℕ)) (fault : ServeFault F) : Type 0 where
   pub turns : List (Turn M)
   pub rest : List (List ℕ)
-  pub turned : AreTurns R.Answers a.row a.machine turns
+  pub turned : AreTurns R.Answers a.row a.handler turns
   pub lines_are : lines ≡ lines_in turns ++ rest
   pub why : WhyShort R a b turns rest fault
 
 -- all lines were answered and nothing waits, or some were not
-abbrev pub Answered : {V M F : Type 0} → Rules M F → Progress M → Progress M → List (List ℕ) → Result V (PumpFault F) → Type 0
+abbrev pub Answered : {V M F : Type 0} → Rules M F → Progress M → Progress M → List (List ℕ) → Result V (ServeFault F) → Type 0
 Answered {M = M} R a b lines (Ok done) = (turns : List (Turn M)) × AreAnswered R a b lines turns × (b.outlet.held ≡ [])
 Answered R a b lines (Err fault) = FallShort R a b lines fault

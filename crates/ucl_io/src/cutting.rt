@@ -6,9 +6,9 @@ ghost use Rattle.ucl_io.specs.Lines.{HasNoFeed, BeginsWithLine};
 use arrayvec::ArrayVec;
 
 /// The most bytes of a line that can be kept.
-pub const MOST_KEPT_BYTES: usize = 4097;
+pub const MAX_KEPT_BYTES: usize = 4097;
 
-/// The first line of a text, without its line feed, where it has ended.
+/// Returns the first line of a text, without its line feed, if it has ended.
 pub fn first_line(text: &[u8]) -> Option<&[u8]>
     ensures line { IfSome result (λ line. BeginsWithLine text.now line.now) }
     ensures none { result ≡ None → HasNoFeed text.now }
@@ -21,7 +21,7 @@ pub fn first_line(text: &[u8]) -> Option<&[u8]>
     None
 }
 
-/// The first bytes of a text, at most so many.
+/// Returns the first bytes of a text, at most so many.
 pub(crate) fn at_most(text: &[u8], most: usize) -> &[u8]
     ensures { result.now ≡ take most text.now }
 {
@@ -33,7 +33,7 @@ pub(crate) fn at_most(text: &[u8], most: usize) -> &[u8]
 }
 
 /// Puts bytes to what is kept of a line, of which at most so many bytes are kept.
-pub(crate) fn keep(line: &mut ArrayVec<u8, MOST_KEPT_BYTES>, cap: usize, bytes: &[u8])
+pub(crate) fn keep(line: &mut ArrayVec<u8, MAX_KEPT_BYTES>, cap: usize, bytes: &[u8])
     requires cap { cap ≤ 4097 }
     requires short { length line.old.items ≤ cap }
     ensures { line.new.items ≡ take cap (line.old.items ++ bytes.now) }

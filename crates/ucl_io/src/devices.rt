@@ -3,12 +3,12 @@
 ghost use Rattle.std.specs.Prelude.{◌≡◌, false};
 ghost use Rattle.ucl_io.specs.Devices.{given_by, reader_of, read_failed, taken_by, writer_of, write_failed};
 
+use crate::call_count::CallCount;
 use crate::stream::{Sink, Source};
-use crate::tally::Tally;
 use std::io;
 use std::io::{Read, Write};
 
-/// What a source answers where its reader answered this.
+/// Returns what a source answers where its reader answered this.
 fn taken_by(answer: &io::Result<usize>) -> Option<usize>
     ensures { result ≡ taken_by answer.now }
 {
@@ -18,7 +18,7 @@ fn taken_by(answer: &io::Result<usize>) -> Option<usize>
     }
 }
 
-/// What a sink answers where its writer answered this.
+/// Returns what a sink answers where its writer answered this.
 fn given_by(answer: &io::Result<usize>) -> Option<usize>
     ensures { result ≡ given_by answer.now }
 {
@@ -35,11 +35,11 @@ fn given_by(answer: &io::Result<usize>) -> Option<usize>
 pub struct FromRead<R> {
     reader: R,
     has_failed: bool,
-    calls: Tally,
+    calls: CallCount,
 }
 
 impl<R: Read> FromRead<R> {
-    /// A source of the bytes that the reader has left. No call has failed.
+    /// Creates a source of the bytes that the reader has left. No call has failed.
     pub fn new(reader: R) -> FromRead<R>
         ensures reader { reader_of result ≡ reader }
         ensures sound { read_failed result ≡ false }
@@ -47,7 +47,7 @@ impl<R: Read> FromRead<R> {
         FromRead {
             reader,
             has_failed: false,
-            calls: Tally::start(),
+            calls: CallCount::start(),
         }
     }
 }
@@ -80,11 +80,11 @@ impl<R: Read> Source for FromRead<R> {
 pub struct ToWrite<W> {
     writer: W,
     has_failed: bool,
-    calls: Tally,
+    calls: CallCount,
 }
 
 impl<W: Write> ToWrite<W> {
-    /// A sink that hands its bytes to the writer. No call has failed.
+    /// Creates a sink that hands its bytes to the writer. No call has failed.
     pub fn new(writer: W) -> ToWrite<W>
         ensures writer { writer_of result ≡ writer }
         ensures sound { write_failed result ≡ false }
@@ -92,7 +92,7 @@ impl<W: Write> ToWrite<W> {
         ToWrite {
             writer,
             has_failed: false,
-            calls: Tally::start(),
+            calls: CallCount::start(),
         }
     }
 }

@@ -4,7 +4,7 @@ ghost use Rattle.std.specs.Prelude.{◌≡◌, ◌-◌, ◌^◌, ◌+◌, ◌≤
 ghost use Rattle.std.specs.Io.KnownBytes.{Appends};
 ghost use Rattle.ucl_io.specs.Output.{PutsOrStops, Waiting, WritesOn, outlet};
 
-use crate::fault::PumpFault;
+use crate::fault::ServeFault;
 use crate::stream::Sink;
 use crate::transfer::give_all;
 use arrayvec::ArrayVec;
@@ -13,7 +13,7 @@ use std::marker::Model;
 /// The most bytes that are gathered.
 const PAGE: usize = 4096;
 
-/// A page of text that waits to be given to a sink, and how many bytes went out. A number past `usize::MAX` is told as that.
+/// A page of text that waits to be given to a sink, and how many bytes went out. A number past `usize::MAX` is given as that.
 #[derive(Drop)]
 pub(crate) struct Output {
     held: ArrayVec<u8, PAGE>,
@@ -29,20 +29,20 @@ impl Model for Output {
 }
 
 /// Gives bytes to a sink after so many, and says how many are out then, also where it fails.
-fn put_bytes<W: Sink, F>(sink: &mut W, out: usize, bytes: &[u8]) -> Result<usize, PumpFault<F>>
+fn put_bytes<W: Sink, F>(sink: &mut W, out: usize, bytes: &[u8]) -> Result<usize, ServeFault<F>>
     ensures { WritesOn out (W.failed sink.old) (W.failed sink.new)
         (W.taken sink.old) (W.taken sink.new) bytes.now result }
 {
     match give_all(sink, bytes) {
         Ok(()) => Ok(out.saturating_add(bytes.len())),
-        Err(more) => Err(PumpFault::WriteFailed {
+        Err(more) => Err(ServeFault::WriteFailed {
             written: out.saturating_add(more),
         }),
     }
 }
 
 impl Output {
-    /// Nothing waits, and nothing went out.
+    /// Creates an output in which nothing waits, and of which nothing went out.
     pub(crate) fn new() -> Output
         ensures { result ≡ record { held = []; out = 0 } }
     {
@@ -52,7 +52,7 @@ impl Output {
         }
     }
 
-    /// How many bytes went out.
+    /// Returns how many bytes went out.
     pub(crate) fn written(&self) -> usize
         ensures value { result ≡ self.now.out }
         ensures bound { self.now.out ≤ 2 ^ 64 - 1 }
@@ -61,7 +61,7 @@ impl Output {
     }
 
     /// Gives to the sink what waits.
-    pub(crate) fn flush<W: Sink, F>(&mut self, sink: &mut W) -> Result<(), PumpFault<F>>
+    pub(crate) fn flush<W: Sink, F>(&mut self, sink: &mut W) -> Result<(), ServeFault<F>>
         ensures put { PutsOrStops (outlet W.taken W.failed self.old sink.old)
             (outlet W.taken W.failed self.new sink.new) [] result }
         ensures empty { OnOk result (self.new.held ≡ []) }
@@ -83,11 +83,12 @@ impl Output {
         }
     }
 
-    /// Puts a text after what waits. Where there is no room for both, both are given to the sink.
-    pub(crate) fn put<W: Sink, F>(&mut self, sink: &mut W, text: &[u8]) -> Result<(), PumpFault<F>>
+    /// Puts a text after what waits. If there is no room for both, both are given to the sink.
+    pub(crate) fn put<W: Sink, F>(&mut self, sink: &mut W, text: &[u8]) -> Result<(), ServeFault<F>>
         ensures { PutsOrStops (outlet W.taken W.failed self.old sink.old)
             (outlet W.taken W.failed self.new sink.new) text.now result }
     {
+        // For the prover only: how many bytes went out fits into its type.
         let _written = self.written();
         if self.hold(text) {
             return Ok(());

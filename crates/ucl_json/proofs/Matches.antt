@@ -9,10 +9,10 @@ use Rattle.serde_json.specs.declared.value.Value.{Value}
 use Rattle.ucl_board.specs.Fixtures.{match_numbers}
 use Rattle.ucl_board.specs.Words.{game_at}
 use Rattle.ucl_order.specs.Roster.{NamedClub}
-use Rattle.ucl_screen.proofs.OneMatchMore.{match-numbered}
+use Rattle.ucl_screen.proofs.EventsInTurn.{match-numbered}
 use Rattle.ucl_order.specs.Rows.{rows_of}
 use Rattle.serde_json.proofs.OnLiterals.{serde_json_on_literals}
-use Rattle.ucl_json.specs.declared.title.Title.{Title}
+use Rattle.ucl_json.specs.declared.header.BoardHeader.{BoardHeader}
 use Rattle.ucl_json.specs.Values.{edition_screen_value, match_items, match_value, matches_value, screen_value}
 use Rattle.ucl_json.proofs.Places.{add, places-flat, places-whole, view-add, words-flat, words-items}
 
@@ -50,11 +50,11 @@ unfolding matches_value
 matches-shallow row board roster = let k = items-flat board match_numbers in omega (arith, k)
 
 -- and the screen with them
-pub edition-whole : (row : ℕ) (title : Title) (board : List ℕ) (roster : List NamedClub) → has_float (edition_screen_value row title board roster) ≡ false
+pub edition-whole : (row : ℕ) (header : BoardHeader) (board : List ℕ) (roster : List NamedClub) → has_float (edition_screen_value row header board roster) ≡ false
 unfolding edition_screen_value screen_value serde_json_on_literals
-edition-whole row title board roster = rw (places-whole roster (rows_of title.profile board roster), words-items board, items-whole board match_numbers) refl
+edition-whole row header board roster = rw (places-whole roster (rows_of header.profile board roster), words-items board, items-whole board match_numbers) refl
 
-pub edition-shallow : (row : ℕ) (title : Title) (board : List ℕ) (roster : List NamedClub) → depth (edition_screen_value row title board roster) ≤ max_depth
+pub edition-shallow : (row : ℕ) (header : BoardHeader) (board : List ℕ) (roster : List NamedClub) → depth (edition_screen_value row header board roster) ≤ max_depth
 unfolding edition_screen_value screen_value serde_json_on_literals
-edition-shallow row title board roster =
-    let k = places-flat roster (rows_of title.profile board roster) in let m = items-flat board match_numbers in rw (words-flat board) (omega (arith, k, m))
+edition-shallow row header board roster =
+    let k = places-flat roster (rows_of header.profile board roster) in let m = items-flat board match_numbers in rw (words-flat board) (omega (arith, k, m))

@@ -1,12 +1,11 @@
 -- What the members of a value tell.
 use Rattle.std.proofs.Common.{◌≡◌, ◌∙◌, ℕ, suc, ◌+◌, ◌<◌, ◌≤◌, ◌&&◌, ◌==◌, Bool, cond, true, false, refl, sym, ap, arith, List, [], ◌∷◌, ◌++◌, length, take, drop}
 use Rattle.std.proofs.Common.{get_or, append_assoc, Option, Some, None, le-leb, inl, inr}
-use Rattle.std.specs.Prelude.{nat_le, map, option_and_then}
+use Rattle.std.specs.Prelude.{nat_le, map, option_and_then, IsUtf8}
 use Rattle.std.specs.Str.{is_utf8}
-use Rattle.std.specs.Prelude.{IsUtf8}
 use Rattle.std.proofs.lemmas.Str.{IsUtf8-from_is_utf8, is_utf8-from_IsUtf8}
 use Rattle.serde_json.specs.Read.{read}
-use Rattle.ucl_json.specs.declared.moment.Moment.{Moment}
+use Rattle.ucl_json.specs.declared.board_state.BoardState.{BoardState}
 use Rattle.std.proofs.lemmas.Bool.{cases_Bool}
 use Rattle.std.proofs.lemmas.Bool.Decides.{nat_tests}
 use Rattle.std.proofs.lemmas.List.{take-append-drop, take_more}
@@ -18,7 +17,7 @@ use Rattle.ucl_board.specs.Words.{AreReadAs, IsFirstBad}
 use Rattle.ucl_screen.proofs.ReadWords.{are-read, first-bad}
 use Rattle.ucl_screen.specs.WordsRead.{read_words}
 use Rattle.ucl_screen.specs.Events.{◌>>=◌}
-use Rattle.ucl_json.specs.Told.{club_told, each_told, if_read, just, listed, moment_on, moment_told, roster_told, unless_bad}
+use Rattle.ucl_json.specs.BoardLines.{parse_club, parse_each, if_read, just, listed, parse_board_line, parse_board_state, parse_roster, unless_bad}
 
 -- ---- values in a row
 
@@ -30,7 +29,7 @@ map-then : (xs ys : List Value) → map view (xs ++ ys) ≡ map view xs ++ map v
 map-then [] ys = refl
 map-then (x ∷ xs) ys = ap (λ (ds : List Data). view x ∷ ds) (map-then xs ys)
 
-module _ {T : Type 0} (told : Data → Option T) where
+module _ {T : Type 0} (parsed : Data → Option T) where
   join : (o q : Option T) (p r : Option (List T)) → r ≡ (p >>= λ all. q >>= λ a. Some (all ++ a ∷ []))
       → (o >>= λ f. r >>= λ m. Some (f ∷ m)) ≡ ((o >>= λ f. p >>= λ m. Some (f ∷ m)) >>= λ all. q >>= λ a. Some (all ++ a ∷ []))
   join None q p r e = refl
@@ -38,59 +37,60 @@ module _ {T : Type 0} (told : Data → Option T) where
   join (Some f) None (Some all) r e = rw e refl
   join (Some f) (Some a) (Some all) r e = rw e refl
 
-  pub told-last : (values : List Data) (value : Data) → each_told told (values ++ value ∷ []) ≡ (each_told told values >>= λ all. told value >>= λ a. Some (all ++ a ∷ []))
-  unfolding each_told
-  told-last [] value = refl
-  told-last (v ∷ values) value = join (told v) (told value) (each_told told values) (each_told told (values ++ value ∷ [])) (told-last values value)
+  pub parsed-last : (values : List Data) (value : Data) → parse_each parsed (values ++ value ∷ []) ≡ (parse_each parsed values >>= λ all. parsed value >>= λ a. Some (all ++ a ∷ []))
+  unfolding parse_each
+  parsed-last [] value = refl
+  parsed-last (v ∷ values) value = join (parsed v) (parsed value) (parse_each parsed values) (parse_each parsed (values ++ value ∷ [])) (parsed-last values value)
 
   stuck : (o : Option T) (p : Option (List T)) → p ≡ None → (o >>= λ f. p >>= λ m. Some (f ∷ m)) ≡ None
   stuck None p e = refl
   stuck (Some f) p e = rw e refl
 
-  pub told-none : (values more : List Data) (value : Data) → told value ≡ None → each_told told (values ++ value ∷ more) ≡ None
-  unfolding each_told
-  told-none [] more value h = rw h refl
-  told-none (v ∷ values) more value h = stuck (told v) (each_told told (values ++ value ∷ more)) (told-none values more value h)
+  pub parsed-none : (values more : List Data) (value : Data) → parsed value ≡ None → parse_each parsed (values ++ value ∷ more) ≡ None
+  unfolding parse_each
+  parsed-none [] more value h = rw h refl
+  parsed-none (v ∷ values) more value h = stuck (parsed v) (parse_each parsed (values ++ value ∷ more)) (parsed-none values more value h)
 
-  pub told-nothing : each_told told [] ≡ Some []
-  unfolding each_told
-  told-nothing = refl
+  pub parsed-nothing : parse_each parsed [] ≡ Some []
+  unfolding parse_each
+  parsed-nothing = refl
 
-  pub told-start : (values : List Value) (so_far : List T) → so_far ≡ [] → each_told told (map view (take 0 values)) ≡ Some so_far
-  told-start values so_far e = rw e (told-first values)
+  pub parsed-start : (values : List Value) (so_far : List T) → so_far ≡ [] → parse_each parsed (map view (take 0 values)) ≡ Some so_far
+  parsed-start values so_far e = rw e (parsed-first values)
     where
-      told-first : (values : List Value) → each_told told (map view (take 0 values)) ≡ Some []
-      told-first [] = told-nothing
-      told-first (v ∷ values) = told-nothing
+      parsed-first : (values : List Value) → parse_each parsed (map view (take 0 values)) ≡ Some []
+      parsed-first [] = parsed-nothing
+      parsed-first (v ∷ values) = parsed-nothing
 
-  next-at : (values : List Value) (i : ℕ) (d : Value) (so_far new : List T) (one : T) → i < length values → each_told told (map view (take i values)) ≡ Some so_far
-      → Some one ≡ told (view (get_or values i d)) → new ≡ so_far ++ one ∷ [] → each_told told (map view (take (i + 1) values)) ≡ Some new
+  next-at : (values : List Value) (i : ℕ) (d : Value) (so_far new : List T) (one : T) → i < length values → parse_each parsed (map view (take i values)) ≡ Some so_far
+      → Some one ≡ parsed (view (get_or values i d)) → new ≡ so_far ++ one ∷ [] → parse_each parsed (map view (take (i + 1) values)) ≡ Some new
   next-at values i d so_far new one h so k e =
-      rw (take_more values i d h, map-then (take i values) (get_or values i d ∷ []), told-last (map view (take i values)) (view (get_or values i d)), so, ← k, e) refl
+      rw (take_more values i d h, map-then (take i values) (get_or values i d ∷ []), parsed-last (map view (take i values)) (view (get_or values i d)), so, ← k, e) refl
 
-  not-at : (values : List Value) (i : ℕ) (d : Value) → i < length values → None ≡ told (view (get_or values i d)) → each_told told (map view values) ≡ None
+  not-at : (values : List Value) (i : ℕ) (d : Value) → i < length values → None ≡ parsed (view (get_or values i d)) → parse_each parsed (map view values) ≡ None
   not-at values i d h k =
       let parts : values ≡ (take i values ++ get_or values i d ∷ []) ++ drop (i + 1) values =
       sym (take-append-drop (i + 1) values) ∙ ap (λ (l : List Value). l ++ drop (i + 1) values) (take_more values i d h) in
       let all = append_assoc (take i values) (get_or values i d ∷ []) (drop (i + 1) values) in
-      ap (λ (l : List Value). each_told told (map view l)) (parts ∙ all) ∙ ap (each_told told) (map-then (take i values) (get_or values i d ∷ drop (i + 1) values))
-      ∙ told-none (map view (take i values)) (map view (drop (i + 1) values)) (view (get_or values i d)) (sym k)
+      ap (λ (l : List Value). parse_each parsed (map view l)) (parts ∙ all) ∙ ap (parse_each parsed) (map-then (take i values) (get_or values i d ∷ drop (i + 1) values))
+      ∙ parsed-none (map view (take i values)) (map view (drop (i + 1) values)) (view (get_or values i d)) (sym k)
 
   -- one value more
-  pub told-next : (values : List Value) (i : ℕ) (x : Value) (so_far new : List T) (one : T) → i < length values → x ≡ get_or values i x → each_told told (map view (take i values)) ≡ Some so_far
-      → Some one ≡ told (view x) → new ≡ so_far ++ one ∷ [] → each_told told (map view (take (i + 1) values)) ≡ Some new
-  told-next values i x so_far new one h is so k e = next-at values i x so_far new one h so (k ∙ ap (λ (v : Value). told (view v)) is) e
+  pub parsed-next : (values : List Value) (i : ℕ) (x : Value) (so_far new : List T) (one : T) → i < length values → x ≡ get_or values i x →
+      parse_each parsed (map view (take i values)) ≡ Some so_far
+      → Some one ≡ parsed (view x) → new ≡ so_far ++ one ∷ [] → parse_each parsed (map view (take (i + 1) values)) ≡ Some new
+  parsed-next values i x so_far new one h is so k e = next-at values i x so_far new one h so (k ∙ ap (λ (v : Value). parsed (view v)) is) e
 
   -- a value that tells nothing
-  pub told-not : (values : List Value) (i : ℕ) (x : Value) → i < length values → x ≡ get_or values i x → None ≡ told (view x) → each_told told (map view values) ≡ None
-  told-not values i x h is k = not-at values i x h (k ∙ ap (λ (v : Value). told (view v)) is)
+  pub parsed-not : (values : List Value) (i : ℕ) (x : Value) → i < length values → x ≡ get_or values i x → None ≡ parsed (view x) → parse_each parsed (map view values) ≡ None
+  parsed-not values i x h is k = not-at values i x h (k ∙ ap (λ (v : Value). parsed (view v)) is)
 
   many : (values : List Value) → length (map view values) ≡ length values
   many [] = refl
   many (v ∷ values) = ap suc (many values)
 
-  pub not-told : (n : ℕ) (values : List Value) → length values ≡ n → each_told told (map view values) ≡ None → just n told (map view values) ≡ None
-  not-told n values long e = rw (many values, long, same n) e
+  pub not-parsed : (n : ℕ) (values : List Value) → length values ≡ n → parse_each parsed (map view values) ≡ None → just n parsed (map view values) ≡ None
+  not-parsed n values long e = rw (many values, long, same n) e
     where
       same : (k : ℕ) → (k == k) ≡ true
       same k = grind (arith, nat_tests)
@@ -106,16 +106,16 @@ module _ {T : Type 0} where
   four-each (Some x) (Some y) (Some z) None = refl
   four-each (Some x) (Some y) (Some z) (Some u) = refl
 
-  four-told : (told : Data → Option T) (values : List Value) (d : Value) → 4 ≤ length values → length values < 5
-      → just 4 told (map view values) ≡ (told (view (get_or values 0 d)) >>= λ a. told (view (get_or values 1 d)) >>= λ b.
-      told (view (get_or values 2 d)) >>= λ c. told (view (get_or values 3 d)) >>= λ e. Some (a ∷ b ∷ c ∷ e ∷ []))
-  unfolding each_told
-  four-told told [] d some few = absurd (omega arith)
-  four-told told (p ∷ []) d some few = absurd (omega arith)
-  four-told told (p ∷ q ∷ []) d some few = absurd (omega arith)
-  four-told told (p ∷ q ∷ r ∷ []) d some few = absurd (omega arith)
-  four-told told (p ∷ q ∷ r ∷ s ∷ []) d some few = four-each (told (view p)) (told (view q)) (told (view r)) (told (view s))
-  four-told told (p ∷ q ∷ r ∷ s ∷ t ∷ more) d some few = absurd (omega arith)
+  four-parsed : (parsed : Data → Option T) (values : List Value) (d : Value) → 4 ≤ length values → length values < 5
+      → just 4 parsed (map view values) ≡ (parsed (view (get_or values 0 d)) >>= λ a. parsed (view (get_or values 1 d)) >>= λ b.
+      parsed (view (get_or values 2 d)) >>= λ c. parsed (view (get_or values 3 d)) >>= λ e. Some (a ∷ b ∷ c ∷ e ∷ []))
+  unfolding parse_each
+  four-parsed parsed [] d some few = absurd (omega arith)
+  four-parsed parsed (p ∷ []) d some few = absurd (omega arith)
+  four-parsed parsed (p ∷ q ∷ []) d some few = absurd (omega arith)
+  four-parsed parsed (p ∷ q ∷ r ∷ []) d some few = absurd (omega arith)
+  four-parsed parsed (p ∷ q ∷ r ∷ s ∷ []) d some few = four-each (parsed (view p)) (parsed (view q)) (parsed (view r)) (parsed (view s))
+  four-parsed parsed (p ∷ q ∷ r ∷ s ∷ t ∷ more) d some few = absurd (omega arith)
 
 pub roster_good : (roster clubs : List NamedClub) → roster ≡ clubs → bad_slot clubs ≡ None → Some roster ≡ unless_bad clubs (bad_slot clubs)
 roster_good roster clubs e h = rw (e, h) refl
@@ -127,16 +127,16 @@ abbrev pub by_four : Option NamedClub → Option NamedClub → Option NamedClub 
 by_four o p q r = (o >>= λ a. p >>= λ b. q >>= λ c. r >>= λ e. Some (a ∷ b ∷ c ∷ e ∷ [])) >>= λ clubs. unless_bad clubs (bad_slot clubs)
 
 pub four_clubs : (values : List Value) (d : Value) → 4 ≤ length values → length values < 5
-    → roster_told (map view values) ≡ by_four (club_told (view (get_or values 0 d))) (club_told (view (get_or values 1 d)))
-    (club_told (view (get_or values 2 d))) (club_told (view (get_or values 3 d)))
-four_clubs values d some few = ap (λ (o : Option (List NamedClub)). o >>= λ clubs. unless_bad clubs (bad_slot clubs)) (four-told club_told values d some few)
+    → parse_roster (map view values) ≡ by_four (parse_club (view (get_or values 0 d))) (parse_club (view (get_or values 1 d)))
+    (parse_club (view (get_or values 2 d))) (parse_club (view (get_or values 3 d)))
+four_clubs values d some few = ap (λ (o : Option (List NamedClub)). o >>= λ clubs. unless_bad clubs (bad_slot clubs)) (four-parsed parse_club values d some few)
 
 abbrev Club : Value → Option NamedClub
-Club value = club_told (view value)
+Club value = parse_club (view value)
 
 pub of-four : (values : List Value) (w x y z : Value) (o p q r : Option NamedClub) → 4 ≤ length values → length values < 5
     → w ≡ get_or values 0 w → x ≡ get_or values 1 x → y ≡ get_or values 2 y → z ≡ get_or values 3 z
-    → o ≡ Club w → p ≡ Club x → q ≡ Club y → r ≡ Club z → by_four o p q r ≡ roster_told (map view values)
+    → o ≡ Club w → p ≡ Club x → q ≡ Club y → r ≡ Club z → by_four o p q r ≡ parse_roster (map view values)
 of-four [] w x y z o p q r some few i j k l e f g h = absurd (omega arith)
 of-four (a ∷ []) w x y z o p q r some few i j k l e f g h = absurd (omega arith)
 of-four (a ∷ b ∷ []) w x y z o p q r some few i j k l e f g h = absurd (omega arith)
@@ -162,25 +162,25 @@ words_bad words index r = sym (ap if_read (first-bad words index r))
 test-above : (n m : ℕ) → m < n → nat_le n m ≡ false
 test-above n m h = elim (cases_Bool (nat_le n m)) [ inl y ↦ absurd (grind (arith, nat_tests)) | inr other ↦ other ]
 
-pub too-long : (line : List ℕ) → 4096 < length line → None ≡ moment_on line
-unfolding moment_on
+pub too-long : (line : List ℕ) → 4096 < length line → None ≡ parse_board_line line
+unfolding parse_board_line
 too-long line h = rw (test-above (length line) 4096 h) refl
 
-pub was-read : (line : List ℕ) (d : Data) → length line ≤ 4096 → IsUtf8 line → read line ≡ Some d → moment_told d ≡ moment_on line
-unfolding moment_on
+pub was-read : (line : List ℕ) (d : Data) → length line ≤ 4096 → IsUtf8 line → read line ≡ Some d → parse_board_state d ≡ parse_board_line line
+unfolding parse_board_line
 was-read line d h u e = rw (le-leb (length line) 4096 h, is_utf8-from_IsUtf8 line u, e) refl
 
-pub not-read : (line : List ℕ) → (IsUtf8 line → read line ≡ None) → None ≡ moment_on line
-unfolding moment_on
+pub not-read : (line : List ℕ) → (IsUtf8 line → read line ≡ None) → None ≡ parse_board_line line
+unfolding parse_board_line
 not-read line h = elim (cases_Bool (is_utf8 line)) [
   | inl y ↦ rw (y, h (IsUtf8-from_is_utf8 line y)) (none (nat_le (length line) 4096))
   | inr n ↦ rw n (none-there (nat_le (length line) 4096))
 ]
   where
-    none : (b : Bool) → ◌≡◌ {A = Option Moment} None (cond (b && true) None None)
+    none : (b : Bool) → ◌≡◌ {A = Option BoardState} None (cond (b && true) None None)
     none true = refl
     none false = refl
 
-    none-there : (b : Bool) → ◌≡◌ {A = Option Moment} None (cond (b && false) (option_and_then moment_told (read line)) None)
+    none-there : (b : Bool) → ◌≡◌ {A = Option BoardState} None (cond (b && false) (option_and_then parse_board_state (read line)) None)
     none-there true = refl
     none-there false = refl

@@ -20,8 +20,9 @@ use Rattle.ucl_order.specs.declared.table.Row.{Row}
 use Rattle.ucl_order.specs.Rows.{rows_of}
 use Rattle.ucl_order.specs.Roster.{NamedClub}
 use Rattle.ucl_screen.specs.Numbers.{hex_digits}
-use Rattle.ucl_json.specs.declared.title.Title.{Title}
-use Rattle.ucl_json.specs.Values.{accepted_value, place_items, place_value, refused_by, reply_value, screen_value, with_club, with_goals, with_matches, word_items, words_value}
+use Rattle.ucl_json.specs.declared.header.BoardHeader.{BoardHeader}
+use Rattle.ucl_json.specs.Values.{accepted_value, place_items, place_value, refused_by, reply_value, screen_value, with_club, with_goals, with_matches, word_items}
+use Rattle.ucl_json.specs.Values.{words_value}
 
 abbrev pub add : Items → Data → Items
 add no_items d = item d no_items
@@ -113,16 +114,16 @@ refused-shallow : (row : ℕ) (event : NightEvent) (code : ℕ) (name : List ℕ
 refused-shallow row event code name None m = omega arith
 refused-shallow row event code name (Some found) m = omega arith
 
-pub reply-whole : (row : ℕ) (event : NightEvent) (reply : Result Accepted Refusal) (title : Title) (board : List ℕ) (roster : List NamedClub)
-    → has_float (reply_value row event reply title board roster) ≡ false
+pub reply-whole : (row : ℕ) (event : NightEvent) (reply : Result Accepted Refusal) (header : BoardHeader) (board : List ℕ) (roster : List NamedClub)
+    → has_float (reply_value row event reply header board roster) ≡ false
 unfolding accepted_value
-reply-whole row event (Ok accepted) title board roster = rw (words-items board) refl
-reply-whole row event (Err refusal) title board roster =
+reply-whole row event (Ok accepted) header board roster = rw (words-items board) refl
+reply-whole row event (Err refusal) header board roster =
     refused-whole row event (refusal_code refusal) (refusal_name refusal) (found_of refusal) (game_at board event.call.game)
 
-pub reply-shallow : (row : ℕ) (event : NightEvent) (reply : Result Accepted Refusal) (title : Title) (board : List ℕ) (roster : List NamedClub)
-    → depth (reply_value row event reply title board roster) ≤ max_depth
+pub reply-shallow : (row : ℕ) (event : NightEvent) (reply : Result Accepted Refusal) (header : BoardHeader) (board : List ℕ) (roster : List NamedClub)
+    → depth (reply_value row event reply header board roster) ≤ max_depth
 unfolding accepted_value
-reply-shallow row event (Ok accepted) title board roster = rw (words-flat board) (omega arith)
-reply-shallow row event (Err refusal) title board roster =
+reply-shallow row event (Ok accepted) header board roster = rw (words-flat board) (omega arith)
+reply-shallow row event (Err refusal) header board roster =
     refused-shallow row event (refusal_code refusal) (refusal_name refusal) (found_of refusal) (game_at board event.call.game)

@@ -1,3 +1,3 @@
 pub mod Values
 pub mod Lines
-pub mod Told
+pub mod BoardLines

@@ -1,6 +1,6 @@
 -- Answers as values of JSON.
 -- The members of an object stand in the order of their names. An accepted event's answer and a screen's stand for themselves:
--- each has the group, its order, its edition, the clubs and the words of the board, so that it is one moment, whole.
+-- each has the group, its order, its edition, the clubs and the words of the board, so that it is one board state, whole.
 use Rattle.std.specs.Prelude.{ℕ, pos, ◌-ℤ◌, List, [], ◌∷◌, codes, Option, None, Some, Result, Ok, Err}
 use Rattle.serde_json.specs.Data.{Data, Items, item, no_items, Members, member, no_members, array, boolean, null, number, object, put, string, unsigned}
 use Rattle.serde_json.specs.Find.{of_integer}
@@ -21,12 +21,12 @@ use Rattle.ucl_screen.specs.declared.night.NightEvent.{NightEvent}
 use Rattle.ucl_screen.specs.Matches.{state_name}
 use Rattle.ucl_screen.specs.Screen.{in_play}
 use Rattle.ucl_screen.specs.Numbers.{hex_digits}
-use Rattle.ucl_json.specs.declared.title.Title.{Title}
+use Rattle.ucl_json.specs.declared.header.BoardHeader.{BoardHeader}
 
 abbrev pub number_value : ℕ → Data
 number_value n = number (unsigned n)
 
--- ---- what a moment is told by
+-- ---- what a board state is told by
 
 -- each word in sixteen hexadecimal digits
 abbrev pub word_items : List ℕ → Items
@@ -75,17 +75,17 @@ matches_value row board roster = object (
 
 -- ---- replies
 
--- the reply to an event that was entered, with the row as it was read, the title, the clubs, and the board after the event
-unfoldable pub accepted_value : ℕ → NightEvent → ℕ → Title → List ℕ → List NamedClub → Data
-accepted_value row event event_number title board roster = object (
+-- the reply to an event that was entered, with the row as it was read, the header, the clubs, and the board after the event
+unfoldable pub accepted_value : ℕ → NightEvent → ℕ → BoardHeader → List ℕ → List NamedClub → Data
+accepted_value row event event_number header board roster = object (
     member (codes "clubs") (array (club_items roster)) (
-    member (codes "edition") (number_value title.edition) (
+    member (codes "edition") (number_value header.edition) (
     member (codes "event") (string (kind_name event.call.kind)) (
     member (codes "expected") (number_value event.call.expected) (
-    member (codes "group") (string (title.group ∷ [])) (
+    member (codes "group") (string (header.group ∷ [])) (
     member (codes "match") (number_value event.call.game) (
     member (codes "number") (number_value event_number) (
-    member (codes "order") (string (profile_name title.profile)) (
+    member (codes "order") (string (profile_name header.profile)) (
     member (codes "reply") (string (codes "ok")) (
     member (codes "reporter") (number_value event.reporter) (
     member (codes "row") (number_value row) (
@@ -127,9 +127,9 @@ abbrev pub refused_value : ℕ → NightEvent → Refusal → MatchRecord → Da
 refused_value row event refusal m = refused_by row event (refusal_code refusal) (refusal_name refusal) (found_of refusal) m
 
 -- the reply to an event, with the board after it
-abbrev pub reply_value : ℕ → NightEvent → Result Accepted Refusal → Title → List ℕ → List NamedClub → Data
-reply_value row event (Ok accepted) title board roster = accepted_value row event accepted.number title board roster
-reply_value row event (Err refusal) title board roster = refused_value row event refusal (game_at board event.call.game)
+abbrev pub reply_value : ℕ → NightEvent → Result Accepted Refusal → BoardHeader → List ℕ → List NamedClub → Data
+reply_value row event (Ok accepted) header board roster = accepted_value row event accepted.number header board roster
+reply_value row event (Err refusal) header board roster = refused_value row event refusal (game_at board event.call.game)
 
 -- a refusal of a row for one of its fields, with the text that came
 abbrev pub bad_value : ℕ → ℕ → List ℕ → List ℕ → List ℕ → Data
@@ -218,6 +218,6 @@ with_board edition board (number n) = number n
 with_board edition board (boolean b) = boolean b
 with_board edition board null = null
 
--- the screen of a board under a title, with the matches from which the table is worked out
-unfoldable pub edition_screen_value : ℕ → Title → List ℕ → List NamedClub → Data
-edition_screen_value row title board roster = with_board title.edition board (screen_value row title.profile board roster title.group)
+-- the screen of a board under a header, with the matches from which the table is worked out
+unfoldable pub edition_screen_value : ℕ → BoardHeader → List ℕ → List NamedClub → Data
+edition_screen_value row header board roster = with_board header.edition board (screen_value row header.profile board roster header.group)

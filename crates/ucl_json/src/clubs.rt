@@ -10,7 +10,7 @@ use std::alloc::{AllocError, Global};
 use ucl_order::Roster;
 use ucl_screen::text_of;
 
-/// The club of a slot, with its coefficient.
+/// Returns the club of a slot, with its coefficient.
 fn club_value(alloc: Global, roster: &Roster, slot: u8) -> Result<Value, AllocError>
     requires { IsSlot slot }
     ensures { IfOk result (λ value. view value ≡ club_value roster.now slot) }
@@ -19,7 +19,7 @@ fn club_value(alloc: Global, roster: &Roster, slot: u8) -> Result<Value, AllocEr
     json!(in alloc; {"club": text_of(roster.name(slot)), "coefficient": coefficient})
 }
 
-/// The four clubs, in the order of their slots.
+/// Returns the four clubs, in the order of their slots.
 pub(crate) fn club_values(alloc: Global, roster: &Roster) -> Result<Vec<Value>, AllocError>
     ensures { IfOk result (λ values. items_view values.items ≡ club_items roster.now) }
 {

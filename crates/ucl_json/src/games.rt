@@ -7,7 +7,7 @@ ghost use Rattle.ucl_json.specs.Lines.{IsLineOf};
 ghost use Rattle.ucl_json.specs.Values.{match_items, matches_value};
 
 use crate::clubs::club_values;
-use crate::line::line_of;
+use crate::line::format_line;
 use crate::reply::match_value;
 use serde_json::{Value, json};
 use std::alloc::{AllocError, Global};
@@ -15,7 +15,7 @@ use ucl_board::Board;
 use ucl_order::Roster;
 use ucl_word::MatchNo;
 
-/// Each match as it stands.
+/// Returns each match as it stands.
 pub(crate) fn match_values(alloc: Global, board: &Board) -> Result<Vec<Value>, AllocError>
     ensures { IfOk result
         (λ values. items_view values.items ≡ match_items board.now match_numbers) }
@@ -29,7 +29,7 @@ pub(crate) fn match_values(alloc: Global, board: &Board) -> Result<Vec<Value>, A
     Ok(values)
 }
 
-/// The matches of a board, and the clubs that play them, as a value.
+/// Returns the matches of a board, and the clubs that play them, as a value.
 #[tactic(auto, unfolding(crate::specs::Values::matches_value))]
 fn matches_value(
     alloc: Global,
@@ -44,11 +44,11 @@ fn matches_value(
     json!(in alloc; {"row": row, "reply": "matches", "matches": matches, "clubs": clubs})
 }
 
-/// The line of the twelve matches of a board, by which clubs they are played, and how each stands.
+/// Returns the line of the twelve matches of a board, by which clubs they are played, and how each stands.
 ///
 /// # Errors
 ///
-/// Where there is no memory.
+/// If there is no memory.
 pub fn matches_json(
     alloc: Global,
     row: u64,
@@ -59,5 +59,5 @@ pub fn matches_json(
         IsLineOf (matches_value row board.now roster.now) (string_bytes line)) }
 {
     let value = matches_value(alloc, row, board, roster)?;
-    line_of(alloc, &value)
+    format_line(alloc, &value)
 }

@@ -10,9 +10,9 @@ ghost use Rattle.ucl_json.specs.Lines.{IsLineOf};
 use serde_json::Value;
 use std::alloc::{AllocError, Global};
 
-/// The text of a value on one line.
+/// Formats a value as text on one line.
 #[tactic(auto, using(crate::proofs::OneLine::line_is_one))]
-pub(crate) fn line_of(alloc: Global, value: &Value) -> Result<String, AllocError>
+pub(crate) fn format_line(alloc: Global, value: &Value) -> Result<String, AllocError>
     requires whole { has_float (view value.now) ≡ false }
     requires shallow { depth (view value.now) ≤ max_depth }
     ensures { IfOk result (λ line. IsLineOf (view value.now) (string_bytes line)) }

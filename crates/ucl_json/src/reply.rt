@@ -7,9 +7,9 @@ ghost use Rattle.ucl_json.specs.Lines.{IsLineOf};
 ghost use Rattle.ucl_json.specs.Values.{accepted_value, bad_row_value, bad_value, coded_value, match_value, numbered_value, refused_value, reply_value};
 
 use crate::clubs::club_values;
-use crate::line::line_of;
+use crate::header::BoardHeader;
+use crate::line::format_line;
 use crate::screen::letter_of;
-use crate::title::Title;
 use crate::words::word_values;
 use serde_json::{Value, json};
 use std::alloc::{AllocError, Global};
@@ -18,7 +18,7 @@ use ucl_order::Roster;
 use ucl_screen::{NightEvent, state_name};
 use ucl_word::{Accepted, MatchNo, MatchRecord, Refusal};
 
-/// A match as it stands.
+/// Returns a match as it stands.
 pub(crate) fn match_value(
     alloc: Global,
     game: MatchNo,
@@ -37,7 +37,7 @@ pub(crate) fn match_value(
     })
 }
 
-/// The reply to an event that was entered, with the board after it.
+/// Returns the reply to an event that was entered, with the board after it.
 #[tactic(auto, unfolding(crate::specs::Values::accepted_value))]
 fn accepted_value(
     alloc: Global,
@@ -46,11 +46,11 @@ fn accepted_value(
     number: u16,
     board: &Board,
     roster: &Roster,
-    title: Title,
+    header: BoardHeader,
 ) -> Result<Value, AllocError>
-    requires { IsGroup title.group }
+    requires { IsGroup header.group }
     ensures { IfOk result (λ value. view value
-        ≡ accepted_value row event.now number title board.now roster.now) }
+        ≡ accepted_value row event.now number header board.now roster.now) }
 {
     let clubs = club_values(alloc, roster)?;
     let words = word_values(alloc, board.words().as_slice())?;
@@ -63,15 +63,15 @@ fn accepted_value(
         "event": event.call.kind.name(),
         "number": number,
         "version": board.version(),
-        "group": letter_of(title.group),
-        "order": title.profile.name(),
-        "edition": title.edition,
+        "group": letter_of(header.group),
+        "order": header.profile.name(),
+        "edition": header.edition,
         "clubs": clubs,
         "words": words
     })
 }
 
-/// The reply to an event that is refused.
+/// Returns the reply to an event that is refused.
 fn coded_value(
     alloc: Global,
     row: u64,
@@ -93,7 +93,7 @@ fn coded_value(
     })
 }
 
-/// The reply to an event that is refused for its number, with the number that was found and the match as it stands.
+/// Returns the reply to an event that is refused for its number, with the number that was found and the match as it stands.
 fn numbered_value(
     alloc: Global,
     row: u64,
@@ -121,7 +121,7 @@ fn numbered_value(
     })
 }
 
-/// The reply to an event that is refused, where its match stands so.
+/// Returns the reply to an event that is refused, where its match stands so.
 fn refused_value(
     alloc: Global,
     row: u64,
@@ -148,42 +148,42 @@ pub struct EventReply<'r> {
     pub event: &'r NightEvent,
     /// The reply.
     pub outcome: Result<Accepted, Refusal>,
-    /// What the board is told under.
-    pub title: Title,
+    /// The header of the board.
+    pub header: BoardHeader,
     /// The board after the event.
     pub board: &'r Board,
     /// Its clubs.
     pub roster: &'r Roster,
 }
 
-/// The line of the reply to an event. Where the event was entered, the line stands for itself: the title, the clubs and the words of the board after
+/// Returns the line of the reply to an event. Where the event was entered, the line stands for itself: the header, the clubs and the words of the board after
 /// it are in it. Where it is stale, its match as it stands is in it.
 ///
 /// # Errors
 ///
-/// Where there is no memory.
+/// If there is no memory.
 pub fn reply_json(alloc: Global, reply: &EventReply<'_>) -> Result<String, AllocError>
-    requires { IsGroup reply.now.title.group }
+    requires { IsGroup reply.now.header.group }
     ensures { IfOk result (λ line. IsLineOf (reply_value reply.now.row reply.now.event.now
-        reply.now.outcome reply.now.title reply.now.board.now reply.now.roster.now)
+        reply.now.outcome reply.now.header reply.now.board.now reply.now.roster.now)
         (string_bytes line)) }
 {
     let EventReply {
         row,
         event,
         outcome,
-        title,
+        header,
         board,
         roster,
     } = *reply;
     let value = match outcome {
-        Ok(accepted) => accepted_value(alloc, row, event, accepted.number, board, roster, title)?,
+        Ok(accepted) => accepted_value(alloc, row, event, accepted.number, board, roster, header)?,
         Err(refusal) => refused_value(alloc, row, event, refusal, &board.game(event.call.game))?,
     };
-    line_of(alloc, &value)
+    format_line(alloc, &value)
 }
 
-/// The refusal of a row for one of its fields, with the text that came.
+/// Returns the refusal of a row for one of its fields, with the text that came.
 fn bad_value(
     alloc: Global,
     row: u64,
@@ -204,15 +204,15 @@ fn bad_value(
     })
 }
 
-/// The line of the reply to a row that asks for nothing that there is: which field is none, and the text that came.
+/// Returns the line of the reply to a row that asks for nothing that there is: which field is none, and the text that came.
 ///
 /// # Errors
 ///
-/// Where there is no memory.
+/// If there is no memory.
 pub fn bad_row_json(alloc: Global, row: u64, field: &str, text: &str) -> Result<String, AllocError>
     ensures { IfOk result (λ line. IsLineOf (bad_row_value row field.now text.now)
         (string_bytes line)) }
 {
     let value = bad_value(alloc, row, 20, "bad-row", field, text)?;
-    line_of(alloc, &value)
+    format_line(alloc, &value)
 }

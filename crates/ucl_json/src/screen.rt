@@ -9,8 +9,8 @@ ghost use Rattle.ucl_json.specs.Values.{edition_screen_value, mark_name, place_i
 
 use crate::clubs::club_values;
 use crate::games::match_values;
-use crate::line::line_of;
-use crate::title::Title;
+use crate::header::BoardHeader;
+use crate::line::format_line;
 use crate::words::word_values;
 use serde_json::{Map, Value, json, put};
 use std::alloc::{AllocError, Global};
@@ -18,7 +18,7 @@ use ucl_board::Board;
 use ucl_order::{Mark, Profile, Roster, Row, standings};
 use ucl_screen::{matches_in_play, text_of};
 
-/// The sign of a mark.
+/// Returns the sign of a mark.
 fn mark_name(mark: Mark) -> &'static str
     ensures { result.now ≡ mark_name mark }
 {
@@ -29,7 +29,7 @@ fn mark_name(mark: Mark) -> &'static str
     }
 }
 
-/// The letter of a group, as text.
+/// Returns the letter of a group, as text.
 pub(crate) fn letter_of(group: u8) -> &'static str
     requires { IsGroup group }
     ensures { result.now ≡ group ∷ [] }
@@ -89,7 +89,7 @@ fn put_club(
     put(map, alloc, "club", Value::String(name))
 }
 
-/// A place of the table, with the name of its club.
+/// Returns a place of the table, with the name of its club.
 fn place_value(alloc: Global, row: &Row, roster: &Roster) -> Result<Value, AllocError>
     requires { IsWithinTable row.now }
     ensures { IfOk result (λ value. view value ≡ place_value roster.now row.now) }
@@ -101,7 +101,7 @@ fn place_value(alloc: Global, row: &Row, roster: &Roster) -> Result<Value, Alloc
     Ok(Value::Object(map))
 }
 
-/// The places of the table.
+/// Returns the places of the table.
 fn place_values(alloc: Global, rows: &[Row], roster: &Roster) -> Result<Vec<Value>, AllocError>
     requires { All IsWithinTable rows.now }
     ensures { IfOk result (λ values. items_view values.items ≡ place_items roster.now rows.now) }
@@ -113,7 +113,7 @@ fn place_values(alloc: Global, rows: &[Row], roster: &Roster) -> Result<Vec<Valu
     Ok(values)
 }
 
-/// The screen of a board, as a value.
+/// Returns the screen of a board, as a value.
 #[tactic(auto, unfolding(crate::specs::Values::screen_value))]
 fn screen_value(
     alloc: Global,
@@ -143,11 +143,11 @@ fn screen_value(
     })
 }
 
-/// The line of the screen of a board, for a group, in the order of the profile. It stands for itself: the clubs and the words are in it.
+/// Returns the line of the screen of a board, for a group, in the order of the profile. It stands for itself: the clubs and the words are in it.
 ///
 /// # Errors
 ///
-/// Where there is no memory.
+/// If there is no memory.
 pub fn screen_json(
     alloc: Global,
     row: u64,
@@ -162,7 +162,7 @@ pub fn screen_json(
         (string_bytes line)) }
 {
     let value = screen_value(alloc, row, board, roster, group, profile)?;
-    line_of(alloc, &value)
+    format_line(alloc, &value)
 }
 
 /// Puts the edition of a board and its twelve matches.
@@ -180,7 +180,7 @@ fn put_games(
     put(map, alloc, "matches", Value::Array(matches))
 }
 
-/// A value with the edition of a board and its twelve matches among its members.
+/// Returns a value with the edition of a board and its twelve matches among its members.
 fn with_board(alloc: Global, value: Value, edition: u16, board: &Board) -> Result<Value, AllocError>
     ensures { IfOk result (λ with. view with ≡ with_board edition board.now (view value)) }
 {
@@ -194,40 +194,40 @@ fn with_board(alloc: Global, value: Value, edition: u16, board: &Board) -> Resul
     }
 }
 
-/// The screen of a board under a title, as a value.
+/// Returns the screen of a board under a header, as a value.
 #[tactic(auto, unfolding(crate::specs::Values::edition_screen_value))]
 fn edition_screen_value(
     alloc: Global,
     row: u64,
     board: &Board,
     roster: &Roster,
-    title: Title,
+    header: BoardHeader,
 ) -> Result<Value, AllocError>
-    requires { IsGroup title.group }
+    requires { IsGroup header.group }
     ensures { IfOk result (λ value. view value
-        ≡ edition_screen_value row title board.now roster.now) }
+        ≡ edition_screen_value row header board.now roster.now) }
 {
-    let screen = screen_value(alloc, row, board, roster, title.group, title.profile)?;
-    with_board(alloc, screen, title.edition, board)
+    let screen = screen_value(alloc, row, board, roster, header.group, header.profile)?;
+    with_board(alloc, screen, header.edition, board)
 }
 
-/// The line of the screen of a board under a title, with its edition and the twelve matches.
+/// Returns the line of the screen of a board under a header, with its edition and the twelve matches.
 ///
 /// # Errors
 ///
-/// Where there is no memory.
+/// If there is no memory.
 pub fn edition_screen_json(
     alloc: Global,
     row: u64,
     board: &Board,
     roster: &Roster,
-    title: Title,
+    header: BoardHeader,
 ) -> Result<String, AllocError>
-    requires { IsGroup title.group }
+    requires { IsGroup header.group }
     ensures { IfOk result
-        (λ line. IsLineOf (edition_screen_value row title board.now roster.now)
+        (λ line. IsLineOf (edition_screen_value row header board.now roster.now)
         (string_bytes line)) }
 {
-    let value = edition_screen_value(alloc, row, board, roster, title)?;
-    line_of(alloc, &value)
+    let value = edition_screen_value(alloc, row, board, roster, header)?;
+    format_line(alloc, &value)
 }

@@ -7,26 +7,26 @@ ghost use Rattle.ucl_screen.specs.Numbers.{hex_digits};
 ghost use Rattle.ucl_json.specs.Lines.{IsLineOf};
 ghost use Rattle.ucl_json.specs.Values.{word_items, words_value};
 
-use crate::line::line_of;
+use crate::line::format_line;
 use serde_json::{Value, json};
 use std::alloc::{AllocError, Global};
 use ucl_board::Board;
 
-/// A word in sixteen hexadecimal digits.
+/// Returns a word in sixteen hexadecimal digits.
 fn digits_of(alloc: Global, word: u64) -> Result<String, AllocError>
     ensures { IfOk result (λ digits. string_bytes digits ≡ hex_digits word) }
 {
     format!(in alloc; "{word:016x}")
 }
 
-/// A word as a value.
+/// Returns a word as a value.
 fn word_value(alloc: Global, word: u64) -> Result<Value, AllocError>
     ensures { IfOk result (λ value. view value ≡ string (hex_digits word)) }
 {
     Ok(Value::String(digits_of(alloc, word)?))
 }
 
-/// Each word as a value.
+/// Returns each word as a value.
 pub(crate) fn word_values(alloc: Global, words: &[u64]) -> Result<Vec<Value>, AllocError>
     ensures { IfOk result (λ values. items_view values.items ≡ word_items words.now) }
 {
@@ -37,7 +37,7 @@ pub(crate) fn word_values(alloc: Global, words: &[u64]) -> Result<Vec<Value>, Al
     Ok(values)
 }
 
-/// The words of a board, as a value.
+/// Returns the words of a board, as a value.
 fn words_value(alloc: Global, row: u64, board: &Board) -> Result<Value, AllocError>
     ensures { IfOk result (λ value. view value ≡ words_value row board.now) }
 {
@@ -45,14 +45,14 @@ fn words_value(alloc: Global, row: u64, board: &Board) -> Result<Value, AllocErr
     json!(in alloc; {"row": row, "reply": "words", "words": words})
 }
 
-/// The line of the twelve words of a board.
+/// Returns the line of the twelve words of a board.
 ///
 /// # Errors
 ///
-/// Where there is no memory.
+/// If there is no memory.
 pub fn words_json(alloc: Global, row: u64, board: &Board) -> Result<String, AllocError>
     ensures { IfOk result (λ line. IsLineOf (words_value row board.now) (string_bytes line)) }
 {
     let value = words_value(alloc, row, board)?;
-    line_of(alloc, &value)
+    format_line(alloc, &value)
 }

@@ -1,22 +1,22 @@
-//! The board of one group of the UEFA Champions League through an evening: the program answers each row of its standard input as it
+//! The board of one group of the UEFA Champions League through a session: the program answers each row of its standard input as it
 //! comes.
 #![tactic(auto)]
 
 use std::process::ExitCode;
 use ucl_command::words_of;
 pub use ucl_command::{LineFault, live_args};
-use ucl_io::Duplex;
-pub use ucl_runs::run_evening;
+use ucl_io::LoggedIo;
+pub use ucl_live_runs::run_session;
 use ucl_screen::{FromRead, ToWrite};
 
 /// Runs the program over the standard streams. Standard output has no buffer, so that nothing is left to flush.
 fn main(rt: HostRuntime) -> ExitCode {
     let alloc = rt.alloc();
-    let mut duplex = Duplex::new(FromRead::new(rt.stdin()), ToWrite::new(rt.stdout()));
+    let mut logged_io = LoggedIo::new(FromRead::new(rt.stdin()), ToWrite::new(rt.stdout()));
     let mut errors = ToWrite::new(rt.stderr());
     let asked = match words_of(&rt, alloc) {
         Ok(words) => live_args(alloc, &words),
         Err(fault) => Err(fault),
     };
-    ExitCode::from(run_evening(alloc, asked, &mut duplex, &mut errors))
+    ExitCode::from(run_session(alloc, asked, &mut logged_io, &mut errors))
 }

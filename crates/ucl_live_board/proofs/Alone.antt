@@ -1,8 +1,7 @@
--- Whose steps a log has; and what the rule says of a pass that has the whole board.
-use Rattle.ucl_live_board.proofs.Common.{◌≡◌, ◌≢◌, ℕ, zero, suc, ◌<◌, ◌≤◌, List, ◌∷◌, ◌++◌, length, map, refl, sym, ap, ◌∙◌, subst, arith, eq-eqb, ne_eqb, [], All, Some, None, dite, some}
-use Rattle.ucl_live_board.proofs.Common.{some-injective, get_elem?, ℕ_discrete, Entry, Taken, Logged, logged_by, Log}
-use Rattle.ucl_live_board.proofs.Common.{taken_by, entry_list, added_by, history_of, taken_none, View, Share, whole, Overlap}
-use Rattle.ucl_live_board.proofs.Common.{KeepsOneHistory, DidAllAlone, WholeIsAlone}
+-- Whose steps a log has; and what the invariant says of a pass that has the whole board.
+use Rattle.ucl_live_board.proofs.Common.{◌≡◌, ◌≢◌, ℕ, zero, suc, ◌<◌, ◌≤◌, List, ◌∷◌, ◌++◌, length, map, refl, sym, ap, ◌∙◌, subst, arith, eq-eqb, ne_eqb, [], All}
+use Rattle.ucl_live_board.proofs.Common.{Some, None, dite, some, some-injective, get_elem?, ℕ_discrete, Entry, Taken, Logged, logged_by, Log, taken_by, entry_list}
+use Rattle.ucl_live_board.proofs.Common.{added_by, history_of, taken_none, View, Share, whole, Overlap, BoardInvariant, DidAllAlone, WholeIsAlone}
 use Rattle.ucl_live_board.proofs.Halves.{in_whole}
 
 -- the first step of a log
@@ -41,7 +40,8 @@ history_by : (seat : ℕ) (steps : List Taken) → history_of (map (logged_by se
 history_by seat [] = refl
 history_by seat (t ∷ steps) = ap (λ (l : List Entry). entry_list t.entry ++ l) (history_by seat steps)
 
-module _ (words_after : List Entry → ℕ → List ℕ) (words : List ℕ) (views : List View) (r : KeepsOneHistory words_after words views) (seat : ℕ) (v : View) (here : get_elem? views seat ≡ some v)
+module _ (words_after : List Entry → ℕ → List ℕ) (words : List ℕ) (views : List View) (r : BoardInvariant words_after words views) (seat : ℕ) (v : View)
+    (here : get_elem? views seat ≡ some v)
     (share : v.share ≡ whole) where
   -- another pass has no share
   shareless : (j : ℕ) (u : View) → j ≢ seat → get_elem? views j ≡ some u → u.share ≡ None
@@ -49,8 +49,8 @@ module _ (words_after : List Entry → ℕ → List ℕ) (words : List ℕ) (vie
     where
       by_share : (s : Share) → u.share ≡ s → s ≡ None
       by_share None is = refl
-      by_share (Some way) is = absurd (not (r.shared j seat u v there here
-          (subst (λ (t : Share). Overlap u.share t) (sym share) (subst (λ (t : Share). Overlap t whole) (sym is) (in_whole (Some way) refl)))))
+      by_share (Some path) is = absurd (not (r.shared j seat u v there here
+          (subst (λ (t : Share). Overlap u.share t) (sym share) (subst (λ (t : Share). Overlap t whole) (sym is) (in_whole (Some path) refl)))))
 
   idle_else : (j : ℕ) → j ≢ seat → taken_by j r.log ≡ []
   idle_else j not = dite (native.Mathlib.Decide.dec_le (suc j) (length views))

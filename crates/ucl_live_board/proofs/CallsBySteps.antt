@@ -1,7 +1,8 @@
 -- What a call leaves after its steps, on any shared board.
-use Rattle.ucl_live_board.proofs.Common.{◌≡◌, ℕ, ◌+◌, ◌≤◌, List, ◌∷◌, ◌++◌, length, refl, sym, ap, ◌∙◌, arith, le_refl, true≢false, true, false, length-append, append-nil, append_assoc, []}
-use Rattle.ucl_live_board.proofs.Common.{Result, Ok, Err, is_ok, None, IfOk, greatest_version, Enlisted, Taken, step_taken, begins_same, begins_through, View, PassView}
-use Rattle.ucl_live_board.proofs.Common.{IsSound, SeesOn, AcceptedReport, pass_view_of, count_of, Takes, kept_of, second_of, Goes, IsOnEnlisted, EnlistSteps}
+use Rattle.ucl_live_board.proofs.Common.{◌≡◌, ℕ, ◌+◌, ◌≤◌, List, ◌∷◌, ◌++◌, length, refl, sym, ap, ◌∙◌, arith, le_refl, true≢false, true, false, length-append}
+use Rattle.ucl_live_board.proofs.Common.{append-nil, append_assoc, [], Result, Ok, Err, is_ok, None, IfOk, max_version, Enlisted, Taken, step_taken, begins_same}
+use Rattle.ucl_live_board.proofs.Common.{begins_through, View, PassView, IsSound, SeesOn, AcceptedReport, pass_view_of, count_of, Takes, kept_of, second_of, Goes}
+use Rattle.ucl_live_board.proofs.Common.{IsOnEnlisted, EnlistSteps}
 use Rattle.std.specs.List.{AllByRecursion}
 use Rattle.ucl_word.specs.declared.event.EventCall.{EventCall}
 use Rattle.ucl_word.specs.declared.event.Accepted.{Accepted}
@@ -50,6 +51,6 @@ sound_kept v s = record { legal = s.legal; own = s.own; few = s.few; acts = half
 
 -- the count of accepted events has room for one more
 pub room : (k m : PassView) (call : EventCall) (r : Result Accepted Refusal) (n : ℕ) → IfOk r (λ reply. AcceptedReport k call reply m) → is_ok r ≡ true → IsSound m → length k.mine ≡ n
-    → n + 1 ≤ greatest_version
+    → n + 1 ≤ max_version
 room k m call (Ok reply) n a is s len = search (arith, few_mine m s, length-append)
 room k m call (Err why) n a is s len = absurd (true≢false (sym is))

@@ -1,34 +1,35 @@
 -- What a split does to a share: its halves overlap with nothing that it did not overlap with, and not with one another.
-use Rattle.ucl_live_board.proofs.Common.{◌≡◌, ◌⊎◌, inl, inr, ⊎_elim, Bool, true, false, List, ◌∷◌, ◌++◌, refl, sym, ap, ◌∙◌, subst, true≢false, append-nil, append_assoc, length, length-append, arith}
-use Rattle.ucl_live_board.proofs.Common.{[], Some, None, IsSome, IsPrefix, begins_none, begins_more, begins_through, Share, whole, half_of, first_half, second_half, Overlap}
+use Rattle.ucl_live_board.proofs.Common.{◌≡◌, ◌⊎◌, inl, inr, ⊎_elim, Bool, true, false, List, ◌∷◌, ◌++◌, refl, sym, ap, ◌∙◌, subst, true≢false, append-nil}
+use Rattle.ucl_live_board.proofs.Common.{append_assoc, length, length-append, arith, [], Some, None, IsSome, IsPrefix, begins_none, begins_more, begins_through}
+use Rattle.ucl_live_board.proofs.Common.{Share, whole, half_of, first_half, second_half, Overlap}
 
 pub overlap_swap : (s t : Share) → Overlap s t → Overlap t s
 overlap_swap s t o = search arith
 
 -- what begins a longer way, or lies before its last turn
-comparable : (b rest way : List Bool) (side : Bool) → b ++ rest ≡ way ++ side ∷ [] → IsPrefix way b ⊎ IsPrefix b way
-comparable [] rest way side is = inr (begins_none way)
+comparable : (b rest path : List Bool) (side : Bool) → b ++ rest ≡ path ++ side ∷ [] → IsPrefix path b ⊎ IsPrefix b path
+comparable [] rest path side is = inr (begins_none path)
 comparable (x ∷ b) rest [] side is = inl (begins_none (x ∷ b))
-comparable (x ∷ b) rest (y ∷ way) side is =
-    let same : x ≡ y = cc in let tail : b ++ rest ≡ way ++ side ∷ [] = cc in search (arith, comparable b rest way side tail)
+comparable (x ∷ b) rest (y ∷ path) side is =
+    let same : x ≡ y = cc in let tail : b ++ rest ≡ path ++ side ∷ [] = cc in search (arith, comparable b rest path side tail)
 
 pub half_overlaps : (side : Bool) (s t : Share) → Overlap (half_of side s) t → Overlap s t
-half_overlaps side (Some way) (Some b) o = ⊎_elim
-    (λ (p : IsPrefix (way ++ side ∷ []) b). inl (begins_through way (way ++ side ∷ []) b (side ∷ [], refl) p))
-    (λ (p : IsPrefix b (way ++ side ∷ [])). comparable b p.0 way side p.1)
+half_overlaps side (Some path) (Some b) o = ⊎_elim
+    (λ (p : IsPrefix (path ++ side ∷ []) b). inl (begins_through path (path ++ side ∷ []) b (side ∷ [], refl) p))
+    (λ (p : IsPrefix b (path ++ side ∷ [])). comparable b p.0 path side p.1)
     o
-half_overlaps side (Some way) None o = absurd o
+half_overlaps side (Some path) None o = absurd o
 half_overlaps side None t o = absurd o
 
-one_turn : (way rest : List Bool) (a b : Bool) → (way ++ a ∷ []) ++ rest ≡ way ++ b ∷ [] → a ≡ b
+one_turn : (path rest : List Bool) (a b : Bool) → (path ++ a ∷ []) ++ rest ≡ path ++ b ∷ [] → a ≡ b
 one_turn [] rest a b is = cc
-one_turn (x ∷ way) rest a b is = one_turn way rest a b (cc)
+one_turn (x ∷ path) rest a b is = one_turn path rest a b (cc)
 
 pub halves_apart : (s : Share) → Overlap (second_half s) (first_half s) → ⊥
 halves_apart s o = search (arith, true≢false, one_turn)
 
-no_end : (way : List Bool) (side : Bool) → way ++ side ∷ [] ≡ [] → ⊥
-no_end way side is = let l = ap length is in omega (arith, length-append way (side ∷ []))
+no_end : (path : List Bool) (side : Bool) → path ++ side ∷ [] ≡ [] → ⊥
+no_end path side is = let l = ap length is in omega (arith, length-append path (side ∷ []))
 
 some_same : (a b : List Bool) → Some a ≡ Some b → a ≡ b
 some_same a b is = cc
@@ -50,14 +51,14 @@ half_none side s none = search (arith, acts_some)
 pub in_whole : (s : Share) → IsSome s → Overlap s whole
 in_whole s acts = search (arith, begins_none, true≢false)
 
-pub on_a_side : (s : Share) (way : List Bool) → Overlap s (Some way) → Overlap s (Some (way ++ false ∷ [])) ⊎ Overlap s (Some (way ++ true ∷ []))
-on_a_side (Some a) way o = ⊎_elim
-    (λ (p : IsPrefix a way). inl (inl (begins_more a way false p)))
-    (λ (p : IsPrefix way a). turns p.0 p.1)
+pub on_a_side : (s : Share) (path : List Bool) → Overlap s (Some path) → Overlap s (Some (path ++ false ∷ [])) ⊎ Overlap s (Some (path ++ true ∷ []))
+on_a_side (Some a) path o = ⊎_elim
+    (λ (p : IsPrefix a path). inl (inl (begins_more a path false p)))
+    (λ (p : IsPrefix path a). turns p.0 p.1)
     o
   where
-    turns : (rest : List Bool) → way ++ rest ≡ a → Overlap (Some a) (Some (way ++ false ∷ [])) ⊎ Overlap (Some a) (Some (way ++ true ∷ []))
-    turns [] is = inl (inl (subst (λ (w : List Bool). IsPrefix w (way ++ false ∷ [])) (sym (append-nil way) ∙ is) (false ∷ [], refl)))
-    turns (false ∷ rest) is = inl (inr (subst (IsPrefix (way ++ false ∷ [])) is (rest, append_assoc way (false ∷ []) rest)))
-    turns (true ∷ rest) is = inr (inr (subst (IsPrefix (way ++ true ∷ [])) is (rest, append_assoc way (true ∷ []) rest)))
-on_a_side None way o = absurd o
+    turns : (rest : List Bool) → path ++ rest ≡ a → Overlap (Some a) (Some (path ++ false ∷ [])) ⊎ Overlap (Some a) (Some (path ++ true ∷ []))
+    turns [] is = inl (inl (subst (λ (w : List Bool). IsPrefix w (path ++ false ∷ [])) (sym (append-nil path) ∙ is) (false ∷ [], refl)))
+    turns (false ∷ rest) is = inl (inr (subst (IsPrefix (path ++ false ∷ [])) is (rest, append_assoc path (false ∷ []) rest)))
+    turns (true ∷ rest) is = inr (inr (subst (IsPrefix (path ++ true ∷ [])) is (rest, append_assoc path (true ∷ []) rest)))
+on_a_side None path o = absurd o

@@ -3,6 +3,6 @@ pub mod Lists
 pub mod Halves
 pub mod Alone
 pub mod SettledPasses
-pub mod KeptRule
+pub mod InvariantIsKept
 pub mod CallsBySteps
 pub mod LogFacts

@@ -1,8 +1,9 @@
 -- The entries of one reporter.
-use Rattle.ucl_live_board.proofs.Common.{◌≡◌, ◌≢◌, ℕ, ◌≤◌, Bool, cond, ◌==◌, List, ◌∷◌, ◌++◌, length, refl, sym, ap, ◌∙◌, subst, arith, append-nil, eq-eqb, ne_eqb, le_refl, [], not, filter-append}
-use Rattle.ucl_live_board.proofs.Common.{IsPrefix, may_induction, Entry, greatest_version, MayFollow, IsLegal, followed_by, begins_same, begins_through, PassView, IsSound, Continues, entries_by}
+use Rattle.ucl_live_board.proofs.Common.{◌≡◌, ◌≢◌, ℕ, ◌≤◌, Bool, cond, ◌==◌, List, ◌∷◌, ◌++◌, length, refl, sym, ap, ◌∙◌, subst, arith, append-nil, eq-eqb, ne_eqb}
+use Rattle.ucl_live_board.proofs.Common.{le_refl, [], not, filter-append, IsPrefix, may_induction, Entry, max_version, MayFollow, IsLegal, followed_by, begins_same}
+use Rattle.ucl_live_board.proofs.Common.{begins_through, PassView, IsSound, Continues, entries_by}
 use Rattle.std.proofs.lemmas.List.Filters.{length-filter_both}
-use Rattle.ucl_board.proofs.HistoryLaws.{versions}
+use Rattle.ucl_board.proofs.HistoryTheorems.{versions}
 
 -- what a longer history has of one reporter, and what it has more
 pub by_more : (n : ℕ) (s h : List Entry) (p : IsPrefix s h) → entries_by n h ≡ entries_by n s ++ entries_by n p.0
@@ -19,7 +20,7 @@ pub none_by_zero : (h : List Entry) → IsLegal h → entries_by 0 h ≡ []
 none_by_zero = may_induction MayFollow (λ h. entries_by 0 h ≡ []) refl (λ h e legal may was. by_other 0 h e (λ z. let r = may.accepted.reporter.0 in omega arith) ∙ was)
 
 -- a pass has no more entries than a history can have
-pub few_mine : (k : PassView) → IsSound k → length k.mine ≤ greatest_version
+pub few_mine : (k : PassView) → IsSound k → length k.mine ≤ max_version
 few_mine k s =
     let v = versions k.seen s.legal in
     let d = length-filter_both (λ (e : Entry). e.reporter == k.number) (λ (e : Entry). not (e.reporter == k.number)) (λ _. refl) k.seen in

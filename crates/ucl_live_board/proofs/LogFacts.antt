@@ -1,13 +1,13 @@
--- What the rule says of a log: a board opens with none, each step is its end, and the last one has seen the whole history.
-use Rattle.ucl_live_board.proofs.Common.{◌≡◌, ◌≢◌, ◌⊎◌, inl, inr, ⊎_elim, ℕ, zero, suc, ◌<◌, ◌≤◌, Bool, true, false}
-use Rattle.ucl_live_board.proofs.Common.{List, ◌∷◌, ◌++◌, length, map, set, refl, sym, ap, ◌∙◌, subst, arith, append-nil, []}
-use Rattle.ucl_live_board.proofs.Common.{length-append, All, drop, Some, None, IsTrue, nil_from_length, All-head, All-cons, All-nil, IsPrefix, dite, some, some-ne-none, some-injective, get_elem?}
-use Rattle.ucl_live_board.proofs.Common.{ℕ_discrete, set_here, set_else, Entry, Taken, Logged, logged_by, Log, taken_by, history_of, taken_append, taken_own, begins_length, begins_none, View, Share}
-use Rattle.ucl_live_board.proofs.Common.{Overlap, opener, KeepsOneHistory, BoardsOpenFresh, StepsComeLast, LastStepsSeeAll, IsHeld, MakeUp, HoldersDidAll, not}
+-- What the invariant says of a log: a board opens with none, each step is its end, and the last one has seen the whole history.
+use Rattle.ucl_live_board.proofs.Common.{◌≡◌, ◌≢◌, ◌⊎◌, inl, inr, ⊎_elim, ℕ, zero, suc, ◌<◌, ◌≤◌, Bool, true, false, List, ◌∷◌, ◌++◌, length, map, set, refl, sym}
+use Rattle.ucl_live_board.proofs.Common.{ap, ◌∙◌, subst, arith, append-nil, [], length-append, All, drop, Some, None, IsTrue, nil_from_length, All-head, All-cons}
+use Rattle.ucl_live_board.proofs.Common.{All-nil, IsPrefix, dite, some, some-ne-none, some-injective, get_elem?, ℕ_discrete, set_here, set_else, Entry, Taken}
+use Rattle.ucl_live_board.proofs.Common.{Logged, logged_by, Log, taken_by, history_of, taken_append, taken_own, begins_length, begins_none, View, Share, Overlap}
+use Rattle.ucl_live_board.proofs.Common.{opener, BoardInvariant, BoardsOpenFresh, StepsComeLast, LastStepsSeeAll, IsHeld, Covers, HoldersDidAll, not}
 use Rattle.std.proofs.lemmas.List.{length-set}
 use Rattle.ucl_live_board.proofs.Halves.{in_whole, on_a_side}
 use Rattle.ucl_live_board.proofs.Alone.{taken_here, taken_else, some_here, only_own, view_at, none_beyond}
-use Rattle.ucl_live_board.proofs.KeptRule.{place_below}
+use Rattle.ucl_live_board.proofs.InvariantIsKept.{place_below}
 
 -- lists
 
@@ -128,7 +128,7 @@ same_from_both a b p q =
     sym (append-nil a) ∙ (ap (λ (x : List Entry). a ++ x) (sym (nil_from_length p.0 (omega (arith, length-append a p.0)))) ∙ p.1)
 
 -- the pass that took the last step knows the whole log
-pub last_knows : (words_after : List Entry → ℕ → List ℕ) (words : List ℕ) (views : List View) (r : KeepsOneHistory words_after words views) (before : Log) (seat : ℕ) (x : Taken) (v : View)
+pub last_knows : (words_after : List Entry → ℕ → List ℕ) (words : List ℕ) (views : List View) (r : BoardInvariant words_after words views) (before : Log) (seat : ℕ) (x : Taken) (v : View)
     → r.log ≡ before ++ logged_by seat x ∷ [] → get_elem? views seat ≡ some v → v.log ≡ r.log
 last_knows words_after words views r before seat x v is here =
     let f = r.fits seat v here in
@@ -167,27 +167,27 @@ all_of P [] each = All-nil (λ (x : Logged). P x.seat)
 all_of P (x ∷ log) each = All-cons (λ (y : Logged). P y.seat) x log (each x.seat (some_here x.seat x.step log))
     (all_of P log (λ j any. each j (λ none. search (arith, dite, some_here, taken_else))))
 
-module _ (words_after : List Entry → ℕ → List ℕ) (words : List ℕ) (views : List View) (r : KeepsOneHistory words_after words views) (held : ℕ → Bool) where
-  one_holds : (way : List Bool) → IsHeld views held way → (seat : ℕ) (u : View) → get_elem? views seat ≡ some u → Overlap u.share (Some way) → IsTrue (held seat)
-  one_holds way h seat u here over = subst (λ (k : ℕ). IsTrue (held k)) (sym (r.shared seat h.seat u h.view here h.there (subst (Overlap u.share) (sym h.share) over))) h.held_is
+module _ (words_after : List Entry → ℕ → List ℕ) (words : List ℕ) (views : List View) (r : BoardInvariant words_after words views) (held : ℕ → Bool) where
+  one_holds : (path : List Bool) → IsHeld views held path → (seat : ℕ) (u : View) → get_elem? views seat ≡ some u → Overlap u.share (Some path) → IsTrue (held seat)
+  one_holds path h seat u here over = subst (λ (k : ℕ). IsTrue (held k)) (sym (r.shared seat h.seat u h.view here h.there (subst (Overlap u.share) (sym h.share) over))) h.held_is
 
-  holds : (n : ℕ) (way : List Bool) → MakeUp views held n way → (seat : ℕ) (u : View) → get_elem? views seat ≡ some u → Overlap u.share (Some way) → IsTrue (held seat)
-  holds zero way make seat u here over = one_holds way make seat u here over
-  holds (suc n) way make seat u here over = ⊎_elim
-      (λ (h : IsHeld views held way). one_holds way h seat u here over)
-      (λ (both : MakeUp views held n (way ++ false ∷ []) × MakeUp views held n (way ++ true ∷ [])). ⊎_elim
-      (λ first. holds n (way ++ false ∷ []) both.0 seat u here first)
-      (λ second. holds n (way ++ true ∷ []) both.1 seat u here second)
-      (on_a_side u.share way over))
+  holds : (n : ℕ) (path : List Bool) → Covers views held n path → (seat : ℕ) (u : View) → get_elem? views seat ≡ some u → Overlap u.share (Some path) → IsTrue (held seat)
+  holds zero path make seat u here over = one_holds path make seat u here over
+  holds (suc n) path make seat u here over = ⊎_elim
+      (λ (h : IsHeld views held path). one_holds path h seat u here over)
+      (λ (both : Covers views held n (path ++ false ∷ []) × Covers views held n (path ++ true ∷ [])). ⊎_elim
+      (λ first. holds n (path ++ false ∷ []) both.0 seat u here first)
+      (λ second. holds n (path ++ true ∷ []) both.1 seat u here second)
+      (on_a_side u.share path over))
       make
 
   -- a pass with a share
-  acting : (n : ℕ) → MakeUp views held n [] → (seat : ℕ) (u : View) → get_elem? views seat ≡ some u → (u.share ≡ None → ⊥) → IsTrue (held seat)
+  acting : (n : ℕ) → Covers views held n [] → (seat : ℕ) (u : View) → get_elem? views seat ≡ some u → (u.share ≡ None → ⊥) → IsTrue (held seat)
   acting n make seat u here acts = by_share u.share refl
     where
       by_share : (s : Share) → u.share ≡ s → IsTrue (held seat)
       by_share None is = absurd (acts is)
-      by_share (Some way) is = holds n [] make seat u here (in_whole u.share (ap Rattle.std.specs.Prelude.is_some is))
+      by_share (Some path) is = holds n [] make seat u here (in_whole u.share (ap Rattle.std.specs.Prelude.is_some is))
 
 pub did_all : HoldersDidAll
 did_all words_after words views r held n make = record {

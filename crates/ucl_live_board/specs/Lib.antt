@@ -6,5 +6,5 @@ pub mod Views
 pub mod OneHistory
 pub mod Steps
 pub mod CallSteps
-pub mod Standing
+pub mod PossibleViews
 pub mod Numbers

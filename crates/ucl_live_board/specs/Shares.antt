@@ -1,6 +1,6 @@
 -- Shares of a board, their halves, and when two overlap.
 -- A pass acts by its share alone. The whole is in one pass when the board opens; a split gives each of two passes a half
--- of a share. A share is written as the way to it: which half of the board, which half of that, and so on.
+-- of a share. A share is written as the path to it: which half of the board, which half of that, and so on.
 use Rattle.std.specs.Prelude.{◌⊎◌, Bool, true, false, List, [], ◌∷◌, ◌++◌, Option, Some, None}
 use mathlib.Core.List.{IsPrefix}
 
@@ -13,7 +13,7 @@ whole = Some []
 
 abbrev pub half_of : Bool → Share → Share
 half_of side None = None
-half_of side (Some way) = Some (way ++ side ∷ [])
+half_of side (Some path) = Some (path ++ side ∷ [])
 
 abbrev pub first_half : Share → Share
 first_half = half_of false

@@ -1,17 +1,17 @@
-//! What every board is that threads share: its passes and the clauses of its calls, the rule of one history, and settling. The boards
+//! What every board is that threads share: its passes and the clauses of its calls, the invariant of one history, and settling. The boards
 //! themselves stand above: in one cell in `ucl_pass`, and word by word in `ucl_words`.
 #![tactic(auto)]
 
 mod asking;
 mod errors;
-mod laws;
 mod live_board;
 mod settling;
+mod theorems;
 mod view;
 
 pub use asking::Asking;
 pub use errors::{Strangers, TooManyReporters};
-pub use laws::{holders_did_all, last_steps_see_all, steps_come_last, whole_is_alone};
-pub use live_board::{LiveBoard, MOST_REPORTERS};
+pub use live_board::{LiveBoard, MAX_REPORTERS};
 pub use settling::settle;
+pub use theorems::{holders_did_all, last_steps_see_all, steps_come_last, whole_is_alone};
 pub use view::View;

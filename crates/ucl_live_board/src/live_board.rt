@@ -10,7 +10,7 @@ use ucl_board::Reading;
 use ucl_word::{Accepted, EventCall, Refusal, ReporterNo};
 
 /// How many reporters a board can have: as many as there are numbers of a `ReporterNo`.
-pub const MOST_REPORTERS: u64 = 255;
+pub const MAX_REPORTERS: u64 = 255;
 
 /// A board that threads share. Each thread holds a pass, and what a call answers is said of what its pass has seen: a prefix
 /// of one history of accepted events, the same for all passes (Herlihy and Wing, Linearizability).
@@ -58,7 +58,7 @@ pub trait LiveBoard: Sync {
         ensures own { is_reporter self.now pass.new }
         ensures says { LiveReported (reporter pass.old) call.now result (reporter pass.new) };
 
-    /// The board after a prefix of the history that has all that the pass had seen, and its version.
+    /// Reads the board after a prefix of the history that has all that the pass had seen, and its version.
     ///
     /// ```rust
     /// let (board, mut reader) = CellBoard::open(&rt, rt.alloc())?;
@@ -71,7 +71,7 @@ pub trait LiveBoard: Sync {
         ensures own { is_reader self.now pass.new }
         ensures says { LiveRead (reader pass.old) result (reader pass.new) };
 
-    /// The same for a reporter.
+    /// Does the same for a reporter.
     ///
     /// ```rust
     /// let (board, pass) = CellBoard::open(&rt, rt.alloc())?;
@@ -90,7 +90,7 @@ pub trait LiveBoard: Sync {
         ensures own { is_reporter self.now pass.new }
         ensures says { LiveRead (reporter pass.old) result (reporter pass.new) };
 
-    /// A second pass, which has seen as much as the lent one, for another thread.
+    /// Splits off a second pass, which has seen as much as the lent one, for another thread.
     ///
     /// ```rust
     /// let (board, mut reader) = CellBoard::open(&rt, rt.alloc())?;
@@ -126,7 +126,7 @@ pub trait LiveBoard: Sync {
             (λ enlisted. Enlistment (reader pass) (reporter enlisted))
             (λ full. LiveFull (reader pass) (reader full.0)) };
 
-    /// Afterwards the second pass has seen all that either had seen. The first is as it was.
+    /// Tells the second pass all that the first has seen: afterwards it has seen all that either had seen. The first is as it was.
     ///
     /// ```rust
     /// let (board, mut pass) = CellBoard::open(&rt, rt.alloc())?;
@@ -142,7 +142,7 @@ pub trait LiveBoard: Sync {
         ensures says { LiveMet (reporter first.old) (reporter first.new) (reporter second.old)
             (reporter second.new) };
 
-    /// The number of a reporter's pass.
+    /// Returns the number of a reporter's pass.
     ///
     /// ```rust
     /// let (board, mut pass) = CellBoard::open(&rt, rt.alloc())?;
@@ -155,7 +155,7 @@ pub trait LiveBoard: Sync {
     fn number_of(pass: &Self::ReporterPass) -> ReporterNo
         ensures { result ≡ (reporter_figures (reporter pass.now)).number };
 
-    /// How many events of a reporter's pass were accepted.
+    /// Returns how many events of a reporter's pass were accepted.
     ///
     /// ```rust
     /// let (board, pass) = CellBoard::open(&rt, rt.alloc())?;

@@ -7,7 +7,7 @@ use crate::live_board::LiveBoard;
 use std::sync::Wait;
 use ucl_board::Reading;
 
-/// The two meet, and the second reads. The reading is answered where the two numbers differ and its version is the sum of both
+/// Lets the two meet, and the second read. The reading is answered if the two numbers differ and its version is the sum of both
 /// accepted counts: then each of its entries is one of theirs. Else the answer is 31 with the version that was read. Nothing is
 /// entered, and both passes stay usable: the first is as it was, and the second may have seen more and has shown this one version
 /// more.

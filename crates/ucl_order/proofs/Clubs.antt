@@ -5,9 +5,8 @@ use Rattle.std.proofs.lemmas.List.{get_or-map, length-map}
 use Rattle.std.proofs.lemmas.List.Elements.{All-get_or}
 use Rattle.std.proofs.lemmas.Bool.{and_parts}
 use Rattle.ucl_order.specs.declared.roster.Member.{Member}
-use Rattle.ucl_order.specs.Code.Members.{member_seen, members_seen}
+use Rattle.ucl_order.specs.Roster.{member_seen, members_seen, NamedClub, club_lent, IsClub, IsRoster, is_club, is_name, bad_slot, bad_slot_from}
 use Rattle.ucl_order.specs.declared.roster.LentClub.{LentClub}
-use Rattle.ucl_order.specs.Roster.{NamedClub, club_lent, IsClub, IsRoster, is_club, is_name, bad_slot, bad_slot_from}
 use Rattle.ucl_order.proofs.Slots.{by_four}
 
 -- the club of each place is good

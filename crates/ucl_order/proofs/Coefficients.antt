@@ -10,7 +10,7 @@ use Rattle.ucl_order.specs.Matches.{matches_of, started_of}
 use Rattle.ucl_order.specs.Order.{Ranking, all_clubs, by_points, head_to_head, is_one_class, order_of, overall, settled_within, split}
 use Rattle.ucl_order.specs.Marks.{mark_by, mark_of}
 use Rattle.ucl_order.specs.Rows.{row_of, row_with}
-use Rattle.ucl_order.specs.Laws.{TableGoesByCoefficients}
+use Rattle.ucl_order.specs.Theorems.{TableGoesByCoefficients}
 
 coefficient-is : (clubs : List NamedClub) (slot : ℕ) → coefficient_of clubs slot ≡ get_or (coefficients_in clubs) (slot - 1) 0
 coefficient-is clubs slot = sym (get_or-map (λ (club : NamedClub). club.coefficient) clubs (slot - 1) (record { name = []; coefficient = 0 }))

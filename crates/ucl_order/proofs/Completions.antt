@@ -1,6 +1,6 @@
 -- What a group can still become: points only rise, and never above what the club can reach.
-use Rattle.std.proofs.Common.{◌≡◌, ℕ, ◌+◌, ◌*◌, ◌≤◌, ◌==◌, ◌&&◌, Bool, true, false, not, if◌then◌else◌, List, [], ◌∷◌, Some, None, length, get_or, map, take, count_by, refl, sym, ap, arith, eq-eqb}
-use Rattle.std.proofs.Common.{All, Contains, eqb-true, nat_le, nat_lt, ◌⊎◌, inl, inr}
+use Rattle.std.proofs.Common.{◌≡◌, ℕ, ◌+◌, ◌*◌, ◌≤◌, ◌==◌, ◌&&◌, Bool, true, false, not, if◌then◌else◌, List, [], ◌∷◌, Some, None, length, get_or, map, take}
+use Rattle.std.proofs.Common.{count_by, refl, sym, ap, arith, eq-eqb, All, Contains, eqb-true, nat_le, nat_lt, ◌⊎◌, inl, inr}
 use Rattle.std.specs.List.{list_all}
 use Rattle.std.proofs.lemmas.Bool.{cases_Bool, and_parts, leb-true}
 use Rattle.std.proofs.lemmas.Bool.Decides.{nat_tests}
@@ -18,13 +18,11 @@ use Rattle.ucl_order.specs.declared.game.Match.{Match}
 use Rattle.ucl_order.specs.declared.game.Appearance.{Appearance}
 use Rattle.ucl_order.specs.declared.mark.Mark.TheVariants.{Plus, Minus, Blank}
 use Rattle.ucl_order.specs.Roster.{NamedClub}
-use Rattle.ucl_order.specs.Matches.{match_at, matches_of, has_finished, started, finished, unfinished, started_of}
-use Rattle.ucl_order.specs.Appearances.{seen_by}
+use Rattle.ucl_order.specs.Matches.{match_at, matches_of, has_finished, started, finished, unfinished, started_of, seen_by}
 use Rattle.ucl_order.specs.Results.{played, points}
 use Rattle.ucl_order.specs.Order.{all_clubs, order_of, is_in}
 use Rattle.ucl_order.specs.Marks.{IsCompletion, GoesThrough, sure_points, reach, rivals, out_of_reach, mark_of}
-use Rattle.ucl_order.proofs.Classes.{IsPermutation-order}
-use Rattle.ucl_order.proofs.ClubCounts.{count-le}
+use Rattle.ucl_order.proofs.Classes.{IsPermutation-order, count-le}
 use Rattle.ucl_order.proofs.Limits.{plays, gains, gains-le, played-cons, points-cons}
 use Rattle.ucl_order.proofs.Slots.{a_club, are_matches}
 use Rattle.ucl_order.proofs.Places.{order_falls, reaches, passes, in_first_two, not_in_first_two}

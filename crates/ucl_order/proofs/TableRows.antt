@@ -1,14 +1,14 @@
 -- The rows, from what the calls answered.
-use Rattle.std.proofs.Common.{◌≡◌, ◌∙◌, ℕ, ◌-◌, List, [], ◌∷◌, get_or, All, refl, sym}
-use Rattle.std.specs.List.{slice_index}
+use Rattle.std.proofs.Common.{◌≡◌, ◌∙◌, ℕ, ◌-◌, List, [], ◌∷◌, get_or, All, refl, sym, false, length, map, arith}
+use Rattle.std.specs.List.{slice_index, list_all}
 use Rattle.ucl_order.specs.declared.profile.Profile.{Profile}
 use Rattle.ucl_order.specs.declared.game.Match.{Match}
 use Rattle.ucl_order.specs.declared.mark.Mark.{Mark}
 use Rattle.ucl_order.specs.declared.table.Row.{Row}
 use Rattle.ucl_order.specs.Roster.{NamedClub}
-use Rattle.ucl_order.specs.Matches.{matches_of, started, started_of}
-use Rattle.ucl_order.specs.Order.{order_of}
-use Rattle.ucl_order.specs.Marks.{mark_by, mark_of}
+use Rattle.ucl_order.specs.Matches.{matches_of, started, started_of, has_finished}
+use Rattle.ucl_order.specs.Order.{order_of, all_clubs}
+use Rattle.ucl_order.specs.Marks.{mark_by, mark_of, early_mark}
 use Rattle.ucl_order.specs.Rows.{IsWithinTable, MarkIsCertain, row_of, row_with, rows_of}
 use Rattle.ucl_order.proofs.Completions.{plus_is_certain, minus_is_certain}
 use Rattle.ucl_order.proofs.Slots.{all-four}
@@ -38,13 +38,13 @@ module _ (profile : Profile) (board : List ℕ) (roster : List NamedClub) where
   unfolding row_of
   marked place = refl
 
-  abbrev IsMarked : Row → Type 0
-  IsMarked row = row.mark ≡ mark_of profile board roster row.slot
+  abbrev HasLayoutTag : Row → Type 0
+  HasLayoutTag row = row.mark ≡ mark_of profile board roster row.slot
 
-  all_marked : All IsMarked (rows_of profile board roster)
-  all_marked = all-four IsMarked _ _ _ _ (marked 1) (marked 2) (marked 3) (marked 4)
+  all_marked : All HasLayoutTag (rows_of profile board roster)
+  all_marked = all-four HasLayoutTag _ _ _ _ (marked 1) (marked 2) (marked 3) (marked 4)
 
-  certain : (row : Row) → IsWithinTable row → IsMarked row → MarkIsCertain profile board roster row
+  certain : (row : Row) → IsWithinTable row → HasLayoutTag row → MarkIsCertain profile board roster row
   certain row within is = record {
     plus = λ mark later done. plus_is_certain profile board later done roster row.slot within.slot (sym is ∙ mark);
     minus = λ mark later done. minus_is_certain profile board later done roster row.slot (sym is ∙ mark);
@@ -52,3 +52,18 @@ module _ (profile : Profile) (board : List ℕ) (roster : List NamedClub) where
 
   pub all_certain : All IsWithinTable (rows_of profile board roster) → All (MarkIsCertain profile board roster) (rows_of profile board roster)
   all_certain within i d below = certain (get_or (rows_of profile board roster) i d) (within i d below) (all_marked i d below)
+
+-- ---- the marks, from what the calls answered
+
+pub four_clubs : (f : ℕ → ℕ) (a b c d : ℕ) → a ≡ f 1 → b ≡ f 2 → c ≡ f 3 → d ≡ f 4 → a ∷ b ∷ c ∷ d ∷ [] ≡ map f all_clubs
+four_clubs f a b c d is_a is_b is_c is_d = rw (is_a, is_b, is_c, is_d)
+
+pub early_marks : (ms : List Match) (order : List ℕ) (a b c d : Mark) → length order ≡ 4 → list_all has_finished ms ≡ false →
+    a ≡ early_mark ms (get_or order 0 0) → b ≡ early_mark ms (get_or order 1 0) → c ≡ early_mark ms (get_or order 2 0) → d ≡ early_mark ms (get_or order 3 0) →
+    ◌≡◌ {A = List Mark} (a ∷ b ∷ c ∷ d ∷ []) (map (mark_by ms order) order)
+early_marks ms [] a b c d long some is_a is_b is_c is_d = absurd (omega arith)
+early_marks ms (w ∷ []) a b c d long some is_a is_b is_c is_d = absurd (omega arith)
+early_marks ms (w ∷ x ∷ []) a b c d long some is_a is_b is_c is_d = absurd (omega arith)
+early_marks ms (w ∷ x ∷ y ∷ []) a b c d long some is_a is_b is_c is_d = absurd (omega arith)
+early_marks ms (w ∷ x ∷ y ∷ z ∷ []) a b c d long some is_a is_b is_c is_d = rw (some, is_a, is_b, is_c, is_d)
+early_marks ms (w ∷ x ∷ y ∷ z ∷ v ∷ vs) a b c d long some is_a is_b is_c is_d = absurd (omega arith)

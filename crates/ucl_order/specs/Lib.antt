@@ -1,13 +1,12 @@
 pub mod Names
 pub mod Roster
 pub mod Matches
-pub mod Appearances
 pub mod Results
 pub mod Order
 pub mod Standing
 pub mod Marks
 pub mod Rows
 pub mod Keys
-pub mod KeyFields
-pub mod Code
-pub mod Laws
+pub mod Theorems
+pub mod Counting
+pub mod Rounds

@@ -1,5 +1,5 @@
 -- Marks: which clubs are sure to be, or not to be, among the first two; completions.
-use Rattle.std.specs.Prelude.{◌≡◌, ℕ, ◌+◌, ◌*◌, ◌==◌, ◌&&◌, not, nat_lt, nat_le, if◌then◌else◌, Bool, List, count_by, take, Contains}
+use Rattle.std.specs.Prelude.{◌≡◌, ℕ, ◌+◌, ◌*◌, ◌==◌, ◌&&◌, not, nat_lt, nat_le, if◌then◌else◌, Bool, List, count_by, take, Contains, map}
 use Rattle.std.specs.List.{list_all}
 use Rattle.ucl_word.specs.declared.record.State.TheVariants.{Finished}
 use Rattle.ucl_board.specs.Fixtures.{IsMatch}
@@ -12,6 +12,7 @@ use Rattle.ucl_order.specs.Roster.{NamedClub}
 use Rattle.ucl_order.specs.Matches.{matches_of, has_finished, finished, unfinished, started_of}
 use Rattle.ucl_order.specs.Results.{played, points, points_of_win}
 use Rattle.ucl_order.specs.Order.{is_in, all_clubs, order_of}
+use Rattle.ucl_order.specs.declared.mark.PointBounds.{PointBounds}
 
 -- the points from finished matches
 abbrev pub sure_points : List Match → ℕ → ℕ
@@ -63,3 +64,10 @@ pub record IsCompletion (board later : List ℕ) : Type 0 where
   pub words : AreWords later
   pub ended : (game : ℕ) → IsMatch game → (game_at later game).state ≡ Finished
   pub kept : (game : ℕ) → IsMatch game → (game_at board game).state ≡ Finished → game_at later game ≡ game_at board game
+
+-- ---- what the clubs can still become, by slot
+
+-- the points from finished matches, and the points if each match that is left were won
+pub record ArePointBounds (ms : List Match) (bounds : PointBounds) : Type 0 where
+  pub sure : bounds.sure ≡ map (sure_points ms) all_clubs
+  pub reach : bounds.reach ≡ map (reach ms) all_clubs

@@ -1,11 +1,12 @@
 -- The matches of a board with their scores, each with the clubs that play it.
-use Rattle.std.specs.Prelude.{◌≢◌, ◌≤◌, ℕ, not, Bool, List, map, filter}
+use Rattle.std.specs.Prelude.{◌≢◌, ◌≤◌, ℕ, not, Bool, List, map, filter, ◌+◌, ◌*◌, ◌==◌, nat_lt, true, false, if◌then◌else◌, Option, Some, None}
 use Rattle.ucl_word.specs.declared.record.MatchRecord.{MatchRecord}
 use Rattle.ucl_word.specs.Rules.{is_scheduled, is_finished}
 use Rattle.ucl_board.specs.Fixtures.{IsSlot, fixture_of, match_numbers}
 use Rattle.ucl_board.specs.Words.{game_at}
 use Rattle.ucl_order.specs.declared.game.Match.{Match}
 use Rattle.ucl_order.specs.declared.game.Score.{Score}
+use Rattle.ucl_order.specs.declared.game.Appearance.{Appearance}
 
 -- what the table goes by of a record: neither who entered the last event nor how many there were
 abbrev pub score_of : MatchRecord → Score
@@ -63,3 +64,30 @@ finished ms = filter has_finished ms
 -- those that are still to be played, or to be played to their end
 abbrev pub unfinished : List Match → List Match
 unfinished ms = filter (λ m. not (has_finished m)) ms
+
+-- ---- one match as one of its clubs sees it
+
+abbrev pub seen_from_home : Match → Appearance
+seen_from_home m = record { is_away = false; scored = m.score.home_goals; conceded = m.score.away_goals; yellows = m.score.home_yellows; expulsions = m.score.home_expulsions }
+
+abbrev pub seen_from_away : Match → Appearance
+seen_from_away m = record { is_away = true; scored = m.score.away_goals; conceded = m.score.home_goals; yellows = m.score.away_yellows; expulsions = m.score.away_expulsions }
+
+abbrev pub seen_by : ℕ → Match → Option Appearance
+seen_by club m =
+    if m.home == club then Some (seen_from_home m)
+    else (if m.away == club then Some (seen_from_away m)
+    else None)
+
+abbrev pub is_won : Appearance → Bool
+is_won a = nat_lt a.conceded a.scored
+
+abbrev pub is_drawn : Appearance → Bool
+is_drawn a = a.scored == a.conceded
+
+abbrev pub is_lost : Appearance → Bool
+is_lost a = nat_lt a.scored a.conceded
+
+-- one for a yellow card that stands, three for an expulsion
+abbrev pub disciplinary_points : Appearance → ℕ
+disciplinary_points a = a.yellows + 3 * a.expulsions

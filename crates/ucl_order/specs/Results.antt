@@ -4,7 +4,7 @@ use Rattle.std.specs.List.{filter_map}
 use Rattle.ucl_order.specs.declared.game.Match.{Match}
 use Rattle.ucl_order.specs.declared.game.Appearance.{Appearance}
 use Rattle.ucl_order.specs.declared.results.Results.{Results}
-use Rattle.ucl_order.specs.Appearances.{seen_by, is_won, is_drawn, is_lost, disciplinary_points}
+use Rattle.ucl_order.specs.Matches.{seen_by, is_won, is_drawn, is_lost, disciplinary_points}
 
 -- its matches among these
 abbrev pub appearances : ℕ → List Match → List Appearance

@@ -3,6 +3,7 @@ use Rattle.std.specs.Prelude.{◌≡◌, ℕ, ◌+◌, ◌-◌, ◌&&◌, nat_le
 use Rattle.std.specs.List.{list_all}
 use Rattle.ucl_order.specs.declared.roster.Club.{Club}
 use Rattle.ucl_order.specs.declared.roster.LentClub.{LentClub}
+use Rattle.ucl_order.specs.declared.roster.Member.{Member}
 
 -- a club's name and coefficient, wherever they lie in memory
 pub record NamedClub : Type 0 where
@@ -62,3 +63,11 @@ coefficient_of clubs slot = (club_in clubs slot).coefficient
 -- the coefficients of clubs, in the order of their slots
 abbrev pub coefficients_in : List NamedClub → List ℕ
 coefficients_in clubs = map (λ club. club.coefficient) clubs
+
+-- ---- what the places of a roster hold
+
+abbrev pub member_seen : Member → NamedClub
+member_seen member = record { name = member.name.items; coefficient = member.coefficient }
+
+abbrev pub members_seen : List Member → List NamedClub
+members_seen members = map member_seen members

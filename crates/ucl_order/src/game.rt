@@ -2,12 +2,11 @@
 
 ghost use Rattle.std.specs.Prelude.{◌≡◌, ◌≤◌, [], All, length};
 ghost use Rattle.ucl_word.specs.Record.{IsValid};
-ghost use Rattle.ucl_order.specs.Code.Counting.{point_bounds, worth, seen_among};
-ghost use Rattle.ucl_order.specs.Code.Rounds.{is_level};
+ghost use Rattle.ucl_order.specs.Counting.{point_bounds, worth, seen_among};
+ghost use Rattle.ucl_order.specs.Rounds.{is_level};
 ghost use Rattle.ucl_order.specs.Keys.{slots_in};
 ghost use Rattle.ucl_order.specs.Order.{is_in};
-ghost use Rattle.ucl_order.specs.Matches.{HasScore, IsPairing, IsScore, has_finished, has_started, matches_of, score_of, started};
-ghost use Rattle.ucl_order.specs.Appearances.{is_drawn, is_lost, is_won, disciplinary_points, seen_by, seen_from_away, seen_from_home};
+ghost use Rattle.ucl_order.specs.Matches.{HasScore, IsPairing, IsScore, has_finished, has_started, matches_of, score_of, started, is_drawn, is_lost, is_won, disciplinary_points, seen_by, seen_from_away, seen_from_home};
 
 use arrayvec::ArrayVec;
 use ucl_board::{Board, away_of, home_of};

@@ -5,8 +5,7 @@ ghost use Rattle.std.specs.List.{list_all};
 ghost use Rattle.ucl_board.specs.Fixtures.{IsSlot};
 ghost use Rattle.ucl_order.specs.declared.game.Match.{Match};
 ghost use Rattle.ucl_order.specs.Matches.{IsPairing, has_finished};
-ghost use Rattle.ucl_order.specs.Marks.{early_mark, out_of_reach, final_mark, is_out_of_reach, is_rival, mark_by, reach, rivals, sure_points};
-ghost use Rattle.ucl_order.specs.Code.PointBounds.{ArePointBounds};
+ghost use Rattle.ucl_order.specs.Marks.{early_mark, out_of_reach, final_mark, is_out_of_reach, is_rival, mark_by, reach, rivals, sure_points, ArePointBounds};
 
 use crate::game::Match;
 
@@ -150,7 +149,7 @@ fn final_mark(order: &[u8; 4], club: u8) -> Mark
 }
 
 /// Returns the marks of the clubs, by place of this order, by these matches.
-#[tactic(auto, using(crate::proofs::MarkFacts::early_marks))]
+#[tactic(auto, using(crate::proofs::TableRows::early_marks))]
 pub(crate) fn marks_of(matches: &[Match], order: &[u8; 4]) -> [Mark; 4]
     requires short { length matches.now ≤ 12 }
     requires pairings { All IsPairing matches.now }

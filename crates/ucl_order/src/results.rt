@@ -4,10 +4,10 @@ ghost use Rattle.std.specs.Prelude.{◌≡◌, ℕ, ◌≤◌, ◌+◌, ◌*◌,
 ghost use Rattle.ucl_order.specs.declared.game.Match.{Match};
 ghost use Rattle.ucl_order.specs.Matches.{IsPairing, started};
 ghost use Rattle.ucl_order.specs.Results.{points_for, results_of};
-ghost use Rattle.ucl_order.specs.Code.Counting.{IsWithin, with_match};
+ghost use Rattle.ucl_order.specs.Counting.{IsWithin, with_match};
 ghost use Rattle.ucl_order.specs.Keys.{slots_in};
 ghost use Rattle.ucl_order.specs.Order.{among};
-ghost use Rattle.ucl_order.specs.Code.Rounds.{level_matches, results_of_clubs};
+ghost use Rattle.ucl_order.specs.Rounds.{level_matches, results_of_clubs};
 
 use crate::game::{Appearance, Match, WIN};
 

@@ -3,15 +3,14 @@
 ghost use Rattle.std.specs.Prelude.{◌≡◌, ◌-◌, ◌≤◌, None, Some, true, false, IfOk, IfErr, OnOk, length, map, set};
 ghost use Rattle.std.specs.List.{list_all};
 ghost use Rattle.ucl_board.specs.Fixtures.{IsSlot};
-ghost use Rattle.ucl_order.specs.Roster.{club_lent, club_seen, named, is_printed, is_name, is_club, IsClub, bad_slot, name_of, coefficient_of};
-ghost use Rattle.ucl_order.specs.Code.Members.{member_seen};
+ghost use Rattle.ucl_order.specs.Roster.{club_lent, club_seen, named, is_printed, is_name, is_club, IsClub, bad_slot, name_of, coefficient_of, member_seen};
 
 use arrayvec::ArrayVec;
 use std::marker::Model;
 use thiserror::Error;
 
 /// The most bytes that a club's name has.
-const MOST_NAME_BYTES: usize = 20;
+const MAX_NAME_BYTES: usize = 20;
 
 /// The first byte of printed ASCII, a space.
 const FIRST_PRINTED: u8 = 0x20;
@@ -20,7 +19,7 @@ const FIRST_PRINTED: u8 = 0x20;
 const LAST_PRINTED: u8 = 0x7e;
 
 /// The greatest coefficient of a club.
-const GREATEST_COEFFICIENT: u32 = 999_999;
+const MAX_COEFFICIENT: u32 = 999_999;
 
 /// A club as a roster takes it in. Either field can hold anything; [`Roster::new`] says what a roster takes.
 #[derive(Debug, Drop)]
@@ -51,7 +50,7 @@ pub struct BadRoster {
 /// A club of a roster, with its name in the value itself.
 #[derive(Debug, Drop)]
 struct Member {
-    name: ArrayVec<u8, MOST_NAME_BYTES>,
+    name: ArrayVec<u8, MAX_NAME_BYTES>,
     coefficient: u32,
 }
 
@@ -71,8 +70,7 @@ pub struct Roster {
 
 impl Model for Roster {
     ghost use Rattle.std.specs.Prelude.{List};
-    ghost use Rattle.ucl_order.specs.Roster.{NamedClub, IsRoster};
-    ghost use Rattle.ucl_order.specs.Code.Members.{members_seen};
+    ghost use Rattle.ucl_order.specs.Roster.{NamedClub, IsRoster, members_seen};
 
     ghost Value = { List NamedClub };
 
@@ -93,7 +91,7 @@ fn is_printed(name: &[u8]) -> bool
 fn is_name(name: &[u8]) -> bool
     ensures { result ≡ is_name name.now }
 {
-    if name.is_empty() || name.len() > MOST_NAME_BYTES {
+    if name.is_empty() || name.len() > MAX_NAME_BYTES {
         return false;
     }
     is_printed(name)
@@ -112,7 +110,7 @@ fn member_with(slot: u8, name: &[u8], coefficient: u32) -> Result<Member, BadRos
         × (bad.slot ≡ slot)) }
 {
     let bad = BadRoster { slot };
-    if !is_name(name) || coefficient > GREATEST_COEFFICIENT {
+    if !is_name(name) || coefficient > MAX_COEFFICIENT {
         return Err(bad);
     }
     let mut kept = ArrayVec::new();

@@ -3,11 +3,11 @@
 ghost use Rattle.std.specs.Prelude.{◌≡◌, ◌-◌, ◌≤◌, List, [], ◌∷◌, All, length, map, slice_index};
 ghost use Rattle.ucl_board.specs.Fixtures.{IsSlot};
 ghost use Rattle.ucl_order.specs.declared.game.Match.{Match};
-ghost use Rattle.ucl_order.specs.Code.Counting.{IsWithin};
+ghost use Rattle.ucl_order.specs.Counting.{IsWithin};
 ghost use Rattle.ucl_order.specs.Marks.{mark_by};
 ghost use Rattle.ucl_order.specs.Matches.{started};
 ghost use Rattle.ucl_order.specs.Results.{results_of};
-ghost use Rattle.ucl_order.specs.Code.Rounds.{results_of_clubs};
+ghost use Rattle.ucl_order.specs.Rounds.{results_of_clubs};
 ghost use Rattle.ucl_order.specs.Rows.{IsWithinTable, MarkIsCertain, row_with, rows_of};
 
 use crate::game::fill_matches;

@@ -1,12 +1,12 @@
 -- From what steps on the cell tell to what a call says of its pass.
 use Rattle.ucl_pass.proofs.Common.{◌≡◌, ℕ, ◌+◌, ◌<◌, ◌≤◌, List, ◌∷◌, ◌++◌, length, take, sym, ap, ◌∙◌, subst, arith, true≢false, true, false, [], le_refl}
-use Rattle.ucl_pass.proofs.Common.{slice_index, Result, Ok, Err, is_ok, IsSome, take_all, All-head, All-tail, IsPrefix}
-use Rattle.ucl_pass.proofs.Common.{EventCall, Accepted, Refusal, Entry, AreWords, version_of, board_of, IsLegal, followed_by, entry_of, reading_of, sequential_reply, Taken}
-use Rattle.ucl_pass.proofs.Common.{board_words, versions, begins_length, begins_through, View, IsSound, Continues, SharedReading}
-use Rattle.ucl_pass.proofs.Common.{pass_view_of, count_of, Takes, note_of, told_by, Goes, IsNextBoard, HasSeenAll, StoresEntry, StoresReporter, LooksOnly, LooksAndShows, Exchanges}
-use Rattle.ucl_pass.proofs.Common.{CellPass, CellReported, CellRead, CellEnlisted, CellMet, TableId, StoresEvent, takes_count, Stays, stays_none, stays_more}
+use Rattle.ucl_pass.proofs.Common.{slice_index, Result, Ok, Err, is_ok, IsSome, take_all, All-head, All-tail, IsPrefix, EventCall, Accepted, Refusal, Entry}
+use Rattle.ucl_pass.proofs.Common.{AreWords, version_of, board_of, IsLegal, followed_by, entry_of, reading_of, sequential_reply, Taken, board_words, versions}
+use Rattle.ucl_pass.proofs.Common.{begins_length, begins_through, View, IsSound, Continues, SharedReading, pass_view_of, count_of, Takes, note_of, told_by, Goes}
+use Rattle.ucl_pass.proofs.Common.{IsNextBoard, HasSeenAll, StoresEntry, StoresReporter, LooksOnly, LooksAndShows, Exchanges, CellPass, CellReported, CellRead}
+use Rattle.ucl_pass.proofs.Common.{CellEnlisted, CellMet, TableId, StoresEvent, takes_count, Stays, stays_none, stays_more}
 use Rattle.ucl_board.specs.declared.reading.Reading.{Reading}
-use Rattle.ucl_pass.proofs.KeptRule.{match_words, last_word}
+use Rattle.ucl_pass.proofs.InvariantIsKept.{match_words, last_word}
 
 -- just after a load or an exchange
 module _ (words : List ℕ) (v w : View) (seen_all : HasSeenAll words v w) (goes : Goes v w) where

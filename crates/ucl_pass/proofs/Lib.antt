@@ -1,3 +1,3 @@
 pub mod Common
-pub mod KeptRule
+pub mod InvariantIsKept
 pub mod CallsBySteps

@@ -13,7 +13,7 @@ use Rattle.ucl_live_board.specs.LiveRecords.{LiveReported, LiveRead, LiveSplit, 
 use Rattle.ucl_live_board.specs.Passes.{Enlistment, opening_pass}
 use Rattle.ucl_live_board.specs.declared.view.View.{View}
 use Rattle.ucl_live_board.specs.Views.{count_of, kept_of, pass_view_of}
-use Rattle.ucl_pass.specs.CellRule.{IsUpToDate}
+use Rattle.ucl_pass.specs.CellInvariants.{IsUpToDate}
 
 -- the board that a pass is of, and what it knows
 pub record CellPass : Type 0 where

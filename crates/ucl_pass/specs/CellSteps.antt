@@ -2,7 +2,7 @@
 -- The pass was v and is w; x are the words found and y the words left.
 use Rattle.std.specs.Prelude.{◌≡◌, ◌≢◌, ◌⊎◌, ℕ, ◌+◌, ◌≤◌, List, [], ◌∷◌, ◌++◌, length, slice_index, slice_set, Result, MatchResult}
 use Rattle.ucl_word.specs.declared.event.EventCall.{EventCall}
-use Rattle.ucl_word.specs.Sequence.{GainsOne}
+use Rattle.ucl_word.specs.Counts.{GainsOne}
 use Rattle.ucl_board.specs.declared.entry.Entry.{Entry}
 use Rattle.ucl_board.specs.Words.{word_at}
 use Rattle.ucl_board.specs.History.{IsLegal, entry_of}
@@ -10,7 +10,7 @@ use Rattle.ucl_board.specs.Log.{Whole, Taken}
 use Rattle.ucl_live_board.specs.declared.view.View.{View}
 use Rattle.ucl_live_board.specs.Views.{Takes}
 use Rattle.ucl_live_board.specs.Steps.{Sees, Adds, Enlists}
-use Rattle.ucl_pass.specs.CellRule.{words_after, IsUpToDate}
+use Rattle.ucl_pass.specs.CellInvariants.{words_after, IsUpToDate}
 
 -- the words with one event more, whatever the history is that they are the words of
 abbrev pub IsNextBoard : Entry → List ℕ → List ℕ → Type 0

@@ -1,3 +1,3 @@
-pub mod CellRule
+pub mod CellInvariants
 pub mod CellSteps
 pub mod CellRecords

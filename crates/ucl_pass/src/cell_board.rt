@@ -7,7 +7,7 @@ ghost use Rattle.ucl_board.specs.Words.{AreWords};
 ghost use Rattle.ucl_live_board.specs.OneHistory.{BoardsOpenFresh};
 ghost use Rattle.ucl_live_board.specs.Passes.{reporter_figures};
 ghost use Rattle.ucl_live_board.specs.Views.{pass_view_of};
-ghost use Rattle.ucl_pass.specs.CellRule.{words_after, IsTheRule};
+ghost use Rattle.ucl_pass.specs.CellInvariants.{words_after, ImpliesInvariant};
 ghost use Rattle.ucl_pass.specs.CellSteps.{LooksOnly, Exchanges, StoresEvent, IsNextBoard, entry_at, with_one_more};
 ghost use Rattle.ucl_pass.specs.CellRecords.{cell_pass_of, CellOpened, CellReported, CellRead, CellSplit, CellEnlisted, CellFull, CellMet};
 
@@ -18,7 +18,7 @@ use std::alloc::Global;
 use std::marker::{Brand, Model};
 use std::sync::Wait;
 use ucl_board::{Board, Reading};
-use ucl_live_board::{LiveBoard, MOST_REPORTERS, TooManyReporters, View};
+use ucl_live_board::{LiveBoard, MAX_REPORTERS, TooManyReporters, View};
 use ucl_word::{Accepted, EventCall, OutOfMemory, Refusal, ReporterNo};
 
 /// A board in one sequence cell of thirteen words: the twelve matches, and the number of enlisted reporters. Contracts see which
@@ -34,7 +34,7 @@ impl Model for CellBoard {
     ghost view = { λ b. b.cell.table.shared.table_id };
 }
 
-/// The board of the first twelve words.
+/// Returns the board of the first twelve words.
 fn board_at(words: &[u64; 13]) -> Board
     requires { AreWords (take 12 words.now) }
     ensures { result ≡ take 12 words.now }
@@ -44,7 +44,7 @@ fn board_at(words: &[u64; 13]) -> Board
     Board::of_packed(&matches)
 }
 
-/// The words of a board, and the number of enlisted reporters.
+/// Returns the words of a board, and the number of enlisted reporters.
 fn words_with(board: &Board, enlisted: u64) -> [u64; 13]
     ensures { result ≡ board.now ++ enlisted ∷ [] }
 {
@@ -53,7 +53,7 @@ fn words_with(board: &Board, enlisted: u64) -> [u64; 13]
     words
 }
 
-/// The words with one reporter more.
+/// Returns the words with one reporter more.
 fn one_more_reporter(words: [u64; 13]) -> [u64; 13]
     requires { slice_index words 12 < 255 }
     ensures { result ≡ with_one_more words }
@@ -64,7 +64,7 @@ fn one_more_reporter(words: [u64; 13]) -> [u64; 13]
 }
 
 impl CellBoard {
-    /// The fresh board, and the reader's pass from which all its passes come. The rule of the cell lets no board open but one of no event,
+    /// Opens the fresh board, and returns the reader's pass from which all its passes come. The invariant of the cell lets no board open but one of no event,
     /// no reporter and no step. Where the memory of the cell is refused the answer is `OutOfMemory`, and there is no board.
     ///
     /// ```rust
@@ -76,7 +76,7 @@ impl CellBoard {
         ensures own { IfOk result (λ opened. opened.1.board ≡ opened.0) }
         ensures opened { IfOk result (λ opened. CellOpened opened.1) }
         ensures rule { BoardsOpenFresh words_after }
-        ensures tied { IsTheRule ⟦<OneHistory as Protocol<[u64; 13], View>>⟧.holds }
+        ensures tied { ImpliesInvariant ⟦<OneHistory as Protocol<[u64; 13], View>>⟧.holds }
     {
         let (cell, seat) = Cell::ruled(alloc, words_with(&Board::fresh(), 0))?;
         Ok((CellBoard { cell }, CellReaderPass { seat }))
@@ -110,12 +110,13 @@ impl CellBoard {
         ensures stored { Exchanges (StoresEvent call.now) (cell_view seat.old) current next result
             (cell_view seat.new) }
     {
+        // For the prover only: the number of the match is 1 to 12.
         let _number = call.game.get();
         self.cell
             .compare_exchange_as::<Adds<K>, R>(rt, seat, current, next)
     }
 
-    /// The board of one load, and its version.
+    /// Reads the board by one load, with its version.
     fn read_by<R: Wait>(&self, rt: &R, seat: &mut Seat) -> Reading
         requires cell { seat.old.table_id ≡ self.now }
         requires acts { IsSome (cell_view seat.old).share }
@@ -201,7 +202,7 @@ impl LiveBoard for CellBoard {
         'retry: for _ in rt.forever() {
             let words = self.load(rt, &mut seat);
             let enlisted = words[12];
-            if enlisted >= MOST_REPORTERS {
+            if enlisted >= MAX_REPORTERS {
                 return Err(TooManyReporters(CellReaderPass { seat }));
             }
             let next = one_more_reporter(words);

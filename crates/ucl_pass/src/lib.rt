@@ -1,15 +1,26 @@
 //! A board that threads share, in one cell. What every such board is, and settling, come from `ucl_live_board` and are named here too.
+//!
+//! # Examples
+//!
+//! ```rust
+//! let (board, mut screen) = CellBoard::open(&rt, rt.alloc()).ok()?;
+//! let other = board.split(&rt, &mut screen);
+//! let mut reporter = board.enlist(&rt, other).ok()?;
+//! let kick_off = EventCall { game: MatchNo::new(1)?, expected: 0, kind: Kind::KickOff };
+//! assert_eq!(board.report(&rt, &mut reporter, &kick_off), Ok(Accepted { number: 1 }));
+//! assert_eq!(board.read(&rt, &mut screen).version, 1);
+//! ```
 #![tactic(auto)]
 
 mod cell_board;
-mod laws;
 mod passes;
 pub mod rule;
+mod theorems;
 
 pub use cell_board::CellBoard;
-pub use laws::each_cell_step_is_logged;
 pub use passes::{CellReaderPass, CellReporterPass};
+pub use theorems::each_cell_step_is_logged;
 pub use ucl_live_board::{
-    LiveBoard, MOST_REPORTERS, Strangers, TooManyReporters, View, holders_did_all,
+    LiveBoard, MAX_REPORTERS, Strangers, TooManyReporters, View, holders_did_all,
     last_steps_see_all, settle, steps_come_last, whole_is_alone,
 };

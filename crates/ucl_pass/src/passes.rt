@@ -26,7 +26,7 @@ impl Model for CellReaderPass {
 }
 
 impl CellReaderPass {
-    /// The seat at the cell of its board, by which the pass acts: what contracts see of the pass is the view of this seat, as it is.
+    /// Returns the seat at the cell of its board, by which the pass acts: what contracts see of the pass is the view of this seat, as it is.
     pub fn seat(&self) -> &Seat
         ensures { self.now ≡ cell_pass_of result.now }
     {
@@ -53,7 +53,7 @@ impl Model for CellReporterPass {
 }
 
 impl CellReporterPass {
-    /// The seat at the cell of its board, by which the pass acts: what contracts see of the pass is the view of this seat, as it is.
+    /// Returns the seat at the cell of its board, by which the pass acts: what contracts see of the pass is the view of this seat, as it is.
     pub fn seat(&self) -> &Seat
         ensures { self.now ≡ cell_pass_of result.now }
     {

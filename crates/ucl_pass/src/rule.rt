@@ -1,7 +1,7 @@
-//! The rule of the cell, and the kinds of its steps. The values named here exist in proofs alone.
+//! The invariant of the cell, and the kinds of its steps. The values named here exist in proofs alone.
 
 ghost use Rattle.ucl_live_board.specs.Views.{newcomer, opener, kept_of, second_of, note_of, told_by};
-ghost use Rattle.ucl_pass.specs.CellRule.{CellKeepsOneHistory};
+ghost use Rattle.ucl_pass.specs.CellInvariants.{CellInvariant};
 ghost use Rattle.ucl_pass.specs.CellSteps.{LooksOnly, LooksAndShows, MayStore, StoresEvent, StoresReporter};
 
 use atomic_table::{Join, Split};
@@ -15,7 +15,7 @@ use ucl_live_board::View;
 pub struct OneHistory;
 
 impl Protocol<[u64; 13], View> for OneHistory {
-    ghost holds = { CellKeepsOneHistory };
+    ghost holds = { CellInvariant };
 
     ghost first = { opener };
 }

@@ -1,7 +1,6 @@
 -- How rows are shown.
-use Rattle.ucl_rows.proofs.Common.{IsUtf8-from_ascii, List, [], and_parts, ap, arith, false, get_or, inl, inr, is_printed, length, list_all}
-use Rattle.ucl_rows.proofs.Common.{nat_le, nat_tests, refl, shown_text, suc, sym, take, take_all, true, zero, ℕ, ◌<◌, ◌∙◌, ◌∷◌, ◌≡◌, ◌≤◌}
-use Rattle.ucl_rows.proofs.Common.{◌⊎◌}
+use Rattle.ucl_rows.proofs.Common.{IsUtf8-from_ascii, List, [], and_parts, ap, arith, false, get_or, inl, inr, is_printed, length, list_all, nat_le, nat_tests, refl}
+use Rattle.ucl_rows.proofs.Common.{shown_text, suc, sym, take, take_all, true, zero, ℕ, ◌<◌, ◌∙◌, ◌∷◌, ◌≡◌, ◌≤◌, ◌⊎◌}
 use Rattle.std.specs.Str.{IsAscii, IsUtf8}
 use Rattle.std.proofs.lemmas.Str.Ascii.{IsAscii-nil, IsAscii-cons}
 use Rattle.ucl_rows.specs.BadRows.{printed}

@@ -1,6 +1,6 @@
 -- An output that failed in one of its parts.
-use Rattle.ucl_rows.proofs.Common.{Appends, Bool, IsStopped, List, Option, RunFault, [], ap, arith, length, length-append, min, subst, suc}
-use Rattle.ucl_rows.proofs.Common.{sym, take, take-append-le, ℕ, ◌++◌, ◌+◌, ◌-◌, ◌^◌, ◌∙◌, ◌∷◌, ◌≡◌}
+use Rattle.ucl_rows.proofs.Common.{Appends, Bool, IsStopped, List, Option, RunFault, [], ap, arith, length, length-append, min, subst, suc, sym, take}
+use Rattle.ucl_rows.proofs.Common.{take-append-le, ℕ, ◌++◌, ◌+◌, ◌-◌, ◌^◌, ◌∙◌, ◌∷◌, ◌≡◌}
 use Rattle.ucl_io.proofs.MovedBytes.{appends-then}
 use Rattle.ucl_rows.specs.declared.fault.RunFault.TheVariants.{WriteFailed}
 

@@ -1,9 +1,8 @@
 -- Rows of fields that are not in quotes.
-use Rattle.ucl_rows.proofs.Common.{AreJoining, EndRecord, EndsRow, InField, IsBehindEnds, IsFieldBefore, List, None, Option, Row, RowState}
-use Rattle.ucl_rows.proofs.Common.{Some, StartField, [], after_end, ap, append_assoc, arith, begins_row, cases_Bool, csv_state_of}
-use Rattle.ucl_rows.proofs.Common.{default_config, drop, drop_more, false, fits, get_or, in_field, inl, inr, is_joining, length, made}
-use Rattle.ucl_rows.proofs.Common.{nat_tests, of_rows, records, refl, said_on, step, subst, sym, take, take-append-drop, take_more, true, ℕ}
-use Rattle.ucl_rows.proofs.Common.{◌++◌, ◌+◌, ◌<◌, ◌==◌, ◌∙◌, ◌∷◌, ◌≡◌}
+use Rattle.ucl_rows.proofs.Common.{AreJoining, EndRecord, EndsRow, InField, IsBehindEnds, IsFieldBefore, List, None, Option, Row, RowState, Some, StartField, []}
+use Rattle.ucl_rows.proofs.Common.{after_end, ap, append_assoc, arith, begins_row, cases_Bool, csv_state_of, default_config, drop, drop_more, false, fits, get_or}
+use Rattle.ucl_rows.proofs.Common.{in_field, inl, inr, is_joining, length, csv_step_of, nat_tests, of_rows, records, refl, said_on, step, subst, sym, take}
+use Rattle.ucl_rows.proofs.Common.{take-append-drop, take_more, true, ℕ, ◌++◌, ◌+◌, ◌<◌, ◌==◌, ◌∙◌, ◌∷◌, ◌≡◌}
 use Rattle.std.proofs.Common.{◌||◌, IfSome}
 use Rattle.csv.proofs.ReadFacts.{run-copies}
 use Rattle.csv.specs.Machine.{Runs, next_record}
@@ -90,10 +89,10 @@ field-before text at h all is =
 
 -- ---- ends of lines behind them
 
-line-end : (b : ℕ) → ((b == 13) || (b == 10)) ≡ true → in_field default_config b ≡ made b EndRecord
+line-end : (b : ℕ) → ((b == 13) || (b == 10)) ≡ true → in_field default_config b ≡ csv_step_of b EndRecord
 line-end b h = elim (cases_Bool (b == 44)) [ inl y ↦ absurd (grind (arith, nat_tests)) | inr n ↦ rw (n, h) refl ]
 
-stands-at-end : (xs : List ℕ) (b : ℕ) → ((b == 13) || (b == 10)) ≡ true → step default_config (csv_state_of (state_after xs)) b ≡ made b EndRecord
+stands-at-end : (xs : List ℕ) (b : ℕ) → ((b == 13) || (b == 10)) ≡ true → step default_config (csv_state_of (state_after xs)) b ≡ csv_step_of b EndRecord
 unfolding state_after
 stands-at-end [] b h = elim (cases_Bool (b == 34)) [ inl y ↦ absurd (grind (arith, nat_tests)) | inr n ↦ rw n (line-end b h) ]
 stands-at-end (x ∷ xs) b h = line-end b h

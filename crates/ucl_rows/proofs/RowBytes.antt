@@ -1,8 +1,7 @@
 -- What single bytes do to the reading of a row.
-use Rattle.ucl_rows.proofs.Common.{EndRecord, InField, List, Read, RowAction, RowState, Some, StartField, State, [], after_action}
-use Rattle.ucl_rows.proofs.Common.{after_end, arith, begins_row, cases_Bool, csv_state_of, default_config, drop, drop_more, ends_at_end}
-use Rattle.ucl_rows.proofs.Common.{false, get_or, in_field, inl, inr, length, made, nat_tests, refl, step, true, ℕ, ◌++◌, ◌+◌, ◌<◌, ◌==◌}
-use Rattle.ucl_rows.proofs.Common.{◌∙◌, ◌∷◌, ◌≡◌, ◌≤◌, ◌⊎◌}
+use Rattle.ucl_rows.proofs.Common.{EndRecord, InField, List, Read, RowAction, RowState, Some, StartField, State, [], after_action, after_end, arith, begins_row}
+use Rattle.ucl_rows.proofs.Common.{cases_Bool, csv_state_of, default_config, drop, drop_more, ends_at_end, false, get_or, in_field, inl, inr, length, csv_step_of}
+use Rattle.ucl_rows.proofs.Common.{nat_tests, refl, step, true, ℕ, ◌++◌, ◌+◌, ◌<◌, ◌==◌, ◌∙◌, ◌∷◌, ◌≡◌, ◌≤◌, ◌⊎◌}
 use Rattle.std.proofs.Common.{◌||◌}
 use Rattle.csv.specs.Machine.{next_record}
 use Rattle.csv.specs.Reading.{is_bom, strip_bom}
@@ -12,7 +11,7 @@ use Rattle.ucl_rows.specs.declared.row.RowAction.TheVariants.{Copy, Skip, EndFie
 use Rattle.csv.specs.declared.parser.Terminator.TheVariants as term
 use Rattle.csv.specs.declared.parser.State.TheVariants as st
 
-pub by-action : (s : State) (d : RowAction) (b : ℕ) (fields : Row) (field rest : List ℕ) → step default_config s b ≡ made b d
+pub by-action : (s : State) (d : RowAction) (b : ℕ) (fields : Row) (field rest : List ℕ) → step default_config s b ≡ csv_step_of b d
     → next_record default_config s fields field (b ∷ rest) ≡ after_action d b fields field rest
 unfolding next_record
 by-action s (Copy state) b fields field rest e = rw e refl
@@ -28,13 +27,13 @@ unfolding next_record
 at-end state fields field = rw (state-ends state) refl
 
 -- outside quotes
-plain_action : (b : ℕ) → (d : RowAction) × (in_field default_config b ≡ made b d)
+plain_action : (b : ℕ) → (d : RowAction) × (in_field default_config b ≡ csv_step_of b d)
 plain_action b = elim (cases_Bool (b == 44)) [
   | inl y ↦ (EndField, rw y refl)
   | inr n ↦ elim (cases_Bool ((b == 13) || (b == 10))) [ inl y ↦ (EndRecord, rw (n, y) refl) | inr m ↦ (Copy InField, rw (n, m) refl) ]
 ]
 
-any-action : (state : RowState) (b : ℕ) → (d : RowAction) × (step default_config (csv_state_of state) b ≡ made b d)
+any-action : (state : RowState) (b : ℕ) → (d : RowAction) × (step default_config (csv_state_of state) b ≡ csv_step_of b d)
 any-action StartField b = elim (cases_Bool (b == 34)) [ inl y ↦ (Skip InQuoted, rw y refl) | inr n ↦ let p = plain_action b in (p.0, rw n p.1) ]
 any-action InField b = plain_action b
 any-action InQuoted b = elim (cases_Bool (b == 34)) [ inl y ↦ (Skip AfterQuote, rw y refl) | inr n ↦ (Copy InQuoted, rw n refl) ]

@@ -1,8 +1,7 @@
 -- The fields of a row, and the rows of a line.
-use Rattle.ucl_rows.proofs.Common.{Bool, IsBehindEnds, List, None, Option, Read, RowAction, RowState, Some, StartField, State}
-use Rattle.ucl_rows.proofs.Common.{[], after_action, ap, arith, begins_row, csv_state_of, default_config, drop, drop-length, drop_more}
-use Rattle.ucl_rows.proofs.Common.{ends_at_end, false, get_or, inl, inr, length, made, nat_tests, records, refl, step, suc, sym, take}
-use Rattle.ucl_rows.proofs.Common.{take_all, true, ℕ, ◌++◌, ◌+◌, ◌-◌, ◌<◌, ◌==◌, ◌∙◌, ◌∷◌, ◌≡◌, ◌≤◌}
+use Rattle.ucl_rows.proofs.Common.{Bool, IsBehindEnds, List, None, Option, Read, RowAction, RowState, Some, StartField, State, [], after_action, ap, arith}
+use Rattle.ucl_rows.proofs.Common.{begins_row, csv_state_of, default_config, drop, drop-length, drop_more, ends_at_end, false, get_or, inl, inr, length, csv_step_of}
+use Rattle.ucl_rows.proofs.Common.{nat_tests, records, refl, step, suc, sym, take, take_all, true, ℕ, ◌++◌, ◌+◌, ◌-◌, ◌<◌, ◌==◌, ◌∙◌, ◌∷◌, ◌≡◌, ◌≤◌}
 use Rattle.csv.specs.Machine.{next_record}
 use Rattle.csv.specs.Records.{Rising, cut_from, last_end}
 use Rattle.csv.proofs.RecordFacts.{last-append, rising-last}
@@ -84,7 +83,7 @@ full-list b xs e h none = let k : false ≡ (length xs == 0) = sym h ∙ e in le
 
 -- a byte of a text is read
 pub fill-step : (state : RowState) (d : RowAction) (o : Option RowState) (i : ℕ) (text : List ℕ) (fields fields2 : Row) (field field2 : List ℕ) → i < length text
-    → step default_config (csv_state_of state) (get_or text i 0) ≡ made (get_or text i 0) d
+    → step default_config (csv_state_of state) (get_or text i 0) ≡ csv_step_of (get_or text i 0) d
     → ((rest : List ℕ) → after_action d (get_or text i 0) fields field rest ≡ read_on o (get_or text i 0) fields2 field2 rest)
     → next_record default_config (csv_state_of state) fields field (drop i text) ≡ read_on o (get_or text i 0) fields2 field2 (drop (i + 1) text)
 fill-step state d o i text fields fields2 field field2 h e reads =

@@ -1,7 +1,6 @@
 -- A word in sixteen hexadecimal digits, made from its last digit on.
-use Rattle.ucl_rows.proofs.Common.{List, [], ap, append-nil, append_assoc, arith, cases_Bool, digit_glyph, drop, false, hex_digits, inl}
-use Rattle.ucl_rows.proofs.Common.{inr, length, length-append, nat_tests, pow-suc, refl, set, subst, suc, sym, true, zero, ℕ, ◌%◌, ◌++◌}
-use Rattle.ucl_rows.proofs.Common.{◌+◌, ◌-◌, ◌/◌, ◌<◌, ◌==◌, ◌^◌, ◌∙◌, ◌∷◌, ◌≡◌, ◌≤◌}
+use Rattle.ucl_rows.proofs.Common.{List, [], ap, append-nil, append_assoc, arith, cases_Bool, digit_glyph, drop, false, hex_digits, inl, inr, length, length-append}
+use Rattle.ucl_rows.proofs.Common.{nat_tests, pow-suc, refl, set, subst, suc, sym, true, zero, ℕ, ◌%◌, ◌++◌, ◌+◌, ◌-◌, ◌/◌, ◌<◌, ◌==◌, ◌^◌, ◌∙◌, ◌∷◌, ◌≡◌, ◌≤◌}
 use Rattle.std.proofs.Common.{replicate}
 use Rattle.std.proofs.lemmas.List.{drop-set}
 use Rattle.std.specs.Fmt.{char_count, digits, digits_onto, padded_integral}

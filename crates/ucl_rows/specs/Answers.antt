@@ -7,7 +7,7 @@ use Rattle.ucl_screen.specs.declared.night.NightEvent.{NightEvent}
 use Rattle.ucl_screen.specs.Matches.{matches_text}
 use Rattle.ucl_screen.specs.Screen.{screen_text}
 use Rattle.ucl_json.specs.Lines.{json_line}
-use Rattle.ucl_json.specs.declared.title.Title.{Title}
+use Rattle.ucl_json.specs.declared.header.BoardHeader.{BoardHeader}
 use Rattle.ucl_json.specs.Values.{bad_row_value, edition_screen_value, matches_value, reply_value, words_value}
 use Rattle.ucl_command.specs.declared.options.Format.{Format}
 use Rattle.ucl_command.specs.declared.options.Format.TheVariants.{Text, Json}
@@ -23,9 +23,9 @@ bytes_of (Short line) = line.bytes
 bytes_of (Long text) = string_bytes text
 
 -- the reply to an event, where so many events were accepted before, with the board after it
-abbrev pub reply_answer : Format → Title → ℕ → List NamedClub → NightEvent → ℕ → Result Accepted Refusal → List ℕ → List ℕ
-reply_answer Text title row clubs event before reply board = line_of_reply row event.call.game before reply
-reply_answer Json title row clubs event before reply board = json_line (reply_value row event reply title board clubs)
+abbrev pub reply_answer : Format → BoardHeader → ℕ → List NamedClub → NightEvent → ℕ → Result Accepted Refusal → List ℕ → List ℕ
+reply_answer Text header row clubs event before reply board = line_of_reply row event.call.game before reply
+reply_answer Json header row clubs event before reply board = json_line (reply_value row event reply header board clubs)
 
 abbrev pub bad_line : ℕ → List ℕ
 bad_line row = decimal row ++ codes " refused 20 bad-row\n"
@@ -36,9 +36,9 @@ bad_answer Text row field shown = bad_line row
 bad_answer Json row field shown = json_line (bad_row_value row (field_name field) shown)
 
 -- the screen of a board
-abbrev pub screen_answer : Format → Title → ℕ → List NamedClub → List ℕ → List ℕ
-screen_answer Text title row clubs board = screen_text title.profile board clubs title.group
-screen_answer Json title row clubs board = json_line (edition_screen_value row title board clubs)
+abbrev pub screen_answer : Format → BoardHeader → ℕ → List NamedClub → List ℕ → List ℕ
+screen_answer Text header row clubs board = screen_text header.profile board clubs header.group
+screen_answer Json header row clubs board = json_line (edition_screen_value row header board clubs)
 
 -- the words of a board
 abbrev pub words_answer : Format → ℕ → List ℕ → List ℕ

@@ -1,13 +1,13 @@
 -- How a program ends: what it wrote, and its exit status.
 use Rattle.std.specs.Prelude.{◌≡◌, ℕ, ⊤, Bool, List, Option, Result, Ok, Err, IfErr, OnOk, string_bytes}
 use Rattle.std.specs.Io.KnownBytes.{Appends}
-use Rattle.ucl_io.specs.declared.duplex.Duplex.{Duplex}
+use Rattle.ucl_io.specs.declared.logged_io.LoggedIo.{LoggedIo}
 use Rattle.ucl_io.specs.declared.stream.Sink as writes
 use Rattle.ucl_rows.specs.declared.fault.RunFault.{RunFault}
 use Rattle.ucl_rows.specs.declared.fault.RunFault.TheVariants.{OutOfMemory}
 use Rattle.ucl_rows.specs.Faults.{status}
 use Rattle.ucl_rows.specs.Run.{IsCutShort}
-use Rattle.ucl_rows.specs.Telling.{Tells, fault_line}
+use Rattle.ucl_rows.specs.Printing.{Prints, fault_line}
 use Rattle.ucl_command.specs.declared.fault.LineFault.{LineFault}
 use Rattle.ucl_command.specs.declared.fault.LineFault.TheVariants as words
 
@@ -21,26 +21,26 @@ pub record Ended : Type 0 where
 abbrev pub ended_with : {E : Type 0} → (E → Bool) → (E → Option (List ℕ)) → ℕ → E → E → Ended
 ended_with failed taken code old new = record { code = code; failed = failed new; old = taken old; new = taken new }
 
--- status 0 and nothing is told; or the line of the fault is told, and its status
+-- status 0 and nothing is told; or the line of the fault is printed, and its status
 abbrev pub Ends : Result ⊤ RunFault → Ended → Type 0
 Ends (Ok done) e = (e.code ≡ 0) × (e.new ≡ e.old)
-Ends (Err fault) e = (e.code ≡ status fault) × Tells e.failed e.old e.new (fault_line fault)
+Ends (Err fault) e = (e.code ≡ status fault) × Prints e.failed e.old e.new (fault_line fault)
 
 -- a text was written whole, or has the fault r
 pub record WritesText (text : List ℕ) (failed : Bool) (old new : Option (List ℕ)) (r : Result ⊤ RunFault) : Type 0 where
   pub all : OnOk r (Appends old new text)
   pub part : IfErr r (IsCutShort failed old new text)
 
--- what a program does whose words name nothing to do: help is written on its output, a refusal is told as it is, and want of memory by its
+-- what a program does whose words name nothing to do: help is written on its output, a refusal is told as it is, and lack of memory by its
 -- line. Of the output it is known whether it has failed, and what it took
 module _ {W : Type 0} (failed_of : W → Bool) (taken_of : W → Option (List ℕ)) where
-  abbrev pub EndsUnasked : LineFault → W → W → Ended → Type 0
-  EndsUnasked (words.Help text) before after e =
+  abbrev pub ExitsWithoutCommand : LineFault → W → W → Ended → Type 0
+  ExitsWithoutCommand (words.Help text) before after e =
       (r : Result ⊤ RunFault) × WritesText (string_bytes text) (failed_of after) (taken_of before) (taken_of after) r × Ends r e
-  EndsUnasked (words.Refused text) before after e = (after ≡ before) × (e.code ≡ 2) × Tells e.failed e.old e.new (string_bytes text)
-  EndsUnasked words.OutOfMemory before after e = (after ≡ before) × Ends (Err OutOfMemory) e
+  ExitsWithoutCommand (words.Refused text) before after e = (after ≡ before) × (e.code ≡ 2) × Prints e.failed e.old e.new (string_bytes text)
+  ExitsWithoutCommand words.OutOfMemory before after e = (after ≡ before) × Ends (Err OutOfMemory) e
 
 -- nothing was read, and it was answered that the words name nothing to do
-abbrev pub AnsweredAlone : {S W M : Type 0} → writes.Ghosts W → LineFault → Duplex S W M → Duplex S W M → Ended → Type 0
+abbrev pub AnsweredAlone : {S W M : Type 0} → writes.Ghosts W → LineFault → LoggedIo S W M → LoggedIo S W M → Ended → Type 0
 AnsweredAlone sink fault before after e =
-    (after ≡ record before { sink = after.sink }) × EndsUnasked sink.failed sink.taken fault before.sink after.sink e
+    (after ≡ record before { sink = after.sink }) × ExitsWithoutCommand sink.failed sink.taken fault before.sink after.sink e

@@ -7,12 +7,12 @@ use Rattle.ucl_rows.specs.declared.fault.RunFault.{RunFault}
 use Rattle.ucl_rows.specs.declared.fault.RunFault.TheVariants.{Input, OutOfMemory, WriteFailed, NotOnDuty, NoThread, TooManyReporters, Strangers}
 use Rattle.ucl_live_board.specs.declared.live_board.LiveBoard as boards
 
--- the fault of a run whose input has a fault: want of memory is the run's own
+-- the fault of a run whose input has a fault: lack of memory is the run's own
 abbrev pub handed_on : InputFault → RunFault
 handed_on input.OutOfMemory = OutOfMemory
 handed_on fault = Input fault
 
--- the faults of a run of one thread: of the input, want of memory, and a failed write
+-- the faults of a run of one thread: of the input, lack of memory, and a failed write
 abbrev pub IsOfOneThread : RunFault → Type 0
 IsOfOneThread (Input e) = ⊤
 IsOfOneThread OutOfMemory = ⊤

@@ -1,6 +1,6 @@
 pub mod Faults
 pub mod Run
-pub mod Telling
+pub mod Printing
 pub mod Ending
 pub mod Lines
 pub mod InputLines

@@ -1,9 +1,12 @@
 -- The lines of replies, and those of words.
-use Rattle.std.specs.Prelude.{ℕ, ◌+◌, List, [], ◌∷◌, ◌++◌, codes, decimal, Result, Ok, Err}
+use Rattle.std.specs.Prelude.{ℕ, ◌+◌, List, [], ◌∷◌, ◌++◌, codes, decimal, Result, Ok, Err, length}
 use Rattle.ucl_word.specs.declared.event.Accepted.{Accepted}
 use Rattle.ucl_screen.specs.Numbers.{hex_digits}
 use Rattle.ucl_word.specs.declared.refusal.Refusal.{Refusal}
 use Rattle.ucl_word.specs.Names.{refusal_text}
+use Rattle.ucl_word.specs.declared.event.EventCall.{EventCall}
+use Rattle.ucl_board.specs.declared.entry.Entry.{Entry}
+use Rattle.ucl_board.specs.History.{sequential_reply}
 
 -- ROW ok MATCH NUMBER VERSION
 abbrev pub accepted_line : ℕ → ℕ → ℕ → ℕ → List ℕ
@@ -17,6 +20,10 @@ refused_line row refusal = decimal row ++ codes " refused " ++ refusal_text refu
 abbrev pub line_of_reply : ℕ → ℕ → ℕ → Result Accepted Refusal → List ℕ
 line_of_reply row game before (Ok accepted) = accepted_line row game accepted.number (before + 1)
 line_of_reply row game before (Err refusal) = refused_line row refusal
+
+-- the line of an event after a history: the reply of the board of one thread
+unfoldable pub reply_line : ℕ → List Entry → EventCall → List ℕ
+reply_line row history call = line_of_reply row call.game (length history) (sequential_reply history call)
 
 -- word,INDEX,HEX,
 abbrev pub word_line : ℕ → ℕ → List ℕ

@@ -1,7 +1,6 @@
 -- How the code reads rows: the rules of scripts, at the states that the reading of one row can have.
 use Rattle.std.specs.Prelude.{◌≡◌, ◌⊎◌, ⊤, if◌then◌else◌, Bool, true, false, not, ◌==◌, ◌&&◌, ℕ, List, [], ◌∷◌, ◌++◌, length, drop, Option, Some, None}
-use Rattle.csv.specs.Machine.{after_end, ends_with}
-use Rattle.csv.specs.Machine.{Read, next_record, ends_at_end}
+use Rattle.csv.specs.Machine.{after_end, ends_with, Read, next_record, ends_at_end}
 use Rattle.csv.specs.Reading.{default_config}
 use Rattle.csv.specs.Records.{Rising, cut_from, last_end}
 use Rattle.csv.specs.declared.parser.Terminator.TheVariants as term
@@ -27,11 +26,11 @@ csv_state_of InQuoted = st.InQuoted
 csv_state_of AfterQuote = st.AfterQuote
 
 -- the state and the action that a byte makes
-abbrev pub made : ℕ → RowAction → State × Action
-made b (Copy state) = (csv_state_of state, act.Copy)
-made b (Skip state) = (csv_state_of state, act.Skip)
-made b EndField = (st.StartField, act.EndField)
-made b EndRecord = (after_end term.CRLF b, act.EndRecord)
+abbrev pub csv_step_of : ℕ → RowAction → State × Action
+csv_step_of b (Copy state) = (csv_state_of state, act.Copy)
+csv_step_of b (Skip state) = (csv_state_of state, act.Skip)
+csv_step_of b EndField = (st.StartField, act.EndField)
+csv_step_of b EndRecord = (after_end term.CRLF b, act.EndRecord)
 
 -- the fields that are kept
 abbrev pub fields_in : Fields → Row
@@ -41,7 +40,7 @@ fields_in f = cut_from 0 f.ends.items f.bytes.items
 abbrev pub field_in : Fields → List ℕ
 field_in f = drop (last_end 0 f.ends.items) f.bytes.items
 
--- what the reading of a record becomes by a action
+-- what the reading of a record becomes by an action
 abbrev pub after_action : RowAction → ℕ → Row → List ℕ → List ℕ → Option Read
 after_action (Copy state) b fields field rest = next_record default_config (csv_state_of state) fields (field ++ b ∷ []) rest
 after_action (Skip state) b fields field rest = next_record default_config (csv_state_of state) fields field rest

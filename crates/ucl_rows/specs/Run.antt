@@ -3,9 +3,9 @@ use Rattle.std.specs.Prelude.{◌≡◌, ℕ, ◌+◌, ◌≤◌, Bool, true, fa
 use Rattle.std.specs.Io.KnownBytes.{Appends}
 use Rattle.ucl_screen.specs.declared.fault.InputFault.{InputFault}
 use Rattle.ucl_screen.specs.declared.fault.InputFault.TheVariants as input
-use Rattle.ucl_screen.specs.Input.{Reads, most_bytes}
-use Rattle.ucl_io.specs.declared.fault.PumpFault.{PumpFault}
-use Rattle.ucl_io.specs.declared.fault.PumpFault.TheVariants as driver
+use Rattle.ucl_screen.specs.Input.{Reads, max_bytes}
+use Rattle.ucl_io.specs.declared.fault.ServeFault.{ServeFault}
+use Rattle.ucl_io.specs.declared.fault.ServeFault.TheVariants as driver
 use Rattle.ucl_io.specs.Output.{StoppedShort}
 use Rattle.ucl_io.specs.Stream.{WroteFirst}
 use Rattle.ucl_rows.specs.declared.fault.RunFault.{RunFault}
@@ -64,13 +64,13 @@ abbrev pub BlamesInput : {V E U : Type 0} → (List ℕ → Result E InputFault 
     → Result U RunFault → Type 0
 BlamesInput Means view old new failed result = IfErr result (λ f. IfInput f (λ e. Reads Means view old new failed (Err e)))
 
--- want of memory is not told as a fault of the input
-abbrev pub TellsMemoryApart : {U : Type 0} → Result U RunFault → Type 0
-TellsMemoryApart result = IsErrOf result (Input input.OutOfMemory) → ⊥
+-- lack of memory is not told as a fault of the input
+abbrev pub DistinguishesMemory : {U : Type 0} → Result U RunFault → Type 0
+DistinguishesMemory result = IsErrOf result (Input input.OutOfMemory) → ⊥
 
 -- it makes no more calls of its source than the longest input has bytes, and two
 abbrev pub CallsWithin : ℕ → ℕ → Type 0
-CallsWithin old new = new ≤ old + most_bytes + 2
+CallsWithin old new = new ≤ old + max_bytes + 2
 
 -- Rows and parts of a night. --
 
@@ -84,11 +84,11 @@ abbrev pub IsStopped : ℕ → Bool → Option (List ℕ) → Option (List ℕ) 
 IsStopped before failed old new text (WriteFailed written) = StoppedShort before failed old new text written
 IsStopped before failed old new text _ = ⊥
 
--- Runs whose lines a driver hands to a machine. --
+-- Runs whose lines a driver hands to a handler. --
 
--- the fault of the driver, where Gives turns a fault of a run into one of the machine
-abbrev pub IsOfDriver : {F : Type 0} → (RunFault → F → Type 0) → PumpFault F → F → Type 0
+-- the fault of the driver, where Gives turns a fault of a run into one of the handler
+abbrev pub IsOfDriver : {F : Type 0} → (RunFault → F → Type 0) → ServeFault F → F → Type 0
 IsOfDriver Gives (driver.ReadFailed bytes) fault = Gives (Input (input.ReadFailed bytes)) fault
 IsOfDriver Gives driver.TooLong fault = Gives (Input input.TooLong) fault
 IsOfDriver Gives (driver.WriteFailed written) fault = Gives (WriteFailed written) fault
-IsOfDriver Gives (driver.Machine own) fault = fault ≡ own
+IsOfDriver Gives (driver.Handler own) fault = fault ≡ own

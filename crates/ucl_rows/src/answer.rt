@@ -4,11 +4,9 @@ ghost use Rattle.std.specs.Prelude.{◌≡◌, ◌<◌, ◌≤◌, ◌-◌, ◌^
 ghost use Rattle.arrayvec.specs.ArrayString.{array_string_len};
 ghost use Rattle.ucl_word.specs.Names.{refusal_text};
 ghost use Rattle.ucl_screen.specs.Screen.{IsGroup};
-ghost use Rattle.ucl_rows.specs.Lines.{line_of_reply};
-ghost use Rattle.ucl_rows.specs.Lines.{accepted_line, refused_line};
+ghost use Rattle.ucl_rows.specs.Lines.{line_of_reply, accepted_line, refused_line};
 ghost use Rattle.ucl_rows.specs.BadRows.{shown_text};
-ghost use Rattle.ucl_rows.specs.Answers.{bytes_of};
-ghost use Rattle.ucl_rows.specs.Answers.{bad_answer, bad_line, matches_answer, screen_answer};
+ghost use Rattle.ucl_rows.specs.Answers.{bytes_of, bad_answer, bad_line, matches_answer, screen_answer};
 
 use crate::bad_row::{BadField, shown_text};
 use arrayvec::ArrayString;
@@ -17,7 +15,7 @@ use std::alloc::{AllocError, Global};
 use ucl_board::Board;
 use ucl_command::Format;
 use ucl_io::Text;
-use ucl_json::{Title, bad_row_json, edition_screen_json, matches_json};
+use ucl_json::{BoardHeader, bad_row_json, edition_screen_json, matches_json};
 use ucl_order::Roster;
 use ucl_screen::{matches, screen};
 use ucl_word::{Accepted, OutOfMemory, Refusal};
@@ -47,14 +45,14 @@ impl Text for Answer {
 }
 
 impl Answer {
-    /// No answer.
+    /// Makes it no answer.
     pub fn nothing() -> Answer
         ensures { bytes_of result ≡ [] }
     {
         Answer::Short(ReplyLine::new())
     }
 
-    /// The answer as text.
+    /// Returns the answer as text.
     fn as_str(&self) -> &str
         ensures { result.now ≡ bytes_of self.now }
     {
@@ -64,11 +62,11 @@ impl Answer {
         }
     }
 
-    /// The answer, and then another.
+    /// Returns the answer, and then another.
     ///
     /// # Errors
     ///
-    /// Where there is no memory.
+    /// If there is no memory.
     pub fn then(&self, alloc: Global, other: &Answer) -> Result<Answer, AllocError>
         ensures { IfOk result (λ both. bytes_of both ≡ bytes_of self.now ++ bytes_of other.now) }
     {
@@ -79,7 +77,7 @@ impl Answer {
     }
 }
 
-/// The line of an event that was entered.
+/// Returns the line of an event that was entered.
 fn accepted_line(row: u64, game: u8, number: u16, version: u16) -> ReplyLine
     ensures { result.bytes ≡ accepted_line row game number version }
 {
@@ -110,7 +108,7 @@ fn push_refusal(line: &mut ReplyLine, refusal: Refusal)
     }
 }
 
-/// The line of an event that was refused.
+/// Returns the line of an event that was refused.
 fn refused_line(row: u64, refusal: Refusal) -> ReplyLine
     ensures { result.bytes ≡ refused_line row refusal }
 {
@@ -122,7 +120,7 @@ fn refused_line(row: u64, refusal: Refusal) -> ReplyLine
     line
 }
 
-/// The line of a row that asks for nothing that there is.
+/// Returns the line of a row that asks for nothing that there is.
 fn bad_line(row: u64) -> ReplyLine
     ensures { result.bytes ≡ bad_line row }
 {
@@ -132,7 +130,7 @@ fn bad_line(row: u64) -> ReplyLine
     line
 }
 
-/// The line of a reply, where so many events were accepted before. It asks for no memory.
+/// Returns the line of a reply, where so many events were accepted before. It asks for no memory.
 pub fn reply_line(row: u64, game: u8, before: u16, reply: Result<Accepted, Refusal>) -> ReplyLine
     requires { before < 2 ^ 16 - 1 }
     ensures { result.bytes ≡ line_of_reply row game before reply }
@@ -143,11 +141,11 @@ pub fn reply_line(row: u64, game: u8, before: u16, reply: Result<Accepted, Refus
     }
 }
 
-/// The answer to a row that asks for nothing that there is, for this field.
+/// Returns the answer to a row that asks for nothing that there is, for this field.
 ///
 /// # Errors
 ///
-/// Where there is no memory for an answer in JSON.
+/// If there is no memory for an answer in JSON.
 pub fn bad_answer(
     alloc: Global,
     format: Format,
@@ -165,35 +163,35 @@ pub fn bad_answer(
     }
 }
 
-/// The screen of a board.
+/// Returns the screen of a board.
 ///
 /// # Errors
 ///
-/// Where there is no memory.
+/// If there is no memory.
 pub fn screen_answer(
     alloc: Global,
     format: Format,
-    title: Title,
+    header: BoardHeader,
     row: u64,
     board: &Board,
     roster: &Roster,
 ) -> Result<Answer, OutOfMemory>
-    requires { IsGroup title.group }
+    requires { IsGroup header.group }
     ensures { IfOk result (λ answer.
-        bytes_of answer ≡ screen_answer format title row roster.now board.now) }
+        bytes_of answer ≡ screen_answer format header row roster.now board.now) }
 {
     let text = match format {
-        Format::Text => screen(alloc, board, roster, title.group, title.profile)?,
-        Format::Json => edition_screen_json(alloc, row, board, roster, title)?,
+        Format::Text => screen(alloc, board, roster, header.group, header.profile)?,
+        Format::Json => edition_screen_json(alloc, row, board, roster, header)?,
     };
     Ok(Answer::Long(text))
 }
 
-/// The matches of a board.
+/// Returns the matches of a board.
 ///
 /// # Errors
 ///
-/// Where there is no memory.
+/// If there is no memory.
 pub fn matches_answer(
     alloc: Global,
     format: Format,

@@ -10,7 +10,7 @@ use std::str;
 use ucl_screen::{Four, expected_of_field, match_of_field, reporter_of_field};
 
 /// The most bytes of a row that an answer shows.
-const MOST_SHOWN: usize = 64;
+const MAX_SHOWN: usize = 64;
 
 /// The first field of a row that is none of an event.
 #[derive(Clone, Copy, Debug, PartialEq, Eq)]
@@ -42,7 +42,7 @@ impl BadField {
     }
 }
 
-/// The first field that is none of an event, of those after the reporter. Where the first two are, it is the event.
+/// Returns the first field that is none of an event, of those after the reporter. Where the first two are, it is the event.
 fn bad_field_of_call(game: &[u8], expected: &[u8]) -> BadField
     ensures { result ≡ bad_field_of_call game.now expected.now }
 {
@@ -55,7 +55,7 @@ fn bad_field_of_call(game: &[u8], expected: &[u8]) -> BadField
     }
 }
 
-/// The first field of a row that is none of an event. Where the first three are, it is the event.
+/// Returns the first field of a row that is none of an event. Where the first three are, it is the event.
 pub fn bad_field(four: &Four<'_>) -> BadField
     ensures { result ≡ bad_field (four_seen four.now) }
 {
@@ -66,28 +66,28 @@ pub fn bad_field(four: &Four<'_>) -> BadField
     }
 }
 
-/// Whether a byte is a letter, a digit, a sign or the space of ASCII.
+/// Returns whether a byte is a letter, a digit, a sign or the space of ASCII.
 fn is_printed(b: u8) -> bool
     ensures { result ≡ is_printed b }
 {
     0x20 <= b && b <= 0x7e
 }
 
-/// How many bytes of a text are shown.
+/// Returns how many bytes of a text are shown.
 fn shown_length(text: &[u8]) -> usize
     ensures within { result ≤ length text.now }
     ensures shown { take result text.now ≡ shown_text text.now }
     ensures printed { list_all is_printed (take result text.now) ≡ true }
 {
     for at in 0..text.len() {
-        if at == MOST_SHOWN || !is_printed(text[at]) {
+        if at == MAX_SHOWN || !is_printed(text[at]) {
             return at;
         }
     }
     text.len()
 }
 
-/// A row as an answer shows it: up to its first byte that is not printable ASCII, and at most 64 bytes.
+/// Returns a row as an answer shows it: up to its first byte that is not printable ASCII, and at most 64 bytes.
 pub(crate) fn shown_text(text: &[u8]) -> &str
     ensures { result.now ≡ shown_text text.now }
 {

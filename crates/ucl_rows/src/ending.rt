@@ -1,41 +1,41 @@
 //! How a program ends: what it tells on the error sink, and its exit status.
 
 ghost use Rattle.std.specs.Prelude.{◌≡◌};
-ghost use Rattle.ucl_rows.specs.Telling.{Tells};
-ghost use Rattle.ucl_rows.specs.Ending.{Ends, EndsUnasked, ended_with};
+ghost use Rattle.ucl_rows.specs.Printing.{Prints};
+ghost use Rattle.ucl_rows.specs.Ending.{Ends, ExitsWithoutCommand, ended_with};
 
 use crate::fault::RunFault;
 use crate::output::put_text;
-use crate::telling::tell;
+use crate::printing::print_fault;
 use ucl_command::LineFault;
 use ucl_screen::Sink;
 
-/// The exit status where the arguments are refused.
+/// The exit status if the arguments are refused.
 const REFUSED_ARGUMENTS: u8 = 2;
 
-/// Tells why the arguments are refused, as far as the error sink takes it, and gives the exit status.
-pub fn tell_refusal<E: Sink>(errors: &mut E, text: &str) -> u8
+/// Prints why the arguments are refused, as far as the error sink takes it, and returns the exit status.
+pub fn print_refusal<E: Sink>(errors: &mut E, text: &str) -> u8
     ensures status { result ≡ 2 }
-    ensures told { Tells (E.failed errors.new) (E.taken errors.old) (E.taken errors.new) text.now }
+    ensures told { Prints (E.failed errors.new) (E.taken errors.old) (E.taken errors.new) text.now }
 {
     let _ = put_text(errors, text.as_bytes());
     REFUSED_ARGUMENTS
 }
 
-/// The exit status of what was done, where a fault is told by its line.
+/// Returns the exit status of what was done, and prints the line of a fault.
 pub fn ended<E: Sink>(errors: &mut E, done: Result<(), RunFault>) -> u8
     ensures { Ends done (ended_with E.failed E.taken result errors.old errors.new) }
 {
     match done {
         Ok(()) => 0,
-        Err(fault) => tell(errors, fault),
+        Err(fault) => print_fault(errors, fault),
     }
 }
 
-/// The exit status where the arguments name nothing to do. Help goes to the output, where it ends as what was done; a refusal, or want of
-/// memory, is told on the error sink.
-pub fn ended_unasked<W: Sink, E: Sink>(sink: &mut W, errors: &mut E, fault: LineFault) -> u8
-    ensures { EndsUnasked W.failed W.taken fault sink.old sink.new
+/// Returns the exit status if the arguments name nothing to do. Help goes to the output, where it ends as what was done; a refusal, or want of
+/// memory, is printed on the error sink.
+pub fn exit_without_command<W: Sink, E: Sink>(sink: &mut W, errors: &mut E, fault: LineFault) -> u8
+    ensures { ExitsWithoutCommand W.failed W.taken fault sink.old sink.new
         (ended_with E.failed E.taken result errors.old errors.new) }
 {
     match fault {
@@ -43,7 +43,7 @@ pub fn ended_unasked<W: Sink, E: Sink>(sink: &mut W, errors: &mut E, fault: Line
             let done = put_text(sink, text.as_bytes());
             ended(errors, done)
         }
-        LineFault::Refused(text) => tell_refusal(errors, text.as_str()),
-        LineFault::OutOfMemory => tell(errors, RunFault::OutOfMemory),
+        LineFault::Refused(text) => print_refusal(errors, text.as_str()),
+        LineFault::OutOfMemory => print_fault(errors, RunFault::OutOfMemory),
     }
 }

@@ -8,7 +8,7 @@ ghost use Rattle.ucl_rows.specs.Run.{IsOfDriver};
 
 use std::alloc::AllocError;
 use std::{error, fmt};
-use ucl_io::PumpFault;
+use ucl_io::ServeFault;
 use ucl_screen::{FaultLine, InputFault};
 
 /// Why a run failed. Its text is the line that the program writes to standard error.
@@ -22,16 +22,16 @@ pub enum RunFault {
     WriteFailed { written: usize },
     /// 25: a row of a night is of a reporter other than 1 and 2. `row` is the first such row, counted from 1.
     NotOnDuty { row: usize },
-    /// 27: no thread could be had for a worker of a night or of an evening.
+    /// 27: no thread could be had for a worker of a night or of a session.
     NoThread,
     /// 30: the board has no number left for a reporter.
     TooManyReporters,
-    /// 31: the board has events of a reporter that is none of the night or of the evening. `version` is that of the reading that was taken.
+    /// 31: the board has events of a reporter that is none of the night or of the session. `version` is that of the reading that was taken.
     Strangers { version: u16 },
 }
 
 impl RunFault {
-    /// The line that the program writes to standard error, without its line feed.
+    /// Returns the line that the program writes to standard error, without its line feed.
     pub(crate) fn line(&self) -> FaultLine
         ensures { line_text result ≡ fault_text self.now }
     {
@@ -62,7 +62,7 @@ impl fmt::Display for RunFault {
 
 impl error::Error for RunFault {}
 
-/// A fault of the input is handed on, and want of memory there is want of memory of the run.
+/// A fault of the input is handed on, and lack of memory there is lack of memory of the run.
 impl From<InputFault> for RunFault {
     ghost from_gives = { λ fault f. f ≡ handed_on fault };
 
@@ -109,21 +109,21 @@ impl From<ucl_live_board::Strangers> for RunFault {
     }
 }
 
-/// The fault of a run whose lines a driver hands to a machine: that of the machine, or one of a run.
-pub fn of_driver<F: From<RunFault>>(fault: PumpFault<F>) -> F
+/// Returns the fault of a run whose lines a driver hands to a handler: that of the handler, or one of a run.
+pub fn of_driver<F: From<RunFault>>(fault: ServeFault<F>) -> F
     ensures { IsOfDriver F.from_gives fault result }
 {
     match fault {
-        PumpFault::ReadFailed { bytes } => F::from(RunFault::Input(InputFault::ReadFailed {
+        ServeFault::ReadFailed { bytes } => F::from(RunFault::Input(InputFault::ReadFailed {
             bytes,
         })),
-        PumpFault::TooLong => F::from(RunFault::Input(InputFault::TooLong)),
-        PumpFault::WriteFailed { written } => F::from(RunFault::WriteFailed { written }),
-        PumpFault::Machine(fault) => fault,
+        ServeFault::TooLong => F::from(RunFault::Input(InputFault::TooLong)),
+        ServeFault::WriteFailed { written } => F::from(RunFault::WriteFailed { written }),
+        ServeFault::Handler(fault) => fault,
     }
 }
 
-/// The exit status of the program for a fault: 3 where the input was refused, 4 where reading or writing failed, 5 where
+/// Returns the exit status of the program for a fault: 3 if the input was refused, 4 if reading or writing failed, 5 where
 /// there was no memory or no thread, and 6 where a board refused its reporters.
 pub fn status_of(fault: &RunFault) -> u8
     ensures { result ≡ status fault.now }

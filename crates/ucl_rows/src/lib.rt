@@ -1,6 +1,6 @@
 //! What the runs over rows of the board of one group of the UEFA Champions League share: `LineReader` reads the row on a line, and keeps no
 //! more of it than a row can have; an `Answer` is what a row is answered, as text or as a line of JSON; `word_lines` writes the words of a
-//! board; a `RunFault` is why a run fails, and `tell` writes its line and gives the exit status.
+//! board; a `RunFault` is why a run fails, and `print_fault` writes its line and gives the exit status.
 #![tactic(auto)]
 
 mod answer;
@@ -10,16 +10,16 @@ mod fault;
 mod line;
 mod output;
 mod plain;
+mod printing;
 mod row;
-mod telling;
 mod words;
 
 pub use answer::{Answer, ReplyLine, bad_answer, matches_answer, reply_line, screen_answer};
 pub use bad_row::{BadField, bad_field};
-pub use ending::{ended, ended_unasked, tell_refusal};
+pub use ending::{ended, exit_without_command, print_refusal};
 pub use fault::{RunFault, of_driver, status_of};
 pub use line::{LineReader, plain_row};
 pub use output::{put_bytes, put_text, put_under};
-pub use row::{MOST_LINE_BYTES, RowCount, RowFields};
-pub use telling::tell;
+pub use printing::print_fault;
+pub use row::{MAX_ROW_LINE_BYTES, RowCount, RowFields};
 pub use words::{Lines, word_lines};

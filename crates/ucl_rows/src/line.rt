@@ -7,33 +7,33 @@ ghost use Rattle.ucl_rows.specs.Reading.{HoldsRow, fields_read, row_in};
 ghost use Rattle.ucl_rows.specs.Rows.{OneRow, Row, fields_seen, fits, row_on, said_of, said_on};
 
 use crate::plain::plain_four;
-use crate::row::{Fields, MOST_LINE_BYTES, RowCount, RowFields, without_mark};
+use crate::row::{Fields, MAX_ROW_LINE_BYTES, RowCount, RowFields, without_mark};
 use arrayvec::ArrayVec;
 use ucl_screen::Four;
 
 /// The most bytes of a line before its end.
-const MOST_ROW_BYTES: usize = 256;
+const MAX_ROW_BYTES: usize = 256;
 
 /// Reads lines, one after the other, as the crate `csv` reads in its default dialect.
 #[derive(Drop)]
 pub struct LineReader {
-    text: ArrayVec<u8, MOST_LINE_BYTES>,
+    text: ArrayVec<u8, MAX_ROW_LINE_BYTES>,
     fields: Fields,
 }
 
-/// Whether a line has at most 256 bytes before its end. Its line feed is not with it.
+/// Returns whether a line has at most 256 bytes before its end. Its line feed is not with it.
 fn fits(line: &[u8]) -> bool
     ensures { result ≡ fits (line.now ++ 10 ∷ []) }
 {
     let len = line.len();
     if len > 0 && line[len - 1] == b'\r' {
-        len <= MOST_ROW_BYTES + 1
+        len <= MAX_ROW_BYTES + 1
     } else {
-        len <= MOST_ROW_BYTES
+        len <= MAX_ROW_BYTES
     }
 }
 
-/// The fields of a line that has this number, where it is a row of four fields of which none is in quotes. The first line may begin with
+/// Returns the fields of a line that has this number, where it is a row of four fields of which none is in quotes. The first line may begin with
 /// a byte order mark, and is not looked at.
 #[tactic(auto, using(crate::proofs::PlainRows::said_plain))]
 pub fn plain_row(row: u64, line: &[u8]) -> Option<Four<'_>>
@@ -47,7 +47,7 @@ pub fn plain_row(row: u64, line: &[u8]) -> Option<Four<'_>>
 }
 
 impl LineReader {
-    /// Nothing was read.
+    /// Creates a reader that has read nothing.
     pub fn new() -> LineReader {
         LineReader {
             text: ArrayVec::new(),
@@ -75,7 +75,7 @@ impl LineReader {
         }
     }
 
-    /// A field of the row that was read, counted from 0.
+    /// Returns a field of the row that was read, counted from 0.
     pub fn field(&self, index: usize) -> Option<&[u8]>
         requires { HoldsRow self.now }
         ensures { option_map (λ f. f.now) result ≡ field_at (fields_read self.now) index }
@@ -83,7 +83,7 @@ impl LineReader {
         self.fields.field(index)
     }
 
-    /// The fields of the row that was read.
+    /// Returns the fields of the row that was read.
     pub fn row(&self) -> RowFields<'_>
         requires { HoldsRow self.now }
         ensures { fields_seen result ≡ said_of (OneRow (fields_read self.now)) }

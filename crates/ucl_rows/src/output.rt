@@ -20,12 +20,12 @@ pub fn put_text<W: Sink>(sink: &mut W, text: &[u8]) -> Result<(), RunFault>
     }
 }
 
-/// Writes bytes of an output after so many, and tells how many are out then. A number past `usize::MAX` is told as that. A sink that has
+/// Writes bytes of an output after so many, and tells how many are out then. A number past `usize::MAX` is given as that. A sink that has
 /// failed is not called again, and none is called with nothing.
 ///
 /// # Errors
 ///
-/// `WriteFailed`, only where the sink has failed: with how many bytes of the output are out, those before among them.
+/// `WriteFailed`, only if the sink has failed: with how many bytes of the output are out, those before among them.
 pub fn put_bytes<W: Sink>(sink: &mut W, before: usize, bytes: &[u8]) -> Result<usize, RunFault>
     ensures all { OnOk result (Appends (W.taken sink.old) (W.taken sink.new) bytes.now) }
     ensures count { IfOk result (λ after. after ≡ min (before + length bytes.now) (2 ^ 64 - 1)) }

@@ -9,14 +9,14 @@ ghost use Rattle.ucl_rows.specs.Reading.{EndsRow, IsFieldBefore, AreJoining, is_
 use crate::row::without_ends;
 use ucl_screen::Four;
 
-/// Whether a byte joins a field that is not in quotes.
+/// Returns whether a byte joins a field that is not in quotes.
 fn is_joining(b: u8) -> bool
     ensures { result ≡ is_joining b }
 {
     b != b',' && b != b'"' && b != b'\r' && b != b'\n'
 }
 
-/// How many bytes at the start of a text join its first field, where this is not in quotes.
+/// Returns how many bytes at the start of a text join its first field, where this is not in quotes.
 fn field_length(text: &[u8]) -> usize
     ensures within { result ≤ length text.now }
     ensures joining { AreJoining (take result text.now) }
@@ -29,7 +29,7 @@ fn field_length(text: &[u8]) -> usize
     text.len()
 }
 
-/// The first field of a line, which ends at a comma and is not in quotes, and what comes after the comma.
+/// Returns the first field of a line, which ends at a comma and is not in quotes, and what comes after the comma.
 fn halves(text: &[u8]) -> Option<(&[u8], &[u8])>
     ensures { IfSome result
         (λ p. IsFieldBefore (text.now ++ 10 ∷ []) p.0.now (p.1.now ++ 10 ∷ [])) }
@@ -42,7 +42,7 @@ fn halves(text: &[u8]) -> Option<(&[u8], &[u8])>
     }
 }
 
-/// The last field of a row, which is not in quotes and has nothing but ends of lines behind it.
+/// Returns the last field of a row, which is not in quotes and has nothing but ends of lines behind it.
 fn last_field(text: &[u8]) -> Option<&[u8]>
     ensures { IfSome result (λ field. EndsRow (text.now ++ 10 ∷ []) field.now) }
 {
@@ -54,7 +54,7 @@ fn last_field(text: &[u8]) -> Option<&[u8]>
     }
 }
 
-/// The fields of a line that is one row of four fields of which none is in quotes. Its line feed is not with it.
+/// Returns the fields of a line that is one row of four fields of which none is in quotes. Its line feed is not with it.
 pub(crate) fn plain_four(text: &[u8]) -> Option<Four<'_>>
     ensures { IfSome result (λ four.
         of_rows (records default_config (text.now ++ 10 ∷ [])) ≡ Row (four_seen four)) }

@@ -8,16 +8,16 @@ ghost use Rattle.csv.specs.declared.parser.State.{State};
 ghost use Rattle.csv.specs.declared.parser.State.TheVariants as st;
 ghost use Rattle.ucl_screen.specs.Rows.{four_of, four_seen};
 ghost use Rattle.ucl_rows.specs.Rows.{OneRow, fields_seen, said_of};
-ghost use Rattle.ucl_rows.specs.Reading.{AreFound, IsBehindEnds, after_action, field_in, fields_in, made, read_on, csv_state_of};
+ghost use Rattle.ucl_rows.specs.Reading.{AreFound, IsBehindEnds, after_action, field_in, fields_in, csv_step_of, read_on, csv_state_of};
 
 use arrayvec::ArrayVec;
 use ucl_screen::Four;
 
 /// The most bytes that are read of a line: 256, and the two of its end.
-pub const MOST_LINE_BYTES: usize = 258;
+pub const MAX_ROW_LINE_BYTES: usize = 258;
 
 /// The most fields that so many bytes have.
-const MOST_FIELDS: usize = 259;
+const MAX_FIELDS: usize = 259;
 
 /// Where the reading of a row stands.
 #[derive(Clone, Copy, Debug, PartialEq, Eq)]
@@ -61,9 +61,9 @@ pub enum RowCount {
     More,
 }
 
-/// What a byte does.
+/// Returns what a byte does.
 fn action_of(state: RowState, b: u8) -> RowAction
-    ensures { step default_config (csv_state_of state) b ≡ made b result }
+    ensures { step default_config (csv_state_of state) b ≡ csv_step_of b result }
 {
     match state {
         RowState::InQuoted if b == b'"' => RowAction::Skip(RowState::AfterQuote),
@@ -78,7 +78,7 @@ fn action_of(state: RowState, b: u8) -> RowAction
     }
 }
 
-/// A line without a byte order mark at its start.
+/// Returns a line without a byte order mark at its start.
 pub(crate) fn without_mark(line: &[u8]) -> &[u8]
     ensures text { result.now ≡ strip_bom line.now }
     ensures shorter { length result.now ≤ length line.now }
@@ -90,7 +90,7 @@ pub(crate) fn without_mark(line: &[u8]) -> &[u8]
     }
 }
 
-/// The bytes of a text from one place to another.
+/// Returns the bytes of a text from one place to another.
 fn part(bytes: &[u8], start: u16, end: u16) -> &[u8]
     requires { (start ≤ end) × (end ≤ length bytes.now) }
     ensures { result.now ≡ take (end - start) (drop start bytes.now) }
@@ -109,7 +109,7 @@ fn start_of(ends: &[u16], index: usize) -> u16
     ends[index - 1]
 }
 
-/// What comes after the line ends at the start of a text.
+/// Returns what comes after the line ends at the start of a text.
 pub(crate) fn without_ends(text: &[u8]) -> &[u8]
     ensures behind { IsBehindEnds text.now result.now }
     ensures shorter { length result.now ≤ length text.now }
@@ -126,12 +126,12 @@ pub(crate) fn without_ends(text: &[u8]) -> &[u8]
 /// The fields of a row: their bytes, and where each ends.
 #[derive(Drop)]
 pub(crate) struct Fields {
-    bytes: ArrayVec<u8, MOST_LINE_BYTES>,
-    ends: ArrayVec<u16, MOST_FIELDS>,
+    bytes: ArrayVec<u8, MAX_ROW_LINE_BYTES>,
+    ends: ArrayVec<u16, MAX_FIELDS>,
 }
 
 impl Fields {
-    /// No field.
+    /// Creates a record with no field.
     pub(crate) fn new() -> Fields {
         Fields {
             bytes: ArrayVec::new(),
@@ -244,7 +244,7 @@ impl Fields {
         }
     }
 
-    /// A field, counted from 0.
+    /// Returns a field, counted from 0.
     pub(crate) fn field(&self, index: usize) -> Option<&[u8]>
         requires { Rising 0 self.now.ends.items (length self.now.bytes.items) }
         ensures { option_map (λ f. f.now) result ≡ field_at (fields_in self.now) index }
@@ -257,8 +257,8 @@ impl Fields {
         Some(part(self.bytes.as_slice(), start, ends[index]))
     }
 
-    /// The fields, where they are four.
-    #[tactic(auto, using(ucl_screen::proofs::FourFacts::four_by))]
+    /// Returns the fields, if they are four.
+    #[tactic(auto, using(ucl_screen::proofs::RowFacts::four_by))]
     fn four(&self) -> Option<Four<'_>>
         requires { Rising 0 self.now.ends.items (length self.now.bytes.items) }
         ensures { option_map four_seen result ≡ four_of (fields_in self.now) }
@@ -278,7 +278,7 @@ impl Fields {
         }
     }
 
-    /// The fields, where they are four.
+    /// Returns the fields, if they are four.
     pub(crate) fn row(&self) -> RowFields<'_>
         requires { Rising 0 self.now.ends.items (length self.now.bytes.items) }
         ensures { fields_seen result ≡ said_of (OneRow (fields_in self.now)) }

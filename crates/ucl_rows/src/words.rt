@@ -2,21 +2,20 @@
 
 ghost use Rattle.std.specs.Prelude.{◌≡◌, ◌+◌, ◌<◌, ◌≤◌, ◌++◌, [], false, length};
 ghost use Rattle.std.specs.Fmt.{digit_glyph};
-ghost use Rattle.ucl_rows.specs.Lines.{word_lines};
+ghost use Rattle.ucl_rows.specs.Lines.{word_lines, word_line};
 ghost use Rattle.ucl_screen.specs.Numbers.{hex_digits};
-ghost use Rattle.ucl_rows.specs.Lines.{word_line};
 
 use arrayvec::ArrayVec;
 use itoa::Buffer;
 use ucl_board::Board;
 
 /// The most bytes of twelve lines, of which none has more than 27.
-const MOST_WORDS_BYTES: usize = 324;
+const MAX_WORDS_BYTES: usize = 324;
 
 /// The word lines of a board, or the first of them.
-pub type Lines = ArrayVec<u8, MOST_WORDS_BYTES>;
+pub type Lines = ArrayVec<u8, MAX_WORDS_BYTES>;
 
-/// A hexadecimal digit.
+/// Returns a hexadecimal digit.
 fn digit_of(n: u8) -> u8
     requires { n < 16 }
     ensures { result ≡ digit_glyph false n }
@@ -24,7 +23,7 @@ fn digit_of(n: u8) -> u8
     if n < 10 { b'0' + n } else { b'a' + (n - 10) }
 }
 
-/// A word in sixteen hexadecimal digits.
+/// Returns a word in sixteen hexadecimal digits.
 fn digits_of(word: u64) -> [u8; 16]
     ensures { result ≡ hex_digits word }
 {
@@ -75,7 +74,7 @@ fn push_words(out: &mut Lines, words: &[u64])
     }
 }
 
-/// The word lines of a board: those from which an evening goes on. They ask for no memory.
+/// Returns the word lines of a board: those from which a session goes on. They ask for no memory.
 pub fn word_lines(board: &Board) -> Lines
     ensures { result.items ≡ word_lines 1 board.now }
 {

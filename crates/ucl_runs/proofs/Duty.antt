@@ -1,6 +1,6 @@
 -- Which rows are of reporters on duty.
-use Rattle.ucl_runs.proofs.Common.{IsOnDuty, List, NightEvent, ap, arith, drop, first-event, get_or, inl, inr, length, subst, suc, sym}
-use Rattle.ucl_runs.proofs.Common.{take, take-append-drop, zero, ℕ, ⊎_elim, ◌++◌, ◌+◌, ◌<◌, ◌∙◌, ◌≡◌, ◌≤◌, ◌⊎◌}
+use Rattle.ucl_runs.proofs.Common.{IsOnDuty, List, NightEvent, ap, arith, drop, first-event, get_or, inl, inr, length, subst, suc, sym, take, take-append-drop, zero}
+use Rattle.ucl_runs.proofs.Common.{ℕ, ⊎_elim, ◌++◌, ◌+◌, ◌<◌, ◌∙◌, ◌≡◌, ◌≤◌, ◌⊎◌}
 use Rattle.std.proofs.Common.{All, take_all, length-take-le}
 use Rattle.std.proofs.lemmas.List.Elements.{All-more}
 use Rattle.ucl_runs.specs.Nights.{IsFirstOffDuty}

@@ -1,9 +1,8 @@
 -- What a reporter's worker has entered: no row yet, and one row more.
-use Rattle.ucl_runs.proofs.Common.{Accepted, ComesFirst, Continues, Entry, HasEntered, IsEnteredAt, IsPrefix, IsRefusedAt, List, NightEvent}
-use Rattle.ucl_runs.proofs.Common.{PassView, Refusal, Some, TakesPlace, [], ap, arith, at_below, at_within, attempted, begins_length}
-use Rattle.ucl_runs.proofs.Common.{begins_through, entries_by, entry_of, eq-eqb, followed_by, if◌then◌else◌, inl, inr, length}
-use Rattle.ucl_runs.proofs.Common.{length-append, ne_eqb, none-some, refl, slice_get, sym, take, take-length, ℕ, ◌++◌, ◌<◌, ◌==◌, ◌∙◌, ◌∷◌}
-use Rattle.ucl_runs.proofs.Common.{◌≡◌, ◌≢◌, ◌≤◌, ◌⊎◌}
+use Rattle.ucl_runs.proofs.Common.{Accepted, ComesFirst, Continues, Entry, HasEntered, IsEnteredAt, IsPrefix, IsRefusedAt, List, NightEvent, PassView, Refusal, Some}
+use Rattle.ucl_runs.proofs.Common.{HasLinearizationPoint, [], ap, arith, at_below, at_within, attempted, begins_length, begins_through, entries_by, entry_of, eq-eqb}
+use Rattle.ucl_runs.proofs.Common.{followed_by, if◌then◌else◌, inl, inr, length, length-append, ne_eqb, none-some, refl, slice_get, sym, take, take-length, ℕ, ◌++◌}
+use Rattle.ucl_runs.proofs.Common.{◌<◌, ◌==◌, ◌∙◌, ◌∷◌, ◌≡◌, ◌≢◌, ◌≤◌, ◌⊎◌}
 use Rattle.std.proofs.Common.{Result, Ok, Err, IfOk, IfErr, le_refl}
 use Rattle.std.proofs.lemmas.List.{same_from_push}
 use Rattle.std.proofs.Math.Seq.{take-append_seam}
@@ -55,7 +54,7 @@ next_skipped {reporter = reporter} {rows} row e other =
 -- one row more of a reporter, whose point q is past all that its pass m had seen
 module _ {k m : PassView} (z : PassView) {reporter : ℕ} {rows : List NightEvent} (row : NightEvent) {q : ℕ}
     (e : HasEntered k m reporter rows)
-    (on : IsPrefix m.seen z.seen) (past : length m.seen ≤ q) (place : TakesPlace z.seen (attempted k.number row.call) q) where
+    (on : IsPrefix m.seen z.seen) (past : length m.seen ≤ q) (place : HasLinearizationPoint z.seen (attempted k.number row.call) q) where
   abbrev points : ℕ → ℕ
   points i = if i == length rows then q else e.point i
 
@@ -66,7 +65,7 @@ module _ {k m : PassView} (z : PassView) {reporter : ℕ} {rows : List NightEven
   new_point i is = rw (eq-eqb i (length rows) is)
 
   each_place : (i : ℕ) (x : NightEvent) → slice_get (rows ++ row ∷ []) i ≡ Some x → x.reporter ≡ reporter
-      → TakesPlace z.seen (attempted k.number x.call) (points i)
+      → HasLinearizationPoint z.seen (attempted k.number x.call) (points i)
   each_place i x at is = elim (at_either rows row i x at) [
     | inl old ↦ rw (old_point i old.0) (place_on m.seen z.seen on (e.each i x old.1 is))
     | inr new ↦ rw (new_point i new.0, ← new.1) place

@@ -1,5 +1,6 @@
 -- The rows up to the next one, and what a gate is told.
-use Rattle.ucl_runs.proofs.Common.{List, NightEvent, PassView, Reading, SharedReading, [], ap, get_or, length, sym, take, take_more, ℕ, ◌++◌, ◌+◌, ◌<◌, ◌∙◌, ◌∷◌, ◌≡◌}
+use Rattle.ucl_runs.proofs.Common.{List, NightEvent, PassView, Reading, SharedReading, [], ap, get_or, length, sym, take, take_more, ℕ, ◌++◌, ◌+◌, ◌<◌, ◌∙◌, ◌∷◌}
+use Rattle.ucl_runs.proofs.Common.{◌≡◌}
 use Rattle.ucl_live_board.specs.Passes.{IsReadingOf}
 
 pub next_rows : (i : ℕ) (rows : List NightEvent) (row : NightEvent) → i < length rows → row ≡ get_or rows i row → take (i + 1) rows ≡ take i rows ++ row ∷ []

@@ -10,22 +10,3 @@ pub mod MergedRows
 pub mod Merges
 mod NightOutput
 mod Unasked
-pub mod BegunAgain
-pub mod OneByOne
-pub mod Silence
-pub mod LiveRuns
-pub mod Boards
-pub mod JsonLines
-pub mod Uncut
-pub mod GoodBoards
-pub mod FollowShown
-pub mod FollowRuns
-pub mod Answered
-pub mod ReadBack
-pub mod PlainAnswers
-pub mod Repeats
-pub mod AnswerLines
-pub mod Matches
-pub mod GoodStages
-pub mod AnswerMoments
-pub mod RecordEnds

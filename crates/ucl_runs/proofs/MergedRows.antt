@@ -1,11 +1,11 @@
 -- Two reporters' rows in one history that has the entries of both and no other: a merge.
-use Rattle.ucl_runs.proofs.Common.{All, All-get_or, ComesFirst, Continues, Entry, HasEntered, IsLegal, IsMerge, IsOnDuty, IsPrefix, List}
-use Rattle.ucl_runs.proofs.Common.{NightEvent, None, Option, PassView, Some, TakesPlace, ap, arith, at_below, at_within, attempt_by}
-use Rattle.ucl_runs.proofs.Common.{begins_take, entries_by, entry_of, eq-eqb, if◌then◌else◌, inl, inr, length, ne_eqb, number_of_two}
-use Rattle.ucl_runs.proofs.Common.{same_Some, slice_get, subst, sym, take, ℕ, ◌<◌, ◌==◌, ◌∙◌, ◌≡◌, ◌≢◌, ◌⊎◌}
+use Rattle.ucl_runs.proofs.Common.{All, All-get_or, ComesFirst, Continues, Entry, HasEntered, IsLegal, IsInterleaving, IsOnDuty, IsPrefix, List, NightEvent, None}
+use Rattle.ucl_runs.proofs.Common.{Option, PassView, Some, HasLinearizationPoint, ap, arith, at_below, at_within, attempt_by, begins_take, entries_by, entry_of}
+use Rattle.ucl_runs.proofs.Common.{eq-eqb, if◌then◌else◌, inl, inr, length, ne_eqb, number_of_two, same_Some, slice_get, subst, sym, take, ℕ, ◌<◌, ◌==◌, ◌∙◌, ◌≡◌}
+use Rattle.ucl_runs.proofs.Common.{◌≢◌, ◌⊎◌}
 use Rattle.std.proofs.lemmas.Bool.{cases_order}
 use Rattle.std.proofs.lemmas.Option.{get_or_from_slice_get}
-use Rattle.ucl_board.proofs.HistoryLaws.{legal_take}
+use Rattle.ucl_board.proofs.HistoryTheorems.{legal_take}
 use Rattle.ucl_live_board.specs.Settling.{Settled, IsOfBoth}
 use Rattle.ucl_rows.proofs.Elements.{get_some}
 use Rattle.ucl_runs.specs.Nights.{IsOfRow}
@@ -23,7 +23,7 @@ module _ {k m : PassView} {rows : List NightEvent} {h : List Entry} {who : ℕ} 
     (number points : ℕ → ℕ) (number_is : (r : ℕ) → r ≡ who → number r ≡ k.number)
     (points_are : (i : ℕ) (row : NightEvent) → slice_get rows i ≡ Some row → row.reporter ≡ who → points i ≡ e.point i) where
   their_place : (i : ℕ) (row : NightEvent) → slice_get rows i ≡ Some row → row.reporter ≡ who
-      → TakesPlace h (attempt_by number row) (points i)
+      → HasLinearizationPoint h (attempt_by number row) (points i)
   their_place i row at is = rw (number_is row.reporter is, points_are i row at is) (place_on m.seen h on (e.each i row at is))
 
   their_order : (i j : ℕ) (row next : NightEvent) → slice_get rows i ≡ Some row → slice_get rows j ≡ Some next → i < j
@@ -76,7 +76,7 @@ module _ {k l m n : PassView} {rows : List NightEvent} {h : List Entry} (first :
   points_2 : (i : ℕ) (row : NightEvent) → slice_get rows i ≡ Some row → row.reporter ≡ 2 → points i ≡ second.point i
   points_2 i row at is = rw (at, ne_eqb row.reporter 1 (λ same. omega arith))
 
-  each_place : (i : ℕ) (row : NightEvent) → slice_get rows i ≡ Some row → TakesPlace h (attempt_by number row) (points i)
+  each_place : (i : ℕ) (row : NightEvent) → slice_get rows i ≡ Some row → HasLinearizationPoint h (attempt_by number row) (points i)
   each_place i row at = elim (duty i row at) [
     | inl is ↦ their_place first on_first number points number_1 points_1 i row at is
     | inr is ↦ their_place second on_second number points number_2 points_2 i row at is
@@ -130,7 +130,7 @@ module _ {k l m n : PassView} {rows : List NightEvent} {h : List Entry} (first :
         | inr is ↦ their_row second on_second number points number_2 points_2 both.second p t.0 t.1 is
       ]
 
-  pub merged : IsMerge (number_of_two k.number l.number) rows h
+  pub merged : IsInterleaving (number_of_two k.number l.number) rows h
   merged = record {
     legal = legal;
     point = points;
@@ -142,7 +142,7 @@ module _ {k l m n : PassView} {rows : List NightEvent} {h : List Entry} (first :
 -- what settling answered for the two passes, which are c and d afterwards: the entries that it read are a merge
 pub merged_by_settlers : {k l m n c d : PassView} {rows : List NightEvent} {version : ℕ} → HasEntered k m 1 rows → HasEntered l n 2 rows
     → Continues m c → Continues n d → m.number ≢ n.number → AllOnDuty rows → Settled m n c d version → IsOfBoth m n (take version d.seen)
-    → IsMerge (number_of_two c.number d.number) rows (take version d.seen)
+    → IsInterleaving (number_of_two c.number d.number) rows (take version d.seen)
 merged_by_settlers {m = m} {n} {d = d} {version = version} first second on_c on_d apart duty s both =
     rw (on_c.number, first.always.number, on_d.number, second.always.number)
     (merged first second apart duty (legal_take d.seen version s.legal) (begins_take m.seen d.seen version s.first s.low_first)

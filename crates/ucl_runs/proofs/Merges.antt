@@ -1,10 +1,9 @@
 -- All merges of the rows of a script have one board, where each match has one reporter.
 use Rattle.std.proofs.lemmas.Bool.{cond_both}
-use Rattle.ucl_runs.proofs.Common.{EachMatchHasOneReporter, Entry, EventCall, IsEnteredAt, IsMerge, IsRefusedAt, List, MatchEntry}
-use Rattle.ucl_runs.proofs.Common.{NightEvent, Reading, Some, accepted_of, after_attempt, ap, arith, at_below, attempt_by, cases_eq}
-use Rattle.ucl_runs.proofs.Common.{cases_lt, entries_of, entry_of, false, false≢true, inl, inr, is_ok, length, map, match_numbers, refl}
-use Rattle.ucl_runs.proofs.Common.{reply_of, same_Some, sequential_reply, slice_get, snapshot_at, suc, sym, take, take-length, true}
-use Rattle.ucl_runs.proofs.Common.{word_of, zero, ℕ, ◌+◌, ◌-◌, ◌<◌, ◌∙◌, ◌≡◌, ◌≢◌, ◌≤◌}
+use Rattle.ucl_runs.proofs.Common.{EachMatchHasOneReporter, Entry, EventCall, IsEnteredAt, IsInterleaving, IsRefusedAt, List, MatchEntry, NightEvent, Reading, Some}
+use Rattle.ucl_runs.proofs.Common.{accepted_of, after_attempt, ap, arith, at_below, attempt_by, cases_eq, cases_lt, entries_of, entry_of, false, false≢true, inl}
+use Rattle.ucl_runs.proofs.Common.{inr, is_ok, length, map, match_numbers, refl, reply_of, same_Some, sequential_reply, slice_get, snapshot_at, suc, sym, take}
+use Rattle.ucl_runs.proofs.Common.{take-length, true, word_of, zero, ℕ, ◌+◌, ◌-◌, ◌<◌, ◌∙◌, ◌≡◌, ◌≢◌, ◌≤◌}
 use Rattle.std.proofs.Common.{add-zero}
 use Rattle.std.proofs.lemmas.List.{map_push}
 use Rattle.std.proofs.lemmas.List.Sums.{fold_push}
@@ -17,7 +16,7 @@ use Rattle.ucl_runs.specs.Nights.{ScheduleDoesNotMatter, night_board}
 use Rattle.ucl_runs.proofs.Points.{entered_within, place_within}
 
 -- a merge of the rows, and a match
-module _ (number : ℕ → ℕ) (rows : List NightEvent) (h : List Entry) (merge : IsMerge number rows h) (one : EachMatchHasOneReporter rows) (g : ℕ) where
+module _ (number : ℕ → ℕ) (rows : List NightEvent) (h : List Entry) (merge : IsInterleaving number rows h) (one : EachMatchHasOneReporter rows) (g : ℕ) where
   -- the entries of the match among the first p entries of the history, and among those that the first i rows come to in script order
   abbrev entries_at : ℕ → List MatchEntry
   entries_at p = entries_of g (take p h)
@@ -173,6 +172,7 @@ pub all_merges_agree : ScheduleDoesNotMatter
 all_merges_agree number rows h merge one = same_board h (accepted_of (map (attempt_by number) rows)) (λ g. entries_agree number rows h merge one g)
 
 -- what a reading of a merge shows is the night's board
-pub night_board_read : (number : ℕ → ℕ) (rows : List NightEvent) (seen : List Entry) (version : ℕ) (reading : Reading) → IsMerge number rows (take version seen) → EachMatchHasOneReporter rows
+pub night_board_read : (number : ℕ → ℕ) (rows : List NightEvent) (seen : List Entry) (version : ℕ) (reading : Reading) → IsInterleaving number rows (take version seen) →
+    EachMatchHasOneReporter rows
     → reading ≡ snapshot_at seen version → reading.board ≡ night_board number rows
 night_board_read number rows seen version reading merge one is = cc (is, all_merges_agree number rows (take version seen) merge one)

@@ -1,13 +1,13 @@
 -- How a night ends, from what its calls answer.
-use Rattle.ucl_runs.proofs.Common.{Appends, Bool, Err, IfErr, IfSome, IsOnDuty, IsStopped, List, MeansNight, None, Ok, OnOk, Option, Profile}
-use Rattle.ucl_runs.proofs.Common.{Result, RunFault, Script, Some, StoppedShort, TextHas, false, refl, styled, ℕ, ⊤, ◌≡◌}
+use Rattle.ucl_runs.proofs.Common.{Appends, Bool, Err, IfErr, IfSome, IsOnDuty, IsStopped, List, MeansNight, None, Ok, OnOk, Option, Profile, Result, RunFault}
+use Rattle.ucl_runs.proofs.Common.{Script, Some, StoppedShort, TextHas, false, refl, styled, ℕ, ⊤, ◌≡◌}
 use Rattle.std.proofs.Common.{All}
 use Rattle.ucl_command.specs.declared.night.Line.TheVariants.{Night}
 use Rattle.ucl_live_board.specs.declared.live_board.LiveBoard as boards
 use Rattle.ucl_rows.specs.declared.fault.RunFault.TheVariants.{WriteFailed}
 use Rattle.ucl_runs.specs.declared.night.NightEnd.{NightEnd}
 use Rattle.ucl_runs.specs.Nights.{IsNightEnd, night_output}
-use Rattle.ucl_runs.specs.Program.{IsPlayed, IsScriptOnDuty, Obeys, streams}
+use Rattle.ucl_runs.specs.Program.{IsPlayed, IsScriptOnDuty, Executes, streams}
 
 module _ {B R P X : Type 0} (live : boards.Ghosts B R P) (Opens : Result (B × R) X → Type 0) (profile : Profile) (group readings : ℕ) where
   abbrev Played : List ℕ → List ℕ → Type 0
@@ -41,7 +41,7 @@ module _ {B R P X : Type 0} (live : boards.Ghosts B R P) (Opens : Result (B × R
   pub put : (old new taken : Option (List ℕ)) (reads_before writes_before : Bool) (text : List ℕ) (failed write_failed : Bool) (after : Option (List ℕ))
       (r : Result ⊤ RunFault) → failed ≡ false → IfSome old (λ bytes. Played bytes text) → OnOk r (Appends taken after text)
       → IfErr r (IsStopped 0 write_failed taken after text)
-      → Obeys live Opens (Night group readings profile) (streams old reads_before taken writes_before) (streams new failed after write_failed) r
+      → Executes live Opens (Night group readings profile) (streams old reads_before taken writes_before) (streams new failed after write_failed) r
   put old new taken reads_before writes_before text failed write_failed after (Ok done) reads is out part = record {
     text = has_text old text (Appends taken after) is out;
     kinds = tt;

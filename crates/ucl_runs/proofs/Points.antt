@@ -1,10 +1,9 @@
 -- The points of attempts in a history and in one that goes on from it.
-use Rattle.ucl_runs.proofs.Common.{Attempt, Bool, ComesFirst, Entry, EventCall, IsEnteredAt, IsPrefix, List, Some, TakesPlace, [], ap}
-use Rattle.ucl_runs.proofs.Common.{arith, at_below, begins_length, cases_lt, cond, entries_by, eq-eqb, false, false≢true, inl, inr, is_ok}
-use Rattle.ucl_runs.proofs.Common.{length, length-append, none-some, refl, same_Some, sequential_reply, slice_get, suc, sym, take}
-use Rattle.ucl_runs.proofs.Common.{take_beginning, true, zero, ℕ, ◌++◌, ◌<◌, ◌==◌, ◌∙◌, ◌∷◌, ◌≡◌, ◌≢◌, ◌≤◌}
+use Rattle.ucl_runs.proofs.Common.{Attempt, Bool, ComesFirst, Entry, EventCall, IsEnteredAt, IsPrefix, List, Some, HasLinearizationPoint, [], ap, arith, at_below}
+use Rattle.ucl_runs.proofs.Common.{begins_length, cases_lt, cond, entries_by, eq-eqb, false, false≢true, inl, inr, is_ok, length, length-append, none-some, refl}
+use Rattle.ucl_runs.proofs.Common.{same_Some, sequential_reply, slice_get, suc, sym, take, take_beginning, true, zero, ℕ, ◌++◌, ◌<◌, ◌==◌, ◌∙◌, ◌∷◌, ◌≡◌, ◌≢◌, ◌≤◌}
 use Rattle.std.proofs.lemmas.List.{nil_from_length}
-use Rattle.ucl_board.proofs.Beginnings.{at_beginning}
+use Rattle.ucl_board.proofs.Repeats.{at_beginning}
 use Rattle.ucl_live_board.proofs.Lists.{by_more}
 
 -- the beginning of a history
@@ -18,24 +17,24 @@ module _ (s h : List Entry) (on : IsPrefix s h) where
     reply = (let x = at_below s p _ e.entry in reply_on a.call p (omega arith) ∙ e.reply);
   }
 
-  pub place_on : {a : Attempt} {p : ℕ} → TakesPlace s a p → TakesPlace h a p
+  pub place_on : {a : Attempt} {p : ℕ} → HasLinearizationPoint s a p → HasLinearizationPoint h a p
   place_on {a} {p} (inl r) =
       let x = r.within in
       let y = begins_length s h on in inl (record { within = omega arith; reply = reply_on a.call p x ∙ r.reply })
   place_on (inr e) = inr (entered_on e)
 
   -- what was refused is not entered later at the same point
-  pub entered_before : {a : Attempt} {p : ℕ} → TakesPlace s a p → IsEnteredAt h a p → IsEnteredAt s a p
+  pub entered_before : {a : Attempt} {p : ℕ} → HasLinearizationPoint s a p → IsEnteredAt h a p → IsEnteredAt s a p
   entered_before {a} {p} (inl r) is = absurd (false≢true (sym (reply_on a.call p r.within ∙ r.reply) ∙ is.reply))
   entered_before (inr e) is = e
 
-  pub first_on : {a : Attempt} {p q : ℕ} → TakesPlace s a p → ComesFirst s a p q → ComesFirst h a p q
+  pub first_on : {a : Attempt} {p q : ℕ} → HasLinearizationPoint s a p → ComesFirst s a p q → ComesFirst h a p q
   first_on place first = record { never_falls = first.never_falls; rises = λ is. first.rises (entered_before place is) }
 
 pub entered_within : {h : List Entry} {a : Attempt} {p : ℕ} → IsEnteredAt h a p → p < length h
 entered_within {h} {p = p} is = at_below h p _ is.entry
 
-pub place_within : {h : List Entry} {a : Attempt} {p : ℕ} → TakesPlace h a p → p ≤ length h
+pub place_within : {h : List Entry} {a : Attempt} {p : ℕ} → HasLinearizationPoint h a p → p ≤ length h
 place_within (inl r) = r.within
 place_within (inr e) = let x = entered_within e in omega arith
 

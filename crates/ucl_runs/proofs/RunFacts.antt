@@ -1,6 +1,6 @@
 -- The text of an input that was accepted.
-use Rattle.ucl_runs.proofs.Common.{Err, IfErr, IfSome, IsFed, IsShown, List, MeansNight, None, Ok, OnOk, Option, Profile, Result, RunFault}
-use Rattle.ucl_runs.proofs.Common.{Script, Some, TextHas, screen_text, ℕ, ◌≡◌}
+use Rattle.ucl_runs.proofs.Common.{Err, IfErr, IfSome, IsFed, IsShown, List, MeansNight, None, Ok, OnOk, Option, Profile, Result, RunFault, Script, Some, TextHas}
+use Rattle.ucl_runs.proofs.Common.{screen_text, ℕ, ◌≡◌}
 use Rattle.std.specs.Prelude.{Bool}
 use Rattle.ucl_screen.specs.Script.{WrittenSheet}
 use Rattle.ucl_screen.specs.Parsing.{MeansSheet}

@@ -1,7 +1,6 @@
 -- The versions that a reader shows, and the history that they are of.
-use Rattle.ucl_runs.proofs.Common.{All-push, Continues, HasShown, List, Option, PassView, Reading, SharedReading, Some, []}
-use Rattle.ucl_runs.proofs.Common.{ap, arith, begins_length, begins_through, length, length-append, subst, sym, ℕ, ◌++◌}
-use Rattle.ucl_runs.proofs.Common.{◌+◌, ◌-◌, ◌∙◌, ◌∷◌, ◌≡◌, ◌≤◌}
+use Rattle.ucl_runs.proofs.Common.{All-push, Continues, HasShown, List, Option, PassView, Reading, SharedReading, Some, [], ap, arith, begins_length, begins_through}
+use Rattle.ucl_runs.proofs.Common.{length, length-append, subst, sym, ℕ, ◌++◌, ◌+◌, ◌-◌, ◌∙◌, ◌∷◌, ◌≡◌, ◌≤◌}
 use Rattle.std.proofs.Common.{All}
 use Rattle.std.specs.List.Sorted.{IsNonDecreasing}
 use Rattle.std.proofs.lemmas.List.Sorted.{IsNonDecreasingBy-push}

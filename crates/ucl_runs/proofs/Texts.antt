@@ -1,9 +1,10 @@
 -- Texts written one line at a time.
-use Rattle.ucl_runs.proofs.Common.{Entry, List, NightEvent, after_attempt, append_assoc, attempt_of, drop, first-event, get_or, length, sym}
-use Rattle.ucl_runs.proofs.Common.{ℕ, ◌++◌, ◌+◌, ◌<◌, ◌∙◌, ◌≡◌, ◌≤◌}
+use Rattle.ucl_runs.proofs.Common.{Entry, List, NightEvent, after_attempt, append_assoc, attempt_of, drop, first-event, get_or, length, sym, ℕ, ◌++◌, ◌+◌, ◌<◌, ◌∙◌}
+use Rattle.ucl_runs.proofs.Common.{◌≡◌, ◌≤◌}
 use Rattle.std.proofs.lemmas.List.{append-nil}
 use Rattle.ucl_screen.proofs.EventsInTurn.{past}
-use Rattle.ucl_runs.specs.Feed.{reply_lines, reply_line}
+use Rattle.ucl_rows.specs.Lines.{reply_line}
+use Rattle.ucl_runs.specs.Feed.{reply_lines}
 
 pub replies-step : (row i : ℕ) (events : List NightEvent) (e : NightEvent) (history : List Entry) (out new whole : List ℕ) → i < length events → e ≡ get_or events i e
     → out ++ reply_lines row history (drop i events) ≡ whole → new ≡ out ++ reply_line row history e.call

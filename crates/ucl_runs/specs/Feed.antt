@@ -1,17 +1,12 @@
 -- The text of `feed`: a reply line for each event, and then the twelve word lines.
-use Rattle.std.specs.Prelude.{◌≡◌, ℕ, ◌+◌, List, [], ◌∷◌, ◌++◌, length, map, Ok}
-use Rattle.ucl_word.specs.declared.event.EventCall.{EventCall}
+use Rattle.std.specs.Prelude.{◌≡◌, ℕ, ◌+◌, List, [], ◌∷◌, ◌++◌, map, Ok}
 use Rattle.ucl_board.specs.declared.entry.Entry.{Entry}
-use Rattle.ucl_board.specs.History.{after_attempt, accepted_of, board_of, sequential_reply}
+use Rattle.ucl_board.specs.History.{after_attempt, accepted_of, board_of}
 use Rattle.ucl_screen.specs.declared.night.NightEvent.{NightEvent}
 use Rattle.ucl_screen.specs.Events.{attempt_of}
 use Rattle.ucl_screen.specs.Script.{Script, first_event_row}
 use Rattle.ucl_screen.specs.Parsing.{MeansNight}
-use Rattle.ucl_rows.specs.Lines.{line_of_reply, word_lines}
-
--- the line of an event after a history: the reply of the board of one thread
-unfoldable pub reply_line : ℕ → List Entry → EventCall → List ℕ
-reply_line row history call = line_of_reply row call.game (length history) (sequential_reply history call)
+use Rattle.ucl_rows.specs.Lines.{reply_line, word_lines}
 
 -- the lines of the events from a row on, each after the events that were accepted before it
 unfoldable pub reply_lines : ℕ → List Entry → List NightEvent → List ℕ

@@ -1,6 +1,6 @@
 -- A night: the rows of a script, entered by two reporters in threads of their own while readers look on.
-use Rattle.std.specs.Prelude.{◌≡◌, ◌≢◌, ◌⊎◌, ℕ, ◌+◌, ◌<◌, ◌≤◌, ◌==◌, true, false, List, [], ◌∷◌, ◌++◌}
-use Rattle.std.specs.Prelude.{All, length, map, take, slice_get, slice_index_or, Option, Some, None, option_map, if◌then◌else◌, codes, String, string_bytes}
+use Rattle.std.specs.Prelude.{◌≡◌, ◌≢◌, ◌⊎◌, ℕ, ◌+◌, ◌<◌, ◌≤◌, ◌==◌, true, false, List, [], ◌∷◌, ◌++◌, All, length, map, take, slice_get, slice_index_or, Option}
+use Rattle.std.specs.Prelude.{Some, None, option_map, if◌then◌else◌, codes, String, string_bytes}
 use mathlib.Core.List.{IsPrefix}
 use Rattle.std.specs.List.Sorted.{IsNonDecreasing}
 use Rattle.std.specs.Result.{is_ok}
@@ -39,8 +39,8 @@ pub record IsEnteredAt (history : List Entry) (a : Attempt) (p : ℕ) : Type 0 w
   pub reply : is_ok (sequential_reply (take p history) a.call) ≡ true
 
 -- an attempt has its point in a history
-abbrev pub TakesPlace : List Entry → Attempt → ℕ → Type 0
-TakesPlace history a p = IsRefusedAt history a p ⊎ IsEnteredAt history a p
+abbrev pub HasLinearizationPoint : List Entry → Attempt → ℕ → Type 0
+HasLinearizationPoint history a p = IsRefusedAt history a p ⊎ IsEnteredAt history a p
 
 -- of two rows of one reporter the first has no higher point, and a lower one where it was accepted
 pub record ComesFirst (history : List Entry) (a : Attempt) (p q : ℕ) : Type 0 where
@@ -62,10 +62,10 @@ pub record IsOfOneRow (number : ℕ → ℕ) (rows : List NightEvent) (point : �
 
 -- a history is a merge of the rows: it is legal; each row has a point, where it is refused or is the entry; the points of one
 -- reporter's rows never fall in script order, and rise after an accepted row; and each entry is that of exactly one row
-pub record IsMerge (number : ℕ → ℕ) (rows : List NightEvent) (history : List Entry) : Type 0 where
+pub record IsInterleaving (number : ℕ → ℕ) (rows : List NightEvent) (history : List Entry) : Type 0 where
   pub legal : IsLegal history
   pub point : ℕ → ℕ
-  pub each : (i : ℕ) (row : NightEvent) → slice_get rows i ≡ Some row → TakesPlace history (attempt_by number row) (point i)
+  pub each : (i : ℕ) (row : NightEvent) → slice_get rows i ≡ Some row → HasLinearizationPoint history (attempt_by number row) (point i)
   pub in_order : (i j : ℕ) (row next : NightEvent) → slice_get rows i ≡ Some row → slice_get rows j ≡ Some next → i < j → row.reporter ≡ next.reporter
       → ComesFirst history (attempt_by number row) (point i) (point j)
   pub one_row : (p : ℕ) → p < length history → IsOfOneRow number rows point history p
@@ -75,8 +75,8 @@ abbrev pub night_history : PassView → ℕ → List Entry
 night_history second version = take version second.seen
 
 -- it is a merge of the rows under the numbers of both
-abbrev pub HaveMerged : PassView → PassView → List NightEvent → ℕ → Type 0
-HaveMerged first second rows version = IsMerge (number_of_two first.number second.number) rows (night_history second version)
+abbrev pub HaveInterleaved : PassView → PassView → List NightEvent → ℕ → Type 0
+HaveInterleaved first second rows version = IsInterleaving (number_of_two first.number second.number) rows (night_history second version)
 
 -- the second of two reporters' passes has seen this version, and both have entered just so many events
 abbrev pub HaveEnteredAll : PassView → PassView → ℕ → Type 0
@@ -100,7 +100,8 @@ HaveNightBoard first second rows board = EachMatchHasOneReporter rows → board 
 
 -- where each match has one reporter, all merges of the rows have the same board: that of the rows in script order
 abbrev pub ScheduleDoesNotMatter : Type 0
-ScheduleDoesNotMatter = (number : ℕ → ℕ) (rows : List NightEvent) (history : List Entry) → IsMerge number rows history → EachMatchHasOneReporter rows → board_of history ≡ night_board number rows
+ScheduleDoesNotMatter = (number : ℕ → ℕ) (rows : List NightEvent) (history : List Entry) → IsInterleaving number rows history → EachMatchHasOneReporter rows →
+    board_of history ≡ night_board number rows
 
 -- an entry is that of a row of one reporter
 pub record IsOwnRow (number reporter : ℕ) (rows : List NightEvent) (point : ℕ → ℕ) (history : List Entry) (p : ℕ) : Type 0 where
@@ -139,7 +140,7 @@ pub record HasEntered (k m : PassView) (reporter : ℕ) (rows : List NightEvent)
   pub always : Continues k m
   pub shown : m.shown ≡ k.shown
   pub point : ℕ → ℕ
-  pub each : (i : ℕ) (row : NightEvent) → slice_get rows i ≡ Some row → row.reporter ≡ reporter → TakesPlace m.seen (attempted k.number row.call) (point i)
+  pub each : (i : ℕ) (row : NightEvent) → slice_get rows i ≡ Some row → row.reporter ≡ reporter → HasLinearizationPoint m.seen (attempted k.number row.call) (point i)
   pub in_order : (i j : ℕ) (row next : NightEvent) → slice_get rows i ≡ Some row → slice_get rows j ≡ Some next → i < j → row.reporter ≡ reporter → next.reporter ≡ reporter
       → ComesFirst m.seen (attempted k.number row.call) (point i) (point j)
   pub entries : (p : ℕ) (e : Entry) → slice_get m.seen p ≡ Some e → e.reporter ≡ k.number → IsOwnRow k.number reporter rows point m.seen p
@@ -175,7 +176,7 @@ pub record IsFirstOffDuty (rows : List NightEvent) (row : ℕ) : Type 0 where
   pub off_duty : IsOnDuty event → ⊥
   pub row_is : row ≡ length before + first_event_row
 
--- a fault tells the first row whose reporter is not on duty where there is one, and where there is none it is another fault
+-- a fault tells the first row whose reporter is not on duty if there is one, and if there is none it is another fault
 abbrev pub IsDutyTold : List NightEvent → RunFault → Type 0
 IsDutyTold rows f = MatchDuty f (IsFirstOffDuty rows) (All IsOnDuty rows)
 
@@ -192,7 +193,7 @@ last_text heading (Some text) = heading ++ text
 abbrev pub lasts_text : Option (List ℕ) → Option (List ℕ) → List ℕ
 lasts_text first second = last_text (codes "READER 1\n") first ++ last_text (codes "READER 2\n") second
 
--- the output of a night: the last screens of both readers, where there are any, and the closing screen
+-- the output of a night: the last screens of both readers, if there are any, and the closing screen
 abbrev pub night_text : Option (List ℕ) → Option (List ℕ) → List ℕ → List ℕ
 night_text first second closing = lasts_text first second ++ (codes "FINAL\n" ++ closing)
 
@@ -208,7 +209,7 @@ module _ {B R P : Type 0} (live : boards.Ghosts B R P) (lent : B) (pass : R) (ro
     pub reporters : live.is_reporter lent end.reporter_1 × live.is_reporter lent end.reporter_2
     pub apart : (live.reporter end.reporter_1).number ≢ (live.reporter end.reporter_2).number
     -- the history that was settled is a merge of the rows, the settled reading is of it, and the closing screen is of that
-    pub merge : HaveMerged (live.reporter end.reporter_1) (live.reporter end.reporter_2) rows end.settled.version
+    pub merge : HaveInterleaved (live.reporter end.reporter_1) (live.reporter end.reporter_2) rows end.settled.version
     pub settled : end.settled ≡ snapshot_at (live.reporter end.reporter_2).seen end.settled.version
     pub closing : string_bytes end.closing ≡ styled_screen style end.settled.board
     -- reporter 2's pass has seen it, both have entered just its events, and what reporter 1's pass and the lent one had seen are beginnings of it

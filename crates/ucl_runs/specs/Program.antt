@@ -12,7 +12,7 @@ use Rattle.ucl_command.specs.declared.night.Line.TheVariants.{Feed, Show, Night}
 use Rattle.ucl_command.specs.declared.fault.LineFault.{LineFault}
 use Rattle.ucl_rows.specs.declared.fault.RunFault.{RunFault}
 use Rattle.ucl_rows.specs.declared.fault.RunFault.TheVariants.{Input, OutOfMemory, WriteFailed, NotOnDuty, NoThread, TooManyReporters, Strangers}
-use Rattle.ucl_rows.specs.Ending.{Ended, Ends, EndsUnasked}
+use Rattle.ucl_rows.specs.Ending.{Ended, Ends, ExitsWithoutCommand}
 use Rattle.ucl_rows.specs.Faults.{IsOfOneThread}
 use Rattle.ucl_runs.specs.Feed.{IsFed}
 use Rattle.ucl_runs.specs.Show.{IsShown}
@@ -22,7 +22,7 @@ use Rattle.ucl_runs.specs.Nights.{IsFirstOffDuty, IsNightEnd, IsOnDuty, night_ou
 use Rattle.ucl_runs.specs.Styles.{styled}
 use Rattle.ucl_io.specs.Stream.{WroteFirst}
 use Rattle.ucl_io.specs.Output.{StoppedShort}
-use Rattle.ucl_rows.specs.Run.{BlamesOutput, IfInput, IfWriteFailed, TellsMemoryApart, TextHas, WritesAll, WritesNothing, is_read_failed}
+use Rattle.ucl_rows.specs.Run.{BlamesOutput, IfInput, IfWriteFailed, DistinguishesMemory, TextHas, WritesAll, WritesNothing, is_read_failed}
 
 -- The text that a line calls for. --
 
@@ -53,7 +53,7 @@ abbrev pub IsScriptOnDuty : Option (List ℕ) → Type 0
 IsScriptOnDuty known = IfSome known (λ bytes. (night : Script) × MeansNight bytes (Ok night) × All IsOnDuty night.events)
 
 -- the faults of a night, by its input: the input comes first, then a row of neither reporter 1 nor 2, of which the first is told; all others are
--- of a script of reporters 1 and 2, but want of memory, which may come at any place. That the board refuses its reporters has never been
+-- of a script of reporters 1 and 2, but lack of memory, which may come at any place. That the board refuses its reporters has never been
 -- seen, since it is the night's own, but no clause excludes it
 abbrev pub IsFaultOfNight : Option (List ℕ) → RunFault → Type 0
 IsFaultOfNight known (Input e) = ⊤
@@ -97,19 +97,19 @@ streams_at source sink s w = streams (source.left s) (source.failed s) (sink.tak
 
 module _ {B R P X : Type 0} (live : boards.Ghosts B R P) (Opens : Result (B × R) X → Type 0) where
   -- a line was done, or has the fault r, over these streams
-  pub record Obeys (line : Line) (before after : Streams) (r : Result ⊤ RunFault) : Type 0 where
+  pub record Executes (line : Line) (before after : Streams) (r : Result ⊤ RunFault) : Type 0 where
     pub text : WritesAll (CallsFor live Opens line) before.left before.taken after.taken r
     pub kinds : IfErr r (IsFaultOf line before.left)
-    pub memory : TellsMemoryApart r
+    pub memory : DistinguishesMemory r
     pub input : IfErr r (λ f. IfInput f (RefusesInput line before.left after.left after.read_failed))
     pub unwritten : WritesNothing before.taken after.taken r
     pub read_failed : after.read_failed ≡ is_read_failed r
     pub write_failed : BlamesOutput after.write_failed r
     pub written : IfErr r (λ f. IfWriteFailed f (λ written. TextHas (CallsFor live Opens line) before.left (StopsWithin line after.write_failed before.taken after.taken written)))
 
-  -- what the program does where its words ask for a line, ask for help, are refused, or could not be read for want of memory; and its
+  -- what the program does where its words ask for a line, ask for help, are refused, or could not be read for lack of memory; and its
   -- exit status, and what it tells on the error sink
   abbrev pub Runs : Result Line LineFault → Streams → Streams → Ended → Type 0
-  Runs (Ok line) before after e = (r : Result ⊤ RunFault) × Obeys line before after r × Ends r e
+  Runs (Ok line) before after e = (r : Result ⊤ RunFault) × Executes line before after r × Ends r e
   Runs (Err fault) before after e =
-      EndsUnasked (λ (s : Streams). s.write_failed) (λ (s : Streams). s.taken) fault before after e
+      ExitsWithoutCommand (λ (s : Streams). s.write_failed) (λ (s : Streams). s.taken) fault before after e

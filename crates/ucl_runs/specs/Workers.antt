@@ -8,18 +8,18 @@ use Rattle.ucl_live_board.specs.Settling.{AreAlone}
 use Rattle.ucl_rows.specs.declared.fault.RunFault.{RunFault}
 use Rattle.ucl_rows.specs.declared.fault.RunFault.TheVariants.{Input, WriteFailed, TooManyReporters, Strangers}
 use Rattle.ucl_rows.specs.Faults.{HasNoNumberLeft}
-use Rattle.ucl_runs.specs.declared.plan.Plan.{Plan}
-use Rattle.ucl_runs.specs.declared.workers.Shown.{Shown}
+use Rattle.ucl_runs.specs.declared.config.NightConfig.{NightConfig}
+use Rattle.ucl_runs.specs.declared.workers.ReaderResult.{ReaderResult}
 use Rattle.ucl_runs.specs.Nights.{IsFresh, IsNew, HasEntered, HasShown}
 use Rattle.ucl_runs.specs.Styles.{Style, styled}
 
 -- the rows of the script of a plan
-abbrev pub rows_of_plan : {G : Type 0} → Plan G → List NightEvent
-rows_of_plan plan = plan.night.now.events.items
+abbrev pub rows_of_config : {G : Type 0} → NightConfig G → List NightEvent
+rows_of_config config = config.night.now.events.items
 
 -- the style of its screens
-abbrev pub style_of : {G : Type 0} → Plan G → Style
-style_of plan = styled plan.profile plan.night.now.roster plan.group
+abbrev pub style_of : {G : Type 0} → NightConfig G → Style
+style_of config = styled config.profile config.night.now.roster config.group
 
 module _ {B R P : Type 0} (live : boards.Ghosts B R P) (board : B) where
   -- a reporter's pass of the board that has entered nothing yet
@@ -31,13 +31,13 @@ module _ {B R P : Type 0} (live : boards.Ghosts B R P) (board : B) where
   IsNewOn pass = live.is_reader board pass × IsNew (live.reader pass)
 
   -- a reporter's pass of the board has entered its rows of a script
-  abbrev pub HasEnteredOn : {G : Type 0} → Plan G → P → ℕ → P → Type 0
-  HasEnteredOn plan before reporter after = live.is_reporter board after × HasEntered (live.reporter before) (live.reporter after) reporter (rows_of_plan plan)
+  abbrev pub HasEnteredOn : {G : Type 0} → NightConfig G → P → ℕ → P → Type 0
+  HasEnteredOn config before reporter after = live.is_reporter board after × HasEntered (live.reporter before) (live.reporter after) reporter (rows_of_config config)
 
   -- a reader's pass of the board has shown its readings
-  abbrev pub HasShownOn : {G : Type 0} → Plan G → R → Shown R → Type 0
-  HasShownOn plan before end = live.is_reader board end.pass
-      × HasShown (style_of plan) (live.reader before) (live.reader end.pass) plan.readings (option_map string_bytes end.last)
+  abbrev pub HasShownOn : {G : Type 0} → NightConfig G → R → ReaderResult R → Type 0
+  HasShownOn config before end = live.is_reader board end.pass
+      × HasShown (style_of config) (live.reader before) (live.reader end.pass) config.readings (option_map string_bytes end.last)
 
   -- a reporter's pass of the board has entered its rows of a night, and nothing else
   pub record EnteredRowsOf (rows : List NightEvent) (reporter : ℕ) (pass : P) : Type 0 where

@@ -2,15 +2,16 @@
 
 ghost use Rattle.std.specs.Prelude.{◌≡◌, ◌≤◌, ◌++◌, List, [], map, length, IfOk, IfErr, OnOk};
 ghost use Rattle.ucl_board.specs.declared.entry.Entry.{Entry};
-ghost use Rattle.ucl_board.specs.Words.{greatest_version};
+ghost use Rattle.ucl_board.specs.Words.{max_version};
 ghost use Rattle.ucl_board.specs.History.{after_attempt, accepted_of, board_of};
-ghost use Rattle.ucl_screen.specs.Input.{most_bytes};
+ghost use Rattle.ucl_screen.specs.Input.{max_bytes};
 ghost use Rattle.ucl_screen.specs.Script.{first_event_row};
 ghost use Rattle.ucl_screen.specs.Parsing.{MeansNight, night_seen};
 ghost use Rattle.ucl_rows.specs.Faults.{IsOfOneThread};
-ghost use Rattle.ucl_runs.specs.Feed.{IsFed, feed_text, reply_line, reply_lines};
+ghost use Rattle.ucl_rows.specs.Lines.{reply_line};
+ghost use Rattle.ucl_runs.specs.Feed.{IsFed, feed_text, reply_lines};
 ghost use Rattle.ucl_screen.specs.Events.{IsBoardAfter, attempt_of};
-ghost use Rattle.ucl_rows.specs.Run.{BlamesInput, BlamesOutput, CallsWithin, TellsMemoryApart, WritesAll, WritesFirst, WritesNothing, is_read_failed};
+ghost use Rattle.ucl_rows.specs.Run.{BlamesInput, BlamesOutput, CallsWithin, DistinguishesMemory, WritesAll, WritesFirst, WritesNothing, is_read_failed};
 
 use std::alloc::{AllocError, Global};
 use ucl_board::Board;
@@ -18,7 +19,7 @@ use ucl_rows::{RunFault, put_text, reply_line, word_lines};
 use ucl_screen::{FIRST_EVENT_ROW, InputFault, NightEvent, Sink, Source, read_night};
 
 /// Enters the event of a row on a board of this version, and writes its reply line. Gives the version afterwards.
-#[tactic(auto, unfolding(crate::specs::Feed::reply_line))]
+#[tactic(auto, unfolding(ucl_rows::specs::Lines::reply_line))]
 fn push_reply(
     out: &mut Vec<u8>,
     board: &mut Board,
@@ -26,7 +27,7 @@ fn push_reply(
     row: u64,
     event: &NightEvent,
 ) -> Result<u16, AllocError>
-    requires { version ≤ greatest_version }
+    requires { version ≤ max_version }
     ensures line { (h : List Entry) → IsBoardAfter h board.old version → OnOk result
         (out.new.items ≡ out.old.items ++ reply_line row h event.now.call) }
     ensures after { (h : List Entry) → IsBoardAfter h board.old version → IfOk result
@@ -43,7 +44,7 @@ fn push_reply(
 
 /// Enters the events in turn on a fresh board, and writes their reply lines. Gives the board afterwards.
 fn push_replies(out: &mut Vec<u8>, events: &[NightEvent]) -> Result<Board, AllocError>
-    requires { length events.now ≤ most_bytes }
+    requires { length events.now ≤ max_bytes }
     ensures lines { OnOk result (out.new.items
         ≡ out.old.items ++ reply_lines first_event_row [] events.now) }
     ensures after { IfOk result (λ board.
@@ -59,9 +60,9 @@ fn push_replies(out: &mut Vec<u8>, events: &[NightEvent]) -> Result<Board, Alloc
     Ok(board)
 }
 
-/// The text that the events give.
+/// Returns the text that the events give.
 fn feed_text(alloc: Global, events: &[NightEvent]) -> Result<Vec<u8>, AllocError>
-    requires { length events.now ≤ most_bytes }
+    requires { length events.now ≤ max_bytes }
     ensures { IfOk result (λ text. text.items ≡ feed_text events.now) }
 {
     let mut text = Vec::new(alloc);
@@ -77,8 +78,8 @@ fn feed_text(alloc: Global, events: &[NightEvent]) -> Result<Vec<u8>, AllocError
 ///
 /// # Errors
 ///
-/// Where the source has failed, the input is refused or there is no memory, nothing is written. `WriteFailed` comes
-/// only where the sink has failed: then exactly the first `written` bytes of the text went out.
+/// If the source has failed, the input is refused or there is no memory, nothing is written. `WriteFailed` comes
+/// only if the sink has failed: then exactly the first `written` bytes of the text went out.
 pub fn feed_run<S: Source, W: Sink>(
     alloc: Global,
     source: &mut S,
@@ -95,10 +96,10 @@ pub fn feed_run<S: Source, W: Sink>(
         (S.failed source.new) result }
     ensures unwritten { WritesNothing sink.old sink.new result }
 
-    // Want of memory is not answered as an input fault.
-    ensures memory { TellsMemoryApart result }
+    // Lack of memory is not answered as an input fault.
+    ensures memory { DistinguishesMemory result }
 
-    // A failed read is answered exactly where the source has failed, and a failed write only where the sink has.
+    // A failed read is answered exactly if the source has failed, and a failed write only where the sink has.
     ensures read_failed { S.failed source.new ≡ is_read_failed result }
     ensures write_failed { BlamesOutput (W.failed sink.new) result }
     ensures written { WritesFirst IsFed (S.left source.old)

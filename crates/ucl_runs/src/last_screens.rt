@@ -8,7 +8,7 @@ ghost use Rattle.ucl_runs.specs.Nights.{last_shown, last_text, lasts_text};
 use ucl_rows::{RunFault, put_under};
 use ucl_screen::Sink;
 
-/// Writes the last screen of a reader under its heading, where there is one.
+/// Writes the last screen of a reader under its heading, if there is one.
 pub fn put_last<W: Sink>(
     sink: &mut W,
     before: usize,
@@ -30,7 +30,7 @@ pub fn put_last<W: Sink>(
     }
 }
 
-/// Writes the last screens of both readers, where there are any, and tells how many bytes are out then.
+/// Writes the last screens of both readers, if there are any, and tells how many bytes are out then.
 #[tactic(auto, using(ucl_rows::proofs::NightParts::stopped_first, ucl_rows::proofs::NightParts::stopped_second))]
 pub fn put_lasts<W: Sink>(sink: &mut W, last: &[Option<String>; 2]) -> Result<usize, RunFault>
     ensures all { OnOk result (Appends (W.taken sink.old) (W.taken sink.new)

@@ -8,9 +8,9 @@ ghost use Rattle.ucl_rows.specs.Run.{IsStopped, MatchDuty};
 ghost use Rattle.ucl_runs.specs.Styles.{styled};
 ghost use Rattle.ucl_runs.specs.Workers.{IsWhyNoNight};
 
+use crate::config::{NightConfig, NightGate};
 use crate::gate::Gate;
 use crate::last_screens::put_lasts;
-use crate::plan::{Onlooker, Plan};
 use crate::threads::{Workers, work};
 use std::alloc::Global;
 use std::sync::Wait;
@@ -92,7 +92,7 @@ pub fn night_run<B: LiveBoard, G: Gate, R: Threads + Wait + Sync>(
     ensures kinds { IfErr result (IsWhyNoNight B.LiveBoard board.entry.now
         night.entry.now.events.items) }
 
-    // A row of a reporter who is not on duty is told exactly where there is one, and the first is.
+    // A row of a reporter who is not on duty is told exactly if there is one, and the first is.
     ensures duty { MatchResult result (λ _. All IsOnDuty night.entry.now.events.items)
         (IsDutyTold night.entry.now.events.items) }
 
@@ -110,19 +110,19 @@ pub fn night_run<B: LiveBoard, G: Gate, R: Threads + Wait + Sync>(
         reader_1,
         reader_2,
     };
-    let plan = Plan {
+    let config = NightConfig {
         night,
         group,
         readings,
         profile,
-        onlooker: Onlooker::of(gate),
+        night_gate: NightGate::of(gate),
     };
     let Workers {
         mut reporter_1,
         mut reporter_2,
         reader_1,
         reader_2,
-    } = work(rt, alloc, board, lent, &plan)?;
+    } = work(rt, alloc, board, lent, &config)?;
     let reader_1 = reader_1?;
     let reader_2 = reader_2?;
     let settled = settle(board, rt, &mut reporter_1, &mut reporter_2)?;
@@ -138,12 +138,12 @@ pub fn night_run<B: LiveBoard, G: Gate, R: Threads + Wait + Sync>(
     })
 }
 
-/// Writes the output of a night: where there are any, the last screens of both readers under the headings `READER 1` and
+/// Writes the output of a night: if there are any, the last screens of both readers under the headings `READER 1` and
 /// `READER 2`, and the closing screen under the heading `FINAL`. No memory is taken.
 ///
 /// # Errors
 ///
-/// `WriteFailed`, only where the sink has failed: exactly the first `written` bytes of the output went out. (Were they more
+/// `WriteFailed`, only if the sink has failed: exactly the first `written` bytes of the output went out. (Were they more
 /// than `usize::MAX`, that would be told.)
 pub fn put_night<R, P, W: Sink>(end: &NightEnd<R, P>, sink: &mut W) -> Result<(), RunFault>
     ensures all { OnOk result (Appends (W.taken sink.old) (W.taken sink.new)

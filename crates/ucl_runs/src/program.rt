@@ -3,7 +3,7 @@
 ghost use Rattle.std.specs.Prelude.{IfOk};
 ghost use Rattle.ucl_command.specs.Arguments.{IsInRange};
 ghost use Rattle.ucl_rows.specs.Ending.{ended_with};
-ghost use Rattle.ucl_runs.specs.Program.{Obeys, Runs, streams_at};
+ghost use Rattle.ucl_runs.specs.Program.{Executes, Runs, streams_at};
 
 use crate::feed::feed_run;
 use crate::gate::OpenGate;
@@ -14,7 +14,7 @@ use std::sync::Wait;
 use std::thread::Threads;
 use ucl_command::{Line, LineFault};
 use ucl_live_board::LiveBoard;
-use ucl_rows::{RunFault, ended, ended_unasked};
+use ucl_rows::{RunFault, ended, exit_without_command};
 use ucl_screen::{Sink, Source, read_night};
 use ucl_word::OutOfMemory;
 
@@ -23,9 +23,9 @@ use ucl_word::OutOfMemory;
 ///
 /// # Errors
 ///
-/// Those of `feed_run` and of `show_run`; for a night those of `read_night`, want of memory for the board, and those of `night_run` and of
-/// `put_night`. Where the source has failed, the input is refused or there is no memory, nothing is written.
-fn obey<B: LiveBoard + Drop, O, S: Source, W: Sink, R: Threads + Wait + Sync>(
+/// Those of `feed_run` and of `show_run`; for a night those of `read_night`, lack of memory for the board, and those of `night_run` and of
+/// `put_night`. If the source has failed, the input is refused or there is no memory, nothing is written.
+fn execute<B: LiveBoard + Drop, O, S: Source, W: Sink, R: Threads + Wait + Sync>(
     rt: &R,
     alloc: Global,
     line: Line,
@@ -38,7 +38,7 @@ where
     requires callable { O.pre opening }
     requires own { (r : _) → O.post opening r → IfOk r (λ it. B.is_reader it.0 it.1) }
     requires in_range { IsInRange line }
-    ensures { Obeys B.LiveBoard (O.post opening) line (streams_at S.Source W.Sink source.old sink.old)
+    ensures { Executes B.LiveBoard (O.post opening) line (streams_at S.Source W.Sink source.old sink.old)
         (streams_at S.Source W.Sink source.new sink.new) result }
 {
     match line {
@@ -60,7 +60,7 @@ where
 }
 
 /// Does what the arguments asked for, as `line_of` answered it, and gives the exit status: 0 where it was done, 2 where the arguments are
-/// refused, by the text of `clap`, and else that of the fault, which is told by its line. Help goes to the output. A night takes place on the
+/// refused, by the text of `clap`, and else that of the fault, whose line is printed. Help goes to the output. A night takes place on the
 /// board that `opening` opens, which nothing else does.
 pub fn run<B: LiveBoard + Drop, O, S: Source, W: Sink, E: Sink, R: Threads + Wait + Sync>(
     rt: &R,
@@ -82,9 +82,9 @@ where
 {
     match asked {
         Ok(line) => {
-            let done = obey(rt, alloc, line, opening, source, sink);
+            let done = execute(rt, alloc, line, opening, source, sink);
             ended(errors, done)
         }
-        Err(fault) => ended_unasked(sink, errors, fault),
+        Err(fault) => exit_without_command(sink, errors, fault),
     }
 }

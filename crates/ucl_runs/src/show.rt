@@ -5,7 +5,7 @@ ghost use Rattle.ucl_screen.specs.Parsing.{MeansSheet, sheet_seen};
 ghost use Rattle.ucl_screen.specs.Screen.{IsGroup};
 ghost use Rattle.ucl_rows.specs.Faults.{IsOfOneThread};
 ghost use Rattle.ucl_runs.specs.Show.{IsShown};
-ghost use Rattle.ucl_rows.specs.Run.{BlamesInput, BlamesOutput, CallsWithin, TellsMemoryApart, WritesAll, WritesFirst, WritesNothing, is_read_failed};
+ghost use Rattle.ucl_rows.specs.Run.{BlamesInput, BlamesOutput, CallsWithin, DistinguishesMemory, WritesAll, WritesFirst, WritesNothing, is_read_failed};
 
 use std::alloc::Global;
 use ucl_order::Profile;
@@ -19,8 +19,8 @@ use ucl_screen::{InputFault, Sink, Source, read_words, screen};
 ///
 /// # Errors
 ///
-/// Where the source has failed, the input is refused or there is no memory, nothing is written. `WriteFailed` comes
-/// only where the sink has failed: then exactly the first `written` bytes of the screen went out.
+/// If the source has failed, the input is refused or there is no memory, nothing is written. `WriteFailed` comes
+/// only if the sink has failed: then exactly the first `written` bytes of the screen went out.
 pub fn show_run<S: Source, W: Sink>(
     alloc: Global,
     source: &mut S,
@@ -40,10 +40,10 @@ pub fn show_run<S: Source, W: Sink>(
         (S.failed source.new) result }
     ensures unwritten { WritesNothing sink.old sink.new result }
 
-    // Want of memory is not answered as an input fault.
-    ensures memory { TellsMemoryApart result }
+    // Lack of memory is not answered as an input fault.
+    ensures memory { DistinguishesMemory result }
 
-    // A failed read is answered exactly where the source has failed, and a failed write only where the sink has.
+    // A failed read is answered exactly if the source has failed, and a failed write only where the sink has.
     ensures read_failed { S.failed source.new ≡ is_read_failed result }
     ensures write_failed { BlamesOutput (W.failed sink.new) result }
     ensures written { WritesFirst (IsShown profile group) (S.left source.old)

@@ -5,9 +5,9 @@ ghost use Rattle.ucl_screen.specs.Screen.{IsGroup};
 ghost use Rattle.ucl_rows.specs.declared.fault.RunFault.TheVariants as RunFault;
 ghost use Rattle.ucl_runs.specs.Workers.{IsFreshOn, IsNewOn, HasEnteredOn, HasShownOn};
 
+use crate::config::NightConfig;
 use crate::gate::Gate;
-use crate::plan::Plan;
-use crate::workers::{Shown, enter_rows, show_screens};
+use crate::workers::{ReaderResult, enter_rows, show_screens};
 use std::alloc::Global;
 use std::snapshot::Snapshot;
 use std::sync::Wait;
@@ -21,28 +21,28 @@ use ucl_word::OutOfMemory;
 #[derive(Drop)]
 pub struct Entering<'n, B: LiveBoard, G: Gate> {
     board: Snapshot<B>,
-    plan: Snapshot<Plan<'n, G>>,
+    config: Snapshot<NightConfig<'n, G>>,
     before: Snapshot<B::ReporterPass>,
     reporter: u8,
 }
 
 impl<'n, B: LiveBoard, G: Gate> Promise<B::ReporterPass> for Entering<'n, B, G> {
     ghost kept_by = { λ p pass.
-        HasEnteredOn B.LiveBoard p.board.value p.plan.value p.before.value p.reporter pass };
+        HasEnteredOn B.LiveBoard p.board.value p.config.value p.before.value p.reporter pass };
 }
 
 /// What a reader's thread promises of what it hands back.
 #[derive(Drop)]
 pub struct Showing<'n, B: LiveBoard, G: Gate> {
     board: Snapshot<B>,
-    plan: Snapshot<Plan<'n, G>>,
+    config: Snapshot<NightConfig<'n, G>>,
     before: Snapshot<B::ReaderPass>,
 }
 
-impl<'n, B: LiveBoard, G: Gate> Promise<Result<Shown<B::ReaderPass>, OutOfMemory>>
+impl<'n, B: LiveBoard, G: Gate> Promise<Result<ReaderResult<B::ReaderPass>, OutOfMemory>>
     for Showing<'n, B, G> {
     ghost kept_by = { λ p end.
-        IfOk end (HasShownOn B.LiveBoard p.board.value p.plan.value p.before.value) };
+        IfOk end (HasShownOn B.LiveBoard p.board.value p.config.value p.before.value) };
 }
 
 /// Starts the thread of a reporter, who enters its rows of the script.
@@ -52,19 +52,19 @@ fn start_reporter<'s, E, B: LiveBoard, G: Gate, R: Wait + Sync>(
     board: &'s B,
     pass: B::ReporterPass,
     reporter: u8,
-    plan: &'s Plan<'s, G>,
+    config: &'s NightConfig<'s, G>,
 ) -> Result<PromisedHandle<B::ReporterPass, Entering<'s, B, G>>, RunFault>
 where
     B::ReporterPass: 's,
     requires fresh { IsFreshOn B.LiveBoard board.now pass }
     ensures board { IfOk result (λ worker. worker.promise.board.value ≡ board.now) }
-    ensures plan { IfOk result (λ worker. worker.promise.plan.value ≡ plan.now) }
+    ensures config { IfOk result (λ worker. worker.promise.config.value ≡ config.now) }
     ensures before { IfOk result (λ worker. worker.promise.before.value ≡ pass) }
     ensures reporter { IfOk result (λ worker. worker.promise.reporter ≡ reporter) }
 {
     let promise = Entering {
         board: Snapshot::of(board),
-        plan: Snapshot::of(plan),
+        config: Snapshot::of(config),
         before: Snapshot::of(&pass),
         reporter,
     };
@@ -72,15 +72,15 @@ where
         promise,
         move || -> B::ReporterPass
             requires { IsFreshOn B.LiveBoard board.now pass }
-            ensures { HasEnteredOn B.LiveBoard board.entry.now plan.entry.now pass reporter result }
+            ensures { HasEnteredOn B.LiveBoard board.entry.now config.entry.now pass reporter result }
         {
             enter_rows(
                 rt,
                 board,
                 pass,
                 reporter,
-                &plan.night.events,
-                &plan.onlooker,
+                &config.night.events,
+                &config.night_gate,
             )
         },
     );
@@ -95,27 +95,30 @@ fn start_reader<'s, E, B: LiveBoard, G: Gate, R: Wait + Sync>(
     board: &'s B,
     pass: B::ReaderPass,
     worker: u8,
-    plan: &'s Plan<'s, G>,
-) -> Result<PromisedHandle<Result<Shown<B::ReaderPass>, OutOfMemory>, Showing<'s, B, G>>, RunFault>
+    config: &'s NightConfig<'s, G>,
+) -> Result<
+    PromisedHandle<Result<ReaderResult<B::ReaderPass>, OutOfMemory>, Showing<'s, B, G>>,
+    RunFault,
+>
 where
     B::ReaderPass: 's,
     requires new { IsNewOn B.LiveBoard board.now pass }
-    requires group { IsGroup plan.now.group }
+    requires group { IsGroup config.now.group }
     ensures board { IfOk result (λ worker. worker.promise.board.value ≡ board.now) }
-    ensures plan { IfOk result (λ worker. worker.promise.plan.value ≡ plan.now) }
+    ensures config { IfOk result (λ worker. worker.promise.config.value ≡ config.now) }
     ensures before { IfOk result (λ worker. worker.promise.before.value ≡ pass) }
 {
     let promise = Showing {
         board: Snapshot::of(board),
-        plan: Snapshot::of(plan),
+        config: Snapshot::of(config),
         before: Snapshot::of(&pass),
     };
     let started = scope.spawn_with(
         promise,
-        move || -> Result<Shown<B::ReaderPass>, OutOfMemory>
-            requires { IsNewOn B.LiveBoard board.now pass × IsGroup plan.now.group }
-            ensures { IfOk result (HasShownOn B.LiveBoard board.entry.now plan.entry.now pass) }
-        { show_screens(rt, alloc, board, pass, worker, plan) },
+        move || -> Result<ReaderResult<B::ReaderPass>, OutOfMemory>
+            requires { IsNewOn B.LiveBoard board.now pass × IsGroup config.now.group }
+            ensures { IfOk result (HasShownOn B.LiveBoard board.entry.now config.entry.now pass) }
+        { show_screens(rt, alloc, board, pass, worker, config) },
     );
     started.map_err(|_| RunFault::NoThread)
 }
@@ -136,49 +139,49 @@ pub fn work<B: LiveBoard, G: Gate, R: Threads + Wait + Sync>(
     alloc: Global,
     board: &B,
     lent: Workers<B::ReporterPass, B::ReaderPass>,
-    plan: &Plan<'_, G>,
-) -> Result<Workers<B::ReporterPass, Result<Shown<B::ReaderPass>, OutOfMemory>>, RunFault>
+    config: &NightConfig<'_, G>,
+) -> Result<Workers<B::ReporterPass, Result<ReaderResult<B::ReaderPass>, OutOfMemory>>, RunFault>
     requires reporters { IsFreshOn B.LiveBoard board.now lent.reporter_1
         × IsFreshOn B.LiveBoard board.now lent.reporter_2 }
     requires readers { IsNewOn B.LiveBoard board.now lent.reader_1
         × IsNewOn B.LiveBoard board.now lent.reader_2 }
-    requires group { IsGroup plan.now.group }
+    requires group { IsGroup config.now.group }
     ensures reporter_1 { IfOk result (λ w.
-        HasEnteredOn B.LiveBoard board.entry.now plan.entry.now lent.reporter_1 1 w.reporter_1) }
+        HasEnteredOn B.LiveBoard board.entry.now config.entry.now lent.reporter_1 1 w.reporter_1) }
     ensures reporter_2 { IfOk result (λ w.
-        HasEnteredOn B.LiveBoard board.entry.now plan.entry.now lent.reporter_2 2 w.reporter_2) }
+        HasEnteredOn B.LiveBoard board.entry.now config.entry.now lent.reporter_2 2 w.reporter_2) }
     ensures reader_1 { IfOk result (λ w. IfOk w.reader_1
-        (HasShownOn B.LiveBoard board.entry.now plan.entry.now lent.reader_1)) }
+        (HasShownOn B.LiveBoard board.entry.now config.entry.now lent.reader_1)) }
     ensures reader_2 { IfOk result (λ w. IfOk w.reader_2
-        (HasShownOn B.LiveBoard board.entry.now plan.entry.now lent.reader_2)) }
+        (HasShownOn B.LiveBoard board.entry.now config.entry.now lent.reader_2)) }
     ensures failed { IfErr result (λ f. f ≡ RunFault.NoThread) }
 {
     thread::scope(
         thread::scope_env(),
         rt,
         move |scope| -> Result<
-            Workers<B::ReporterPass, Result<Shown<B::ReaderPass>, OutOfMemory>>,
+            Workers<B::ReporterPass, Result<ReaderResult<B::ReaderPass>, OutOfMemory>>,
             RunFault,
         >
             requires reporters { IsFreshOn B.LiveBoard board.now lent.reporter_1
                 × IsFreshOn B.LiveBoard board.now lent.reporter_2 }
             requires readers { IsNewOn B.LiveBoard board.now lent.reader_1
                 × IsNewOn B.LiveBoard board.now lent.reader_2 }
-            requires group { IsGroup plan.now.group }
+            requires group { IsGroup config.now.group }
             ensures reporter_1 { IfOk result (λ w. HasEnteredOn B.LiveBoard board.entry.now
-                plan.entry.now lent.reporter_1 1 w.reporter_1) }
+                config.entry.now lent.reporter_1 1 w.reporter_1) }
             ensures reporter_2 { IfOk result (λ w. HasEnteredOn B.LiveBoard board.entry.now
-                plan.entry.now lent.reporter_2 2 w.reporter_2) }
+                config.entry.now lent.reporter_2 2 w.reporter_2) }
             ensures reader_1 { IfOk result (λ w. IfOk w.reader_1
-                (HasShownOn B.LiveBoard board.entry.now plan.entry.now lent.reader_1)) }
+                (HasShownOn B.LiveBoard board.entry.now config.entry.now lent.reader_1)) }
             ensures reader_2 { IfOk result (λ w. IfOk w.reader_2
-                (HasShownOn B.LiveBoard board.entry.now plan.entry.now lent.reader_2)) }
+                (HasShownOn B.LiveBoard board.entry.now config.entry.now lent.reader_2)) }
             ensures failed { IfErr result (λ f. f ≡ RunFault.NoThread) }
         {
-            let reporter_1 = start_reporter(scope, rt, board, lent.reporter_1, 1, plan);
-            let reporter_2 = start_reporter(scope, rt, board, lent.reporter_2, 2, plan);
-            let reader_1 = start_reader(scope, rt, alloc, board, lent.reader_1, 3, plan);
-            let reader_2 = start_reader(scope, rt, alloc, board, lent.reader_2, 4, plan);
+            let reporter_1 = start_reporter(scope, rt, board, lent.reporter_1, 1, config);
+            let reporter_2 = start_reporter(scope, rt, board, lent.reporter_2, 2, config);
+            let reader_1 = start_reader(scope, rt, alloc, board, lent.reader_1, 3, config);
+            let reader_2 = start_reader(scope, rt, alloc, board, lent.reader_2, 4, config);
             match (reporter_1, reporter_2, reader_1, reader_2) {
                 (Ok(reporter_1), Ok(reporter_2), Ok(reader_1), Ok(reader_2)) => Ok(Workers {
                     reporter_1: reporter_1.join(rt),

@@ -5,8 +5,8 @@ ghost use Rattle.ucl_screen.specs.Screen.{IsGroup};
 ghost use Rattle.ucl_runs.specs.Nights.{IsFresh, IsNew, HasEntered, HasShown};
 ghost use Rattle.ucl_runs.specs.Workers.{style_of};
 
+use crate::config::{NightConfig, NightGate};
 use crate::gate::Gate;
-use crate::plan::{Onlooker, Plan};
 use std::alloc::Global;
 use std::sync::Wait;
 use ucl_live_board::LiveBoard;
@@ -21,7 +21,7 @@ pub fn enter_rows<B: LiveBoard, G: Gate, R: Wait>(
     mut pass: B::ReporterPass,
     reporter: u8,
     rows: &[NightEvent],
-    onlooker: &Onlooker<'_, G>,
+    night_gate: &NightGate<'_, G>,
 ) -> B::ReporterPass
     requires own { B.is_reporter board.now pass }
     requires fresh { IsFresh (B.reporter pass) }
@@ -31,7 +31,7 @@ pub fn enter_rows<B: LiveBoard, G: Gate, R: Wait>(
     let mut call: u32 = 0;
     for row in rows {
         if row.reporter.get() == reporter {
-            onlooker.come(reporter, call);
+            night_gate.come(reporter, call);
             let _ = board.report(rt, &mut pass, &row.call);
             call = call.wrapping_add(1);
         }
@@ -41,12 +41,12 @@ pub fn enter_rows<B: LiveBoard, G: Gate, R: Wait>(
 
 /// What a reader of a night hands back: its pass, and its last screen.
 #[derive(Drop)]
-pub struct Shown<P> {
+pub struct ReaderResult<P> {
     pub pass: P,
     pub last: Option<String>,
 }
 
-/// Takes the readings of a reader with a pass that has shown nothing yet, and renders each. Where there is no memory for a
+/// Takes the readings of a reader with a pass that has shown nothing yet, and renders each. If there is no memory for a
 /// screen, no further reading is taken.
 pub fn show_screens<B: LiveBoard, G: Gate, R: Wait>(
     rt: &R,
@@ -54,30 +54,30 @@ pub fn show_screens<B: LiveBoard, G: Gate, R: Wait>(
     board: &B,
     mut pass: B::ReaderPass,
     worker: u8,
-    plan: &Plan<'_, G>,
-) -> Result<Shown<B::ReaderPass>, OutOfMemory>
+    config: &NightConfig<'_, G>,
+) -> Result<ReaderResult<B::ReaderPass>, OutOfMemory>
     requires own { B.is_reader board.now pass }
     requires new { IsNew (B.reader pass) }
-    requires group { IsGroup plan.now.group }
+    requires group { IsGroup config.now.group }
     ensures own { IfOk result (λ end. B.is_reader board.entry.now end.pass) }
-    ensures shown { IfOk result (λ end. HasShown (style_of plan.entry.now)
+    ensures shown { IfOk result (λ end. HasShown (style_of config.entry.now)
         (B.reader pass) (B.reader end.pass)
-        plan.entry.now.readings (option_map string_bytes end.last)) }
+        config.entry.now.readings (option_map string_bytes end.last)) }
 {
-    let Plan {
+    let NightConfig {
         night,
         group,
         readings,
         profile,
         ..
-    } = *plan;
+    } = *config;
     let mut last = None;
     for call in 0..readings {
-        plan.onlooker.come(worker, call);
+        config.night_gate.come(worker, call);
         let reading = board.read(rt, &mut pass);
         let text = screen(alloc, &reading.board, &night.roster, group, profile)?;
-        plan.shown(board, worker, &pass, &reading, text.as_str());
+        config.shown(board, worker, &pass, &reading, text.as_str());
         last = Some(text);
     }
-    Ok(Shown { pass, last })
+    Ok(ReaderResult { pass, last })
 }

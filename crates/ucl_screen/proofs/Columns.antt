@@ -1,6 +1,7 @@
 -- How wide the lines are.
 use Rattle.std.proofs.Common.{◌≡◌, ℕ, ◌+◌, ◌-◌, ◌<◌, ◌≤◌, ◌^◌, Bool, true, false, cond, List, ◌++◌, length, replicate, codes, arith, refl, length-append}
-use Rattle.std.specs.Prelude.{decimal, nat_le}
+use Rattle.std.proofs.Common.{append_assoc, [], ◌∷◌}
+use Rattle.std.specs.Prelude.{decimal, nat_le, ◌&&◌}
 use Rattle.std.proofs.lemmas.List.{length-replicate}
 use Rattle.std.proofs.lemmas.Fmt.{length-decimal-le}
 use Rattle.ucl_order.specs.declared.mark.Mark.{Mark}
@@ -8,7 +9,13 @@ use Rattle.ucl_order.specs.declared.mark.Mark.TheVariants.{Plus, Minus, Blank}
 use Rattle.ucl_order.specs.declared.table.Row.{Row}
 use Rattle.ucl_order.specs.Rows.{IsWithinTable}
 use Rattle.ucl_screen.specs.Lines.{left, right, difference_text, mark_text, place_line}
-use Rattle.ucl_screen.specs.Laws.{LinesHave53Columns}
+use Rattle.ucl_screen.specs.Theorems.{LinesHave53Columns}
+use Rattle.std.specs.List.{list_all}
+use Rattle.std.specs.Str.{IsAscii, IsUtf8}
+use Rattle.std.proofs.lemmas.Bool.Decides.{nat_tests}
+use Rattle.std.proofs.lemmas.Str.{IsUtf8-from_ascii}
+use Rattle.std.proofs.lemmas.Str.Ascii.{IsAscii-nil, IsAscii-cons}
+use Rattle.ucl_order.specs.Roster.{is_printed, is_name}
 
 wide_left : (width : ℕ) (text : List ℕ) → length text ≤ width → length (left width text) ≡ width
 wide_left width text fits = omega (arith, length-append text (replicate (width - length text) 32), length-replicate {A = ℕ} (width - length text) 32)
@@ -57,3 +64,36 @@ wide_line row name w place fits =
 
 pub lines_wide : LinesHave53Columns
 lines_wide = record { names = refl; places = wide_line }
+
+-- ---- a text that is written piece by piece
+
+pieces : (o a b c d e f g h i j k l : List ℕ)
+    → o ++ a ++ b ++ c ++ d ++ e ++ f ++ g ++ h ++ i ++ j ++ k ++ l ≡ o ++ (a ++ b ++ c ++ d ++ e ++ f ++ g ++ h ++ i ++ j ++ k ++ l)
+pieces o a b c d e f g h i j k l = simp append_assoc
+
+-- the line of a place, after what was there
+pub line_written : (row : Row) (name o p q r s t u v w x y z after : List ℕ)
+    → p ≡ o ++ right 1 (decimal row.place) → q ≡ p ++ mark_text row.mark → r ≡ q ++ left 20 name
+    → s ≡ r ++ right 3 (decimal row.played) → t ≡ s ++ right 3 (decimal row.wins) → u ≡ t ++ right 3 (decimal row.draws) → v ≡ u ++ right 3 (decimal row.losses)
+    → w ≡ v ++ right 4 (decimal row.goals_for) → x ≡ w ++ right 4 (decimal row.goals_against) → y ≡ x ++ right 5 (difference_text row.goals_for row.goals_against)
+    → z ≡ y ++ right 4 (decimal row.points) → after ≡ z ++ codes "\n" → after ≡ o ++ place_line row name
+unfolding place_line
+line_written row name o p q r s t u v w x y z after p' q' r' s' t' u' v' w' x' y' z' after' =
+    rw (after', z', y', x', w', v', u', t', s', r', q', p') (pieces o _ _ _ _ _ _ _ _ _ _ _ _)
+
+-- ---- names are text
+
+both : (a b : Bool) → (a && b) ≡ true → (a ≡ true) × (b ≡ true)
+both true true h = (h, h)
+both true false h = absurd cc
+both false b h = absurd cc
+
+below : (b : ℕ) → is_printed b ≡ true → b < 128
+below b h = let e = (both (nat_le 0x20 b) (nat_le b 0x7e) h).1 in grind (arith, nat_tests)
+
+printed_ascii : (bs : List ℕ) → list_all is_printed bs ≡ true → IsAscii bs
+printed_ascii [] h = IsAscii-nil
+printed_ascii (b ∷ bs) h = let e = both (is_printed b) (list_all is_printed bs) h in IsAscii-cons b bs (below b e.0) (printed_ascii bs e.1)
+
+pub name_text : (name : List ℕ) → is_name name ≡ true → IsUtf8 name
+name_text name h = IsUtf8-from_ascii name (printed_ascii name (both _ _ h).1)

@@ -1,9 +1,10 @@
 -- Numbers read one digit at a time.
-use Rattle.std.proofs.Common.{◌≡◌, ℕ, ◌+◌, ◌-◌, ◌*◌, ◌^◌, ◌<◌, ◌≤◌, ◌==◌, Bool, true, false, List, [], length, drop, get_or, Some, None, refl, arith, add-one, drop-cons}
-use Rattle.std.proofs.Math.Nat.{pow-suc}
+use Rattle.std.proofs.Common.{◌≡◌, ℕ, ◌+◌, ◌-◌, ◌*◌, ◌^◌, ◌<◌, ◌≤◌, ◌==◌, Bool, true, false, List, [], length, drop, get_or, Some, None, refl, arith, add-one}
+use Rattle.std.proofs.Common.{drop-cons, zero}
+use Rattle.std.proofs.Math.Nat.{pow-suc, pow-le-pow_right}
 use Rattle.std.proofs.lemmas.Grind.{common_steps}
 use Rattle.std.proofs.lemmas.Bool.Decides.{nat_tests}
-use Rattle.ucl_screen.specs.Numbers.{digits_after, is_digit, number}
+use Rattle.ucl_screen.specs.Numbers.{digits_after, is_digit, number, hex_after, hex_digit, hex_word}
 
 pub number-is : (most : ℕ) (text : List ℕ) → 1 ≤ length text → length text ≤ most → number most text ≡ digits_after 0 text
 number-is most text a b = grind (arith, nat_tests)
@@ -39,3 +40,32 @@ nonempty text r e f = grind (arith, nat_tests)
 
 pub one-more-digit : (n i d : ℕ) → n < 10 ^ i → d ≤ 9 → 10 * n + d < 10 ^ (i + 1)
 one-more-digit n i d h k = rw (add-one i, pow-suc 10 i) (omega arith)
+
+-- ---- words read one hexadecimal digit at a time
+
+pub word-is : (text : List ℕ) → length text ≡ 16 → hex_word text ≡ hex_after 0 text
+word-is text e = rw e refl
+
+pub more-hex : (n i d : ℕ) (text : List ℕ) → i < length text → hex_digit (get_or text i 0) ≡ Some d
+    → hex_after n (drop i text) ≡ hex_after (16 * n + d) (drop (i + 1) text)
+unfolding hex_after
+more-hex n i d text h e = rw (drop-cons text i 0, add-one i, e) refl
+
+pub no-hex : (n i : ℕ) (text : List ℕ) → i < length text → hex_digit (get_or text i 0) ≡ None → hex_after n (drop i text) ≡ None
+unfolding hex_after
+no-hex n i text h e = rw (drop-cons text i 0, e) refl
+
+pub no-more-hex : (n i : ℕ) (text : List ℕ) → length text ≤ i → hex_after n (drop i text) ≡ Some n
+unfolding hex_after
+no-more-hex n i text h = let e : drop i text ≡ [] = grind (arith, common_steps) in rw e refl
+
+pub one-more-hex : (n i d : ℕ) → n < 16 ^ i → d < 16 → 16 * n + d < 16 ^ (i + 1)
+one-more-hex n i d h k = rw (add-one i, pow-suc 16 i) (omega arith)
+
+-- sixteen digits fit 64 bits
+pub hex-fits : (n i : ℕ) → n < 16 ^ (i + 1) → i < 16 → n < 2 ^ 64
+hex-fits n i h k =
+    let positive : zero < 16 = omega arith in
+    let few : i + 1 ≤ 16 = omega arith in
+    let most : 16 ^ (i + 1) ≤ 16 ^ 16 = pow-le-pow_right positive few in
+    omega arith

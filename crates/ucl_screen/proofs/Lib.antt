@@ -1,15 +1,8 @@
-pub mod FourFacts
 pub mod RowFacts
 pub mod Digits
-pub mod RowByRow
-pub mod HexDigits
 pub mod RowFaults
-pub mod Pieces
-pub mod Names
 pub mod Columns
-pub mod ScriptFaults
 pub mod ReadWords
 pub mod FaultLines
-pub mod OneMatchMore
 pub mod EventsInTurn
 pub mod Letters

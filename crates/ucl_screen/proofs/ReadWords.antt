@@ -1,11 +1,12 @@
 -- What twelve words are read as.
-use Rattle.std.proofs.Common.{◌≡◌, ℕ, zero, suc, ◌+◌, ◌-◌, ◌<◌, ◌≤◌, ◌==◌, ◌&&◌, Bool, true, false, List, [], ◌∷◌, length, get_or, Option, Some, None, refl, sym, ap, ◌∙◌, inl, inr, arith}
+use Rattle.std.proofs.Common.{◌≡◌, ℕ, zero, suc, ◌+◌, ◌-◌, ◌<◌, ◌≤◌, ◌==◌, ◌&&◌, Bool, true, false, List, [], ◌∷◌, length, get_or, Option, Some, None, refl, sym, ap}
+use Rattle.std.proofs.Common.{◌∙◌, inl, inr, arith}
 use Rattle.std.specs.Prelude.{nat_le, Result, Ok, Err}
 use Rattle.std.proofs.lemmas.Bool.{cases_Bool}
 use Rattle.std.proofs.lemmas.Bool.Decides.{nat_tests}
 use Rattle.ucl_word.specs.Record.{is_valid}
 use Rattle.ucl_word.specs.Layout.{IsWord, first_layout, record_at, word_of}
-use Rattle.ucl_word.specs.Migration.{IsFirstWord, IsReadAs, IsReadable, first_word_of, most_in_first}
+use Rattle.ucl_word.specs.Migration.{IsFirstWord, IsReadAs, IsReadable, first_word_of, max_number_in_play_of_first_layout}
 use Rattle.ucl_word.proofs.Words.{record_told, word_packed, word_valid}
 use Rattle.ucl_word.proofs.FirstWords.{first_back, layouts_apart}
 use Rattle.ucl_board.specs.Words.{AreReadAs, IsFirstBad}
@@ -41,9 +42,9 @@ first-told word = refl
 first-is : (word : ℕ) → is_first_word word ≡ true → IsFirstWord word
 first-is word h =
     let m = first_record_at word in
-    let p = both (is_valid m && nat_le m.number (most_in_first m.state)) (first_word_of m == word) h in
-    let q = both (is_valid m) (nat_le m.number (most_in_first m.state)) p.0 in
-    record { of = m; valid = record { valid = q.0; number = test-below m.number (most_in_first m.state) q.1 }; packed = test-same (first_word_of m) word p.1 }
+    let p = both (is_valid m && nat_le m.number (max_number_in_play_of_first_layout m.state)) (first_word_of m == word) h in
+    let q = both (is_valid m) (nat_le m.number (max_number_in_play_of_first_layout m.state)) p.0 in
+    record { of = m; valid = record { valid = q.0; number = test-below m.number (max_number_in_play_of_first_layout m.state) q.1 }; packed = test-same (first_word_of m) word p.1 }
 
 first-of : (word : ℕ) (w : IsFirstWord word) → first_record_at word ≡ w.of
 first-of word w = first-told word ∙ ap (record_told first_layout.number.width) (sym w.packed) ∙ first_back w.of w.valid
@@ -52,7 +53,7 @@ is-first : (word : ℕ) → IsFirstWord word → is_first_word word ≡ true
 is-first word w =
     let e = first-of word w in
     let a = w.valid.valid in
-    let b : nat_le w.of.number (most_in_first w.of.state) ≡ true = let k = w.valid.number in grind (arith, nat_tests) in
+    let b : nat_le w.of.number (max_number_in_play_of_first_layout w.of.state) ≡ true = let k = w.valid.number in grind (arith, nat_tests) in
     let c = same-test (first_word_of w.of) word w.packed in rw (e, a, b, c) refl
 
 not-word : (word : ℕ) → (IsWord word → ⊥) → is_word word ≡ false

@@ -1,7 +1,7 @@
 -- What the rows of an input are refused for.
 use Rattle.std.proofs.Common.{◌≡◌, ℕ, zero, suc, ◌+◌, ◌≤◌, Bool, false, List, [], ◌∷◌, length, Option, Some, None, refl, sym, ◌∙◌, subst, true≢false}
 use Rattle.std.proofs.lemmas.Bool.{le-leb}
-use Rattle.std.specs.Prelude.{Result, Ok, Err, IfSome, ⊤}
+use Rattle.std.specs.Prelude.{Result, Ok, Err, IfSome, ⊤, IfErr}
 use Rattle.ucl_order.specs.Roster.{NamedClub, bad_slot}
 use Rattle.ucl_screen.specs.declared.fault.InputFault.{InputFault}
 use Rattle.ucl_screen.specs.declared.fault.InputFault.TheVariants as fault
@@ -11,7 +11,8 @@ use Rattle.ucl_screen.specs.declared.sheet.Sheet.{Sheet}
 use Rattle.ucl_screen.specs.Input.{Reads, CallsRead, whole_input}
 use Rattle.ucl_screen.specs.Rows.{Fields, rows_of}
 use Rattle.ucl_screen.specs.Events.{event_of}
-use Rattle.ucl_screen.specs.Script.{◌>>=◌, said_by, or_bad, club_of, club_at, if_good, roster_at, events_from, word_of_row, words_from, WrittenSheet, night_of_rows, sheet_of_rows, sheet_of}
+use Rattle.ucl_screen.specs.Script.{◌>>=◌, said_by, or_bad, club_of, club_at, if_good, roster_at, events_from, word_of_row, words_from, WrittenSheet, night_of_rows}
+use Rattle.ucl_screen.specs.Script.{sheet_of_rows, sheet_of, IsFaultOfScript}
 use Rattle.ucl_screen.specs.Parsing.{AnswersAsSaid, Refuses, MeansNight, MeansSheet, night_seen, sheet_seen}
 
 -- a row or a club is bad
@@ -143,3 +144,14 @@ calls-read Means view left after failed old new (Err (fault.BadRoster slot)) f r
 calls-read Means view left after failed old new (Err (fault.ReadFailed n)) f reads h = absurd (true≢false (sym reads.0 ∙ f))
 calls-read Means view left after failed old new (Err fault.OutOfMemory) f reads h = h
 calls-read Means view left after failed old new (Err fault.TooLong) f reads h = h
+
+-- ---- which faults a script can have
+
+pub script-faults : (r : Result Night InputFault) (rows : List Fields) → AnswersAsSaid night_seen r (night_of_rows rows) → IfErr r IsFaultOfScript
+script-faults (Ok night) rows g = tt
+script-faults (Err (fault.BadWordAt index)) rows g = absurd (never (night_of_rows rows) (fault.BadWordAt index) (night-sound rows) g)
+script-faults (Err (fault.BadRow row)) rows g = tt
+script-faults (Err (fault.BadRoster slot)) rows g = tt
+script-faults (Err (fault.ReadFailed n)) rows g = absurd (never (night_of_rows rows) (fault.ReadFailed n) (night-sound rows) g)
+script-faults (Err fault.OutOfMemory) rows g = tt
+script-faults (Err fault.TooLong) rows g = tt

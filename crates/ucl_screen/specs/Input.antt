@@ -5,12 +5,12 @@ use Rattle.ucl_screen.specs.declared.fault.InputFault.TheVariants.{ReadFailed, O
 use Rattle.ucl_io.specs.Stream.{MovesCount}
 
 -- the most bytes that an input may have
-abbrev pub most_bytes : ℕ
-most_bytes = 4194304
+abbrev pub max_bytes : ℕ
+max_bytes = 4194304
 
 -- the bytes of an input, where they are not too many
 abbrev pub whole_input : List ℕ → Result (List ℕ) InputFault
-whole_input bytes = if nat_le (length bytes) most_bytes then Ok bytes else Err TooLong
+whole_input bytes = if nat_le (length bytes) max_bytes then Ok bytes else Err TooLong
 
 -- what a source gives from its bytes before and after, and whether it has failed: what the bytes mean, as `Means` tells it and
 -- `view` shows it, or the failure of the source after so many bytes; memory may run out in place of either

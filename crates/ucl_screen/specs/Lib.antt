@@ -7,6 +7,6 @@ pub mod Parsing
 pub mod Lines
 pub mod Screen
 pub mod Matches
-pub mod Laws
+pub mod Theorems
 pub mod Texts
 pub mod WordsRead

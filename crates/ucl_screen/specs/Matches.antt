@@ -27,7 +27,7 @@ counts_text m =
     right 2 (decimal m.home_goals) ++ codes "-" ++ decimal m.away_goals
     ++ codes " Y " ++ sides_text m.home_yellows m.away_yellows ++ codes " E " ++ sides_text m.home_expulsions m.away_expulsions
 
--- who entered the last event, 0 where there is none, and the clubs of the match
+-- who entered the last event, 0 if there is none, and the clubs of the match
 unfoldable pub clubs_text : MatchRecord → List ℕ → List ℕ → List ℕ
 clubs_text m home away = codes "by " ++ right 3 (decimal m.reporter) ++ codes " " ++ home ++ codes " v " ++ away
 

@@ -1,5 +1,6 @@
 -- What the rows of an input say: a roster, and then events or words.
-use Rattle.std.specs.Prelude.{⊤, ℕ, zero, suc, ◌+◌, ◌==◌, ◌&&◌, if◌then◌else◌, List, [], ◌∷◌, length, codes, Option, Some, None, option_map, option_and_then, Result, Ok, Err}
+use Rattle.std.specs.Prelude.{⊤, ℕ, zero, suc, ◌+◌, ◌==◌, ◌&&◌, if◌then◌else◌, List, [], ◌∷◌, length, codes, Option, Some, None, option_map, option_and_then, Result}
+use Rattle.std.specs.Prelude.{Ok, Err}
 use Rattle.std.specs.Str.{bytes_eq}
 use Rattle.ucl_order.specs.Roster.{NamedClub, bad_slot}
 use Rattle.ucl_screen.specs.declared.fault.InputFault.{InputFault}
@@ -108,7 +109,7 @@ night_of bytes = whole_input bytes >>= λ text. night_of_rows (rows_of text)
 abbrev pub sheet_of : List ℕ → Result WrittenSheet InputFault
 sheet_of bytes = whole_input bytes >>= λ text. sheet_of_rows (rows_of text)
 
--- the faults that a script can have, and want of memory
+-- the faults that a script can have, and lack of memory
 abbrev pub IsFaultOfScript : InputFault → Type 0
 IsFaultOfScript (BadRow row) = ⊤
 IsFaultOfScript (BadRoster slot) = ⊤

@@ -3,7 +3,7 @@ use Rattle.std.specs.Prelude.{ℕ, ◌+◌, ◌==◌, ◌&&◌, nat_le, if◌the
 use Rattle.ucl_word.specs.declared.record.MatchRecord.{MatchRecord}
 use Rattle.ucl_word.specs.Record.{is_valid}
 use Rattle.ucl_word.specs.Layout.{first_layout, record_at, record_in, word_of}
-use Rattle.ucl_word.specs.Migration.{first_word_of, most_in_first}
+use Rattle.ucl_word.specs.Migration.{first_word_of, max_number_in_play_of_first_layout}
 
 -- what the fields of a word of the first layout hold
 unfoldable pub first_record_at : ℕ → MatchRecord
@@ -16,7 +16,7 @@ is_word word = is_valid (record_at word) && (word_of (record_at word) == word)
 -- the same in the first layout, which had room for fewer numbers
 abbrev pub is_first_word : ℕ → Bool
 is_first_word word =
-    let m = first_record_at word in is_valid m && nat_le m.number (most_in_first m.state) && (first_word_of m == word)
+    let m = first_record_at word in is_valid m && nat_le m.number (max_number_in_play_of_first_layout m.state) && (first_word_of m == word)
 
 -- what a word is read as
 unfoldable pub read_word : ℕ → Option ℕ

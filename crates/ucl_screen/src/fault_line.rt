@@ -5,7 +5,7 @@ ghost use Rattle.ucl_screen.specs.Texts.{line_text};
 
 use std::fmt;
 
-/// The line of a fault, without its line feed: a text, a number where there is one, and what comes after it.
+/// The line of a fault, without its line feed: a text, a number if there is one, and what comes after it.
 #[derive(Clone, Copy)]
 pub struct FaultLine {
     /// The text before the number.

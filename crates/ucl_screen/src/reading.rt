@@ -3,7 +3,7 @@
 ghost use Rattle.std.specs.Prelude.{◌≡◌, ◌+◌, ◌≤◌, length, Some, option_map, IfErr, IfOk, OnOk};
 ghost use Rattle.csv.specs.Records.{fields_of};
 ghost use Rattle.ucl_order.specs.Roster.{club_lent, club_seen};
-ghost use Rattle.ucl_screen.specs.Input.{Reads, CallsRead, most_bytes};
+ghost use Rattle.ucl_screen.specs.Input.{Reads, CallsRead, max_bytes};
 ghost use Rattle.ucl_screen.specs.Rows.{IsReading, four_seen, rows_left, rows_of};
 ghost use Rattle.ucl_screen.specs.Events.{event_of};
 ghost use Rattle.ucl_screen.specs.Script.{said_by, club_of, club_at, roster_at, events_from, first_event_row, word_of_row, words_from, night_of, night_of_rows, sheet_of_rows, IsFaultOfScript};
@@ -14,7 +14,7 @@ use crate::fields::{call_of_fields, hex_word, number, reporter_of_field};
 use crate::night::{Night, NightEvent};
 use crate::rows::{Four, four_fields, next_row, open};
 use crate::sheet::Sheet;
-use crate::transfer::{MOST_INPUT_BYTES, read_all};
+use crate::transfer::{MAX_INPUT_BYTES, read_all};
 use csv::{ByteRecord, Reader};
 use std::alloc::{AllocError, Global};
 use ucl_board::Board;
@@ -116,10 +116,10 @@ fn event_of(row: &ByteRecord) -> Option<NightEvent>
 /// Parses the events of the rows that are left.
 fn events_at(alloc: Global, rows: &mut Reader<&[u8]>) -> Result<Vec<NightEvent>, InputFault>
     requires reading { IsReading rows.old }
-    requires few { length (rows_left rows.old) ≤ most_bytes }
+    requires few { length (rows_left rows.old) ≤ max_bytes }
     ensures gives { AnswersAsSaid (λ v. v.items) result
         (events_from first_event_row (rows_left rows.old)) }
-    ensures few { IfOk result (λ v. length v.items ≤ most_bytes) }
+    ensures few { IfOk result (λ v. length v.items ≤ max_bytes) }
 {
     let mut row = ByteRecord::new(alloc);
     let mut events = Vec::new(alloc);
@@ -137,9 +137,9 @@ fn events_at(alloc: Global, rows: &mut Reader<&[u8]>) -> Result<Vec<NightEvent>,
 /// Parses the script of a text.
 #[tactic(auto, unfolding(crate::specs::Script::night_of_rows))]
 fn night_of(alloc: Global, text: &[u8]) -> Result<Night, InputFault>
-    requires { length text.now ≤ most_bytes }
+    requires { length text.now ≤ max_bytes }
     ensures gives { AnswersAsSaid night_seen result (night_of_rows (rows_of text.now)) }
-    ensures few { IfOk result (λ night. length night.events.items ≤ most_bytes) }
+    ensures few { IfOk result (λ night. length night.events.items ≤ max_bytes) }
 {
     let mut rows = open(alloc, text);
     let roster = roster_at(alloc, &mut rows)?;
@@ -155,9 +155,9 @@ fn night_of(alloc: Global, text: &[u8]) -> Result<Night, InputFault>
 pub fn night_of_bytes(alloc: Global, bytes: &[u8]) -> Result<Night, InputFault>
     ensures gives { AnswersAsSaid night_seen result (night_of bytes.now) }
     ensures kinds { IfErr result IsFaultOfScript }
-    ensures few { IfOk result (λ night. length night.events.items ≤ most_bytes) }
+    ensures few { IfOk result (λ night. length night.events.items ≤ max_bytes) }
 {
-    if bytes.len() > MOST_INPUT_BYTES {
+    if bytes.len() > MAX_INPUT_BYTES {
         return Err(InputFault::TooLong);
     }
     night_of(alloc, bytes)
@@ -180,9 +180,9 @@ pub fn night_of_bytes(alloc: Global, bytes: &[u8]) -> Result<Night, InputFault>
 pub fn read_night<S: Source>(alloc: Global, source: &mut S) -> Result<Night, InputFault>
     ensures reads { Reads MeansNight night_seen (S.left source.old) (S.left source.new)
         (S.failed source.new) result }
-    ensures calls { S.calls source.new ≤ S.calls source.old + most_bytes + 2 }
+    ensures calls { S.calls source.new ≤ S.calls source.old + max_bytes + 2 }
     ensures each { CallsRead (S.left source.old) (S.calls source.old) (S.calls source.new) result }
-    ensures few { IfOk result (λ night. length night.events.items ≤ most_bytes) }
+    ensures few { IfOk result (λ night. length night.events.items ≤ max_bytes) }
 {
     let bytes = read_all(alloc, source)?;
     night_of(alloc, &bytes)
@@ -259,7 +259,7 @@ fn roster_and_words(alloc: Global, text: &[u8]) -> Result<(Roster, [u64; 12]), I
 pub fn read_words<S: Source>(alloc: Global, source: &mut S) -> Result<Sheet, InputFault>
     ensures reads { Reads MeansSheet sheet_seen (S.left source.old) (S.left source.new)
         (S.failed source.new) result }
-    ensures calls { S.calls source.new ≤ S.calls source.old + most_bytes + 2 }
+    ensures calls { S.calls source.new ≤ S.calls source.old + max_bytes + 2 }
     ensures each { CallsRead (S.left source.old) (S.calls source.old) (S.calls source.new) result }
 {
     let bytes = read_all(alloc, source)?;

@@ -46,7 +46,7 @@ pub(crate) fn next_row(rows: &mut Reader<&[u8]>, row: &mut ByteRecord) -> Result
 }
 
 /// Returns the fields of a row, if it has just four.
-#[tactic(auto, using(crate::proofs::FourFacts::four_by))]
+#[tactic(auto, using(crate::proofs::RowFacts::four_by))]
 pub(crate) fn four_fields(row: &ByteRecord) -> Option<Four<'_>>
     ensures { option_map four_seen result ≡ four_of (fields_of row.now) }
 {

@@ -1,14 +1,14 @@
 //! A source, read to its end.
 
 ghost use Rattle.std.specs.Prelude.{◌≡◌, ◌+◌, ◌≤◌, length, IfOk};
-ghost use Rattle.ucl_screen.specs.Input.{Reads, CallsRead, most_bytes, whole_input};
+ghost use Rattle.ucl_screen.specs.Input.{Reads, CallsRead, max_bytes, whole_input};
 
 use crate::fault::InputFault;
 use std::alloc::Global;
 use ucl_io::Source;
 
 /// The most bytes that an input may have.
-pub(crate) const MOST_INPUT_BYTES: usize = 4_194_304;
+pub(crate) const MAX_INPUT_BYTES: usize = 4_194_304;
 
 /// How many bytes are asked for at a time.
 const PIECE: usize = 65_536;
@@ -21,8 +21,8 @@ const PIECE: usize = 65_536;
 pub fn read_all<S: Source>(alloc: Global, source: &mut S) -> Result<Vec<u8>, InputFault>
     ensures reads { Reads (λ bytes r. whole_input bytes ≡ r) (λ v. v.items) (S.left source.old)
         (S.left source.new) (S.failed source.new) result }
-    ensures few { IfOk result (λ v. length v.items ≤ most_bytes) }
-    ensures calls { S.calls source.new ≤ S.calls source.old + most_bytes + 2 }
+    ensures few { IfOk result (λ v. length v.items ≤ max_bytes) }
+    ensures calls { S.calls source.new ≤ S.calls source.old + max_bytes + 2 }
     ensures each { CallsRead (S.left source.old) (S.calls source.old) (S.calls source.new) result }
 {
     let mut bytes = Vec::new(alloc);
@@ -31,7 +31,7 @@ pub fn read_all<S: Source>(alloc: Global, source: &mut S) -> Result<Vec<u8>, Inp
         match source.take(&mut piece) {
             None => return Err(InputFault::ReadFailed { bytes: bytes.len() }),
             Some(0) => return Ok(bytes),
-            Some(n) if n > MOST_INPUT_BYTES - bytes.len() => return Err(InputFault::TooLong),
+            Some(n) if n > MAX_INPUT_BYTES - bytes.len() => return Err(InputFault::TooLong),
             Some(n) => bytes.extend_from_slice(&piece[..n])?,
         }
     }

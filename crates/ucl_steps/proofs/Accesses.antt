@@ -1,9 +1,10 @@
 -- Accesses along a history, and what clean and unclean tries show.
-use Rattle.ucl_steps.proofs.Common.{◌≡◌, ℕ, suc, ◌+◌, ◌-◌, ◌*◌, ◌<◌, ◌≤◌, List, ◌∷◌, ◌++◌, take, length, Option, Some, None, Ok, Err, inl, inr, refl, sym, ap, ◌∙◌, subst, arith, []}
-use Rattle.ucl_steps.proofs.Common.{length-append, le_refl, get_or, get_or-set_other, slice_get, slice_index, slice_set, IsOk, AllByRecursion, none-some, same_Some, false≢true, take-length}
-use Rattle.ucl_steps.proofs.Common.{IsPrefix, MatchRecord, Refusal, answer, reply_of, word_of, record_at, at_below, at_end, at_either, Entry, match_after, board_of, IsLegal}
-use Rattle.ucl_steps.proofs.Common.{versions, same_number, take_beginning, AccessKind, Access, access, Does, IsFoundIn, Follows, IsCollect, IsUnclean, IsClean, accesses_of, UncleanTriesSeeMore}
-use Rattle.ucl_steps.proofs.Common.{UncleanTriesAreFew, ReadingsAreSnapshots, ReportsAreSequential}
+use Rattle.ucl_steps.proofs.Common.{◌≡◌, ℕ, suc, ◌+◌, ◌-◌, ◌*◌, ◌<◌, ◌≤◌, List, ◌∷◌, ◌++◌, take, length, Option, Some, None, Ok, Err, inl, inr, refl, sym, ap, ◌∙◌}
+use Rattle.ucl_steps.proofs.Common.{subst, arith, [], length-append, le_refl, get_or, get_or-set_other, slice_get, slice_index, slice_set, IsOk, AllByRecursion}
+use Rattle.ucl_steps.proofs.Common.{none-some, same_Some, false≢true, take-length, IsPrefix, MatchRecord, Refusal, answer, reply_of, word_of, record_at, at_below}
+use Rattle.ucl_steps.proofs.Common.{at_end, at_either, Entry, match_after, board_of, IsLegal, versions, same_number, take_beginning, AccessKind, Access, access}
+use Rattle.ucl_steps.proofs.Common.{Does, IsFoundIn, Follows, IsCollect, IsUnclean, IsClean, accesses_of, UncleanTriesSeeMore, UncleanTriesAreFew}
+use Rattle.ucl_steps.proofs.Common.{ReadingsAreSnapshots, ReportsAreSequential}
 use Rattle.ucl_board.specs.declared.reading.Reading.{Reading}
 use Rattle.ucl_steps.proofs.Lists.{get_some}
 use Rattle.ucl_steps.proofs.Histories.{number_expected, is_stale, legal_beginning, read_back, squeezed, board_from}

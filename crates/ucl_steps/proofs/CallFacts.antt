@@ -1,7 +1,8 @@
 -- What is known of a call by what its caller holds, and that a longer history leaves it.
-use Rattle.ucl_steps.proofs.Common.{◌≡◌, ℕ, ◌+◌, ◌<◌, ◌≤◌, List, take, length, Option, Some, None, sym, ap, ◌∙◌, arith, get_or, le_refl, slice_get, IsSome, IsPrefix, EventCall, refusal_of, after}
-use Rattle.ucl_steps.proofs.Common.{word_of, record_at, Entry, match_after, at_beginning, begins_length, take_beginning, Caller, Reporter, Call, Event, Reading, Reply, CallRecord, Nothing, Holding}
-use Rattle.ucl_steps.proofs.Common.{Collecting, Checking, Holds, Idle, Wanting, Within, Answered}
+use Rattle.ucl_steps.proofs.Common.{◌≡◌, ℕ, ◌+◌, ◌<◌, ◌≤◌, List, take, length, Option, Some, None, sym, ap, ◌∙◌, arith, get_or, le_refl, slice_get, IsSome, IsPrefix}
+use Rattle.ucl_steps.proofs.Common.{EventCall, refusal_of, after, word_of, record_at, Entry, match_after, at_beginning, begins_length, take_beginning, Caller}
+use Rattle.ucl_steps.proofs.Common.{Reporter, Call, Event, Reading, Reply, CallRecord, NoCall, Holding, Collecting, Checking, CallerState, Idle, Wanting, Within}
+use Rattle.ucl_steps.proofs.Common.{Answered}
 use Rattle.ucl_steps.proofs.Explanations.{IsSequential, LiesWithin, IsExplained}
 
 -- a reporter asks for an event of a match
@@ -51,23 +52,23 @@ pub record Checks (h : List Entry) (a : CallRecord) (words : List ℕ) (checked 
   pub loaded : Loaded h words point
   pub same : AreAt h words checked point
 
-abbrev pub in_call : Holds → Option ℕ
+abbrev pub in_call : CallerState → Option ℕ
 in_call Idle = None
 in_call (Wanting k e) = Some k
 in_call (Within k held) = Some k
 in_call (Answered k) = Some k
 
-abbrev pub Sees : List Entry → CallRecord → Holds → Type 0
+abbrev pub Sees : List Entry → CallRecord → CallerState → Type 0
 Sees h a Idle = Unit {0}
 Sees h a (Wanting k e) = Asks a e
-Sees h a (Within k Nothing) = ⊥
+Sees h a (Within k NoCall) = ⊥
 Sees h a (Within k (Holding e old new)) = Offers h a e old new
 Sees h a (Within k (Collecting words)) = Collects h a words
 Sees h a (Within k (Checking words checked point)) = Checks h a words checked point
 Sees h a (Answered k) = IsSome a.reply
 
 -- the caller is in this call, and what it holds says how far it is
-pub record Knows (h : List Entry) (calls : List CallRecord) (c : Caller) (x : Holds) (k : ℕ) : Type 0 where
+pub record Knows (h : List Entry) (calls : List CallRecord) (c : Caller) (x : CallerState) (k : ℕ) : Type 0 where
   pub call : CallRecord
   pub at : slice_get calls k ≡ Some call
   pub caller : call.caller ≡ c
@@ -81,7 +82,7 @@ module _ (h h' : List Entry) (b : IsPrefix h h') where
   loaded_later : (words : List ℕ) (n m : ℕ) → n ≤ length h → n ≤ m → Loaded h words n → Loaded h' words m
   loaded_later words n m l le f i few = let t = f i few in let p = t.1 in (t.0, omega arith, moved_word words i t.0 (omega arith) t.2)
 
-  pub sees_later : (a : CallRecord) (x : Holds) → Sees h a x → Sees h' a x
+  pub sees_later : (a : CallRecord) (x : CallerState) → Sees h a x → Sees h' a x
   sees_later a (Within k (Holding e old new)) s =
       let long = begins_length h h' b in
       let low = s.within in

@@ -1,8 +1,9 @@
 -- Histories: one entry more, their beginnings, and the words of their boards.
-use Rattle.ucl_steps.proofs.Common.{◌≡◌, ℕ, ◌+◌, ◌-◌, ◌==◌, ◌<◌, ◌≤◌, List, ◌∷◌, ◌++◌, take, drop, length, Some, None, sym, ap, ◌∙◌, subst, arith, length-append, get_or, set, ne_eqb, []}
-use Rattle.ucl_steps.proofs.Common.{slice_index, slice_set, replicate, eqb-true, not-false, not_from_false, take-append-drop, ext_get_or, MatchRecord, Stale, scheduled, after, word_of, record_at}
-use Rattle.ucl_steps.proofs.Common.{may_none, may_next, Entry, IsMatch, version_of, entries_of, match_after, board_of, MayFollow, IsLegal, entries-append, entries_same, legal_match, match_valid}
-use Rattle.ucl_steps.proofs.Common.{word_after, board_length, versions, same_number, same_word}
+use Rattle.ucl_steps.proofs.Common.{◌≡◌, ℕ, ◌+◌, ◌-◌, ◌==◌, ◌<◌, ◌≤◌, List, ◌∷◌, ◌++◌, take, drop, length, Some, None, sym, ap, ◌∙◌, subst, arith, length-append}
+use Rattle.ucl_steps.proofs.Common.{get_or, set, ne_eqb, [], slice_index, slice_set, replicate, eqb-true, not-false, not_from_false, take-append-drop, ext_get_or}
+use Rattle.ucl_steps.proofs.Common.{MatchRecord, Stale, scheduled, after, word_of, record_at, may_none, may_next, Entry, IsMatch, version_of, entries_of}
+use Rattle.ucl_steps.proofs.Common.{match_after, board_of, MayFollow, IsLegal, entries-append, entries_same, legal_match, match_valid, word_after, board_length}
+use Rattle.ucl_steps.proofs.Common.{versions, same_number, same_word}
 use Rattle.ucl_word.specs.declared.event.Kind.{Kind}
 use Rattle.ucl_word.specs.Rules.{refusal_of}
 use Rattle.ucl_word.proofs.AcceptedEvents.{accepts, after_number}

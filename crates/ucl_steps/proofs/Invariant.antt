@@ -1,8 +1,8 @@
 -- What every step keeps.
-use Rattle.ucl_steps.proofs.Common.{◌≡◌, ◌≢◌, ℕ, zero, suc, List, ◌∷◌, ◌++◌, length, map, Option, Some, None, ◌⊎◌, inl, inr, refl, sym, ap, ◌∙◌, subst, arith, [], slice_get, IsSome, option_map}
-use Rattle.ucl_steps.proofs.Common.{none-some, same_Some, slice_get-map, false≢true, map-append, length-map, Entry, board_of, IsLegal, IsPrefix, at_below, at_longer, at_end, at_either}
-use Rattle.ucl_steps.proofs.Common.{begins_length, begins_same, Caller, Call, Step, Begin, End, CallRecord, Reply, Holds, Idle, Answered, Callers, MachineState, held_by, set_held, with_held}
-use Rattle.ucl_steps.proofs.Common.{change_at, with_end, EntryHasOneCall}
+use Rattle.ucl_steps.proofs.Common.{◌≡◌, ◌≢◌, ℕ, zero, suc, List, ◌∷◌, ◌++◌, length, map, Option, Some, None, ◌⊎◌, inl, inr, refl, sym, ap, ◌∙◌, subst, arith, []}
+use Rattle.ucl_steps.proofs.Common.{slice_get, IsSome, option_map, none-some, same_Some, slice_get-map, false≢true, map-append, length-map, Entry, board_of, IsLegal}
+use Rattle.ucl_steps.proofs.Common.{IsPrefix, at_below, at_longer, at_end, at_either, begins_length, begins_same, Caller, Call, Step, Begin, End, CallRecord, Reply}
+use Rattle.ucl_steps.proofs.Common.{CallerState, Idle, Answered, Callers, MachineState, held_by, set_held, with_held, change_at, with_end, EntryHasOneCall}
 use Rattle.ucl_steps.proofs.Lists.{get_some, get-change_at, change_at_here, change_at_else, map_unseen, map-change_at, same_caller, held_here, held_else}
 use Rattle.ucl_steps.proofs.Explanations.{IsExplained}
 use Rattle.ucl_steps.proofs.Turns.{Time, Turns, IsInner, turns_inner, turns_begin, turns_end, ended_at}
@@ -14,7 +14,7 @@ time_of c = record { caller = c.caller; call = c.call; begun = c.begun; ended = 
 
 -- the caller of a call that has not ended holds it
 pub record IsHeld (cs : Callers) (c : Caller) (k : ℕ) : Type 0 where
-  pub holds : Holds
+  pub holds : CallerState
   pub held_is : held_by cs c ≡ Some holds
   pub in_it : in_call holds ≡ Some k
 
@@ -24,7 +24,7 @@ pub record Keeps (steps : List Step) (w : MachineState) : Type 0 where
   pub explained : (i : ℕ) (a : CallRecord) → slice_get w.calls i ≡ Some a → IsExplained w.history a a.point a.reply
   pub once : EntryHasOneCall w.history w.calls
   pub turns : Turns steps (length w.history) (map time_of w.calls)
-  pub knows : (c : Caller) (x : Holds) (k : ℕ) → held_by w.callers c ≡ Some x → in_call x ≡ Some k → Knows w.history w.calls c x k
+  pub knows : (c : Caller) (x : CallerState) (k : ℕ) → held_by w.callers c ≡ Some x → in_call x ≡ Some k → Knows w.history w.calls c x k
   pub unended : (i : ℕ) (a : CallRecord) → slice_get w.calls i ≡ Some a → a.ended ≡ None → IsHeld w.callers a.caller i
 
 change_at_same : (k : ℕ) (xs : List CallRecord) → change_at k (λ a. a) xs ≡ xs
@@ -39,12 +39,12 @@ some_or_none o = search arith
 explained_closed : (h : List Entry) (c : CallRecord) (p : Option ℕ) (r : Option Reply) → IsExplained h c p r → IsSome r → IsExplained h (with_end (length h) c) p r
 explained_closed h c p r s some = search (arith, false≢true)
 
-module _ (steps : List Step) (w : MachineState) (kept : Keeps steps w) (c : Caller) (x : Holds) (holds : held_by w.callers c ≡ Some x) where
+module _ (steps : List Step) (w : MachineState) (kept : Keeps steps w) (c : Caller) (x : CallerState) (holds : held_by w.callers c ≡ Some x) where
   -- what callers know, where this one then holds y, and knows what that says
-  knows_all : (h' : List Entry) (calls : List CallRecord) (y : Holds) → IsPrefix w.history h'
+  knows_all : (h' : List Entry) (calls : List CallRecord) (y : CallerState) → IsPrefix w.history h'
       → ((d : Caller) (k : ℕ) (b : CallRecord) → d ≢ c → slice_get w.calls k ≡ Some b → b.caller ≡ d → slice_get calls k ≡ Some b)
       → ((k : ℕ) → in_call y ≡ Some k → Knows h' calls c y k)
-      → (d : Caller) (z : Holds) (k : ℕ) → held_by (set_held y c w.callers) d ≡ Some z → in_call z ≡ Some k → Knows h' calls d z k
+      → (d : Caller) (z : CallerState) (k : ℕ) → held_by (set_held y c w.callers) d ≡ Some z → in_call z ≡ Some k → Knows h' calls d z k
   knows_all h' calls y b same own d z k at within = elim (same_caller d c) [
     | inl is ↦ search (arith, same_Some, held_here, in_call)
     | inr not ↦
@@ -53,7 +53,7 @@ module _ (steps : List Step) (w : MachineState) (kept : Keeps steps w) (c : Call
   ]
 
   -- a call that this caller was not in is held as before
-  still_held : (i : ℕ) (a : CallRecord) (y : Holds) → slice_get w.calls i ≡ Some a → a.ended ≡ None → in_call x ≢ Some i → IsHeld (set_held y c w.callers) a.caller i
+  still_held : (i : ℕ) (a : CallRecord) (y : CallerState) → slice_get w.calls i ≡ Some a → a.ended ≡ None → in_call x ≢ Some i → IsHeld (set_held y c w.callers) a.caller i
   still_held i a y at none other = let o = kept.unended i a at none in search (arith, same_caller a.caller c, in_call, same_Some, held_else)
 
   -- one step within a call
@@ -64,7 +64,7 @@ module _ (steps : List Step) (w : MachineState) (kept : Keeps steps w) (c : Call
     other_call : (d : Caller) (i : ℕ) (b : CallRecord) → d ≢ c → slice_get w.calls i ≡ Some b → b.caller ≡ d → i ≢ k
     other_call d i b not at is same = search (arith, same_Some b (kept.knows c x k holds within).call (sym at ∙ (ap (slice_get w.calls) same ∙ (kept.knows c x k holds within).at)))
 
-    pub moved : (s : Step) (y : Holds) (h' : List Entry) (words' : List ℕ) (f : CallRecord → CallRecord) → IsInner s → IsPrefix w.history h' → IsLegal h' → words' ≡ board_of h'
+    pub moved : (s : Step) (y : CallerState) (h' : List Entry) (words' : List ℕ) (f : CallRecord → CallRecord) → IsInner s → IsPrefix w.history h' → IsLegal h' → words' ≡ board_of h'
         → ((a : CallRecord) → time_of (f a) ≡ time_of a) → EntryHasOneCall h' (change_at k f w.calls)
         → IsExplained h' (f mine.call) (f mine.call).point (f mine.call).reply × Sees h' (f mine.call) y → in_call y ≡ Some k
         → Keeps (steps ++ s ∷ []) (with_held y c (record w { words = words'; history = h'; calls = change_at k f w.calls }))
@@ -82,7 +82,7 @@ module _ (steps : List Step) (w : MachineState) (kept : Keeps steps w) (c : Call
         }
 
     -- one step that leaves the calls
-    pub stayed : (s : Step) (y : Holds) → IsInner s → Sees w.history mine.call y → in_call y ≡ Some k → Keeps (steps ++ s ∷ []) (with_held y c w)
+    pub stayed : (s : Step) (y : CallerState) → IsInner s → Sees w.history mine.call y → in_call y ≡ Some k → Keeps (steps ++ s ∷ []) (with_held y c w)
     stayed s y inner told inside =
         subst (λ (cs : List CallRecord). Keeps (steps ++ s ∷ []) (with_held y c (record w { calls = cs }))) (change_at_same k w.calls)
         (moved s y w.history w.words (λ a. a) inner (begins_same w.history) kept.legal kept.words (λ a. refl) (subst (EntryHasOneCall w.history) (sym (change_at_same k w.calls)) kept.once)
@@ -109,7 +109,7 @@ module _ (steps : List Step) (w : MachineState) (kept : Keeps steps w) (c : Call
         }
 
   -- a call begins
-  pub begun : x ≡ Idle → (call : Call) (y : Holds) → Sees w.history (record { caller = c; call = call; begun = length w.history; point = None; reply = None; ended = None }) y
+  pub begun : x ≡ Idle → (call : Call) (y : CallerState) → Sees w.history (record { caller = c; call = call; begun = length w.history; point = None; reply = None; ended = None }) y
       → in_call y ≡ Some (length w.calls)
       → Keeps (steps ++ Begin c call ∷ []) (with_held y c (record w { calls = w.calls ++ record { caller = c; call = call; begun = length w.history; point = None; reply = None; ended = None } ∷ [] }))
   begun idle call y sees inside =

@@ -1,12 +1,15 @@
 -- Each step of the machine keeps what every step keeps.
-use Rattle.ucl_steps.proofs.Common.{◌≡◌, ℕ, suc, ◌+◌, ◌-◌, ◌<◌, ◌≤◌, ◌==◌, Bool, true, false, cond, List, ◌∷◌, ◌++◌, take, length, Option, Some, None, Err, inl, inr, refl, sym, [], ap, ◌∙◌, subst}
-use Rattle.ucl_steps.proofs.Common.{arith, le_refl, get_or, slice_get, slice_index, slice_set, option_map, none-some, same_Some, slice_get-map, cond_some, cases_lt, false≢true, eqb-true, eqb-false}
-use Rattle.ucl_steps.proofs.Common.{and_parts, leb-true, length_push, get_or_append_left, get_or_push, length-take-le, take-append_seam, take-length, MatchRecord, EventCall, Refusal, Stale}
-use Rattle.ucl_steps.proofs.Common.{refusal_of, after, word_of, record_at, Entry, word_at, version_of, match_after, board_of, MayFollow, sequential_reply, attempted, reading_of, at_end, same_number}
-use Rattle.ucl_steps.proofs.Common.{may_attempt, begins_same, Caller, Reporter, Call, Event, Reading, Step, Begin, Look, Swap, First, Second, End, CallRecord, Accepted, Refused, Copied, Holding}
-use Rattle.ucl_steps.proofs.Common.{Collecting, Checking, GoesOn, Answers, by_rules, may_begin, after_begin, after_step_holding, caller_of, Holds, Idle, Wanting, Within, Answered, MachineState}
-use Rattle.ucl_steps.proofs.Common.{held_by, with_held, with_reply, after_outcome, stored, state_after_first, after_reply}
-use Rattle.ucl_steps.proofs.Histories.{number_expected, is_stale, legal_snoc, legal_beginning, read_back, number_next, squeezed, board_at, board_get, board_next, board_from, version_is}
+use Rattle.ucl_steps.proofs.Common.{◌≡◌, ℕ, suc, ◌+◌, ◌-◌, ◌<◌, ◌≤◌, ◌==◌, Bool, true, false, cond, List, ◌∷◌, ◌++◌, take, length, Option, Some, None, Err, inl, inr}
+use Rattle.ucl_steps.proofs.Common.{refl, sym, [], ap, ◌∙◌, subst, arith, le_refl, get_or, slice_get, slice_index, slice_set, option_map, none-some, same_Some}
+use Rattle.ucl_steps.proofs.Common.{slice_get-map, cond_some, cases_lt, false≢true, eqb-true, eqb-false, and_parts, leb-true, length_push, get_or_append_left}
+use Rattle.ucl_steps.proofs.Common.{get_or_push, length-take-le, take-append_seam, take-length, MatchRecord, EventCall, Refusal, Stale, refusal_of, after, word_of}
+use Rattle.ucl_steps.proofs.Common.{record_at, Entry, word_at, version_of, match_after, board_of, MayFollow, sequential_reply, attempted, reading_of, at_end}
+use Rattle.ucl_steps.proofs.Common.{same_number, may_attempt, begins_same, Caller, Reporter, Call, Event, Reading, Step, Begin, Look, Swap, First, Second, End}
+use Rattle.ucl_steps.proofs.Common.{CallRecord, Accepted, Refused, Copied, Holding, Collecting, Checking, GoesOn, Answers, by_rules, may_begin, after_begin}
+use Rattle.ucl_steps.proofs.Common.{after_step_holding, caller_of, CallerState, Idle, Wanting, Within, Answered, MachineState, held_by, with_held, with_reply}
+use Rattle.ucl_steps.proofs.Common.{after_outcome, stored, state_after_first, after_reply}
+use Rattle.ucl_steps.proofs.Histories.{number_expected, is_stale, legal_snoc, legal_beginning, read_back, number_next, squeezed, board_at, board_get, board_next}
+use Rattle.ucl_steps.proofs.Histories.{board_from, version_is}
 use Rattle.ucl_steps.proofs.Explanations.{IsExplained, IsSequential}
 use Rattle.ucl_steps.proofs.Turns.{IsInner}
 use Rattle.ucl_steps.proofs.CallFacts.{Asks, Offers, Loaded, AreAt, Checks, Sees, in_call}
@@ -39,7 +42,7 @@ module _ (steps : List Step) (w : MachineState) (kept : Keeps steps w) where
   begun_before k a at = (kept.turns.past k (time_of a) (slice_get-map time_of w.calls k ∙ ap (option_map time_of) at)).0
 
   -- a refusal at the present place
-  refused_kept : (s : Step) (c : Caller) (k : ℕ) (e : EventCall) (x : Holds) (holds : held_by w.callers c ≡ Some x) (within : in_call x ≡ Some k) (refusal : Refusal) → IsInner s
+  refused_kept : (s : Step) (c : Caller) (k : ℕ) (e : EventCall) (x : CallerState) (holds : held_by w.callers c ≡ Some x) (within : in_call x ≡ Some k) (refusal : Refusal) → IsInner s
       → Asks (kept.knows c x k holds within).call e
       → refusal_of (match_after w.history e.game) e.expected e.kind ≡ Some refusal → Keeps (steps ++ s ∷ []) (after_reply c k now (Refused refusal) w)
   refused_kept s c k e x holds within refusal inner asks refuses =
@@ -208,7 +211,7 @@ module _ (steps : List Step) (w : MachineState) (kept : Keeps steps w) where
   begin_kept c (Event e) holds may = search (arith, none-some, false≢true)
   begin_kept c Reading holds may = begun steps w kept c Idle holds refl Reading (Within (length w.calls) (Collecting [])) (search arith) refl
 
-  pub step_kept : (s : Step) (o : Option Holds) (w' : MachineState) → held_by w.callers (caller_of s) ≡ o → after_step_holding s o w ≡ Some w' → Keeps (steps ++ s ∷ []) w'
+  pub step_kept : (s : Step) (o : Option CallerState) (w' : MachineState) → held_by w.callers (caller_of s) ≡ o → after_step_holding s o w ≡ Some w' → Keeps (steps ++ s ∷ []) w'
   step_kept (Begin c call) (Some Idle) w' holds done = search (arith, cond_some (may_begin c call) (after_begin c call w) w' done, begin_kept c call holds)
   step_kept (Look (Reporter n)) (Some (Wanting k e)) w' holds done = search (arith, same_Some, look_kept n k e holds)
   step_kept (Swap (Reporter n)) (Some (Within k (Holding e old new))) w' holds done = search (arith, same_Some, swap_kept n k e old new holds)

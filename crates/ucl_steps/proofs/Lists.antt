@@ -1,6 +1,7 @@
 -- Elements of lists at a place, lists with one element changed, and what each caller holds when one of them takes a step.
-use Rattle.ucl_steps.proofs.Common.{◌≡◌, ℕ, zero, suc, ◌<◌, ◌≤◌, List, ◌∷◌, ◌++◌, take, drop, length, Option, Some, refl, sym, ap, ◌∙◌, arith, [], slice_get, IfSome, take-append-drop, take-take}
-use Rattle.ucl_steps.proofs.Common.{none-some, same_Some, ◌≢◌, map, ◌⊎◌, inl, inr, change_at, slice_set, cases_eq, Caller, Holds, Callers, held_by, set_held}
+use Rattle.ucl_steps.proofs.Common.{◌≡◌, ℕ, zero, suc, ◌<◌, ◌≤◌, List, ◌∷◌, ◌++◌, take, drop, length, Option, Some, refl, sym, ap, ◌∙◌, arith, [], slice_get, IfSome}
+use Rattle.ucl_steps.proofs.Common.{take-append-drop, take-take, none-some, same_Some, ◌≢◌, map, ◌⊎◌, inl, inr, change_at, slice_set, cases_eq, Caller, CallerState}
+use Rattle.ucl_steps.proofs.Common.{Callers, held_by, set_held}
 
 module _ {A : Type 0} where
   pub if_some : (o : Option A) (P : A → Type 0) → ((x : A) → o ≡ Some x → P x) → IfSome o P
@@ -66,8 +67,8 @@ get_set_else xs k i y not = search arith
 pub same_caller : (c d : Caller) → (c ≡ d) ⊎ (c ≢ d)
 same_caller c d = search (arith, cases_eq)
 
-pub held_here : (cs : Callers) (c : Caller) (x y : Holds) → held_by cs c ≡ Some x → held_by (set_held y c cs) c ≡ Some y
+pub held_here : (cs : Callers) (c : Caller) (x y : CallerState) → held_by cs c ≡ Some x → held_by (set_held y c cs) c ≡ Some y
 held_here cs c x y e = search (arith, none-some, get_set_here)
 
-pub held_else : (cs : Callers) (c d : Caller) (y x : Holds) → held_by cs c ≡ Some x → d ≢ c → held_by (set_held y c cs) d ≡ held_by cs d
+pub held_else : (cs : Callers) (c d : Caller) (y x : CallerState) → held_by cs c ≡ Some x → d ≢ c → held_by (set_held y c cs) d ≡ held_by cs d
 held_else cs c d y x e not = search (arith, none-some, get_set_else)

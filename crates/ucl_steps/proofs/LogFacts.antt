@@ -1,17 +1,15 @@
 -- Numbers and entries of passes, by their log.
-use Rattle.ucl_steps.proofs.Common.{◌≡◌, ◌≢◌, ◌⊎◌, inl, inr, ℕ, ◌+◌, ◌<◌, ◌≤◌, ◌==◌, Bool, true, false, cond, List, ◌∷◌, ◌++◌}
-use Rattle.ucl_steps.proofs.Common.{length, Option, Some, None, refl, sym, ap, ◌∙◌, subst, arith, []}
-use Rattle.ucl_steps.proofs.Common.{le_refl, append-nil, length-append, eq-eqb, ne_eqb, cases_eq, cases_lt, All, All-append, All-cons}
-use Rattle.ucl_steps.proofs.Common.{All-nil, All-head, All-tail, filter, filter-append, flat_map-append, cases_eq}
-use Rattle.ucl_steps.proofs.Common.{Entry, IsReporter, entry_of, Held, Holding, Outcome, GoesOn}
-use Rattle.ucl_steps.proofs.Common.{Answers}
+use Rattle.ucl_steps.proofs.Common.{◌≡◌, ◌≢◌, ◌⊎◌, inl, inr, ℕ, ◌+◌, ◌<◌, ◌≤◌, ◌==◌, Bool, true, false, cond, List, ◌∷◌, ◌++◌, length, Option, Some, None, refl, sym}
+use Rattle.ucl_steps.proofs.Common.{ap, ◌∙◌, subst, arith, [], le_refl, append-nil, length-append, eq-eqb, ne_eqb, cases_eq, cases_lt, All, All-append, All-cons}
+use Rattle.ucl_steps.proofs.Common.{All-nil, All-head, All-tail, filter, filter-append, flat_map-append, Entry, IsReporter, entry_of, Pending, Holding, Outcome}
+use Rattle.ucl_steps.proofs.Common.{GoesOn, Answers}
 use Rattle.ucl_board.specs.Log.{entry_list}
 use Rattle.ucl_word.proofs.Sequences.{may_induction, may_begin, may_last}
 use Rattle.ucl_steps.proofs.LogHistory.{history_more, taken_append, one_taken, by_seat, Sees, holds_all}
-use Rattle.ucl_steps.specs.WordLog.{Enlisted, Enlists, IsWordLog, IsFoundThere, WordLog, SeatStep, Match, MayComeNext, Swap, WordStep}
-use Rattle.ucl_steps.specs.WordLog.{WordTarget, entries_added, enlisted_by, enlists, history_in, taken_at}
-use Rattle.ucl_steps.specs.Doings.{Doings, FollowsProtocol, IsNextFor, IsProtocols, with_outcome, with_target, with_step, doings_at}
-use Rattle.ucl_steps.specs.Doings.{FinishedCall, call_answered, entry_by, outcome}
+use Rattle.ucl_steps.specs.WordLog.{Enlisted, Enlists, IsWordLog, IsFoundThere, WordLog, SeatStep, Match, MayComeNext, Swap, WordStep, WordTarget, entries_added}
+use Rattle.ucl_steps.specs.WordLog.{enlisted_by, enlists, history_in, taken_at}
+use Rattle.ucl_steps.specs.ClientState.{ClientState, FollowsProtocol, IsNextFor, IsNextOfProtocol, with_outcome, with_target, with_step, client_at, FinishedCall}
+use Rattle.ucl_steps.specs.ClientState.{call_answered, entry_by, outcome}
 use Rattle.ucl_steps.specs.LogFacts.{LogFacts, LogsHaveFacts, number_at}
 
 abbrev entries_by : ℕ → List Entry → List Entry
@@ -35,11 +33,11 @@ added_other : (log : WordLog) (x : SeatStep) (seat : ℕ) → x.seat ≢ seat �
 added_other log x seat not = ap entries_added (taken_append seat log (x ∷ [])
     ∙ (ap (λ (l : List WordStep). taken_at seat log ++ l) (one_taken seat x false (ne_eqb x.seat seat not)) ∙ append-nil (taken_at seat log)))
 
-outcome_number : (o : Outcome) (y : WordStep) (d : Doings) → (with_outcome o y d).number ≡ d.number
+outcome_number : (o : Outcome) (y : WordStep) (d : ClientState) → (with_outcome o y d).number ≡ d.number
 outcome_number (GoesOn held) y d = refl
 outcome_number (Answers reply) y d = refl
 
-pub number_kept : (target : WordTarget) (y : WordStep) (d : Doings) → length (enlists target) ≡ 0 → (with_target target y d).number ≡ d.number
+pub number_kept : (target : WordTarget) (y : WordStep) (d : ClientState) → length (enlists target) ≡ 0 → (with_target target y d).number ≡ d.number
 number_kept (Match kind game found) y d none = outcome_number (outcome d.number d.held (Match kind game found) y.at) y d
 number_kept (Enlisted found) y d none = outcome_number (outcome d.number d.held (Enlisted found) y.at) y d
 number_kept (Enlists found) y d none = absurd (omega arith)
@@ -52,7 +50,7 @@ EntryOf number (Some e) = (e.reporter ≡ number) × IsReporter number
 none_of : (number : ℕ) (o : Option Entry) → o ≡ None → EntryOf number o
 none_of number o is = subst (EntryOf number) (sym is) tt
 
-entry_is : (log : WordLog) (number first : ℕ) (h : Held) (target : WordTarget) → Sees log number first h → EntryOf number (entry_by number h target)
+entry_is : (log : WordLog) (number first : ℕ) (h : Pending) (target : WordTarget) → Sees log number first h → EntryOf number (entry_by number h target)
 entry_is log number first (Holding e old new) (Match Swap game found) s = by (found == old)
   where
     by : (b : Bool) → EntryOf number (cond b (Some (entry_of number e)) None)
@@ -84,16 +82,16 @@ ranked_list n m (Some e) is low = let at = is.0 in let r = is.1.0 in All-cons (�
     (omega arith, omega arith) (All-nil (λ (e : Entry). (0 < e.reporter) × (e.reporter ≤ m)))
 
 module _ (log : WordLog) (r : LogFacts log) (x : SeatStep) where
-  d : Doings
-  d = doings_at x.seat log
+  d : ClientState
+  d = client_at x.seat log
 
   -- a step that enlists none
   facts_same : length (enlists x.step.target) ≡ 0 → EntryOf (number_at x.seat log) x.step.entry → LogFacts (log ++ x ∷ [])
   facts_same none is =
       let count : enlisted_by (log ++ x ∷ []) ≡ enlisted_by log = let e = enlisted_more log x in omega arith in
       let number : (seat : ℕ) → number_at seat (log ++ x ∷ []) ≡ number_at seat log =
-      by_seat log x (λ seat y. y.number ≡ number_at seat log) (with_step (doings_at x.seat log) x.step) refl
-      (number_kept x.step.target x.step (doings_at x.seat log) none) (λ seat not. refl) in
+      by_seat log x (λ seat y. y.number ≡ number_at seat log) (with_step (client_at x.seat log) x.step) refl
+      (number_kept x.step.target x.step (client_at x.seat log) none) (λ seat not. refl) in
       let few = r.few in
       record {
         few = omega arith;
@@ -135,8 +133,8 @@ module _ (log : WordLog) (r : LogFacts log) (x : SeatStep) where
       let own : (seat : ℕ) → ((seat ≡ x.seat) × (number_at seat (log ++ x ∷ []) ≡ found + 1)) ⊎
       ((seat ≢ x.seat) × (number_at seat (log ++ x ∷ []) ≡ number_at seat log)) =
       by_seat log x (λ seat y. ((seat ≡ x.seat) × (y.number ≡ found + 1)) ⊎ ((seat ≢ x.seat) × (y.number ≡ number_at seat log)))
-      (with_step (doings_at x.seat log) x.step) refl
-      (inl (refl, ap (λ (t : WordTarget). (with_target t x.step (doings_at x.seat log)).number) is)) (λ seat not. inr ((λ e. not (sym e)), refl)) in
+      (with_step (client_at x.seat log) x.step) refl
+      (inl (refl, ap (λ (t : WordTarget). (with_target t x.step (client_at x.seat log)).number) is)) (λ seat not. inr ((λ e. not (sym e)), refl)) in
       record {
         few = omega arith;
         low = λ seat. elim (own seat) [ inl t ↦ let e = t.1 in omega arith | inr t ↦ let e = t.1 in let low = r.low seat in omega arith ];
@@ -178,8 +176,8 @@ module _ (log : WordLog) (r : LogFacts log) (x : SeatStep) where
           ∙ entries_zero xs (All-tail (λ (f : Entry). (0 < f.reporter) × (f.reporter ≤ enlisted_by log)) e xs all)
 
 by_target : (log : WordLog) → LogFacts log → (x : SeatStep) → (t : WordTarget) → x.step.target ≡ t → IsFoundThere log t
-    → IsNextFor (doings_at x.seat log) t → EntryOf (number_at x.seat log) x.step.entry → x.step.entry ≡ entry_by (number_at x.seat log)
-    (doings_at x.seat log).held t
+    → IsNextFor (client_at x.seat log) t → EntryOf (number_at x.seat log) x.step.entry → x.step.entry ≡ entry_by (number_at x.seat log)
+    (client_at x.seat log).held t
     → LogFacts (log ++ x ∷ [])
 by_target log r x (Enlists found) is there next of entry = facts_more log r x found is there.0 there.1 next.1 (entry ∙ search arith)
 by_target log r x (Match kind game found) is there next of entry = facts_same log r x (ap (λ (t : WordTarget). length (enlists t)) is) of
@@ -198,38 +196,38 @@ facts_none = record {
 pub logs_facts : LogsHaveFacts
 logs_facts log = may_induction MayComeNext (λ l. FollowsProtocol l → LogFacts l) (λ f. facts_none)
     (λ xs x before may was f.
-    let p = may_last IsProtocols xs x f in
-    let front = may_begin IsProtocols xs (x ∷ []) f in
+    let p = may_last IsNextOfProtocol xs x f in
+    let front = may_begin IsNextOfProtocol xs (x ∷ []) f in
     let holds = holds_all xs before front in
-    let of = subst (EntryOf (number_at x.seat xs)) (sym p.entry) (entry_is xs (doings_at x.seat xs).number (doings_at x.seat xs).first
-    (doings_at x.seat xs).held x.step.target (holds.sees x.seat)) in
+    let of = subst (EntryOf (number_at x.seat xs)) (sym p.entry) (entry_is xs (client_at x.seat xs).number (client_at x.seat xs).first
+    (client_at x.seat xs).held x.step.target (holds.sees x.seat)) in
     by_target xs (was front) x x.step.target refl may.there p.next of p.entry)
     log
 
 -- finished calls are of numbers that their pass had, which only rise
 
-abbrev LowCalls : Doings → Type 0
+abbrev LowCalls : ClientState → Type 0
 LowCalls d = All (λ (c : FinishedCall). c.number ≤ d.number) d.calls
 
-low_outcome : (o : Outcome) (y : WordStep) (d : Doings) → LowCalls d → LowCalls (with_outcome o y d)
+low_outcome : (o : Outcome) (y : WordStep) (d : ClientState) → LowCalls d → LowCalls (with_outcome o y d)
 low_outcome (GoesOn held) y d low = low
 low_outcome (Answers reply) y d low =
     let c = call_answered reply y d in
     All-append (λ (a : FinishedCall). a.number ≤ d.number) d.calls (c ∷ []) low
     (All-cons (λ (a : FinishedCall). a.number ≤ d.number) c [] (le_refl d.number) (All-nil (λ (a : FinishedCall). a.number ≤ d.number)))
 
-low_step : (t : WordTarget) (y : WordStep) (d : Doings) → IsNextFor d t → LowCalls d → LowCalls (with_target t y d)
+low_step : (t : WordTarget) (y : WordStep) (d : ClientState) → IsNextFor d t → LowCalls d → LowCalls (with_target t y d)
 low_step (Enlists found) y d next low = λ k c at. let was = low k c at in let none = next.1 in omega arith
 low_step (Match act game found) y d next low = low_outcome (outcome d.number d.held (Match act game found) y.at) y d low
 low_step (Enlisted found) y d next low = low_outcome (outcome d.number d.held (Enlisted found) y.at) y d low
 
-pub calls_low : (log : WordLog) → IsWordLog log → FollowsProtocol log → (seat : ℕ) → LowCalls (doings_at seat log)
-calls_low log = may_induction MayComeNext (λ l. FollowsProtocol l → (seat : ℕ) → LowCalls (doings_at seat l))
+pub calls_low : (log : WordLog) → IsWordLog log → FollowsProtocol log → (seat : ℕ) → LowCalls (client_at seat log)
+calls_low log = may_induction MayComeNext (λ l. FollowsProtocol l → (seat : ℕ) → LowCalls (client_at seat l))
     (λ f seat. All-nil (λ (c : FinishedCall). c.number ≤ 0))
     (λ xs x before may was f.
-    let p = may_last IsProtocols xs x f in
-    let old = was (may_begin IsProtocols xs (x ∷ []) f) in
-    by_seat xs x (λ seat d. LowCalls d) (with_step (doings_at x.seat xs) x.step) refl
-    (low_step x.step.target x.step (doings_at x.seat xs) p.next (old x.seat))
+    let p = may_last IsNextOfProtocol xs x f in
+    let old = was (may_begin IsNextOfProtocol xs (x ∷ []) f) in
+    by_seat xs x (λ seat d. LowCalls d) (with_step (client_at x.seat xs) x.step) refl
+    (low_step x.step.target x.step (client_at x.seat xs) p.next (old x.seat))
     (λ seat not. old seat))
     log

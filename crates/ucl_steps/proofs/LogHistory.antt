@@ -1,30 +1,23 @@
 -- The history of a log explains its calls: by induction over the log, with no machine.
-use Rattle.ucl_steps.proofs.Common.{◌≡◌, ◌≢◌, ◌⊎◌, inl, inr, ℕ, ◌+◌, ◌<◌, ◌≤◌, ◌==◌, Bool, true, false, cond, List, ◌∷◌, ◌++◌}
-use Rattle.ucl_steps.proofs.Common.{length, map, take, Option, Some, None, refl, sym, ap, ◌∙◌, subst, arith, []}
-use Rattle.ucl_steps.proofs.Common.{le_refl, append-nil, length-append, map-append, eq-eqb, ne_eqb, eqb-true, eqb-false, cases_eq}
-use Rattle.ucl_steps.proofs.Common.{cases_lt, filter, filter-append, flat_map-append, get_or, get_or_append_left}
-use Rattle.ucl_steps.proofs.Common.{get_or_push, length_push}
-use Rattle.ucl_steps.proofs.Common.{slice_get, slice_index, none-some, false≢true, take-append-le, take-length}
-use Rattle.ucl_steps.proofs.Common.{take-append_seam, at_below, at_longer, at_end, at_either, begins_length, take_beginning, at_beginning}
-use Rattle.ucl_steps.proofs.Common.{IsPrefix}
-use Rattle.ucl_steps.proofs.Common.{Entry, EventCall, Refusal, Stale, refusal_of, after, IsMatch, IsReporter, word_of}
-use Rattle.ucl_steps.proofs.Common.{record_at, match_after, board_of, entry_of, reading_of, version_of, IsLegal, MayFollow, attempted}
-use Rattle.ucl_steps.proofs.Common.{may_attempt, same_number}
-use Rattle.ucl_steps.proofs.Common.{Event, Reading, Accepted, Refused, Copied, Held, Nothing, Holding, Collecting, Checking}
-use Rattle.ucl_steps.proofs.Common.{GoesOn, Answers, by_rules, collected}
+use Rattle.ucl_steps.proofs.Common.{◌≡◌, ◌≢◌, ◌⊎◌, inl, inr, ℕ, ◌+◌, ◌<◌, ◌≤◌, ◌==◌, Bool, true, false, cond, List, ◌∷◌, ◌++◌, length, map, take, Option, Some, None}
+use Rattle.ucl_steps.proofs.Common.{refl, sym, ap, ◌∙◌, subst, arith, [], le_refl, append-nil, length-append, map-append, eq-eqb, ne_eqb, eqb-true, eqb-false}
+use Rattle.ucl_steps.proofs.Common.{cases_eq, cases_lt, filter, filter-append, flat_map-append, get_or, get_or_append_left, get_or_push, length_push, slice_get}
+use Rattle.ucl_steps.proofs.Common.{slice_index, none-some, false≢true, take-append-le, take-length, take-append_seam, at_below, at_longer, at_end, at_either}
+use Rattle.ucl_steps.proofs.Common.{begins_length, take_beginning, at_beginning, IsPrefix, Entry, EventCall, Refusal, Stale, refusal_of, after, IsMatch, IsReporter}
+use Rattle.ucl_steps.proofs.Common.{word_of, record_at, match_after, board_of, entry_of, reading_of, version_of, IsLegal, MayFollow, attempted, may_attempt}
+use Rattle.ucl_steps.proofs.Common.{same_number, Event, Reading, Accepted, Refused, Copied, Pending, NoCall, Holding, Collecting, Checking, GoesOn, Answers}
+use Rattle.ucl_steps.proofs.Common.{by_rules, collected}
 use Rattle.std.proofs.lemmas.List.Sums.{fold-append}
 use Rattle.ucl_board.specs.Log.{entry_list}
 use Rattle.ucl_word.proofs.Sequences.{may_induction, may_begin, may_last}
 use Rattle.ucl_word.specs.declared.record.MatchRecord.{MatchRecord}
-use Rattle.ucl_steps.proofs.Histories.{number_expected, is_stale, legal_none, legal_snoc, legal_beginning, read_back, number_next}
-use Rattle.ucl_steps.proofs.Histories.{squeezed, board_from, version_is}
+use Rattle.ucl_steps.proofs.Histories.{number_expected, is_stale, legal_none, legal_snoc, legal_beginning, read_back, number_next, squeezed, board_from, version_is}
 use Rattle.ucl_steps.proofs.CallFacts.{Loaded, AreAt}
-use Rattle.ucl_steps.specs.WordLog.{Enlisted, Enlists, First, IsWordLog, IsFoundThere, WordLog, SeatStep, Look, Match, MayComeNext, Second, Swap}
-use Rattle.ucl_steps.specs.WordLog.{WordStep, WordTarget, history_in, taken_at}
-use Rattle.ucl_steps.specs.Doings.{FinishedCall, Doings, FollowsProtocol, IsNextFor, IsProtocols, with_outcome, with_target, with_step}
-use Rattle.ucl_steps.specs.Doings.{doings_at, doings_of, entry_by, first_place, next_game, nothing_yet}
-use Rattle.ucl_steps.specs.LogHistory.{GoesBefore, EntryHasOneAnswer, IsCall, IsExplained, MadeBy, MakesEntry, accepts, entries_before}
-use Rattle.ucl_steps.specs.LogHistory.{sequential_answer}
+use Rattle.ucl_steps.specs.WordLog.{Enlisted, Enlists, First, IsWordLog, IsFoundThere, WordLog, SeatStep, Look, Match, MayComeNext, Second, Swap, WordStep}
+use Rattle.ucl_steps.specs.WordLog.{WordTarget, history_in, taken_at}
+use Rattle.ucl_steps.specs.ClientState.{FinishedCall, ClientState, FollowsProtocol, IsNextFor, IsNextOfProtocol, with_outcome, with_target, with_step, client_at}
+use Rattle.ucl_steps.specs.ClientState.{client_of, entry_by, first_place, next_game, new_client}
+use Rattle.ucl_steps.specs.LogHistory.{GoesBefore, EntryHasOneAnswer, IsCall, IsExplained, MadeBy, MakesEntry, accepts, entries_before, sequential_answer}
 
 -- one step more
 
@@ -41,22 +34,22 @@ taken_append seat xs ys = ap (map (λ (x : SeatStep). x.step)) (filter-append (�
 pub one_taken : (seat : ℕ) (x : SeatStep) (b : Bool) → (x.seat == seat) ≡ b → taken_at seat (x ∷ []) ≡ map (λ (y : SeatStep). y.step) (cond b (x ∷ []) [])
 one_taken seat x b is = ap (λ (c : Bool). map (λ (y : SeatStep). y.step) (cond c (x ∷ []) [])) is
 
-pub doing_own : (log : WordLog) (x : SeatStep) → doings_at x.seat (log ++ x ∷ []) ≡ with_step (doings_at x.seat log) x.step
-doing_own log x =
-    ap doings_of (taken_append x.seat log (x ∷ []) ∙ ap (λ (l : List WordStep). taken_at x.seat log ++ l) (one_taken x.seat x true (eq-eqb x.seat x.seat refl)))
-    ∙ fold-append with_step nothing_yet (taken_at x.seat log) (x.step ∷ [])
+pub client_own : (log : WordLog) (x : SeatStep) → client_at x.seat (log ++ x ∷ []) ≡ with_step (client_at x.seat log) x.step
+client_own log x =
+    ap client_of (taken_append x.seat log (x ∷ []) ∙ ap (λ (l : List WordStep). taken_at x.seat log ++ l) (one_taken x.seat x true (eq-eqb x.seat x.seat refl)))
+    ∙ fold-append with_step new_client (taken_at x.seat log) (x.step ∷ [])
 
-pub doing_other : (log : WordLog) (x : SeatStep) (seat : ℕ) → x.seat ≢ seat → doings_at seat (log ++ x ∷ []) ≡ doings_at seat log
-doing_other log x seat not =
-    ap doings_of (taken_append seat log (x ∷ []) ∙ (ap (λ (l : List WordStep). taken_at seat log ++ l) (one_taken seat x false (ne_eqb x.seat seat not))
+pub client_other : (log : WordLog) (x : SeatStep) (seat : ℕ) → x.seat ≢ seat → client_at seat (log ++ x ∷ []) ≡ client_at seat log
+client_other log x seat not =
+    ap client_of (taken_append seat log (x ∷ []) ∙ (ap (λ (l : List WordStep). taken_at seat log ++ l) (one_taken seat x false (ne_eqb x.seat seat not))
     ∙ append-nil (taken_at seat log)))
 
-pub by_seat : (log : WordLog) (x : SeatStep) (P : ℕ → Doings → Type 0) (d : Doings) → with_step (doings_at x.seat log) x.step ≡ d → P x.seat d
-    → ((seat : ℕ) → x.seat ≢ seat → P seat (doings_at seat log))
-    → (seat : ℕ) → P seat (doings_at seat (log ++ x ∷ []))
+pub by_seat : (log : WordLog) (x : SeatStep) (P : ℕ → ClientState → Type 0) (d : ClientState) → with_step (client_at x.seat log) x.step ≡ d → P x.seat d
+    → ((seat : ℕ) → x.seat ≢ seat → P seat (client_at seat log))
+    → (seat : ℕ) → P seat (client_at seat (log ++ x ∷ []))
 by_seat log x P d is own other seat = elim (cases_eq x.seat seat) [
-  | inl same ↦ subst (λ (k : ℕ). P k (doings_at k (log ++ x ∷ []))) same (subst (P x.seat) (sym (doing_own log x ∙ is)) own)
-  | inr not ↦ subst (P seat) (sym (doing_other log x seat not)) (other seat not)
+  | inl same ↦ subst (λ (k : ℕ). P k (client_at k (log ++ x ∷ []))) same (subst (P x.seat) (sym (client_own log x ∙ is)) own)
+  | inr not ↦ subst (P seat) (sym (client_other log x seat not)) (other seat not)
 ]
 
 -- how many entries there were
@@ -106,8 +99,8 @@ pub record Checks (h : List Entry) (low : ℕ) (words : List ℕ) (checked point
   loaded : Loaded h words point
   same : AreAt h words checked point
 
-abbrev pub Sees : WordLog → ℕ → ℕ → Held → Type 0
-Sees log number first Nothing = Unit {0}
+abbrev pub Sees : WordLog → ℕ → ℕ → Pending → Type 0
+Sees log number first NoCall = Unit {0}
 Sees log number first (Holding e old new) = (first < length log) × Offers (history_in log) number e old new
 Sees log number first (Collecting words) = (first < length log) × (length words < 12) × Loaded (history_in log) words (length (history_in log))
 Sees log number first (Checking words checked point) = (first < length log) × Checks (history_in log) (entries_before log first) words checked point
@@ -154,8 +147,8 @@ module _ (log : WordLog) (x : SeatStep) where
   longer : length (log ++ x ∷ []) ≡ length log + 1
   longer = length_push log x
 
-  sees_later : (number first : ℕ) (held : Held) → Sees log number first held → Sees (log ++ x ∷ []) number first held
-  sees_later number first Nothing s = tt
+  sees_later : (number first : ℕ) (held : Pending) → Sees log number first held → Sees (log ++ x ∷ []) number first held
+  sees_later number first NoCall s = tt
   sees_later number first (Holding e old new) s = let l = longer in let low = s.0 in (
     omega arith,
     offers_later (history_in log)
@@ -212,7 +205,7 @@ pub record HoldsOf (log : WordLog) : Type 0 where
   pub legal : IsLegal (history_in log)
   pub explained : (seat k : ℕ) (c : FinishedCall) → IsCall log seat k c → IsExplained log c
   pub once : EntryHasOneAnswer log
-  pub sees : (seat : ℕ) → Sees log (doings_at seat log).number (doings_at seat log).first (doings_at seat log).held
+  pub sees : (seat : ℕ) → Sees log (client_at seat log).number (client_at seat log).first (client_at seat log).held
 
 -- a call that is accepted has a point among the entries
 made_low : (log : WordLog) (c : FinishedCall) → MakesEntry log c → c.point < length (history_in log)
@@ -220,11 +213,11 @@ made_low log c m = at_below (history_in log) c.point (entry_of c.number m.event)
 
 module _ (log : WordLog) (r : HoldsOf log) (x : SeatStep) where
   -- no call is finished
-  stays : (d : Doings) → with_step (doings_at x.seat log) x.step ≡ d → d.calls ≡ (doings_at x.seat log).calls → x.step.entry ≡ None
+  stays : (d : ClientState) → with_step (client_at x.seat log) x.step ≡ d → d.calls ≡ (client_at x.seat log).calls → x.step.entry ≡ None
       → Sees (log ++ x ∷ []) d.number d.first d.held → HoldsOf (log ++ x ∷ [])
   stays d is same none seen =
-      let calls : (seat : ℕ) → (doings_at seat (log ++ x ∷ [])).calls ≡ (doings_at seat log).calls = by_seat log x
-      (λ seat y. y.calls ≡ (doings_at seat log).calls) d is same (λ seat not. refl) in
+      let calls : (seat : ℕ) → (client_at seat (log ++ x ∷ [])).calls ≡ (client_at seat log).calls = by_seat log x
+      (λ seat y. y.calls ≡ (client_at seat log).calls) d is same (λ seat not. refl) in
       let history : history_in (log ++ x ∷ []) ≡ history_in log = history_more log x ∙ (ap (λ (o : Option Entry). history_in log ++ entry_list o) none
       ∙ append-nil (history_in log)) in
       let back : (seat k : ℕ) (c : FinishedCall) → IsCall (log ++ x ∷ []) seat k c → IsCall log seat k c = λ seat k c at. ap
@@ -238,29 +231,29 @@ module _ (log : WordLog) (r : HoldsOf log) (x : SeatStep) where
             let count = ap length history in
             let t = r.once place (omega arith) in
             (t.0, t.1, (t.2.0, on t.0 t.1 t.2.0 t.2.1, t.2.2, t.2.3), λ other j made. t.3 other j (made.0, back other j made.0 made.1, made.2, made.3));
-        sees = by_seat log x (λ seat y. Sees (log ++ x ∷ []) y.number y.first y.held) d is seen (λ seat not. sees_later log x (doings_at seat log).number
-            (doings_at seat log).first (doings_at seat log).held (r.sees seat));
+        sees = by_seat log x (λ seat y. Sees (log ++ x ∷ []) y.number y.first y.held) d is seen (λ seat not. sees_later log x (client_at seat log).number
+            (client_at seat log).first (client_at seat log).held (r.sees seat));
       }
 
   -- a call is finished
-  module _ (c : FinishedCall) (d : Doings) (is : with_step (doings_at x.seat log) x.step ≡ d)
-      (calls_are : d.calls ≡ (doings_at x.seat log).calls ++ c ∷ []) (nothing : d.held ≡ Nothing) where
-    call_now : IsCall (log ++ x ∷ []) x.seat (length (doings_at x.seat log).calls) c
-    call_now = ap (λ (y : Doings). slice_get y.calls (length (doings_at x.seat log).calls)) (doing_own log x ∙ is)
-        ∙ (ap (λ (l : List FinishedCall). slice_get l (length (doings_at x.seat log).calls)) calls_are ∙ at_end (doings_at x.seat log).calls c)
+  module _ (c : FinishedCall) (d : ClientState) (is : with_step (client_at x.seat log) x.step ≡ d)
+      (calls_are : d.calls ≡ (client_at x.seat log).calls ++ c ∷ []) (nothing : d.held ≡ NoCall) where
+    call_now : IsCall (log ++ x ∷ []) x.seat (length (client_at x.seat log).calls) c
+    call_now = ap (λ (y : ClientState). slice_get y.calls (length (client_at x.seat log).calls)) (client_own log x ∙ is)
+        ∙ (ap (λ (l : List FinishedCall). slice_get l (length (client_at x.seat log).calls)) calls_are ∙ at_end (client_at x.seat log).calls c)
 
     calls_on : (seat k : ℕ) (b : FinishedCall) → IsCall log seat k b → IsCall (log ++ x ∷ []) seat k b
-    calls_on seat k b = by_seat log x (λ seat y. slice_get (doings_at seat log).calls k ≡ Some b → slice_get y.calls k ≡ Some b) d is
-        (λ at. ap (λ (l : List FinishedCall). slice_get l k) calls_are ∙ at_longer (doings_at x.seat log).calls (c ∷ []) k b at) (λ seat not at. at) seat
+    calls_on seat k b = by_seat log x (λ seat y. slice_get (client_at seat log).calls k ≡ Some b → slice_get y.calls k ≡ Some b) d is
+        (λ at. ap (λ (l : List FinishedCall). slice_get l k) calls_are ∙ at_longer (client_at x.seat log).calls (c ∷ []) k b at) (λ seat not at. at) seat
 
     abbrev Either : ℕ → ℕ → FinishedCall → Type 0
-    Either seat k b = IsCall log seat k b ⊎ ((seat ≡ x.seat) × (k ≡ length (doings_at x.seat log).calls) × (c ≡ b))
+    Either seat k b = IsCall log seat k b ⊎ ((seat ≡ x.seat) × (k ≡ length (client_at x.seat log).calls) × (c ≡ b))
 
     calls_back : (seat k : ℕ) (b : FinishedCall) → IsCall (log ++ x ∷ []) seat k b → Either seat k b
     calls_back seat k b = by_seat log x (λ seat y. slice_get y.calls k ≡ Some b → Either seat k b) d is own (λ seat not at. inl at) seat
       where
         own : slice_get d.calls k ≡ Some b → Either x.seat k b
-        own at = elim (at_either (doings_at x.seat log).calls c k b (ap (λ (l : List FinishedCall). slice_get l k) (sym calls_are)
+        own at = elim (at_either (client_at x.seat log).calls c k b (ap (λ (l : List FinishedCall). slice_get l k) (sym calls_are)
             ∙ at)) [ inl t ↦ inl t.1 | inr t ↦ inr (refl, t.0, t.1) ]
 
     answers : IsExplained (log ++ x ∷ []) c → IsLegal (history_in (log ++ x ∷ []))
@@ -276,7 +269,7 @@ module _ (log : WordLog) (r : HoldsOf log) (x : SeatStep) where
           ];
           once = one which;
           sees = by_seat log x (λ seat y. Sees (log ++ x ∷ []) y.number y.first y.held) d is (subst (Sees (log ++ x ∷ []) d.number d.first) (sym nothing) tt)
-              (λ seat not. sees_later log x (doings_at seat log).number (doings_at seat log).first (doings_at seat log).held (r.sees seat));
+              (λ seat not. sees_later log x (client_at seat log).number (client_at seat log).first (client_at seat log).held (r.sees seat));
         }
       where
         -- calls that made earlier entries
@@ -304,7 +297,7 @@ module _ (log : WordLog) (r : HoldsOf log) (x : SeatStep) where
             elim (cases_eq place (length (history_in log))) [
               | inl last ↦ (
                 x.seat,
-                length (doings_at x.seat log).calls,
+                length (client_at x.seat log).calls,
                 (c, call_now, t.0, t.1 ∙ sym last),
                 λ other j made. elim
                     (calls_back other j made.0 made.1) [
@@ -316,51 +309,51 @@ module _ (log : WordLog) (r : HoldsOf log) (x : SeatStep) where
             ]
 
 -- what is added where
-pub look_none : (h : Held) (number game found : ℕ) (e : EventCall) → entry_by number h (Match (Look e) game found) ≡ None
+pub look_none : (h : Pending) (number game found : ℕ) (e : EventCall) → entry_by number h (Match (Look e) game found) ≡ None
 look_none h number game found e = search arith
 
-pub first_none : (h : Held) (number game found : ℕ) → entry_by number h (Match First game found) ≡ None
+pub first_none : (h : Pending) (number game found : ℕ) → entry_by number h (Match First game found) ≡ None
 first_none h number game found = search arith
 
-pub second_none : (h : Held) (number game found : ℕ) → entry_by number h (Match Second game found) ≡ None
+pub second_none : (h : Pending) (number game found : ℕ) → entry_by number h (Match Second game found) ≡ None
 second_none h number game found = search arith
 
-pub count_none : (h : Held) (number found : ℕ) → entry_by number h (Enlisted found) ≡ None
+pub count_none : (h : Pending) (number found : ℕ) → entry_by number h (Enlisted found) ≡ None
 count_none h number found = search arith
 
-pub enlist_none : (h : Held) (number found : ℕ) → entry_by number h (Enlists found) ≡ None
+pub enlist_none : (h : Pending) (number found : ℕ) → entry_by number h (Enlists found) ≡ None
 enlist_none h number found = search arith
 
 -- a step of one seat
 module _ (log : WordLog) (r : HoldsOf log) (seat place at : ℕ) (entry : Option Entry) (place_is : place ≡ length log)
     (at_is : at ≡ length (history_in log)) where
-  abbrev d : Doings
-  d = doings_at seat log
+  abbrev d : ClientState
+  d = client_at seat log
 
   abbrev x : WordTarget → SeatStep
   x target = record { seat = seat; step = record { target = target; place = place; at = at; entry = entry } }
 
-  abbrev d_at : Held → Doings
-  d_at h = record { number = (doings_at seat log).number; calls = (doings_at seat log).calls; held = h; first = (doings_at seat log).first }
+  abbrev d_at : Pending → ClientState
+  d_at h = record { number = (client_at seat log).number; calls = (client_at seat log).calls; held = h; first = (client_at seat log).first }
 
-  sees_at : (h : Held) → d.held ≡ h → Sees log d.number d.first h
+  sees_at : (h : Pending) → d.held ≡ h → Sees log d.number d.first h
   sees_at h is = subst (Sees log d.number d.first) is (r.sees seat)
 
-  stays_at : (target : WordTarget) (h then : Held) (first : ℕ) → d.held ≡ h
+  stays_at : (target : WordTarget) (h then : Pending) (first : ℕ) → d.held ≡ h
       → with_target target (x target).step (d_at h) ≡ record { number = d.number; calls = d.calls; held = then; first = first }
       → entry ≡ None → Sees (log ++ x target ∷ []) d.number first then → HoldsOf (log ++ x target ∷ [])
   stays_at target h then first is e none seen =
       stays log r (x target) (record { number = d.number; calls = d.calls; held = then; first = first })
-      (ap (λ (y : Held). with_target target (x target).step (d_at y)) is ∙ e) refl none seen
+      (ap (λ (y : Pending). with_target target (x target).step (d_at y)) is ∙ e) refl none seen
 
-  finish : (target : WordTarget) (h : Held) (c : FinishedCall) (first : ℕ) → d.held ≡ h
-      → with_target target (x target).step (d_at h) ≡ record { number = d.number; calls = d.calls ++ c ∷ []; held = Nothing; first = first }
+  finish : (target : WordTarget) (h : Pending) (c : FinishedCall) (first : ℕ) → d.held ≡ h
+      → with_target target (x target).step (d_at h) ≡ record { number = d.number; calls = d.calls ++ c ∷ []; held = NoCall; first = first }
       → IsExplained (log ++ x target ∷ []) c → IsLegal (history_in (log ++ x target ∷ []))
       → ((accepts c.reply ≡ false) × (entry ≡ None)) ⊎ ((accepts c.reply ≡ true) × (c.point ≡ length (history_in log)) × ((e : Entry) × (entry ≡ Some e)))
       → HoldsOf (log ++ x target ∷ [])
   finish target h c first is e told legal which =
-      answers log r (x target) c (record { number = d.number; calls = d.calls ++ c ∷ []; held = Nothing; first = first })
-      (ap (λ (y : Held). with_target target (x target).step (d_at y)) is ∙ e) refl refl told legal which
+      answers log r (x target) c (record { number = d.number; calls = d.calls ++ c ∷ []; held = NoCall; first = first })
+      (ap (λ (y : Pending). with_target target (x target).step (d_at y)) is ∙ e) refl refl told legal which
 
   same_history : (target : WordTarget) → entry ≡ None → history_in (log ++ x target ∷ []) ≡ history_in log
   same_history target none = history_more log (x target) ∙ (ap (λ (o : Option Entry). history_in log ++ entry_list o) none ∙ append-nil (history_in log))
@@ -382,13 +375,13 @@ module _ (log : WordLog) (r : HoldsOf log) (seat place at : ℕ) (entry : Option
       }
 
   -- a refusal now
-  refused : (target : WordTarget) (h : Held) (e : EventCall) (refusal : Refusal) (first then : ℕ) → d.held ≡ h → first ≤ length log
+  refused : (target : WordTarget) (h : Pending) (e : EventCall) (refusal : Refusal) (first then : ℕ) → d.held ≡ h → first ≤ length log
       → with_target target (x target).step (d_at h)
       ≡ record {
         number = d.number;
         calls = d.calls
             ++ record { number = d.number; call = Event e; reply = Refused refusal; first = first; last = place; point = at } ∷ [];
-        held = Nothing;
+        held = NoCall;
         first = then;
       }
       → entry ≡ None → refusal_of (match_after (history_in log) e.game) e.expected e.kind ≡ Some refusal → HoldsOf (log ++ x target ∷ [])
@@ -407,15 +400,15 @@ module _ (log : WordLog) (r : HoldsOf log) (seat place at : ℕ) (entry : Option
   record_now game found there = ap record_at there ∙ read_back (history_in log) game r.legal
 
   -- Look
-  module _ (e : EventCall) (game found : ℕ) (nothing : d.held ≡ Nothing) (of : game ≡ e.game) (reporter : IsReporter d.number) (is_match : IsMatch game)
+  module _ (e : EventCall) (game found : ℕ) (nothing : d.held ≡ NoCall) (of : game ≡ e.game) (reporter : IsReporter d.number) (is_match : IsMatch game)
       (there : found ≡ word_of (match_after (history_in log) game)) (none : entry ≡ None) where
     found_there : found ≡ word_of (match_after (history_in log) e.game)
     found_there = there ∙ ap (λ (g : ℕ). word_of (match_after (history_in log) g)) of
 
     look_by : (o : Option Refusal) → refusal_of (record_at found) e.expected e.kind ≡ o → HoldsOf (log ++ x (Match (Look e) game found) ∷ [])
     look_by (Some refusal) is =
-        refused (Match (Look e) game found) Nothing e refusal place d.first nothing (omega arith)
-        (ap (λ (o : Option Refusal). with_outcome (by_rules d.number e found o) (x (Match (Look e) game found)).step (d_at Nothing)) is) none
+        refused (Match (Look e) game found) NoCall e refusal place d.first nothing (omega arith)
+        (ap (λ (o : Option Refusal). with_outcome (by_rules d.number e found o) (x (Match (Look e) game found)).step (d_at NoCall)) is) none
         (ap (λ (m : MatchRecord). refusal_of m e.expected e.kind) (sym (record_now e.game found found_there)) ∙ is)
     look_by None is =
         let new = word_of (after (record_at found) d.number e.kind) in
@@ -430,8 +423,8 @@ module _ (log : WordLog) (r : HoldsOf log) (seat place at : ℕ) (entry : Option
           accepted = is;
           next = refl;
         } in
-        stays_at (Match (Look e) game found) Nothing (Holding e found new) place nothing
-        (ap (λ (o : Option Refusal). with_outcome (by_rules d.number e found o) (x (Match (Look e) game found)).step (d_at Nothing)) is) none
+        stays_at (Match (Look e) game found) NoCall (Holding e found new) place nothing
+        (ap (λ (o : Option Refusal). with_outcome (by_rules d.number e found o) (x (Match (Look e) game found)).step (d_at NoCall)) is) none
         (omega arith, offers_later (history_in log) (history_in (log ++ y ∷ [])) (begins log y) d.number e found new offers)
 
   -- Swap
@@ -443,7 +436,7 @@ module _ (log : WordLog) (r : HoldsOf log) (seat place at : ℕ) (entry : Option
     swap_found : found ≡ word_of (match_after (history_in log) e.game)
     swap_found = there ∙ ap (λ (g : ℕ). word_of (match_after (history_in log) g)) of
 
-    abbrev swapped_by : Bool → Doings
+    abbrev swapped_by : Bool → ClientState
     swapped_by b = with_outcome (Answers (cond b (Accepted (record { number = (record_at new).number })) (Refused (Stale (record_at found).number))))
         (x (Match Swap game found)).step (d_at (Holding e old new))
 
@@ -518,7 +511,7 @@ module _ (log : WordLog) (r : HoldsOf log) (seat place at : ℕ) (entry : Option
         (subst IsLegal (sym history) (legal_snoc h made r.legal may)) (inr (refl, at_is, (made, is)))
 
   -- First
-  module _ (h : Held) (words : List ℕ) (first game found : ℕ) (holds : d.held ≡ h) (few : length words < 12)
+  module _ (h : Pending) (words : List ℕ) (first game found : ℕ) (holds : d.held ≡ h) (few : length words < 12)
       (loads : Loaded (history_in log) words (length (history_in log))) (low : first ≤ length log)
       (of : game ≡ length words + 1) (there : found ≡ word_of (match_after (history_in log) game)) (none : entry ≡ None)
       (does : with_target (Match First game found) (x (Match First game found)).step
@@ -593,7 +586,7 @@ module _ (log : WordLog) (r : HoldsOf log) (seat place at : ℕ) (entry : Option
     abbrev mine : (d.first < length log) × Checks (history_in log) (entries_before log d.first) words checked point
     mine = sees_at (Checking words checked point) holds
 
-    abbrev compared_by : Bool → Bool → Doings
+    abbrev compared_by : Bool → Bool → ClientState
     compared_by same last = with_outcome (cond same (cond last (Answers (Copied (reading_of words))) (GoesOn (Checking words (checked + 1) point)))
         (GoesOn (Collecting [])))
         (x (Match Second game found)).step (d_at (Checking words checked point))
@@ -669,7 +662,7 @@ module _ (log : WordLog) (r : HoldsOf log) (seat place at : ℕ) (entry : Option
   no_match : (game : ℕ) → IsMatch game → game ≡ 0 → ⊥
   no_match game is zero_is = let l = is.0 in omega arith
 
-  swap_by : (h : Held) (game found : ℕ) → d.held ≡ h → IsMatch game → found ≡ word_of (match_after (history_in log) game) → game ≡ next_game Swap h
+  swap_by : (h : Pending) (game found : ℕ) → d.held ≡ h → IsMatch game → found ≡ word_of (match_after (history_in log) game) → game ≡ next_game Swap h
       → entry ≡ entry_by d.number h (Match Swap game found)
       → HoldsOf (log ++ x (Match Swap game found) ∷ [])
   swap_by (Holding e old new) game found is m there next made = by_bool (found == old) refl
@@ -678,14 +671,14 @@ module _ (log : WordLog) (r : HoldsOf log) (seat place at : ℕ) (entry : Option
       by_bool true same = swap_won e old new game found is next there same (made ∙ ap (λ (b : Bool). cond b (Some (entry_of d.number e)) None) same)
       by_bool false differs = swap_missed e old new game found is next there differs
           (made ∙ ap (λ (b : Bool). cond b (Some (entry_of d.number e)) None) differs)
-  swap_by Nothing game found is m there next made = absurd (no_match game m next)
+  swap_by NoCall game found is m there next made = absurd (no_match game m next)
   swap_by (Collecting words) game found is m there next made = absurd (no_match game m next)
   swap_by (Checking words checked point) game found is m there next made = absurd (no_match game m next)
 
-  first_held : (h : Held) (game found : ℕ) → d.held ≡ h → IsMatch game → found ≡ word_of (match_after (history_in log) game) → game ≡ next_game First h
+  first_held : (h : Pending) (game found : ℕ) → d.held ≡ h → IsMatch game → found ≡ word_of (match_after (history_in log) game) → game ≡ next_game First h
       → entry ≡ None → HoldsOf (log ++ x (Match First game found) ∷ [])
-  first_held Nothing game found is m there next none =
-      first_by Nothing [] place game found is (omega arith) (λ i less. absurd (omega arith)) (omega arith) next there none refl (length (found ∷ []) == 12) refl
+  first_held NoCall game found is m there next none =
+      first_by NoCall [] place game found is (omega arith) (λ i less. absurd (omega arith)) (omega arith) next there none refl (length (found ∷ []) == 12) refl
   first_held (Collecting words) game found is m there next none =
       let s = sees_at (Collecting words) is in
       let low = s.0 in
@@ -693,31 +686,31 @@ module _ (log : WordLog) (r : HoldsOf log) (seat place at : ℕ) (entry : Option
   first_held (Holding e old new) game found is m there next none = absurd (no_match game m next)
   first_held (Checking words checked point) game found is m there next none = absurd (no_match game m next)
 
-  second_held : (h : Held) (game found : ℕ) → d.held ≡ h → IsMatch game → found ≡ word_of (match_after (history_in log) game) → game ≡ next_game Second h
+  second_held : (h : Pending) (game found : ℕ) → d.held ≡ h → IsMatch game → found ≡ word_of (match_after (history_in log) game) → game ≡ next_game Second h
       → entry ≡ None → HoldsOf (log ++ x (Match Second game found) ∷ [])
   second_held (Checking words checked point) game found is m there next none =
       second_by words checked point game found is next there none (found == slice_index words checked) (checked == 11) refl refl
-  second_held Nothing game found is m there next none = absurd (no_match game m next)
+  second_held NoCall game found is m there next none = absurd (no_match game m next)
   second_held (Holding e old new) game found is m there next none = absurd (no_match game m next)
   second_held (Collecting words) game found is m there next none = absurd (no_match game m next)
 
   -- a step on no match word
-  same_doing : (target : WordTarget) (h : Held) → d.held ≡ h
+  same_client : (target : WordTarget) (h : Pending) → d.held ≡ h
       → with_target target (x target).step (d_at h) ≡ record { number = d.number; calls = d.calls; held = h; first = first_place h d.first place }
       → entry ≡ None
       → HoldsOf (log ++ x target ∷ [])
-  same_doing target Nothing is does none = stays_at target Nothing Nothing place is does none tt
-  same_doing target (Holding e old new) is does none =
+  same_client target NoCall is does none = stays_at target NoCall NoCall place is does none tt
+  same_client target (Holding e old new) is does none =
       stays_at target (Holding e old new) (Holding e old new) d.first is does none (sees_later log (x target) d.number d.first (Holding e old new)
       (sees_at (Holding e old new) is))
-  same_doing target (Collecting words) is does none =
+  same_client target (Collecting words) is does none =
       stays_at target (Collecting words) (Collecting words) d.first is does none (sees_later log (x target) d.number d.first (Collecting words)
       (sees_at (Collecting words) is))
-  same_doing target (Checking words checked point) is does none =
+  same_client target (Checking words checked point) is does none =
       stays_at target (Checking words checked point) (Checking words checked point) d.first is does none
       (sees_later log (x target) d.number d.first (Checking words checked point) (sees_at (Checking words checked point) is))
 
-  count_does : (h : Held) (found : ℕ) → with_target (Enlisted found) (x (Enlisted found)).step
+  count_does : (h : Pending) (found : ℕ) → with_target (Enlisted found) (x (Enlisted found)).step
       (d_at h) ≡ record { number = d.number; calls = d.calls; held = h; first = first_place h d.first place }
   count_does h found = search arith
 
@@ -728,10 +721,10 @@ module _ (log : WordLog) (r : HoldsOf log) (seat place at : ℕ) (entry : Option
   one_step (Match Swap game found) there next is = swap_by d.held game found refl there.0 there.1 next is
   one_step (Match First game found) there next is = first_held d.held game found refl there.0 there.1 next (is ∙ first_none d.held d.number game found)
   one_step (Match Second game found) there next is = second_held d.held game found refl there.0 there.1 next (is ∙ second_none d.held d.number game found)
-  one_step (Enlisted found) there next is = same_doing (Enlisted found) d.held refl (count_does d.held found) (is ∙ count_none d.held d.number found)
+  one_step (Enlisted found) there next is = same_client (Enlisted found) d.held refl (count_does d.held found) (is ∙ count_none d.held d.number found)
   one_step (Enlists found) there next is =
-      stays log r (x (Enlists found)) (record { number = found + 1; calls = d.calls; held = Nothing; first = d.first })
-      (λ i. record { number = found + 1; calls = (doings_at seat log).calls; held = next.0 i; first = (doings_at seat log).first }) refl
+      stays log r (x (Enlists found)) (record { number = found + 1; calls = d.calls; held = NoCall; first = d.first })
+      (λ i. record { number = found + 1; calls = (client_at seat log).calls; held = next.0 i; first = (client_at seat log).first }) refl
       (is ∙ enlist_none d.held d.number found) tt
 
 -- each log
@@ -742,8 +735,8 @@ holds_none = record { legal = legal_none; explained = λ seat k c at. absurd (no
 pub holds_all : (log : WordLog) → IsWordLog log → FollowsProtocol log → HoldsOf log
 holds_all log = may_induction MayComeNext (λ l. FollowsProtocol l → HoldsOf l) (λ f. holds_none)
     (λ xs x before may was f.
-    let p = may_last IsProtocols xs x f in
-    one_step xs (was (may_begin IsProtocols xs
+    let p = may_last IsNextOfProtocol xs x f in
+    one_step xs (was (may_begin IsNextOfProtocol xs
     (x ∷ []) f)) x.seat x.step.place x.step.at x.step.entry may.place.0 may.place.1 x.step.target may.there p.next p.entry)
     log
 

@@ -1,11 +1,12 @@
 -- A log is a run of the machine: the steps that a function makes of it are enabled, and lead to its history; a longer log is a longer run.
-use Rattle.ucl_steps.proofs.Common.{◌≡◌, ◌≢◌, inl, inr, ℕ, zero, suc, ◌+◌, ◌-◌, ◌<◌, ◌≤◌, ◌==◌, ◌&&◌, nat_le, Bool, true, false, cond, List, ◌∷◌, ◌++◌, length, Option, Some, None}
-use Rattle.ucl_steps.proofs.Common.{refl, sym, ap, ◌∙◌, subst, arith, [], append-nil, append_assoc, le-leb, same_Some, option_and_then, option_and_then_some}
-use Rattle.ucl_steps.proofs.Common.{slice_get, slice_index, All, All-cons, All-nil, All-head, All-tail, Entry, EventCall, IsMatch, IsReporter, word_of, word_at}
-use Rattle.ucl_steps.proofs.Common.{match_after, board_of, word_after, entry_of, Caller, Reporter, Reader, Call, Event, Reading, Step, Reply, Holds, Idle, Wanting, Within, Answered}
-use Rattle.ucl_steps.proofs.Common.{MachineState, initial_state, held_by, with_held, held_at_begin, after_begin, after_reply, after_end, after_outcome, stored}
-use Rattle.ucl_steps.proofs.Common.{after_step_holding, after_step, after_steps, Held, Nothing, Holding, Collecting, Checking, Outcome, GoesOn, Answers, looked, swapped}
-use Rattle.ucl_steps.proofs.Common.{loaded, compared, IsLinearizable}
+use Rattle.ucl_steps.proofs.Common.{◌≡◌, ◌≢◌, inl, inr, ℕ, zero, suc, ◌+◌, ◌-◌, ◌<◌, ◌≤◌, ◌==◌, ◌&&◌, nat_le, Bool, true, false, cond, List, ◌∷◌, ◌++◌, length}
+use Rattle.ucl_steps.proofs.Common.{Option, Some, None, refl, sym, ap, ◌∙◌, subst, arith, [], append-nil, append_assoc, le-leb, same_Some, option_and_then}
+use Rattle.ucl_steps.proofs.Common.{option_and_then_some, slice_get, slice_index, All, All-cons, All-nil, All-head, All-tail, Entry, EventCall, IsMatch, IsReporter}
+use Rattle.ucl_steps.proofs.Common.{word_of, word_at, match_after, board_of, word_after, entry_of, Caller, Reporter, Reader, Call, Event, Reading, Step, Reply}
+use Rattle.ucl_steps.proofs.Common.{CallerState, Idle, Wanting, Within, Answered, MachineState, initial_state, held_by, with_held, held_at_begin, after_begin}
+use Rattle.ucl_steps.proofs.Common.{after_reply, after_end, after_outcome, stored, after_step_holding, after_step, after_steps, Pending, NoCall, Holding, Collecting}
+use Rattle.ucl_steps.proofs.Common.{Checking, Outcome, GoesOn, Answers, looked, swapped, loaded, compared, IsLinearizable, Refusal, refusal_of, record_at}
+use Rattle.ucl_steps.proofs.Common.{reading_of, by_rules, Copied}
 use Rattle.std.proofs.Common.{replicate}
 use Rattle.ucl_board.specs.Log.{entry_list}
 use Rattle.ucl_word.proofs.Sequences.{may_induction, may_begin, may_last}
@@ -14,31 +15,30 @@ use Rattle.ucl_steps.specs.Machine as rules
 use Rattle.ucl_steps.proofs.Lists.{same_caller, held_here, held_else}
 use Rattle.ucl_steps.proofs.Runs.{linearizable_run, words_of_run}
 use Rattle.ucl_steps.proofs.LogHistory.{history_more, by_seat, look_none, first_none, second_none, count_none, enlist_none}
-use Rattle.ucl_steps.proofs.Common.{Refusal, refusal_of, record_at, reading_of, by_rules, Copied}
 use Rattle.ucl_steps.proofs.LogTurns.{holding, collecting, checking}
 use Rattle.ucl_steps.proofs.LogFacts.{enlisted_more, logs_facts}
 use Rattle.ucl_steps.specs.WordLog.{Act, Look, Swap, First, Second, WordTarget, Match, Enlisted, Enlists, WordStep, SeatStep, WordLog, history_in, enlists}
 use Rattle.ucl_steps.specs.WordLog.{enlisted_by, IsFoundThere, MayComeNext, IsWordLog}
-use Rattle.ucl_steps.specs.Doings.{Doings, doings_at, outcome, with_outcome, with_step, next_game, IsNextFor, entry_by, IsProtocols, FollowsProtocol}
+use Rattle.ucl_steps.specs.ClientState.{ClientState, client_at, outcome, with_outcome, with_step, next_game, IsNextFor, entry_by, IsNextOfProtocol, FollowsProtocol}
 use Rattle.ucl_steps.specs.LogFacts.{LogFacts, number_at}
-use Rattle.ucl_steps.specs.LogRuns.{IsOf, caller_at, cast_for, ends_by, steps_on, steps_after, machine_steps, LongerLogsAreLongerRuns}
-use Rattle.ucl_steps.specs.LogRuns.{caller_holding, IsHeldBy, HoldsAs, LogsAreRuns}
+use Rattle.ucl_steps.specs.LogRuns.{IsOf, caller_at, cast_for, ends_by, steps_on, steps_after, machine_steps, LongerLogsAreLongerRuns, caller_holding, IsHeldBy}
+use Rattle.ucl_steps.specs.LogRuns.{HoldsAs, LogsAreRuns}
 
 -- the steps of a log, one step more, and of a longer log
 
 steps_append : (before xs ys : WordLog) → steps_after before (xs ++ ys) ≡ steps_after before xs ++ steps_after (before ++ xs) ys
 steps_append before [] ys = ap (λ (l : WordLog). steps_after l ys) (sym (append-nil before))
 steps_append before (x ∷ xs) ys =
-    let own : List Step = steps_on x.seat (doings_at x.seat before).number (doings_at x.seat before).held x.step.target x.step.at in
+    let own : List Step = steps_on x.seat (client_at x.seat before).number (client_at x.seat before).held x.step.target x.step.at in
     ap (λ (l : List Step). own ++ l) (steps_append (before ++ x ∷ []) xs ys)
     ∙ (sym (append_assoc own (steps_after (before ++ x ∷ []) xs) (steps_after ((before ++ x ∷ []) ++ xs) ys))
     ∙ ap (λ (l : WordLog). (own ++ steps_after (before ++ x ∷ []) xs) ++ steps_after l ys) (append_assoc before (x ∷ []) xs))
 
-steps_more : (log : WordLog) (x : SeatStep) → machine_steps (log ++ x ∷ []) ≡ machine_steps log ++ steps_on x.seat (doings_at x.seat log).number
-    (doings_at x.seat log).held x.step.target x.step.at
+steps_more : (log : WordLog) (x : SeatStep) → machine_steps (log ++ x ∷ []) ≡ machine_steps log ++ steps_on x.seat (client_at x.seat log).number
+    (client_at x.seat log).held x.step.target x.step.at
 steps_more log x = steps_append [] log (x ∷ [])
     ∙ ap (λ (l : List Step). machine_steps log ++ l)
-    (append-nil (steps_on x.seat (doings_at x.seat log).number (doings_at x.seat log).held x.step.target x.step.at))
+    (append-nil (steps_on x.seat (client_at x.seat log).number (client_at x.seat log).held x.step.target x.step.at))
 
 pub longer_logs : LongerLogsAreLongerRuns
 longer_logs log later p = (steps_after log p.0, sym (steps_append [] log p.0) ∙ ap machine_steps p.1)
@@ -68,7 +68,7 @@ record Leaves (c : Caller) (w : MachineState) (steps : List Step) (o : Outcome) 
   holds : HeldThen c place o last
 
 -- from the step on a match word on, where v is the board after it
-leaves_by : (c : Caller) (w v : MachineState) (s : Step) (k point : ℕ) (x : Holds) (o : Outcome) → held_by w.callers c ≡ Some x → v.callers ≡ w.callers
+leaves_by : (c : Caller) (w v : MachineState) (s : Step) (k point : ℕ) (x : CallerState) (o : Outcome) → held_by w.callers c ≡ Some x → v.callers ≡ w.callers
     → after_step w s ≡ Some (after_outcome c k point o v)
     → Leaves c w (s ∷ ends_by o c) o v.history
 leaves_by c w v s k point x (GoesOn held) holds same one =
@@ -87,7 +87,7 @@ leaves_by c w v s k point x (Answers reply) holds same one =
     let z = after_reply c k point reply v in
     let last = after_end c k z in
     let held_z : held_by z.callers c ≡ Some (Answered k) = held_here v.callers c x (Answered k) here in
-    let end : after_step z (machine.End c) ≡ Some last = ap (λ (o : Option Holds). after_step_holding (machine.End c) o z) held_z in
+    let end : after_step z (machine.End c) ≡ Some last = ap (λ (o : Option CallerState). after_step_holding (machine.End c) o z) held_z in
     record {
       last = last;
       run = one_then s (machine.End c ∷ []) w z last one (one_then (machine.End c) [] z last last end refl);
@@ -104,7 +104,7 @@ leaves_begun : (c : Caller) (call : Call) (w : MachineState) (steps : List Step)
 leaves_begun c call w steps o history idle may l =
     let v = after_begin c call w in
     let one : after_step w (machine.Begin c call) ≡ Some v =
-    ap (λ (h : Option Holds). after_step_holding (machine.Begin c call) h w) idle ∙ ap (λ (b : Bool). cond b (Some v) None) may in
+    ap (λ (h : Option CallerState). after_step_holding (machine.Begin c call) h w) idle ∙ ap (λ (b : Bool). cond b (Some v) None) may in
     record {
       last = l.last;
       run = one_then (machine.Begin c call) steps w v l.last one l.run;
@@ -133,14 +133,14 @@ module _ (w : MachineState) (words : w.words ≡ board_of w.history) (seat numbe
   abbrev reader : Caller
   reader = Reader (seat + 1)
 
-  abbrev Gives : Act → Held → List Entry → Type 0
+  abbrev Gives : Act → Pending → List Entry → Type 0
   Gives act h entries = Leaves (caller_at seat number act) w (steps_on seat number h (Match act game found) at)
       (outcome number h (Match act game found) at) (w.history ++ entries)
 
   kept_history : {c : Caller} {v : MachineState} {steps : List Step} {o : Outcome} → Leaves c v steps o w.history → Leaves c v steps o (w.history ++ [])
   kept_history {c} {v} {steps} {o} l = subst (Leaves c v steps o) (sym (append-nil w.history)) l
 
-  look_gives : (e : EventCall) → IsReporter number → game ≡ e.game → held_by w.callers (Reporter number) ≡ Some Idle → Gives (Look e) Nothing []
+  look_gives : (e : EventCall) → IsReporter number → game ≡ e.game → held_by w.callers (Reporter number) ≡ Some Idle → Gives (Look e) NoCall []
   look_gives e reporter of idle =
       let c = Reporter number in
       let v = after_begin c (Event e) w in
@@ -148,7 +148,7 @@ module _ (w : MachineState) (words : w.words ≡ board_of w.history) (seat numbe
       let holds : held_by v.callers c ≡ Some (Wanting k e) = held_here w.callers c Idle (Wanting k e) idle in
       let word : word_at w.words e.game ≡ found = ap (word_at w.words) (sym of) ∙ word_here in
       let one : after_step v (machine.Look c) ≡ Some (after_outcome c k (length w.history) (looked number e found) v) =
-      ap (λ (h : Option Holds). after_step_holding (machine.Look c) h v) holds
+      ap (λ (h : Option CallerState). after_step_holding (machine.Look c) h v) holds
       ∙ ap (λ (n : ℕ). Some (after_outcome c k (length w.history) (looked number e n) v)) word in
       kept_history (leaves_begun c (Event e) w (machine.Look c ∷ ends_by (looked number e found) c) (looked number e found) w.history idle
       (may_report number e reporter (subst IsMatch of is))
@@ -163,7 +163,7 @@ module _ (w : MachineState) (words : w.words ≡ board_of w.history) (seat numbe
 
       step_is : (b : Bool) → (found == old) ≡ b → after_step w (machine.Swap (Reporter number)) ≡ Some
           (after_outcome (Reporter number) k (length w.history) (swapped old new found) (cond b (stored number e new w) w))
-      step_is b is = ap (λ (h : Option Holds). after_step_holding (machine.Swap (Reporter number)) h w) holds
+      step_is b is = ap (λ (h : Option CallerState). after_step_holding (machine.Swap (Reporter number)) h w) holds
           ∙ (ap (λ (n : ℕ). Some (after_outcome (Reporter number) k (length w.history) (swapped old new n) (cond (n == old) (stored number e new w) w)))
           (ap (word_at w.words) (sym of) ∙ word_here)
           ∙ ap (λ (b : Bool). Some (after_outcome (Reporter number) k (length w.history) (swapped old new found) (cond b (stored number e new w) w))) is)
@@ -183,12 +183,12 @@ module _ (w : MachineState) (words : w.words ≡ board_of w.history) (seat numbe
       let word : slice_index v.words (length ws) ≡ found = ap (λ (l : List ℕ). slice_index l (length ws)) same_words ∙ word_in (length ws) next in
       let place : length v.history ≡ at = ap length same_history ∙ sym now in
       let one : after_step v (machine.First reader) ≡ Some (after_outcome reader k at (loaded ws found at) v) =
-      ap (λ (h : Option Holds). after_step_holding (machine.First reader) h v) holds
+      ap (λ (h : Option CallerState). after_step_holding (machine.First reader) h v) holds
       ∙ (λ i. Some (after_outcome reader k (place i) (loaded ws (word i) (place i)) v)) in
       subst (Leaves reader v (machine.First reader ∷ ends_by (loaded ws found at) reader) (loaded ws found at)) same_history
       (leaves_by reader v v (machine.First reader) k at (Within k (Collecting ws)) (loaded ws found at) holds refl one)
 
-  first_begins : game ≡ 1 → held_by w.callers reader ≡ Some Idle → Gives First Nothing []
+  first_begins : game ≡ 1 → held_by w.callers reader ≡ Some Idle → Gives First NoCall []
   first_begins next idle =
       let v = after_begin reader Reading w in
       kept_history (leaves_begun reader Reading w (machine.First reader ∷ ends_by (loaded [] found at) reader) (loaded [] found at) w.history idle refl
@@ -201,30 +201,30 @@ module _ (w : MachineState) (words : w.words ≡ board_of w.history) (seat numbe
       → Gives Second (Checking ws checked point) []
   second_gives ws checked point k next holds =
       let one : after_step w (machine.Second reader) ≡ Some (after_outcome reader k point (compared ws checked point found) w) =
-      ap (λ (h : Option Holds). after_step_holding (machine.Second reader) h w) holds
+      ap (λ (h : Option CallerState). after_step_holding (machine.Second reader) h w) holds
       ∙ ap (λ (n : ℕ). Some (after_outcome reader k point (compared ws checked point n) w)) (word_in checked next) in
       kept_history (leaves_by reader w w (machine.Second reader) k point (Within k (Checking ws checked point))
       (compared ws checked point found) holds refl one)
 
 -- what a pass holds then
 
-abbrev held_after : Outcome → Held
+abbrev held_after : Outcome → Pending
 held_after (GoesOn held) = held
-held_after (Answers reply) = Nothing
+held_after (Answers reply) = NoCall
 
-outcome_held : (o : Outcome) (y : WordStep) (d : Doings) → ((with_outcome o y d).number ≡ d.number) × ((with_outcome o y d).held ≡ held_after o)
+outcome_held : (o : Outcome) (y : WordStep) (d : ClientState) → ((with_outcome o y d).number ≡ d.number) × ((with_outcome o y d).held ≡ held_after o)
 outcome_held (GoesOn held) y d = (refl, refl)
 outcome_held (Answers reply) y d = (refl, refl)
 
-holds_within : (w : MachineState) (seat number : ℕ) (h : Held) → h ≢ Nothing → IsHeldBy w seat number h → HoldsAs w seat number h
-holds_within w seat number Nothing some u = absurd (some refl)
+holds_within : (w : MachineState) (seat number : ℕ) (h : Pending) → h ≢ NoCall → IsHeldBy w seat number h → HoldsAs w seat number h
+holds_within w seat number NoCall some u = absurd (some refl)
 holds_within w seat number (Holding e old new) some u = u
 holds_within w seat number (Collecting words) some u = u
 holds_within w seat number (Checking words checked point) some u = u
 
-holds_else : (seat number : ℕ) (h : Held) (w w' : MachineState) → ((d : Caller) → IsOf seat number d → held_by w'.callers d ≡ held_by w.callers d)
+holds_else : (seat number : ℕ) (h : Pending) (w w' : MachineState) → ((d : Caller) → IsOf seat number d → held_by w'.callers d ≡ held_by w.callers d)
     → HoldsAs w seat number h → HoldsAs w' seat number h
-holds_else seat number Nothing w w' same f = λ c of. same c of ∙ f c of
+holds_else seat number NoCall w w' same f = λ c of. same c of ∙ f c of
 holds_else seat number (Holding e old new) w w' same u = record {
   of = u.of;
   place = u.place;
@@ -249,7 +249,7 @@ holds_else seat number (Checking words checked point) w w' same u = record {
 
 -- the caller that goes on is the one that took the step
 abbrev Stays : ℕ → ℕ → Caller → Outcome → Type 0
-Stays seat number c (GoesOn held) = (held ≢ Nothing) × (caller_holding seat number held ≡ c)
+Stays seat number c (GoesOn held) = (held ≢ NoCall) × (caller_holding seat number held ≡ c)
 Stays seat number c (Answers reply) = Unit {0}
 
 holds_after : (seat number : ℕ) (c : Caller) (w : MachineState) (steps : List Step) (o : Outcome) (history : List Entry) (l : Leaves c w steps o history)
@@ -293,35 +293,35 @@ record Leads (readers : ℕ) (log : WordLog) : Type 0 where
   state : MachineState
   run : after_steps (machine_steps log) (initial_state (cast_for readers)) ≡ Some state
   history_is : state.history ≡ history_in log
-  each : (seat : ℕ) → seat < readers → HoldsAs state seat (doings_at seat log).number (doings_at seat log).held
+  each : (seat : ℕ) → seat < readers → HoldsAs state seat (client_at seat log).number (client_at seat log).held
   unnumbered : (n : ℕ) → enlisted_by log < n → n ≤ 255 → held_by state.callers (Reporter n) ≡ Some Idle
 
 module _ (readers : ℕ) (log : WordLog) (r : Leads readers log) (facts : LogFacts log) (x : SeatStep) where
-  abbrev d : Doings
-  d = doings_at x.seat log
+  abbrev d : ClientState
+  d = client_at x.seat log
 
   abbrev own_steps : List Step
-  own_steps = steps_on x.seat (doings_at x.seat log).number (doings_at x.seat log).held x.step.target x.step.at
+  own_steps = steps_on x.seat (client_at x.seat log).number (client_at x.seat log).held x.step.target x.step.at
 
   run_on : (last : MachineState) → after_steps own_steps r.state ≡ Some last → after_steps (machine_steps (log ++ x ∷ []))
       (initial_state (cast_for readers)) ≡ Some last
   run_on last then = ap (λ (l : List Step). after_steps l (initial_state (cast_for readers))) (steps_more log x)
       ∙ (run_append (machine_steps log) own_steps (initial_state (cast_for readers)) r.state r.run ∙ then)
 
-  abbrev then : Doings
-  then = with_step (doings_at x.seat log) x.step
+  abbrev then : ClientState
+  then = with_step (client_at x.seat log) x.step
 
-  each_by : (last : MachineState) (number : ℕ) (held : Held) → (with_step (doings_at x.seat log) x.step).number ≡ number
-      → (with_step (doings_at x.seat log) x.step).held ≡ held → HoldsAs last x.seat number held
-      → ((seat : ℕ) → x.seat ≢ seat → seat < readers → HoldsAs last seat (doings_at seat log).number (doings_at seat log).held)
-      → (seat : ℕ) → seat < readers → HoldsAs last seat (doings_at seat (log ++ x ∷ [])).number (doings_at seat (log ++ x ∷ [])).held
+  each_by : (last : MachineState) (number : ℕ) (held : Pending) → (with_step (client_at x.seat log) x.step).number ≡ number
+      → (with_step (client_at x.seat log) x.step).held ≡ held → HoldsAs last x.seat number held
+      → ((seat : ℕ) → x.seat ≢ seat → seat < readers → HoldsAs last seat (client_at seat log).number (client_at seat log).held)
+      → (seat : ℕ) → seat < readers → HoldsAs last seat (client_at seat (log ++ x ∷ [])).number (client_at seat (log ++ x ∷ [])).held
   each_by last number held number_is held_is own others = by_seat log x (λ seat y. seat < readers → HoldsAs last seat y.number y.held)
-      (with_step (doings_at x.seat log) x.step) refl
-      (λ below. subst (λ (h : Held). HoldsAs last x.seat then.number h) (sym held_is) (subst (λ (n : ℕ). HoldsAs last x.seat n held)
+      (with_step (client_at x.seat log) x.step) refl
+      (λ below. subst (λ (h : Pending). HoldsAs last x.seat then.number h) (sym held_is) (subst (λ (n : ℕ). HoldsAs last x.seat n held)
       (sym number_is) own)) others
 
   -- a step of a caller on a match word
-  leads_turn : (c : Caller) (o : Outcome) (held : Held) → d.held ≡ held → IsOf x.seat d.number c
+  leads_turn : (c : Caller) (o : Outcome) (held : Pending) → d.held ≡ held → IsOf x.seat d.number c
       → (l : Leaves c r.state own_steps o (r.state.history ++ entry_list x.step.entry))
       → ((e : Caller) → IsOf x.seat d.number e → e ≢ c → held_by r.state.callers e ≡ Some Idle) → Stays x.seat d.number c o → length (enlists x.step.target) ≡ 0
       → with_step d x.step ≡ with_outcome o x.step d → Leads readers (log ++ x ∷ [])
@@ -332,10 +332,10 @@ module _ (readers : ℕ) (log : WordLog) (r : Leads readers log) (facts : LogFac
         state = l.last;
         run = run_on l.last l.run;
         history_is = l.history_is ∙ (ap (λ (h : List Entry). h ++ entry_list x.step.entry) r.history_is ∙ sym (history_more log x));
-        each = each_by l.last d.number (held_after o) (ap (λ (y : Doings). y.number) does ∙ after.0) (ap (λ (y : Doings). y.held) does ∙ after.1)
+        each = each_by l.last d.number (held_after o) (ap (λ (y : ClientState). y.number) does ∙ after.0) (ap (λ (y : ClientState). y.held) does ∙ after.1)
             (holds_after x.seat d.number c r.state own_steps o (r.state.history ++ entry_list x.step.entry) l of idle stays)
             (λ seat not below.
-            holds_else seat (number_at seat log) (doings_at seat log).held r.state l.last
+            holds_else seat (number_at seat log) (client_at seat log).held r.state l.last
             (λ e is. l.others e (apart_callers seat x.seat (number_at seat log) d.number c e (λ same. not (sym same)) (facts.apart seat x.seat) is of))
             (r.each seat below));
         unnumbered = λ n above few. let low = facts.low x.seat in l.others (Reporter n) (not_reporter n x.seat d.number c (λ is. omega arith) of)
@@ -354,7 +354,7 @@ module _ (readers : ℕ) (log : WordLog) (r : Leads readers log) (facts : LogFac
   }
 
 -- the number of a reader that is enlisted
-holds_numbered : (w : MachineState) (seat n : ℕ) → HoldsAs w seat 0 Nothing → held_by w.callers (Reporter n) ≡ Some Idle → HoldsAs w seat n Nothing
+holds_numbered : (w : MachineState) (seat n : ℕ) → HoldsAs w seat 0 NoCall → held_by w.callers (Reporter n) ≡ Some Idle → HoldsAs w seat n NoCall
 holds_numbered w seat n idle free c (inl e) = idle c (inl e)
 holds_numbered w seat n idle free c (inr t) = ap (held_by w.callers) t.0 ∙ free
 
@@ -365,10 +365,10 @@ placed seat target place at entry = record { seat = seat; step = record { target
 module _ (readers : ℕ) (log : WordLog) (r : Leads readers log) (facts : LogFacts log) (seat : ℕ) (seated : seat < readers) (place at : ℕ) (entry : Option Entry)
     (now : at ≡ length (history_in log)) where
   abbrev number : ℕ
-  number = (doings_at seat log).number
+  number = (client_at seat log).number
 
-  abbrev held : Held
-  held = (doings_at seat log).held
+  abbrev held : Pending
+  held = (client_at seat log).held
 
   abbrev w : MachineState
   w = r.state
@@ -383,12 +383,12 @@ module _ (readers : ℕ) (log : WordLog) (r : Leads readers log) (facts : LogFac
     at_now : at ≡ length r.state.history
     at_now = now ∙ ap length (sym r.history_is)
 
-    abbrev Given : Held → List Entry → Type 0
+    abbrev Given : Pending → List Entry → Type 0
     Given h entries = Leaves (caller_at seat number act) r.state (steps_on seat number h (Match act game found) at)
         (outcome number h (Match act game found) at) (r.state.history ++ entries)
 
     -- what is held, and what came of the step
-    turn : (h : Held) → (doings_at seat log).held ≡ h → IsOf seat number (caller_at seat number act) → (entries : List Entry) → entry_list entry ≡ entries
+    turn : (h : Pending) → (client_at seat log).held ≡ h → IsOf seat number (caller_at seat number act) → (entries : List Entry) → entry_list entry ≡ entries
         → Given h entries
         → ((e : Caller) → IsOf seat number e → e ≢ caller_at seat number act → held_by r.state.callers e ≡ Some Idle)
         → Stays seat number (caller_at seat number act) (outcome number h (Match act game found) at)
@@ -396,23 +396,23 @@ module _ (readers : ℕ) (log : WordLog) (r : Leads readers log) (facts : LogFac
     turn h is_held of entries made l idle stays =
         leads_turn readers log r facts (placed seat (Match act game found) place at entry) (caller_at seat number act)
         (outcome number held (Match act game found) at) h is_held of
-        (subst (λ (k : Held). Given k (entry_list entry)) (sym is_held) (subst (Given h) (sym made) l)) idle
-        (subst (λ (k : Held). Stays seat number (caller_at seat number act) (outcome number k (Match act game found) at)) (sym is_held) stays) refl refl
+        (subst (λ (k : Pending). Given k (entry_list entry)) (sym is_held) (subst (Given h) (sym made) l)) idle
+        (subst (λ (k : Pending). Stays seat number (caller_at seat number act) (outcome number k (Match act game found) at)) (sym is_held) stays) refl refl
 
-  holds_now : (h : Held) → held ≡ h → HoldsAs r.state seat number h
+  holds_now : (h : Pending) → held ≡ h → HoldsAs r.state seat number h
   holds_now h is = subst (HoldsAs r.state seat number) is (r.each seat seated)
 
-  leads_look : (e : EventCall) (game found : ℕ) → IsMatch game → found ≡ word_of (match_after (history_in log) game) → held ≡ Nothing → game ≡ e.game
+  leads_look : (e : EventCall) (game found : ℕ) → IsMatch game → found ≡ word_of (match_after (history_in log) game) → held ≡ NoCall → game ≡ e.game
       → IsReporter number → entry ≡ None
       → Leads readers (log ++ placed seat (Match (Look e) game found) place at entry ∷ [])
   leads_look e game found is there nothing of reporter none =
-      let idle = holds_now Nothing nothing in
-      turn (Look e) game found is there Nothing nothing (inr (refl, reporter)) [] (ap entry_list none)
+      let idle = holds_now NoCall nothing in
+      turn (Look e) game found is there NoCall nothing (inr (refl, reporter)) [] (ap entry_list none)
       (look_gives r.state words seat number game found at is (there_now (Look e) game found is there) (at_now (Look e) game found is there) e reporter of
       (idle (Reporter number) (inr (refl, reporter))))
       (λ c mine not. idle c mine) (look_stays seat number e found (refusal_of (record_at found) e.expected e.kind))
 
-  leads_swap : (h : Held) → held ≡ h → (game found : ℕ) → IsMatch game → found ≡ word_of (match_after (history_in log) game) → game ≡ next_game Swap h
+  leads_swap : (h : Pending) → held ≡ h → (game found : ℕ) → IsMatch game → found ≡ word_of (match_after (history_in log) game) → game ≡ next_game Swap h
       → entry ≡ entry_by number h (Match Swap game found)
       → Leads readers (log ++ placed seat (Match Swap game found) place at entry ∷ [])
   leads_swap (Holding e old new) is_held game found is there next made =
@@ -420,16 +420,16 @@ module _ (readers : ℕ) (log : WordLog) (r : Leads readers log) (facts : LogFac
       turn Swap game found is there (Holding e old new) is_held u.of (entry_list (cond (found == old) (Some (entry_of number e)) None)) (ap entry_list made)
       (swap_gives r.state words seat number game found at is (there_now Swap game found is there)
       (at_now Swap game found is there) e old new u.place next u.holds) u.others tt
-  leads_swap Nothing is_held game found is there next made = absurd (let low = is.0 in omega arith)
+  leads_swap NoCall is_held game found is there next made = absurd (let low = is.0 in omega arith)
   leads_swap (Collecting ws) is_held game found is there next made = absurd (let low = is.0 in omega arith)
   leads_swap (Checking ws checked point) is_held game found is there next made = absurd (let low = is.0 in omega arith)
 
-  leads_first : (h : Held) → held ≡ h → (game found : ℕ) → IsMatch game → found ≡ word_of (match_after (history_in log) game) → game ≡ next_game First h
+  leads_first : (h : Pending) → held ≡ h → (game found : ℕ) → IsMatch game → found ≡ word_of (match_after (history_in log) game) → game ≡ next_game First h
       → entry ≡ None
       → Leads readers (log ++ placed seat (Match First game found) place at entry ∷ [])
-  leads_first Nothing is_held game found is there next none =
-      let idle = holds_now Nothing is_held in
-      turn First game found is there Nothing is_held (inl refl) [] (ap entry_list none)
+  leads_first NoCall is_held game found is there next none =
+      let idle = holds_now NoCall is_held in
+      turn First game found is there NoCall is_held (inl refl) [] (ap entry_list none)
       (first_begins r.state words seat number game found at is (there_now First game found is there) (at_now First game found is there) next
       (idle (Reader (seat + 1)) (inl refl)))
       (λ c mine not. idle c mine) (first_stays seat number (found ∷ []) at (length (found ∷ []) == 12))
@@ -441,7 +441,7 @@ module _ (readers : ℕ) (log : WordLog) (r : Leads readers log) (facts : LogFac
   leads_first (Holding e old new) is_held game found is there next none = absurd (let low = is.0 in omega arith)
   leads_first (Checking ws checked point) is_held game found is there next none = absurd (let low = is.0 in omega arith)
 
-  leads_second : (h : Held) → held ≡ h → (game found : ℕ) → IsMatch game → found ≡ word_of (match_after (history_in log) game) → game ≡ next_game Second h
+  leads_second : (h : Pending) → held ≡ h → (game found : ℕ) → IsMatch game → found ≡ word_of (match_after (history_in log) game) → game ≡ next_game Second h
       → entry ≡ None
       → Leads readers (log ++ placed seat (Match Second game found) place at entry ∷ [])
   leads_second (Checking ws checked point) is_held game found is there next none =
@@ -450,14 +450,14 @@ module _ (readers : ℕ) (log : WordLog) (r : Leads readers log) (facts : LogFac
       (second_gives r.state words seat number game found at is (there_now Second game found is there)
       (at_now Second game found is there) ws checked point u.place next u.holds)
       u.others (second_stays seat number ws (checked + 1) point (Copied (reading_of ws)) (found == slice_index ws checked) (checked == 11))
-  leads_second Nothing is_held game found is there next none = absurd (let low = is.0 in omega arith)
+  leads_second NoCall is_held game found is there next none = absurd (let low = is.0 in omega arith)
   leads_second (Holding e old new) is_held game found is there next none = absurd (let low = is.0 in omega arith)
   leads_second (Collecting ws) is_held game found is there next none = absurd (let low = is.0 in omega arith)
 
-  count_does : (found : ℕ) (h : Held) → outcome number h (Enlisted found) at ≡ GoesOn h
+  count_does : (found : ℕ) (h : Pending) → outcome number h (Enlisted found) at ≡ GoesOn h
   count_does found h = search arith
 
-  leads_by : (target : WordTarget) → IsFoundThere log target → IsNextFor (doings_at seat log) target → entry ≡ entry_by number held target
+  leads_by : (target : WordTarget) → IsFoundThere log target → IsNextFor (client_at seat log) target → entry ≡ entry_by number held target
       → Leads readers (log ++ placed seat target place at entry ∷ [])
   leads_by (Match (Look e) game found) there next is = leads_look e game found there.0 there.1 next.0 next.1 next.2 (is ∙ look_none held number game found e)
   leads_by (Match Swap game found) there next is = leads_swap held refl game found there.0 there.1 next is
@@ -465,18 +465,18 @@ module _ (readers : ℕ) (log : WordLog) (r : Leads readers log) (facts : LogFac
   leads_by (Match Second game found) there next is = leads_second held refl game found there.0 there.1 next (is ∙ second_none held number game found)
   leads_by (Enlisted found) there next is =
       let x = placed seat (Enlisted found) place at entry in
-      let does : with_step (doings_at seat log) x.step ≡ with_outcome (GoesOn held) x.step (doings_at seat log) = ap
-      (λ (o : Outcome). with_outcome o x.step (doings_at seat log)) (count_does found held) in
+      let does : with_step (client_at seat log) x.step ≡ with_outcome (GoesOn held) x.step (client_at seat log) = ap
+      (λ (o : Outcome). with_outcome o x.step (client_at seat log)) (count_does found held) in
       let count = enlisted_more log x in
-      leads_same readers log r facts x number refl (is ∙ count_none held number found) (ap (λ (y : Doings). y.number) does)
-      (ap (λ (y : Doings). y.held) does) (r.each seat seated) (omega arith)
+      leads_same readers log r facts x number refl (is ∙ count_none held number found) (ap (λ (y : ClientState). y.number) does)
+      (ap (λ (y : ClientState). y.held) does) (r.each seat seated) (omega arith)
   leads_by (Enlists found) there next is =
       let x = placed seat (Enlists found) place at entry in
       let found_is = there.0 in
       let room = there.1 in
       let count = enlisted_more log x in
       let free = r.unnumbered (found + 1) (omega arith) (omega arith) in
-      let idle : HoldsAs r.state seat 0 Nothing = subst (λ (n : ℕ). HoldsAs r.state seat n Nothing) next.1 (holds_now Nothing next.0) in
+      let idle : HoldsAs r.state seat 0 NoCall = subst (λ (n : ℕ). HoldsAs r.state seat n NoCall) next.1 (holds_now NoCall next.0) in
       leads_same readers log r facts x (found + 1) refl (is ∙ enlist_none held number found) refl refl
       (subst (HoldsAs r.state seat (found + 1)) (sym next.0) (holds_numbered r.state seat (found + 1) idle free)) (omega arith)
 
@@ -510,8 +510,8 @@ leads_all : (readers : ℕ) (log : WordLog) → IsWordLog log → FollowsProtoco
 leads_all readers log =
     may_induction MayComeNext (λ l. FollowsProtocol l → All (λ (x : SeatStep). x.seat < readers) l → Leads readers l) (λ f all. leads_none readers)
     (λ xs x before may was f all.
-    let p = may_last IsProtocols xs x f in
-    let follows = may_begin IsProtocols xs (x ∷ []) f in
+    let p = may_last IsNextOfProtocol xs x f in
+    let follows = may_begin IsNextOfProtocol xs (x ∷ []) f in
     leads_by readers xs (was follows (front xs x all)) (logs_facts xs before follows) x.seat
     (last xs x all) x.step.place x.step.at x.step.entry may.place.1 x.step.target may.there p.next p.entry)
     log

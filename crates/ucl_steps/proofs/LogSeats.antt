@@ -1,7 +1,6 @@
 -- The steps of seats in a log, and in beginnings of it.
-use Rattle.ucl_steps.proofs.Common.{◌≡◌, ◌≢◌, ◌⊎◌, inl, inr, ℕ, zero, suc, ◌<◌, ◌≤◌, List, ◌∷◌, ◌++◌, length, refl, sym, ap, ◌∙◌, subst, arith}
-use Rattle.ucl_steps.proofs.Common.{true, false, [], append-nil, append_assoc, eq-eqb, ne_eqb, All, All-head, All-tail, IsPrefix}
-use Rattle.ucl_steps.proofs.Common.{some, get_elem?}
+use Rattle.ucl_steps.proofs.Common.{◌≡◌, ◌≢◌, ◌⊎◌, inl, inr, ℕ, zero, suc, ◌<◌, ◌≤◌, List, ◌∷◌, ◌++◌, length, refl, sym, ap, ◌∙◌, subst, arith, true, false, []}
+use Rattle.ucl_steps.proofs.Common.{append-nil, append_assoc, eq-eqb, ne_eqb, All, All-head, All-tail, IsPrefix, some, get_elem?}
 use Rattle.ucl_steps.proofs.LogHistory.{taken_append, one_taken}
 use Rattle.ucl_steps.specs.WordLog.{WordStep, SeatStep, step_by, WordLog, taken_at}
 

@@ -1,8 +1,7 @@
 -- The calls of one pass come one after another.
-use Rattle.ucl_steps.proofs.Common.{◌≡◌, ◌≢◌, inl, inr, ℕ, ◌+◌, ◌<◌, ◌≤◌, List, ◌∷◌, ◌++◌, length, Some, refl, sym, ap, ◌∙◌}
-use Rattle.ucl_steps.proofs.Common.{subst, arith, [], slice_get, none-some, at_either, length_push, Held, Nothing, Holding}
-use Rattle.ucl_steps.proofs.Common.{Collecting, Checking, Outcome, GoesOn, Answers}
-use Rattle.ucl_steps.proofs.Common.{EventCall, take, Entry, Refusal, snapshot_at, board_of, sequential_reply, take-length, Call, Copied}
+use Rattle.ucl_steps.proofs.Common.{◌≡◌, ◌≢◌, inl, inr, ℕ, ◌+◌, ◌<◌, ◌≤◌, List, ◌∷◌, ◌++◌, length, Some, refl, sym, ap, ◌∙◌, subst, arith, [], slice_get, none-some}
+use Rattle.ucl_steps.proofs.Common.{at_either, length_push, Pending, NoCall, Holding, Collecting, Checking, Outcome, GoesOn, Answers, EventCall, take, Entry}
+use Rattle.ucl_steps.proofs.Common.{Refusal, snapshot_at, board_of, sequential_reply, take-length, Call, Copied}
 use Rattle.std.specs.Prelude.{Result, Ok, Err}
 use Rattle.std.proofs.lemmas.List.{length-take-le}
 use Rattle.ucl_word.specs.declared.event.Accepted.{Accepted}
@@ -12,39 +11,39 @@ use Rattle.ucl_steps.specs.Protocol.{report_reply}
 use Rattle.ucl_word.proofs.Sequences.{may_induction, may_begin, may_last}
 use Rattle.ucl_steps.proofs.LogHistory.{by_seat, holds_all, precedes, entries_low}
 use Rattle.ucl_steps.specs.WordLog.{Enlisted, Enlists, IsWordLog, WordLog, Match, MayComeNext, WordStep, WordTarget, history_in}
-use Rattle.ucl_steps.specs.Doings.{FinishedCall, Doings, FollowsProtocol, IsNextFor, IsProtocols, with_outcome, with_target, with_step}
-use Rattle.ucl_steps.specs.Doings.{call_answered, doings_at, first_place, outcome}
+use Rattle.ucl_steps.specs.ClientState.{FinishedCall, ClientState, FollowsProtocol, IsNextFor, IsNextOfProtocol, with_outcome, with_target, with_step, call_answered}
+use Rattle.ucl_steps.specs.ClientState.{client_at, first_place, outcome}
 use Rattle.ucl_steps.specs.LogHistory.{LogsAreLinearizable, GoesBefore, IsExplained, accepts, sequential_answer}
 
 -- the finished calls in turn, and before the one under way
-record InTurn (n : ℕ) (d : Doings) : Type 0 where
+record InTurn (n : ℕ) (d : ClientState) : Type 0 where
   past : (k : ℕ) (a : FinishedCall) → slice_get d.calls k ≡ Some a → a.last < n
   turns : (k l : ℕ) (a b : FinishedCall) → slice_get d.calls k ≡ Some a → slice_get d.calls l ≡ Some b → k < l → a.last < b.first
-  under : (k : ℕ) (a : FinishedCall) → slice_get d.calls k ≡ Some a → d.held ≢ Nothing → a.last < d.first
+  under : (k : ℕ) (a : FinishedCall) → slice_get d.calls k ≡ Some a → d.held ≢ NoCall → a.last < d.first
 
-later : (n m : ℕ) (d : Doings) → n ≤ m → InTurn n d → InTurn m d
+later : (n m : ℕ) (d : ClientState) → n ≤ m → InTurn n d → InTurn m d
 later n m d le t = record { past = λ k a at. let l = t.past k a at in omega arith; turns = t.turns; under = t.under }
 
 -- what is held within a call
 
-pub holding : (e : EventCall) (old new : ℕ) → Holding e old new ≢ Nothing
+pub holding : (e : EventCall) (old new : ℕ) → Holding e old new ≢ NoCall
 holding e old new is = cc
 
-pub collecting : (words : List ℕ) → Collecting words ≢ Nothing
+pub collecting : (words : List ℕ) → Collecting words ≢ NoCall
 collecting words is = cc
 
-pub checking : (words : List ℕ) (checked point : ℕ) → Checking words checked point ≢ Nothing
+pub checking : (words : List ℕ) (checked point : ℕ) → Checking words checked point ≢ NoCall
 checking words checked point is = cc
 
 -- the first step of the call that a step is of comes after all finished calls
-first_after : (n : ℕ) (d : Doings) (h : Held) → d.held ≡ h → InTurn n d → (k : ℕ) (a : FinishedCall) → slice_get d.calls k ≡ Some a
+first_after : (n : ℕ) (d : ClientState) (h : Pending) → d.held ≡ h → InTurn n d → (k : ℕ) (a : FinishedCall) → slice_get d.calls k ≡ Some a
     → a.last < first_place h d.first n
-first_after n d Nothing is t k a at = t.past k a at
+first_after n d NoCall is t k a at = t.past k a at
 first_after n d (Holding e old new) is t k a at = t.under k a at (λ none. holding e old new (sym is ∙ none))
 first_after n d (Collecting words) is t k a at = t.under k a at (λ none. collecting words (sym is ∙ none))
 first_after n d (Checking words checked point) is t k a at = t.under k a at (λ none. checking words checked point (sym is ∙ none))
 
-turns_outcome : (n : ℕ) (d : Doings) (y : WordStep) (o : Outcome) → y.place ≡ n → InTurn n d → InTurn (n + 1) (with_outcome o y d)
+turns_outcome : (n : ℕ) (d : ClientState) (y : WordStep) (o : Outcome) → y.place ≡ n → InTurn n d → InTurn (n + 1) (with_outcome o y d)
 turns_outcome n d y (GoesOn k) place t = record {
   past = λ k a at. let l = t.past k a at in omega arith;
   turns = t.turns;
@@ -69,13 +68,13 @@ turns_outcome n d y (Answers reply) place t =
       under = λ k a at not. absurd (not refl);
     }
 
-turns_step : (n : ℕ) (d : Doings) (y : WordStep) (target : WordTarget) → y.place ≡ n → IsNextFor d target → InTurn n d → InTurn (n + 1) (with_target target y d)
+turns_step : (n : ℕ) (d : ClientState) (y : WordStep) (target : WordTarget) → y.place ≡ n → IsNextFor d target → InTurn n d → InTurn (n + 1) (with_target target y d)
 turns_step n d y (Enlists found) place next t = record { past = λ k a at. let l = t.past k a at in omega arith; turns = t.turns; under = t.under }
 turns_step n d y (Match kind game found) place next t = turns_outcome n d y (outcome d.number d.held (Match kind game found) y.at) place t
 turns_step n d y (Enlisted found) place next t = turns_outcome n d y (outcome d.number d.held (Enlisted found) y.at) place t
 
-all_turns : (log : WordLog) → IsWordLog log → FollowsProtocol log → (seat : ℕ) → InTurn (length log) (doings_at seat log)
-all_turns log = may_induction MayComeNext (λ l. FollowsProtocol l → (seat : ℕ) → InTurn (length l) (doings_at seat l))
+all_turns : (log : WordLog) → IsWordLog log → FollowsProtocol log → (seat : ℕ) → InTurn (length log) (client_at seat log)
+all_turns log = may_induction MayComeNext (λ l. FollowsProtocol l → (seat : ℕ) → InTurn (length l) (client_at seat l))
     (λ f seat. record {
       past = λ k a at. absurd (none-some a at);
       turns = λ k l a b at bt less. absurd (none-some a at);
@@ -83,13 +82,13 @@ all_turns log = may_induction MayComeNext (λ l. FollowsProtocol l → (seat : �
           (none-some a at);
     })
     (λ xs x before may was f.
-    let p = may_last IsProtocols xs x f in
-    let old = was (may_begin IsProtocols xs (x ∷ []) f) in
+    let p = may_last IsNextOfProtocol xs x f in
+    let old = was (may_begin IsNextOfProtocol xs (x ∷ []) f) in
     let long = length_push xs x in
-    by_seat xs x (λ seat d. InTurn (length (xs ++ x ∷ [])) d) (with_step (doings_at x.seat xs) x.step) refl
-    (subst (λ (n : ℕ). InTurn n (with_step (doings_at x.seat xs) x.step)) (sym long)
-    (turns_step (length xs) (doings_at x.seat xs) x.step x.step.target may.place.0 p.next (old x.seat)))
-    (λ seat not. later (length xs) (length (xs ++ x ∷ [])) (doings_at seat xs) (omega arith) (old seat)))
+    by_seat xs x (λ seat d. InTurn (length (xs ++ x ∷ [])) d) (with_step (client_at x.seat xs) x.step) refl
+    (subst (λ (n : ℕ). InTurn n (with_step (client_at x.seat xs) x.step)) (sym long)
+    (turns_step (length xs) (client_at x.seat xs) x.step x.step.target may.place.0 p.next (old x.seat)))
+    (λ seat not. later (length xs) (length (xs ++ x ∷ [])) (client_at seat xs) (omega arith) (old seat)))
     log
 
 -- a reading is the snapshot at its point

@@ -1,12 +1,14 @@
 -- What is known of a state that steps lead to.
-use Rattle.ucl_steps.proofs.Common.{◌≡◌, ℕ, zero, suc, ◌+◌, ◌-◌, ◌<◌, ◌≤◌, Bool, true, List, ◌∷◌, ◌++◌, take, length, map, Option, Some, None, refl, sym, ap, ◌∙◌, arith, [], get_or, set}
-use Rattle.ucl_steps.proofs.Common.{length-take, eq-eqb, ne_eqb, slice_get, slice_index, replicate, option_map, option_and_then, slice_get-map, slice_get-get_or, slice_get_past}
-use Rattle.ucl_steps.proofs.Common.{option_and_then_some, false≢true, get_or_default, take_more_set, take_all, length-take-le, map-set, length-set, EventCall, record_at, IsWord, IsMatch, AreWords}
-use Rattle.ucl_steps.proofs.Common.{word_at, greatest_version, match_after, board_of, reading_of, match_valid, versions, Cast, Caller, Reporter, Reader, Step, Swap, Second, Accepted, Copied}
-use Rattle.ucl_steps.proofs.Common.{CallRecord, Collecting, Checking, Holds, Idle, Wanting, Within, Callers, MachineState, initial_state, held_by, with_held, after_reply, stored, state_after_first}
-use Rattle.ucl_steps.proofs.Common.{change_at, caller_of, after_step_holding, after_step, after_steps, Entry, holds_of, IsReachable, Takes, at_below}
-use Rattle.ucl_steps.specs.declared.machine.Held.{Held}
-use Rattle.ucl_steps.specs.declared.machine.Held.TheVariants as has
+use Rattle.ucl_steps.proofs.Common.{◌≡◌, ℕ, zero, suc, ◌+◌, ◌-◌, ◌<◌, ◌≤◌, Bool, true, List, ◌∷◌, ◌++◌, take, length, map, Option, Some, None, refl, sym, ap, ◌∙◌}
+use Rattle.ucl_steps.proofs.Common.{arith, [], get_or, set, length-take, eq-eqb, ne_eqb, slice_get, slice_index, replicate, option_map, option_and_then}
+use Rattle.ucl_steps.proofs.Common.{slice_get-map, slice_get-get_or, slice_get_past, option_and_then_some, false≢true, get_or_default, take_more_set, take_all}
+use Rattle.ucl_steps.proofs.Common.{length-take-le, map-set, length-set, EventCall, record_at, IsWord, IsMatch, AreWords, word_at, max_version, match_after}
+use Rattle.ucl_steps.proofs.Common.{board_of, reading_of, match_valid, versions, Cast, Caller, Reporter, Reader, Step, Swap, Second, Accepted, Copied, CallRecord}
+use Rattle.ucl_steps.proofs.Common.{Collecting, Checking, CallerState, Idle, Wanting, Within, Callers, MachineState, initial_state, held_by, with_held, after_reply}
+use Rattle.ucl_steps.proofs.Common.{stored, state_after_first, change_at, caller_of, after_step_holding, after_step, after_steps, Entry, holds_of, IsReachable}
+use Rattle.ucl_steps.proofs.Common.{Takes, at_below}
+use Rattle.ucl_steps.specs.declared.machine.Pending.{Pending}
+use Rattle.ucl_steps.specs.declared.machine.Pending.TheVariants as has
 use Rattle.ucl_steps.proofs.Invariant.{Keeps}
 use Rattle.ucl_steps.proofs.CallFacts.{in_call}
 use Rattle.ucl_steps.proofs.KeptBySteps.{word_now}
@@ -16,7 +18,7 @@ use Rattle.ucl_steps.proofs.Runs.{kept_at_start, run_kept}
 pub reached_kept : (w : MachineState) (r : IsReachable w) → Keeps r.1 w
 reached_kept w r = run_kept r.1 [] (initial_state r.0) w (kept_at_start r.0) r.2
 
-pub reached_short : (w : MachineState) → IsReachable w → length w.history ≤ greatest_version
+pub reached_short : (w : MachineState) → IsReachable w → length w.history ≤ max_version
 reached_short w r = (versions w.history (reached_kept w r).legal).1
 
 pub word_is : (w : MachineState) (r : IsReachable w) (g : ℕ) → IsMatch g → IsWord (word_at w.words g)
@@ -30,7 +32,7 @@ change_at-set {X = X} (suc k) f (x ∷ xs) d l = ap (λ (z : List X). x ∷ z) (
 
 pub idle_all : (n : ℕ) → map holds_of (replicate n has.Idle) ≡ replicate n Idle
 idle_all zero = refl
-idle_all (suc n) = ap (λ (z : List Holds). Idle ∷ z) (idle_all n)
+idle_all (suc n) = ap (λ (z : List CallerState). Idle ∷ z) (idle_all n)
 
 -- a caller's place
 pub held_reporter : (cs : Callers) (r : ℕ) → 1 ≤ r → held_by cs (Reporter r) ≡ slice_get cs.reporters (r - 1)
@@ -39,21 +41,21 @@ held_reporter cs r l = search arith
 pub held_reader : (cs : Callers) (r : ℕ) → 1 ≤ r → held_by cs (Reader r) ≡ slice_get cs.readers (r - 1)
 held_reader cs r l = search arith
 
-pub held_at : (hs : List Held) (k : ℕ) (x d : Held) → k < length hs → x ≡ get_or hs k d → Some (holds_of x) ≡ slice_get (map holds_of hs) k
-held_at hs k x d l e = sym (slice_get-map holds_of hs k ∙ (ap (option_map holds_of) (slice_get-get_or hs k d l) ∙ ap (λ (z : Held). Some (holds_of z)) (sym e)))
+pub held_at : (hs : List Pending) (k : ℕ) (x d : Pending) → k < length hs → x ≡ get_or hs k d → Some (holds_of x) ≡ slice_get (map holds_of hs) k
+held_at hs k x d l e = sym (slice_get-map holds_of hs k ∙ (ap (option_map holds_of) (slice_get-get_or hs k d l) ∙ ap (λ (z : Pending). Some (holds_of z)) (sym e)))
 
-pub held_past : (hs : List Held) (k : ℕ) → length hs ≤ k → None ≡ slice_get (map holds_of hs) k
+pub held_past : (hs : List Pending) (k : ℕ) → length hs ≤ k → None ≡ slice_get (map holds_of hs) k
 held_past hs k l = sym (slice_get-map holds_of hs k ∙ ap (option_map holds_of) (slice_get_past hs k l))
 
-abbrev state : List ℕ → List Entry → List CallRecord → List Holds → List Holds → MachineState
+abbrev state : List ℕ → List Entry → List CallRecord → List CallerState → List CallerState → MachineState
 state words history calls reporters readers = record { words = words; history = history; calls = calls; callers = record { reporters = reporters; readers = readers } }
 
 module _ (words : List ℕ) (history : List Entry) (calls : List CallRecord) where
-  pub hold_reporter : (hs : List Held) (readers : List Holds) (c : Caller) (r k : ℕ) (y : Held) → c ≡ Reporter r → k ≡ r - 1
+  pub hold_reporter : (hs : List Pending) (readers : List CallerState) (c : Caller) (r k : ℕ) (y : Pending) → c ≡ Reporter r → k ≡ r - 1
       → state words history calls (map holds_of (set hs k y)) readers ≡ with_held (holds_of y) c (state words history calls (map holds_of hs) readers)
   hold_reporter hs readers c r k y is at = search (arith, map-set)
 
-  pub hold_reader : (hs : List Held) (reporters : List Holds) (c : Caller) (r k : ℕ) (y : Held) → c ≡ Reader r → k ≡ r - 1
+  pub hold_reader : (hs : List Pending) (reporters : List CallerState) (c : Caller) (r k : ℕ) (y : Pending) → c ≡ Reader r → k ≡ r - 1
       → state words history calls reporters (map holds_of (set hs k y)) ≡ with_held (holds_of y) c (state words history calls reporters (map holds_of hs))
   hold_reader hs reporters c r k y is at = search (arith, map-set)
 
@@ -76,20 +78,20 @@ module _ (w : MachineState) (c : Caller) (k : ℕ) (ws : List ℕ) (n : ℕ) (tw
   pub first_more : (n ≡ 11 → ⊥) → with_held (Within k (Collecting (take (n + 1) (set ws n (get_or w.words n 0))))) c w ≡ state_after_first c k (take n ws) w
   first_more not = search (arith, long, ne_eqb, one_longer)
 
-pub start_is : (cast : Cast) (words : List ℕ) (history : List Entry) (calls : List CallRecord) (reporters readers : List Holds) → words ≡ board_of [] → history ≡ [] → calls ≡ []
+pub start_is : (cast : Cast) (words : List ℕ) (history : List Entry) (calls : List CallRecord) (reporters readers : List CallerState) → words ≡ board_of [] → history ≡ [] → calls ≡ []
     → reporters ≡ replicate cast.reporters Idle → readers ≡ replicate cast.readers Idle
     → state words history calls reporters readers ≡ initial_state cast
 start_is cast words history calls reporters readers w a b c d = search (arith, board_none)
 
 -- what a step makes of the state, where its caller holds this
-pub step_is : (s : Step) (w w' : MachineState) (x : Holds) → held_by w.callers (caller_of s) ≡ Some x → after_step_holding s (Some x) w ≡ Some w' → after_step w s ≡ Some w'
-step_is s w w' x holds e = ap (λ (o : Option Holds). after_step_holding s o w) holds ∙ e
+pub step_is : (s : Step) (w w' : MachineState) (x : CallerState) → held_by w.callers (caller_of s) ≡ Some x → after_step_holding s (Some x) w ≡ Some w' → after_step w s ≡ Some w'
+step_is s w w' x holds e = ap (λ (o : Option CallerState). after_step_holding s o w) holds ∙ e
 
-module _ (w : MachineState) (r : IsReachable w) (c : Caller) (o : Option Held) (told : option_map holds_of o ≡ held_by w.callers c) where
-  pub holds : (h : Held) → o ≡ Some h → held_by w.callers c ≡ Some (holds_of h)
+module _ (w : MachineState) (r : IsReachable w) (c : Caller) (o : Option Pending) (told : option_map holds_of o ≡ held_by w.callers c) where
+  pub holds : (h : Pending) → o ≡ Some h → held_by w.callers c ≡ Some (holds_of h)
   holds h is = sym told ∙ ap (option_map holds_of) is
 
-  pub call_below : (h : Held) (k : ℕ) → o ≡ Some h → in_call (holds_of h) ≡ Some k → k < length w.calls
+  pub call_below : (h : Pending) (k : ℕ) → o ≡ Some h → in_call (holds_of h) ≡ Some k → k < length w.calls
   call_below h k is within = let t = (reached_kept w r).knows c (holds_of h) k (holds h is) within in at_below w.calls k t.call t.at
 
   pub checked_few : (k : ℕ) (ws : List ℕ) (n p : ℕ) → o ≡ Some (has.Checking k ws n p) → n < 12

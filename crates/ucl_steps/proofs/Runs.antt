@@ -1,8 +1,9 @@
 -- Every run keeps what every step keeps, and so its history explains its calls.
-use Rattle.ucl_steps.proofs.Common.{◌≡◌, ℕ, suc, ◌<◌, ◌≤◌, false, List, ◌∷◌, ◌++◌, map, Option, Some, ◌⊎◌, inl, inr, refl, sym, ap, ◌∙◌, subst, arith, append_assoc, append-nil, get_or, []}
-use Rattle.ucl_steps.proofs.Common.{◌↔◌, All, slice_get, IfSome, IsSome, replicate, option_map, none-some, same_Some, slice_get-map, slice_get-get_or, option_and_then_some, cases_lt, Entry}
-use Rattle.ucl_steps.proofs.Common.{board_of, Cast, Caller, Call, Step, CallRecord, Reply, Holds, Idle, MachineState, initial_state, held_by, caller_of, after_step, after_steps, EndsAt}
-use Rattle.ucl_steps.proofs.Common.{EndedBySteps, PointWithinCall, AcceptedIsEntry, is_accepted, RefusedAtPoint, ReadingIsSnapshot, Precedes, caller_and_call, RealTimeOrder, version_read}
+use Rattle.ucl_steps.proofs.Common.{◌≡◌, ℕ, suc, ◌<◌, ◌≤◌, false, List, ◌∷◌, ◌++◌, map, Option, Some, ◌⊎◌, inl, inr, refl, sym, ap, ◌∙◌, subst, arith, append_assoc}
+use Rattle.ucl_steps.proofs.Common.{append-nil, get_or, [], ◌↔◌, All, slice_get, IfSome, IsSome, replicate, option_map, none-some, same_Some, slice_get-map}
+use Rattle.ucl_steps.proofs.Common.{slice_get-get_or, option_and_then_some, cases_lt, Entry, board_of, Cast, Caller, Call, Step, CallRecord, Reply, CallerState}
+use Rattle.ucl_steps.proofs.Common.{Idle, MachineState, initial_state, held_by, caller_of, after_step, after_steps, EndsAt, EndedBySteps, PointWithinCall}
+use Rattle.ucl_steps.proofs.Common.{AcceptedIsEntry, is_accepted, RefusedAtPoint, ReadingIsSnapshot, Precedes, caller_and_call, RealTimeOrder, version_read}
 use Rattle.ucl_steps.proofs.Common.{VersionsRise, IsLinearizable, RunsAreLinearizable, WordsAreOfTheHistory}
 use Rattle.ucl_steps.proofs.Lists.{if_some}
 use Rattle.ucl_steps.proofs.Histories.{legal_none, board_none}
@@ -16,11 +17,11 @@ use Rattle.ucl_steps.proofs.CallFacts.{in_call}
 use Rattle.ucl_steps.proofs.Invariant.{time_of, Keeps}
 use Rattle.ucl_steps.proofs.KeptBySteps.{step_kept}
 
-idle_all : (n k : ℕ) (x : Holds) → slice_get (replicate n Idle) k ≡ Some x → x ≡ Idle
+idle_all : (n k : ℕ) (x : CallerState) → slice_get (replicate n Idle) k ≡ Some x → x ≡ Idle
 idle_all (suc n) (suc k) x e = idle_all n k x e
 idle_all n k x e = search (arith, none-some, same_Some)
 
-idle_at_start : (cast : Cast) (c : Caller) (x : Holds) → held_by (initial_state cast).callers c ≡ Some x → x ≡ Idle
+idle_at_start : (cast : Cast) (c : Caller) (x : CallerState) → held_by (initial_state cast).callers c ≡ Some x → x ≡ Idle
 idle_at_start cast c x e = search (arith, none-some, idle_all)
 
 pub kept_at_start : (cast : Cast) → Keeps [] (initial_state cast)

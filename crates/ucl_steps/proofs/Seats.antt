@@ -1,5 +1,6 @@
 -- Elements of a list by their seats, where one is put in the place of another, or added.
-use Rattle.ucl_steps.proofs.Common.{◌≡◌, ◌≢◌, ◌⊎◌, inl, inr, ⊎_elim, ℕ, zero, suc, ◌<◌, List, ◌∷◌, ◌++◌, length, map, set, refl, sym, ap, arith, [], some, some-ne-none, some-injective, get_elem?}
+use Rattle.ucl_steps.proofs.Common.{◌≡◌, ◌≢◌, ◌⊎◌, inl, inr, ⊎_elim, ℕ, zero, suc, ◌<◌, List, ◌∷◌, ◌++◌, length, map, set, refl, sym, ap, arith, [], some}
+use Rattle.ucl_steps.proofs.Common.{some-ne-none, some-injective, get_elem?}
 
 pub place_below : {X : Type 0} (xs : List X) (at : ℕ) (x : X) → get_elem? xs at ≡ some x → at < length xs
 place_below (y ∷ xs) (suc at) x e = let r = place_below xs at x e in omega arith

@@ -2,11 +2,11 @@ pub mod Trails
 pub mod Machine
 pub mod Linearizable
 pub mod Traces
-pub mod Laws
+pub mod Theorems
 pub mod Running
 pub mod Protocol
 pub mod WordLog
-pub mod Doings
+pub mod ClientState
 pub mod LogHistory
 pub mod LogFacts
 pub mod LogRuns

@@ -3,10 +3,10 @@ use Rattle.std.specs.Prelude.{◌≡◌, ℕ, ◌==◌, ◌<◌, ◌≤◌, List
 use Rattle.std.specs.List.{sum_by}
 use Rattle.ucl_board.specs.declared.entry.Entry.{Entry}
 use Rattle.ucl_steps.specs.WordLog.{WordTarget, Match, WordStep, WordLog, taken_at, entries_added, history_in, enlisted_by, IsWordLog}
-use Rattle.ucl_steps.specs.Doings.{doings_at, FollowsProtocol}
+use Rattle.ucl_steps.specs.ClientState.{client_at, FollowsProtocol}
 
 abbrev pub number_at : ℕ → WordLog → ℕ
-number_at seat log = (doings_at seat log).number
+number_at seat log = (client_at seat log).number
 
 -- the numbers of reporters are those from 1 to the number of the enlisted, which is at most 255, each of one seat; each entry has
 -- one of them; and the entries that the steps of a seat added are those of its number
@@ -31,12 +31,12 @@ matches_in steps = sum_by (λ (x : WordStep). on_match x.target) steps
 
 -- the most steps of one seat while no call is finished: with none finished no entry comes, so these are 12 of a try that an
 -- entry before them breaks, and 23 of the next one, which is clean and ends with its 24th
-abbrev pub most_between : ℕ
-most_between = 35
+abbrev pub max_between : ℕ
+max_between = 35
 
 -- between two moments at which as many calls of each seat were finished, each took few steps
 abbrev pub CallsFinish : Type 0
 CallsFinish =
     (log since : WordLog) → IsWordLog (log ++ since) → FollowsProtocol (log ++ since)
-    → ((seat : ℕ) → length (doings_at seat (log ++ since)).calls ≡ length (doings_at seat log).calls)
-    → (seat : ℕ) → matches_in (taken_at seat since) ≤ most_between
+    → ((seat : ℕ) → length (client_at seat (log ++ since)).calls ≡ length (client_at seat log).calls)
+    → (seat : ℕ) → matches_in (taken_at seat since) ≤ max_between

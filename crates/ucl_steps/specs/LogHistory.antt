@@ -10,11 +10,11 @@ use Rattle.ucl_steps.specs.declared.trace.Reply.{Reply}
 use Rattle.ucl_steps.specs.declared.trace.Reply.TheVariants.{Accepted, Copied}
 use Rattle.ucl_steps.specs.Protocol.{report_reply}
 use Rattle.ucl_steps.specs.WordLog.{WordLog, IsWordLog, history_in}
-use Rattle.ucl_steps.specs.Doings.{FinishedCall, doings_at, FollowsProtocol}
+use Rattle.ucl_steps.specs.ClientState.{FinishedCall, client_at, FollowsProtocol}
 
 -- call k of the pass of a seat
 abbrev pub IsCall : WordLog → ℕ → ℕ → FinishedCall → Type 0
-IsCall log seat k c = slice_get (doings_at seat log).calls k ≡ Some c
+IsCall log seat k c = slice_get (client_at seat log).calls k ≡ Some c
 
 -- what the board of one thread answers after a history
 abbrev pub sequential_answer : List Entry → Call → Reply

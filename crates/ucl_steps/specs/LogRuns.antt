@@ -9,11 +9,11 @@ use Rattle.ucl_steps.specs.declared.step.Caller.TheVariants.{Reporter, Reader}
 use Rattle.ucl_steps.specs.declared.step.Cast.{Cast}
 use Rattle.ucl_steps.specs.declared.step.Step.{Step}
 use Rattle.ucl_steps.specs.declared.step.Step.TheVariants as machine
-use Rattle.ucl_steps.specs.Protocol.{Held, Nothing, Holding, Outcome, GoesOn, Answers}
+use Rattle.ucl_steps.specs.Protocol.{Pending, NoCall, Holding, Outcome, GoesOn, Answers}
 use Rattle.ucl_steps.specs.Machine.{MachineState, Idle, Within, initial_state, held_by, after_steps}
 use Rattle.ucl_steps.specs.Linearizable.{IsLinearizable}
 use Rattle.ucl_steps.specs.WordLog.{Act, Look, Swap, First, Second, WordTarget, Match, SeatStep, WordLog, history_in, IsWordLog}
-use Rattle.ucl_steps.specs.Doings.{doings_at, call_asked, outcome, FollowsProtocol}
+use Rattle.ucl_steps.specs.ClientState.{client_at, call_asked, outcome, FollowsProtocol}
 
 -- A pass is two callers of the machine: the reader of its seat, seats being counted from 0, by its readings, and the reporter of
 -- its number (0 for none) by its events.
@@ -39,18 +39,18 @@ act_step Swap c = machine.Swap c
 act_step First c = machine.First c
 act_step Second c = machine.Second c
 
-abbrev pub begins_by : Held → Caller → Call → List Step
-begins_by Nothing c call = machine.Begin c call ∷ []
+abbrev pub begins_by : Pending → Caller → Call → List Step
+begins_by NoCall c call = machine.Begin c call ∷ []
 begins_by held c call = []
 
 abbrev pub ends_by : Outcome → Caller → List Step
 ends_by (Answers reply) c = machine.End c ∷ []
 ends_by (GoesOn held) c = []
 
-abbrev pub steps_by_act : Caller → Act → Held → Call → Outcome → List Step
+abbrev pub steps_by_act : Caller → Act → Pending → Call → Outcome → List Step
 steps_by_act c act held call o = begins_by held c call ++ act_step act c ∷ ends_by o c
 
-abbrev pub steps_on : ℕ → ℕ → Held → WordTarget → ℕ → List Step
+abbrev pub steps_on : ℕ → ℕ → Pending → WordTarget → ℕ → List Step
 steps_on seat number held (Match act game found) now =
     steps_by_act (caller_at seat number act) act held (call_asked held (Match act game found)) (outcome number held (Match act game found) now)
 steps_on seat number held target now = []
@@ -58,7 +58,7 @@ steps_on seat number held target now = []
 abbrev pub steps_after : WordLog → WordLog → List Step
 steps_after before [] = []
 steps_after before (x ∷ log) =
-    steps_on x.seat (doings_at x.seat before).number (doings_at x.seat before).held x.step.target x.step.at ++ steps_after (before ++ x ∷ []) log
+    steps_on x.seat (client_at x.seat before).number (client_at x.seat before).held x.step.target x.step.at ++ steps_after (before ++ x ∷ []) log
 
 -- the steps of the machine that a log is
 abbrev pub machine_steps : WordLog → List Step
@@ -69,19 +69,19 @@ abbrev pub LongerLogsAreLongerRuns : Type 0
 LongerLogsAreLongerRuns = (log later : WordLog) → IsPrefix log later → IsPrefix (machine_steps log) (machine_steps later)
 
 -- the caller of the call that is under way
-abbrev pub caller_holding : ℕ → ℕ → Held → Caller
+abbrev pub caller_holding : ℕ → ℕ → Pending → Caller
 caller_holding seat number (Holding e old new) = Reporter number
 caller_holding seat number held = Reader (seat + 1)
 
 -- what a pass holds is what that caller holds, and the pass's other caller is idle
-pub record IsHeldBy (state : MachineState) (seat number : ℕ) (held : Held) : Type 0 where
+pub record IsHeldBy (state : MachineState) (seat number : ℕ) (held : Pending) : Type 0 where
   pub of : IsOf seat number (caller_holding seat number held)
   pub place : ℕ
   pub holds : held_by state.callers (caller_holding seat number held) ≡ Some (Within place held)
   pub others : (c : Caller) → IsOf seat number c → c ≢ caller_holding seat number held → held_by state.callers c ≡ Some Idle
 
-abbrev pub HoldsAs : MachineState → ℕ → ℕ → Held → Type 0
-HoldsAs state seat number Nothing = (c : Caller) → IsOf seat number c → held_by state.callers c ≡ Some Idle
+abbrev pub HoldsAs : MachineState → ℕ → ℕ → Pending → Type 0
+HoldsAs state seat number NoCall = (c : Caller) → IsOf seat number c → held_by state.callers c ≡ Some Idle
 HoldsAs state seat number held = IsHeldBy state seat number held
 
 -- where these steps lead: to the history of the log and the words of its board, with the callers of each pass holding what the
@@ -91,7 +91,7 @@ pub record LeadsToLog (readers : ℕ) (log : WordLog) : Type 0 where
   pub run : after_steps (machine_steps log) (initial_state (cast_for readers)) ≡ Some state
   pub history_is : state.history ≡ history_in log
   pub words_are : state.words ≡ board_of (history_in log)
-  pub each : (seat : ℕ) → seat < readers → HoldsAs state seat (doings_at seat log).number (doings_at seat log).held
+  pub each : (seat : ℕ) → seat < readers → HoldsAs state seat (client_at seat log).number (client_at seat log).held
   pub linearizable : IsLinearizable (machine_steps log) (history_in log) state.calls
 
 -- whatever the steps of a log are, and with as many readers as there are seats, or more

@@ -1,7 +1,7 @@
 -- The snapshot protocol as a machine: which step is enabled when, and what it does.
 -- What comes of a step on a match word is said by the protocol; here are the board, all callers, and their calls.
-use Rattle.std.specs.Prelude.{ℕ, zero, suc, ◌-◌, ◌==◌, ◌&&◌, nat_le, Bool, true, false, if◌then◌else◌, List}
-use Rattle.std.specs.Prelude.{[], ◌∷◌, ◌++◌, length, replicate, Option, Some, None, IsSome, slice_get, slice_set, slice_index}
+use Rattle.std.specs.Prelude.{ℕ, zero, suc, ◌-◌, ◌==◌, ◌&&◌, nat_le, Bool, true, false, if◌then◌else◌, List, [], ◌∷◌, ◌++◌, length, replicate, Option, Some, None}
+use Rattle.std.specs.Prelude.{IsSome, slice_get, slice_set, slice_index}
 use Rattle.std.specs.Option.{option_and_then}
 use Rattle.ucl_word.specs.declared.event.EventCall.{EventCall}
 use Rattle.ucl_word.specs.Record.{scheduled}
@@ -18,20 +18,20 @@ use Rattle.ucl_steps.specs.declared.step.Step.{Step}
 use Rattle.ucl_steps.specs.declared.step.Step.TheVariants.{Begin, Look, Swap, First, Second, End}
 use Rattle.ucl_steps.specs.declared.trace.Reply.{Reply}
 use Rattle.ucl_steps.specs.declared.trace.CallRecord.{CallRecord}
-use Rattle.ucl_steps.specs.Protocol.{Held, Holding, Collecting, Checking, Outcome, GoesOn, Answers, looked, swapped, loaded, compared}
+use Rattle.ucl_steps.specs.Protocol.{Pending, Holding, Collecting, Checking, Outcome, GoesOn, Answers, looked, swapped, loaded, compared}
 
 -- What a caller holds between two of its steps; `call` is the place of its call among the calls.
 -- Idle: no call. Wanting: an event to enter. Within: what the protocol holds in the call. Answered: a call that has its reply.
-pub data Holds : Type 0 where
-  Idle : Holds
-  Wanting : (call : ℕ) (e : EventCall) → Holds
-  Within : (call : ℕ) (held : Held) → Holds
-  Answered : (call : ℕ) → Holds
+pub data CallerState : Type 0 where
+  Idle : CallerState
+  Wanting : (call : ℕ) (e : EventCall) → CallerState
+  Within : (call : ℕ) (held : Pending) → CallerState
+  Answered : (call : ℕ) → CallerState
 
 -- what each reporter and each reader holds, the first of them first
 pub record Callers : Type 0 where
-  pub reporters : List Holds
-  pub readers : List Holds
+  pub reporters : List CallerState
+  pub readers : List CallerState
 
 -- the machine between two steps: the twelve match words, the entries of the accepted events, oldest first, the
 -- calls in the order of their beginnings, and what each caller holds
@@ -51,18 +51,18 @@ initial_state cast = record {
 }
 
 -- what the caller holds, None for a caller outside the cast; callers are numbered from 1
-abbrev pub held_by : Callers → Caller → Option Holds
+abbrev pub held_by : Callers → Caller → Option CallerState
 held_by callers (Reporter zero) = None
 held_by callers (Reporter (suc k)) = slice_get callers.reporters k
 held_by callers (Reader zero) = None
 held_by callers (Reader (suc k)) = slice_get callers.readers k
 
-abbrev pub set_held : Holds → Caller → Callers → Callers
+abbrev pub set_held : CallerState → Caller → Callers → Callers
 set_held holds (Reporter n) callers = record callers { reporters = slice_set callers.reporters (n - 1) holds }
 set_held holds (Reader n) callers = record callers { readers = slice_set callers.readers (n - 1) holds }
 
 -- the state in which the caller holds this, and all else is the same
-abbrev pub with_held : Holds → Caller → MachineState → MachineState
+abbrev pub with_held : CallerState → Caller → MachineState → MachineState
 with_held holds c state = record state { callers = set_held holds c state.callers }
 
 -- the list with its element at k changed
@@ -86,7 +86,7 @@ may_begin (Reporter r) (Event e) = nat_le 1 e.game && (nat_le e.game 12 && nat_l
 may_begin (Reader n) (Event e) = false
 may_begin c Reading = true
 
-abbrev pub held_at_begin : Call → ℕ → Holds
+abbrev pub held_at_begin : Call → ℕ → CallerState
 held_at_begin (Event e) call = Wanting call e
 held_at_begin Reading call = Within call (Collecting [])
 
@@ -133,7 +133,7 @@ abbrev pub after_end : Caller → ℕ → MachineState → MachineState
 after_end c call state = with_held Idle c (record state { calls = change_at call (with_end (length state.history)) state.calls })
 
 -- the state after a step, by what its caller holds; None where the step is not enabled
-abbrev pub after_step_holding : Step → Option Holds → MachineState → Option MachineState
+abbrev pub after_step_holding : Step → Option CallerState → MachineState → Option MachineState
 after_step_holding (Begin c call) (Some Idle) state = if may_begin c call then Some (after_begin c call state) else None
 after_step_holding (Look (Reporter r)) (Some (Wanting call e)) state = Some (state_after_look r call e state)
 after_step_holding (Swap (Reporter r)) (Some (Within call (Holding e old new))) state = Some (state_after_swap r call e old new state)

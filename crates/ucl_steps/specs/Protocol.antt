@@ -19,11 +19,11 @@ use Rattle.ucl_steps.specs.declared.trace.Reply.TheVariants.{Accepted, Refused, 
 -- Nothing: no call is under way. Holding: the word that a report loaded, and the one that is to take its place.
 -- Collecting: the words of the first collect so far. Checking: all twelve, how many of them the second collect
 -- has found again, and how many entries there were at the last load of the first.
-pub data Held : Type 0 where
-  Nothing : Held
-  Holding : (e : EventCall) (old new : ℕ) → Held
-  Collecting : (words : List ℕ) → Held
-  Checking : (words : List ℕ) (checked point : ℕ) → Held
+pub data Pending : Type 0 where
+  NoCall : Pending
+  Holding : (e : EventCall) (old new : ℕ) → Pending
+  Collecting : (words : List ℕ) → Pending
+  Checking : (words : List ℕ) (checked point : ℕ) → Pending
 
 -- the answer of a report, as a reply
 abbrev pub report_reply : Result event.Accepted Refusal → Reply
@@ -32,7 +32,7 @@ report_reply (Err refusal) = Refused refusal
 
 -- what comes of a step: the call goes on, and this is held; or the call has its reply
 pub data Outcome : Type 0 where
-  GoesOn : (held : Held) → Outcome
+  GoesOn : (held : Pending) → Outcome
   Answers : (reply : Reply) → Outcome
 
 -- Look: where the rules refuse the event, the refusal is the reply; else the word is held, and the one that is
@@ -53,7 +53,7 @@ swapped old new found = Answers (if found == old
 
 -- First: one word more of the first collect; with the twelfth, how many entries there are is noted, and the
 -- second collect begins.
-abbrev pub collected : List ℕ → ℕ → Held
+abbrev pub collected : List ℕ → ℕ → Pending
 collected words now = if length words == 12 then Checking words 0 now else Collecting words
 
 abbrev pub loaded : List ℕ → ℕ → ℕ → Outcome

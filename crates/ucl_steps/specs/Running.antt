@@ -2,13 +2,13 @@
 use Rattle.std.specs.Prelude.{◌≡◌, Bool, List, map, take, Some, None, MatchBool}
 use Rattle.ucl_steps.specs.declared.step.Cast.{Cast}
 use Rattle.ucl_steps.specs.declared.step.Step.{Step}
-use Rattle.ucl_steps.specs.declared.machine.Held.{Held}
-use Rattle.ucl_steps.specs.declared.machine.Held.TheVariants as has
+use Rattle.ucl_steps.specs.declared.machine.Pending.{Pending}
+use Rattle.ucl_steps.specs.declared.machine.Pending.TheVariants as has
 use Rattle.ucl_steps.specs.declared.machine.Machine.{Machine}
 use Rattle.ucl_steps.specs.Protocol.{Holding, Collecting, Checking}
-use Rattle.ucl_steps.specs.Machine.{Holds, Idle, Wanting, Within, Answered, MachineState, initial_state, after_step, after_steps}
+use Rattle.ucl_steps.specs.Machine.{CallerState, Idle, Wanting, Within, Answered, MachineState, initial_state, after_step, after_steps}
 
-abbrev pub holds_of : Held → Holds
+abbrev pub holds_of : Pending → CallerState
 holds_of has.Idle = Idle
 holds_of (has.Wanting call e) = Wanting call e
 holds_of (has.Holding call e old new) = Within call (Holding e old new)

@@ -9,7 +9,7 @@ use Rattle.ucl_word.specs.Rules.{reply_of}
 use Rattle.ucl_word.specs.Layout.{word_of, record_at}
 use Rattle.ucl_board.specs.declared.entry.Entry.{Entry}
 use Rattle.ucl_board.specs.declared.reading.Reading.{Reading}
-use Rattle.ucl_board.specs.Words.{greatest_version}
+use Rattle.ucl_board.specs.Words.{max_version}
 use Rattle.ucl_board.specs.History.{match_after}
 use Rattle.ucl_board.specs.Log.{AccessKind, Look, Swap, First, Second, Access, access}
 
@@ -70,12 +70,12 @@ decided_at (Err refusal) now = now
 
 -- the most tries of a reading: each that is not clean has seen a longer history, and no history is longer than the
 -- greatest version
-abbrev pub most_tries : ℕ
-most_tries = greatest_version + 1
+abbrev pub max_tries : ℕ
+max_tries = max_version + 1
 
 -- the most loads of a reading: 24 of each try
-abbrev pub most_loads : ℕ
-most_loads = 24 * most_tries
+abbrev pub max_loads : ℕ
+max_loads = 24 * max_tries
 
 -- the matches 1, 2 and so on, with these words, by accesses of one kind
 abbrev pub IsCollect : AccessKind → List ℕ → List Access → Type 0

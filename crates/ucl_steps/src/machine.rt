@@ -16,7 +16,7 @@ use ucl_word::{Accepted, EventCall, Refusal, next_word, number_of};
 
 /// What a caller holds between two of its steps. `call` is the place of its call among the calls.
 #[derive(Clone, Copy)]
-enum Held {
+enum Pending {
     /// No call.
     Idle,
     /// An event to enter.
@@ -50,12 +50,12 @@ enum Held {
     },
 }
 
-impl Held {
-    /// A reading that has loaded no word.
-    fn collecting(call: usize) -> Held
+impl Pending {
+    /// Returns what the caller of a reading holds that has loaded no word.
+    fn collecting(call: usize) -> Pending
         ensures { holds_of result ≡ Within call (Collecting []) }
     {
-        Held::Collecting {
+        Pending::Collecting {
             call,
             words: [0; 12],
             loaded: 0,
@@ -69,17 +69,17 @@ pub(crate) struct Machine {
     words: [u64; 12],
     history: Vec<Entry>,
     calls: Vec<CallRecord>,
-    reporters: Vec<Held>,
-    readers: Vec<Held>,
+    reporters: Vec<Pending>,
+    readers: Vec<Pending>,
 }
 
 impl Machine {
-    /// The fresh board, with idle callers.
+    /// Creates the fresh board, with idle callers.
     pub(crate) fn new(alloc: Global, cast: &Cast) -> Result<Machine, AllocError>
         ensures { IfOk result (λ machine. state_of machine ≡ initial_state cast.now) }
     {
-        let reporters = vec![in alloc; Held::Idle; usize::from(cast.reporters)]?;
-        let readers = vec![in alloc; Held::Idle; usize::from(cast.readers)]?;
+        let reporters = vec![in alloc; Pending::Idle; usize::from(cast.reporters)]?;
+        let readers = vec![in alloc; Pending::Idle; usize::from(cast.readers)]?;
         Ok(Machine {
             words: Board::fresh().words(),
             history: Vec::new(alloc),
@@ -89,7 +89,7 @@ impl Machine {
         })
     }
 
-    /// What the steps have left.
+    /// Returns what the steps have left.
     pub(crate) fn into_trace(self) -> Trace
         ensures { IsLeftBy (state_of self) result }
     {
@@ -107,7 +107,7 @@ impl Machine {
         }
     }
 
-    /// Takes the step, or answers false where it is not enabled.
+    /// Takes the step, or answers false if it is not enabled.
     pub(crate) fn take(&mut self, step: &Step) -> Result<bool, AllocError>
         requires { IsReachable (state_of self.old) }
         ensures { IfOk result
@@ -123,26 +123,26 @@ impl Machine {
         }
     }
 
-    /// An idle caller begins a call.
+    /// Begins a call of an idle caller.
     fn begin(&mut self, caller: Caller, call: Call) -> Result<bool, AllocError>
         requires { IsReachable (state_of self.old) }
         ensures { IfOk result
             (λ taken. Takes (state_of self.old) (Begin caller call) taken (state_of self.new)) }
     {
         let held = self.held(&caller);
-        let Some(Held::Idle) = &held else {
+        let Some(Pending::Idle) = &held else {
             return Ok(false);
         };
         let place = self.calls.len();
         let next = match &call {
             Call::Event(event) => match &caller {
                 Caller::Reader(_) => return Ok(false),
-                Caller::Reporter(_) => Held::Wanting {
+                Caller::Reporter(_) => Pending::Wanting {
                     call: place,
                     event: *event,
                 },
             },
-            Call::Reading => Held::collecting(place),
+            Call::Reading => Pending::collecting(place),
         };
         let begun = self.now();
         self.calls.push(CallRecord {
@@ -157,13 +157,13 @@ impl Machine {
         Ok(true)
     }
 
-    /// A reporter loads the word of its event's match. The rules refuse the event, or say which word is to come next.
+    /// Loads the word of a reporter's match. The rules refuse the event, or say which word is to come next.
     fn look(&mut self, caller: Caller) -> bool
         requires { IsReachable (state_of self.old) }
         ensures { Takes (state_of self.old) (Look caller) result (state_of self.new) }
     {
         let held = self.held(&caller);
-        let Some(Held::Wanting { call, event }) = &held else {
+        let Some(Pending::Wanting { call, event }) = &held else {
             return false;
         };
         let Caller::Reporter(reporter) = &caller else {
@@ -173,7 +173,7 @@ impl Machine {
         match next_word(old, *reporter, event.expected, event.kind) {
             Ok(new) => self.hold(
                 caller,
-                Held::Holding {
+                Pending::Holding {
                     call: *call,
                     event: *event,
                     old,
@@ -185,7 +185,7 @@ impl Machine {
         true
     }
 
-    /// A reporter exchanges the word that it loaded for the next one, if the word is still there.
+    /// Exchanges the word that a reporter loaded for the next one, if the word is still there.
     fn swap(&mut self, caller: Caller) -> Result<bool, AllocError>
         requires { IsReachable (state_of self.old) }
         ensures { IfOk result
@@ -193,7 +193,7 @@ impl Machine {
     {
         let held = self.held(&caller);
         let Some(
-            Held::Holding {
+            Pending::Holding {
                 call,
                 event,
                 old,
@@ -221,7 +221,7 @@ impl Machine {
         Ok(true)
     }
 
-    /// A reading loads the next word of its first collect. The last of these loads is its linearization point, if the
+    /// Loads the next word of a reading's first collect. The last of these loads is its linearization point, if the
     /// second collect finds the same words.
     fn first(&mut self, caller: Caller) -> bool
         requires { IsReachable (state_of self.old) }
@@ -229,7 +229,7 @@ impl Machine {
     {
         let held = self.held(&caller);
         let Some(
-            Held::Collecting {
+            Pending::Collecting {
                 call,
                 words,
                 loaded,
@@ -241,14 +241,14 @@ impl Machine {
         let mut words = *words;
         words[*loaded] = self.words[*loaded];
         let next = if *loaded == 11 {
-            Held::Checking {
+            Pending::Checking {
                 call: *call,
                 words,
                 checked: 0,
                 point: self.now(),
             }
         } else {
-            Held::Collecting {
+            Pending::Collecting {
                 call: *call,
                 words,
                 loaded: *loaded + 1,
@@ -258,7 +258,7 @@ impl Machine {
         true
     }
 
-    /// A reading loads the next word of its second collect: it begins anew where the word differs from the first
+    /// Loads the next word of a reading's second collect: it begins anew where the word differs from the first
     /// collect, and has its reply where all twelve are the same.
     fn second(&mut self, caller: Caller) -> bool
         requires { IsReachable (state_of self.old) }
@@ -266,7 +266,7 @@ impl Machine {
     {
         let held = self.held(&caller);
         let Some(
-            Held::Checking {
+            Pending::Checking {
                 call,
                 words,
                 checked,
@@ -277,12 +277,12 @@ impl Machine {
             return false;
         };
         if self.words[*checked] != words[*checked] {
-            self.hold(caller, Held::collecting(*call));
+            self.hold(caller, Pending::collecting(*call));
         } else if *checked == 11 {
             let reading = Reading::of(&Board::of_packed(words));
             self.reply(caller, *call, *point, Reply::Copied(reading));
         } else {
-            let next = Held::Checking {
+            let next = Pending::Checking {
                 call: *call,
                 words: *words,
                 checked: *checked + 1,
@@ -293,24 +293,24 @@ impl Machine {
         true
     }
 
-    /// A caller that has its reply ends its call.
+    /// Ends the call of a caller that has its reply.
     fn end(&mut self, caller: Caller) -> bool
         requires { IsReachable (state_of self.old) }
         ensures { Takes (state_of self.old) (End caller) result (state_of self.new) }
     {
         let held = self.held(&caller);
-        let Some(Held::Answered { call }) = &held else {
+        let Some(Pending::Answered { call }) = &held else {
             return false;
         };
         let mut record = self.calls[*call];
         record.ended = Some(self.now());
         self.calls[*call] = record;
-        self.hold(caller, Held::Idle);
+        self.hold(caller, Pending::Idle);
         true
     }
 
-    /// What the caller holds, if there is such a caller.
-    fn held(&self, caller: &Caller) -> Option<Held>
+    /// Returns what the caller holds, if there is such a caller.
+    fn held(&self, caller: &Caller) -> Option<Pending>
         ensures { option_map holds_of result ≡ held_by (state_of self.now).callers caller.now }
     {
         match caller {
@@ -332,8 +332,8 @@ impl Machine {
         }
     }
 
-    /// The caller now holds this.
-    fn hold(&mut self, caller: Caller, next: Held)
+    /// Sets what the caller holds.
+    fn hold(&mut self, caller: Caller, next: Pending)
         requires { IsSome (held_by (state_of self.old).callers caller) }
         ensures { state_of self.new ≡ with_held (holds_of next) caller (state_of self.old) }
     {
@@ -343,7 +343,7 @@ impl Machine {
         }
     }
 
-    /// The call gets its reply, at this point of the history.
+    /// Sets the reply of a call, at this point of the history.
     fn reply(&mut self, caller: Caller, call: usize, point: u16, reply: Reply)
         requires held { IsSome (held_by (state_of self.old).callers caller) }
         requires call { call < length (state_of self.old).calls }
@@ -353,10 +353,10 @@ impl Machine {
         record.point = Some(point);
         record.reply = Some(reply);
         self.calls[call] = record;
-        self.hold(caller, Held::Answered { call });
+        self.hold(caller, Pending::Answered { call });
     }
 
-    /// The length of the history.
+    /// Returns the length of the history.
     fn now(&self) -> u16
         requires { IsReachable (state_of self.now) }
         ensures { result ≡ length (state_of self.now).history }

@@ -13,7 +13,7 @@ use std::alloc::Global;
 
 /// Takes the steps one after another, from the fresh board and idle callers, and answers the trace that they leave.
 ///
-/// Where a step is not enabled, the answer is `NotEnabled` with the first such step. Where an allocation was refused, it
+/// Where a step is not enabled, the answer is `NotEnabled` with the first such step. If an allocation was refused, it
 /// is `OutOfMemory`, which may come in place of either. An error leaves nothing.
 pub fn run_steps(alloc: Global, cast: &Cast, steps: &[Step]) -> Result<Trace, StepFault>
     ensures trace { IfOk result (IsTraceOf cast.now steps.now) }

@@ -6,7 +6,7 @@ use Rattle.ucl_board.specs.declared.entry.Entry.{Entry}
 use Rattle.ucl_board.specs.declared.reading.Reading.{Reading}
 use Rattle.ucl_board.specs.Words.{version_of}
 use Rattle.ucl_board.specs.History.{IsLegal, board_of}
-use Rattle.ucl_board.proofs.HistoryLaws.{legal_take, versions}
+use Rattle.ucl_board.proofs.HistoryTheorems.{legal_take, versions}
 use Rattle.ucl_order.specs.declared.profile.Profile.{Profile}
 use Rattle.ucl_order.specs.Roster.{NamedClub}
 use Rattle.ucl_screen.specs.Screen.{screen_text}

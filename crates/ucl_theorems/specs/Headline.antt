@@ -19,10 +19,10 @@ use Rattle.ucl_steps.specs.declared.trace.Reply.TheVariants.{Copied}
 use Rattle.ucl_steps.specs.Machine.{MachineState, initial_state, after_steps}
 use Rattle.ucl_steps.specs.Linearizable.{IsDecided, IsLinearizable}
 use Rattle.ucl_steps.specs.WordLog.{SeatStep, WordLog, taken_at, history_in, IsWordLog}
-use Rattle.ucl_steps.specs.Doings.{FinishedCall, doings_at, FollowsProtocol}
+use Rattle.ucl_steps.specs.ClientState.{FinishedCall, client_at, FollowsProtocol}
 use Rattle.ucl_steps.specs.LogHistory.{IsCall, IsLinearizableLog}
 use Rattle.ucl_words.specs.declared.view.WordView.{WordView}
-use Rattle.ucl_words.specs.Later.{Later}
+use Rattle.ucl_words.specs.LaterState.{LaterState}
 
 -- the board after the first k entries of a history, as a screen shows it: version k, and the clubs in the order of the
 -- profile, each with its numbers and its mark
@@ -71,12 +71,12 @@ pub record IsOneHistory (s : State Entry WordView) : Type 0 where
   pub each : (seat : ℕ) (v : WordView) → get_elem? s.views seat ≡ some v → IsOfLog log seat v
   pub only : All (λ (x : SeatStep). x.seat < length s.views) log
   pub apart : (i j : ℕ)
-      → 0 < (doings_at i log).number → (doings_at i log).number ≡ (doings_at j log).number → i ≡ j
+      → 0 < (client_at i log).number → (client_at i log).number ≡ (client_at j log).number → i ≡ j
   pub linearizable : IsLinearizableLog log
   pub screens : (seat k : ℕ) (c : FinishedCall)
       → IsCall log seat k c → ScreenIsOfItsPoint (history_in log) c
 
--- so is each state that meets the rule of the board
+-- so is each state that meets the invariant of the board
 abbrev pub BoardsHaveOneHistory : (State Entry WordView → Type 0) → Type 0
 BoardsHaveOneHistory rule = (s : State Entry WordView) → rule s → IsOneHistory s
 
@@ -84,4 +84,4 @@ BoardsHaveOneHistory rule = (s : State Entry WordView) → rule s → IsOneHisto
 -- and whether these passes ever met; so no entry and no call ever moves
 pub record HistoriesGoOn (rule : State Entry WordView → Type 0) : Type 0 where
   pub boards : BoardsHaveOneHistory rule
-  pub later : (s t : State Entry WordView) (r : rule s) (q : rule t) → Later s t → IsPrefix (boards s r).log (boards t q).log
+  pub later : (s t : State Entry WordView) (r : rule s) (q : rule t) → LaterState s t → IsPrefix (boards s r).log (boards t q).log

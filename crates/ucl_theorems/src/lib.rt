@@ -2,6 +2,6 @@
 //! there for its contract.
 #![tactic(auto)]
 
-mod laws;
+mod theorems;
 
-pub use laws::{boards_have_one_history, every_run_has_one_history, histories_go_on};
+pub use theorems::{boards_have_one_history, every_run_has_one_history, histories_go_on};

@@ -1,7 +1,7 @@
 -- What an accepted event tells of the record, and that the record after it is valid.
-use Rattle.std.proofs.Common.{◌≡◌, ℕ, ◌+◌, ◌<◌, ◌≤◌, Bool, true, false, ◌==◌, Option, Some, None, refl, ◌∙◌, arith, eq-eqb}
+use Rattle.std.proofs.Common.{◌≡◌, ℕ, ◌+◌, ◌<◌, ◌≤◌, Bool, true, false, ◌==◌, Option, Some, None, refl, ◌∙◌, arith, eq-eqb, ◌-◌, sym, ap}
 use Rattle.std.proofs.lemmas.Bool.Decides.{nat_tests}
-use Rattle.std.specs.Prelude.{not, nat_le, ◌&&◌, if◌then◌else◌}
+use Rattle.std.specs.Prelude.{not, nat_le, ◌&&◌, if◌then◌else◌, nat_lt}
 use Rattle.ucl_word.specs.declared.record.MatchRecord.{MatchRecord}
 use Rattle.ucl_word.specs.declared.record.State.{State}
 use Rattle.ucl_word.specs.declared.record.State.TheVariants.{Scheduled, InPlay, Finished}
@@ -9,8 +9,9 @@ use Rattle.ucl_word.specs.declared.event.Side.TheVariants.{Home, Away}
 use Rattle.ucl_word.specs.declared.event.Kind.{Kind}
 use Rattle.ucl_word.specs.declared.event.Kind.TheVariants.{KickOff, Goal, Disallow, Yellow, SecondYellow, Red, FullTime, Reopen}
 use Rattle.ucl_word.specs.declared.refusal.Refusal.{Refusal}
-use Rattle.ucl_word.specs.Record.{is_within_limits, last_in_play, suits_state, IsReporter, IsValid}
-use Rattle.ucl_word.specs.Rules.{is_scheduled, is_in_play, is_finished, is_kick_off, is_full_time, is_reopen, lacks_goal, lacks_caution, passes_limit, refusal_of, after}
+use Rattle.ucl_word.specs.Record.{is_within_limits, max_number_in_play, suits_state, IsReporter, IsValid}
+use Rattle.ucl_word.specs.Rules.{is_scheduled, is_in_play, is_finished, is_kick_off, is_full_time, is_reopen, lacks_goal, lacks_caution, passes_limit, refusal_of}
+use Rattle.ucl_word.specs.Rules.{after}
 use Rattle.ucl_word.proofs.ValidRecords.{parts, whole}
 
 -- no condition of a refusal holds
@@ -20,7 +21,7 @@ pub record Accepts (m : MatchRecord) (expected : ℕ) (kind : Kind) : Type 0 whe
   pub finished : (not (is_finished m.state) && is_reopen kind) ≡ false
   pub started : (is_scheduled m.state && not (is_kick_off kind)) ≡ false
   pub not_started : (is_in_play m.state && is_kick_off kind) ≡ false
-  pub room : (nat_le last_in_play m.number && not (is_full_time kind)) ≡ false
+  pub room : (nat_le max_number_in_play m.number && not (is_full_time kind)) ≡ false
   pub goal : lacks_goal m kind ≡ false
   pub caution : lacks_caution m kind ≡ false
   pub limit : passes_limit m kind ≡ false
@@ -61,16 +62,16 @@ over Finished h = refl
 pub under : (k n : ℕ) → nat_le k n ≡ false → n < k
 under k n h = grind (arith, nat_tests)
 
-room_left : (n : ℕ) → (nat_le last_in_play n && true) ≡ false → n < last_in_play
+room_left : (n : ℕ) → (nat_le max_number_in_play n && true) ≡ false → n < max_number_in_play
 room_left n h = grind (arith, nat_tests)
 
-in_play : (m : MatchRecord) → m.state ≡ InPlay → IsValid m → (1 ≤ m.number) × (m.number ≤ last_in_play)
+in_play : (m : MatchRecord) → m.state ≡ InPlay → IsValid m → (1 ≤ m.number) × (m.number ≤ max_number_in_play)
 in_play m e v = let s = rw e at (parts m v).1 in (grind (arith, nat_tests), grind (arith, nat_tests))
 
 finished : (m : MatchRecord) → m.state ≡ Finished → IsValid m → 2 ≤ m.number
 finished m e v = let s = rw e at (parts m v).1 in grind (arith, nat_tests)
 
-suits_in_play : (s : State) (m : MatchRecord) → s ≡ InPlay → 1 ≤ m.number → m.number ≤ last_in_play → IsReporter m.reporter → suits_state s m ≡ true
+suits_in_play : (s : State) (m : MatchRecord) → s ≡ InPlay → 1 ≤ m.number → m.number ≤ max_number_in_play → IsReporter m.reporter → suits_state s m ≡ true
 suits_in_play s m e low high r = let a = r.0 in let b = r.1 in rw e (grind (arith, nat_tests))
 
 module _ (m : MatchRecord) (reporter expected : ℕ) where
@@ -91,7 +92,8 @@ module _ (m : MatchRecord) (reporter expected : ℕ) where
   after_within (Red Away) w a = let l = under 31 m.away_expulsions a.limit in grind (arith, nat_tests)
 
   -- a match that goes on
-  goes_on : (m' : MatchRecord) → IsValid m → IsReporter reporter → (is_finished m.state && true) ≡ false → (is_scheduled m.state && true) ≡ false → (nat_le last_in_play m.number && true) ≡ false
+  goes_on : (m' : MatchRecord) → IsValid m → IsReporter reporter → (is_finished m.state && true) ≡ false → (is_scheduled m.state && true) ≡ false →
+      (nat_le max_number_in_play m.number && true) ≡ false
       → m'.state ≡ m.state → m'.number ≡ m.number + 1 → m'.reporter ≡ reporter → suits_state m'.state m' ≡ true
   goes_on m' v r f s n is_state is_number is_reporter =
       let e = begun m.state f s in
@@ -132,7 +134,7 @@ and_no false = refl
 
 pub full_time : (m : MatchRecord) → IsValid m → m.state ≡ InPlay → refusal_of m m.number FullTime ≡ None
 unfolding refusal_of
-full_time m v e = rw (eq-eqb m.number m.number refl, e, and_no (nat_le last_in_play m.number)) refl
+full_time m v e = rw (eq-eqb m.number m.number refl, e, and_no (nat_le max_number_in_play m.number)) refl
 
 -- what is reopened can be ended
 pub ends_again : (m : MatchRecord) (reporter : ℕ) → IsValid m → IsReporter reporter → refusal_of m m.number Reopen ≡ None
@@ -143,3 +145,64 @@ ends_again m reporter v is none = let valid = after_valid m reporter m.number Re
 pub after_number : (m : MatchRecord) (reporter : ℕ) (kind : Kind) → (after m reporter kind).number ≡ m.number + 1
 unfolding after
 after_number m reporter kind = refl
+
+-- ---- which event was entered follows from the record before it and the record after it
+
+-- the kind of event that leads from one record to another
+kind_between : MatchRecord → MatchRecord → Kind
+kind_between m n =
+    if is_scheduled m.state then KickOff
+    else (if is_finished m.state then Reopen
+    else (if is_finished n.state then FullTime
+    else (if nat_lt m.home_goals n.home_goals then Goal Home
+    else (if nat_lt m.away_goals n.away_goals then Goal Away
+    else (if nat_lt n.home_goals m.home_goals then Disallow Home
+    else (if nat_lt n.away_goals m.away_goals then Disallow Away
+    else (if nat_lt m.home_yellows n.home_yellows then Yellow Home
+    else (if nat_lt m.away_yellows n.away_yellows then Yellow Away
+    else (if nat_lt n.home_yellows m.home_yellows then SecondYellow Home
+    else (if nat_lt n.away_yellows m.away_yellows then SecondYellow Away
+    else (if nat_lt m.home_expulsions n.home_expulsions then Red Home
+    else Red Away)))))))))))
+
+same : (n : ℕ) → nat_lt n n ≡ false
+same n = grind (arith, nat_tests)
+
+more : (n : ℕ) → nat_lt n (n + 1) ≡ true
+more n = grind (arith, nat_tests)
+
+no_more : (n : ℕ) → nat_lt (n + 1) n ≡ false
+no_more n = grind (arith, nat_tests)
+
+less : (n : ℕ) → (n == 0) ≡ false → nat_lt (n - 1) n ≡ true
+less n stands = grind (arith, nat_tests)
+
+no_less : (n : ℕ) → nat_lt n (n - 1) ≡ false
+no_less n = grind (arith, nat_tests)
+
+kind_back : (m : MatchRecord) (reporter expected : ℕ) (kind : Kind) → Accepts m expected kind → kind_between m (after m reporter kind) ≡ kind
+unfolding kind_between after
+kind_back m r n KickOff a = rw (unbegun m.state a.unfinished a.not_started) refl
+kind_back m r n FullTime a = rw (begun m.state a.unfinished a.started) refl
+kind_back m r n Reopen a = rw (over m.state a.finished) refl
+kind_back m r n (Goal Home) a = rw (begun m.state a.unfinished a.started, more m.home_goals) refl
+kind_back m r n (Goal Away) a = rw (begun m.state a.unfinished a.started, same m.home_goals, more m.away_goals) refl
+kind_back m r n (Disallow Home) a = rw (begun m.state a.unfinished a.started, no_less m.home_goals, same m.away_goals, less m.home_goals a.goal) refl
+kind_back m r n (Disallow Away) a = rw (begun m.state a.unfinished a.started, same m.home_goals, no_less m.away_goals, less m.away_goals a.goal) refl
+kind_back m r n (Yellow Home) a = rw (begun m.state a.unfinished a.started, same m.home_goals, same m.away_goals, more m.home_yellows) refl
+kind_back m r n (Yellow Away) a = rw (begun m.state a.unfinished a.started, same m.home_goals, same m.away_goals, same m.home_yellows, more m.away_yellows) refl
+kind_back m r n (SecondYellow Home) a = rw (begun m.state a.unfinished a.started, same m.home_goals, same m.away_goals, no_less m.home_yellows, same m.away_yellows, less m.home_yellows a.caution) refl
+kind_back m r n (SecondYellow Away) a = rw (begun m.state a.unfinished a.started, same m.home_goals, same m.away_goals, same m.home_yellows, no_less m.away_yellows, less m.away_yellows a.caution) refl
+kind_back m r n (Red Home) a = rw (begun m.state a.unfinished a.started, same m.home_goals, same m.away_goals, same m.home_yellows, same m.away_yellows, more m.home_expulsions) refl
+kind_back m r n (Red Away) a = rw (begun m.state a.unfinished a.started, same m.home_goals, same m.away_goals, same m.home_yellows, same m.away_yellows, same m.home_expulsions) refl
+
+reporter_after : (m : MatchRecord) (reporter : ℕ) (kind : Kind) → (after m reporter kind).reporter ≡ reporter
+unfolding after
+reporter_after m r kind = refl
+
+-- accepted events that lead from one record to one other are the same event of the same reporter
+pub events_apart : (m : MatchRecord) (r s i j : ℕ) (k l : Kind) → Accepts m i k → Accepts m j l → after m r k ≡ after m s l → (r ≡ s) × (k ≡ l)
+events_apart m r s i j k l a b e = (
+  sym (reporter_after m r k) ∙ (ap (λ (n : MatchRecord). n.reporter) e ∙ reporter_after m s l),
+  sym (kind_back m r i k a) ∙ (ap (kind_between m) e ∙ kind_back m s j l b),
+)

@@ -13,7 +13,7 @@ use Rattle.ucl_word.specs.declared.refusal.Refusal.TheVariants.{NoGoal, NoCautio
 use Rattle.ucl_word.specs.Record.{IsReporter, IsValid}
 use Rattle.ucl_word.specs.Layout.{layout, word_of, record_at, state_code, bits_at, IsWord}
 use Rattle.ucl_word.specs.Rules.{goals, yellows, expulsions, refusal_of, changed_by, after}
-use Rattle.ucl_word.specs.Code.Changes.{goals_field, yellows_field, expulsions_field, Raises, Lowers, Changes}
+use Rattle.ucl_word.specs.Changes.{goals_field, yellows_field, expulsions_field, Raises, Lowers, Changes}
 use Rattle.ucl_word.proofs.ValidRecords.{parts, whole}
 use Rattle.ucl_word.proofs.Words.{word_high, word_valid, word_packed, record_back}
 use Rattle.ucl_word.proofs.AcceptedEvents.{accepts, after_valid}

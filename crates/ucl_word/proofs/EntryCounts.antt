@@ -1,5 +1,6 @@
 -- The count of a match's entries after one entry more.
-use Rattle.std.proofs.Common.{◌≡◌, ℕ, ◌+◌, ◌-◌, ◌<◌, ◌≤◌, Bool, true, false, cond, ◌==◌, List, [], ◌∷◌, ◌++◌, length, None, refl, sym, ap, ◌∙◌, arith, subst, length-append, eq-eqb, ne_eqb}
+use Rattle.std.proofs.Common.{◌≡◌, ℕ, ◌+◌, ◌-◌, ◌<◌, ◌≤◌, Bool, true, false, cond, ◌==◌, List, [], ◌∷◌, ◌++◌, length, None, refl, sym, ap, ◌∙◌, arith, subst}
+use Rattle.std.proofs.Common.{length-append, eq-eqb, ne_eqb}
 use Rattle.std.specs.Prelude.{not, if◌then◌else◌}
 use Rattle.std.proofs.Math.Nat.{zero-add, add-zero, add_assoc, le_refl}
 use Rattle.std.proofs.lemmas.Bool.Decides.{nat_tests}
@@ -13,8 +14,9 @@ use Rattle.ucl_word.specs.declared.event.Kind.{Kind}
 use Rattle.ucl_word.specs.declared.event.Kind.TheVariants.{KickOff, Goal, Disallow, Yellow, SecondYellow, Red, FullTime, Reopen}
 use Rattle.ucl_word.specs.Record.{scheduled, IsReporter, IsValid}
 use Rattle.ucl_word.specs.Rules.{is_kick_off, is_full_time, is_reopen, lacks_goal, lacks_caution, refusal_of, after}
-use Rattle.ucl_word.specs.Counts.{MatchEntry, count, is_goal, is_disallow, is_yellow, is_second_yellow, is_red, state_of, last_reporter, counted_match, IsAccepted, IsLegalMatch}
-use Rattle.ucl_word.specs.Laws.{IsBalanced, CaseOf, IsCase, OneCaseHolds}
+use Rattle.ucl_word.specs.Counts.{MatchEntry, count, is_goal, is_disallow, is_yellow, is_second_yellow, is_red, state_of, last_reporter, counted_match, IsAccepted}
+use Rattle.ucl_word.specs.Counts.{IsLegalMatch}
+use Rattle.ucl_word.specs.Theorems.{IsBalanced, CaseOf, IsCase, OneCaseHolds}
 use Rattle.ucl_word.proofs.ValidRecords.{scheduled_valid}
 use Rattle.ucl_word.proofs.AcceptedEvents.{Accepts, accepts, begun, unbegun, over, after_valid}
 use Rattle.ucl_word.proofs.Sequences.{may_induction, may_next}

@@ -6,13 +6,12 @@ use Rattle.ucl_word.specs.declared.record.MatchRecord.{MatchRecord}
 use Rattle.ucl_word.specs.declared.record.State.{State}
 use Rattle.ucl_word.specs.declared.record.State.TheVariants.{Scheduled, InPlay, Finished}
 use Rattle.ucl_word.specs.Record.{IsValid}
-use Rattle.ucl_word.specs.Layout.{first_layout, IsMarked, word_of, IsWord}
-use Rattle.ucl_word.specs.Code.Moving.{moved_up}
-use Rattle.ucl_word.specs.Migration.{most_in_first, first_word_of, IsFirstValid, IsFirstWord, IsReadable, IsMoved, IsReadAs}
-use Rattle.ucl_word.specs.Laws.{LayoutsDiffer, WordsAreReadOneWay}
+use Rattle.ucl_word.specs.Layout.{first_layout, HasLayoutTag, word_of, IsWord}
+use Rattle.ucl_word.specs.Migration.{moved_up, max_number_in_play_of_first_layout, first_word_of, IsFirstValid, IsFirstWord, IsReadable, IsMoved, IsReadAs}
+use Rattle.ucl_word.specs.Theorems.{LayoutsDiffer, WordsAreReadOneWay}
 use Rattle.ucl_word.proofs.Words.{Tells, tells, record_told, told_back, word_high}
 
-most_numbers : (s : State) (n : ℕ) → n ≤ most_in_first s → n < 2 ^ first_layout.number.width
+most_numbers : (s : State) (n : ℕ) → n ≤ max_number_in_play_of_first_layout s → n < 2 ^ first_layout.number.width
 most_numbers Scheduled n h = omega arith
 most_numbers InPlay n h = omega arith
 most_numbers Finished n h = omega arith
@@ -31,7 +30,7 @@ unfolding first_word_of word_of
 first_moves m is = let below = most_numbers m.state m.number is.number in omega arith
 
 -- and what moves to the word of a record that had room is the word of this record
-pub moved_from : (word : ℕ) (m : MatchRecord) → m.number ≤ most_in_first m.state → word_of m ≡ moved_up word → first_word_of m ≡ word
+pub moved_from : (word : ℕ) (m : MatchRecord) → m.number ≤ max_number_in_play_of_first_layout m.state → word_of m ≡ moved_up word → first_word_of m ≡ word
 unfolding first_word_of word_of
 moved_from word m room is = let below = most_numbers m.state m.number room in omega arith
 
@@ -41,7 +40,7 @@ word_moves word first = sym (first_moves first.of first.valid) ∙ ap (λ (w : �
 pub moves_to_word : (word : ℕ) → IsFirstWord word → IsWord (moved_up word)
 moves_to_word word first = record { of = first.of; valid = first.valid.valid; packed = word_moves word first }
 
-pub first_high : (word : ℕ) → IsFirstWord word → IsMarked first_layout word
+pub first_high : (word : ℕ) → IsFirstWord word → HasLayoutTag first_layout word
 first_high word is = rw (← is.packed) (first_told is.of is.valid).high_is
 
 pub first_apart : (m n : MatchRecord) → IsFirstValid m → IsFirstValid n → first_word_of m ≡ first_word_of n → m ≡ n

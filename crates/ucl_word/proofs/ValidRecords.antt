@@ -5,7 +5,7 @@ use Rattle.std.proofs.lemmas.Bool.Decides.{nat_tests}
 use Rattle.ucl_word.specs.declared.record.MatchRecord.{MatchRecord}
 use Rattle.ucl_word.specs.declared.record.State.{State}
 use Rattle.ucl_word.specs.declared.record.State.TheVariants.{Scheduled, InPlay, Finished}
-use Rattle.ucl_word.specs.Record.{is_untouched, is_valid, is_within_limits, last_number, scheduled, suits_state, IsReporter, IsValid}
+use Rattle.ucl_word.specs.Record.{is_untouched, is_valid, is_within_limits, max_number, scheduled, suits_state, IsReporter, IsValid}
 
 pub parts : (m : MatchRecord) → IsValid m → (is_within_limits m ≡ true) × (suits_state m.state m ≡ true)
 unfolding is_valid
@@ -39,12 +39,12 @@ module _ (m : MatchRecord) (v : IsValid m) where
   pub away_expulsions_valid : m.away_expulsions ≤ 31
   away_expulsions_valid = let w = within in grind (arith, nat_tests)
 
-number_within : (s : State) (m : MatchRecord) → suits_state s m ≡ true → (m.number ≤ last_number) × (m.reporter ≤ 255)
+number_within : (s : State) (m : MatchRecord) → suits_state s m ≡ true → (m.number ≤ max_number) × (m.reporter ≤ 255)
 number_within Scheduled m h = (grind (arith, nat_tests), grind (arith, nat_tests))
 number_within InPlay m h = (grind (arith, nat_tests), grind (arith, nat_tests))
 number_within Finished m h = (grind (arith, nat_tests), grind (arith, nat_tests))
 
-pub number_valid : (m : MatchRecord) → IsValid m → m.number ≤ last_number
+pub number_valid : (m : MatchRecord) → IsValid m → m.number ≤ max_number
 number_valid m v = (number_within m.state m (parts m v).1).0
 
 pub reporter_valid : (m : MatchRecord) → IsValid m → m.reporter ≤ 255

@@ -1,5 +1,5 @@
 -- A match after a list of its events, by counting; which lists are legal.
-use Rattle.std.specs.Prelude.{◌≡◌, ℕ, ◌+◌, ◌-◌, ◌==◌, Bool, true, false, if◌then◌else◌, List, [], ◌∷◌, length, None, count_by}
+use Rattle.std.specs.Prelude.{◌≡◌, ℕ, List, [], ◌∷◌, ◌++◌, take, Some, slice_get, ◌+◌, ◌-◌, ◌==◌, Bool, true, false, if◌then◌else◌, length, None, count_by}
 use Rattle.ucl_word.specs.declared.record.MatchRecord.{MatchRecord}
 use Rattle.ucl_word.specs.declared.record.State.{State}
 use Rattle.ucl_word.specs.declared.record.State.TheVariants.{Scheduled, InPlay, Finished}
@@ -8,8 +8,17 @@ use Rattle.ucl_word.specs.declared.event.Side.TheVariants.{Home, Away}
 use Rattle.ucl_word.specs.declared.event.Kind.{Kind}
 use Rattle.ucl_word.specs.declared.event.Kind.TheVariants.{Goal, Disallow, Yellow, SecondYellow, Red}
 use Rattle.ucl_word.specs.Record.{IsReporter}
-use Rattle.ucl_word.specs.Sequence.{EachMay, GainsOne}
 use Rattle.ucl_word.specs.Rules.{is_kick_off, is_full_time, is_reopen, refusal_of}
+
+pub record EachMay {X : Type 0} (May : List X → X → Type 0) (xs : List X) : Type 0 where
+  pub at : (k : ℕ) (x : X) → slice_get xs k ≡ Some x → May (take k xs) x
+
+-- where this view of a legal list is as before, the view of the list with one element more, which is legal, is as after
+abbrev pub GainsOne : {X Y : Type 0} → (List X → Type 0) → (List X → Y) → X → Y → Y → Type 0
+GainsOne {X} IsLegal view x before after = (xs : List X) → IsLegal xs → view xs ≡ before
+    → (after ≡ view (xs ++ x ∷ [])) × IsLegal (xs ++ x ∷ [])
+
+-- ---- a match after a list of its events, by counting; which lists are legal
 
 -- an event of one match that was accepted: who entered it, and what it said
 pub record MatchEntry : Type 0 where
@@ -50,7 +59,7 @@ count is_such es = count_by (λ e. is_such e.kind) es
 abbrev pub state_of : List MatchEntry → State
 state_of es = if count is_kick_off es == 0 then Scheduled else (if count is_full_time es == count is_reopen es then InPlay else Finished)
 
--- who entered the last one, 0 where there is none
+-- who entered the last one, 0 if there is none
 abbrev pub last_reporter : List MatchEntry → ℕ
 last_reporter [] = 0
 last_reporter (e ∷ []) = e.reporter

@@ -1,9 +1,8 @@
 pub mod Record
 pub mod Rules
-pub mod Sequence
 pub mod Counts
 pub mod Layout
 pub mod Migration
-pub mod Laws
+pub mod Theorems
 pub mod Names
-pub mod Code
+pub mod Changes

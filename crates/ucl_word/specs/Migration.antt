@@ -1,25 +1,25 @@
 -- Words of the first layout, and the words that they are read as.
-use Rattle.std.specs.Prelude.{◌≡◌, ℕ, ◌-◌, ◌≤◌, ◌⊎◌}
+use Rattle.std.specs.Prelude.{◌≡◌, ℕ, ◌-◌, ◌≤◌, ◌⊎◌, ◌+◌, ◌*◌, ◌/◌, ◌%◌, ◌^◌}
 use Rattle.ucl_word.specs.declared.record.MatchRecord.{MatchRecord}
 use Rattle.ucl_word.specs.declared.record.State.{State}
 use Rattle.ucl_word.specs.declared.record.State.TheVariants.{Scheduled, InPlay, Finished}
 use Rattle.ucl_word.specs.Record.{IsValid}
-use Rattle.ucl_word.specs.Layout.{first_layout, word_in, word_of, IsWord}
+use Rattle.ucl_word.specs.Layout.{first_layout, word_in, word_of, IsWord, layout}
 
 -- the greatest event number that the first layout has room for
-abbrev pub first_last_number : ℕ
-first_last_number = 1023
+abbrev pub max_number_of_first_layout : ℕ
+max_number_of_first_layout = 1023
 
 -- in play one less, so that full time has one left
-abbrev pub most_in_first : State → ℕ
-most_in_first Scheduled = first_last_number
-most_in_first InPlay = first_last_number - 1
-most_in_first Finished = first_last_number
+abbrev pub max_number_in_play_of_first_layout : State → ℕ
+max_number_in_play_of_first_layout Scheduled = max_number_of_first_layout
+max_number_in_play_of_first_layout InPlay = max_number_of_first_layout - 1
+max_number_in_play_of_first_layout Finished = max_number_of_first_layout
 
 -- a record that a match could have in the first layout
 pub record IsFirstValid (m : MatchRecord) : Type 0 where
   pub valid : IsValid m
-  pub number : m.number ≤ most_in_first m.state
+  pub number : m.number ≤ max_number_in_play_of_first_layout m.state
 
 -- the word of a record in the first layout
 unfoldable pub first_word_of : MatchRecord → ℕ
@@ -45,3 +45,12 @@ pub record IsMoved (word new : ℕ) : Type 0 where
 -- what a word is read as: itself, or where it is of the first layout, the word of the same record
 abbrev pub IsReadAs : ℕ → ℕ → Type 0
 IsReadAs word new = (IsWord word × (new ≡ word)) ⊎ IsMoved word new
+
+-- ---- where a word of the first layout moves
+
+-- the event number stays, all that stands above it moves up to where the fields above it stand now, and the mark is put there
+abbrev pub moved_up : ℕ → ℕ
+moved_up word =
+    word % 2 ^ first_layout.number.width
+    + word / 2 ^ first_layout.number.width * 2 ^ layout.number.width
+    + layout.marked * 2 ^ layout.mark.low

@@ -11,8 +11,9 @@ use Rattle.ucl_word.specs.declared.event.Kind.TheVariants.{KickOff, Goal, Disall
 use Rattle.ucl_word.specs.declared.event.EventCall.{EventCall}
 use Rattle.ucl_word.specs.declared.event.Accepted.{Accepted}
 use Rattle.ucl_word.specs.declared.refusal.Refusal.{Refusal}
-use Rattle.ucl_word.specs.declared.refusal.Refusal.TheVariants.{Stale, Finished, NotFinished, NotStarted, AlreadyStarted, NumberFull, NoGoal, NoCaution, LimitReached}
-use Rattle.ucl_word.specs.Record.{last_in_play}
+use Rattle.ucl_word.specs.declared.refusal.Refusal.TheVariants.{Stale, Finished, NotFinished, NotStarted, AlreadyStarted, NumberFull, NoGoal, NoCaution}
+use Rattle.ucl_word.specs.declared.refusal.Refusal.TheVariants.{LimitReached}
+use Rattle.ucl_word.specs.Record.{max_number_in_play}
 
 abbrev pub goals : Side → MatchRecord → ℕ
 goals Home m = m.home_goals
@@ -53,7 +54,7 @@ abbrev pub is_reopen : Kind → Bool
 is_reopen Reopen = true
 is_reopen _ = false
 
--- a goal is disallowed where there is none
+-- a goal is disallowed if there is none
 abbrev pub lacks_goal : MatchRecord → Kind → Bool
 lacks_goal m (Disallow side) = goals side m == 0
 lacks_goal m _ = false
@@ -84,7 +85,7 @@ refusal_of m expected kind = first_of (
     ∷ (not (is_finished m.state) && is_reopen kind, NotFinished)
     ∷ (is_scheduled m.state && not (is_kick_off kind), NotStarted)
     ∷ (is_in_play m.state && is_kick_off kind, AlreadyStarted)
-    ∷ (nat_le last_in_play m.number && not (is_full_time kind), NumberFull)
+    ∷ (nat_le max_number_in_play m.number && not (is_full_time kind), NumberFull)
     ∷ (lacks_goal m kind, NoGoal)
     ∷ (lacks_caution m kind, NoCaution)
     ∷ (passes_limit m kind, LimitReached)

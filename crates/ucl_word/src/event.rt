@@ -148,6 +148,6 @@ pub struct EventCall {
 /// The reply to an event that was entered.
 #[derive(Clone, Copy, Debug, PartialEq, Eq)]
 pub struct Accepted {
-    /// The match's event number after the event, 1 to `LAST_NUMBER`.
+    /// The match's event number after the event, 1 to `MAX_NUMBER`.
     pub number: u16,
 }

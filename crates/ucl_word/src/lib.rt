@@ -14,25 +14,25 @@
 #![tactic(auto)]
 
 mod event;
-mod laws;
 mod match_no;
 mod migration;
 mod record;
 mod refusal;
 mod reporter_no;
 mod rules;
+mod theorems;
 mod word;
 
 pub use event::{Accepted, EventCall, Kind, Side};
-pub use laws::{
-    a_match_in_play_can_be_ended, a_reopened_match_can_be_ended, counts_are_balanced,
-    counts_are_valid, layouts_differ, one_case_holds, words_are_read, words_are_read_one_way,
-    words_differ,
-};
 pub use match_no::MatchNo;
 pub use migration::migrate;
 pub use record::{MatchRecord, State};
 pub use refusal::{BadWord, OutOfMemory, Refusal};
 pub use reporter_no::ReporterNo;
 pub use rules::{apply, next_word};
+pub use theorems::{
+    a_match_in_play_can_be_ended, a_reopened_match_can_be_ended, counts_are_balanced,
+    counts_are_valid, layouts_differ, one_case_holds, words_are_read, words_are_read_one_way,
+    words_differ,
+};
 pub use word::{number_of, pack, record_of, unpack};

@@ -2,13 +2,12 @@
 
 ghost use Rattle.std.specs.Prelude.{◌≡◌, ◌≤◌, ◌↔◌, IsTrue, Ok, IfOk, IfErr};
 ghost use Rattle.ucl_word.specs.declared.record.MatchRecord.{MatchRecord};
-ghost use Rattle.ucl_word.specs.Layout.{first_layout, word_of, IsMarked, IsWord};
-ghost use Rattle.ucl_word.specs.Code.Moving.{moved_up};
-ghost use Rattle.ucl_word.specs.Migration.{most_in_first, first_word_of, IsFirstValid, IsFirstWord, IsReadAs};
+ghost use Rattle.ucl_word.specs.Layout.{first_layout, word_of, HasLayoutTag, IsWord};
+ghost use Rattle.ucl_word.specs.Migration.{moved_up, max_number_in_play_of_first_layout, first_word_of, IsFirstValid, IsFirstWord, IsReadAs};
 
 use crate::record::{MatchRecord, State};
 use crate::refusal::BadWord;
-use crate::word::{MARK, MARK_LOW, NUMBER_WIDTH, field, pack, put_at, unpack};
+use crate::word::{LAYOUT_TAG, LAYOUT_TAG_LOW, NUMBER_WIDTH, field, pack, put_at, unpack};
 
 /// How many bits the event number had in the first layout. The fields above it stood lower by as many bits as it has more now, and had
 /// as many bits as now.
@@ -18,33 +17,33 @@ const FIRST_NUMBER_WIDTH: u32 = 10;
 const FIRST_FIELDS_END: u32 = 54;
 
 /// The greatest event number in the first layout.
-const LAST_NUMBER: u16 = 1023;
+const MAX_NUMBER: u16 = 1023;
 
 /// Returns whether the first layout had room for the event number, and in play for that of full time too.
 fn has_room(game: &MatchRecord) -> bool
-    ensures { IsTrue result ↔ game.now.number ≤ most_in_first game.now.state }
+    ensures { IsTrue result ↔ game.now.number ≤ max_number_in_play_of_first_layout game.now.state }
 {
     match game.state {
-        State::InPlay => game.number <= LAST_NUMBER - 1,
-        _ => game.number <= LAST_NUMBER,
+        State::InPlay => game.number <= MAX_NUMBER - 1,
+        _ => game.number <= MAX_NUMBER,
     }
 }
 
 /// Returns whether nothing stands above the fields: the first layout had no mark.
-fn has_no_mark(word: u64) -> bool
-    ensures { IsTrue result ↔ IsMarked first_layout word }
+fn has_no_layout_tag(word: u64) -> bool
+    ensures { IsTrue result ↔ HasLayoutTag first_layout word }
 {
     word >> FIRST_FIELDS_END == 0
 }
 
 /// Moves the fields of a word to where they stand now, and adds the mark.
 fn moved(word: u64) -> u64
-    requires { IsMarked first_layout word }
+    requires { HasLayoutTag first_layout word }
     ensures { result ≡ moved_up word }
 {
     let number = field(word, 0, FIRST_NUMBER_WIDTH);
     let fields = put_at(word >> FIRST_NUMBER_WIDTH, NUMBER_WIDTH, number);
-    put_at(MARK, MARK_LOW, fields)
+    put_at(LAYOUT_TAG, LAYOUT_TAG_LOW, fields)
 }
 
 /// Unpacks a word of the first layout.
@@ -59,7 +58,7 @@ fn unpack_first(word: u64) -> Result<MatchRecord, BadWord>
     ensures read_back { (m : MatchRecord) → IsFirstValid m → first_word_of m ≡ word
         → result ≡ Ok m }
 {
-    if !has_no_mark(word) {
+    if !has_no_layout_tag(word) {
         return Err(BadWord);
     }
     let Ok(game) = unpack(moved(word)) else {

@@ -4,19 +4,19 @@ ghost use Rattle.std.specs.Prelude.{◌≡◌};
 ghost use Rattle.ucl_word.specs.Record.{is_valid, is_within_limits, suits_state};
 
 /// The most goals of a side.
-pub(crate) const MOST_GOALS: u8 = 63;
+pub(crate) const MAX_GOALS: u8 = 63;
 
 /// The most standing yellows of a side.
-pub(crate) const MOST_YELLOWS: u8 = 63;
+pub(crate) const MAX_YELLOWS: u8 = 63;
 
 /// The most expulsions of a side.
-pub(crate) const MOST_EXPULSIONS: u8 = 31;
+pub(crate) const MAX_EXPULSIONS: u8 = 31;
 
 /// The greatest event number of all.
-const LAST_NUMBER: u16 = 4095;
+const MAX_NUMBER: u16 = 4095;
 
 /// The greatest event number of a match in play. From it on, only full time is accepted, which has one number left.
-pub(crate) const LAST_NUMBER_IN_PLAY: u16 = LAST_NUMBER - 1;
+pub(crate) const MAX_NUMBER_IN_PLAY: u16 = MAX_NUMBER - 1;
 
 /// Whether a match has begun or ended.
 #[derive(Clone, Copy, Debug, Default, PartialEq, Eq)]
@@ -43,7 +43,7 @@ pub enum State {
 /// ```
 #[derive(Clone, Copy, Debug, Default, PartialEq, Eq)]
 pub struct MatchRecord {
-    /// How many events were accepted: 0 before kick-off, 1 to `LAST_NUMBER_IN_PLAY` in play, 2 to `LAST_NUMBER` at the end.
+    /// How many events were accepted: 0 before kick-off, 1 to `MAX_NUMBER_IN_PLAY` in play, 2 to `MAX_NUMBER` at the end.
     pub number: u16,
     /// Whether the match has begun or ended.
     pub state: State,
@@ -67,7 +67,7 @@ impl MatchRecord {
     /// Returns whether a match can have this record.
     ///
     /// Goals and yellows of a side are at most 63 and expulsions at most 31, and the record is scheduled with every number 0, or in play with
-    /// an event number from 1 to `LAST_NUMBER_IN_PLAY` and a reporter, or finished with an event number from 2 to `LAST_NUMBER` and a reporter.
+    /// an event number from 1 to `MAX_NUMBER_IN_PLAY` and a reporter, or finished with an event number from 2 to `MAX_NUMBER` and a reporter.
     #[tactic(auto, unfolding(crate::specs::Record::is_valid))]
     pub fn is_valid(&self) -> bool
         ensures { result ≡ is_valid self.now }
@@ -79,12 +79,12 @@ impl MatchRecord {
     fn is_within_limits(&self) -> bool
         ensures { result ≡ is_within_limits self.now }
     {
-        self.home_goals <= MOST_GOALS
-            && self.away_goals <= MOST_GOALS
-            && self.home_yellows <= MOST_YELLOWS
-            && self.away_yellows <= MOST_YELLOWS
-            && self.home_expulsions <= MOST_EXPULSIONS
-            && self.away_expulsions <= MOST_EXPULSIONS
+        self.home_goals <= MAX_GOALS
+            && self.away_goals <= MAX_GOALS
+            && self.home_yellows <= MAX_YELLOWS
+            && self.away_yellows <= MAX_YELLOWS
+            && self.home_expulsions <= MAX_EXPULSIONS
+            && self.away_expulsions <= MAX_EXPULSIONS
     }
 
     /// Returns whether the numbers are those that a match in this state can have.
@@ -94,8 +94,8 @@ impl MatchRecord {
         // Both cases are worked out, with no jump: the state of the next match that is read can't be foreseen.
         let (first, last) = match self.state {
             State::Scheduled => (0, 0),
-            State::InPlay => (1, LAST_NUMBER_IN_PLAY),
-            State::Finished => (2, LAST_NUMBER),
+            State::InPlay => (1, MAX_NUMBER_IN_PLAY),
+            State::Finished => (2, MAX_NUMBER),
         };
         let is_scheduled = *self == MatchRecord::default();
         let has_begun = (self.state != State::Scheduled)

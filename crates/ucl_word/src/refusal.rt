@@ -20,7 +20,7 @@ pub enum Refusal {
     NotStarted,
     /// 4: the match is in play, and the event is a kick-off.
     AlreadyStarted,
-    /// 5: the match's number is `LAST_NUMBER_IN_PLAY` or more, and the event is not full time.
+    /// 5: the match's number is `MAX_NUMBER_IN_PLAY` or more, and the event is not full time.
     NumberFull,
     /// 6: a goal is disallowed for a side that has none.
     NoGoal,

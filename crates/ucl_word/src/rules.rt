@@ -5,11 +5,11 @@ ghost use Rattle.ucl_word.specs.Record.{IsValid};
 ghost use Rattle.ucl_word.specs.Layout.{word_of, record_at, IsWord};
 ghost use Rattle.ucl_word.specs.Rules.{refusal_of, after};
 ghost use Rattle.ucl_word.specs.Counts.{CountsOneMore};
-ghost use Rattle.ucl_word.specs.Code.Changes.{state_for, change_refusal, goals_field, yellows_field, expulsions_field, Raises, Lowers, Changes};
+ghost use Rattle.ucl_word.specs.Changes.{state_for, change_refusal, goals_field, yellows_field, expulsions_field, Raises, Lowers, Changes};
 
 use crate::event::{Kind, Side};
 use crate::record::{
-    LAST_NUMBER_IN_PLAY, MOST_EXPULSIONS, MOST_GOALS, MOST_YELLOWS, MatchRecord, State,
+    MAX_EXPULSIONS, MAX_GOALS, MAX_NUMBER_IN_PLAY, MAX_YELLOWS, MatchRecord, State,
 };
 use crate::refusal::Refusal;
 use crate::reporter_no::ReporterNo;
@@ -90,7 +90,7 @@ fn in_turn(word: u64, expected: u16, kind: Kind) -> Result<(), Refusal>
             State::InPlay => Refusal::AlreadyStarted,
         });
     }
-    if number >= LAST_NUMBER_IN_PLAY && kind != Kind::FullTime {
+    if number >= MAX_NUMBER_IN_PLAY && kind != Kind::FullTime {
         return Err(Refusal::NumberFull);
     }
     Ok(())
@@ -147,14 +147,14 @@ fn changed(word: u64, kind: Kind) -> Result<u64, Refusal>
         Kind::KickOff => Ok(word + NEXT_STATE),
         Kind::FullTime => Ok(word + NEXT_STATE),
         Kind::Reopen => Ok(word - NEXT_STATE),
-        Kind::Goal(side) => raised(word, goals_low(side), GOALS_WIDTH, MOST_GOALS),
+        Kind::Goal(side) => raised(word, goals_low(side), GOALS_WIDTH, MAX_GOALS),
         Kind::Disallow(side) => lowered(word, goals_low(side), GOALS_WIDTH, Refusal::NoGoal),
-        Kind::Yellow(side) => raised(word, yellows_low(side), YELLOWS_WIDTH, MOST_YELLOWS),
+        Kind::Yellow(side) => raised(word, yellows_low(side), YELLOWS_WIDTH, MAX_YELLOWS),
         Kind::SecondYellow(side) => {
             let fewer = lowered(word, yellows_low(side), YELLOWS_WIDTH, Refusal::NoCaution)?;
-            raised(fewer, expelled_low(side), EXPULSIONS_WIDTH, MOST_EXPULSIONS)
+            raised(fewer, expelled_low(side), EXPULSIONS_WIDTH, MAX_EXPULSIONS)
         }
-        Kind::Red(side) => raised(word, expelled_low(side), EXPULSIONS_WIDTH, MOST_EXPULSIONS),
+        Kind::Red(side) => raised(word, expelled_low(side), EXPULSIONS_WIDTH, MAX_EXPULSIONS),
     }
 }
 

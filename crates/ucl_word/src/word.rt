@@ -3,9 +3,8 @@
 
 ghost use Rattle.std.specs.Prelude.{◌≡◌, ◌*◌, ◌+◌, ◌^◌, ◌<◌, ◌≤◌, ◌/◌, ◌↔◌, IsTrue, Ok, IfOk, IfErr};
 ghost use Rattle.ucl_word.specs.declared.record.MatchRecord.{MatchRecord};
-ghost use Rattle.ucl_word.specs.Record.{last_number, IsValid};
-ghost use Rattle.ucl_word.specs.Layout.{layout, word_of, record_at, state_code, bits_at, IsMarked, IsWord};
-ghost use Rattle.ucl_word.specs.Code.Reading.{HoldsRecord};
+ghost use Rattle.ucl_word.specs.Record.{max_number, IsValid};
+ghost use Rattle.ucl_word.specs.Layout.{layout, word_of, record_at, state_code, bits_at, HasLayoutTag, IsWord, HoldsRecord};
 
 use crate::record::{MatchRecord, State};
 use crate::refusal::BadWord;
@@ -42,9 +41,9 @@ pub(crate) const REPORTER_WIDTH: u32 = 8;
 /// The bits from here on hold the mark of the layout and nothing else.
 const FIELDS_END: u32 = 56;
 
-pub(crate) const MARK_LOW: u32 = 60;
+pub(crate) const LAYOUT_TAG_LOW: u32 = 60;
 
-pub(crate) const MARK: u64 = 2;
+pub(crate) const LAYOUT_TAG: u64 = 2;
 
 /// Returns the code of a state in a word.
 fn code_of(state: State) -> u64
@@ -86,7 +85,7 @@ pub fn pack(game: &MatchRecord) -> u64
     let word = put_at(u64::from(game.home_expulsions), HOME_EXPULSIONS_LOW, word);
     let word = put_at(u64::from(game.away_expulsions), AWAY_EXPULSIONS_LOW, word);
     let word = put_at(u64::from(game.reporter), REPORTER_LOW, word);
-    put_at(MARK, MARK_LOW, word)
+    put_at(LAYOUT_TAG, LAYOUT_TAG_LOW, word)
 }
 
 /// Returns the bits of the word from `low` on, as many as `width`.
@@ -104,7 +103,7 @@ pub(crate) fn field(word: u64, low: u32, width: u32) -> u64
 #[inline]
 pub fn number_of(word: u64) -> u16
     ensures value { result ≡ (record_at word).number }
-    ensures bound { result ≤ last_number }
+    ensures bound { result ≤ max_number }
 {
     field(word, 0, NUMBER_WIDTH) as u16
 }
@@ -122,10 +121,10 @@ pub(crate) fn state_in(word: u64) -> State
 }
 
 /// Returns whether the mark of the layout, and nothing else, stands above the fields.
-fn is_marked(word: u64) -> bool
-    ensures { IsTrue result ↔ IsMarked layout word }
+fn has_layout_tag(word: u64) -> bool
+    ensures { IsTrue result ↔ HasLayoutTag layout word }
 {
-    word >> FIELDS_END == MARK << (MARK_LOW - FIELDS_END)
+    word >> FIELDS_END == LAYOUT_TAG << (LAYOUT_TAG_LOW - FIELDS_END)
 }
 
 /// Reads the fields of a word, whatever they hold.
@@ -150,7 +149,7 @@ fn is_packed(word: u64, fields: &MatchRecord) -> bool
     requires { fields.now ≡ record_at word }
     ensures { IsTrue result ↔ HoldsRecord word }
 {
-    is_marked(word) && field(word, STATE_LOW, STATE_WIDTH) < 3 && fields.is_valid()
+    has_layout_tag(word) && field(word, STATE_LOW, STATE_WIDTH) < 3 && fields.is_valid()
 }
 
 /// Unpacks the valid record of a word.

@@ -1,13 +1,14 @@
 -- The clean double collect: loads of all words, twice, and anew where a word was another.
-use Rattle.ucl_words.proofs.Common.{◌≡◌, ◌≢◌, ℕ, ◌+◌, ◌<◌, ◌≤◌, List, ◌∷◌, ◌++◌, length, take, set, Option, Some, None, refl, sym, ap, ◌∙◌, subst, arith, le_refl, [], append_assoc, append-nil}
-use Rattle.ucl_words.proofs.Common.{length-append, get_or-set_same, slice_get, slice_index, take-append_seam, Entry, Reading, AreWords, greatest_version, version_of, board_of, reading_of}
-use Rattle.ucl_words.proofs.Common.{board_words, versions, AccessKind, Access, access, Follows, most_loads, IsCollect, IsUnclean, IsClean, accesses_of, ReadingAccesses, collect_none}
-use Rattle.ucl_words.proofs.Common.{collect_more, collect_set, unclean_try, clean_shows, reading_whole, Continues, SharedReading, View, pass_view_of, count_of, Walks, Collects}
-use Rattle.ucl_words.proofs.Common.{FindsAgain, FindsAnother, IsSteady, ReadingSteps}
+use Rattle.ucl_words.proofs.Common.{◌≡◌, ◌≢◌, ℕ, ◌+◌, ◌<◌, ◌≤◌, List, ◌∷◌, ◌++◌, length, take, set, Option, Some, None, refl, sym, ap, ◌∙◌, subst, arith, le_refl}
+use Rattle.ucl_words.proofs.Common.{[], append_assoc, append-nil, length-append, get_or-set_same, slice_get, slice_index, take-append_seam, Entry, Reading, AreWords}
+use Rattle.ucl_words.proofs.Common.{max_version, version_of, board_of, reading_of, board_words, versions, AccessKind, Access, access, Follows, max_loads, IsCollect}
+use Rattle.ucl_words.proofs.Common.{IsUnclean, IsClean, accesses_of, ReadingAccesses, collect_none, collect_more, collect_set, unclean_try, clean_shows}
+use Rattle.ucl_words.proofs.Common.{reading_whole, Continues, SharedReading, View, pass_view_of, count_of, Walks, Collects, FindsAgain, FindsAnother, IsConsistent}
+use Rattle.ucl_words.proofs.Common.{ReadingSteps}
 use Rattle.std.specs.List.{AllByRecursion}
 use Rattle.std.proofs.lemmas.Option.{none-some}
 use Rattle.ucl_word.proofs.Sequences.{at_either}
-use Rattle.ucl_steps.specs.Laws.{IsReadFrom}
+use Rattle.ucl_steps.specs.Theorems.{IsReadFrom}
 use Rattle.ucl_board.specs.Log.{Second}
 use Rattle.ucl_words.proofs.StepFacts.{LoadsMatch}
 use Rattle.ucl_words.proofs.StepRuns.{walks_none, walks_on, walks_load, walks_continue}
@@ -21,8 +22,9 @@ pub record Collected (kind : AccessKind) (v : View) (words : List ℕ) (count : 
   pub last : (m : Access) → slice_get accesses 11 ≡ Some m → m.at ≡ length w.seen
   pub shown : w.shown ≡ v.shown
 
-pub collected_none : (kind : AccessKind) (v : View) (words : List ℕ) → IsSteady v → Collected kind v words 0 v
-collected_none kind v words steady = record { accesses = []; walks = walks_none v steady; many = refl; words_are = collect_none kind words; last = λ m e. absurd (none-some m e); shown = refl }
+pub collected_none : (kind : AccessKind) (v : View) (words : List ℕ) → IsConsistent v → Collected kind v words 0 v
+collected_none kind v words consistent = record
+    { accesses = []; walks = walks_none v consistent; many = refl; words_are = collect_none kind words; last = λ m e. absurd (none-some m e); shown = refl }
 
 -- one load more
 module _ (kind : AccessKind) (v x w : View) (words : List ℕ) (i n : ℕ) (below : i < 12) (was : Collected kind v words i x) (loads : LoadsMatch kind (i + 1) x n w) where
@@ -30,7 +32,7 @@ module _ (kind : AccessKind) (v x w : View) (words : List ℕ) (i n : ℕ) (belo
   new_access = access kind (i + 1) n (length w.seen)
 
   pub more_walks : Walks v (was.accesses ++ new_access ∷ []) w
-  more_walks = walks_on v x w was.accesses (new_access ∷ []) was.walks (walks_load kind (i + 1) n x w was.walks.steady loads)
+  more_walks = walks_on v x w was.accesses (new_access ∷ []) was.walks (walks_load kind (i + 1) n x w was.walks.consistent loads)
 
   more_last : (m : Access) → slice_get (was.accesses ++ new_access ∷ []) 11 ≡ Some m → m.at ≡ length w.seen
   more_last m e = search (arith, at_either)
@@ -80,8 +82,8 @@ pub record Tried (v x : View) : Type 0 where
   pub unclean : AllByRecursion IsUnclean tries
   pub shown : x.shown ≡ v.shown
 
-pub tried_none : (v : View) → IsSteady v → Tried v v
-tried_none v steady = record { tries = []; walks = walks_none v steady; unclean = tt; shown = refl }
+pub tried_none : (v : View) → IsConsistent v → Tried v v
+tried_none v consistent = record { tries = []; walks = walks_none v consistent; unclean = tt; shown = refl }
 
 accesses_next : (tries : List (List Access)) (ms : List Access) → accesses_of (tries ++ ms ∷ []) ≡ accesses_of tries ++ ms
 accesses_next [] ms = append-nil ms
@@ -99,11 +101,11 @@ module _ (x u w : View) (words : List ℕ) (collects : Collects x words u) (anot
   is_unclean : IsUnclean (collects.accesses ++ another.accesses)
   is_unclean = search arith
 
-  pub tried_longer : (length x.seen < length w.seen) × (length w.seen ≤ greatest_version)
+  pub tried_longer : (length x.seen < length w.seen) × (length w.seen ≤ max_version)
   tried_longer = search (
     arith,
     unclean_try w.seen (length x.seen) (length w.seen) (collects.accesses ++ another.accesses) both_walks.leaves.follows is_unclean,
-    versions w.seen both_walks.steady.sound.legal,
+    versions w.seen both_walks.consistent.sound.legal,
     is_unclean,
   )
 
@@ -117,12 +119,12 @@ module _ (x u w : View) (words : List ℕ) (collects : Collects x words u) (anot
 
 -- a reading, as a whole
 pub record Reads (v : View) (reading : Reading) (w : View) : Type 0 where
-  pub steady : IsSteady w
+  pub consistent : IsConsistent w
   pub always : Continues (pass_view_of v) (pass_view_of w)
   pub shared : SharedReading (pass_view_of v) reading (pass_view_of w)
   pub steps : ReadingSteps v reading w
   pub least : count_of v + 24 ≤ count_of w
-  pub most : count_of w ≤ count_of v + most_loads
+  pub most : count_of w ≤ count_of v + max_loads
 
 -- what follows from a place on, follows from that of the first access on
 abbrev first_or : Access → Option Access → Access
@@ -148,16 +150,17 @@ module _ (x u w : View) (words : List ℕ) (long : length words ≡ 12) (collect
   front = let p = again.walks.on.seen in ap (take (length u.seen)) (sym p.1) ∙ take-append_seam u.seen p.0
 
   words_seen : words ≡ board_of u.seen
-  words_seen = (clean_shows w.seen (length x.seen) (length w.seen) clean_reading (collects.accesses ++ again.accesses) clean_walks.steady.sound.legal clean_walks.leaves.follows is_clean).board
+  words_seen = (clean_shows w.seen (length x.seen) (length w.seen) clean_reading
+      (collects.accesses ++ again.accesses) clean_walks.consistent.sound.legal clean_walks.leaves.follows is_clean).board
       ∙ ap board_of front
 
   pub are_words : AreWords words
-  are_words = subst AreWords (sym words_seen) (board_words u.seen collects.walks.steady.sound.legal)
+  are_words = subst AreWords (sym words_seen) (board_words u.seen collects.walks.consistent.sound.legal)
 
   version_seen : version_of words ≡ length u.seen
-  version_seen = ap version_of words_seen ∙ (versions u.seen collects.walks.steady.sound.legal).0
+  version_seen = ap version_of words_seen ∙ (versions u.seen collects.walks.consistent.sound.legal).0
 
-  module _ (v : View) (steady : IsSteady v) (tried : Tried v x) where
+  module _ (v : View) (consistent : IsConsistent v) (tried : Tried v x) where
     abbrev all_accesses : List Access
     all_accesses = accesses_of tried.tries ++ (collects.accesses ++ again.accesses)
 
@@ -169,7 +172,8 @@ module _ (x u w : View) (words : List ℕ) (long : length words ≡ 12) (collect
     reading_accesses = record { tries = tried.tries; last = collects.accesses ++ again.accesses; accesses = refl; unclean = tried.unclean; clean = is_clean }
 
     whole : IsReadFrom w.seen (length v.seen) (length w.seen) clean_reading all_accesses reading_accesses
-    whole = reading_whole w.seen (length v.seen) (length w.seen) clean_reading all_accesses all_walks.steady.sound.legal (le_refl (length w.seen)) all_walks.leaves.follows reading_accesses
+    whole = reading_whole w.seen (length v.seen) (length w.seen) clean_reading all_accesses all_walks.consistent.sound.legal
+        (le_refl (length w.seen)) all_walks.leaves.follows reading_accesses
 
     shown_clean : w.shown ≡ v.shown ++ length u.seen ∷ []
     shown_clean = again.shown ∙ (λ i. (collects.shown ∙ tried.shown) i ++ version_seen i ∷ [])
@@ -181,7 +185,7 @@ module _ (x u w : View) (words : List ℕ) (long : length words ≡ 12) (collect
         let bound = whole.bound.1 in
         let few = whole.bound.0 in
         record {
-          steady = all_walks.steady;
+          consistent = all_walks.consistent;
           always = walks_continue v w all_accesses all_walks;
           shared = search (arith, whole, all_walks, shown_clean);
           steps = record {
@@ -191,7 +195,8 @@ module _ (x u w : View) (words : List ℕ) (long : length words ≡ 12) (collect
             few = omega arith;
             meanwhile = λ first at.
                 let later = from_first w.seen (length v.seen) (length w.seen) all_accesses first all_walks.leaves.follows at in
-                let tries = (reading_whole w.seen first.at (length w.seen) clean_reading all_accesses all_walks.steady.sound.legal (le_refl (length w.seen)) later reading_accesses).tries in
+                let tries = (reading_whole w.seen first.at (length w.seen) clean_reading all_accesses all_walks.consistent.sound.legal
+                (le_refl (length w.seen)) later reading_accesses).tries in
                 omega arith;
           };
           least = omega arith;

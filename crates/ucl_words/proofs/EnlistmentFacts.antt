@@ -1,15 +1,15 @@
 -- What an enlistment and a meeting leave a pass with.
-use Rattle.ucl_words.proofs.Common.{◌≡◌, ◌≢◌, ℕ, ◌+◌, ◌<◌, ◌≤◌, ◌∷◌, ◌++◌, length, List, Some, None, inl, inr, refl, sym, ap, ◌∙◌, subst, arith, le_refl, append-nil, [], All-head, All-tail}
-use Rattle.ucl_words.proofs.Common.{IsPrefix, Access, Taken, step_taken, accesses_in, begins_same, begins_through, Follows, View, SeesOn, Continues, Enlistment}
-use Rattle.ucl_words.proofs.Common.{Meeting, pass_view_of, steps_of, count_of, trail_of, Takes, FoundEnlisted, IsOnEnlisted, EnlistSteps, MeetingSteps}
-use Rattle.ucl_words.proofs.Common.{all_more, takes_none, takes_on, takes_count, one_more, sound_kept, HasTrail, IsSteady, Enlisting, EnlistTries, KeepsTrail}
+use Rattle.ucl_words.proofs.Common.{◌≡◌, ◌≢◌, ℕ, ◌+◌, ◌<◌, ◌≤◌, ◌∷◌, ◌++◌, length, List, Some, None, inl, inr, refl, sym, ap, ◌∙◌, subst, arith, le_refl, append-nil}
+use Rattle.ucl_words.proofs.Common.{[], All-head, All-tail, IsPrefix, Access, Taken, step_taken, accesses_in, begins_same, begins_through, Follows, View, SeesOn}
+use Rattle.ucl_words.proofs.Common.{Continues, Enlistment, Meeting, pass_view_of, steps_of, count_of, trail_of, Takes, FoundEnlisted, IsOnEnlisted, EnlistSteps}
+use Rattle.ucl_words.proofs.Common.{MeetingSteps, all_more, takes_none, takes_on, takes_count, one_more, sound_kept, HasTrail, IsConsistent, Enlisting, EnlistTries}
+use Rattle.ucl_words.proofs.Common.{KeepsTrail, true, WordView, Steps, known, left_pass, second_pass, note_pass, told_pass, plain_step, map-append}
 use Rattle.ucl_live_board.proofs.Lists.{none_by_zero}
 use Rattle.ucl_live_board.proofs.Halves.{half_acts, half_not_whole}
-use Rattle.ucl_words.proofs.Common.{true, WordView, Steps, known, left_pass, second_pass, note_pass, told_pass, plain_step, map-append}
 use Rattle.ucl_board.specs.Log.{Enlisted}
 use Rattle.ucl_steps.specs.WordLog as words
 use Rattle.ucl_live_board.specs.CallSteps.{HasCopyOf}
-use Rattle.ucl_words.proofs.SharedRule.{enlisted_on}
+use Rattle.ucl_words.proofs.SharedInvariant.{enlisted_on}
 use Rattle.ucl_words.proofs.StepFacts.{LoadsEnlisted, EnlistWon, loads_enlisted, log_is}
 use Rattle.ucl_words.proofs.StepRuns.{trail_longer, takes_trail}
 
@@ -39,7 +39,7 @@ tries_full known n (x ∷ steps) t high = (t.0, t.1, t.2, inr (t.3, tries_full t
 
 -- exchanges of the enlist word that were all missed: it was last found to be n
 pub record Missed (v x : View) (n : ℕ) : Type 0 where
-  pub steady : IsSteady x
+  pub consistent : IsConsistent x
   pub on : SeesOn (pass_view_of v) (pass_view_of x)
   pub mine : x.mine ≡ v.mine
   pub number : x.number ≡ v.number
@@ -50,9 +50,9 @@ pub record Missed (v x : View) (n : ℕ) : Type 0 where
   pub trail : trail_of x ≡ trail_of v
   pub taken : count_of x ≤ count_of v + n
 
-pub missed_none : (v : View) → IsSteady v → Missed v v 0
-missed_none v steady = record {
-  steady = steady;
+pub missed_none : (v : View) → IsConsistent v → Missed v v 0
+missed_none v consistent = record {
+  consistent = consistent;
   on = record { seen = begins_same v.seen; listed = le_refl v.listed; share = refl };
   mine = refl;
   number = refl;
@@ -83,7 +83,7 @@ module _ (v x w : View) (n found : ℕ) (was : Missed v x n) where
         let next : Taken = step_taken (Enlisted found) (length w.seen) None in
         let goes = missed.sees.goes in
         record {
-          steady = search (arith, trail_kept, no_access);
+          consistent = search (arith, trail_kept, no_access);
           on = record { seen = begins_through v.seen x.seen w.seen was.on.seen goes.seen; listed = omega arith; share = goes.share ∙ was.on.share };
           mine = missed.sees.mine ∙ was.mine;
           number = missed.sees.number ∙ was.number;
@@ -97,14 +97,14 @@ module _ (v x w : View) (n found : ℕ) (was : Missed v x n) where
 
   -- one that was won
   module _ (below : n < 255) (same : found ≡ n) (won : EnlistWon x found w) where
-    pub won_steady : IsSteady w
-    won_steady = search (arith, trail_kept, no_access)
+    pub won_consistent : IsConsistent w
+    won_consistent = search (arith, trail_kept, no_access)
 
     pub won_enlists : Enlistment (pass_view_of v) (pass_view_of w)
-    won_enlists = search (arith, won_steady, begins_through)
+    won_enlists = search (arith, won_consistent, begins_through)
 
     pub won_trail : KeepsTrail v w
-    won_trail = search (arith, one_more, no_access, won_steady)
+    won_trail = search (arith, one_more, no_access, won_consistent)
 
     pub won_number : w.number ≡ n + 1
     won_number = won.enlists.number ∙ (won.listed ∙ ap (λ (k : ℕ). k + 1) same)
@@ -125,22 +125,22 @@ module _ (v : WordView) where
   second_steps_of : steps_of (known (second_pass v)) ≡ steps_of (known v)
   second_steps_of = append-nil (known (second_pass v)).copied ∙ second_copies
 
-  pub second_steady : IsSteady (known v) → IsSteady (known (second_pass v))
-  second_steady steady = record {
+  pub second_consistent : IsConsistent (known v) → IsConsistent (known (second_pass v))
+  second_consistent consistent = record {
     sound = record {
-      legal = steady.sound.legal;
-      own = sym (none_by_zero (known v).seen steady.sound.legal);
-      few = steady.sound.few;
-      acts = half_acts true v.share steady.sound.acts;
+      legal = consistent.sound.legal;
+      own = sym (none_by_zero (known v).seen consistent.sound.legal);
+      few = consistent.sound.few;
+      acts = half_acts true v.share consistent.sound.acts;
       alone = λ is. absurd (half_not_whole true v.share is);
     };
     told = refl;
-    trail = subst (λ (l : List Taken). Follows (known v).seen 0 (accesses_in l) (length (known v).seen)) (sym second_steps_of) steady.trail;
+    trail = subst (λ (l : List Taken). Follows (known v).seen 0 (accesses_in l) (length (known v).seen)) (sym second_steps_of) consistent.trail;
   }
 
   -- and the pass that it was split off
-  pub kept_steady : IsSteady (known v) → IsSteady (known (left_pass v))
-  kept_steady steady = record { sound = sound_kept (known v) steady.sound; told = steady.told; trail = steady.trail }
+  pub kept_consistent : IsConsistent (known v) → IsConsistent (known (left_pass v))
+  kept_consistent consistent = record { sound = sound_kept (known v) consistent.sound; told = consistent.told; trail = consistent.trail }
 
   pub second_steps : (count_of (known (second_pass v)) ≡ count_of (known v)) × (trail_of (known (second_pass v)) ≡ trail_of (known v))
   second_steps = (ap length second_steps_of, ap accesses_in second_steps_of)
@@ -149,7 +149,7 @@ module _ (v : WordView) where
   second_copy = (second_copies, refl)
 
 -- a note of a pass was joined to another, which then loaded the enlist word
-module _ (a v w : WordView) (seat n : ℕ) (steady : IsSteady (known v)) (s : Steps seat (words.Enlisted n) (told_pass v (note_pass a)) w) where
+module _ (a v w : WordView) (seat n : ℕ) (consistent : IsConsistent (known v)) (s : Steps seat (words.Enlisted n) (told_pass v (note_pass a)) w) where
   loads : LoadsEnlisted (known (told_pass v (note_pass a))) n (known w)
   loads = loads_enlisted seat n (told_pass v (note_pass a)) w s
 
@@ -171,18 +171,18 @@ module _ (a v w : WordView) (seat n : ℕ) (steady : IsSteady (known v)) (s : St
   met_trail_is : trail_of (known w) ≡ trail_of (known v)
   met_trail_is = no_access (known v) (known w) n met_takes
 
-  pub met_steady : IsSteady (known w)
-  met_steady =
+  pub met_consistent : IsConsistent (known w)
+  met_consistent =
       let goes = loads.sees.goes in
       record {
         sound = record { legal = goes.legal; own = goes.own; few = goes.few; acts = goes.acts; alone = goes.alone };
         told = goes.told;
-        trail = trail_kept (known v) (known w) steady.trail own_first met_trail_is;
+        trail = trail_kept (known v) (known w) consistent.trail own_first met_trail_is;
       }
 
   pub met_continues : Continues (pass_view_of (known v)) (pass_view_of (known w))
   met_continues = record {
-    sound = met_steady.sound;
+    sound = met_consistent.sound;
     on = record { seen = own_first; listed = listed_more; share = loads.sees.goes.share };
     number = loads.sees.number;
   }
@@ -199,5 +199,5 @@ module _ (a v w : WordView) (seat n : ℕ) (steady : IsSteady (known v)) (s : St
   met_trail = record {
     steps = record { steps = step_taken (Enlisted n) (length (known w).seen) None ∷ []; takes = met_takes; on_enlisted = ((n, (refl, refl)), tt) };
     trail = met_trail_is;
-    whole_trail = met_steady.trail;
+    whole_trail = met_consistent.trail;
   }

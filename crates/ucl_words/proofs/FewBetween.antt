@@ -1,13 +1,13 @@
 -- The steps of passes while no pass finishes a call.
-use Rattle.ucl_words.proofs.Common.{◌≡◌, ◌≢◌, ℕ, zero, suc, ◌+◌, ◌*◌, ◌<◌, ◌≤◌, ◌==◌, Bool, true, false, cond, List, ◌∷◌, ◌++◌, length, map, inl, inr, refl, sym, ap, ◌∙◌}
-use Rattle.ucl_words.proofs.Common.{subst, arith, [], All, filter, cases_lt, eqb-false, All-head, All-tail, All-cons, some, get_elem?, WordView, WordStep, SeatStep, WordLog}
-use Rattle.ucl_words.proofs.Common.{taken_at, doings_of, doings_at, IsWordLog, FollowsProtocol}
+use Rattle.ucl_words.proofs.Common.{◌≡◌, ◌≢◌, ℕ, zero, suc, ◌+◌, ◌*◌, ◌<◌, ◌≤◌, ◌==◌, Bool, true, false, cond, List, ◌∷◌, ◌++◌, length, map, inl, inr, refl, sym, ap}
+use Rattle.ucl_words.proofs.Common.{◌∙◌, subst, arith, [], All, filter, cases_lt, eqb-false, All-head, All-tail, All-cons, some, get_elem?, WordView, WordStep}
+use Rattle.ucl_words.proofs.Common.{SeatStep, WordLog, taken_at, client_of, client_at, IsWordLog, FollowsProtocol}
 use Rattle.std.proofs.lemmas.List.Sums.{sum_by-cons}
 use mathlib.Core.Bool.{not}
-use Rattle.ucl_steps.specs.LogFacts.{most_between, matches_in, on_match}
+use Rattle.ucl_steps.specs.LogFacts.{max_between, matches_in, on_match}
 use Rattle.ucl_steps.proofs.LogProgress.{some_finish, calls_grow}
 use Rattle.ucl_steps.proofs.LogSeats.{taken_none, below_more}
-use Rattle.ucl_words.specs.Laws.{SomeCallFinishes, calls_finished}
+use Rattle.ucl_words.specs.Theorems.{SomeCallFinishes, calls_finished}
 
 -- the steps of a seat, and those of others
 
@@ -72,18 +72,18 @@ later_part P (x ∷ xs) ys all = later_part P xs ys (All-tail P x (xs ++ ys) all
 -- finished calls, by seats: from one on, so many
 
 abbrev calls_at : ℕ → WordLog → ℕ
-calls_at seat log = length (doings_at seat log).calls
+calls_at seat log = length (client_at seat log).calls
 
 abbrev calls_from : ℕ → ℕ → WordLog → ℕ
 calls_from seat zero log = 0
 calls_from seat (suc n) log = calls_at seat log + calls_from (seat + 1) n log
 
-views_total : (log : WordLog) (views : List WordView) (from : ℕ) → ((j : ℕ) (v : WordView) → get_elem? views j ≡ some v → length (doings_of v.own).calls ≡ calls_at (from + j) log)
+views_total : (log : WordLog) (views : List WordView) (from : ℕ) → ((j : ℕ) (v : WordView) → get_elem? views j ≡ some v → length (client_of v.own).calls ≡ calls_at (from + j) log)
     → calls_finished views ≡ calls_from from (length views) log
 views_total log [] from each = refl
 views_total log (v ∷ views) from each =
     let first = each 0 v refl in
-    let sum = sum_by-cons (λ (u : WordView). length (doings_of u.own).calls) v views in
+    let sum = sum_by-cons (λ (u : WordView). length (client_of u.own).calls) v views in
     let rest = views_total log views (from + 1) (λ j u at. each (suc j) u at ∙ ap (λ (k : ℕ). calls_at k log) (omega arith)) in
     let here : calls_at (from + 0) log ≡ calls_at from log = ap (λ (k : ℕ). calls_at k log) (omega arith) in
     omega arith
@@ -132,7 +132,7 @@ from_none log (suc n) k from none = let more : suc n + k ≡ suc (n + k) = omega
     (λ (m : ℕ). calls_from from m log) more in let rest = from_none log n k (from + 1) (λ seat le. none seat (omega arith)) in omega arith
 
 calls_none : (n seat : ℕ) (log : WordLog) → n ≤ seat → All (λ (x : SeatStep). x.seat < n) log → calls_at seat log ≡ 0
-calls_none n seat log le all = ap (λ (l : List WordStep). length (doings_of l).calls) (taken_none seat log (below_more n seat log le all))
+calls_none n seat log le all = ap (λ (l : List WordStep). length (client_of l).calls) (taken_none seat log (below_more n seat log le all))
 
 turned : (n m : ℕ) → n + m ≡ m + n
 turned n m = omega arith
@@ -146,9 +146,9 @@ few_between s t r q since longer finished =
     let seated = subst (All (λ (x : SeatStep). x.seat < m)) longer q.seated in
     let rises : (seat : ℕ) → calls_at seat r.log ≤ calls_at seat (r.log ++ since) = calls_grow since r.log is follows in
     let was : calls_finished s.views ≡ calls_from 0 n r.log =
-    views_total r.log s.views 0 (λ j v at. ap (λ (l : List WordStep). length (doings_of l).calls) (r.fits j v at).own.1 ∙ ap (λ (k : ℕ). calls_at k r.log) (omega arith)) in
+    views_total r.log s.views 0 (λ j v at. ap (λ (l : List WordStep). length (client_of l).calls) (r.fits j v at).own.1 ∙ ap (λ (k : ℕ). calls_at k r.log) (omega arith)) in
     let are : calls_finished t.views ≡ calls_from 0 m (r.log ++ since) =
-    views_total (r.log ++ since) t.views 0 (λ j v at. ap (λ (l : List WordStep). length (doings_of l).calls) ((q.fits j v at).own.1 ∙ ap (taken_at j) longer)
+    views_total (r.log ++ since) t.views 0 (λ j v at. ap (λ (l : List WordStep). length (client_of l).calls) ((q.fits j v at).own.1 ∙ ap (taken_at j) longer)
     ∙ ap (λ (k : ℕ). calls_at k (r.log ++ since)) (omega arith)) in
     let low : calls_from 0 (n + m) r.log ≡ calls_from 0 n r.log = from_none r.log n m 0 (λ seat le. calls_none n seat r.log (omega arith) r.seated) in
     let high : calls_from 0 (m + n) (r.log ++ since) ≡ calls_from 0 m (r.log ++ since) = from_none (r.log ++ since) m n 0 (λ seat le. calls_none m seat (r.log ++ since) (omega arith) seated) in
@@ -160,4 +160,4 @@ few_between s t r q since longer finished =
       | inr more ↦ calls_none m seat (r.log ++ since) (omega arith) seated ∙ sym (calls_none n seat r.log (omega arith) r.seated)
     ] in
     let each = some_finish r.log since is follows same in
-    record { each = each; all = in_all m most_between since (later_part (λ (x : SeatStep). x.seat < m) r.log since seated) each }
+    record { each = each; all = in_all m max_between since (later_part (λ (x : SeatStep). x.seat < m) r.log since seated) each }

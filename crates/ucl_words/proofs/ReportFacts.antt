@@ -1,22 +1,24 @@
 -- What a report says: one load on whose word the rules refuse, or a load and an exchange.
-use Rattle.ucl_words.proofs.Common.{◌≡◌, ◌≢◌, inl, inr, ℕ, ◌+◌, ◌<◌, ◌≤◌, List, ◌∷◌, ◌++◌, length, refl, sym, ap, ◌∙◌, subst, arith, le_refl, append_assoc, length-append, []}
-use Rattle.ucl_words.proofs.Common.{Result, Ok, Err, IsOk, take-length, IsPrefix, MatchRecord, EventCall, Accepted, Refusal, Stale, refusal_of, after, reply_of, record_at}
-use Rattle.ucl_words.proofs.Common.{after_number, Entry, IsMatch, IsLegal, followed_by, entry_of, beginnings, word_after, game_after}
-use Rattle.ucl_words.proofs.Common.{accepted_reply, refused_reply, Access, access, Taken, step_taken, begins_length, begins_more, begins_same, begins_through, Follows}
-use Rattle.ucl_words.proofs.Common.{ReportAccesses, follows_longer, follows_wider, follows_append, follows_one, report_whole, Continues, AcceptedReport, RefusedReport, View, pass_view_of, trail_of}
-use Rattle.ucl_words.proofs.Common.{Takes, takes_on, takes_count, Walks, steps_with, HasTrail, IsSteady, ReportSteps}
+use Rattle.ucl_words.proofs.Common.{◌≡◌, ◌≢◌, inl, inr, ℕ, ◌+◌, ◌<◌, ◌≤◌, List, ◌∷◌, ◌++◌, length, refl, sym, ap, ◌∙◌, subst, arith, le_refl, append_assoc}
+use Rattle.ucl_words.proofs.Common.{length-append, [], Result, Ok, Err, IsOk, take-length, IsPrefix, MatchRecord, EventCall, Accepted, Refusal, Stale, refusal_of}
+use Rattle.ucl_words.proofs.Common.{after, reply_of, record_at, after_number, Entry, IsMatch, IsLegal, followed_by, entry_of, beginnings, word_after, game_after}
+use Rattle.ucl_words.proofs.Common.{accepted_reply, refused_reply, Access, access, Taken, step_taken, begins_length, begins_more, begins_same, begins_through}
+use Rattle.ucl_words.proofs.Common.{Follows, ReportAccesses, follows_longer, follows_wider, follows_append, follows_one, report_whole, Continues, AcceptedReport}
+use Rattle.ucl_words.proofs.Common.{RefusedReport, View, pass_view_of, trail_of, Takes, takes_on, takes_count, Walks, steps_with, HasTrail, IsConsistent}
+use Rattle.ucl_words.proofs.Common.{ReportSteps}
 use Rattle.std.specs.Prelude.{Some, None}
 use Rattle.ucl_board.specs.Log.{Look, Swap, Match}
 use Rattle.ucl_words.proofs.StepFacts.{Loads, ExchangeMissed, ExchangeWon}
 use Rattle.ucl_words.proofs.StepRuns.{trail_on, takes_trail, walks_on, walks_load}
 
 -- a load, for a report
-module _ (v u : View) (call : EventCall) (loaded : ℕ) (is : IsMatch call.game) (me : (0 < v.number) × (v.number ≤ 255)) (steady : IsSteady v) (looked : Loads Look call.game v loaded u) where
+module _ (v u : View) (call : EventCall) (loaded : ℕ) (is : IsMatch call.game) (me : (0 < v.number) × (v.number ≤ 255)) (consistent : IsConsistent v)
+    (looked : Loads Look call.game v loaded u) where
   abbrev look_access : Access
   look_access = access Look call.game loaded (length u.seen)
 
   pub look_walks : Walks v (look_access ∷ []) u
-  look_walks = walks_load Look call.game loaded v u steady looked.loads
+  look_walks = walks_load Look call.game loaded v u consistent looked.loads
 
   -- on whose word the rules refuse
   module _ (refusal : Refusal) (refused : refusal_of (record_at loaded) call.expected call.kind ≡ Some refusal) where
@@ -30,7 +32,7 @@ module _ (v u : View) (call : EventCall) (loaded : ℕ) (is : IsMatch call.game)
     look_refuses = search (
       arith,
       take-length u.seen,
-      report_whole u.seen (length v.seen) (length u.seen) (length u.seen) call (Err refusal) (look_access ∷ []) look_walks.steady.sound.legal look_walks.leaves.follows look_report,
+      report_whole u.seen (length v.seen) (length u.seen) (length u.seen) call (Err refusal) (look_access ∷ []) look_walks.consistent.sound.legal look_walks.leaves.follows look_report,
       look_report,
     )
 
@@ -45,7 +47,7 @@ module _ (v u : View) (call : EventCall) (loaded : ℕ) (is : IsMatch call.game)
       swap_access = access Swap call.game found (length z.seen)
 
       pub miss_walks : Walks v (look_access ∷ swap_access ∷ []) z
-      miss_walks = walks_on v u z (look_access ∷ []) (swap_access ∷ []) look_walks (walks_load Swap call.game found u z look_walks.steady missed.loads)
+      miss_walks = walks_on v u z (look_access ∷ []) (swap_access ∷ []) look_walks (walks_load Swap call.game found u z look_walks.consistent missed.loads)
 
       miss_report : (refusal : Refusal) → refusal ≡ Stale (record_at found).number → ReportAccesses call (Err refusal) (look_access ∷ swap_access ∷ []) (length z.seen)
       miss_report refusal stale = inr (record { looked = loaded; found = found; missed = record { at = length u.seen; accesses = refl; may = may }; other = other; answer = stale })
@@ -58,7 +60,7 @@ module _ (v u : View) (call : EventCall) (loaded : ℕ) (is : IsMatch call.game)
         arith,
         take-length z.seen,
         report_whole z.seen (length v.seen) (length z.seen) (length z.seen) call (Err refusal) (look_access ∷ swap_access ∷ [])
-            miss_walks.steady.sound.legal miss_walks.leaves.follows (miss_report refusal stale),
+            miss_walks.consistent.sound.legal miss_walks.leaves.follows (miss_report refusal stale),
         miss_report refusal stale,
       )
 
@@ -98,10 +100,10 @@ module _ (v u : View) (call : EventCall) (loaded : ℕ) (is : IsMatch call.game)
 
       won_whole : HasTrail z
       won_whole = subst (λ (t : List Access). Follows z.seen 0 t (length z.seen)) (sym won_trail)
-          (trail_on v.seen z.seen (trail_of v) (look_access ∷ won_access ∷ []) (begins_through v.seen won.before z.seen since begun) steady.trail won_follows)
+          (trail_on v.seen z.seen (trail_of v) (look_access ∷ won_access ∷ []) (begins_through v.seen won.before z.seen since begun) consistent.trail won_follows)
 
-      pub won_steady : IsSteady z
-      won_steady = search (arith, won_whole)
+      pub won_consistent : IsConsistent z
+      won_consistent = search (arith, won_whole)
 
       pub won_continues : Continues (pass_view_of v) (pass_view_of z)
       won_continues = search (arith, begins_through, since, begun)

@@ -1,12 +1,12 @@
 -- The second collect, load by load: what its pass knows, and what it has done.
-use Rattle.ucl_words.proofs.Common.{◌≡◌, ◌≢◌, ℕ, ◌+◌, ◌<◌, List, [], length, refl, slice_index, reading_of, Checking, Collecting, WordView, Steps}
-use Rattle.ucl_words.proofs.Common.{doings_of, known, FindsAgain, FindsAnother, Finishes, StaysIn}
+use Rattle.ucl_words.proofs.Common.{◌≡◌, ◌≢◌, ℕ, ◌+◌, ◌<◌, List, [], length, refl, slice_index, reading_of, Checking, Collecting, WordView, Steps, client_of, known}
+use Rattle.ucl_words.proofs.Common.{FindsAgain, FindsAnother, Finishes, StaysIn}
 use Rattle.ucl_board.specs.Log as plain
 use Rattle.ucl_steps.specs.declared.step.Call.TheVariants as calls
 use Rattle.ucl_steps.specs.declared.trace.Reply.TheVariants as replies
 use Rattle.ucl_steps.specs.WordLog.{Match, Second}
 use Rattle.ucl_words.proofs.CollectFacts.{Collected, collected_same, collected_other, finds_again}
-use Rattle.ucl_words.proofs.DoingFacts.{Seconds, second_loads, second_on, second_shown, second_last, last_shown, second_other, other_shown}
+use Rattle.ucl_words.proofs.ClientFacts.{Seconds, second_loads, second_on, second_shown, second_last, last_shown, second_other, other_shown}
 
 -- so many words were found again
 pub record Comparing (v : WordView) (words : List ℕ) (count : ℕ) (x : WordView) : Type 0 where
@@ -42,7 +42,7 @@ module _ (v x w : WordView) (words : List ℕ) (i n seat : ℕ) (below : i < 12)
     does = second_last v x w words point i seat n was.does s same eleven;
   }
 
-  pub found_another : n ≢ slice_index words i → (doings_of v.own).held ≡ Checking words 0 (length (known v).seen) → FoundAnother v words w
+  pub found_another : n ≢ slice_index words i → (client_of v.own).held ≡ Checking words 0 (length (known v).seen) → FoundAnother v words w
   found_another other held = record {
     compared = collected_other plain.Second (known v) (known x) (known w) words i n below was.collected (second_loads v x w words point i seat n was.does s) other refl
         (other_shown v x w words point i seat n was.does s other);

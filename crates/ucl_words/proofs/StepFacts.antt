@@ -1,11 +1,11 @@
 -- What a step of the table tells of what its pass knows.
-use Rattle.ucl_words.proofs.Common.{◌≡◌, ℕ, ◌+◌, ◌<◌, ◌≤◌, ◌==◌, Bool, true, cond, List, ◌∷◌, ◌++◌, length, map, Option, Some, None, refl, sym, ap, ◌∙◌, subst, arith}
-use Rattle.ucl_words.proofs.Common.{[], append-nil, length-append, map-append, eq-eqb, ne_eqb, All, All-head, All-tail, IsSome, IsPrefix}
-use Rattle.ucl_words.proofs.Common.{begins_through, at_map, Entry, EventCall, entry_of, match_after, match_valid, IsWord}
-use Rattle.ucl_words.proofs.Common.{Reply, Held, Holding, Outcome, GoesOn, WordView, WordStep, step_by, WordLog, WordTarget, Act, taken_at, history_in}
-use Rattle.ucl_words.proofs.Common.{entries_added, enlisted_by, enlists, IsFoundThere, IsWordLog, MayComeNext, IsProtocols, FollowsProtocol, Doings, FinishedCall}
-use Rattle.ucl_words.proofs.Common.{doings_of, doings_at, nothing_yet, outcome, with_outcome, with_target, with_step, call_answered, entry_by, words_after}
-use Rattle.ucl_words.proofs.Common.{known, plain_step, plain_target, kind_of, version_in, versions_by, Steps, View, Takes, pass_view_of}
+use Rattle.ucl_words.proofs.Common.{◌≡◌, ℕ, ◌+◌, ◌<◌, ◌≤◌, ◌==◌, Bool, true, cond, List, ◌∷◌, ◌++◌, length, map, Option, Some, None, refl, sym, ap, ◌∙◌, subst}
+use Rattle.ucl_words.proofs.Common.{arith, [], append-nil, length-append, map-append, eq-eqb, ne_eqb, All, All-head, All-tail, IsSome, IsPrefix, begins_through}
+use Rattle.ucl_words.proofs.Common.{at_map, Entry, EventCall, entry_of, match_after, match_valid, IsWord, Reply, Pending, Holding, Outcome, GoesOn, WordView}
+use Rattle.ucl_words.proofs.Common.{WordStep, step_by, WordLog, WordTarget, Act, taken_at, history_in, entries_added, enlisted_by, enlists, IsFoundThere, IsWordLog}
+use Rattle.ucl_words.proofs.Common.{MayComeNext, IsNextOfProtocol, FollowsProtocol, ClientState, FinishedCall, client_of, client_at, new_client, outcome}
+use Rattle.ucl_words.proofs.Common.{with_outcome, with_target, with_step, call_answered, entry_by, words_after, known, plain_step, plain_target, kind_of, version_in}
+use Rattle.ucl_words.proofs.Common.{versions_by, Steps, View, Takes, pass_view_of}
 use Rattle.std.specs.List.{flat_map}
 use Rattle.std.specs.Prelude.{not}
 use Rattle.std.proofs.lemmas.List.Sums.{fold-append}
@@ -25,7 +25,7 @@ use Rattle.ucl_live_board.specs.Steps as live
 use Rattle.ucl_live_board.specs.Steps.{Goes, Sees, Adds}
 use Rattle.ucl_live_board.proofs.Alone.{whole_is_alone}
 use Rattle.ucl_live_board.proofs.Lists.{none_by_zero}
-use Rattle.ucl_words.proofs.SharedRule.{history_on, enlisted_on, told_on, plain_on, plain_there, shared_rule}
+use Rattle.ucl_words.proofs.SharedInvariant.{history_on, enlisted_on, told_on, plain_on, plain_there, shared_rule}
 
 -- a load of the word of a match, or an exchange of it that was missed
 pub record LoadsMatch (kind : AccessKind) (game : ℕ) (v : View) (n : ℕ) (w : View) : Type 0 where
@@ -86,7 +86,7 @@ module _ (seat : ℕ) (target : WordTarget) (v w : WordView) (s : Steps seat tar
   is_log = subst IsWordLog (sym log_is) (may_next MayComeNext s.before (step_by seat s.step) s.is_log s.may)
 
   pub follows : FollowsProtocol w.log
-  follows = subst FollowsProtocol (sym log_is) (may_next IsProtocols s.before (step_by seat s.step) s.protocol s.next)
+  follows = subst FollowsProtocol (sym log_is) (may_next IsNextOfProtocol s.before (step_by seat s.step) s.protocol s.next)
 
   pub own_taken : w.own ≡ taken_at seat w.log
   own_taken = own_is ∙ (ap (λ (l : List WordStep). l ++ s.step ∷ []) s.own
@@ -94,8 +94,8 @@ module _ (seat : ℕ) (target : WordTarget) (v w : WordView) (s : Steps seat tar
       ∙ ap (taken_at seat) (sym log_is)))
 
   -- what the pass has done
-  pub doings_is : doings_of w.own ≡ with_target target s.step (doings_of v.own)
-  doings_is = ap doings_of own_is ∙ (fold-append with_step nothing_yet v.own (s.step ∷ []) ∙ ap (λ (t : WordTarget). with_target t s.step (doings_of v.own)) s.of)
+  pub client_is : client_of w.own ≡ with_target target s.step (client_of v.own)
+  client_is = ap client_of own_is ∙ (fold-append with_step new_client v.own (s.step ∷ []) ∙ ap (λ (t : WordTarget). with_target t s.step (client_of v.own)) s.of)
 
   history_is : history_in w.log ≡ history_in s.before ++ entry_list s.step.entry
   history_is = ap history_in log_is ∙ history_more s.before (step_by seat s.step)
@@ -103,17 +103,17 @@ module _ (seat : ℕ) (target : WordTarget) (v w : WordView) (s : Steps seat tar
   facts : LogFacts w.log
   facts = logs_facts w.log is_log follows
 
-  mine_is : entries_added w.own ≡ entries_by (doings_of w.own).number (history_in w.log)
-  mine_is = ap entries_added own_taken ∙ (facts.mine seat ∙ (λ i. entries_by (doings_of (sym own_taken i)).number (history_in w.log)))
+  mine_is : entries_added w.own ≡ entries_by (client_of w.own).number (history_in w.log)
+  mine_is = ap entries_added own_taken ∙ (facts.mine seat ∙ (λ i. entries_by (client_of (sym own_taken i)).number (history_in w.log)))
 
   -- alone with the whole board
   alone : w.share ≡ whole → IsAlone (pass_view_of (known w))
   alone is =
-      let r = shared_rule s.stands.state s.stands.rule in
-      let here = at_map known s.stands.state.views seat w s.stands.here in
+      let r = shared_rule s.occurs.state s.occurs.rule in
+      let here = at_map known s.occurs.state.views seat w s.occurs.here in
       let fits = r.fits seat (known w) here in
-      let did = whole_is_alone words_after s.stands.state.words (map known s.stands.state.views) r seat (known w) here is in
-      let seen = all_seen (doings_of w.own).number (history_in w.log) _ fits.seen (sym mine_is ∙ did.mine) in
+      let did = whole_is_alone words_after s.occurs.state.words (map known s.occurs.state.views) r seat (known w) here is in
+      let seen = all_seen (client_of w.own).number (history_in w.log) _ fits.seen (sym mine_is ∙ did.mine) in
       let listed = fits.listed in
       let number = did.number in
       let one = did.one in
@@ -169,7 +169,7 @@ module _ (seat : ℕ) (target : WordTarget) (v w : WordView) (s : Steps seat tar
       there = there_plain;
       takes = takes_plain;
       mine = mine_same;
-      number = ap (λ (d : Doings). d.number) doings_is ∙ number_kept target s.step (doings_of v.own) plain_one;
+      number = ap (λ (d : ClientState). d.number) client_is ∙ number_kept target s.step (client_of v.own) plain_one;
     }
 
 -- what readings show, by what comes of a step
@@ -177,7 +177,7 @@ module _ (seat : ℕ) (target : WordTarget) (v w : WordView) (s : Steps seat tar
 abbrev pub shown_of : ℕ → FinishedCall → List ℕ
 shown_of number c = cond (c.number == number) (version_in c.reply) []
 
-pub shows_answer : (d : Doings) (x : WordStep) (reply : Reply) → versions_by (with_outcome (Rattle.ucl_steps.specs.Protocol.Answers reply) x d) ≡ versions_by d ++ version_in reply
+pub shows_answer : (d : ClientState) (x : WordStep) (reply : Reply) → versions_by (with_outcome (Rattle.ucl_steps.specs.Protocol.Answers reply) x d) ≡ versions_by d ++ version_in reply
 shows_answer d x reply =
     flat_map-append (shown_of d.number) d.calls (call_answered reply x d ∷ [])
     ∙ ap (λ (l : List ℕ). versions_by d ++ l) (append-nil (shown_of d.number (call_answered reply x d)) ∙ ap (λ (b : Bool). cond b (version_in reply) []) (eq-eqb d.number d.number refl))
@@ -194,24 +194,24 @@ pub loads_match : (seat game n : ℕ) (act : Act) (v w : WordView) (s : Steps se
 loads_match seat game n act v w s none = record { sees = sees seat (Match act game n) v w s none refl; listed = enlisted_on v.log w.log (since seat (Match act game n) v w s) }
 
 -- an exchange that was won
-module _ (seat game old new : ℕ) (e : EventCall) (v w : WordView) (s : Steps seat (Match Swap game old) v w) (held : (doings_of v.own).held ≡ Holding e old new) (of : game ≡ e.game) where
+module _ (seat game old new : ℕ) (e : EventCall) (v w : WordView) (s : Steps seat (Match Swap game old) v w) (held : (client_of v.own).held ≡ Holding e old new) (of : game ≡ e.game) where
   abbrev number : ℕ
-  number = (doings_of v.own).number
+  number = (client_of v.own).number
 
   abbrev made : Entry
-  made = entry_of (doings_of v.own).number e
+  made = entry_of (client_of v.own).number e
 
   abbrev swapped : WordTarget
   swapped = Match Swap game old
 
   pub won_entry : s.step.entry ≡ Some made
-  won_entry = s.next.entry ∙ ((λ i. entry_by (doings_of (sym s.own i)).number (doings_of (sym s.own i)).held (s.of i))
-      ∙ (ap (λ (h : Held). entry_by number h (Match Swap game old)) held ∙ ap (λ (b : Bool). cond b (Some made) None) (eq-eqb old old refl)))
+  won_entry = s.next.entry ∙ ((λ i. entry_by (client_of (sym s.own i)).number (client_of (sym s.own i)).held (s.of i))
+      ∙ (ap (λ (h : Pending). entry_by number h (Match Swap game old)) held ∙ ap (λ (b : Bool). cond b (Some made) None) (eq-eqb old old refl)))
 
   won_history : history_in w.log ≡ history_in s.before ++ made ∷ []
   won_history = history_is seat swapped v w s ∙ ap (λ (o : Option Entry). history_in s.before ++ entry_list o) won_entry
 
-  pub exchange_won : versions_by (doings_of w.own) ≡ versions_by (doings_of v.own) → ExchangeWon made (known v) old (known w)
+  pub exchange_won : versions_by (client_of w.own) ≡ versions_by (client_of v.own) → ExchangeWon made (known v) old (known w)
   exchange_won shown = record {
     before = history_in s.before;
     listed = enlisted_on v.log w.log (since seat swapped v w s);
@@ -224,7 +224,7 @@ module _ (seat game old new : ℕ) (e : EventCall) (v w : WordView) (s : Steps s
           ((λ i. step_taken (plain_target (s.of i)) (s.may.place.1 i) (won_entry i)) ∙ ap (λ (g : ℕ). step_taken (plain.Match plain.Swap g old) (length (history_in s.before)) (Some made)) of)
           (takes seat swapped v w s);
       mine = ap entries_added (own_is seat swapped v w s) ∙ (added_more v.own s.step ∙ ap (λ (o : Option Entry). entries_added v.own ++ entry_list o) won_entry);
-      number = ap (λ (d : Doings). d.number) (doings_is seat swapped v w s) ∙ number_kept swapped s.step (doings_of v.own) refl;
+      number = ap (λ (d : ClientState). d.number) (client_is seat swapped v w s) ∙ number_kept swapped s.step (client_of v.own) refl;
       shown = shown;
     };
   }
@@ -233,8 +233,8 @@ module _ (seat game old new : ℕ) (e : EventCall) (v w : WordView) (s : Steps s
 
 pub loads_enlisted : (seat n : ℕ) (v w : WordView) → Steps seat (Enlisted n) v w → LoadsEnlisted (known v) n (known w)
 loads_enlisted seat n v w s =
-    let none : s.step.entry ≡ None = s.next.entry ∙ (ap (entry_by (doings_at seat s.before).number (doings_at seat s.before).held) s.of
-    ∙ count_none (doings_at seat s.before).held (doings_at seat s.before).number n) in
+    let none : s.step.entry ≡ None = s.next.entry ∙ (ap (entry_by (client_at seat s.before).number (client_at seat s.before).held) s.of
+    ∙ count_none (client_at seat s.before).held (client_at seat s.before).number n) in
     let found : n ≡ enlisted_by s.before = subst (IsFoundThere s.before) s.of s.may.there in
     let count : enlisted_by w.log ≡ n = ap enlisted_by (log_is seat (Enlisted n) v w s) ∙ (enlisted_more s.before (step_by seat s.step)
     ∙ (ap (λ (t : WordTarget). enlisted_by s.before + length (enlists t)) s.of ∙ (let f = found in omega arith))) in
@@ -243,35 +243,35 @@ loads_enlisted seat n v w s =
       sees = sees seat (Enlisted n) v w s none refl;
       above = omega arith;
       listed = count;
-      shown = ap versions_by (doings_is seat (Enlisted n) v w s ∙ held_stays (doings_of v.own).held refl);
+      shown = ap versions_by (client_is seat (Enlisted n) v w s ∙ held_stays (client_of v.own).held refl);
     }
   where
-    held_stays : (h : Held) → (doings_of v.own).held ≡ h → with_target (Enlisted n) s.step (doings_of v.own) ≡ with_outcome (GoesOn (doings_of v.own).held) s.step (doings_of v.own)
-    held_stays h is = ap (λ (o : Outcome). with_outcome o s.step (doings_of v.own)) (stays (doings_of v.own).held)
+    held_stays : (h : Pending) → (client_of v.own).held ≡ h → with_target (Enlisted n) s.step (client_of v.own) ≡ with_outcome (GoesOn (client_of v.own).held) s.step (client_of v.own)
+    held_stays h is = ap (λ (o : Outcome). with_outcome o s.step (client_of v.own)) (stays (client_of v.own).held)
       where
-        stays : (k : Held) → outcome (doings_of v.own).number k (Enlisted n) s.step.at ≡ GoesOn k
+        stays : (k : Pending) → outcome (client_of v.own).number k (Enlisted n) s.step.at ≡ GoesOn k
         stays k = search arith
 
 pub enlist_won : (seat n : ℕ) (v w : WordView) → Steps seat (Enlists n) v w → EnlistWon (known v) n (known w)
 enlist_won seat n v w s =
-    let d = doings_of v.own in
+    let d = client_of v.own in
     let target = Enlists n in
-    let none : s.step.entry ≡ None = s.next.entry ∙ (ap (entry_by (doings_at seat s.before).number (doings_at seat s.before).held) s.of
-    ∙ enlist_none (doings_at seat s.before).held (doings_at seat s.before).number n) in
+    let none : s.step.entry ≡ None = s.next.entry ∙ (ap (entry_by (client_at seat s.before).number (client_at seat s.before).held) s.of
+    ∙ enlist_none (client_at seat s.before).held (client_at seat s.before).number n) in
     let found : n ≡ enlisted_by s.before = (subst (IsFoundThere s.before) s.of s.may.there).0 in
     let count : enlisted_by w.log ≡ n + 1 = ap enlisted_by (log_is seat target v w s) ∙ (enlisted_more s.before (step_by seat s.step)
     ∙ (ap (λ (t : WordTarget). enlisted_by s.before + length (enlists t)) s.of ∙ (let f = found in omega arith))) in
     let low = enlisted_on v.log s.before s.since in
-    let own : d ≡ doings_at seat s.before = ap doings_of s.own in
-    let reader : d.number ≡ 0 = ap (λ (z : Doings). z.number) own ∙ (subst (Rattle.ucl_steps.specs.Doings.IsNextFor (doings_at seat s.before)) s.of s.next.next).1 in
+    let own : d ≡ client_at seat s.before = ap client_of s.own in
+    let reader : d.number ≡ 0 = ap (λ (z : ClientState). z.number) own ∙ (subst (Rattle.ucl_steps.specs.ClientState.IsNextFor (client_at seat s.before)) s.of s.next.next).1 in
     let facts = logs_facts s.before s.is_log s.protocol in
     let legal = (holds_all s.before s.is_log s.protocol).legal in
     let nothing : entries_added v.own ≡ [] = ap entries_added s.own
-    ∙ (facts.mine seat ∙ (ap (λ (k : ℕ). entries_by k (history_in s.before)) (ap (λ (z : Doings). z.number) (sym own) ∙ reader)
+    ∙ (facts.mine seat ∙ (ap (λ (k : ℕ). entries_by k (history_in s.before)) (ap (λ (z : ClientState). z.number) (sym own) ∙ reader)
     ∙ none_by_zero (history_in s.before) legal)) in
     let calls : All (λ (c : FinishedCall). c.number ≤ d.number) d.calls = subst
-    (λ (z : Doings). All (λ (c : FinishedCall). c.number ≤ z.number) z.calls) (sym own) (calls_low s.before s.is_log s.protocol seat) in
-    let is = doings_is seat target v w s in
+    (λ (z : ClientState). All (λ (c : FinishedCall). c.number ≤ z.number) z.calls) (sym own) (calls_low s.before s.is_log s.protocol seat) in
+    let is = client_is seat target v w s in
     record {
       above = omega arith;
       listed = count;
@@ -279,7 +279,7 @@ enlist_won seat n v w s =
         goes = goes seat target v w s;
         takes = takes_plain seat target v w s none;
         above = omega arith;
-        number = ap (λ (z : Doings). z.number) is ∙ sym count;
+        number = ap (λ (z : ClientState). z.number) is ∙ sym count;
         next = count;
         mine = mine_same seat target v w s none ∙ nothing;
         shown = ap versions_by is ∙ none_shown (n + 1) d.calls (λ k c at. let l = calls k c at in omega arith);

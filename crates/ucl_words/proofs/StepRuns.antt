@@ -1,8 +1,8 @@
 -- Steps on match words, one after another.
-use Rattle.ucl_words.proofs.Common.{◌≡◌, ℕ, ◌+◌, List, ◌∷◌, ◌++◌, length, map, None, refl, sym, ap, ◌∙◌, arith, le_refl, append_assoc, append-nil, length-append, [], map-append, IsPrefix}
-use Rattle.ucl_words.proofs.Common.{Entry, AccessKind, Access, access, Taken, step_taken, accesses_in, begins_length, begins_same}
-use Rattle.ucl_words.proofs.Common.{begins_through, Follows, follows_longer, follows_wider, follows_append, follows_one, View, Continues, pass_view_of, count_of, trail_of, Takes, takes_none}
-use Rattle.ucl_words.proofs.Common.{takes_on, takes_count, Walks, steps_with, IsSteady}
+use Rattle.ucl_words.proofs.Common.{◌≡◌, ℕ, ◌+◌, List, ◌∷◌, ◌++◌, length, map, None, refl, sym, ap, ◌∙◌, arith, le_refl, append_assoc, append-nil, length-append, []}
+use Rattle.ucl_words.proofs.Common.{map-append, IsPrefix, Entry, AccessKind, Access, access, Taken, step_taken, accesses_in, begins_length, begins_same}
+use Rattle.ucl_words.proofs.Common.{begins_through, Follows, follows_longer, follows_wider, follows_append, follows_one, View, Continues, pass_view_of, count_of}
+use Rattle.ucl_words.proofs.Common.{trail_of, Takes, takes_none, takes_on, takes_count, Walks, steps_with, IsConsistent}
 use Rattle.ucl_board.specs.Log.{Match}
 use Rattle.ucl_board.proofs.Logs.{accesses_append}
 use Rattle.ucl_words.proofs.StepFacts.{LoadsMatch}
@@ -31,8 +31,8 @@ all_plain (m ∷ n ∷ ms) = ap (λ (l : List Taken). plain m ∷ l) (all_plain 
 pub plain_append : (ms ns : List Access) → steps_with None (ms ++ ns) ≡ steps_with None ms ++ steps_with None ns
 plain_append ms ns = all_plain (ms ++ ns) ∙ (map-append plain ms ns ∙ sym (λ i. all_plain ms i ++ all_plain ns i))
 
-pub walks_none : (v : View) → IsSteady v → Walks v [] v
-walks_none v steady = search (arith, begins_same, le_refl, takes_none, append-nil)
+pub walks_none : (v : View) → IsConsistent v → Walks v [] v
+walks_none v consistent = search (arith, begins_same, le_refl, takes_none, append-nil)
 
 pub walks_on : (u v w : View) (ms ns : List Access) → Walks u ms v → Walks v ns w → Walks u (ms ++ ns) w
 walks_on u v w ms ns a b =
@@ -46,9 +46,24 @@ module _ (kind : AccessKind) (game n : ℕ) (v w : View) (l : LoadsMatch kind ga
   pub load_taken : count_of w ≡ count_of v + 1
   load_taken = takes_count v w (step_taken (Match kind game n) (length w.seen) None ∷ []) l.sees.takes
 
-pub walks_load : (kind : AccessKind) (game n : ℕ) (v w : View) → IsSteady v → LoadsMatch kind game v n w → Walks v (access kind game n (length w.seen) ∷ []) w
-walks_load kind game n v w steady l =
-    search (arith, load_trail kind game n v w l, follows_one, begins_length, trail_on, load_taken, w.seen, l.sees.goes, v.seen, l.sees.there.1, steady.trail, l.sees.mine, l.sees.number, l.sees.takes)
+pub walks_load : (kind : AccessKind) (game n : ℕ) (v w : View) → IsConsistent v → LoadsMatch kind game v n w → Walks v (access kind game n (length w.seen) ∷ []) w
+walks_load kind game n v w consistent l =
+    search (
+      arith,
+      load_trail kind game n v w l,
+      follows_one,
+      begins_length,
+      trail_on,
+      load_taken,
+      w.seen,
+      l.sees.goes,
+      v.seen,
+      l.sees.there.1,
+      consistent.trail,
+      l.sees.mine,
+      l.sees.number,
+      l.sees.takes,
+    )
 
 pub walks_continue : (v w : View) (ms : List Access) → Walks v ms w → Continues (pass_view_of v) (pass_view_of w)
-walks_continue v w ms walk = record { sound = walk.steady.sound; on = walk.on; number = walk.number }
+walks_continue v w ms walk = record { sound = walk.consistent.sound; on = walk.on; number = walk.number }

@@ -1,9 +1,8 @@
--- The rule of the table is kept, whatever a step is: by a step, a split, a note and a hearing.
-use Rattle.ucl_words.proofs.Common.{◌≡◌, ◌≢◌, inl, inr, ℕ, zero, suc, ◌<◌, Bool, true, false, cond, List, ◌∷◌, ◌++◌, length, set}
-use Rattle.ucl_words.proofs.Common.{None, refl, sym, ap, ◌∙◌, subst, arith, [], length-append, length-set, All, All-cons, All-nil, All-append}
-use Rattle.ucl_words.proofs.Common.{IsPrefix, begins_same, begins_through, some, get_elem?, State, Entry, WordView, WordStep, SeatStep, step_by, WordLog}
-use Rattle.ucl_words.proofs.Common.{taken_at, history_in, enlisted_by, MayComeNext, IsProtocols, FitsLog, TableKeepsOneHistory, stepped_to, words_after}
-use Rattle.ucl_words.proofs.Common.{new_pass, first_pass, left_pass, second_pass, note_pass, told_pass}
+-- The invariant of the table is kept, whatever a step is: by a step, a split, a note and a hearing.
+use Rattle.ucl_words.proofs.Common.{◌≡◌, ◌≢◌, inl, inr, ℕ, zero, suc, ◌<◌, Bool, true, false, cond, List, ◌∷◌, ◌++◌, length, set, None, refl, sym, ap, ◌∙◌, subst}
+use Rattle.ucl_words.proofs.Common.{arith, [], length-append, length-set, All, All-cons, All-nil, All-append, IsPrefix, begins_same, begins_through, some, get_elem?}
+use Rattle.ucl_words.proofs.Common.{State, Entry, WordView, WordStep, SeatStep, step_by, WordLog, taken_at, history_in, enlisted_by, MayComeNext, IsNextOfProtocol}
+use Rattle.ucl_words.proofs.Common.{WordViewInvariant, TableInvariant, stepped_to, words_after, new_pass, first_pass, left_pass, second_pass, note_pass, told_pass}
 use Rattle.std.specs.Prelude.{nat_lt}
 use Rattle.std.proofs.lemmas.Bool.{ltb-true}
 use mathlib.Core.Option.{some-injective, some-ne-none}
@@ -68,7 +67,7 @@ module _ (views : List WordView) (seat : ℕ) (v : WordView) (here : get_elem? v
 
 -- passes that fit
 
-fits_more : (log : WordLog) (x : SeatStep) (seat : ℕ) (v : WordView) → x.seat ≢ seat → FitsLog log seat v → FitsLog (log ++ x ∷ []) seat v
+fits_more : (log : WordLog) (x : SeatStep) (seat : ℕ) (v : WordView) → x.seat ≢ seat → WordViewInvariant log seat v → WordViewInvariant (log ++ x ∷ []) seat v
 fits_more log x seat v not f = record {
   knows = begins_through v.log log (log ++ x ∷ []) f.knows (x ∷ [], refl);
   told = λ k d l. begins_through _ log (log ++ x ∷ []) (f.told k d l) (x ∷ [], refl);
@@ -76,7 +75,7 @@ fits_more log x seat v not f = record {
   idle = f.idle;
 }
 
-fits_stepped : (log : WordLog) (seat : ℕ) (x : WordStep) (v : WordView) → v.share ≢ None → FitsLog log seat v → FitsLog (log ++ step_by seat x ∷ []) seat
+fits_stepped : (log : WordLog) (seat : ℕ) (x : WordStep) (v : WordView) → v.share ≢ None → WordViewInvariant log seat v → WordViewInvariant (log ++ step_by seat x ∷ []) seat
     (stepped_to log seat x v)
 fits_stepped log seat x v acts f =
     let own : v.own ++ x ∷ [] ≡ taken_at seat (log ++ step_by seat x ∷ []) = ap (λ (l : List WordStep). l ++ x ∷ []) f.own.1 ∙ sym (taken_own seat log x) in
@@ -92,8 +91,8 @@ nothing_before [] ys e = refl
 nothing_before (x ∷ xs) ys e = absurd cc
 
 -- one pass more, which took no step
-fits_last : (log : WordLog) (n : ℕ) (v : WordView) (w : WordView) (seat : ℕ) → All (λ (x : SeatStep). x.seat < n) log → FitsLog log seat v → w.log ≡ v.log
-    → w.told ≡ [] → w.own ≡ [] → FitsLog log n w
+fits_last : (log : WordLog) (n : ℕ) (v : WordView) (w : WordView) (seat : ℕ) → All (λ (x : SeatStep). x.seat < n) log → WordViewInvariant log seat v → w.log ≡ v.log
+    → w.told ≡ [] → w.own ≡ [] → WordViewInvariant log n w
 fits_last log n v w seat all f same told own =
     let knows : IsPrefix w.log log = subst (λ (l : WordLog). IsPrefix l log) (sym same) f.knows in
     let none : taken_at n log ≡ [] = taken_none n log all in
@@ -106,7 +105,7 @@ fits_last log n v w seat all f same told own =
     }
 
 fits_kept : (log : WordLog) (seat : ℕ) (v u : WordView) → u.log ≡ v.log → u.told ≡ v.told → u.own ≡ v.own → (u.share ≡ None → v.share ≡ None)
-    → FitsLog log seat v → FitsLog log seat u
+    → WordViewInvariant log seat v → WordViewInvariant log seat u
 fits_kept log seat v u log_is told own share f = record {
   knows = subst (λ (l : WordLog). IsPrefix l log) (sym log_is) f.knows;
   told = subst (All (λ (l : WordLog). IsPrefix l log)) (sym told) f.told;
@@ -115,7 +114,7 @@ fits_kept log seat v u log_is told own share f = record {
 }
 
 -- the longer of two beginnings has all own steps
-fits_told : (log : WordLog) (seat : ℕ) (v note : WordView) → FitsLog log seat v → IsPrefix note.log log → FitsLog log seat (told_pass v note)
+fits_told : (log : WordLog) (seat : ℕ) (v note : WordView) → WordViewInvariant log seat v → IsPrefix note.log log → WordViewInvariant log seat (told_pass v note)
 fits_told log seat v note f theirs = record {
   knows = by_length (nat_lt (length v.log) (length note.log));
   told = All-cons (λ (l : WordLog). IsPrefix l log) v.log (note.log ∷ v.told) f.knows
@@ -134,15 +133,15 @@ fits_told log seat v note f theirs = record {
         f.own.1 ∙ sym (between seat v.log note.log log (shorter v.log note.log log f.knows theirs (omega (arith, less))) theirs (sym f.own.0 ∙ f.own.1))
     own_by false is = f.own.0
 
-fits_spent : (log : WordLog) (seat : ℕ) → taken_at seat log ≡ [] → FitsLog log seat new_pass
+fits_spent : (log : WordLog) (seat : ℕ) → taken_at seat log ≡ [] → WordViewInvariant log seat new_pass
 fits_spent log seat none = record { knows = (log, refl); told = All-nil (λ (l : WordLog). IsPrefix l log); own = (refl, sym none); idle = λ _. refl }
 
--- the rule
+-- the invariant
 
-module _ (s : Position) (r : TableKeepsOneHistory s) (seat : ℕ) (v : WordView) (here : get_elem? s.views seat ≡ some v) where
-  pub rule_steps : (after : List ℕ) (x : WordStep) → v.share ≢ None → MayComeNext r.log (step_by seat x) → IsProtocols r.log (step_by seat x)
+module _ (s : Position) (r : TableInvariant s) (seat : ℕ) (v : WordView) (here : get_elem? s.views seat ≡ some v) where
+  pub rule_steps : (after : List ℕ) (x : WordStep) → v.share ≢ None → MayComeNext r.log (step_by seat x) → IsNextOfProtocol r.log (step_by seat x)
       → after ≡ words_after (history_in (r.log ++ step_by seat x ∷ [])) (enlisted_by (r.log ++ step_by seat x ∷ []))
-      → TableKeepsOneHistory (record { words = after; homes = s.homes; views = set s.views seat (stepped_to r.log seat x v) })
+      → TableInvariant (record { words = after; homes = s.homes; views = set s.views seat (stepped_to r.log seat x v) })
   rule_steps after x acts may next are =
       let w = stepped_to r.log seat x v in
       let below = place_below s.views seat v here in
@@ -150,14 +149,14 @@ module _ (s : Position) (r : TableKeepsOneHistory s) (seat : ℕ) (v : WordView)
       record {
         log = r.log ++ step_by seat x ∷ [];
         is_log = may_next MayComeNext r.log (step_by seat x) r.is_log may;
-        protocol = may_next IsProtocols r.log (step_by seat x) r.protocol next;
+        protocol = may_next IsNextOfProtocol r.log (step_by seat x) r.protocol next;
         words_are = are;
         seated = below_more (length s.views) (length (set s.views seat w)) (r.log ++ step_by seat x ∷ []) (omega arith)
             (All-append (λ (y : SeatStep). y.seat < length s.views) r.log (step_by seat x ∷ []) r.seated
             (All-cons (λ (y : SeatStep). y.seat < length s.views) (step_by seat x) [] below (All-nil (λ (y : SeatStep). y.seat < length s.views))));
         fits = λ j u at. elim (at_set s.views seat j w u at) [
-          | inl t ↦ subst (λ (k : ℕ). FitsLog (r.log ++ step_by seat x ∷ []) k u) (sym t.0)
-              (subst (FitsLog (r.log ++ step_by seat x ∷ []) seat) t.1 (fits_stepped r.log seat x v acts (r.fits seat v here)))
+          | inl t ↦ subst (λ (k : ℕ). WordViewInvariant (r.log ++ step_by seat x ∷ []) k u) (sym t.0)
+              (subst (WordViewInvariant (r.log ++ step_by seat x ∷ []) seat) t.1 (fits_stepped r.log seat x v acts (r.fits seat v here)))
           | inr t ↦ fits_more r.log (step_by seat x) j u (λ e. t.0 (sym e)) (r.fits j u t.1)
         ];
         shared = apart_kept s.views seat v here r.shared w refl;
@@ -165,7 +164,7 @@ module _ (s : Position) (r : TableKeepsOneHistory s) (seat : ℕ) (v : WordView)
 
   rule_splits : (u w : WordView) → u.log ≡ v.log → u.told ≡ v.told → u.own ≡ v.own
       → (u.share ≡ None → v.share ≡ None) → w.log ≡ v.log → w.told ≡ [] → w.own ≡ [] → ApartShares (set s.views seat u ++ w ∷ [])
-      → TableKeepsOneHistory (record { words = s.words; homes = s.homes; views = set s.views seat u ++ w ∷ [] })
+      → TableInvariant (record { words = s.words; homes = s.homes; views = set s.views seat u ++ w ∷ [] })
   rule_splits u w log_is told own share log_w told_w own_w apart =
       let long = length-append (set s.views seat u) (w ∷ []) in
       let same = length-set s.views seat u in
@@ -177,25 +176,25 @@ module _ (s : Position) (r : TableKeepsOneHistory s) (seat : ℕ) (v : WordView)
         seated = below_more (length s.views) (length (set s.views seat u ++ w ∷ [])) r.log (omega arith) r.seated;
         fits = λ j y at. elim (at_last (set s.views seat u) w y j at) [
           | inl t ↦ elim (at_set s.views seat j u y t) [
-            | inl e ↦ subst (λ (k : ℕ). FitsLog r.log k y) (sym e.0)
-                (subst (FitsLog r.log seat) e.1 (fits_kept r.log seat v u log_is told own share (r.fits seat v here)))
+            | inl e ↦ subst (λ (k : ℕ). WordViewInvariant r.log k y) (sym e.0)
+                (subst (WordViewInvariant r.log seat) e.1 (fits_kept r.log seat v u log_is told own share (r.fits seat v here)))
             | inr e ↦ r.fits j y e.1
           ]
-          | inr t ↦ subst (λ (k : ℕ). FitsLog r.log k y) (sym (t.0 ∙ same))
-              (subst (FitsLog r.log (length s.views)) t.1 (fits_last r.log (length s.views) v w seat r.seated (r.fits seat v here) log_w told_w own_w))
+          | inr t ↦ subst (λ (k : ℕ). WordViewInvariant r.log k y) (sym (t.0 ∙ same))
+              (subst (WordViewInvariant r.log (length s.views)) t.1 (fits_last r.log (length s.views) v w seat r.seated (r.fits seat v here) log_w told_w own_w))
         ];
         shared = apart;
       }
 
-  pub seconds_keep : TableKeepsOneHistory (record { words = s.words; homes = s.homes; views = set s.views seat (left_pass v) ++ second_pass v ∷ [] })
+  pub seconds_keep : TableInvariant (record { words = s.words; homes = s.homes; views = set s.views seat (left_pass v) ++ second_pass v ∷ [] })
   seconds_keep = rule_splits (left_pass v) (second_pass v) refl refl refl (half_none false v.share) refl refl refl (apart_split s.views seat v here r.shared)
 
-  pub notes_keep : TableKeepsOneHistory (record { words = s.words; homes = s.homes; views = set s.views seat v ++ note_pass v ∷ [] })
+  pub notes_keep : TableInvariant (record { words = s.words; homes = s.homes; views = set s.views seat v ++ note_pass v ∷ [] })
   notes_keep = rule_splits v (note_pass v) refl refl refl (λ e. e) refl refl refl
       (apart_last (set s.views seat v) (note_pass v) (λ j u at over. over) (apart_kept s.views seat v here r.shared v refl))
 
   pub hears_keep : (other : ℕ) (note : WordView) → get_elem? s.views other ≡ some note → other ≢ seat → note.share ≡ None
-      → TableKeepsOneHistory (record { words = s.words; homes = s.homes; views = set (set s.views seat (told_pass v note)) other new_pass })
+      → TableInvariant (record { words = s.words; homes = s.homes; views = set (set s.views seat (told_pass v note)) other new_pass })
   hears_keep other note there apart none =
       let f = r.fits other note there in
       let empty : taken_at other r.log ≡ [] = sym f.own.1 ∙ f.idle none in
@@ -209,20 +208,20 @@ module _ (s : Position) (r : TableKeepsOneHistory s) (seat : ℕ) (v : WordView)
         words_are = r.words_are;
         seated = below_more (length s.views) (length (set (set s.views seat told) other new_pass)) r.log (omega arith) r.seated;
         fits = λ j y at. elim (at_set (set s.views seat told) other j new_pass y at) [
-          | inl e ↦ subst (λ (k : ℕ). FitsLog r.log k y) (sym e.0) (subst (FitsLog r.log other) e.1 (fits_spent r.log other empty))
+          | inl e ↦ subst (λ (k : ℕ). WordViewInvariant r.log k y) (sym e.0) (subst (WordViewInvariant r.log other) e.1 (fits_spent r.log other empty))
           | inr e ↦ elim (at_set s.views seat j told y e.1) [
-            | inl t ↦ subst (λ (k : ℕ). FitsLog r.log k y) (sym t.0) (subst (FitsLog r.log seat) t.1 (fits_told r.log seat v note (r.fits seat v here) f.knows))
+            | inl t ↦ subst (λ (k : ℕ). WordViewInvariant r.log k y) (sym t.0) (subst (WordViewInvariant r.log seat) t.1 (fits_told r.log seat v note (r.fits seat v here) f.knows))
             | inr t ↦ r.fits j y t.1
           ]
         ];
         shared = apart_set (set s.views seat told) other new_pass (λ j u not at over. over) (apart_kept s.views seat v here r.shared told refl);
       }
 
-pub opens_keep : (s : Position) → s.views ≡ first_pass ∷ [] → s.words ≡ words_after [] 0 → TableKeepsOneHistory s
+pub opens_keep : (s : Position) → s.views ≡ first_pass ∷ [] → s.words ≡ words_after [] 0 → TableInvariant s
 opens_keep s one are = record {
   log = [];
   is_log = may_none MayComeNext;
-  protocol = may_none IsProtocols;
+  protocol = may_none IsNextOfProtocol;
   words_are = are;
   seated = All-nil (λ (x : SeatStep). x.seat < length s.views);
   fits = λ seat v at. fits seat v (ap (λ (l : List WordView). get_elem? l seat) (sym one) ∙ at);
@@ -230,8 +229,8 @@ opens_keep s one are = record {
       ∙ sym (only j w (ap (λ (l : List WordView). get_elem? l j) (sym one) ∙ bt));
 }
   where
-    fits : (seat : ℕ) (v : WordView) → get_elem? (first_pass ∷ []) seat ≡ some v → FitsLog [] seat v
-    fits zero v e = subst (FitsLog [] 0) (some-injective first_pass v e)
+    fits : (seat : ℕ) (v : WordView) → get_elem? (first_pass ∷ []) seat ≡ some v → WordViewInvariant [] seat v
+    fits zero v e = subst (WordViewInvariant [] 0) (some-injective first_pass v e)
         (record { knows = ([], refl); told = All-nil (λ (l : WordLog). IsPrefix l []); own = (refl, refl); idle = λ _. refl })
     fits (suc seat) v e = absurd (some-ne-none v (sym e))
 

@@ -1,16 +1,15 @@
 -- What a split, a meeting and an enlistment say of their passes, in one record.
-use Rattle.ucl_words.proofs.Common.{◌≡◌, ℕ, ◌<◌, ◌≤◌, sym, ap, subst, arith}
+use Rattle.ucl_words.proofs.Common.{◌≡◌, ℕ, ◌<◌, ◌≤◌, sym, ap, subst, arith, View, pass_view_of, count_of, trail_of, takes_count, IsConsistent, client_of}
+use Rattle.ucl_words.proofs.Common.{DoneAsBefore, Steps, WordView, WordPass, known, left_pass, second_pass, note_pass, told_pass, Occurs, OccurAfterSplit}
 use Rattle.ucl_live_board.specs.Passes.{IsSound}
-use Rattle.ucl_words.proofs.Common.{View, pass_view_of, count_of, trail_of, takes_count, IsSteady, doings_of, DoneAsBefore, Steps}
-use Rattle.ucl_words.proofs.Common.{WordView, WordPass, known, left_pass, second_pass, note_pass, told_pass, Stands, StandAfterSplit}
 use Rattle.ucl_steps.specs.WordLog.{Enlisted}
 use Rattle.ucl_live_board.specs.CallSteps.{HasCopyOf}
 use Rattle.ucl_words.specs.WordRecords.{WordSplit, WordEnlisted, WordFull, WordMet}
-use Rattle.ucl_words.proofs.KeptRule.{split_stands}
+use Rattle.ucl_words.proofs.InvariantIsKept.{split_occurs}
 use Rattle.ucl_words.proofs.StepFacts.{EnlistWon}
-use Rattle.ucl_words.proofs.DoingFacts.{counted_does}
-use Rattle.ucl_words.proofs.EnlistmentFacts.{Missed, missed_tries, won_enlists, won_trail, won_tries, second_steps, second_copy}
-use Rattle.ucl_words.proofs.EnlistmentFacts.{met_steps, met_continues, met_says, met_trail}
+use Rattle.ucl_words.proofs.ClientFacts.{counted_does}
+use Rattle.ucl_words.proofs.EnlistmentFacts.{Missed, missed_tries, won_enlists, won_trail, won_tries, second_steps, second_copy, met_steps, met_continues, met_says}
+use Rattle.ucl_words.proofs.EnlistmentFacts.{met_trail}
 
 pub was_split : (k m n : WordPass) → IsSound (pass_view_of (known k.pass)) → m.board ≡ k.board → n.board ≡ k.board → m.seat ≡ k.seat
     → m.pass ≡ left_pass k.pass → n.pass ≡ second_pass k.pass → WordSplit k m n
@@ -23,39 +22,39 @@ was_split k m n sound own other seat left given = record {
     given = ap (λ (u : WordView). pass_view_of (known u)) given;
   };
   kept = left;
-  does = record { calls = ap (λ (u : WordView). (doings_of u.own).calls) left; held = ap (λ (u : WordView). (doings_of u.own).held) left };
+  does = record { calls = ap (λ (u : WordView). (client_of u.own).calls) left; held = ap (λ (u : WordView). (client_of u.own).held) left };
   steps = subst (λ (u : WordView). (count_of (known u) ≡ count_of (known k.pass)) × (trail_of (known u) ≡ trail_of (known k.pass))) (sym given) (second_steps k.pass);
   copy = subst (λ (u : WordView). HasCopyOf (known u) (known k.pass)) (sym given) (second_copy k.pass);
   nothing = ap (λ (u : WordView). u.own) given;
-  stands = subst (λ (u : WordView). StandAfterSplit k.pass u n.pass) (sym left)
-      (subst (λ (u : WordView). StandAfterSplit k.pass (left_pass k.pass) u) (sym given) (split_stands k.pass));
+  occurs = subst (λ (u : WordView). OccurAfterSplit k.pass u n.pass) (sym left)
+      (subst (λ (u : WordView). OccurAfterSplit k.pass (left_pass k.pass) u) (sym given) (split_occurs k.pass));
 }
 
 -- a note of the pass a was joined to k, which then loaded the enlist word
 pub was_met : (a b k m : WordPass) (n : ℕ) → b ≡ a → m.board ≡ k.board → m.seat ≡ k.seat → IsSound (pass_view_of (known a.pass))
-    → IsSteady (known k.pass) → Steps m.seat (Enlisted n) (told_pass k.pass (note_pass a.pass)) m.pass → WordMet a b k m
-was_met a b k m n same own seat sound steady s =
-    let steps = met_steps a.pass k.pass m.pass m.seat n steady s in
+    → IsConsistent (known k.pass) → Steps m.seat (Enlisted n) (told_pass k.pass (note_pass a.pass)) m.pass → WordMet a b k m
+was_met a b k m n same own seat sound consistent s =
+    let steps = met_steps a.pass k.pass m.pass m.seat n consistent s in
     let done = counted_does m.seat n (told_pass k.pass (note_pass a.pass)) m.pass s in
     record {
       own = (ap (λ (p : WordPass). p.board) same, own);
       seat = seat;
       says = record {
         sound = sound;
-        always = met_continues a.pass k.pass m.pass m.seat n steady s;
+        always = met_continues a.pass k.pass m.pass m.seat n consistent s;
         unchanged = ap (λ (p : WordPass). pass_view_of (known p.pass)) same;
-        meeting = met_says a.pass k.pass m.pass m.seat n steady s;
+        meeting = met_says a.pass k.pass m.pass m.seat n consistent s;
       };
       unchanged = same;
-      trail = met_trail a.pass k.pass m.pass m.seat n steady s;
+      trail = met_trail a.pass k.pass m.pass m.seat n consistent s;
       does = record { calls = done.calls; held = done.held };
       steps = steps;
       taken = takes_count (known k.pass) (known m.pass) _ steps.takes;
-      stands = s.stands;
+      occurs = s.occurs;
     }
 
 -- exchanges of the enlist word were missed, the last of which found n
-module _ (k m : WordPass) (own : m.board ≡ k.board) (seat : m.seat ≡ k.seat) (does : DoneAsBefore k.pass m.pass) (stands : Stands m.seat m.pass) where
+module _ (k m : WordPass) (own : m.board ≡ k.board) (seat : m.seat ≡ k.seat) (does : DoneAsBefore k.pass m.pass) (occurs : Occurs m.seat m.pass) where
   -- the next one was won
   pub was_enlisted : (x : View) (n found : ℕ) → Missed (known k.pass) x n → n < 255 → found ≡ n → EnlistWon x found (known m.pass) → WordEnlisted k m
   was_enlisted x n found was less same won =
@@ -69,25 +68,25 @@ module _ (k m : WordPass) (own : m.board ≡ k.board) (seat : m.seat ≡ k.seat)
         tries = won_tries (known k.pass) x (known m.pass) n found was less same won;
         does = does;
         most = omega arith;
-        stands = stands;
+        occurs = occurs;
       }
 
   -- there was no room for another
   pub was_full : (n : ℕ) → Missed (known k.pass) (known m.pass) n → n ≤ 255 → 255 ≤ n → WordFull k m
   was_full n was few many =
       let low = was.known in
-      let room = was.steady.sound.few in
+      let room = was.consistent.sound.few in
       let taken = was.taken in
       record {
         own = own;
         seat = seat;
         says = record {
-          always = record { sound = was.steady.sound; on = was.on; number = was.number };
+          always = record { sound = was.consistent.sound; on = was.on; number = was.number };
           full = record { listed = omega arith; mine = was.mine; shown = was.shown };
         };
-        trail = record { steps = was.steps; trail = was.trail; whole_trail = was.steady.trail };
+        trail = record { steps = was.steps; trail = was.trail; whole_trail = was.consistent.trail };
         tries = missed_tries (known k.pass) (known m.pass) n was many;
         does = does;
         most = omega arith;
-        stands = stands;
+        occurs = occurs;
       }

@@ -1,8 +1,8 @@
 -- A report as a whole, by each way in which it ends.
-use Rattle.ucl_words.proofs.Common.{◌≡◌, ◌≢◌, ℕ, ◌<◌, ◌≤◌, ◌==◌, Bool, true, false, List, length, refl, sym, ap, ◌∙◌, subst, arith, eq-eqb, ne_eqb, Result, Ok, Err, IfOk, IfErr}
-use Rattle.ucl_words.proofs.Common.{EventCall, Accepted, Refusal, Stale, refusal_of, after, reply_of, record_at, word_of, IsWord, word_packed, IsMatch, Access, report_reply}
-use Rattle.ucl_words.proofs.Common.{Continues, AcceptedReport, RefusedReport, pass_view_of, WordView, WordPass, known, Steps, doings_of, Held, Nothing, Holding}
-use Rattle.ucl_words.proofs.Common.{IsSteady, ReportSteps, AnswersCall, StaysIn, IsHoldingFor}
+use Rattle.ucl_words.proofs.Common.{◌≡◌, ◌≢◌, ℕ, ◌<◌, ◌≤◌, ◌==◌, Bool, true, false, List, length, refl, sym, ap, ◌∙◌, subst, arith, eq-eqb, ne_eqb, Result, Ok, Err}
+use Rattle.ucl_words.proofs.Common.{IfOk, IfErr, EventCall, Accepted, Refusal, Stale, refusal_of, after, reply_of, record_at, word_of, IsWord, word_packed, IsMatch}
+use Rattle.ucl_words.proofs.Common.{Access, report_reply, Continues, AcceptedReport, RefusedReport, pass_view_of, WordView, WordPass, known, Steps, client_of}
+use Rattle.ucl_words.proofs.Common.{Pending, NoCall, Holding, IsConsistent, ReportSteps, CompletesCall, StaysIn, IsHoldingFor}
 use Rattle.std.specs.Prelude.{Some, None}
 use Rattle.ucl_steps.specs.declared.step.Call.TheVariants as calls
 use Rattle.ucl_steps.specs.declared.trace.Reply.TheVariants as replies
@@ -10,22 +10,22 @@ use Rattle.ucl_steps.specs.WordLog.{Match, Look, Swap}
 use Rattle.ucl_steps.specs.Trails.{ReportAccesses}
 use Rattle.ucl_words.specs.WordRecords.{WordReported}
 use Rattle.ucl_words.proofs.StepRuns.{walks_continue}
-use Rattle.ucl_words.proofs.ReportFacts.{look_walks, look_steps, look_refuses, miss_walks, miss_steps, miss_refuses, won_steady, won_continues, won_steps}
+use Rattle.ucl_words.proofs.ReportFacts.{look_walks, look_steps, look_refuses, miss_walks, miss_steps, miss_refuses, won_consistent, won_continues, won_steps}
 use Rattle.ucl_words.proofs.ReportFacts.{won_accepts, accepts_by, me_in}
-use Rattle.ucl_words.proofs.DoingFacts.{look_refused, look_answers, look_holds, look_accepted, swap_finishes, swap_missed, swap_won, stays_answered}
+use Rattle.ucl_words.proofs.ClientFacts.{look_refused, look_answers, look_holds, look_accepted, swap_finishes, swap_missed, swap_won, stays_answered}
 
 -- what a report says
 pub record Reported (v : WordView) (call : EventCall) (reply : Result Accepted Refusal) (w : WordView) : Type 0 where
-  pub steady : IsSteady (known w)
+  pub consistent : IsConsistent (known w)
   pub always : Continues (pass_view_of (known v)) (pass_view_of (known w))
   pub accepted : IfOk reply (λ r. AcceptedReport (pass_view_of (known v)) call r (pass_view_of (known w)))
   pub refused : IfErr reply (λ r. RefusedReport (pass_view_of (known v)) call r (pass_view_of (known w)))
   pub steps : ReportSteps (known v) call reply (known w)
-  pub answers : AnswersCall v (calls.Event call) (report_reply reply) w
+  pub answers : CompletesCall v (calls.Event call) (report_reply reply) w
 
 module _ (v u : WordView) (call : EventCall) (reporter loaded seat : ℕ) (game : IsMatch call.game) (me : (0 < reporter) × (reporter ≤ 255) ×
-    ((known v).number ≡ reporter)) (steady : IsSteady (known v))
-    (nothing : (doings_of v.own).held ≡ Nothing) (s : Steps seat (Match (Look call) call.game loaded) v u) where
+    ((known v).number ≡ reporter)) (consistent : IsConsistent (known v))
+    (nothing : (client_of v.own).held ≡ NoCall) (s : Steps seat (Match (Look call) call.game loaded) v u) where
   abbrev mine : (0 < (known v).number) × ((known v).number ≤ 255)
   mine = me_in (known v) reporter me
 
@@ -33,34 +33,34 @@ module _ (v u : WordView) (call : EventCall) (reporter loaded seat : ℕ) (game 
   pub refused_report : (refusal : Refusal) → refusal_of (record_at loaded) call.expected call.kind ≡ Some refusal → Reported v call (Err refusal) u
   refused_report refusal refused =
       let looks = look_refused seat loaded call v u s nothing refusal refused in
-      let walks = look_walks (known v) (known u) call loaded game mine steady looks in
+      let walks = look_walks (known v) (known u) call loaded game mine consistent looks in
       record {
-        steady = walks.steady;
+        consistent = walks.consistent;
         always = walks_continue (known v) (known u) _ walks;
         accepted = tt;
-        refused = look_refuses (known v) (known u) call loaded game mine steady looks refusal refused;
-        steps = look_steps (known v) (known u) call loaded game mine steady looks refusal refused;
+        refused = look_refuses (known v) (known u) call loaded game mine consistent looks refusal refused;
+        steps = look_steps (known v) (known u) call loaded game mine consistent looks refusal refused;
         answers = look_answers seat loaded call v u s nothing refusal refused;
       }
 
   -- they accept
   module _ (accepts : refusal_of (record_at loaded) call.expected call.kind ≡ None) (next : ℕ) (valid : IsWord next) (next_is : record_at next ≡ after (record_at loaded) reporter call.kind) where
-    abbrev next_held : Held
-    next_held = Holding call loaded (word_of (after (record_at loaded) (doings_of v.own).number call.kind))
+    abbrev next_held : Pending
+    next_held = Holding call loaded (word_of (after (record_at loaded) (client_of v.own).number call.kind))
 
     stays : StaysIn v next_held u
     stays = look_holds seat loaded call v u s nothing accepts
 
-    word_is : word_of (after (record_at loaded) (doings_of v.own).number call.kind) ≡ next
+    word_is : word_of (after (record_at loaded) (client_of v.own).number call.kind) ≡ next
     word_is = ap (λ (k : ℕ). word_of (after (record_at loaded) k call.kind)) me.2 ∙ (ap word_of (sym next_is) ∙ word_packed next valid)
 
-    pub held_then : (doings_of u.own).held ≡ Holding call loaded next
+    pub held_then : (client_of u.own).held ≡ Holding call loaded next
     held_then = stays.held_is ∙ ap (λ (k : ℕ). Holding call loaded k) word_is
 
-    pub holding_for : IsHoldingFor (doings_of u.own).held call.game loaded next
+    pub holding_for : IsHoldingFor (client_of u.own).held call.game loaded next
     holding_for = record { e = call; holds = held_then; of = refl }
 
-    number_kept : (doings_of u.own).number ≡ (doings_of v.own).number
+    number_kept : (client_of u.own).number ≡ (client_of v.own).number
     number_kept = (look_accepted seat loaded call v u s nothing accepts).loads.sees.number
 
     accepted_as : (number : ℕ) → number ≡ (record_at next).number → reply_of (record_at loaded) call ≡ Ok (record { number = number })
@@ -69,8 +69,9 @@ module _ (v u : WordView) (call : EventCall) (reporter loaded seat : ℕ) (game 
     -- and an exchange was made
     module _ (z : WordView) (found place : ℕ) (t : Steps place (Match Swap call.game found) u z) where
       answered_as : (reply : Result Accepted Refusal) (b : Bool) → (found == loaded) ≡ b
-          → report_reply reply ≡ Rattle.ucl_words.proofs.DoingFacts.reply_by place call.game found loaded next call u z t held_then refl b → AnswersCall v (calls.Event call) (report_reply reply) z
-      answered_as reply b is same = subst (λ (r : Rattle.ucl_steps.specs.declared.trace.Reply.Reply). AnswersCall v (calls.Event call) r z) (sym same)
+          → report_reply reply ≡ Rattle.ucl_words.proofs.ClientFacts.reply_by place call.game found loaded next call u z t held_then refl b →
+          CompletesCall v (calls.Event call) (report_reply reply) z
+      answered_as reply b is same = subst (λ (r : Rattle.ucl_steps.specs.declared.trace.Reply.Reply). CompletesCall v (calls.Event call) r z) (sym same)
           (stays_answered v u z next_held (calls.Event call) _ nothing number_kept stays (swap_finishes place call.game found loaded next call u z t held_then refl b is))
 
       pub accepted_report : found ≡ loaded → (number : ℕ) → number ≡ (record_at next).number → Reported v call (Ok (record { number = number })) z
@@ -81,11 +82,11 @@ module _ (v u : WordView) (call : EventCall) (reporter loaded seat : ℕ) (game 
           let stored = subst (λ (k : ℕ). Rattle.ucl_words.proofs.StepFacts.ExchangeWon (Rattle.ucl_board.specs.History.entry_of k call) (known u) found (known z)) number_kept
           (swap_won place call.game found loaded next call u z t held_then refl same) in
           record {
-            steady = won_steady (known v) (known u) call loaded game mine steady looks reply ok (known z) found same stored;
-            always = won_continues (known v) (known u) call loaded game mine steady looks reply ok (known z) found same stored;
-            accepted = won_accepts (known v) (known u) call loaded game mine steady looks reply ok (known z) found same stored;
+            consistent = won_consistent (known v) (known u) call loaded game mine consistent looks reply ok (known z) found same stored;
+            always = won_continues (known v) (known u) call loaded game mine consistent looks reply ok (known z) found same stored;
+            accepted = won_accepts (known v) (known u) call loaded game mine consistent looks reply ok (known z) found same stored;
             refused = tt;
-            steps = won_steps (known v) (known u) call loaded game mine steady looks reply ok (known z) found same stored;
+            steps = won_steps (known v) (known u) call loaded game mine consistent looks reply ok (known z) found same stored;
             answers = answered_as (Ok reply) true (eq-eqb found loaded same) (λ i. replies.Accepted (record { number = is i }));
           }
 
@@ -96,13 +97,13 @@ module _ (v u : WordView) (call : EventCall) (reporter loaded seat : ℕ) (game 
           let stale = ap (λ (n : ℕ). Stale n) is in
           let looks = look_accepted seat loaded call v u s nothing accepts in
           let lost = swap_missed place call.game found loaded next call u z t held_then refl other in
-          let walks = miss_walks (known v) (known u) call loaded game mine steady looks reply ok (known z) found other lost in
+          let walks = miss_walks (known v) (known u) call loaded game mine consistent looks reply ok (known z) found other lost in
           record {
-            steady = walks.steady;
+            consistent = walks.consistent;
             always = walks_continue (known v) (known z) _ walks;
             accepted = tt;
-            refused = miss_refuses (known v) (known u) call loaded game mine steady looks reply ok (known z) found other lost (Stale number) stale;
-            steps = miss_steps (known v) (known u) call loaded game mine steady looks reply ok (known z) found other lost (Stale number) stale;
+            refused = miss_refuses (known v) (known u) call loaded game mine consistent looks reply ok (known z) found other lost (Stale number) stale;
+            steps = miss_steps (known v) (known u) call loaded game mine consistent looks reply ok (known z) found other lost (Stale number) stale;
             answers = answered_as (Err (Stale number)) false (ne_eqb found loaded other) (ap (λ (n : ℕ). replies.Refused (Stale n)) is);
           }
 
@@ -111,8 +112,8 @@ report_few : (call : EventCall) (reply : Result Accepted Refusal) (ms : List Acc
 report_few call reply ms now r = search arith
 
 module _ (k m : WordPass) (call : EventCall) (reply : Result Accepted Refusal) (r : Reported k.pass call reply m.pass) where
-  pub was_reported : m.board ≡ k.board → m.seat ≡ k.seat → Rattle.ucl_words.specs.WordRule.Stands m.seat m.pass → WordReported k call reply m
-  was_reported own seat stands =
+  pub was_reported : m.board ≡ k.board → m.seat ≡ k.seat → Rattle.ucl_words.specs.TableInvariants.Occurs m.seat m.pass → WordReported k call reply m
+  was_reported own seat occurs =
       let few = report_few call reply r.steps.accesses (length (known m.pass).seen) r.steps.report in
       let taken = r.steps.leaves.taken in
       record {
@@ -122,5 +123,5 @@ module _ (k m : WordPass) (call : EventCall) (reply : Result Accepted Refusal) (
         steps = r.steps;
         answers = r.answers;
         most = omega arith;
-        stands = stands;
+        occurs = occurs;
       }

@@ -1,9 +1,9 @@
-pub mod WordRule
+pub mod TableInvariants
 pub mod WordSteps
-pub mod Laws
+pub mod Theorems
 pub mod WordCalls
 pub mod WordRecords
-pub mod Code
+pub mod CollectSteps
 pub mod WordViews
-pub mod WordDoings
-pub mod Later
+pub mod CompletedCalls
+pub mod LaterState

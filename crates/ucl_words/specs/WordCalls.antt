@@ -9,7 +9,7 @@ use Rattle.ucl_board.specs.declared.reading.Reading.{Reading}
 use Rattle.ucl_board.specs.Log.{Access, Taken}
 use Rattle.ucl_steps.specs.declared.step.Call.TheVariants as calls
 use Rattle.ucl_steps.specs.Protocol.{MayAsk}
-use Rattle.ucl_steps.specs.Trails.{Follows, ReportAccesses, most_tries, ReadingAccesses}
+use Rattle.ucl_steps.specs.Trails.{Follows, ReportAccesses, max_tries, ReadingAccesses}
 use Rattle.ucl_live_board.specs.declared.view.View.{View}
 use Rattle.ucl_live_board.specs.Passes.{IsSound}
 use Rattle.ucl_live_board.specs.Views.{pass_view_of, count_of, trail_of, Takes}
@@ -20,7 +20,7 @@ abbrev pub HasTrail : View → Type 0
 HasTrail v = Follows v.seen 0 (trail_of v) (length v.seen)
 
 -- what holds of a pass between calls
-pub record IsSteady (v : View) : Type 0 where
+pub record IsConsistent (v : View) : Type 0 where
   pub sound : IsSound (pass_view_of v)
   pub told : v.told ≡ []
   pub trail : HasTrail v
@@ -48,7 +48,7 @@ pub record ReadingSteps (v : View) (reading : Reading) (w : View) : Type 0 where
   pub accesses : List Access
   pub leaves : LeavesAccesses v accesses None w
   pub collects : ReadingAccesses reading accesses
-  pub few : length collects.tries + 1 ≤ most_tries
+  pub few : length collects.tries + 1 ≤ max_tries
   pub meanwhile : (first : Access) → slice_get accesses 0 ≡ Some first → length collects.tries + first.at ≤ length w.seen
 
 -- exchanges of the number of enlisted reporters, the first of them tried from this number: one that finds another

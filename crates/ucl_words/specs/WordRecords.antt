@@ -8,21 +8,21 @@ use Rattle.ucl_board.specs.declared.reading.Reading.{Reading}
 use Rattle.ucl_steps.specs.declared.step.Call.TheVariants as calls
 use Rattle.ucl_steps.specs.declared.trace.Reply.TheVariants as replies
 use Rattle.ucl_steps.specs.Protocol.{report_reply}
-use Rattle.ucl_steps.specs.Trails.{most_loads}
+use Rattle.ucl_steps.specs.Trails.{max_loads}
 use Rattle.ucl_live_board.specs.LiveRecords.{LiveReported, LiveRead, LiveSplit, LiveFull, LiveMet}
 use Rattle.ucl_live_board.specs.Passes.{Enlistment, opening_pass}
 use Rattle.ucl_live_board.specs.Views.{count_of, pass_view_of, trail_of}
 use Rattle.ucl_live_board.specs.CallSteps.{HasCopyOf, MeetingSteps}
 use Rattle.ucl_words.specs.WordCalls.{EnlistTries, KeepsTrail, ReportSteps, ReadingSteps}
-use Rattle.ucl_words.specs.WordDoings.{AnswersCall, DoneAsBefore}
-use Rattle.ucl_words.specs.WordRule.{Stands, StandAfterSplit}
+use Rattle.ucl_words.specs.CompletedCalls.{CompletesCall, DoneAsBefore}
+use Rattle.ucl_words.specs.TableInvariants.{Occurs, OccurAfterSplit}
 use Rattle.ucl_words.specs.WordViews.{WordPass, known, left_pass}
 
 -- the first pass of a board that was just opened
 pub record WordOpened (m : WordPass) : Type 0 where
   pub fresh : pass_view_of (known m.pass) ≡ opening_pass
   pub untaken : (m.pass.copied ≡ []) × (m.pass.own ≡ [])
-  pub stands : Stands m.seat m.pass
+  pub occurs : Occurs m.seat m.pass
 
 -- an event was entered or refused
 pub record WordReported (k : WordPass) (call : EventCall) (reply : Result Accepted Refusal) (m : WordPass) : Type 0 where
@@ -30,9 +30,9 @@ pub record WordReported (k : WordPass) (call : EventCall) (reply : Result Accept
   pub seat : m.seat ≡ k.seat
   pub says : LiveReported (pass_view_of (known k.pass)) call reply (pass_view_of (known m.pass))
   pub steps : ReportSteps (known k.pass) call reply (known m.pass)
-  pub answers : AnswersCall k.pass (calls.Event call) (report_reply reply) m.pass
+  pub answers : CompletesCall k.pass (calls.Event call) (report_reply reply) m.pass
   pub most : count_of (known m.pass) ≤ count_of (known k.pass) + 2
-  pub stands : Stands m.seat m.pass
+  pub occurs : Occurs m.seat m.pass
 
 -- the board was read
 pub record WordRead (k : WordPass) (read : Reading) (m : WordPass) : Type 0 where
@@ -40,10 +40,10 @@ pub record WordRead (k : WordPass) (read : Reading) (m : WordPass) : Type 0 wher
   pub seat : m.seat ≡ k.seat
   pub says : LiveRead (pass_view_of (known k.pass)) read (pass_view_of (known m.pass))
   pub steps : ReadingSteps (known k.pass) read (known m.pass)
-  pub answers : AnswersCall k.pass calls.Reading (replies.Copied read) m.pass
+  pub answers : CompletesCall k.pass calls.Reading (replies.Copied read) m.pass
   pub least : count_of (known k.pass) + 24 ≤ count_of (known m.pass)
-  pub most : count_of (known m.pass) ≤ count_of (known k.pass) + most_loads
-  pub stands : Stands m.seat m.pass
+  pub most : count_of (known m.pass) ≤ count_of (known k.pass) + max_loads
+  pub occurs : Occurs m.seat m.pass
 
 -- a second pass n was split off: the pass has the first half of its share, and is else as it was
 pub record WordSplit (k m n : WordPass) : Type 0 where
@@ -55,7 +55,7 @@ pub record WordSplit (k m n : WordPass) : Type 0 where
   pub steps : (count_of (known n.pass) ≡ count_of (known k.pass)) × (trail_of (known n.pass) ≡ trail_of (known k.pass))
   pub copy : HasCopyOf (known n.pass) (known k.pass)
   pub nothing : n.pass.own ≡ []
-  pub stands : StandAfterSplit k.pass m.pass n.pass
+  pub occurs : OccurAfterSplit k.pass m.pass n.pass
 
 -- a reader's pass became a reporter's
 pub record WordEnlisted (k m : WordPass) : Type 0 where
@@ -66,7 +66,7 @@ pub record WordEnlisted (k m : WordPass) : Type 0 where
   pub tries : EnlistTries (known k.pass) (Some (known m.pass).number) (known m.pass)
   pub does : DoneAsBefore k.pass m.pass
   pub most : count_of (known m.pass) ≤ count_of (known k.pass) + 255
-  pub stands : Stands m.seat m.pass
+  pub occurs : Occurs m.seat m.pass
 
 -- a pass that was to be enlisted found that as many reporters are enlisted as there are numbers
 pub record WordFull (k m : WordPass) : Type 0 where
@@ -77,7 +77,7 @@ pub record WordFull (k m : WordPass) : Type 0 where
   pub tries : EnlistTries (known k.pass) None (known m.pass)
   pub does : DoneAsBefore k.pass m.pass
   pub most : count_of (known m.pass) ≤ count_of (known k.pass) + 255
-  pub stands : Stands m.seat m.pass
+  pub occurs : Occurs m.seat m.pass
 
 -- the pass met another, which was a and is b
 pub record WordMet (a b k m : WordPass) : Type 0 where
@@ -89,4 +89,4 @@ pub record WordMet (a b k m : WordPass) : Type 0 where
   pub does : DoneAsBefore k.pass m.pass
   pub steps : MeetingSteps (known k.pass) (known m.pass)
   pub taken : count_of (known m.pass) ≡ count_of (known k.pass) + 1
-  pub stands : Stands m.seat m.pass
+  pub occurs : Occurs m.seat m.pass

@@ -7,10 +7,10 @@ use Rattle.ucl_word.specs.declared.event.EventCall.{EventCall}
 use Rattle.ucl_board.specs.declared.entry.Entry.{Entry}
 use Rattle.ucl_board.specs.Log.{Taken}
 use Rattle.ucl_steps.specs.WordLog.{Look, Swap, First, Second, WordTarget, Match, Enlisted, Enlists, WordStep, WordLog, step_by, taken_at, IsWordLog, MayComeNext}
-use Rattle.ucl_steps.specs.Doings.{FollowsProtocol, IsProtocols}
+use Rattle.ucl_steps.specs.ClientState.{FollowsProtocol, IsNextOfProtocol}
 use Rattle.ucl_live_board.specs.Views.{Takes}
 use Rattle.ucl_words.specs.declared.view.WordView.{WordView}
-use Rattle.ucl_words.specs.WordRule.{Stands}
+use Rattle.ucl_words.specs.TableInvariants.{Occurs}
 use Rattle.ucl_words.specs.WordViews.{known}
 
 -- the pass of a seat after a step, which came after this log
@@ -18,7 +18,7 @@ abbrev pub stepped_to : WordLog → ℕ → WordStep → WordView → WordView
 stepped_to before seat x v = record { log = before ++ step_by seat x ∷ []; told = []; own = v.own ++ x ∷ []; share = v.share; copied = v.copied }
 
 -- a step on this target: it came after this log, all of which the pass then knows, and in which stands what it had known or been
--- told; the pass acts by its share, and then stands at its seat
+-- told; the pass acts by its share, and then occurs at its seat
 pub record Steps (seat : ℕ) (target : WordTarget) (v w : WordView) : Type 0 where
   pub before : WordLog
   pub is_log : IsWordLog before
@@ -29,10 +29,10 @@ pub record Steps (seat : ℕ) (target : WordTarget) (v w : WordView) : Type 0 wh
   pub step : WordStep
   pub of : step.target ≡ target
   pub may : MayComeNext before (step_by seat step)
-  pub next : IsProtocols before (step_by seat step)
+  pub next : IsNextOfProtocol before (step_by seat step)
   pub is : w ≡ stepped_to before seat step v
   pub acts : IsSome v.share
-  pub stands : Stands seat w
+  pub occurs : Occurs seat w
 
 -- the steps of the table, by what they found
 

@@ -7,7 +7,7 @@ use Rattle.ucl_board.specs.Log.{AccessKind, Target, Taken, step_taken, Log, logg
 use Rattle.ucl_steps.specs.declared.trace.Reply.{Reply}
 use Rattle.ucl_steps.specs.declared.trace.Reply.TheVariants.{Copied}
 use Rattle.ucl_steps.specs.WordLog.{Act, Look, Swap, First, Second, WordTarget, Match, Enlisted, Enlists, WordStep, WordLog, history_in, entries_added, enlisted_by}
-use Rattle.ucl_steps.specs.Doings.{Doings, doings_of}
+use Rattle.ucl_steps.specs.ClientState.{ClientState, client_of}
 use Rattle.ucl_live_board.specs.Shares.{whole, first_half, second_half}
 use Rattle.ucl_live_board.specs.declared.view.View.{View}
 use Rattle.ucl_words.specs.declared.view.WordView.{WordView}
@@ -36,7 +36,7 @@ abbrev pub version_in : Reply → List ℕ
 version_in (Copied reading) = reading.version ∷ []
 version_in reply = []
 
-abbrev pub versions_by : Doings → List ℕ
+abbrev pub versions_by : ClientState → List ℕ
 versions_by d = flat_map (λ c. if c.number == d.number then version_in c.reply else []) d.calls
 
 -- what a pass knows and has done, as that of any shared board
@@ -45,9 +45,9 @@ known v = record {
   seen = history_in v.log;
   told = map history_in v.told;
   mine = entries_added v.own;
-  number = (doings_of v.own).number;
+  number = (client_of v.own).number;
   listed = enlisted_by v.log;
-  shown = versions_by (doings_of v.own);
+  shown = versions_by (client_of v.own);
   share = v.share;
   copied = map plain_step v.copied;
   own = map plain_step v.own;

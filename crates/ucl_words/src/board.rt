@@ -4,17 +4,17 @@ ghost use Rattle.std.specs.Prelude.{◌≡◌, ◌≢◌, ◌<◌, [], length, I
 ghost use Rattle.atomic_table.specs.Seated.{TableId};
 ghost use Rattle.ucl_board.specs.Fixtures.{IsMatch};
 ghost use Rattle.ucl_board.specs.History.{reading_of};
-ghost use Rattle.ucl_words.specs.WordRule.{words_after, IsTheRule, Stands};
+ghost use Rattle.ucl_words.specs.TableInvariants.{words_after, ImpliesInvariant, Occurs};
 ghost use Rattle.ucl_words.specs.WordSteps.{Steps};
-ghost use Rattle.ucl_words.specs.Code.{Collects, FindsAgain, FindsAnother, IsHoldingFor, MayCollect, StaysIn, Finishes};
-ghost use Rattle.ucl_words.specs.WordCalls.{IsSteady};
+ghost use Rattle.ucl_words.specs.CollectSteps.{Collects, FindsAgain, FindsAnother, IsHoldingFor, MayCollect, StaysIn, Finishes};
+ghost use Rattle.ucl_words.specs.WordCalls.{IsConsistent};
 ghost use Rattle.ucl_words.specs.WordRecords.{WordOpened, WordReported, WordRead, WordSplit, WordEnlisted, WordFull, WordMet};
 ghost use Rattle.ucl_words.specs.WordViews.{pass_of, known};
-ghost use Rattle.ucl_words.specs.Laws.{TablesOpenFresh};
+ghost use Rattle.ucl_words.specs.Theorems.{TablesOpenFresh};
 ghost use Rattle.ucl_word.specs.Record.{IsReporter};
-ghost use Rattle.ucl_steps.specs.Protocol.{Nothing, Collecting, Checking};
+ghost use Rattle.ucl_steps.specs.Protocol.{NoCall, Collecting, Checking};
 ghost use Rattle.ucl_steps.specs.WordLog as logs;
-ghost use Rattle.ucl_steps.specs.Doings.{doings_of, next_game};
+ghost use Rattle.ucl_steps.specs.ClientState.{client_of, next_game};
 ghost use Rattle.ucl_steps.specs.declared.step.Call.TheVariants as calls;
 ghost use Rattle.ucl_steps.specs.declared.trace.Reply.TheVariants as replies;
 
@@ -28,7 +28,7 @@ use atomic_table::TableRule;
 use std::alloc::Global;
 use std::marker::{Brand, Model};
 use ucl_board::{Board, Entry, Reading};
-use ucl_live_board::{MOST_REPORTERS, TooManyReporters};
+use ucl_live_board::{MAX_REPORTERS, TooManyReporters};
 use ucl_word::{Accepted, EventCall, OutOfMemory, Refusal, ReporterNo, next_word, number_of};
 
 /// Which word of the table is the number of enlisted reporters; words 1 to 12 are the matches.
@@ -38,7 +38,7 @@ const ENLISTED: usize = 0;
 /// Contracts see which table it is.
 ///
 /// Each load and exchange of a match word leaves an access on the trail of its pass: what it did, of which match, the word that it found,
-/// and how many events had been accepted. By the rule of the table the steps of all passes are one log, each the next one of the protocol
+/// and how many events had been accepted. By the invariant of the table the steps of all passes are one log, each the next one of the protocol
 /// (`ucl_steps`), and each report and each reading is a call of it, with the answer that was given. None of the six calls whose names end
 /// in `_now` can wait.
 #[derive(Drop)]
@@ -55,7 +55,7 @@ impl Model for WordBoard {
         × (b.table.shared.table_id.slots ≡ 0) };
 }
 
-/// The words before any event, with no reporter enlisted.
+/// Returns the words before any event, with no reporter enlisted.
 fn fresh_words() -> [u64; 13]
     ensures { result ≡ words_after [] 0 }
 {
@@ -65,7 +65,7 @@ fn fresh_words() -> [u64; 13]
 }
 
 impl WordBoard {
-    /// The fresh board, and the reader's pass from which all its passes come. The rule of the table lets no board open but one of no event,
+    /// Opens the fresh board, and returns the reader's pass from which all its passes come. The invariant of the table lets no board open but one of no event,
     /// no reporter and no step. Where the memory of the table is refused the answer is `OutOfMemory`, and there is no board. No other call
     /// takes memory.
     ///
@@ -78,7 +78,7 @@ impl WordBoard {
         ensures own { IfOk result (λ opened. opened.1.board ≡ opened.0) }
         ensures opened { IfOk result (λ opened. WordOpened opened.1) }
         ensures rule { TablesOpenFresh }
-        ensures tied { IsTheRule (⟦<OneHistory as TableRule<Entry, WordView, ()>>⟧.holds tt) }
+        ensures tied { ImpliesInvariant (⟦<OneHistory as TableRule<Entry, WordView, ()>>⟧.holds tt) }
     {
         let (table, seat) = Table::of_words(alloc, &fresh_words(), &())?;
         Ok((WordBoard { table }, WordReaderPass { seat }))
@@ -90,8 +90,8 @@ impl WordBoard {
         requires acts { IsSome seat.old.me.0.share }
         requires place { K.seat ≡ seat.old.id }
         requires call { K.call ≡ call.now }
-        requires me { IsReporter (doings_of seat.old.me.0.own).number }
-        requires next { (doings_of seat.old.me.0.own).held ≡ Nothing }
+        requires me { IsReporter (client_of seat.old.me.0.own).number }
+        requires next { (client_of seat.old.me.0.own).held ≡ NoCall }
         ensures own { seat.new.table_id ≡ seat.old.table_id }
         ensures seat { seat.new.id ≡ seat.old.id }
         ensures game { IsMatch call.now.game }
@@ -107,7 +107,7 @@ impl WordBoard {
         requires table { seat.old.table_id ≡ self.now }
         requires acts { IsSome seat.old.me.0.share }
         requires place { K.seat ≡ seat.old.id }
-        requires next { IsHoldingFor (doings_of seat.old.me.0.own).held entry.game loaded next }
+        requires next { IsHoldingFor (client_of seat.old.me.0.own).held entry.game loaded next }
         ensures own { seat.new.table_id ≡ seat.old.table_id }
         ensures seat { seat.new.id ≡ seat.old.id }
         ensures swaps { Steps seat.new.id (logs.Match logs.Swap entry.game result) seat.old.me.0
@@ -119,11 +119,11 @@ impl WordBoard {
             .compare_exchange_with::<Swap<K>>(seat, word, loaded, next, &entry)
     }
 
-    /// The first collect: loads words 1 to 12.
+    /// Loads words 1 to 12: the first collect.
     fn collect(&self, seat: &mut Seat) -> [u64; 12]
         requires table { seat.old.table_id ≡ self.now }
-        requires steady { IsSteady (known seat.old.me.0) }
-        requires next { MayCollect (doings_of seat.old.me.0.own).held }
+        requires consistent { IsConsistent (known seat.old.me.0) }
+        requires next { MayCollect (client_of seat.old.me.0.own).held }
         ensures own { seat.new.table_id ≡ seat.old.table_id }
         ensures seat { seat.new.id ≡ seat.old.id }
         ensures long { length result ≡ 12 }
@@ -138,13 +138,13 @@ impl WordBoard {
         words
     }
 
-    /// A load of the second collect.
+    /// Loads a word of the second collect.
     fn load_again<K: Asking>(&self, seat: &mut Seat, word: usize) -> u64
         requires table { seat.old.table_id ≡ self.now }
         requires acts { IsSome seat.old.me.0.share }
         requires place { K.seat ≡ seat.old.id }
         requires word { IsMatch word }
-        requires next { word ≡ next_game logs.Second (doings_of seat.old.me.0.own).held }
+        requires next { word ≡ next_game logs.Second (client_of seat.old.me.0.own).held }
         ensures own { seat.new.table_id ≡ seat.old.table_id }
         ensures seat { seat.new.id ≡ seat.old.id }
         ensures loads { Steps seat.new.id (logs.Match logs.Second word result) seat.old.me.0
@@ -153,11 +153,11 @@ impl WordBoard {
         self.table.shared.load::<Second<K>>(seat, word)
     }
 
-    /// The second collect: loads words 1 to 12 again, up to the first that is another.
+    /// Loads words 1 to 12 again, up to the first that is another: the second collect.
     fn is_clean(&self, seat: &mut Seat, words: &[u64; 12]) -> bool
         requires table { seat.old.table_id ≡ self.now }
-        requires steady { IsSteady (known seat.old.me.0) }
-        requires next { (doings_of seat.old.me.0.own).held
+        requires consistent { IsConsistent (known seat.old.me.0) }
+        requires next { (client_of seat.old.me.0.own).held
             ≡ Checking words.now 0 (length (known seat.old.me.0).seen) }
         ensures own { seat.new.table_id ≡ seat.old.table_id }
         ensures seat { seat.new.id ≡ seat.old.id }
@@ -168,7 +168,7 @@ impl WordBoard {
             (Finishes seat.old.me.0 calls.Reading (replies.Copied (reading_of words.now))
             seat.new.me.0)
             (StaysIn seat.old.me.0 (Collecting []) seat.new.me.0) }
-        ensures stands { MatchBool result (Stands seat.new.id seat.new.me.0) (Unit {0}) }
+        ensures occurs { MatchBool result (Occurs seat.new.id seat.new.me.0) (Unit {0}) }
     {
         for checked in 0..12 {
             if self.load_again::<Brand>(seat, checked + 1) != words[checked] {
@@ -178,12 +178,12 @@ impl WordBoard {
         true
     }
 
-    /// The clean double collect. Each try that is not clean has seen a longer history, so there are few.
+    /// Reads by the clean double collect. Each try that is not clean has seen a longer history, so there are few.
     fn read_by(&self, seat: &mut Seat) -> Reading
         requires table { seat.old.table_id ≡ self.now }
-        requires steady { IsSteady (known seat.old.me.0) }
-        requires next { (doings_of seat.old.me.0.own).held ≡ Nothing }
-        ensures steady { IsSteady (known seat.new.me.0) }
+        requires consistent { IsConsistent (known seat.old.me.0) }
+        requires next { (client_of seat.old.me.0.own).held ≡ NoCall }
+        ensures consistent { IsConsistent (known seat.new.me.0) }
         ensures read { WordRead (pass_of seat.old.table_id seat.old.id seat.old.me.0) result
             (pass_of seat.new.table_id seat.new.id seat.new.me.0) }
     {
@@ -199,9 +199,9 @@ impl WordBoard {
     fn add_reporter<K: Asking>(&self, seat: &mut Seat, tried: u64) -> u64
         requires table { seat.old.table_id ≡ self.now }
         requires acts { IsSome seat.old.me.0.share }
-        requires reader { (doings_of seat.old.me.0.own).number ≡ 0 }
+        requires reader { (client_of seat.old.me.0.own).number ≡ 0 }
         requires place { K.seat ≡ seat.old.id }
-        requires next { (doings_of seat.old.me.0.own).held ≡ Nothing }
+        requires next { (client_of seat.old.me.0.own).held ≡ NoCall }
         requires room { tried < 255 }
         ensures own { seat.new.table_id ≡ seat.old.table_id }
         ensures seat { seat.new.id ≡ seat.old.id }
@@ -266,7 +266,7 @@ impl WordBoard {
         }
     }
 
-    /// The board after a prefix of the history that has all that the pass had seen, and its version: loads all match words, and loads
+    /// Reads the board after a prefix of the history that has all that the pass had seen, and its version: loads all match words, and loads
     /// them again, anew from the first where one is another, in no more tries than a history can have lengths, of at most 24 loads.
     ///
     /// ```rust
@@ -282,7 +282,7 @@ impl WordBoard {
         self.read_by(&mut pass.seat)
     }
 
-    /// The same for a reporter.
+    /// Does the same for a reporter.
     ///
     /// ```rust
     /// let (board, pass) = WordBoard::open(&rt, rt.alloc())?;
@@ -304,7 +304,7 @@ impl WordBoard {
         self.read_by(seat)
     }
 
-    /// A second pass, which has seen as much as the lent one, for another thread. It has a copy of the trail.
+    /// Splits off a second pass, which has seen as much as the lent one, for another thread. It has a copy of the trail.
     ///
     /// ```rust
     /// let (board, mut reader) = WordBoard::open(&rt, rt.alloc())?;
@@ -341,7 +341,7 @@ impl WordBoard {
     {
         let WordReaderPass { mut seat } = pass;
         let mut known = 0;
-        'tries: while known < MOST_REPORTERS {
+        'tries: while known < MAX_REPORTERS {
             let found = self.add_reporter::<Brand>(&mut seat, known);
             if found == known {
                 if let Some(number) = ReporterNo::new((known + 1) as u8) {
@@ -358,7 +358,7 @@ impl WordBoard {
         Err(TooManyReporters(WordReaderPass { seat }))
     }
 
-    /// Afterwards the second pass has seen all that either had seen, by one load of the enlist word. The first is as it was.
+    /// Tells the second pass all that the first has seen, by one load of the enlist word: afterwards it has seen all that either had seen. The first is as it was.
     ///
     /// ```rust
     /// let (board, mut pass) = WordBoard::open(&rt, rt.alloc())?;

@@ -1,9 +1,9 @@
 //! The passes of the word board.
 
 ghost use Rattle.std.specs.Prelude.{◌≡◌, length};
-ghost use Rattle.ucl_steps.specs.Protocol.{Nothing};
-ghost use Rattle.ucl_words.specs.WordCalls.{IsSteady};
-ghost use Rattle.ucl_steps.specs.Doings.{doings_of};
+ghost use Rattle.ucl_steps.specs.Protocol.{NoCall};
+ghost use Rattle.ucl_words.specs.WordCalls.{IsConsistent};
+ghost use Rattle.ucl_steps.specs.ClientState.{client_of};
 ghost use Rattle.ucl_words.specs.WordViews.{WordPass, pass_of, known};
 
 use crate::rule::Seat;
@@ -21,13 +21,13 @@ impl Model for WordReaderPass {
 
     ghost view = { λ reader. pass_of reader.seat.table_id reader.seat.id reader.seat.me.0 };
 
-    ghost invariant = { λ reader. IsSteady (known reader.seat.me.0)
+    ghost invariant = { λ reader. IsConsistent (known reader.seat.me.0)
         × ((known reader.seat.me.0).number ≡ 0)
-        × ((doings_of reader.seat.me.0.own).held ≡ Nothing) };
+        × ((client_of reader.seat.me.0.own).held ≡ NoCall) };
 }
 
 impl WordReaderPass {
-    /// The seat at the table of its board, by which the pass acts: what contracts see of the pass is the view of this seat, as it is.
+    /// Returns the seat at the table of its board, by which the pass acts: what contracts see of the pass is the view of this seat, as it is.
     pub fn seat(&self) -> &Seat
         ensures { self.now ≡ pass_of result.now.table_id result.now.id result.now.me.0 }
     {
@@ -48,14 +48,14 @@ impl Model for WordReporterPass {
 
     ghost view = { λ reporter. pass_of reporter.seat.table_id reporter.seat.id reporter.seat.me.0 };
 
-    ghost invariant = { λ reporter. IsSteady (known reporter.seat.me.0)
+    ghost invariant = { λ reporter. IsConsistent (known reporter.seat.me.0)
         × ((known reporter.seat.me.0).number ≡ reporter.number)
         × (length (known reporter.seat.me.0).mine ≡ reporter.accepted)
-        × ((doings_of reporter.seat.me.0.own).held ≡ Nothing) };
+        × ((client_of reporter.seat.me.0.own).held ≡ NoCall) };
 }
 
 impl WordReporterPass {
-    /// The seat at the table of its board, by which the pass acts: what contracts see of the pass is the view of this seat, as it is.
+    /// Returns the seat at the table of its board, by which the pass acts: what contracts see of the pass is the view of this seat, as it is.
     pub fn seat(&self) -> &Seat
         ensures { self.now ≡ pass_of result.now.table_id result.now.id result.now.me.0 }
     {

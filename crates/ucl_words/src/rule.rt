@@ -1,6 +1,6 @@
-//! The rule of the table, and the kinds of its atomic steps. The values named here exist in proofs alone.
+//! The invariant of the table, and the kinds of its atomic steps. The values named here exist in proofs alone.
 
-ghost use Rattle.ucl_words.specs.WordRule.{TableKeepsOneHistory};
+ghost use Rattle.ucl_words.specs.TableInvariants.{TableInvariant};
 ghost use Rattle.ucl_words.specs.WordSteps.{LookStep, FirstStep, SecondStep, EnlistedStep, ExchangeStep, EnlistStep};
 ghost use Rattle.ucl_words.specs.WordViews.{new_pass, first_pass, left_pass, second_pass, note_pass, told_pass};
 
@@ -17,7 +17,7 @@ pub use ucl_live_board::Asking;
 pub struct OneHistory;
 
 impl TableRule<Entry, WordView, ()> for OneHistory {
-    ghost holds = { λ _. TableKeepsOneHistory };
+    ghost holds = { λ _. TableInvariant };
 
     ghost first = { λ _. first_pass };
 }

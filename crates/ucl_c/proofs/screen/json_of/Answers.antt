@@ -1,6 +1,6 @@
 use Rattle.ucl_c.specs.Tables.{clubs_handed}
 use Rattle.ucl_c.proofs.Boards.{good-roster}
-use Rattle.ucl_c.proofs.LineLength.{line_bound}
+use Rattle.ucl_c.proofs.ScreenLength.{line_bound}
 use Rattle.ucl_c.proofs.screen.json_of.Goals as goal
 
 pub returns-clause-short : goal.returns-clause-short

@@ -1,5 +1,5 @@
 use Rattle.ucl_screen.specs.Parsing.{night_seen}
-use Rattle.ucl_c.proofs.ScriptClubs.{four_clubs}
+use Rattle.ucl_c.proofs.PlayedScripts.{four_clubs}
 use Rattle.ucl_c.proofs.script.script_of.Goals as goal
 
 pub returns-clause-four : goal.returns-clause-four

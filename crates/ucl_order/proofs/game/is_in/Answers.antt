@@ -1,6 +1,6 @@
 use Rattle.std.proofs.Common.{◌≡◌, ◌-◌, false, sym, ◌∙◌, ap, arith}
 use Rattle.std.specs.List.{slice_index_or}
-use Rattle.ucl_order.proofs.Sets.{in_set, out_of_set}
+use Rattle.ucl_order.proofs.Slots.{in_set, out_of_set}
 use Rattle.ucl_order.proofs.game.is_in.Goals as goal
 
 pub returns-in-1-to-4 : goal.returns-in-1-to-4

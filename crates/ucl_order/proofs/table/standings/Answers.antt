@@ -3,7 +3,7 @@ use Rattle.std.proofs.lemmas.List.Elements.{All-same}
 use Rattle.ucl_order.specs.declared.game.Match.{Match}
 use Rattle.ucl_order.specs.Matches.{HasScore, matches_of, started, started_of}
 use Rattle.ucl_order.specs.Marks.{mark_by}
-use Rattle.ucl_order.specs.Code.Rounds.{results_of_clubs}
+use Rattle.ucl_order.specs.Rounds.{results_of_clubs}
 use Rattle.ucl_order.specs.Order.{order_of}
 use Rattle.ucl_order.specs.Rows.{rows_of, IsWithinTable, MarkIsCertain}
 use Rattle.ucl_order.specs.declared.table.Row.{Row}

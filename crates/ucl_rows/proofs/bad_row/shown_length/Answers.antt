@@ -1,14 +1,14 @@
 use Rattle.ucl_rows.proofs.Common.{inl, inr, sym, ◌∙◌}
 use Rattle.ucl_rows.proofs.LiveShown.{shown-all, shown-at}
-use Rattle.ucl_rows.proofs.bad_row.shown_length.Goals.{then-at-eq-MOST_SHOWN-via-then-at-eq-MOST_SHOWN}
-use Rattle.ucl_rows.proofs.bad_row.shown_length.Goals.{then-at-eq-MOST_SHOWN-via-else-at-eq-MOST_SHOWN+then-not-is_printed}
+use Rattle.ucl_rows.proofs.bad_row.shown_length.Goals.{then-at-eq-MAX_SHOWN-via-then-at-eq-MAX_SHOWN}
+use Rattle.ucl_rows.proofs.bad_row.shown_length.Goals.{then-at-eq-MAX_SHOWN-via-else-at-eq-MAX_SHOWN+then-not-is_printed}
 use Rattle.ucl_rows.proofs.bad_row.shown_length.Goals as goal
 
-pub returns-then-at-eq-MOST_SHOWN-clause-shown : goal.returns-then-at-eq-MOST_SHOWN-clause-shown
-returns-then-at-eq-MOST_SHOWN-clause-shown c =
-    let so_far = c.loop-at.invariant in elim c.then-at-eq-MOST_SHOWN.branch [
-      | then-at-eq-MOST_SHOWN-via-then-at-eq-MOST_SHOWN w ↦ shown-at c.loop-at.at c.args.text.now so_far.few so_far.printed (inl w.if-at-eq-MOST_SHOWN.true)
-      | then-at-eq-MOST_SHOWN-via-else-at-eq-MOST_SHOWN+then-not-is_printed w ↦
+pub returns-then-at-eq-MAX_SHOWN-clause-shown : goal.returns-then-at-eq-MAX_SHOWN-clause-shown
+returns-then-at-eq-MAX_SHOWN-clause-shown c =
+    let so_far = c.loop-at.invariant in elim c.then-at-eq-MAX_SHOWN.branch [
+      | then-at-eq-MAX_SHOWN-via-then-at-eq-MAX_SHOWN w ↦ shown-at c.loop-at.at c.args.text.now so_far.few so_far.printed (inl w.if-at-eq-MAX_SHOWN.true)
+      | then-at-eq-MAX_SHOWN-via-else-at-eq-MAX_SHOWN+then-not-is_printed w ↦
           shown-at c.loop-at.at c.args.text.now so_far.few so_far.printed (inr (sym w.is_printed.ensures ∙ w.if-not-is_printed.true))
     ]
 

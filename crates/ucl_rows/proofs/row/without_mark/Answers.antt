@@ -2,8 +2,8 @@ use Rattle.ucl_rows.proofs.Common.{arith, sym, ◌∙◌}
 use Rattle.ucl_rows.proofs.RowBytes.{marked, unmarked}
 use Rattle.ucl_rows.proofs.RowEnds.{rest-of}
 use Rattle.ucl_rows.proofs.row.without_mark.Goals.{else-line-ge3-via-then-line-ge3+then-line+then-line-2+else-line-3}
-use Rattle.ucl_rows.proofs.row.without_mark.Goals.{else-line-ge3-via-then-line-ge3+then-line+else-line-2}
-use Rattle.ucl_rows.proofs.row.without_mark.Goals.{else-line-ge3-via-then-line-ge3+else-line, else-line-ge3-via-else-line-ge3}
+use Rattle.ucl_rows.proofs.row.without_mark.Goals.{else-line-ge3-via-then-line-ge3+then-line+else-line-2, else-line-ge3-via-then-line-ge3+else-line}
+use Rattle.ucl_rows.proofs.row.without_mark.Goals.{else-line-ge3-via-else-line-ge3}
 use Rattle.ucl_rows.proofs.row.without_mark.Goals as goal
 
 pub returns-then-line-3-clause-text : goal.returns-then-line-3-clause-text

@@ -1,5 +1,5 @@
-use Rattle.ucl_runs.proofs.Common.{HasShown, IsPrefix, List, PassView, [], ap, begins_take, begins_through, err_from_is_err_and}
-use Rattle.ucl_runs.proofs.Common.{number_of_two, option_map, refl, string_bytes, styled, subst, sym, ℕ, ◌++◌, ◌∙◌, ◌∷◌}
+use Rattle.ucl_runs.proofs.Common.{HasShown, IsPrefix, List, PassView, [], ap, begins_take, begins_through, err_from_is_err_and, number_of_two, option_map, refl}
+use Rattle.ucl_runs.proofs.Common.{string_bytes, styled, subst, sym, ℕ, ◌++◌, ◌∙◌, ◌∷◌}
 use Rattle.std.proofs.Common.{true≢false}
 use Rattle.std.specs.Prelude.{take}
 use Rattle.ucl_live_board.specs.Passes.{kept_pass, split_pass}

@@ -21,11 +21,11 @@ shown-requires-clause-text g c κs within = c.as_str.ensures.value ∙ c.in_ok-t
 pub loop-call-preserved : goal.loop-call-preserved
 loop-call-preserved g c =
     let k = g.B.LiveBoard.reader in
-    let plan = c.args.plan.now in
+    let config = c.args.config.now in
     let read = c.read-reading.ensures.says in
     let so_far = c.loop-call.invariant in
     record {
       own = c.read-reading.ensures.own;
-      shown = shown_more (style_of plan) (k c.args.pass) (k c.loop-call.pass) (k c.read-reading.new.pass) c.read-reading.result c.loop-call.call _
+      shown = shown_more (style_of config) (k c.args.pass) (k c.loop-call.pass) (k c.read-reading.new.pass) c.read-reading.result c.loop-call.call _
           (string_bytes c.in_ok-text.text) so_far.shown read.always read.reading c.in_ok-text.ensures;
     }

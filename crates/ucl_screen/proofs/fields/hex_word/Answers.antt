@@ -1,5 +1,5 @@
 use Rattle.std.proofs.Common.{◌<◌, ◌+◌, ◌*◌, ◌∙◌, sym, arith}
-use Rattle.ucl_screen.proofs.HexDigits.{word-is, more-hex, no-hex, no-more-hex, one-more-hex, hex-fits}
+use Rattle.ucl_screen.proofs.Digits.{word-is, more-hex, no-hex, no-more-hex, one-more-hex, hex-fits}
 use Rattle.ucl_screen.proofs.fields.hex_word.Goals as goal
 
 pub returns-in_err-digit : goal.returns-in_err-digit

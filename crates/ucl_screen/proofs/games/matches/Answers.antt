@@ -1,6 +1,6 @@
 use Rattle.std.proofs.Common.{◌≡◌, arith, rules, string_bytes}
 use Rattle.ucl_screen.specs.Matches.{match_line, matches_text}
-use Rattle.ucl_screen.proofs.OneMatchMore.{line_more, lines_all}
+use Rattle.ucl_screen.proofs.EventsInTurn.{line_more, lines_all}
 use Rattle.ucl_screen.proofs.games.matches.Goals as goal
 use Rattle.ucl_screen.proofs.games.matches.Goals.{in-Some+in_ok-push_match, in_default}
 

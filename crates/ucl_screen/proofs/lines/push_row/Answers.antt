@@ -1,5 +1,5 @@
 use Rattle.std.proofs.Common.{string_bytes}
-use Rattle.ucl_screen.proofs.Pieces.{line_written}
+use Rattle.ucl_screen.proofs.Columns.{line_written}
 use Rattle.ucl_screen.proofs.lines.push_row.Goals as goal
 
 pub returns : goal.returns

@@ -2,7 +2,7 @@ use Rattle.std.proofs.Common.{◌≡◌, ◌∷◌, [], ◌∙◌, sym, ap, leng
 use Rattle.std.specs.Result.{is_ok}
 use Rattle.csv.specs.Records.{fields_of}
 use Rattle.ucl_screen.specs.Rows.{rows_left}
-use Rattle.ucl_screen.proofs.RowByRow.{goes-on, stops, is-done}
+use Rattle.ucl_screen.proofs.RowFacts.{goes-on, stops, is-done}
 use Rattle.ucl_screen.proofs.reading.events_at.Goals as goal
 
 pub returns-in-None-clause-gives : goal.returns-in-None-clause-gives

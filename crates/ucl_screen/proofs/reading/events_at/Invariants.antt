@@ -1,7 +1,7 @@
 use Rattle.std.proofs.Common.{◌≡◌, ◌+◌, ◌≤◌, length}
 use Rattle.ucl_screen.specs.Rows.{IsReading, rows_left}
 use Rattle.ucl_screen.specs.Script.{events_from}
-use Rattle.ucl_screen.proofs.RowByRow.{with_front}
+use Rattle.ucl_screen.proofs.RowFacts.{with_front}
 use Rattle.ucl_screen.proofs.reading.events_at.Given as goal
 
 abbrev pub invariant-rows : goal.invariant-rows

@@ -1,5 +1,5 @@
 use Rattle.ucl_screen.specs.Rows.{rows_of}
-use Rattle.ucl_screen.proofs.ScriptFaults.{script-faults}
+use Rattle.ucl_screen.proofs.RowFaults.{script-faults}
 use Rattle.ucl_screen.proofs.reading.night_of_bytes.Goals as goal
 
 pub returns-clause-kinds : goal.returns-clause-kinds

@@ -4,7 +4,7 @@ use Rattle.std.proofs.lemmas.Grind.{take-set_at}
 use Rattle.csv.specs.Records.{fields_of}
 use Rattle.ucl_screen.specs.Rows.{rows_left}
 use Rattle.ucl_screen.specs.Script.{words_from}
-use Rattle.ucl_screen.proofs.RowByRow.{word-more, word-bad, word-missing, word-over, words-done}
+use Rattle.ucl_screen.proofs.RowFacts.{word-more, word-bad, word-missing, word-over, words-done}
 use Rattle.ucl_screen.proofs.reading.words_at.Goals as goal
 
 pub returns-then-not-branch : goal.returns-then-not-branch

@@ -1,7 +1,7 @@
 use Rattle.std.proofs.Common.{◌≡◌, ◌-◌, take, length}
 use Rattle.ucl_screen.specs.Rows.{IsReading, rows_left}
 use Rattle.ucl_screen.specs.Script.{words_from}
-use Rattle.ucl_screen.proofs.RowByRow.{with_front}
+use Rattle.ucl_screen.proofs.RowFacts.{with_front}
 use Rattle.ucl_screen.proofs.reading.words_at.Given as goal
 
 abbrev pub invariant-games : goal.invariant-games

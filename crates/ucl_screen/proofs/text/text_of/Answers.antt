@@ -1,4 +1,4 @@
-use Rattle.ucl_screen.proofs.Names.{name_text}
+use Rattle.ucl_screen.proofs.Columns.{name_text}
 use Rattle.ucl_screen.proofs.text.text_of.Goals as goal
 
 pub unreachable-requires : goal.unreachable-requires

@@ -8,11 +8,11 @@ use Rattle.ucl_word.proofs.migration.unpack_first.Goals as goal
 ok_same : {m n : MatchRecord} → ◌≡◌ {A = Result MatchRecord BadWord} (Ok m) (Ok n) → m ≡ n
 ok_same is = cc
 
-pub returns-then-not-has_no_mark-clause-refused : goal.returns-then-not-has_no_mark-clause-refused
-returns-then-not-has_no_mark-clause-refused c is = let yes = c.has_no_mark.ensures.1 (first_high c.args.word is) in let no = c.if-not-has_no_mark.true in cc
+pub returns-then-not-has_no_layout_tag-clause-refused : goal.returns-then-not-has_no_layout_tag-clause-refused
+returns-then-not-has_no_layout_tag-clause-refused c is = let yes = c.has_no_layout_tag.ensures.1 (first_high c.args.word is) in let no = c.if-not-has_no_layout_tag.true in cc
 
-pub returns-then-not-has_no_mark-clause-read_back : goal.returns-then-not-has_no_mark-clause-read_back
-returns-then-not-has_no_mark-clause-read_back c m valid is = absurd (returns-then-not-has_no_mark-clause-refused c (record { of = m; valid = valid; packed = is }))
+pub returns-then-not-has_no_layout_tag-clause-read_back : goal.returns-then-not-has_no_layout_tag-clause-read_back
+returns-then-not-has_no_layout_tag-clause-read_back c m valid is = absurd (returns-then-not-has_no_layout_tag-clause-refused c (record { of = m; valid = valid; packed = is }))
 
 pub returns-in_default-clause-refused : goal.returns-in_default-clause-refused
 returns-in_default-clause-refused c is = c.in_default.ensures.refused (rw c.moved.ensures (moves_to_word c.args.word is))

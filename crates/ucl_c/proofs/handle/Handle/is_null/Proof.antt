@@ -1,8 +1,9 @@
 -- `is_null` reads the pointer, which is null or the start of a block, and leaves the handle as it was.
-use Rattle.ucl_c.proofs.Common.{true, false, List, [], ◌∷◌, refl, sym, ap, ◌∙◌, subst, lit<, T, proved, full_share, ftrue, flft, named, Val, vbool, tables, ‵, ◌⊛◌, ◌$◌, ◌∵◌, !, qed, done}
-use Rattle.ucl_c.proofs.Common.{move, keep, split, join, fsplit, fsplit3, fjoin, feq_i, rewrite, suffices, frame, group, enter, of_opd, bin, lit, load, stop, fld, returns, alloc_all}
-use Rattle.ucl_c.proofs.Common.{pass_all, free_all, look_at, get, through, sets, whole, sub, look_in, shows, cell_at, Ptr, block_ptr, tests_null, MutRef, mut_vals, mut_Tells, plain, nothing}
-use Rattle.ucl_c.proofs.Common.{opens, closes, peeks, Stays, walk_of, says, stay_ref, Goes-ref, ends_at, box_owns, freed, owned_at, is_null, pass_at}
+use Rattle.ucl_c.proofs.Common.{true, false, List, [], ◌∷◌, refl, sym, ap, ◌∙◌, subst, lit<, T, proved, full_share, ftrue, flft, named, Val, vbool, tables, ‵, ◌⊛◌}
+use Rattle.ucl_c.proofs.Common.{◌$◌, ◌∵◌, !, qed, done, move, keep, split, join, fsplit, fsplit3, fjoin, feq_i, rewrite, suffices, frame, group, enter, of_opd, bin}
+use Rattle.ucl_c.proofs.Common.{lit, load, stop, fld, returns, alloc_all, pass_all, free_all, look_at, get, through, sets, whole, sub, look_in, shows, cell_at, Ptr}
+use Rattle.ucl_c.proofs.Common.{block_ptr, tests_null, MutRef, mut_vals, mut_Tells, plain, nothing, opens, closes, peeks, Stays, walk_of, says, stay_ref, Goes-ref}
+use Rattle.ucl_c.proofs.Common.{ends_at, box_owns, freed, owned_at, is_null, pass_at}
 use Rattle.ucl_c.proofs.NullOrOwned.{null_or_owned}
 use Rattle.ucl_c.specs.contracts.board_pass.BoardPass as inner
 use Rattle.ucl_c.specs.contracts.handle.Handle.is_null as f

@@ -1,16 +1,17 @@
 -- `put` makes the handle own what the parts owned.
-use Rattle.ucl_c.proofs.Common.{◌≡◌, true, List, [], ◌∷◌, refl, sym, ap, proved, full_share, ftrue, flft, named, Val, vunit, fst∗, never, sem, fact, tables, ‵, raw, ◌⊛◌, ◌$◌, ◌∵◌, !, qed}
-use Rattle.ucl_c.proofs.Common.{done, move, keep, drop, split, join, fsplit, fsplit3, fjoin, fpack, feq_i, rewrite, suffices, frame, group, enter, of_opd, stop, fld, returns, assigns}
-use Rattle.ucl_c.proofs.Common.{unit_lit, alloc_all, pass_all, free_all, look_at, get, get_in, through, sets, whole, sub, store_in, yes, shows, cell_at, lone, Valss, Ptr, RawPtr, ptr_val}
-use Rattle.ucl_c.proofs.Common.{null_ptr, in_a_block, rawptr_Lawful, MutRef, mut_vals, mut_Tells, plain, nothing, opens, closes, peeks, heard, within, shape, Stays, walk_of, says, stay_ref}
-use Rattle.ucl_c.proofs.Common.{stay_dropped, Goes-ref, Goes-dropped, ends_at, ghosts, box_owns, freed, owned_at, is_null, pass_at, RattleType}
+use Rattle.ucl_c.proofs.Common.{◌≡◌, true, List, [], ◌∷◌, refl, sym, ap, proved, full_share, ftrue, flft, named, Val, vunit, fst∗, never, sem, fact, tables, ‵, raw}
+use Rattle.ucl_c.proofs.Common.{◌⊛◌, ◌$◌, ◌∵◌, !, qed, done, move, keep, drop, split, join, fsplit, fsplit3, fjoin, fpack, feq_i, rewrite, suffices, frame, group}
+use Rattle.ucl_c.proofs.Common.{enter, of_opd, stop, fld, returns, assigns, unit_lit, alloc_all, pass_all, free_all, look_at, get, get_in, through, sets, whole, sub}
+use Rattle.ucl_c.proofs.Common.{store_in, yes, shows, cell_at, lone, Valss, Ptr, RawPtr, ptr_val, null_ptr, in_a_block, rawptr_Lawful, MutRef, mut_vals, mut_Tells}
+use Rattle.ucl_c.proofs.Common.{plain, nothing, opens, closes, peeks, heard, within, shape, Stays, walk_of, says, stay_ref, stay_dropped, Goes-ref, Goes-dropped}
+use Rattle.ucl_c.proofs.Common.{ends_at, ghosts, box_owns, freed, owned_at, is_null, pass_at, RattleType}
 use mir.Raw.{raw as bare}
 use Rattle.std_heap.specs.contracts.Global as heap
 use Rattle.std_heap.proofs.Global.TheLaws as heap_laws
 use Rattle.ucl_c.specs.contracts.board_pass.BoardPass as inner
 use Rattle.ucl_c.proofs.board_pass.BoardPass.TheLaws as inner_laws
-use Rattle.ucl_c.specs.contracts.parts.Parts as parts
-use Rattle.ucl_c.proofs.parts.Parts.TheLaws as parts_laws
+use Rattle.ucl_c.specs.contracts.raw_box.RawBox as parts
+use Rattle.ucl_c.proofs.raw_box.RawBox.TheLaws as parts_laws
 use Rattle.ucl_c.specs.contracts.handle.Handle as pass
 use Rattle.ucl_c.specs.contracts.handle.Handle.put as f
 use Rattle.ucl_c.proofs.handle.Handle.put.Statement.{statement}

@@ -1,14 +1,15 @@
 -- `take` reads the pointer, leaves null there, and makes the parts of what the handle owned.
-use Rattle.ucl_c.proofs.Common.{◌≡◌, false, List, [], ◌∷◌, refl, sym, ap, ◌∙◌, lit<, proved, full_share, ftrue, flft, named, Val, vnull, vptr, vstruct, vcons, vnil, fact, tables, ‵, raw, ◌⊛◌}
-use Rattle.ucl_c.proofs.Common.{◌$◌, ◌∵◌, !, qed, done, move, keep, drop, split, join, fsplit, fsplit3, fjoin, fpack, feq_i, rewrite, suffices, frame, group, enter, of_opd, lit, load, stop}
-use Rattle.ucl_c.proofs.Common.{fld, returns, assigns, and_then, no_more, alloc_all, pass_all, free_all, look_at, get, through, sets, whole, sub, look_in, store_in, agg, yes, shows, cell_at}
-use Rattle.ucl_c.proofs.Common.{Valss, Ptr, RawPtr, block_ptr, null_ptr, MutRef, mut_vals, mut_Tells, plain, nothing, opens, closes, peeks, heard, within, shape, Stays, walk_of, says}
-use Rattle.ucl_c.proofs.Common.{stay_ref, stay_dropped, Goes-ref, Goes-dropped, ends_at, ghosts, is_null, pass_at}
+use Rattle.ucl_c.proofs.Common.{◌≡◌, false, List, [], ◌∷◌, refl, sym, ap, ◌∙◌, lit<, proved, full_share, ftrue, flft, named, Val, vnull, vptr, vstruct, vcons, vnil}
+use Rattle.ucl_c.proofs.Common.{fact, tables, ‵, raw, ◌⊛◌, ◌$◌, ◌∵◌, !, qed, done, move, keep, drop, split, join, fsplit, fsplit3, fjoin, fpack, feq_i, rewrite}
+use Rattle.ucl_c.proofs.Common.{suffices, frame, group, enter, of_opd, lit, load, stop, fld, returns, assigns, and_then, no_more, alloc_all, pass_all, free_all}
+use Rattle.ucl_c.proofs.Common.{look_at, get, through, sets, whole, sub, look_in, store_in, agg, yes, shows, cell_at, Valss, Ptr, RawPtr, block_ptr, null_ptr}
+use Rattle.ucl_c.proofs.Common.{MutRef, mut_vals, mut_Tells, plain, nothing, opens, closes, peeks, heard, within, shape, Stays, walk_of, says, stay_ref}
+use Rattle.ucl_c.proofs.Common.{stay_dropped, Goes-ref, Goes-dropped, ends_at, ghosts, is_null, pass_at}
 use Rattle.std_heap.specs.contracts.Global as heap
 use Rattle.std_heap.proofs.Global.TheLaws as heap_laws
 use Rattle.ucl_c.proofs.NullOrOwned.{owned_in_block}
 use Rattle.ucl_c.specs.contracts.board_pass.BoardPass as inner
-use Rattle.ucl_c.specs.contracts.parts.Parts as parts
+use Rattle.ucl_c.specs.contracts.raw_box.RawBox as parts
 use Rattle.ucl_c.specs.contracts.handle.Handle as pass
 use Rattle.ucl_c.specs.contracts.handle.Handle.take as f
 use Rattle.ucl_c.proofs.handle.Handle.take.Statement.{statement}

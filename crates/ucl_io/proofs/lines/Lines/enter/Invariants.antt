@@ -11,13 +11,13 @@ invariant-lines g l =
     let at = progress g.W.Sink.taken g.W.Sink.failed in
     record {
       within : l.start ≤ length l.bytes;
-      ready : g.M.LineMachine.ready l.machine;
+      ready : g.M.LineHandler.ready l.handler;
       begun : l.self.begun.items ≡ begun_line cap line bytes;
       short : length l.self.begun.items ≤ cap;
       row : l.self.row ≡ l.initial.self.row + length (ended_lines cap line bytes);
       turns : List (Turn g.row.M.Denot);
-      answered : AreAnswered (rules g.M.LineMachine.answers g.M.LineMachine.stops) (at l.initial.self.row l.initial.machine l.initial.self.output l.initial.sink)
-          (at l.self.row l.machine l.self.output l.sink) (ended_lines cap line bytes) turns;
+      answered : AreAnswered (rules g.M.LineHandler.answers g.M.LineHandler.stops) (at l.initial.self.row l.initial.handler l.initial.self.output l.initial.sink)
+          (at l.self.row l.handler l.self.output l.sink) (ended_lines cap line bytes) turns;
     }
 
 abbrev pub decreases-lines : goal.decreases-lines

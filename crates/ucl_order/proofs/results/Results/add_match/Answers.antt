@@ -1,6 +1,6 @@
 use Rattle.std.proofs.Common.{◌≢◌, ◌∙◌, ap, refl, arith}
-use Rattle.ucl_order.specs.Code.Counting.{with_match}
-use Rattle.ucl_order.proofs.GatheredResults.{clubs_more, second_within, within_two}
+use Rattle.ucl_order.specs.Counting.{with_match}
+use Rattle.ucl_order.proofs.OneMatchMore.{clubs_more, second_within, within_two}
 use Rattle.ucl_order.proofs.results.Results.add_match.Goals as goal
 
 pub returns-clause-value : goal.returns-clause-value

@@ -1,5 +1,5 @@
 use Rattle.std.proofs.Common.{sym, ◌∙◌, ◌+◌, subst, arith}
-use Rattle.ucl_order.specs.Code.Counting.{IsWithin}
+use Rattle.ucl_order.specs.Counting.{IsWithin}
 use Rattle.ucl_order.specs.Keys.{slots_in}
 use Rattle.ucl_order.proofs.OneMatchMore.{none_within, results_none, among_more, among_same, within_later}
 use Rattle.ucl_order.proofs.results.Results.among.Goals as goal

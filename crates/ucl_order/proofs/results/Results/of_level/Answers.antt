@@ -1,8 +1,7 @@
 use Rattle.std.proofs.Common.{◌+◌, ◌∙◌, ap, sym, subst, take, arith, All}
-use Rattle.ucl_order.specs.Code.Counting.{IsWithin}
-use Rattle.ucl_order.specs.Code.Rounds.{level_matches, results_of_clubs}
-use Rattle.ucl_order.proofs.OneMatchMore.{none_within, results_none, within_later}
-use Rattle.ucl_order.proofs.GatheredResults.{nothing_done, nothing_within}
+use Rattle.ucl_order.specs.Counting.{IsWithin}
+use Rattle.ucl_order.specs.Rounds.{level_matches, results_of_clubs}
+use Rattle.ucl_order.proofs.OneMatchMore.{none_within, results_none, within_later, nothing_done, nothing_within}
 use Rattle.ucl_order.proofs.LevelMatches.{level_more, level_same}
 use Rattle.ucl_order.proofs.results.Results.of_level.Goals as goal
 use Rattle.ucl_order.proofs.results.Results.of_level.Goals.{then-is_level, else-is_level}

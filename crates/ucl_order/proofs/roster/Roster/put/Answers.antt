@@ -1,8 +1,7 @@
 use Rattle.std.proofs.Common.{set, subst, sym, ◌∙◌}
 use Rattle.std.proofs.lemmas.List.{length-set, map-set}
 use Rattle.std.proofs.lemmas.List.Elements.{All-set}
-use Rattle.ucl_order.specs.Roster.{IsClub, IsRoster}
-use Rattle.ucl_order.specs.Code.Members.{member_seen, members_seen}
+use Rattle.ucl_order.specs.Roster.{IsClub, IsRoster, member_seen, members_seen}
 use Rattle.ucl_order.proofs.roster.Roster.put.Goals as goal
 
 pub invariant_of-self : goal.invariant_of-self

@@ -1,5 +1,5 @@
 use Rattle.ucl_pass.proofs.Common.{rules}
-use Rattle.ucl_pass.proofs.KeptRule.{looks}
+use Rattle.ucl_pass.proofs.InvariantIsKept.{looks}
 use Rattle.ucl_pass.proofs.cell_board.CellBoard.load.Goals as goal
 
 pub load_as-requires : goal.load_as-requires

@@ -1,6 +1,6 @@
 use Rattle.ucl_pass.proofs.Common.{rules, List, ℕ, ◌∷◌, ◌++◌, ap, ◌∙◌, [], words_after}
 use Rattle.ucl_live_board.proofs.LogFacts.{opens_fresh}
-use Rattle.ucl_pass.proofs.KeptRule.{begins}
+use Rattle.ucl_pass.proofs.InvariantIsKept.{begins}
 use Rattle.ucl_pass.proofs.cell_board.CellBoard.open.Goals as goal
 
 pub ruled-requires : goal.ruled-requires

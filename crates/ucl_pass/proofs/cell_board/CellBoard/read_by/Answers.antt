@@ -1,5 +1,5 @@
 use Rattle.ucl_pass.proofs.Common.{rules, ap, ◌∙◌, cell_view, reading_of}
-use Rattle.ucl_pass.proofs.KeptRule.{reads}
+use Rattle.ucl_pass.proofs.InvariantIsKept.{reads}
 use Rattle.ucl_pass.proofs.CallsBySteps.{are_words, was_read}
 use Rattle.ucl_pass.proofs.cell_board.CellBoard.read_by.Goals as goal
 

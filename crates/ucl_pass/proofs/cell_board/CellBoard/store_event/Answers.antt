@@ -1,5 +1,5 @@
 use Rattle.ucl_pass.proofs.Common.{rules, sym, ap, ◌∙◌, subst, cell_view, EventCall, IsMatch, IsNextBoard, MayStore, StoresEvent, entry_at}
-use Rattle.ucl_pass.proofs.KeptRule.{adds, add_says, Answers}
+use Rattle.ucl_pass.proofs.InvariantIsKept.{adds, add_says, Answers}
 use Rattle.ucl_pass.proofs.cell_board.CellBoard.store_event.Goals as goal
 
 pub compare_exchange_as-requires : goal.compare_exchange_as-requires

@@ -1,5 +1,5 @@
 use Rattle.ucl_pass.proofs.Common.{rules, arith, sym, ◌∙◌, cell_view, StoresReporter}
-use Rattle.ucl_pass.proofs.KeptRule.{enlists, enlist_says}
+use Rattle.ucl_pass.proofs.InvariantIsKept.{enlists, enlist_says}
 use Rattle.ucl_pass.proofs.CallsBySteps.{tried_more, tries_again, was_enlisted}
 use Rattle.ucl_pass.proofs.cell_board.CellBoardLiveBoard.enlist.Goals as goal
 
@@ -8,7 +8,7 @@ compare_exchange_as-added-requires g c =
     let more = tried_more (cell_view c.pass.inside.seat) (cell_view c.retry.seat) (cell_view c.load-words.new.seat) c.load-words.result
     c.retry.invariant.tried c.load-words.ensures.looks in
     let kept = enlists _ _ c.load-words.result c.one_more_reporter-next.result more.share (more.stays.number ∙ c.pass.invariant.1)
-    c.if-enlisted-ge-MOST_REPORTERS.false c.one_more_reporter-next.ensures in
+    c.if-enlisted-ge-MAX_REPORTERS.false c.one_more_reporter-next.ensures in
     (search rules, (search rules, (search rules, kept)))
 
 pub retry-preserved : goal.retry-preserved

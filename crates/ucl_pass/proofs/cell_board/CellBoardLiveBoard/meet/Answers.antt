@@ -1,5 +1,5 @@
-use Rattle.ucl_pass.proofs.Common.{rules, sym, ap, ◌∙◌, subst, cell_view, Merges, View, told_by, newcomer, CellKeepsOneHistory, LooksOnly, arith, cell_pass_of}
-use Rattle.ucl_pass.proofs.KeptRule.{notes, joins}
+use Rattle.ucl_pass.proofs.Common.{rules, sym, ap, ◌∙◌, subst, cell_view, Merges, View, told_by, newcomer, CellInvariant, LooksOnly, arith, cell_pass_of}
+use Rattle.ucl_pass.proofs.InvariantIsKept.{notes, joins}
 use Rattle.ucl_pass.proofs.CallsBySteps.{was_met}
 use Rattle.ucl_pass.proofs.cell_board.CellBoardLiveBoard.meet.Goals as goal
 
@@ -12,7 +12,7 @@ join_pass-requires g c =
     let v = cell_view seat in
     let note = c.split_pass-note.result in
     let joined =
-    subst (λ (n : View). Merges CellKeepsOneHistory seat.id v note.id n (told_by v n) newcomer)
+    subst (λ (n : View). Merges CellInvariant seat.id v note.id n (told_by v n) newcomer)
     (sym c.split_pass-note.ensures.given.1) (joins _ _ _ (cell_view c.first.inside.seat)) in
     (search rules, (search rules, (search rules, joined)))
 

@@ -1,5 +1,5 @@
-use Rattle.ucl_pass.proofs.Common.{ℕ, ◌+◌, ◌≤◌, rules, arith, refl, sym, ◌∙◌, subst, length-append, cell_view, entry_of, pass_view_of}
-use Rattle.ucl_pass.proofs.Common.{greatest_version, IsNextBoard, StoresEvent, Ok, room, CellReported, cell_pass_of}
+use Rattle.ucl_pass.proofs.Common.{ℕ, ◌+◌, ◌≤◌, rules, arith, refl, sym, ◌∙◌, subst, length-append, cell_view, entry_of, pass_view_of, max_version, IsNextBoard}
+use Rattle.ucl_pass.proofs.Common.{StoresEvent, Ok, room, CellReported, cell_pass_of}
 use Rattle.ucl_pass.proofs.CallsBySteps.{are_words, tried_more, tries_again, next_words, refused_report, accepted_report}
 use Rattle.ucl_pass.proofs.cell_board.CellBoardLiveBoard.report.Goals as goal
 
@@ -48,7 +48,7 @@ overflow_add-pass g c =
     c.load-words.ensures.looks z c.words_with-next.result c.store_event-stored.result c.args.call.now c.in_ok-accepted.accepted
     c.store_event-stored.ensures.stored (sym c.is_ok.ensures.value ∙ c.if-is_ok.true)
     (λ h legal is. c.in_ok-accepted.ensures.sequential h legal (is ∙ sym c.board_at-board.ensures)) in
-    let r : c.retry.pass-inside.accepted + 1 ≤ greatest_version =
+    let r : c.retry.pass-inside.accepted + 1 ≤ max_version =
     room (pass_view_of v) (pass_view_of z) c.args.call.now (Ok c.in_ok-accepted.accepted) c.retry.pass-inside.accepted
     all.says.accepted refl all.says.always.sound (c.pass.invariant.2 ∙ sym c.retry.invariant.accepted) in
     omega arith

@@ -1,5 +1,5 @@
 use Rattle.ucl_pass.proofs.Common.{◌≡◌, refl, sym, subst, rules, cell_view, View, IsSound, pass_view_of, sound_second, sound_kept}
-use Rattle.ucl_pass.proofs.KeptRule.{seconds}
+use Rattle.ucl_pass.proofs.InvariantIsKept.{seconds}
 use Rattle.ucl_pass.proofs.cell_board.CellBoardLiveBoard.split.Goals as goal
 
 abbrev IsReader : View → Type 0

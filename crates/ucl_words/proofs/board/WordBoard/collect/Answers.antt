@@ -1,8 +1,8 @@
 use Rattle.ucl_words.proofs.Common.{◌+◌, ◌∙◌, arith, length-set, known}
 use Rattle.ucl_board.specs.Log.{First}
-use Rattle.ucl_words.proofs.KeptRule.{firsts}
+use Rattle.ucl_words.proofs.InvariantIsKept.{firsts}
 use Rattle.ucl_words.proofs.CollectFacts.{collected_none, collected_set}
-use Rattle.ucl_words.proofs.DoingFacts.{first_next, first_on, first_loads, first_shown, firsts_all}
+use Rattle.ucl_words.proofs.ClientFacts.{first_next, first_on, first_loads, first_shown, firsts_all}
 use Rattle.ucl_words.proofs.board.WordBoard.collect.Goals as goal
 
 pub loop-i-init : goal.loop-i-init
@@ -11,7 +11,7 @@ loop-i-init c = search (arith, collected_none)
 pub load-requires : goal.load-requires
 load-requires c = search (
   arith,
-  firsts c.self.inside.table.shared.table_id.slots c.loop-i.seat.id (c.loop-i.i + 1) c.loop-i.seat.me c.loop-i.invariant.collected.walks.steady.sound.acts (omega arith, omega arith)
+  firsts c.self.inside.table.shared.table_id.slots c.loop-i.seat.id (c.loop-i.i + 1) c.loop-i.seat.me c.loop-i.invariant.collected.walks.consistent.sound.acts (omega arith, omega arith)
       (first_next c.args.seat.now.me.0 c.loop-i.seat.me.0 c.loop-i.words c.loop-i.i (omega arith) c.loop-i.invariant.long c.requires.next c.loop-i.invariant.does),
 )
 

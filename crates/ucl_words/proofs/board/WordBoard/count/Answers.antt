@@ -1,6 +1,6 @@
 use Rattle.ucl_words.proofs.Common.{ℕ, sym, ◌∙◌, subst, arith, Steps}
 use Rattle.ucl_steps.specs.WordLog.{Enlisted}
-use Rattle.ucl_words.proofs.KeptRule.{counts}
+use Rattle.ucl_words.proofs.InvariantIsKept.{counts}
 use Rattle.ucl_words.proofs.board.WordBoard.count.Goals as goal
 
 pub load-requires : goal.load-requires

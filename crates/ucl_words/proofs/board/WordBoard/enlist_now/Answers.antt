@@ -1,7 +1,7 @@
-use Rattle.ucl_words.proofs.Common.{inl, inr, refl, sym, ap, ◌∙◌, arith, rules, length, Stands, pass_of, known}
-use Rattle.ucl_words.proofs.EnlistmentFacts.{missed_none, missed_higher, missed_more, won_steady, won_number}
+use Rattle.ucl_words.proofs.Common.{inl, inr, refl, sym, ap, ◌∙◌, arith, rules, length, Occurs, pass_of, known}
+use Rattle.ucl_words.proofs.EnlistmentFacts.{missed_none, missed_higher, missed_more, won_consistent, won_number}
 use Rattle.ucl_words.proofs.StepFacts.{loads_enlisted, enlist_won}
-use Rattle.ucl_words.proofs.DoingFacts.{counted_does, enlisted_does}
+use Rattle.ucl_words.proofs.ClientFacts.{counted_does, enlisted_does}
 use Rattle.ucl_words.proofs.WholeCalls.{was_enlisted, was_full}
 use Rattle.ucl_words.proofs.board.WordBoard.enlist_now.Goals as goal
 
@@ -12,7 +12,7 @@ tries-init c = record {
   bound = omega arith;
   missed = missed_none (known c.pass.inside.seat.me.0) c.pass.invariant.0;
   does = record { calls = refl; held = refl };
-  stands = inl refl;
+  occurs = inl refl;
 }
 
 pub invariant_of-result : goal.invariant_of-result
@@ -27,7 +27,7 @@ invariant_of-result c =
     let won = enlist_won m.id n x m.me.0 step in
     let v = known c.pass.inside.seat.me.0 in
     let number = won_number v (known x) (known m.me.0) c.tries.known n was.missed (omega arith) same won in (
-      won_steady v (known x) (known m.me.0) c.tries.known n was.missed (omega arith) same won,
+      won_consistent v (known x) (known m.me.0) c.tries.known n was.missed (omega arith) same won,
       number ∙ sym c.in-Some.ensures.value,
       ap length won.enlists.mine,
       (enlisted_does m.id n x m.me.0 step).held ∙ (was.does.held ∙ c.pass.invariant.2),
@@ -47,7 +47,7 @@ returns-in-Some c =
     let done = enlisted_does m.id n x m.me.0 step in
     let all = was_enlisted (pass_of k.table_id k.id k.me.0) (pass_of m.table_id m.id m.me.0) (found.own ∙ was.same) (found.seat ∙ was.place)
     (record { calls = done.calls ∙ was.does.calls; held = done.held ∙ was.does.held })
-    step.stands (known x) c.tries.known n was.missed (omega arith) same (enlist_won m.id n x m.me.0 step) in
+    step.occurs (known x) c.tries.known n was.missed (omega arith) same (enlist_won m.id n x m.me.0 step) in
     search (arith, rules, all)
 
 pub tries-smaller : goal.tries-smaller
@@ -79,7 +79,7 @@ tries-preserved c =
       bound = (missed_higher v (known x) (known m.me.0) c.tries.known n was.missed other missed).1;
       missed = missed_more v (known x) (known m.me.0) c.tries.known n was.missed other missed (omega arith);
       does = record { calls = done.calls ∙ was.does.calls; held = done.held ∙ was.does.held };
-      stands = inr step.stands;
+      occurs = inr step.occurs;
     }
 
 pub returns : goal.returns
@@ -88,6 +88,6 @@ returns c =
     let m = c.tries.seat in
     let was = c.tries.invariant in
     let many = c.tries-test.false in
-    let stands : Stands m.id m.me.0 = search (arith, was.stands) in
-    let all = was_full (pass_of k.table_id k.id k.me.0) (pass_of m.table_id m.id m.me.0) was.same was.place was.does stands c.tries.known was.missed was.bound (omega arith) in
+    let occurs : Occurs m.id m.me.0 = search (arith, was.occurs) in
+    let all = was_full (pass_of k.table_id k.id k.me.0) (pass_of m.table_id m.id m.me.0) was.same was.place was.does occurs c.tries.known was.missed was.bound (omega arith) in
     search (arith, rules, all)

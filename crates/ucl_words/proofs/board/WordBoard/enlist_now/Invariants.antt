@@ -1,4 +1,4 @@
-use Rattle.ucl_words.proofs.Common.{◌≡◌, ◌-◌, ◌≤◌, ◌⊎◌, Stands, known, DoneAsBefore}
+use Rattle.ucl_words.proofs.Common.{◌≡◌, ◌-◌, ◌≤◌, ◌⊎◌, Occurs, known, DoneAsBefore}
 use Rattle.ucl_live_board.specs.Steps.{no_call}
 use Rattle.ucl_words.proofs.EnlistmentFacts.{Missed}
 use Rattle.ucl_words.proofs.board.WordBoard.enlist_now.Given as goal
@@ -10,7 +10,7 @@ invariant-tries l = record {
   bound : l.known ≤ 255;
   missed : Missed (known l.initial.seat.me.0) (known l.seat.me.0) l.known;
   does : DoneAsBefore l.initial.seat.me.0 l.seat.me.0;
-  stands : (l.known ≡ 0) ⊎ Stands l.seat.id l.seat.me.0;
+  occurs : (l.known ≡ 0) ⊎ Occurs l.seat.id l.seat.me.0;
 }
 
 abbrev pub decreases-tries : goal.decreases-tries

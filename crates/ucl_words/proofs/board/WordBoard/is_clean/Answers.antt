@@ -2,7 +2,7 @@ use Rattle.std.proofs.Common.{arith, ap, sym, ◌∙◌}
 use Rattle.ucl_words.proofs.Common.{◌≡◌, next_game, slice_index}
 use Rattle.ucl_steps.specs.WordLog.{Second}
 use Rattle.ucl_words.proofs.CollectFacts.{collected_none}
-use Rattle.ucl_words.proofs.DoingFacts.{seconds_none}
+use Rattle.ucl_words.proofs.ClientFacts.{seconds_none}
 use Rattle.ucl_words.proofs.SecondCollect.{found_same, found_all, found_another}
 use Rattle.ucl_words.proofs.board.WordBoard.is_clean.Goals as goal
 
@@ -10,7 +10,7 @@ pub loop-checked-init : goal.loop-checked-init
 loop-checked-init c = search (arith, collected_none, seconds_none)
 
 pub load_again-requires-clause-acts : goal.load_again-requires-clause-acts
-load_again-requires-clause-acts c = (c.loop-checked.invariant.so_far (omega arith)).collected.walks.steady.sound.acts
+load_again-requires-clause-acts c = (c.loop-checked.invariant.so_far (omega arith)).collected.walks.consistent.sound.acts
 
 pub load_again-requires-clause-word : goal.load_again-requires-clause-word
 load_again-requires-clause-word c = (omega arith, omega arith)
@@ -33,7 +33,7 @@ loop-checked-preserved c =
       place = c.load_again.ensures.seat ∙ c.loop-checked.invariant.place;
       so_far = λ less. found_same v x w words i n c.load_again.new.seat.id (omega arith) so_far c.load_again.ensures.loads same (omega arith);
       all = λ twelve. found_all v x w words i n c.load_again.new.seat.id (omega arith) so_far c.load_again.ensures.loads same (omega arith);
-      stands = λ twelve. c.load_again.ensures.loads.stands;
+      occurs = λ twelve. c.load_again.ensures.loads.occurs;
     }
 
 pub returns-then-load_again-words-clause-compared : goal.returns-then-load_again-words-clause-compared
@@ -56,5 +56,5 @@ returns-clause-compared c = let test = c.loop-checked-test.false in let end = c.
 pub returns-clause-does : goal.returns-clause-does
 returns-clause-does c = let test = c.loop-checked-test.false in let end = c.loop-checked.auto.checked-end in (c.loop-checked.invariant.all (omega arith)).does
 
-pub returns-clause-stands : goal.returns-clause-stands
-returns-clause-stands c = let test = c.loop-checked-test.false in let end = c.loop-checked.auto.checked-end in c.loop-checked.invariant.stands (omega arith)
+pub returns-clause-occurs : goal.returns-clause-occurs
+returns-clause-occurs c = let test = c.loop-checked-test.false in let end = c.loop-checked.auto.checked-end in c.loop-checked.invariant.occurs (omega arith)

@@ -1,4 +1,4 @@
-use Rattle.ucl_words.proofs.Common.{◌≡◌, ◌<◌, Stands}
+use Rattle.ucl_words.proofs.Common.{◌≡◌, ◌<◌, Occurs}
 use Rattle.ucl_live_board.specs.Steps.{no_call}
 use Rattle.ucl_words.proofs.SecondCollect.{Comparing, FoundAgain}
 use Rattle.ucl_words.proofs.board.WordBoard.is_clean.Given as goal
@@ -9,7 +9,7 @@ invariant-loop-checked l = record {
   place : l.seat.id ≡ l.fn.seat.id;
   so_far : l.checked < 12 → Comparing l.fn.seat.me.0 l.words l.checked l.seat.me.0;
   all : l.checked ≡ 12 → FoundAgain l.fn.seat.me.0 l.words l.seat.me.0;
-  stands : l.checked ≡ 12 → Stands l.seat.id l.seat.me.0;
+  occurs : l.checked ≡ 12 → Occurs l.seat.id l.seat.me.0;
 }
 
 abbrev pub ghosts-load_again : goal.ghosts-load_again

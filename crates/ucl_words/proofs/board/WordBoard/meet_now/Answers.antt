@@ -1,10 +1,10 @@
 use Rattle.ucl_words.proofs.Common.{◌≡◌, ap, length, sym, ◌∙◌, subst, arith, rules, IsSome, WordView, Steps, pass_of, told_pass, new_pass}
 use Rattle.ucl_steps.specs.WordLog.{Enlisted}
 use Rattle.atomic_table.specs.Table.{Joins}
-use Rattle.ucl_words.specs.WordRule.{TableKeepsOneHistory}
-use Rattle.ucl_words.proofs.KeptRule.{notes, joins}
-use Rattle.ucl_words.proofs.DoingFacts.{counted_does}
-use Rattle.ucl_words.proofs.EnlistmentFacts.{met_steady, met_continues, met_says}
+use Rattle.ucl_words.specs.TableInvariants.{TableInvariant}
+use Rattle.ucl_words.proofs.InvariantIsKept.{notes, joins}
+use Rattle.ucl_words.proofs.ClientFacts.{counted_does}
+use Rattle.ucl_words.proofs.EnlistmentFacts.{met_consistent, met_continues, met_says}
 use Rattle.ucl_words.proofs.WholeCalls.{was_met}
 use Rattle.ucl_words.proofs.board.WordBoard.meet_now.Goals as goal
 
@@ -19,7 +19,7 @@ join_seat-requires c =
       search rules,
       ap (λ m. m.1) note.ensures.4,
       omega (arith, c.self.invariant.0),
-      subst (λ (n : WordView). Joins TableKeepsOneHistory v.id v.me.0 note.result.id n (told_pass v.me.0 n) new_pass) (sym (ap (λ m. m.0) note.ensures.4))
+      subst (λ (n : WordView). Joins TableInvariant v.id v.me.0 note.result.id n (told_pass v.me.0 n) new_pass) (sym (ap (λ m. m.0) note.ensures.4))
           (joins v.id v.me.0 note.result.id c.first.inside.seat.me.0),
     )
 
@@ -35,7 +35,7 @@ invariant_of-second c =
     let joined = ap (λ m. m.0) c.join_seat.ensures.2 ∙ ap (told_pass k) (ap (λ m. m.0) c.split_seat-note.ensures.4) in
     let s = subst (λ (u : WordView). Steps m.id (Enlisted n) u m.me.0) joined c.count.ensures.counts in
     let v = c.second.invariant in (
-      met_steady a k m.me.0 m.id n v.0 s,
+      met_consistent a k m.me.0 m.id n v.0 s,
       (met_continues a k m.me.0 m.id n v.0 s).number ∙ v.1,
       ap length (met_says a k m.me.0 m.id n v.0 s).mine ∙ v.2,
       (counted_does m.id n _ m.me.0 s).held ∙ v.3,

@@ -1,6 +1,6 @@
-use Rattle.ucl_words.proofs.Common.{rules, ℕ, sym, subst, Stands}
-use Rattle.ucl_words.proofs.KeptRule.{opens, opened_stands}
-use Rattle.ucl_words.proofs.BoardLaws.{opens_fresh}
+use Rattle.ucl_words.proofs.Common.{rules, ℕ, sym, subst, Occurs}
+use Rattle.ucl_words.proofs.InvariantIsKept.{opens, opened_occurs}
+use Rattle.ucl_words.proofs.BoardTheorems.{opens_fresh}
 use Rattle.ucl_words.proofs.board.WordBoard.open.Goals as goal
 
 pub of_words-requires : goal.of_words-requires
@@ -15,5 +15,5 @@ returns-in_err-table-clause-rule g c = opens_fresh
 pub returns-clause-opened : goal.returns-clause-opened
 returns-clause-opened g c =
     let made = c.in_ok-table.ensures in
-    let stands = subst (λ (k : ℕ). Stands k c.in_ok-table.seat.me.0) (sym made.3) (subst (λ m. Stands 0 m.0) (sym made.4) (opened_stands _ c.fresh_words.ensures)) in
-    record { fresh = search rules; untaken = search rules; stands = stands }
+    let occurs = subst (λ (k : ℕ). Occurs k c.in_ok-table.seat.me.0) (sym made.3) (subst (λ m. Occurs 0 m.0) (sym made.4) (opened_occurs _ c.fresh_words.ensures)) in
+    record { fresh = search rules; untaken = search rules; occurs = occurs }

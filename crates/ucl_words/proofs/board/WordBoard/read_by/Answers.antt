@@ -1,21 +1,21 @@
-use Rattle.ucl_words.proofs.Common.{inl, inr, ◌∙◌, refl, sym, ap, subst, arith, reading_of, Reading, known, length, AnswersCall}
+use Rattle.ucl_words.proofs.Common.{inl, inr, ◌∙◌, refl, sym, ap, subst, arith, reading_of, Reading, known, length, CompletesCall}
 use Rattle.ucl_steps.specs.declared.step.Call.TheVariants as calls
 use Rattle.ucl_steps.specs.declared.trace.Reply.TheVariants as replies
 use Rattle.ucl_words.proofs.CollectFacts.{tried_none, tried_longer, tried_again, are_words, reads}
-use Rattle.ucl_words.proofs.DoingFacts.{tries_may, tries_on, tries_again, stays_answered}
+use Rattle.ucl_words.proofs.ClientFacts.{tries_may, tries_on, tries_again, stays_answered}
 use Rattle.ucl_words.proofs.board.WordBoard.read_by.Goals as goal
 
 pub tries-init : goal.tries-init
-tries-init c = record { same = refl; place = refl; tried = tried_none (known c.args.seat.now.me.0) c.requires.steady; does = inl refl }
+tries-init c = record { same = refl; place = refl; tried = tried_none (known c.args.seat.now.me.0) c.requires.consistent; does = inl refl }
 
-pub collect-words-requires-clause-steady : goal.collect-words-requires-clause-steady
-collect-words-requires-clause-steady c = c.tries.invariant.tried.walks.steady
+pub collect-words-requires-clause-consistent : goal.collect-words-requires-clause-consistent
+collect-words-requires-clause-consistent c = c.tries.invariant.tried.walks.consistent
 
 pub collect-words-requires-clause-next : goal.collect-words-requires-clause-next
 collect-words-requires-clause-next c = tries_may c.args.seat.now.me.0 c.tries.seat.me.0 c.requires.next c.tries.invariant.does
 
-pub is_clean-requires-clause-steady : goal.is_clean-requires-clause-steady
-is_clean-requires-clause-steady c = c.collect-words.ensures.collects.walks.steady
+pub is_clean-requires-clause-consistent : goal.is_clean-requires-clause-consistent
+is_clean-requires-clause-consistent c = c.collect-words.ensures.collects.walks.consistent
 
 pub is_clean-requires-clause-next : goal.is_clean-requires-clause-next
 is_clean-requires-clause-next c = c.collect-words.ensures.does.held_is
@@ -45,8 +45,8 @@ tries-preserved c =
       does = inr (tries_again v u w c.collect-words.result (length (known u).seen) (tries_on v x c.requires.next _ u was.does collected.does) c.if-is_clean.ensures.does);
     }
 
-pub returns-then-is_clean-clause-steady : goal.returns-then-is_clean-clause-steady
-returns-then-is_clean-clause-steady c = search (arith, reads)
+pub returns-then-is_clean-clause-consistent : goal.returns-then-is_clean-clause-consistent
+returns-then-is_clean-clause-consistent c = search (arith, reads)
 
 pub returns-then-is_clean-clause-read : goal.returns-then-is_clean-clause-read
 returns-then-is_clean-clause-read c =
@@ -57,7 +57,8 @@ returns-then-is_clean-clause-read c =
     let collected = c.collect-words.ensures in
     let was = c.tries.invariant in
     let is = c.of.ensures ∙ ap reading_of c.of_packed.ensures in
-    let all = reads (known x) (known u) (known w) c.collect-words.result collected.long collected.collects c.if-is_clean.ensures.compared (known v) c.requires.steady was.tried c.of.result is in
+    let all = reads (known x) (known u) (known w) c.collect-words.result collected.long collected.collects c.if-is_clean.ensures.compared
+    (known v) c.requires.consistent was.tried c.of.result is in
     let number = collected.collects.walks.number ∙ was.tried.walks.number in
     let answers = stays_answered v u w _ calls.Reading _ c.requires.next number (tries_on v x c.requires.next _ u was.does collected.does) c.if-is_clean.ensures.does in
     record {
@@ -65,8 +66,8 @@ returns-then-is_clean-clause-read c =
       seat = c.is_clean.ensures.seat ∙ (collected.seat ∙ was.place);
       says = record { always = all.always; reading = all.shared };
       steps = all.steps;
-      answers = subst (λ (r : Reading). AnswersCall v calls.Reading (replies.Copied r) w) (sym is) answers;
+      answers = subst (λ (r : Reading). CompletesCall v calls.Reading (replies.Copied r) w) (sym is) answers;
       least = all.least;
       most = all.most;
-      stands = search (arith, c.if-is_clean.ensures.stands);
+      occurs = search (arith, c.if-is_clean.ensures.occurs);
     }

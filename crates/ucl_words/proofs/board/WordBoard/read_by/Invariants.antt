@@ -1,6 +1,6 @@
-use Rattle.ucl_words.proofs.Common.{◌≡◌, ◌-◌, length, most_tries, known}
+use Rattle.ucl_words.proofs.Common.{◌≡◌, ◌-◌, length, max_tries, known}
 use Rattle.ucl_words.proofs.CollectFacts.{Tried}
-use Rattle.ucl_words.proofs.DoingFacts.{Tries}
+use Rattle.ucl_words.proofs.ClientFacts.{Tries}
 use Rattle.ucl_words.proofs.board.WordBoard.read_by.Given as goal
 
 abbrev pub invariant-tries : goal.invariant-tries
@@ -13,4 +13,4 @@ invariant-tries l = record {
 
 -- each try that is not clean has seen a longer history, and no history is longer than this
 abbrev pub decreases-tries : goal.decreases-tries
-decreases-tries l = most_tries - length (known l.seat.me.0).seen
+decreases-tries l = max_tries - length (known l.seat.me.0).seen

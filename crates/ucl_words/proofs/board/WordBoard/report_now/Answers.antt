@@ -1,5 +1,5 @@
-use Rattle.ucl_words.proofs.Common.{◌≡◌, ℕ, ◌<◌, ◌≤◌, ◌+◌, sym, ap, ◌∙◌, subst, arith, rules, refl, length, length-append, Ok, Err, Stale, Entry, Steps}
-use Rattle.ucl_words.proofs.Common.{record_at, greatest_version, room, pass_view_of, pass_of, known, IsHoldingFor, doings_of}
+use Rattle.ucl_words.proofs.Common.{◌≡◌, ℕ, ◌<◌, ◌≤◌, ◌+◌, sym, ap, ◌∙◌, subst, arith, rules, refl, length, length-append, Ok, Err, Stale, Entry, Steps, record_at}
+use Rattle.ucl_words.proofs.Common.{max_version, room, pass_view_of, pass_of, known, IsHoldingFor, client_of}
 use Rattle.ucl_steps.specs.WordLog.{Match, Swap}
 use Rattle.ucl_words.proofs.StepFacts.{found_word}
 use Rattle.ucl_words.proofs.WholeReports.{Reported, refused_report, holding_for, accepted_report, missed_report, was_reported}
@@ -19,14 +19,14 @@ refused c =
 pub invariant_of-pass : goal.invariant_of-pass
 invariant_of-pass c =
     let by = refused c in
-    (by.steady, by.always.number ∙ c.pass.invariant.1, ap length by.refused.mine ∙ c.pass.invariant.2, by.answers.answers.held)
+    (by.consistent, by.always.number ∙ c.pass.invariant.1, ap length by.refused.mine ∙ c.pass.invariant.2, by.answers.answers.held)
 
 pub returns-in_err-next : goal.returns-in_err-next
 returns-in_err-next c =
     let k = c.pass.inside.seat in
     let m = c.look-loaded.new.seat in
     let all = was_reported (pass_of k.table_id k.id k.me.0) (pass_of m.table_id m.id m.me.0) c.args.call.now _ (refused c)
-    (c.look-loaded.ensures.own) (c.look-loaded.ensures.seat) c.look-loaded.ensures.looks.stands in
+    (c.look-loaded.ensures.own) (c.look-loaded.ensures.seat) c.look-loaded.ensures.looks.occurs in
     search (arith, rules, all)
 
 pub swap-found-requires-clause-next : goal.swap-found-requires-clause-next
@@ -34,7 +34,7 @@ swap-found-requires-clause-next c =
     let me : (0 < c.pass.inside.number) × (c.pass.inside.number ≤ 255) × ((known c.pass.inside.seat.me.0).number ≡ c.pass.inside.number) = search (arith, c.pass.ranges) in
     let said = c.look-loaded.ensures in
     let next = c.in_ok-next.ensures in
-    subst (λ (e : Entry). IsHoldingFor (doings_of c.look-loaded.new.seat.me.0.own).held e.game c.look-loaded.result c.in_ok-next.next) (sym c.of-entry.ensures)
+    subst (λ (e : Entry). IsHoldingFor (client_of c.look-loaded.new.seat.me.0.own).held e.game c.look-loaded.result c.in_ok-next.next) (sym c.of-entry.ensures)
     (holding_for c.pass.inside.seat.me.0 c.look-loaded.new.seat.me.0 c.args.call.now c.pass.inside.number c.look-loaded.result c.look-loaded.new.seat.id said.game me
     c.pass.invariant.0 c.pass.invariant.3 said.looks next.accepted.0 c.in_ok-next.next next.valid next.record)
 
@@ -54,7 +54,7 @@ won c number is =
 pub overflow_add-pass : goal.overflow_add-pass
 overflow_add-pass c =
     let by = won c (record_at c.in_ok-next.next).number refl in
-    let r : c.pass.inside.accepted + 1 ≤ greatest_version =
+    let r : c.pass.inside.accepted + 1 ≤ max_version =
     room (pass_view_of (known c.pass.inside.seat.me.0)) (pass_view_of (known c.swap-found.new.seat.me.0)) c.args.call.now (Ok _) c.pass.inside.accepted by.accepted refl
     by.always.sound c.pass.invariant.2 in
     omega arith
@@ -73,7 +73,7 @@ won_as c =
 pub invariant_of-pass-then-found-loaded : goal.invariant_of-pass-then-found-loaded
 invariant_of-pass-then-found-loaded c =
     let by = won_as c in (
-      by.steady,
+      by.consistent,
       by.always.number ∙ c.pass.invariant.1,
       ap length by.accepted.mine ∙ (length-append (known c.pass.inside.seat.me.0).mine _ ∙ ap (λ (n : ℕ). n + 1) c.pass.invariant.2),
       by.answers.answers.held,
@@ -84,7 +84,7 @@ returns-then-found-loaded c =
     let k = c.pass.inside.seat in
     let m = c.swap-found.new.seat in
     let all = was_reported (pass_of k.table_id k.id k.me.0) (pass_of m.table_id m.id m.me.0) c.args.call.now _ (won_as c)
-    (c.swap-found.ensures.own ∙ c.look-loaded.ensures.own) (c.swap-found.ensures.seat ∙ c.look-loaded.ensures.seat) c.swap-found.ensures.swaps.stands in
+    (c.swap-found.ensures.own ∙ c.look-loaded.ensures.own) (c.swap-found.ensures.seat ∙ c.look-loaded.ensures.seat) c.swap-found.ensures.swaps.occurs in
     search (arith, rules, all)
 
 -- or missed
@@ -102,12 +102,12 @@ missed c =
 pub invariant_of-pass-else-found-loaded : goal.invariant_of-pass-else-found-loaded
 invariant_of-pass-else-found-loaded c =
     let by = missed c in
-    (by.steady, by.always.number ∙ c.pass.invariant.1, ap length by.refused.mine ∙ c.pass.invariant.2, by.answers.answers.held)
+    (by.consistent, by.always.number ∙ c.pass.invariant.1, ap length by.refused.mine ∙ c.pass.invariant.2, by.answers.answers.held)
 
 pub returns-else-found-loaded : goal.returns-else-found-loaded
 returns-else-found-loaded c =
     let k = c.pass.inside.seat in
     let m = c.swap-found.new.seat in
     let all = was_reported (pass_of k.table_id k.id k.me.0) (pass_of m.table_id m.id m.me.0) c.args.call.now _ (missed c)
-    (c.swap-found.ensures.own ∙ c.look-loaded.ensures.own) (c.swap-found.ensures.seat ∙ c.look-loaded.ensures.seat) c.swap-found.ensures.swaps.stands in
+    (c.swap-found.ensures.own ∙ c.look-loaded.ensures.own) (c.swap-found.ensures.seat ∙ c.look-loaded.ensures.seat) c.swap-found.ensures.swaps.occurs in
     search (arith, rules, all)

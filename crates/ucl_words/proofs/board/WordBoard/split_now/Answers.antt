@@ -1,21 +1,21 @@
-use Rattle.ucl_words.proofs.Common.{arith, rules, ◌≡◌, ap, refl, sym, subst, Nothing, WordView, IsSteady, known, doings_of, pass_of}
-use Rattle.ucl_words.proofs.KeptRule.{seconds}
-use Rattle.ucl_words.proofs.EnlistmentFacts.{kept_steady, second_steady}
+use Rattle.ucl_words.proofs.Common.{arith, rules, ◌≡◌, ap, refl, sym, subst, NoCall, WordView, IsConsistent, known, client_of, pass_of}
+use Rattle.ucl_words.proofs.InvariantIsKept.{seconds}
+use Rattle.ucl_words.proofs.EnlistmentFacts.{kept_consistent, second_consistent}
 use Rattle.ucl_words.proofs.WholeCalls.{was_split}
 use Rattle.ucl_words.proofs.board.WordBoard.split_now.Goals as goal
 
 abbrev IsReader : WordView → Type 0
-IsReader v = IsSteady (known v) × ((known v).number ≡ 0) × ((doings_of v.own).held ≡ Nothing)
+IsReader v = IsConsistent (known v) × ((known v).number ≡ 0) × ((client_of v.own).held ≡ NoCall)
 
 pub split_seat-seat-requires : goal.split_seat-seat-requires
 split_seat-seat-requires c = (search rules, omega (arith, c.self.invariant.0), seconds c.pass.inside.seat.id c.pass.inside.seat.me.0)
 
 pub invariant_of-result : goal.invariant_of-result
-invariant_of-result c = subst IsReader (sym (ap (λ m. m.0) c.split_seat-seat.ensures.4)) (second_steady c.pass.inside.seat.me.0 c.pass.invariant.0, refl, refl)
+invariant_of-result c = subst IsReader (sym (ap (λ m. m.0) c.split_seat-seat.ensures.4)) (second_consistent c.pass.inside.seat.me.0 c.pass.invariant.0, refl, refl)
 
 pub invariant_of-pass : goal.invariant_of-pass
 invariant_of-pass c = subst IsReader (sym (ap (λ m. m.0) c.split_seat-seat.ensures.2))
-    (kept_steady c.pass.inside.seat.me.0 c.pass.invariant.0, c.pass.invariant.1, c.pass.invariant.2)
+    (kept_consistent c.pass.inside.seat.me.0 c.pass.invariant.0, c.pass.invariant.1, c.pass.invariant.2)
 
 pub returns : goal.returns
 returns c =

@@ -1,6 +1,6 @@
 use Rattle.ucl_words.proofs.Common.{ℕ, sym, ◌∙◌, subst, arith, Steps}
 use Rattle.ucl_steps.specs.WordLog.{Match, Swap}
-use Rattle.ucl_words.proofs.KeptRule.{swaps}
+use Rattle.ucl_words.proofs.InvariantIsKept.{swaps}
 use Rattle.ucl_words.proofs.board.WordBoard.swap.Goals as goal
 
 pub compare_exchange_with-requires : goal.compare_exchange_with-requires

@@ -1,5 +1,0 @@
-use Rattle.ucl_board.proofs.Repeats.{go_stale}
-use Rattle.ucl_board.proofs.laws.accepted_events_go_stale.Goals as goal
-
-pub returns : goal.returns
-returns c = go_stale

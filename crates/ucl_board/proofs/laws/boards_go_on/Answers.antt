@@ -1,5 +1,0 @@
-use Rattle.ucl_board.proofs.Repeats.{go_on}
-use Rattle.ucl_board.proofs.laws.boards_go_on.Goals as goal
-
-pub returns : goal.returns
-returns c = go_on

@@ -1,5 +1,0 @@
-use Rattle.ucl_board.proofs.Repeats.{repeats}
-use Rattle.ucl_board.proofs.laws.repeated_events_change_nothing.Goals as goal
-
-pub returns : goal.returns
-returns c = repeats

@@ -1,9 +1,0 @@
-use Rattle.ucl_c.proofs.LineLength.{line_short}
-use Rattle.ucl_c.proofs.ScreenLength.{screen_short}
-use Rattle.ucl_c.proofs.laws.screens_are_short.Goals as goal
-
-pub returns : goal.returns
-returns c = record {
-  text = λ profile board roster group words is. screen_short profile board roster words is group;
-  line = line_short;
-}

@@ -1,0 +1,54 @@
+-- What holds of all words, of the numbers of faults, and of how long screens are.
+use Rattle.std.specs.Prelude.{◌≡◌, ◌↔◌, ◌<◌, ◌≤◌, ◌^◌, ℕ, ◌++◌, true, List, length, Some, Ok, Err, codes, decimal}
+use Rattle.ucl_word.specs.Layout.{IsWord}
+use Rattle.ucl_board.specs.Words.{AreReadAs, AreWords, IsFirstBad}
+use Rattle.ucl_order.specs.declared.profile.Profile.{Profile}
+use Rattle.ucl_order.specs.Roster.{IsRoster, NamedClub}
+use Rattle.ucl_screen.specs.declared.fault.InputFault.{InputFault}
+use Rattle.ucl_screen.specs.declared.fault.InputFault.TheVariants as input
+use Rattle.ucl_screen.specs.Screen.{IsGroup, screen_text}
+use Rattle.ucl_screen.specs.Texts.{input_fault_text}
+use Rattle.ucl_screen.specs.WordsRead.{is_word, read_words}
+use Rattle.ucl_json.specs.Lines.{json_line}
+use Rattle.ucl_json.specs.Values.{bad_row_value, bad_value, screen_value}
+use Rattle.ucl_c.specs.declared.fault.Fault.TheVariants.{BadRow, OutOfMemory}
+use Rattle.ucl_c.specs.Codes.{name_of_status}
+use Rattle.ucl_c.specs.Faults.{fault_code, of_input}
+
+-- the words that calls judge are read as the board that the definitions of a board say, or their first bad word is told
+pub record AreJudged (words : List ℕ) : Type 0 where
+  pub read : (board : List ℕ) → AreReadAs words board → read_words 1 words ≡ Ok board
+  pub refused : (index : ℕ) → IsFirstBad words index → read_words 1 words ≡ Err index
+
+-- and the test of a single word is whether it is that of a valid record
+pub record WordsAreJudged : Type 0 where
+  pub twelve : (words : List ℕ) → length words ≡ 12 → AreJudged words
+  pub single : (word : ℕ) → (is_word word ≡ true) ↔ IsWord word
+
+-- the command line writes this fault of an input by the number of the fault that calls tell
+pub record IsWrittenByNumber (fault : InputFault) : Type 0 where
+  pub place : List ℕ
+  pub written : input_fault_text fault ≡ codes "input refused " ++ decimal (fault_code (of_input fault)) ++ codes ": " ++ place
+
+-- and so it writes lack of memory; no call reads from a source that fails
+abbrev pub IsWrittenAsTold : InputFault → Type 0
+IsWrittenAsTold (input.ReadFailed bytes) = Unit {0}
+IsWrittenAsTold input.OutOfMemory = input_fault_text input.OutOfMemory ≡ codes "out of memory " ++ decimal (fault_code OutOfMemory)
+IsWrittenAsTold fault = IsWrittenByNumber fault
+
+-- an evening answers a bad row by the number and the name of its status
+pub record IsAnsweredByName (row : ℕ) : Type 0 where
+  pub name : List ℕ
+  pub named : name_of_status (fault_code (BadRow row)) ≡ Some name
+  pub answered : (field text : List ℕ) → bad_row_value row field text ≡ bad_value row (fault_code (BadRow row)) name field text
+
+-- the programs write each fault that calls tell too by its number
+pub record FaultsAreWrittenByNumber : Type 0 where
+  pub inputs : (fault : InputFault) → IsWrittenAsTold fault
+  pub rows : (row : ℕ) → IsAnsweredByName row
+
+-- the screen of any board has no more bytes than this, and neither has the line of JSON that answers a row with it
+pub record ScreensAreShort : Type 0 where
+  pub text : (profile : Profile) (board : List ℕ) (roster : List NamedClub) (group : ℕ) → AreWords board → IsRoster roster → length (screen_text profile board roster group) ≤ 296
+  pub line : (row : ℕ) (profile : Profile) (board : List ℕ) (roster : List NamedClub) (group : ℕ) → row < 2 ^ 64 → AreWords board → IsRoster roster → IsGroup group
+      → length (json_line (screen_value row profile board roster group)) ≤ 1423

@@ -1,5 +1,0 @@
-use Rattle.ucl_live_board.proofs.LogFacts.{did_all}
-use Rattle.ucl_live_board.proofs.laws.holders_did_all.Goals as goal
-
-pub returns : goal.returns
-returns c = did_all

@@ -1,5 +1,0 @@
-use Rattle.ucl_live_board.proofs.LogFacts.{last_sees_all}
-use Rattle.ucl_live_board.proofs.laws.last_steps_see_all.Goals as goal
-
-pub returns : goal.returns
-returns c = last_sees_all

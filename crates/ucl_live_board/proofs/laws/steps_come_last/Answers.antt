@@ -1,5 +1,0 @@
-use Rattle.ucl_live_board.proofs.LogFacts.{steps_last}
-use Rattle.ucl_live_board.proofs.laws.steps_come_last.Goals as goal
-
-pub returns : goal.returns
-returns c = steps_last

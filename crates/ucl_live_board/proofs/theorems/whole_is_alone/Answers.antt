@@ -1,0 +1,5 @@
+use Rattle.ucl_live_board.proofs.Alone.{whole_is_alone}
+use Rattle.ucl_live_board.proofs.theorems.whole_is_alone.Goals as goal
+
+pub returns : goal.returns
+returns c = whole_is_alone

@@ -1,0 +1,255 @@
+-- What the lines of a session's answers tell: nothing, or the board state after their line.
+use Rattle.ucl_live_runs.proofs.Common.{NewBoard, again, answer_with, false, is_bad, next_by, stays_new, header_with, All-get_or, All-head, AreWords, Bad}
+use Rattle.ucl_live_runs.proofs.Common.{AwaitingHeader, Bool, Session, Event, FourFields, HasNumbers, IsAttempt, IsGroup, IsBoardState, IsRoster, IsValid, IsWord}
+use Rattle.ucl_live_runs.proofs.Common.{Json, KickOff, List, LiveArgs, MatchRecord, Matches, BoardState, NamedClub, NightEvent, None, Nothing, Open, Option, Other}
+use Rattle.ucl_live_runs.proofs.Common.{Profile, Refusal, Request, Row, Said, Screen, Some, Phase, BoardHeader, Words, [], accepted_value, after_row, and_parts}
+use Rattle.ucl_live_runs.proofs.Common.{answer, answer_at, answer_of, answer_said, ap, arith, asked_by, asked_header, attempt_of, board_after, cases_Bool}
+use Rattle.ucl_live_runs.proofs.Common.{edition_screen_value, event_of, event_or_bad, game_at, inl, inr, is_group_row, json_line, leb-true, letter_in}
+use Rattle.ucl_live_runs.proofs.Common.{board_state_at, board_state_with, nat_le, next, next_board, next_header, number, number_valid, profile_named, refl}
+use Rattle.ucl_live_runs.proofs.Common.{refusal_of, reply_answer, reply_of, reply_value, request_of, screen_after, screen_answer, start_of, subst, sym, header_by}
+use Rattle.ucl_live_runs.proofs.Common.{header_said, true, version_of, unwrap_or, word_at, word_valid, ℕ, ⊤, ◌&&◌, ◌+◌, ◌-◌, ◌<◌, ◌>>=◌, ◌^◌, ◌∷◌, ◌≡◌, ◌≤◌}
+use Rattle.std.proofs.lemmas.Bool.{cond_both}
+use Rattle.ucl_live_runs.proofs.Boards.{ranged, AreAttempts, asked-by, event-numbers}
+use Rattle.ucl_live_runs.proofs.GoodPhases.{IsGood, good-after-line, of-request}
+use Rattle.ucl_live_runs.proofs.BegunAgain.{renewed}
+use Rattle.ucl_live_runs.specs.Headers.{edition_by}
+use Rattle.ucl_command.specs.Groups.{may_be_asked}
+use Rattle.ucl_command.proofs.Letters.{asked_letter}
+use Rattle.ucl_live_runs.specs.LiveText.{header_or}
+use Rattle.ucl_live_runs.proofs.GoodBoards.{good-after}
+use Rattle.ucl_live_runs.proofs.AnswerLines.{IsLineThat, IsShown, PrintsAlone, alone-as, alone-line, alone-none, alone-then, bad-line, board-fits, found-fits}
+use Rattle.ucl_live_runs.proofs.AnswerLines.{matches-line, refused-line, value-line, words-line}
+use Rattle.ucl_live_runs.proofs.Matches.{told-lines}
+
+abbrev pub Lines : Type 0
+Lines = List (List ℕ)
+
+-- and a header that there is
+
+pub record IsHeader (header : BoardHeader) : Type 0 where
+  pub letter : IsGroup header.group
+  pub edition : header.edition ≤ 65535
+
+within : (text : List ℕ) (group : ℕ) → letter_in text ≡ Some group → IsGroup group
+within (b ∷ []) group e = elim (cases_Bool (nat_le 65 b && nat_le b 72)) [
+  | inl y ↦
+      let same : b ≡ group = cc (rw y at e) in
+      let p = and_parts (nat_le 65 b) (nat_le b 72) y in subst IsGroup same (leb-true 65 b p.0, leb-true b 72 p.1)
+  | inr n ↦ cc (rw n at e)
+]
+within text group e = cc
+
+abbrev has_header : Option ℕ → Option Profile → Option ℕ → Option BoardHeader
+has_header a b c = do
+  group ← a
+  profile ← b
+  edition ← c
+  Some (record { group = group; profile = profile; edition = edition })
+
+by-parts : (a : Option ℕ) (b : Option Profile) (c : Option ℕ) (header : BoardHeader) → has_header a b c ≡ Some header → (a ≡ Some header.group) × (c ≡ Some header.edition)
+by-parts (Some a) (Some b) (Some c) header h =
+    let same : ◌≡◌ {A = BoardHeader} (record { group = a; profile = b; edition = c }) header = cc in
+    (ap (λ (t : BoardHeader). Some t.group) same, ap (λ (t : BoardHeader). Some t.edition) same)
+by-parts a b c header h = cc
+
+said-header : (f : FourFields) (header : BoardHeader) → header_by f ≡ Some header → IsHeader header
+said-header f header h =
+    let p = by-parts (letter_in f.second) (profile_named f.third) (edition_by f.fourth) header h in
+    record { letter = within f.second header.group p.0; edition = (ranged 0 65535 (number 5 f.fourth) header.edition p.1).1 }
+
+letter-of : (asked : Option ℕ) → may_be_asked asked ≡ true → IsGroup (unwrap_or asked 65)
+letter-of None h = (omega arith, omega arith)
+letter-of (Some group) h = asked_letter group h
+
+pub first-header : (options : LiveArgs) → IsHeader (asked_header options)
+first-header options = record { letter = letter-of options.group options.letter; edition = omega arith }
+
+or-header : (header : BoardHeader) (o : Option BoardHeader) → IsHeader header → ((other : BoardHeader) → o ≡ Some other → IsHeader other) → IsHeader (header_or header o)
+or-header header None is more = is
+or-header header (Some other) is more = more other refl
+
+row-header : (header : BoardHeader) (r : Said) → IsHeader header → IsHeader (header_or header (header_said r))
+row-header header (Row f) is = or-header header (header_by f) is (said-header f)
+row-header _ _ is = is
+
+next-good : (header : BoardHeader) (s : Phase) (r : Said) → IsHeader header → IsHeader (next_header header s r)
+next-good header AwaitingHeader r is =
+    cond_both (is_group_row r) (header_or header (header_said r)) header IsHeader (λ _. row-header header r is) (λ _. is)
+next-good _ _ _ is = is
+
+-- ---- sessions
+
+pub record IsSound (e : Session) : Type 0 where
+  pub phase : IsGood e.phase
+  pub header : IsHeader e.header
+
+header-again : (e : Session) (r : Said) (o : Option NewBoard) → again e r ≡ o → IsHeader e.header → IsHeader (header_with o (next_header e.header e.phase r))
+header-again e r None is t = next-good e.header e.phase r t
+header-again e r (Some new) is t = elim (renewed e r new is).renews.has_header [
+  | inl later ↦ said-header (renewed e r new is).fields new.header later.1
+  | inr same ↦ subst IsHeader (sym same.1) t
+]
+
+pub sound-next : (e : Session) (r : Said) → IsSound e → IsSound (next e r)
+sound-next e r g = record { phase = good-after-line e r g.phase; header = header-again e r (again e r) refl g.header }
+
+pub start-sound : (options : LiveArgs) → IsSound (start_of options)
+start-sound options = record { phase = tt; header = first-header options }
+
+-- ---- board states
+
+pub board_state-good : (header : BoardHeader) (clubs : List NamedClub) (board : List ℕ) → IsHeader header → IsRoster clubs → AreWords board →
+    IsBoardState (board_state_with header clubs board)
+board_state-good header clubs board t is w = record { letter = t.letter; edition = t.edition; clubs = is; words = w; bits = board-fits board w.each }
+
+-- ---- the numbers of an event that a row asks for
+
+numbers : (f : FourFields) (e : NightEvent) → event_of f ≡ Some e → HasNumbers e
+numbers f e h =
+    let p = event-numbers f e h in
+    let reporter = p.0.0.1 in
+    let game = p.0.1.1 in
+    let expected = p.1 in record { reporter = omega (arith, reporter); game = omega (arith, game); expected = omega (arith, expected) }
+
+-- each event that is asked for has numbers that fit
+abbrev pub Fits : Request → Type 0
+Fits (Event event) = HasNumbers event
+Fits (Bad field) = ⊤
+Fits Screen = ⊤
+Fits Words = ⊤
+Fits Matches = ⊤
+
+fits-event : (f : FourFields) (o : Option NightEvent) → ((e : NightEvent) → o ≡ Some e → HasNumbers e) → Fits (event_or_bad f o)
+fits-event f None p = tt
+fits-event f (Some e) p = p e refl
+
+pub fits-asked : (f : FourFields) → Fits (asked_by f)
+fits-asked f = asked-by Fits f tt tt tt tt (fits-event f (event_of f) (numbers f))
+
+pub fits-request : (r : Said) → Fits (request_of r)
+fits-request (Row f) = fits-asked f
+fits-request _ = tt
+
+-- ---- what the answer to a line tells
+
+-- any event
+abbrev kick_off : NightEvent
+kick_off = record { reporter = 1; call = record { game = 1; expected = 0; kind = KickOff } }
+
+kick_off-fits : HasNumbers kick_off
+kick_off-fits = record { reporter = omega arith; game = omega arith; expected = omega arith }
+
+module _ (options : LiveArgs) (header : BoardHeader) (row : ℕ) (clubs : List NamedClub) (json : options.format ≡ Json) (fits : row < 2 ^ 64) (good : IsHeader header)
+    (is : IsRoster clubs) where
+  abbrev At : List ℕ → Option BoardState
+  At board = Some (board_state_with header clubs board)
+
+  screen-tells : (board : List ℕ) → AreWords board → PrintsAlone (At board) (screen_answer options.format header row clubs board)
+  screen-tells board w =
+      rw json (alone-line (edition_screen_value row header board clubs) (At board) (At board)
+      ((told-lines row kick_off 0 (board_state_with header clubs board) (board_state-good header clubs board good is w) fits kick_off-fits (omega arith)).screen) (inr refl))
+
+  module _ (board : List ℕ) (w : AreWords board) (event : NightEvent) (attempted : IsAttempt (attempt_of event)) (small : HasNumbers event) where
+    abbrev game_of : List ℕ → MatchRecord
+    game_of words = game_at words event.call.game
+
+    abbrev now : List ℕ
+    now = board_after board (attempt_of event)
+
+    good-now : AreWords now
+    good-now = good-after board (attempt_of event) w attempted
+
+    is-word : (words : List ℕ) → AreWords words → IsWord (word_at words event.call.game)
+    is-word words good = All-get_or IsWord words (event.call.game - 1) 0 (let t = good.twelve in let r = attempted.1 in omega (arith, t, r)) good.each
+
+    is-valid : (words : List ℕ) → AreWords words → IsValid (game_of words)
+    is-valid words good = word_valid (word_at words event.call.game) (is-word words good)
+
+    number-fits : (game_of board).number + 1 < 2 ^ 64
+    number-fits = let n = number_valid (game_of board) (is-valid board w) in omega arith
+
+    abbrev reply-with : Option Refusal → List ℕ
+    reply-with o = json_line (reply_value row event (answer (game_of board).number o) header now clubs)
+
+    accepted-line : IsLineThat (At now) (reply-with None)
+    accepted-line =
+        value-line (accepted_value row event ((game_of board).number + 1) header now clubs) (At now)
+        ((told-lines row event ((game_of board).number + 1) (board_state_with header clubs now) (board_state-good header clubs now good is good-now) fits small number-fits).reply)
+
+    pub accepted-reply : (before : ℕ) → refusal_of (game_of board) event.call.expected event.call.kind ≡ None
+        → IsLineThat (At now) (reply_answer options.format header row clubs event before (reply_of (game_of board) event.call) now)
+    accepted-reply before e = rw json (subst (λ (o : Option Refusal). IsLineThat (At now) (reply-with o)) (sym e) accepted-line)
+
+    reply-by : (o : Option Refusal) → refusal_of (game_of board) event.call.expected event.call.kind ≡ o → PrintsAlone (At now) (reply-with o)
+    reply-by None e = alone-as (At now) (At now) (reply-with None) accepted-line (inr refl)
+    reply-by (Some refusal) e =
+        refused-line (At now) row event refusal (game_of now) fits small
+        (found-fits (word_at board event.call.game) event.call.expected event.call.kind refusal (is-word board w) e) (is-valid now good-now)
+
+    reply-tells : (before : ℕ) → PrintsAlone (At now) (reply_answer options.format header row clubs event before (reply_of (game_of board) event.call) now)
+    reply-tells before = rw json (reply-by (refusal_of (game_of board) event.call.expected event.call.kind) refl)
+
+    after-tells : (o : Option Refusal) → PrintsAlone (At now) (screen_after options header row clubs (answer (game_of board).number o) now)
+    after-tells None = cond_both options.screens (screen_answer options.format header row clubs now) [] (PrintsAlone (At now))
+        (λ _. screen-tells now good-now) (λ _. alone-none (At now))
+    after-tells (Some refusal) = alone-none (At now)
+
+  request-tells : (board : List ℕ) (request : Request) (shown : List ℕ) → AreWords board → AreAttempts request → Fits request → IsShown shown
+      → PrintsAlone (At (next_board board request)) (answer_of options header row clubs board request shown)
+  request-tells board (Event event) shown w all small short =
+      let m = game_at board event.call.game in
+      let after = board_after board (attempt_of event) in
+      let attempted = All-head IsAttempt (attempt_of event) [] all in
+      alone-then (At after) (reply_answer options.format header row clubs event (version_of board) (reply_of m event.call) after)
+      (screen_after options header row clubs (reply_of m event.call) after)
+      (reply-tells board w event attempted small (version_of board)) (after-tells board w event attempted small (refusal_of m event.call.expected event.call.kind))
+  request-tells board (Bad field) shown w all small short = rw json (bad-line (At board) row field shown fits short)
+  request-tells board Screen shown w all small short = screen-tells board w
+  request-tells board Words shown w all small short = rw json (words-line (At board) row board fits w.twelve (board-fits board w.each))
+  request-tells board Matches shown w all small short = rw json (matches-line (At board) row board clubs fits is w)
+
+-- what the board stands at, once something but the rows of its heading has come
+abbrev pub told_now : Bool → BoardHeader → Phase → Option BoardState
+told_now true header s = None
+told_now false header s = board_state_at header s
+
+never : (b : Bool) → (b && false) ≡ false
+never true = refl
+never false = refl
+
+-- a row that asks for nothing that there is tells nothing, and any other the board state after it
+said-tells : (options : LiveArgs) (header : BoardHeader) (row : ℕ) (is_new : Bool) (clubs : List NamedClub) (board : List ℕ) (request : Request) (shown : List ℕ) → options.format ≡ Json
+    → row < 2 ^ 64 → IsHeader header → IsRoster clubs → AreWords board → AreAttempts request → Fits request → IsShown shown
+    → PrintsAlone (told_now (is_new && is_bad request) header (Open clubs (next_board board request))) (answer_of options header row clubs board request shown)
+said-tells options header row is_new clubs board (Bad field) shown json fits t g w all small short =
+    rw json (bad-line (told_now (is_new && true) header (Open clubs board)) row field shown fits short)
+said-tells options header row is_new clubs board (Event event) shown json fits t g w all small short =
+    rw (never is_new) (request-tells options header row clubs json fits t g board (Event event) shown w all small short)
+said-tells options header row is_new clubs board Screen shown json fits t g w all small short =
+    rw (never is_new) (request-tells options header row clubs json fits t g board Screen shown w all small short)
+said-tells options header row is_new clubs board Words shown json fits t g w all small short =
+    rw (never is_new) (request-tells options header row clubs json fits t g board Words shown w all small short)
+said-tells options header row is_new clubs board Matches shown json fits t g w all small short =
+    rw (never is_new) (request-tells options header row clubs json fits t g board Matches shown w all small short)
+
+phase-tells : (e : Session) (r : Said) (shown : List ℕ) → e.options.format ≡ Json → e.row < 2 ^ 64 → IsSound e → IsShown shown → (s : Phase) → e.phase ≡ s
+    → PrintsAlone (told_now (stays_new e.is_new s r) (next_header e.header s r) (after_row e.options e.row s r)) (answer_at e.options e.header e.row s (request_of r) shown)
+phase-tells e r shown json fits g short (Open clubs board) is =
+    let good : IsGood (Open clubs board) = subst IsGood is g.phase in
+    said-tells e.options e.header e.row e.is_new clubs board (request_of r) shown json fits g.header good.0 good.1 (of-request r) (fits-request r) short
+phase-tells e r shown json fits g short s is = alone-none (told_now (stays_new e.is_new s r) (next_header e.header s r) (after_row e.options e.row s r))
+
+-- a line tells nothing, or the board state after it, and then the edition is new no more
+abbrev pub told_after : Session → Option BoardState
+told_after e = told_now e.is_new e.header e.phase
+
+line-by : (e : Session) (o : Option NewBoard) (r : Said) (shown : List ℕ) → e.options.format ≡ Json → e.row < 2 ^ 64 → IsSound e → IsShown shown
+    → PrintsAlone (told_after (next_by e o r)) (answer_with e o r shown)
+line-by e (Some new) r shown json fits g short = alone-none None
+line-by e None Nothing shown json fits g short = alone-none (told_after (next_by e None Nothing))
+line-by e None Other shown json fits g short = phase-tells e Other shown json fits g short e.phase refl
+line-by e None (Row f) shown json fits g short = phase-tells e (Row f) shown json fits g short e.phase refl
+
+pub line-tells : (e : Session) (r : Said) (shown : List ℕ) → e.options.format ≡ Json → e.row < 2 ^ 64 → IsSound e → IsShown shown
+    → PrintsAlone (told_after (next e r)) (answer_said e r shown)
+line-tells e r shown json fits g short = line-by e (again e r) r shown json fits g short

@@ -1,0 +1,73 @@
+-- The stages of a session: rosters and boards that there are.
+use Rattle.ucl_live_runs.proofs.Common.{next, Session, NewBoard, again, phase_with, subst, All, All-cons, All-head, All-nil, AreWords, AwaitingHeader, Event}
+use Rattle.ucl_live_runs.proofs.Common.{IsAttempt, IsClub, IsRoster, List, LiveArgs, NamedClub, AwaitingClubs, None, Nothing, Open, Option, Other, OtherGroup}
+use Rattle.ucl_live_runs.proofs.Common.{Refused, Request, Row, Said, Some, Phase, BoardHeader, [], after_beginning, after_club, after_row, after_header, attempt_of}
+use Rattle.ucl_live_runs.proofs.Common.{bad_slot, cases_Bool, club_said, inl, inr, is_as_asked, is_group_row, length, next_board, next_phase, refl, request_of}
+use Rattle.ucl_live_runs.proofs.Common.{header_said, with_roster, ℕ, ⊤, ◌++◌, ◌+◌, ◌==◌, ◌∷◌, ◌≡◌}
+use Rattle.std.proofs.lemmas.Bool.{cond_both, eqb-true}
+use Rattle.ucl_order.specs.Roster.{bad_slot_from, is_club}
+use Rattle.ucl_live_runs.proofs.Boards.{AreAttempts, asked}
+use Rattle.ucl_live_runs.proofs.BegunAgain.{renewed}
+use Rattle.ucl_live_runs.proofs.GoodBoards.{fresh-good, good-after}
+
+abbrev pub IsGood : Phase → Type 0
+IsGood (Open clubs board) = IsRoster clubs × AreWords board
+IsGood AwaitingHeader = ⊤
+IsGood (AwaitingClubs clubs) = ⊤
+IsGood (Refused fault) = ⊤
+
+all-clubs : (slot : ℕ) (clubs : List NamedClub) → bad_slot_from slot clubs ≡ None → All IsClub clubs
+unfolding bad_slot_from
+all-clubs slot [] h = All-nil IsClub
+all-clubs slot (club ∷ clubs) h = elim (cases_Bool (is_club club)) [
+  | inl y ↦ All-cons IsClub club clubs y (all-clubs (slot + 1) clubs (rw y at h))
+  | inr n ↦ cc (rw n at h)
+]
+
+good-roster : (clubs : List NamedClub) (slot : Option ℕ) → length clubs ≡ 4 → bad_slot clubs ≡ slot → IsGood (with_roster clubs slot)
+good-roster clubs None four e = (record { four = four; each = all-clubs 1 clubs e }, fresh-good)
+good-roster clubs (Some slot) four e = tt
+
+good-club : (row : ℕ) (clubs : List NamedClub) (club : Option NamedClub) → IsGood (after_club row clubs club)
+good-club row clubs None = tt
+good-club row clubs (Some club) =
+    let all = clubs ++ club ∷ [] in
+    cond_both (length all == 4) (with_roster all (bad_slot all)) (AwaitingClubs all) IsGood
+    (λ e. good-roster all (bad_slot all) (eqb-true (length all) 4 e) refl) (λ _. tt)
+
+good-board : (board : List ℕ) (request : Request) → AreWords board → AreAttempts request → AreWords (next_board board request)
+good-board board (Event event) w all = good-after board (attempt_of event) w (All-head IsAttempt (attempt_of event) [] all)
+good-board _ _ w _ = w
+
+pub of-request : (r : Said) → AreAttempts (request_of r)
+of-request (Row f) = asked f
+of-request _ = All-nil IsAttempt
+
+good-header : (options : LiveArgs) (row : ℕ) (header : Option BoardHeader) → IsGood (after_header options row header)
+good-header options row None = tt
+good-header options row (Some header) = cond_both (is_as_asked options header) (AwaitingClubs []) (Refused OtherGroup) IsGood (λ _. tt) (λ _. tt)
+
+good-first : (options : LiveArgs) (row : ℕ) (r : Said) → IsGood (after_beginning options row r)
+good-first options row r =
+    cond_both (is_group_row r) (after_header options row (header_said r)) (after_club row [] (club_said 1 r)) IsGood
+    (λ _. good-header options row (header_said r)) (λ _. good-club row [] (club_said 1 r))
+
+good-row : (options : LiveArgs) (row : ℕ) (s : Phase) (r : Said) → IsGood s → IsGood (after_row options row s r)
+good-row options row AwaitingHeader r g = good-first options row r
+good-row options row (AwaitingClubs clubs) r g = good-club row clubs (club_said (length clubs + 1) r)
+good-row options row (Open clubs board) r g = (g.0, good-board board (request_of r) g.1 (of-request r))
+good-row options row (Refused fault) r g = tt
+
+good-next : (options : LiveArgs) (row : ℕ) (s : Phase) (r : Said) → IsGood s → IsGood (next_phase options row s r)
+good-next options row s Nothing g = g
+good-next options row s Other g = good-row options row s Other g
+good-next options row s (Row f) g = good-row options row s (Row f) g
+
+good-again : (e : Session) (r : Said) (o : Option NewBoard) → again e r ≡ o → IsGood e.phase → IsGood (phase_with o (next_phase e.options e.row e.phase r))
+good-again e r None is g = good-next e.options e.row e.phase r g
+good-again e r (Some new) is g =
+    let x = renewed e r new is in
+    let good : IsGood (Open x.clubs x.board) = subst IsGood x.stands g in (x.renews.good good.0, fresh-good)
+
+pub good-after-line : (e : Session) (r : Said) → IsGood e.phase → IsGood (next e r).phase
+good-after-line e r g = good-again e r (again e r) refl g

@@ -1,0 +1,125 @@
+-- A session as a handler, and what is left of it where a run fails.
+use Rattle.std.specs.Prelude.{◌≡◌, ◌⊎◌, ⊤, ℕ, true, if◌then◌else◌, List, [], ◌∷◌, ◌++◌, Option, Some, None}
+use Rattle.std.specs.Result.{is_ok}
+use Rattle.std.specs.Io.KnownBytes.{Appends}
+use Rattle.ucl_word.specs.Rules.{reply_of}
+use Rattle.ucl_board.specs.Words.{game_at}
+use Rattle.ucl_io.specs.Calls.{Device, HasEnded}
+use Rattle.ucl_io.specs.Lines.{begun_line, ended_lines}
+use Rattle.ucl_live_runs.specs.declared.header.HeaderState.{HeaderState}
+use Rattle.ucl_command.specs.declared.options.Format.TheVariants.{Json}
+use Rattle.ucl_command.specs.declared.live.LiveArgs.{LiveArgs}
+use Rattle.ucl_live_runs.specs.declared.session.Session.{Session as Held}
+use Rattle.ucl_live_runs.specs.declared.live_fault.LiveFault.{LiveFault}
+use Rattle.ucl_live_runs.specs.Driven.{Due}
+use Rattle.ucl_live_runs.specs.LiveFaults.{StopsBy}
+use Rattle.ucl_live_runs.specs.declared.request.Request.{Request}
+use Rattle.ucl_live_runs.specs.declared.request.Request.TheVariants.{Bad, Event, Screen, Words, Matches}
+use Rattle.ucl_live_runs.specs.declared.parts.Parts.{Parts}
+use Rattle.ucl_rows.specs.InputLines.{last_lines}
+use Rattle.ucl_live_runs.specs.Requests.{request_of}
+use Rattle.ucl_rows.specs.Rows.{Said, Nothing, Other, Row, said_on}
+use Rattle.ucl_live_runs.specs.Seen.{phase_seen}
+use Rattle.ucl_rows.specs.Answers.{bytes_of}
+use Rattle.ucl_live_runs.specs.Phases.{Phase, AwaitingHeader, AwaitingClubs, Open, Refused}
+use Rattle.ucl_live_runs.specs.NewBoards.{NewBoard}
+use Rattle.ucl_live_runs.specs.LiveText.{Session, after_lines, again, answers, live_text, missing_after, missing_now, next}
+
+-- ---- lack of memory
+
+-- whether the answer to a request asks for memory: in JSON each does, and as text screens and matches alone
+abbrev pub RequestNeedsMemory : LiveArgs → List ℕ → Request → Type 0
+RequestNeedsMemory options board (Event event) =
+    (options.format ≡ Json) ⊎ ((options.screens ≡ true) × (is_ok (reply_of (game_at board event.call.game) event.call) ≡ true))
+RequestNeedsMemory options board (Bad field) = options.format ≡ Json
+RequestNeedsMemory options board Screen = ⊤
+RequestNeedsMemory options board Words = options.format ≡ Json
+RequestNeedsMemory options board Matches = ⊤
+
+-- a club's name asks for memory
+abbrev pub PhaseNeedsMemory : LiveArgs → Phase → Request → Type 0
+PhaseNeedsMemory options AwaitingHeader request = ⊤
+PhaseNeedsMemory options (AwaitingClubs clubs) request = ⊤
+PhaseNeedsMemory options (Open clubs board) request = RequestNeedsMemory options board request
+PhaseNeedsMemory options (Refused fault) request = ⊥
+
+-- a row that begins the board again asks for none
+abbrev pub RowNeedsMemory : Session → Option NewBoard → Said → Type 0
+RowNeedsMemory e (Some new) said = ⊥
+RowNeedsMemory e None Nothing = ⊥
+RowNeedsMemory e None Other = PhaseNeedsMemory e.options e.phase (request_of Other)
+RowNeedsMemory e None (Row f) = PhaseNeedsMemory e.options e.phase (request_of (Row f))
+
+abbrev pub NeedsMemory : Session → Said → Type 0
+NeedsMemory e said = RowNeedsMemory e (again e said) said
+
+-- ---- the handler
+
+-- what a line is answered
+abbrev pub parts_bytes : Parts → List ℕ
+parts_bytes p = if p.is_words then p.words.items else bytes_of p.answer
+
+-- the session before a line of this number
+abbrev pub session_at : LiveArgs → HeaderState → ℕ → Phase → Session
+session_at options heading row phase =
+    record { options = options; header = heading.header; row = row; phase = phase; is_new = heading.is_new }
+
+abbrev pub session_of : Held → ℕ → Session
+session_of e row = session_at e.options e.heading row (phase_seen e.phase)
+
+-- a row has no answer: there was no memory for it, which it asks for, or the phase after it is refused
+abbrev pub HasNoAnswer : Session → Said → LiveFault → Type 0
+HasNoAnswer e said fault = StopsBy (NeedsMemory e said) ((next e said).phase ≡ Refused fault) fault
+
+-- the input ends, where a last line has begun so: it may have no byte
+abbrev pub end_of : Session → List ℕ → Session
+end_of e begun = after_lines e (last_lines begun)
+
+abbrev pub missing_at : Session → List ℕ → Option LiveFault
+missing_at e begun = missing_now (end_of e begun)
+
+-- it is answered too, and no club or word is missing then
+pub record Closes (e : Session) (begun text : List ℕ) : Type 0 where
+  pub text_is : text ≡ answers e (last_lines begun)
+  pub complete : missing_at e begun ≡ None
+
+-- there was no memory for it, which it asks for; or a club or a word has a fault, or is missing
+abbrev pub HasNoEnd : Session → List ℕ → LiveFault → Type 0
+HasNoEnd e begun fault = StopsBy (NeedsMemory e (said_on e.row begun)) (missing_at e begun ≡ Some fault) fault
+
+-- ---- a whole run
+
+-- the answers to the lines that end among these bytes, and the session after them
+abbrev pub answers_to : Session → List ℕ → List ℕ
+answers_to start bytes = answers start (ended_lines 258 [] bytes)
+
+abbrev pub after_bytes : Session → List ℕ → Session
+after_bytes start bytes = after_lines start (ended_lines 258 [] bytes)
+
+-- the bytes end a line here, or are at their end
+abbrev pub EndsLine : List ℕ → Option (List ℕ) → Option (List ℕ) → Type 0
+EndsLine rest left left2 = ((more : List ℕ) × (rest ≡ 10 ∷ more)) ⊎ ((rest ≡ []) × HasEnded left left2)
+
+-- a line was not answered, for which there was no memory: it asks for some, and those before it were answered, whole
+pub record RanOutOfMemory (start : Session) (bytes : List ℕ) (old new : Device) : Type 0 where
+  pub front : List ℕ
+  pub rest : List ℕ
+  pub parts : bytes ≡ front ++ rest
+  pub out : Appends old.taken new.taken (answers_to start front)
+  pub line : EndsLine rest old.left new.left
+  pub asks : NeedsMemory (after_bytes start front) (said_on (after_bytes start front).row (begun_line 258 [] front))
+
+-- the session is refused, by the bytes that were taken or by their end, and nothing was answered
+pub record IsRejected (start : Session) (bytes : List ℕ) (old new : Device) (fault : LiveFault) : Type 0 where
+  pub refused : ((after_bytes start bytes).phase ≡ Refused fault)
+      ⊎ (HasEnded old.left new.left × (missing_after start bytes ≡ Some fault))
+  pub out : Appends old.taken new.taken []
+
+-- a session that is driven stops if there was no memory for a line, or it is refused; where it ends well, no club is missing
+abbrev pub session_due : Session → Due ⊤ LiveFault
+session_due start = record {
+  so_far = answers_to start;
+  whole = live_text start;
+  Stops = λ bytes old new fault. StopsBy (RanOutOfMemory start bytes old new) (IsRejected start bytes old new fault) fault;
+  Ends = λ done bytes. missing_after start bytes ≡ None;
+}

@@ -1,0 +1,35 @@
+//! The runs of `ucl_live` and `ucl_follow`, over any source of bytes and any sink: `live_run` answers rows through a session, as they come;
+//! `follow_run` follows the answers of a session in JSON. `run_session` and `run_following` do what the arguments of these programs ask
+//! for. Scripts, sheets and nights are in `ucl_runs`.
+#![tactic(auto)]
+
+mod follow_program;
+mod follow_theorems;
+mod follower;
+mod header;
+mod live_fault;
+mod live_program;
+mod live_theorems;
+mod new_board;
+mod open_board;
+mod parts;
+mod phase;
+mod request;
+mod session;
+
+pub use follow_program::run_following;
+pub use follow_theorems::{
+    answers_tell_their_board_state, followers_end_with_the_board, latest_is_shown_last,
+    lines_tell_their_board_state, matches_fit_their_line, others_do_not_matter,
+    repeated_rows_change_nothing, same_rows_same_table, versions_rise,
+};
+pub use follower::{FollowOutput, FollowSummary, Follower, follow_run};
+pub use live_fault::LiveFault;
+pub use live_program::run_session;
+pub use live_theorems::{
+    beginnings_are_answered, boards_begin_again, boards_take_events, json_answers_are_lines,
+    lines_are_read_whole, refused_sessions_are_silent, replies_are_those_of_feed,
+    sessions_are_sequential,
+};
+pub use parts::Parts;
+pub use session::{Session, live_run};

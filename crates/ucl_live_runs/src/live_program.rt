@@ -1,0 +1,49 @@
+//! The session that `ucl_live` holds for its arguments.
+
+ghost use Rattle.ucl_rows.specs.Ending.{ended_with};
+ghost use Rattle.ucl_live_runs.specs.LiveProgram.{EndsHeld, RunsSession};
+
+use crate::live_fault::LiveFault;
+use crate::session::{Session, live_run};
+use std::alloc::Global;
+use ucl_command::{LineFault, LiveArgs};
+use ucl_io::{LoggedIo, ServeFault};
+use ucl_rows::{exit_without_command, of_driver, print_fault, print_refusal};
+use ucl_screen::{Sink, Source};
+
+/// What is told where the first row says another group or order than was asked for.
+const OTHER_GROUP: &str = "error: the row of the group differs from --group or --order\n";
+
+/// Prints the fault of a session, if it has one, and returns the exit status.
+fn print_outcome<E: Sink>(errors: &mut E, done: Result<(), ServeFault<LiveFault>>) -> u8
+    ensures { EndsHeld done (ended_with E.failed E.taken result errors.old errors.new) }
+{
+    match done {
+        Ok(()) => 0,
+        Err(fault) => match of_driver(fault) {
+            LiveFault::Run(fault) => print_fault(errors, fault),
+            LiveFault::OtherGroup => print_refusal(errors, OTHER_GROUP),
+        },
+    }
+}
+
+/// Holds the session that the arguments asked for, as `live_args` answered it, and gives the exit status: 0 where the input has ended and each row
+/// is answered; 2 if the arguments are refused, by the text of `clap`, or the row of the group differs from them; else that of the fault, which
+/// is told by its line: 3 where the clubs are refused, 4 if a device has failed, 5 if there was no memory. Help goes to the output.
+pub fn run_session<S: Source, W: Sink, E: Sink>(
+    alloc: Global,
+    asked: Result<LiveArgs, LineFault>,
+    logged_io: &mut LoggedIo<S, W, Session>,
+    errors: &mut E,
+) -> u8
+    ensures { RunsSession S.Source W.Sink asked logged_io.old logged_io.new
+        (ended_with E.failed E.taken result errors.old errors.new) }
+{
+    match asked {
+        Ok(options) => {
+            let done = live_run(alloc, options, logged_io);
+            print_outcome(errors, done)
+        }
+        Err(fault) => exit_without_command(&mut logged_io.sink, errors, fault),
+    }
+}

@@ -1,0 +1,66 @@
+//! What a row asks for.
+
+ghost use Rattle.std.specs.Prelude.{◌≡◌};
+ghost use Rattle.ucl_screen.specs.Rows.{four_seen};
+ghost use Rattle.ucl_live_runs.specs.Requests.{asked_by, is_bad, request_of};
+ghost use Rattle.ucl_rows.specs.Rows.{fields_seen};
+
+use ucl_rows::{BadField, RowFields, bad_field};
+use ucl_screen::{Four, NightEvent, event_of_fields};
+
+/// What a row asks for, once there is a board.
+#[derive(Clone, Copy, Debug, PartialEq, Eq)]
+pub enum Request {
+    /// Nothing that there is, for this field.
+    Bad(BadField),
+    /// That a reporter's event be entered.
+    Event(NightEvent),
+    /// The screen of the board as it stands.
+    Screen,
+    /// The twelve words of the board as it stands.
+    Words,
+    /// The twelve matches of the board as it stands.
+    Matches,
+}
+
+impl Request {
+    /// Returns whether it asks for nothing that there is.
+    pub(crate) fn is_bad(&self) -> bool
+        ensures { result ≡ is_bad self.now }
+    {
+        matches!(self, Request::Bad(_))
+    }
+}
+
+/// Returns what a row of four fields asks for.
+#[tactic(auto, unfolding(crate::specs::Requests::asked_by))]
+fn asked_by(four: &Four<'_>) -> Request
+    ensures { result ≡ asked_by (four_seen four.now) }
+{
+    if four.second.is_empty() && four.third.is_empty() && four.fourth.is_empty() {
+        if four.first == b"screen".as_slice() {
+            Request::Screen
+        } else if four.first == b"words".as_slice() {
+            Request::Words
+        } else if four.first == b"matches".as_slice() {
+            Request::Matches
+        } else {
+            Request::Bad(bad_field(four))
+        }
+    } else {
+        match event_of_fields(four) {
+            None => Request::Bad(bad_field(four)),
+            Some(event) => Request::Event(event),
+        }
+    }
+}
+
+/// Returns what a row asks for.
+pub(crate) fn request_of(row: &RowFields<'_>) -> Request
+    ensures { result ≡ request_of (fields_seen row.now) }
+{
+    match row {
+        RowFields::Other => Request::Bad(BadField::Count),
+        RowFields::Four(four) => asked_by(four),
+    }
+}

@@ -1,5 +1,0 @@
-use Rattle.ucl_order.proofs.Coefficients.{table-same}
-use Rattle.ucl_order.proofs.laws.table_goes_by_coefficients.Goals as goal
-
-pub returns : goal.returns
-returns c = table-same

@@ -1,5 +1,0 @@
-use Rattle.ucl_runs.proofs.Merges.{all_merges_agree}
-use Rattle.ucl_runs.proofs.night_laws.schedule_does_not_matter.Goals as goal
-
-pub returns : goal.returns
-returns c = all_merges_agree

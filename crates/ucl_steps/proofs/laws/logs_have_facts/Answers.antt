@@ -1,5 +1,0 @@
-use Rattle.ucl_steps.proofs.LogFacts.{logs_facts}
-use Rattle.ucl_steps.proofs.laws.logs_have_facts.Goals as goal
-
-pub returns : goal.returns
-returns c = logs_facts

@@ -1,5 +1,0 @@
-use Rattle.ucl_steps.proofs.Runs.{linearizable_run}
-use Rattle.ucl_steps.proofs.laws.runs_are_linearizable.Goals as goal
-
-pub returns : goal.returns
-returns c = linearizable_run

@@ -1,0 +1,48 @@
+-- What holds of every run of the machine.
+use Rattle.std.specs.Prelude.{◌≡◌, ℕ, ◌+◌, ◌*◌, ◌<◌, ◌≤◌, List, length, take, Some, Result, slice_get}
+use Rattle.std.specs.List.{AllByRecursion}
+use Rattle.ucl_word.specs.declared.event.EventCall.{EventCall}
+use Rattle.ucl_word.specs.declared.event.Accepted.{Accepted}
+use Rattle.ucl_word.specs.declared.refusal.Refusal.{Refusal}
+use Rattle.ucl_board.specs.declared.entry.Entry.{Entry}
+use Rattle.ucl_board.specs.declared.reading.Reading.{Reading}
+use Rattle.ucl_board.specs.History.{board_of, IsLegal, sequential_reply, snapshot_at}
+use Rattle.ucl_steps.specs.declared.step.Cast.{Cast}
+use Rattle.ucl_steps.specs.declared.step.Step.{Step}
+use Rattle.ucl_steps.specs.Machine.{MachineState, initial_state, after_steps}
+use Rattle.ucl_steps.specs.Linearizable.{IsLinearizable}
+use Rattle.ucl_board.specs.Log.{Access}
+use Rattle.ucl_steps.specs.Trails.{Follows, ReportAccesses, decided_at, max_tries, max_loads, IsUnclean, accesses_of, ReadingAccesses}
+
+-- for every list of steps of any reporters and readers, cut anywhere, its history explains every call
+abbrev pub RunsAreLinearizable : Type 0
+RunsAreLinearizable = (cast : Cast) (steps : List Step) (state : MachineState) → after_steps steps (initial_state cast) ≡ Some state → IsLinearizable steps state.history state.calls
+
+-- the match words are those of the board of the history
+abbrev pub WordsAreOfTheHistory : Type 0
+WordsAreOfTheHistory = (cast : Cast) (steps : List Step) (state : MachineState) → after_steps steps (initial_state cast) ≡ Some state → state.words ≡ board_of state.history
+
+-- the last Second of an unclean try is at a longer history than the First of its match
+abbrev pub UncleanTriesSeeMore : Type 0
+UncleanTriesSeeMore = (history : List Entry) (low high : ℕ) (ms : List Access) → Follows history low ms high → (try : IsUnclean ms) (first : Access) → slice_get try.firsts (length try.broken.equal) ≡ Some first → first.at < try.broken.last.at
+
+-- so there are no more unclean tries than entries came
+abbrev pub UncleanTriesAreFew : Type 0
+UncleanTriesAreFew = (history : List Entry) (low high : ℕ) (tries : List (List Access)) → Follows history low (accesses_of tries) high → AllByRecursion IsUnclean tries → low + length tries ≤ high
+
+-- the reading is the board of the first entries, as many as its version says, and was had by few steps
+pub record IsReadFrom (history : List Entry) (low high : ℕ) (reading : Reading) (ms : List Access) (accesses : ReadingAccesses reading ms) : Type 0 where
+  pub snapshot : reading ≡ snapshot_at history reading.version
+  pub within : (low ≤ reading.version) × (reading.version ≤ high)
+  pub tries : low + length accesses.tries ≤ high
+  pub steps : (24 ≤ length ms) × (length ms ≤ 24 * (length accesses.tries + 1))
+  pub bound : (length accesses.tries < max_tries) × (length ms ≤ max_loads)
+
+-- what the accesses of a reading show
+abbrev pub ReadingsAreSnapshots : Type 0
+ReadingsAreSnapshots = (history : List Entry) (low high : ℕ) (reading : Reading) (ms : List Access) → IsLegal history → high ≤ length history → Follows history low ms high → (accesses : ReadingAccesses reading ms) → IsReadFrom history low high reading ms accesses
+
+-- the reply that the accesses of a report show is that of the board of one thread
+abbrev pub ReportsAreSequential : Type 0
+ReportsAreSequential = (history : List Entry) (low high now : ℕ) (call : EventCall) (reply : Result Accepted Refusal) (ms : List Access) → IsLegal history → Follows history low ms high → ReportAccesses call reply ms now
+    → sequential_reply (take (decided_at reply now) history) call ≡ reply

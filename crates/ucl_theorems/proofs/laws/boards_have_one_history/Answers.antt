@@ -1,5 +1,0 @@
-use Rattle.ucl_theorems.proofs.BoardScreens.{boards_have}
-use Rattle.ucl_theorems.proofs.laws.boards_have_one_history.Goals as goal
-
-pub returns : goal.returns
-returns c = boards_have

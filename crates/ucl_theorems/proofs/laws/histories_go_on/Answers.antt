@@ -1,5 +1,0 @@
-use Rattle.ucl_theorems.proofs.BoardScreens.{histories_go}
-use Rattle.ucl_theorems.proofs.laws.histories_go_on.Goals as goal
-
-pub returns : goal.returns
-returns c = histories_go

@@ -1,0 +1,5 @@
+use Rattle.ucl_theorems.proofs.BoardScreens.{histories_go}
+use Rattle.ucl_theorems.proofs.theorems.histories_go_on.Goals as goal
+
+pub returns : goal.returns
+returns c = histories_go

@@ -1,5 +1,0 @@
-use Rattle.ucl_word.proofs.AcceptedEvents.{ends_again}
-use Rattle.ucl_word.proofs.laws.a_reopened_match_can_be_ended.Goals as goal
-
-pub returns : goal.returns
-returns c = ends_again

@@ -1,5 +1,0 @@
-use Rattle.ucl_word.proofs.FirstWords.{layouts_apart}
-use Rattle.ucl_word.proofs.laws.layouts_differ.Goals as goal
-
-pub returns : goal.returns
-returns c = layouts_apart

@@ -1,0 +1,5 @@
+use Rattle.ucl_words.proofs.BoardTheorems.{boards_linearizable}
+use Rattle.ucl_words.proofs.theorems.boards_are_linearizable.Goals as goal
+
+pub returns : goal.returns
+returns c = boards_linearizable
