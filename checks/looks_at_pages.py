@@ -213,8 +213,13 @@ def promises_of(page):
 
 
 def promises_are_carried(top):
-    """Each promise names functions and clauses that are there. A method without clauses of its own has those of its trait."""
+    """Each promise names functions and clauses that are there. A method without clauses of its own has those of its trait. The README's table names
+    functions, types and traits of the crate of its row."""
     fields, contracts, heads, found = sources.records_of(top), {}, {}, []
+    for crate, carried in re.findall(r"(?m)^\| `(ucl_\w+)` \|[^|]*\|([^|]*)\|", (top / "README.md").read_text()):
+        source = "".join(path.read_text() for path in top.glob(f"crates/{crate}/src/**/*.rt"))
+        found += [f"README.md: {crate} has no `{name}`" for name in re.findall(r"`([^`]+)`", carried)
+                  if not re.search(rf"\b(fn|struct|enum|trait) {name.split('::')[-1]}\b", source)]
     every = [it for _, it in callable_functions(top)]
     for it in every:
         heads.setdefault((it.owner, it.name), it.head)
