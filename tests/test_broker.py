@@ -445,7 +445,7 @@ def test_a_reporter_is_told_of_rows_that_are_refused_anothers_or_none(site):
     assert report("a --matches 2", "1,1,2,goal-home") == ["ucl_reporter: match 1 is not yours", "1"]
     for row, told in {
         "1,13,0,kickoff": "there is no match 13: they are 1 to 12", "2,1,2,goal-home": "2,1,2,goal-home: no event of reporter 1; --help has them all",
-        "1 goal": "this is no event and no command; 1 goal home?", "mend 7": "this is typed at a terminal, behind a broker at ./ucl_reporter a.rows on the board's machine; without one it is --mend WHAT --yes"}.items():
+        "1 goal": "this is no event and no command; 1 goal home or 1 goal away?", "mend 7": "this is typed at a terminal, behind a broker at ./ucl_reporter a.rows on the board's machine; without one it is --mend WHAT --yes"}.items():
         assert report("a", row) == [f"ucl_reporter: {told}", "1"]
     for topic, text in ("0/rows/1", "2,1,2,goal-home"), ("0/rows/x", "x,1"), ("0/rows/1", "1,1,2,red-home\n"), ("1/rows/1", "1,1,2,red-home"), ("0/rows/1", "1," + "x" * 255), ("desk", '{"clubs":[],"words":7}'), ("answers", "[1]"):
         site.done(f"mosquitto_pub -q 1 -t ucl/a/{topic} -s", text)

@@ -228,7 +228,8 @@ def test_a_record_that_another_begins_meanwhile_stays(hall):
 REFUSALS = {
     "2 goal home": "match 2 has not kicked off; type 2 kickoff first", "1 kickoff": "match 1 has kicked off already", "1 reopen": "match 1 is not over",
     "3 yellow home": "match 3 is over; if it goes on, type 3 reopen first", "1 second yellow away": "the away side of match 1 has no yellow; type 1 yellow away before it",
-    "3 result 1-0": "match 3 has events", "1 disallow away": "the away side of match 1 has no goal", "4 red home": "has as many as a board counts", "1 gaol home": "1 goal home?", "1 goal hoem": "1 goal home?",
+    "3 result 1-0": "match 3 has events", "1 disallow away": "the away side of match 1 has no goal", "4 red home": "has as many as a board counts", "1 gaol home": "1 goal home?", "1 goal hoem": "1 goal home or 1 goal away?",
+    "3 disallow away 3 goal home": "; 3 disallow away?", "7 disallow": "7 disallow home or 7 disallow away?",
     "1 kick off": "1 kickoff?", "2 resutl 1-0": "2 result?", "1 corner flag": "help shows them all", "goal home": "help shows them all", "mned 17": "mend?", "clbu 2 X": "club?",
     "13 goal home": "there is no match 13: they are 1 to 12", "0": "there is no match 0", "5 result 2-x": "a result is 1 result 2-1", "5 result 64-0": "a result is 1 result 2-1",
     "5 result 1-0 reds 0-32": "a result is 1 result 2-1", "mend 99": "row 99 is no event accepted in edition 0", "mend 5": "row 5 is no event", "mend edition 4": "this record has no edition 4",
@@ -418,7 +419,8 @@ def test_mend_without_a_terminal(hall):
     rows = ["group,B,uefa,1\n", "3,1,0,kickoff\n", "3,1,1,goal-home\n", "3,2,0,kickoff\n", "3,1,2,fulltime\n", "screen,,,\n"]
     assert ran.output == asked.output + "It has begun\n" and mend.rows()[12:] == rows
     before, after = evening_of(cards)[0], mend.evening()[0]
-    assert ran.output.endswith("Before:\n" + shown(before) + "After:\n" + shown(after) + "It has begun\n")
+    clubs = "1 Alpha 60000, 2 Bravo 95000, 3 Charlie 60000, 4 Delta 81500\n"
+    assert ran.output.endswith(f"Before: {clubs}{shown(before)}After: {clubs}{shown(after)}It has begun\n")
     mend.run("--mend", 'club 2 A, "b"', "--yes"), mend.run("--mend", "coefficient 4 0", "--yes"), mend.run("--mend", "--yes"), mend.run("--mend", "edition 0", "--yes")
     titles = [f"group,B,uefa,{edition}\n" for edition in range(2, 6)]
     assert mend.rows()[18:] == [
