@@ -1,11 +1,10 @@
 -- What the clubs of a roster are known to be.
-use Rattle.std.proofs.Common.{◌≡◌, ℕ, ◌<◌, ◌≤◌, nat_le, true, List, [], ◌∷◌, length, map, slice_index_or, None, subst, arith}
-use Rattle.std.proofs.lemmas.Bool.Decides.{nat_tests}
+use Rattle.ucl_order.proofs.Common.{IsClub, IsRoster, List, NamedClub, None, [], and_parts, arith, is_club, length, map, member_seen}
+use Rattle.ucl_order.proofs.Common.{members_seen, nat_le, nat_tests, slice_index_or, subst, true, ℕ, ◌<◌, ◌∷◌, ◌≡◌, ◌≤◌}
+use Rattle.ucl_order.specs.Roster.{club_lent, is_name, bad_slot, bad_slot_from}
 use Rattle.std.proofs.lemmas.List.{get_or-map, length-map}
 use Rattle.std.proofs.lemmas.List.Elements.{All-get_or}
-use Rattle.std.proofs.lemmas.Bool.{and_parts}
 use Rattle.ucl_order.specs.declared.roster.Member.{Member}
-use Rattle.ucl_order.specs.Roster.{member_seen, members_seen, NamedClub, club_lent, IsClub, IsRoster, is_club, is_name, bad_slot, bad_slot_from}
 use Rattle.ucl_order.specs.declared.roster.LentClub.{LentClub}
 use Rattle.ucl_order.proofs.Slots.{by_four}
 

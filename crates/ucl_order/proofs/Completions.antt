@@ -1,27 +1,19 @@
 -- What a group can still become: points only rise, and never above what the club can reach.
-use Rattle.std.proofs.Common.{◌≡◌, ℕ, ◌+◌, ◌*◌, ◌≤◌, ◌==◌, ◌&&◌, Bool, true, false, not, if◌then◌else◌, List, [], ◌∷◌, Some, None, length, get_or, map, take}
-use Rattle.std.proofs.Common.{count_by, refl, sym, ap, arith, eq-eqb, All, Contains, eqb-true, nat_le, nat_lt, ◌⊎◌, inl, inr}
-use Rattle.std.specs.List.{list_all}
-use Rattle.std.proofs.lemmas.Bool.{cases_Bool, and_parts, leb-true}
-use Rattle.std.proofs.lemmas.Bool.Decides.{nat_tests}
+use Rattle.ucl_order.proofs.Common.{All, All-head, All-tail, Appearance, Bool, Contains, Contains-permutation, IsMatch, IsSlot, List, Match}
+use Rattle.ucl_order.proofs.Common.{NamedClub, None, Profile, Some, [], all_clubs, and_parts, ap, arith, cases_Bool, count_by, eq-eqb}
+use Rattle.ucl_order.proofs.Common.{eqb-true, false, finished, fixture_of, game_at, get_or, has_finished, if◌then◌else◌, inl, inr, is_in}
+use Rattle.ucl_order.proofs.Common.{length, length_permutation, list_all, map, mark_of, match_at, match_numbers, matches_of, nat_le, nat_lt}
+use Rattle.ucl_order.proofs.Common.{nat_tests, not, order_of, played, points, reach, refl, seen_by, started, started_of, sure_points, sym}
+use Rattle.ucl_order.proofs.Common.{take, true, unfinished, ℕ, ◌&&◌, ◌*◌, ◌+◌, ◌==◌, ◌∷◌, ◌≡◌, ◌≤◌, ◌⊎◌}
+use Rattle.std.proofs.lemmas.List.Sorted.{sum_by-IsPermutation}
+use Rattle.std.proofs.lemmas.Bool.{leb-true}
+use Rattle.ucl_order.specs.Marks.{IsCompletion, GoesThrough, rivals, out_of_reach}
 use Rattle.std.proofs.lemmas.Map.Views.{Contains-from_any}
-use Rattle.std.proofs.lemmas.List.Sorted.{Contains-permutation, length_permutation, sum_by-IsPermutation}
-use Rattle.std.proofs.lemmas.List.Elements.{All-head, All-tail}
 use Rattle.std.proofs.lemmas.List.Folds.{list_any_at}
 use Rattle.ucl_word.specs.declared.record.State.{State}
 use Rattle.ucl_word.specs.declared.record.State.TheVariants.{Finished}
 use Rattle.ucl_word.specs.Rules.{is_finished}
-use Rattle.ucl_board.specs.Fixtures.{IsMatch, IsSlot, fixture_of, match_numbers}
-use Rattle.ucl_board.specs.Words.{game_at}
-use Rattle.ucl_order.specs.declared.profile.Profile.{Profile}
-use Rattle.ucl_order.specs.declared.game.Match.{Match}
-use Rattle.ucl_order.specs.declared.game.Appearance.{Appearance}
 use Rattle.ucl_order.specs.declared.mark.Mark.TheVariants.{Plus, Minus, Blank}
-use Rattle.ucl_order.specs.Roster.{NamedClub}
-use Rattle.ucl_order.specs.Matches.{match_at, matches_of, has_finished, started, finished, unfinished, started_of, seen_by}
-use Rattle.ucl_order.specs.Results.{played, points}
-use Rattle.ucl_order.specs.Order.{all_clubs, order_of, is_in}
-use Rattle.ucl_order.specs.Marks.{IsCompletion, GoesThrough, sure_points, reach, rivals, out_of_reach, mark_of}
 use Rattle.ucl_order.proofs.Classes.{IsPermutation-order, count-le}
 use Rattle.ucl_order.proofs.Limits.{plays, gains, gains-le, played-cons, points-cons}
 use Rattle.ucl_order.proofs.Slots.{a_club, are_matches}

@@ -110,19 +110,7 @@ is_none n none = grind (arith, nat_tests)
 
 -- a kind's change leaves the number and the reporter
 kept : (kind : Kind) (m : MatchRecord) → ((changed_by kind m).number ≡ m.number) × ((changed_by kind m).reporter ≡ m.reporter)
-kept KickOff m = (refl, refl)
-kept FullTime m = (refl, refl)
-kept Reopen m = (refl, refl)
-kept (Goal Home) m = (refl, refl)
-kept (Goal Away) m = (refl, refl)
-kept (Disallow Home) m = (refl, refl)
-kept (Disallow Away) m = (refl, refl)
-kept (Yellow Home) m = (refl, refl)
-kept (Yellow Away) m = (refl, refl)
-kept (SecondYellow Home) m = (refl, refl)
-kept (SecondYellow Away) m = (refl, refl)
-kept (Red Home) m = (refl, refl)
-kept (Red Away) m = (refl, refl)
+kept kind m = search arith
 
 -- the number and the reporter, as a sum
 entered_word : (kind : Kind) (m : MatchRecord) (reporter : ℕ)

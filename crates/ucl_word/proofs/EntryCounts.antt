@@ -18,7 +18,7 @@ use Rattle.ucl_word.specs.Counts.{MatchEntry, count, is_goal, is_disallow, is_ye
 use Rattle.ucl_word.specs.Counts.{IsLegalMatch}
 use Rattle.ucl_word.specs.Theorems.{IsBalanced, CaseOf, IsCase, OneCaseHolds}
 use Rattle.ucl_word.proofs.ValidRecords.{scheduled_valid}
-use Rattle.ucl_word.proofs.AcceptedEvents.{Accepts, accepts, begun, unbegun, over, after_valid}
+use Rattle.ucl_word.proofs.AcceptedEvents.{Accepts, accepts, begun, unbegun, over, after_valid, state_kept}
 use Rattle.ucl_word.proofs.Sequences.{may_induction, may_next}
 
 -- one entry more
@@ -110,16 +110,7 @@ case_next es r FullTime h a =
 case_next es r Reopen h a =
     let c = subst (λ (s : State). IsCase s es) (over (state_of es) a.finished) h in
     simp (count_next, add-zero) (c.0, c.1)
-case_next es r (Goal Home) h a = same_case es (record { reporter = r; kind = Goal Home }) refl refl refl (state_of es) h
-case_next es r (Goal Away) h a = same_case es (record { reporter = r; kind = Goal Away }) refl refl refl (state_of es) h
-case_next es r (Disallow Home) h a = same_case es (record { reporter = r; kind = Disallow Home }) refl refl refl (state_of es) h
-case_next es r (Disallow Away) h a = same_case es (record { reporter = r; kind = Disallow Away }) refl refl refl (state_of es) h
-case_next es r (Yellow Home) h a = same_case es (record { reporter = r; kind = Yellow Home }) refl refl refl (state_of es) h
-case_next es r (Yellow Away) h a = same_case es (record { reporter = r; kind = Yellow Away }) refl refl refl (state_of es) h
-case_next es r (SecondYellow Home) h a = same_case es (record { reporter = r; kind = SecondYellow Home }) refl refl refl (state_of es) h
-case_next es r (SecondYellow Away) h a = same_case es (record { reporter = r; kind = SecondYellow Away }) refl refl refl (state_of es) h
-case_next es r (Red Home) h a = same_case es (record { reporter = r; kind = Red Home }) refl refl refl (state_of es) h
-case_next es r (Red Away) h a = same_case es (record { reporter = r; kind = Red Away }) refl refl refl (state_of es) h
+case_next es r kind h a = rw (state_kept kind (counted_match es) refl refl refl) (same_case es (record { reporter = r; kind = kind }) refl refl refl (state_of es) h)
 
 pub balanced_none : IsBalanced []
 balanced_none = record { goals = λ side. le_refl 0; yellows = λ side. le_refl 0 }
@@ -129,32 +120,16 @@ stands given taken h = grind (arith, nat_tests)
 
 goal_stands : (es : List MatchEntry) (side : Side) (kind : Kind) → lacks_goal (counted_match es) kind ≡ false → is_disallow side kind ≡ true → count (is_disallow side) es < count (is_goal side) es
 unfolding counted_match
-goal_stands es side KickOff h is = absurd cc
-goal_stands es side FullTime h is = absurd cc
-goal_stands es side Reopen h is = absurd cc
-goal_stands es side (Goal s) h is = absurd cc
-goal_stands es side (Yellow s) h is = absurd cc
-goal_stands es side (SecondYellow s) h is = absurd cc
-goal_stands es side (Red s) h is = absurd cc
 goal_stands es Home (Disallow Home) h is = stands _ _ h
 goal_stands es Away (Disallow Away) h is = stands _ _ h
-goal_stands es Home (Disallow Away) h is = absurd cc
-goal_stands es Away (Disallow Home) h is = absurd cc
+goal_stands es side kind h is = absurd cc
 
 yellow_stands : (es : List MatchEntry) (side : Side) (kind : Kind) → lacks_caution (counted_match es) kind ≡ false
     → is_second_yellow side kind ≡ true → count (is_second_yellow side) es < count (is_yellow side) es
 unfolding counted_match
-yellow_stands es side KickOff h is = absurd cc
-yellow_stands es side FullTime h is = absurd cc
-yellow_stands es side Reopen h is = absurd cc
-yellow_stands es side (Goal s) h is = absurd cc
-yellow_stands es side (Disallow s) h is = absurd cc
-yellow_stands es side (Yellow s) h is = absurd cc
-yellow_stands es side (Red s) h is = absurd cc
 yellow_stands es Home (SecondYellow Home) h is = stands _ _ h
 yellow_stands es Away (SecondYellow Away) h is = stands _ _ h
-yellow_stands es Home (SecondYellow Away) h is = absurd cc
-yellow_stands es Away (SecondYellow Home) h is = absurd cc
+yellow_stands es side kind h is = absurd cc
 
 stays : (taken given : ℕ) (takes gives : Bool) → taken ≤ given → (takes ≡ true → taken < given) → taken + cond takes 1 0 ≤ given + cond gives 1 0
 stays taken given true true le lt = omega arith

@@ -12,9 +12,7 @@ use Rattle.ucl_word.specs.Theorems.{LayoutsDiffer, WordsAreReadOneWay}
 use Rattle.ucl_word.proofs.Words.{Tells, tells, record_told, told_back, word_high}
 
 most_numbers : (s : State) (n : ℕ) → n ≤ max_number_in_play_of_first_layout s → n < 2 ^ first_layout.number.width
-most_numbers Scheduled n h = omega arith
-most_numbers InPlay n h = omega arith
-most_numbers Finished n h = omega arith
+most_numbers s n h = search arith
 
 module _ (m : MatchRecord) (is : IsFirstValid m) where
   pub first_told : Tells first_layout.number.width 0 (first_word_of m) m

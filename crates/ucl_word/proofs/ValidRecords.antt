@@ -85,22 +85,4 @@ default_is m d = λ i. record {
 pub untouched : (m : MatchRecord) → m.state ≡ Scheduled → IsValid m → m ≡ scheduled
 untouched m s v =
     let h : is_untouched m ≡ true = rw s at (parts m v).1 in
-    default_is m (
-      grind (arith, nat_tests),
-      (
-        s,
-        (
-          grind (arith, nat_tests),
-          (
-            grind (arith, nat_tests),
-            (
-              grind (arith, nat_tests),
-              (
-                grind (arith, nat_tests),
-                (grind (arith, nat_tests), (grind (arith, nat_tests), grind (arith, nat_tests))),
-              ),
-            ),
-          ),
-        ),
-      ),
-    )
+    default_is m (grind (arith, nat_tests))

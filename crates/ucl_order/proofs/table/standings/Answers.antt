@@ -1,12 +1,6 @@
-use Rattle.std.proofs.Common.{◌≡◌, ◌∙◌, ap, refl, sym, subst, All, List, map, ℕ}
+use Rattle.ucl_order.proofs.Common.{All, HasScore, IsWithinTable, List, MarkIsCertain, Match, Row, ap, map, mark_by, matches_of, order_of}
+use Rattle.ucl_order.proofs.Common.{refl, results_of_clubs, rows_of, started, started_of, subst, sym, ℕ, ◌∙◌, ◌≡◌}
 use Rattle.std.proofs.lemmas.List.Elements.{All-same}
-use Rattle.ucl_order.specs.declared.game.Match.{Match}
-use Rattle.ucl_order.specs.Matches.{HasScore, matches_of, started, started_of}
-use Rattle.ucl_order.specs.Marks.{mark_by}
-use Rattle.ucl_order.specs.Rounds.{results_of_clubs}
-use Rattle.ucl_order.specs.Order.{order_of}
-use Rattle.ucl_order.specs.Rows.{rows_of, IsWithinTable, MarkIsCertain}
-use Rattle.ucl_order.specs.declared.table.Row.{Row}
 use Rattle.ucl_order.proofs.Limits.{rows_within}
 use Rattle.ucl_order.proofs.TableRows.{all_certain, four_rows, order_is, row_of_place}
 use Rattle.ucl_order.proofs.table.standings.Goals as goal
