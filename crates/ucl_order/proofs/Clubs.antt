@@ -56,11 +56,7 @@ pub four-lent : (clubs : List LentClub) (p q r s : LentClub) (w x y z : Member) 
     → IsClub (club_lent (slice_index_or clubs 2 r)) × (member_seen y ≡ club_lent (slice_index_or clubs 2 r))
     → IsClub (club_lent (slice_index_or clubs 3 s)) × (member_seen z ≡ club_lent (slice_index_or clubs 3 s))
     → (members_seen (w ∷ x ∷ y ∷ z ∷ []) ≡ map club_lent clubs) × (bad_slot (map club_lent clubs) ≡ None)
-four-lent [] p q r s w x y z n a b c d = absurd (omega arith)
-four-lent (e ∷ []) p q r s w x y z n a b c d = absurd (omega arith)
-four-lent (e ∷ f ∷ []) p q r s w x y z n a b c d = absurd (omega arith)
-four-lent (e ∷ f ∷ g ∷ []) p q r s w x y z n a b c d = absurd (omega arith)
-four-lent (e ∷ f ∷ g ∷ h ∷ i ∷ more) p q r s w x y z n a b c d = absurd (omega arith)
 four-lent (e ∷ f ∷ g ∷ h ∷ []) p q r s w x y z n a b c d =
     four-taken (club_lent e) (club_lent f) (club_lent g) (club_lent h) w x y z
     (record { good = a.0; same = a.1 }) (record { good = b.0; same = b.1 }) (record { good = c.0; same = c.1 }) (record { good = d.0; same = d.1 })
+four-lent clubs p q r s w x y z n a b c d = absurd (omega arith)

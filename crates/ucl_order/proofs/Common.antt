@@ -2,7 +2,7 @@
 pub use Rattle.std.proofs.Common.{All, Bool, Contains, Equal, Greater, Less, List, None, Option, Ordering, Some, [], ap, append-nil, arith}
 pub use Rattle.std.proofs.Common.{cond, count_by, eq-eqb, eqb-true, false, filter, flat_map, get_or, if◌then◌else◌, inl, inr, length, map}
 pub use Rattle.std.proofs.Common.{nat_le, nat_lt, ne_eqb, not, refl, rules, set, slice_index, slice_index_or, subst, suc, sym, take, true}
-pub use Rattle.std.proofs.Common.{zero, ℕ, ◌&&◌, ◌*◌, ◌++◌, ◌+◌, ◌-◌, ◌<◌, ◌==◌, ◌^◌, ◌||◌, ◌∙◌, ◌∷◌, ◌≡◌, ◌≢◌, ◌≤◌, ◌⊎◌}
+pub use Rattle.std.proofs.Common.{zero, ℕ, ◌&&◌, ◌*◌, ◌++◌, ◌+◌, ◌-◌, ◌<◌, ◌==◌, ◌^◌, ◌∙◌, ◌∷◌, ◌≡◌, ◌≢◌, ◌≤◌, ◌⊎◌}
 pub use Rattle.std.proofs.lemmas.Bool.{and_parts, cases_Bool, cases_eq, cases_lt, false_from_ne_true}
 pub use Rattle.std.proofs.lemmas.Bool.Decides.{nat_tests}
 pub use Rattle.std.proofs.lemmas.Cmp.{nat_cmp_total, on_total, then_total, tied_itself}
@@ -11,9 +11,9 @@ pub use Rattle.std.proofs.lemmas.List.Elements.{All-cons, All-contains_itself, A
 pub use Rattle.std.proofs.lemmas.List.Elements.{All-weaker, filter-append}
 pub use Rattle.std.proofs.lemmas.List.Sorted.{All-permutation, Contains-permutation, IsPermutation-refl, IsPermutation-trans}
 pub use Rattle.std.proofs.lemmas.List.Sorted.{length_permutation}
-pub use Rattle.std.proofs.lemmas.List.Sums.{count_by-le-length, length-filter, sum_by-cons, sum_by-le}
+pub use Rattle.std.proofs.lemmas.List.Sums.{count_by-le-length, length-filter, sum_by-cons}
 pub use Rattle.std.specs.Cmp.{IsTotalOrder}
-pub use Rattle.std.specs.List.{AllPairs, cons_option, list_all}
+pub use Rattle.std.specs.List.{AllPairs, list_all}
 pub use Rattle.std.specs.List.Sorted.{IsPermutation}
 pub use Rattle.std.specs.Ordering.{int_cmp, is_eq, is_gt, nat_cmp, ordering_reverse, ordering_then}
 pub use Rattle.std.specs.Prelude.{◌↔◌}
@@ -25,7 +25,7 @@ pub use Rattle.ucl_order.specs.Keys.{overall_of, tie_number}
 unfoldable pub use Rattle.ucl_order.specs.Keys.{overall_key, slots_in, tie_key}
 pub use Rattle.ucl_order.specs.Marks.{mark_by, reach, sure_points}
 unfoldable pub use Rattle.ucl_order.specs.Marks.{mark_of}
-pub use Rattle.ucl_order.specs.Matches.{HasScore, IsPairing, finished, has_finished, has_started, is_won, match_at, score_of, seen_by}
+pub use Rattle.ucl_order.specs.Matches.{HasScore, IsPairing, finished, has_finished, has_started, match_at, score_of, seen_by}
 pub use Rattle.ucl_order.specs.Matches.{seen_from_away, seen_from_home, started, started_of, unfinished}
 unfoldable pub use Rattle.ucl_order.specs.Matches.{matches_of}
 pub use Rattle.ucl_order.specs.Order.{Ranking, above, all_clubs, among, by_points, by_profile, by_triple, class_below, head_to_head, is_in}

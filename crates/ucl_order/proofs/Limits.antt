@@ -1,16 +1,19 @@
 -- What a club of a group can do at most.
 use Rattle.ucl_order.proofs.Common.{All, All-cons, All-filter, All-head, All-nil, All-permutation, All-set, All-tail, Appearance, Bool}
-use Rattle.ucl_order.proofs.Common.{HasScore, IsPairing, IsSlot, IsWithinTable, List, Mark, Match, NamedClub, None, Option, Profile, Some}
-use Rattle.ucl_order.proofs.Common.{[], all_clubs, ap, appearances, append-nil, arith, cond, cons_option, count_by, count_by-le-length}
-use Rattle.ucl_order.proofs.Common.{each_slot, false, filter, filter-append, finished, get_or, get_or-set_other, goals_against, goals_for}
-use Rattle.ucl_order.proofs.Common.{has_finished, has_started, if◌then◌else◌, is_won, length, length_permutation, map, matches_of}
-use Rattle.ucl_order.proofs.Common.{nat_tests, not, order_of, played, point_bounds, points, reach, refl, results_of, row_of, row_with}
-use Rattle.ucl_order.proofs.Common.{rows_of, seen_by, seen_from_away, seen_from_home, set, slice_index, started_of, sum_by-cons, sum_by-le}
-use Rattle.ucl_order.proofs.Common.{sure_points, sym, take, take_more, totals, true, unfinished, wins, ℕ, ◌*◌, ◌++◌, ◌+◌, ◌-◌, ◌<◌, ◌==◌}
-use Rattle.ucl_order.proofs.Common.{◌∷◌, ◌≡◌, ◌≢◌, ◌≤◌}
-use Rattle.ucl_order.specs.Matches.{is_drawn, is_lost}
-use Rattle.ucl_order.specs.Results.{draws, losses}
+use Rattle.ucl_order.proofs.Common.{FitsFields, HasScore, IsPairing, IsSlot, IsWithinTable, List, Mark, Match, NamedClub, None, Option}
+use Rattle.ucl_order.proofs.Common.{Profile, Results, Some, [], all_clubs, among, appearances, append-nil, arith, away_goals, away_wins}
+use Rattle.ucl_order.proofs.Common.{cond, count_by, count_by-le-length, discipline, each_slot, false, filter, filter-append, finished}
+use Rattle.ucl_order.proofs.Common.{get_or, get_or-set_other, goals_against, goals_for, has_finished, has_started, if◌then◌else◌, is_in}
+use Rattle.ucl_order.proofs.Common.{length, length_permutation, map, matches_of, nat_tests, not, order_of, played, point_bounds, points}
+use Rattle.ucl_order.proofs.Common.{reach, refl, row_of, row_with, rows_of, seen_by, seen_from_away, seen_from_home, set, slice_index}
+use Rattle.ucl_order.proofs.Common.{started_of, sum_by-cons, sure_points, take, take_more, totals, true, unfinished, wins, ℕ, ◌&&◌, ◌*◌}
+use Rattle.ucl_order.proofs.Common.{◌++◌, ◌+◌, ◌-◌, ◌<◌, ◌==◌, ◌∷◌, ◌≡◌, ◌≢◌, ◌≤◌}
+use Rattle.ucl_order.specs.Matches.{disciplinary_points, is_won, is_drawn, is_lost}
+use Rattle.ucl_order.specs.Results.{away_matches, draws, losses}
+use Rattle.ucl_order.proofs.KeyFacts.{FitsKeys}
 use Rattle.ucl_order.specs.Counting.{worth}
+use Rattle.std.specs.List.{cons_option}
+use Rattle.std.proofs.lemmas.List.Sums.{sum_by-le}
 use Rattle.ucl_order.specs.Marks.{matches_left}
 use Rattle.ucl_order.proofs.Classes.{IsPermutation-order}
 use Rattle.ucl_order.proofs.Slots.{all-four, slots}
@@ -98,22 +101,71 @@ all_few club [] h = All-nil AreFew
 all_few club (m ∷ ms) h =
     few_one (seen_by club m) (appearances club ms) (λ a e. seen_few club m a (All-head HasScore m ms h) e) (all_few club ms (All-tail HasScore m ms h))
 
--- a row of the table
-within_table : (place slot : ℕ) (mark : Mark) (ms : List Match) → IsSlot slot → All HasScore ms → played slot ms ≤ 6 → IsWithinTable (row_with place slot mark (results_of slot ms))
-unfolding totals
-within_table place slot mark ms is_slot valid most =
-    let games : List Appearance = appearances slot ms in
-    let few : All AreFew games = all_few slot ms valid in
-    let scored : goals_for slot ms ≤ length games * 63 = sum_by-le (λ a. a.scored) 63 games (λ k d h. (few k d h).scored) in
-    let conceded : goals_against slot ms ≤ length games * 63 = sum_by-le (λ a. a.conceded) 63 games (λ k d h. (few k d h).conceded) in
-    let won : wins slot ms ≤ length games = count_by-le-length is_won games in
-    let drawn : draws slot ms ≤ length games = count_by-le-length is_drawn games in
-    let lost : losses slot ms ≤ length games = count_by-le-length is_lost games in
-    let three : points slot ms ≤ 3 * played slot ms = points-le slot ms in
-    search arith
-
 pub at_most_six : (board : List ℕ) (club : ℕ) → IsSlot club → played club (started_of board) ≤ 6
 at_most_six board club slot = omega (arith, played-filter has_started club (matches_of board), six board club slot)
+
+-- Away matches. --
+
+unfoldable visits : Option Appearance → ℕ
+visits None = 0
+visits (Some a) = cond a.is_away 1 0
+
+visits_one : (o : Option Appearance) (games : List Appearance) → length (filter (λ a. a.is_away) (cons_option o games)) ≡ visits o + length (filter (λ a. a.is_away) games)
+unfolding visits
+visits_one o games = search arith
+
+visits-cons : (club : ℕ) (m : Match) (ms : List Match) → length (away_matches club (m ∷ ms)) ≡ visits (seen_by club m) + length (away_matches club ms)
+visits-cons club m ms = visits_one (seen_by club m) (appearances club ms)
+
+visits-filter : (p : Match → Bool) (club : ℕ) (ms : List Match) → length (away_matches club (filter p ms)) ≤ length (away_matches club ms)
+visits-filter p club ms = filter-less (λ l. length (away_matches club l)) (λ m. visits (seen_by club m)) (visits-cons club) p ms
+
+three : (board : List ℕ) (club : ℕ) → IsSlot club → length (away_matches club (matches_of board)) ≡ 3
+unfolding matches_of
+three board club slot = each_slot (λ c. length (away_matches c (matches_of board)) ≡ 3) refl refl refl refl club slot
+
+-- Some of a club's matches, each of a valid record. --
+
+few_cards : (y e : ℕ) → y ≤ 63 → e ≤ 31 → y + 3 * e ≤ 156
+few_cards y e h k = omega arith
+
+fits : (club : ℕ) (ms : List Match) → All HasScore ms → played club ms ≤ 6 → length (away_matches club ms) ≤ 3 → FitsKeys ms club
+unfolding totals
+fits club ms valid most away =
+    let games : List Appearance = appearances club ms in
+    let visited : List Appearance = away_matches club ms in
+    let few : All AreFew games = all_few club ms valid in
+    let few_away : All AreFew visited = All-filter (λ a. a.is_away) AreFew games few in
+    let scored : goals_for club ms ≤ length games * 63 = sum_by-le (λ a. a.scored) 63 games (λ k d h. (few k d h).scored) in
+    let conceded : goals_against club ms ≤ length games * 63 = sum_by-le (λ a. a.conceded) 63 games (λ k d h. (few k d h).conceded) in
+    let scored_away : away_goals club ms ≤ length visited * 63 = sum_by-le (λ a. a.scored) 63 visited (λ k d h. (few_away k d h).scored) in
+    let cards : discipline club ms ≤ length games * 156 =
+    sum_by-le disciplinary_points 156 games (λ k d h. few_cards (get_or games k d).yellows (get_or games k d).expulsions (few k d h).yellows (few k d h).expulsions) in
+    let won : wins club ms ≤ length games = count_by-le-length is_won games in
+    let drawn : draws club ms ≤ length games = count_by-le-length is_drawn games in
+    let lost : losses club ms ≤ length games = count_by-le-length is_lost games in
+    let won_away : away_wins club ms ≤ length visited = count_by-le-length is_won visited in
+    let three_each : points club ms ≤ 3 * played club ms = points-le club ms in
+    search arith
+
+module _ (board : List ℕ) (valid : All HasScore (matches_of board)) (club : ℕ) (slot : IsSlot club) where
+  pub fits_all : FitsKeys (started_of board) club
+  fits_all =
+      fits club (started_of board) (All-filter has_started HasScore (matches_of board) valid) (at_most_six board club slot)
+      (omega (arith, three board club slot, visits-filter has_started club (matches_of board)))
+
+  pub fits_among : (clubs : List ℕ) → FitsKeys (among clubs (started_of board)) club
+  fits_among clubs =
+      let both : Match → Bool = λ m. is_in clubs m.home && is_in clubs m.away in
+      let ms : List Match = started_of board in
+      fits club (among clubs ms) (All-filter both HasScore ms (All-filter has_started HasScore (matches_of board) valid))
+      (omega (arith, at_most_six board club slot, played-filter both club ms))
+      (omega (arith, three board club slot, visits-filter has_started club (matches_of board), visits-filter both club ms))
+
+-- The rows of the table. --
+
+within_table : (place slot : ℕ) (mark : Mark) (r : Results) → IsSlot slot → FitsFields r → IsWithinTable (row_with place slot mark r)
+within_table place slot mark r is_slot f = search arith
 
 module _ (profile : Profile) (board : List ℕ) (roster : List NamedClub) (valid : All HasScore (matches_of board)) where
   row_within : (place : ℕ) → 1 ≤ place → place ≤ 4 → IsWithinTable (row_of profile board roster place)
@@ -122,8 +174,7 @@ module _ (profile : Profile) (board : List ℕ) (roster : List NamedClub) (valid
       let order : List ℕ = order_of profile (started_of board) roster in
       let long : length order ≡ 4 = length_permutation _ _ (IsPermutation-order profile board roster) in
       let slot : IsSlot (slice_index order (place - 1)) = All-permutation IsSlot all_clubs order (IsPermutation-order profile board roster) slots (place - 1) 0 (omega arith) in
-      within_table place (slice_index order (place - 1)) _ (started_of board) slot
-      (All-filter has_started HasScore (matches_of board) valid) (at_most_six board (slice_index order (place - 1)) slot)
+      within_table place (slice_index order (place - 1)) _ _ slot (fits_all board valid (slice_index order (place - 1)) slot)
 
   pub rows_within : All IsWithinTable (rows_of profile board roster)
   rows_within = all-four IsWithinTable _ _ _ _ (row_within 1 (omega arith) (omega arith)) (row_within 2 (omega arith) (omega arith))

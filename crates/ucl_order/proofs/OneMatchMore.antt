@@ -31,17 +31,7 @@ pub matches_more : (board : List ℕ) (n : ℕ) (before after : List Match) (m :
     after ≡ map (match_at board) (take (n + 1 - 1) match_numbers)
 matches_more board n before after m low high is one next =
     let at : n + 1 - 1 ≡ n - 1 + 1 = omega arith in
-    let within : n - 1 < length match_numbers = omega arith in
-    rw (
-      at,
-      take_more match_numbers (n - 1) 0 within,
-      number_listed n 0 (low, high),
-      map-append (match_at board)
-          (take (n - 1) match_numbers) (n ∷ []),
-      next,
-      is,
-      one,
-    )
+    rw (at, take_more match_numbers (n - 1) 0 (omega arith), number_listed n 0 (low, high), map-append, next, is, one)
 
 pub matches_all : (board : List ℕ) (n : ℕ) (ms : List Match) → n ≡ 13 → ms ≡ map (match_at board) (take (n - 1) match_numbers) → ms ≡ matches_of board
 unfolding matches_of
@@ -64,14 +54,10 @@ module _ (X : Type 0) (more : X → Option Appearance → X) (none : (r : X) →
       let middle : List X = set (map f all_clubs) (h - 1) (more (get_or (map f all_clubs) (h - 1) d) (Some x)) in
       set middle (a - 1) (more (get_or middle (a - 1) e) (Some y))
       ≡ map (λ c. more (f c) (if h == c then Some x else (if a == c then Some y else None))) all_clubs) in
-      let n1 = none (f 1) in
-      let n2 = none (f 2) in
-      let n3 = none (f 3) in
-      let n4 = none (f 4) in
-      let with_1 = each_slot (P 1) (λ n. absurd (n refl)) (λ n. rw (n3, n4)) (λ n. rw (n2, n4)) (λ n. rw (n2, n3)) in
-      let with_2 = each_slot (P 2) (λ n. rw (n3, n4)) (λ n. absurd (n refl)) (λ n. rw (n1, n4)) (λ n. rw (n1, n3)) in
-      let with_3 = each_slot (P 3) (λ n. rw (n2, n4)) (λ n. rw (n1, n4)) (λ n. absurd (n refl)) (λ n. rw (n1, n2)) in
-      let with_4 = each_slot (P 4) (λ n. rw (n2, n3)) (λ n. rw (n1, n3)) (λ n. rw (n1, n2)) (λ n. absurd (n refl)) in
+      let with_1 = each_slot (P 1) (λ n. absurd (n refl)) (λ n. simp none) (λ n. simp none) (λ n. simp none) in
+      let with_2 = each_slot (P 2) (λ n. simp none) (λ n. absurd (n refl)) (λ n. simp none) (λ n. simp none) in
+      let with_3 = each_slot (P 3) (λ n. simp none) (λ n. simp none) (λ n. absurd (n refl)) (λ n. simp none) in
+      let with_4 = each_slot (P 4) (λ n. simp none) (λ n. simp none) (λ n. simp none) (λ n. absurd (n refl)) in
       each_slot (λ h. (a : ℕ) → IsSlot a → P h a) with_1 with_2 with_3 with_4 h is_h a is_a
 
   -- the pass over the matches: one match more, whose clubs are those at p and q

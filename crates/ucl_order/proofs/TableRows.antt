@@ -26,13 +26,13 @@ module _ (profile : Profile) (board : List ℕ) (roster : List NamedClub) where
   unfolding row_of
   marked place = refl
 
-  abbrev HasLayoutTag : Row → Type 0
-  HasLayoutTag row = row.mark ≡ mark_of profile board roster row.slot
+  abbrev HasMark : Row → Type 0
+  HasMark row = row.mark ≡ mark_of profile board roster row.slot
 
-  all_marked : All HasLayoutTag (rows_of profile board roster)
-  all_marked = all-four HasLayoutTag _ _ _ _ (marked 1) (marked 2) (marked 3) (marked 4)
+  all_marked : All HasMark (rows_of profile board roster)
+  all_marked = all-four HasMark _ _ _ _ (marked 1) (marked 2) (marked 3) (marked 4)
 
-  certain : (row : Row) → IsWithinTable row → HasLayoutTag row → MarkIsCertain profile board roster row
+  certain : (row : Row) → IsWithinTable row → HasMark row → MarkIsCertain profile board roster row
   certain row within is = record {
     plus = λ mark later done. plus_is_certain profile board later done roster row.slot within.slot (sym is ∙ mark);
     minus = λ mark later done. minus_is_certain profile board later done roster row.slot (sym is ∙ mark);
@@ -46,9 +46,5 @@ module _ (profile : Profile) (board : List ℕ) (roster : List NamedClub) where
 pub early_marks : (ms : List Match) (order : List ℕ) (a b c d : Mark) → length order ≡ 4 → list_all has_finished ms ≡ false →
     a ≡ early_mark ms (get_or order 0 0) → b ≡ early_mark ms (get_or order 1 0) → c ≡ early_mark ms (get_or order 2 0) → d ≡ early_mark ms (get_or order 3 0) →
     ◌≡◌ {A = List Mark} (a ∷ b ∷ c ∷ d ∷ []) (map (mark_by ms order) order)
-early_marks ms [] a b c d long some is_a is_b is_c is_d = absurd (omega arith)
-early_marks ms (w ∷ []) a b c d long some is_a is_b is_c is_d = absurd (omega arith)
-early_marks ms (w ∷ x ∷ []) a b c d long some is_a is_b is_c is_d = absurd (omega arith)
-early_marks ms (w ∷ x ∷ y ∷ []) a b c d long some is_a is_b is_c is_d = absurd (omega arith)
 early_marks ms (w ∷ x ∷ y ∷ z ∷ []) a b c d long some is_a is_b is_c is_d = rw (some, is_a, is_b, is_c, is_d)
-early_marks ms (w ∷ x ∷ y ∷ z ∷ v ∷ vs) a b c d long some is_a is_b is_c is_d = absurd (omega arith)
+early_marks ms order a b c d long some is_a is_b is_c is_d = absurd (omega arith)

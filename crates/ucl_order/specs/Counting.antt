@@ -46,6 +46,9 @@ pub record FitsFields (r : Results) : Type 0 where
   pub goals_for : r.goals_for ≤ 378
   pub goals_against : r.goals_against ≤ 378
   pub away_goals : r.away_goals ≤ 189
+  pub played : r.played ≤ 6
   pub wins : r.wins ≤ 6
+  pub draws : r.draws ≤ 6
+  pub losses : r.losses ≤ 6
   pub away_wins : r.away_wins ≤ 3
   pub discipline : r.discipline ≤ 936

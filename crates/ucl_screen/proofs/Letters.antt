@@ -1,12 +1,9 @@
 -- Letters of groups.
-use Rattle.std.proofs.Common.{◌≡◌, ℕ, ◌<◌, ◌≤◌, ◌&&◌, Bool, cond, true, false, refl, arith, List, [], ◌∷◌, length, None, Some, le-leb, leb-true}
-use Rattle.std.specs.Prelude.{nat_le}
+use Rattle.ucl_screen.proofs.Common.{Bool, List, None, Some, [], and_parts, arith, cond, false, length, nat_le, refl, true, ℕ, ◌&&◌, ◌<◌}
+use Rattle.ucl_screen.proofs.Common.{◌∷◌, ◌≡◌, ◌≤◌}
+use Rattle.std.proofs.Common.{le-leb, leb-true}
 use Rattle.std.specs.List.{slice_index_or}
 use Rattle.ucl_screen.specs.Screen.{IsGroup, letter_in}
-
-both : (a b : Bool) → (a && b) ≡ true → (a ≡ true) × (b ≡ true)
-both true b h = (refl, h)
-both false b h = cc
 
 pub is_letter : (text : List ℕ) → 1 ≤ length text → length text < 2 → IsGroup (slice_index_or text 0 0) → Some (slice_index_or text 0 0) ≡ letter_in text
 is_letter [] some one group = absurd (omega arith)
@@ -29,4 +26,4 @@ other_letter (x ∷ []) some one other = go (nat_le 65 x && nat_le x 72) refl
   where
     go : (b : Bool) → (nat_le 65 x && nat_le x 72) ≡ b → None ≡ cond b (Some x) None
     go false e = refl
-    go true e = let parts = both _ _ e in absurd (other (leb-true _ _ parts.0, leb-true _ _ parts.1))
+    go true e = let parts = and_parts _ _ e in absurd (other (leb-true _ _ parts.0, leb-true _ _ parts.1))

@@ -1,17 +1,13 @@
 -- What an accepted event tells of the record, and that the record after it is valid.
-use Rattle.std.proofs.Common.{◌≡◌, ℕ, ◌+◌, ◌<◌, ◌≤◌, Bool, true, false, ◌==◌, Option, Some, None, refl, ◌∙◌, arith, eq-eqb, ◌-◌, sym, ap}
-use Rattle.std.proofs.lemmas.Bool.Decides.{nat_tests}
-use Rattle.std.specs.Prelude.{not, nat_le, ◌&&◌, if◌then◌else◌, nat_lt}
-use Rattle.ucl_word.specs.declared.record.MatchRecord.{MatchRecord}
-use Rattle.ucl_word.specs.declared.record.State.{State}
-use Rattle.ucl_word.specs.declared.record.State.TheVariants.{Scheduled, InPlay, Finished}
-use Rattle.ucl_word.specs.declared.event.Side.TheVariants.{Home, Away}
-use Rattle.ucl_word.specs.declared.event.Kind.{Kind}
-use Rattle.ucl_word.specs.declared.event.Kind.TheVariants.{KickOff, Goal, Disallow, Yellow, SecondYellow, Red, FullTime, Reopen}
-use Rattle.ucl_word.specs.declared.refusal.Refusal.{Refusal}
-use Rattle.ucl_word.specs.Record.{is_within_limits, max_number_in_play, suits_state, IsReporter, IsValid}
-use Rattle.ucl_word.specs.Rules.{is_scheduled, is_in_play, is_finished, is_kick_off, is_full_time, is_reopen, lacks_goal, lacks_caution, passes_limit, refusal_of}
-use Rattle.ucl_word.specs.Rules.{after, changed_by}
+use Rattle.ucl_word.proofs.Common.{Away, Bool, Disallow, Finished, FullTime, Goal, Home, InPlay, IsReporter, IsValid, KickOff, Kind}
+use Rattle.ucl_word.proofs.Common.{MatchRecord, None, Red, Refusal, Reopen, Scheduled, SecondYellow, Some, State, Yellow, after, ap, arith}
+use Rattle.ucl_word.proofs.Common.{changed_by, eq-eqb, false, if◌then◌else◌, is_full_time, is_kick_off, is_reopen, is_within_limits}
+use Rattle.ucl_word.proofs.Common.{lacks_caution, lacks_goal, nat_le, nat_tests, not, refl, refusal_of, suits_state, sym, true, ℕ, ◌+◌, ◌-◌}
+use Rattle.ucl_word.proofs.Common.{◌<◌, ◌==◌, ◌∙◌, ◌≡◌, ◌≤◌}
+use Rattle.std.proofs.Common.{Option}
+use Rattle.std.specs.Prelude.{◌&&◌, nat_lt}
+use Rattle.ucl_word.specs.Record.{max_number_in_play}
+use Rattle.ucl_word.specs.Rules.{is_scheduled, is_in_play, is_finished, passes_limit}
 use Rattle.ucl_word.proofs.ValidRecords.{parts, whole}
 
 -- no condition of a refusal holds

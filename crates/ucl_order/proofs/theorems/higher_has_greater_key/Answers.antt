@@ -1,5 +1,6 @@
 use Rattle.ucl_order.proofs.Common.{among, overall_key, slots_in, started_of, tie_key}
-use Rattle.ucl_order.proofs.KeysFit.{coefficient_fits, fits_all, fits_among, words_valid}
+use Rattle.ucl_order.proofs.KeysFit.{coefficient_fits, words_valid}
+use Rattle.ucl_order.proofs.Limits.{fits_all, fits_among}
 use Rattle.ucl_order.proofs.KeyFacts.{higher_greater, overall_ranks, tie_ranks}
 use Rattle.ucl_order.proofs.theorems.higher_has_greater_key.Goals as goal
 
