@@ -26,7 +26,7 @@ pub struct Row {
     pub slot: u8,
     /// The place, 1 to 4.
     pub place: u8,
-    /// Whether the club is sure of a place among the first two, by finished matches alone.
+    /// Whether the club is sure of a place among the first two. Only finished matches count.
     pub mark: Mark,
     /// Matches, 0 to 6.
     pub played: u8,

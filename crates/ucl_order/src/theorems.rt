@@ -45,7 +45,7 @@ pub fn higher_has_greater_key()
     ensures { HigherHasGreaterKey }
 {}
 
-/// The rows of the table, with their marks, go by the coefficients of the clubs alone: rosters of other names have the same table.
+/// The rows of the table, with their marks, depend only on the coefficients of the clubs: rosters of other names have the same table.
 pub fn table_goes_by_coefficients()
     ensures { TableGoesByCoefficients }
 {}

@@ -19,7 +19,7 @@ pub fn layouts_differ()
     ensures { LayoutsDiffer }
 {}
 
-/// A word of either layout is read as one word alone, that of a valid record.
+/// A word of either layout is read as exactly one word, that of a valid record.
 pub fn words_are_read_one_way()
     ensures { WordsAreReadOneWay }
 {}
