@@ -2,8 +2,8 @@
 use Rattle.ucl_screen.proofs.Common.{List, NightEvent, [], add-one, ap, append-nil, arith, common_steps, drop, drop-cons, flat_map, get_or}
 use Rattle.ucl_screen.proofs.Common.{length, match_numbers, refl, suc, sym, take, ℕ, ◌++◌, ◌+◌, ◌-◌, ◌<◌, ◌∙◌, ◌∷◌, ◌≡◌, ◌≤◌}
 use Rattle.std.proofs.Common.{map}
-use Rattle.std.specs.List.{fold}
 use Rattle.std.proofs.lemmas.Grind.{flat_map-append}
+use Rattle.std.specs.List.{fold}
 use Rattle.ucl_board.specs.declared.entry.Entry.{Entry}
 use Rattle.ucl_board.specs.History.{after_attempt}
 use Rattle.ucl_board.specs.Words.{max_version}

@@ -6,18 +6,16 @@ use Rattle.std.specs.List.{slice_index_or}
 use Rattle.ucl_screen.specs.Screen.{IsGroup, letter_in}
 
 pub is_letter : (text : List ℕ) → 1 ≤ length text → length text < 2 → IsGroup (slice_index_or text 0 0) → Some (slice_index_or text 0 0) ≡ letter_in text
-is_letter [] some one group = absurd (omega arith)
 is_letter (x ∷ []) some one group = rw (le-leb 65 x group.0, le-leb x 72 group.1) refl
-is_letter (x ∷ y ∷ ys) some one group = absurd (omega arith)
+is_letter text some one group = absurd (omega arith)
 
 pub no_letter : (text : List ℕ) → length text < 1 → None ≡ letter_in text
 no_letter [] none = refl
 no_letter (x ∷ xs) none = absurd (omega arith)
 
 pub many_letters : (text : List ℕ) → 2 ≤ length text → None ≡ letter_in text
-many_letters [] many = absurd (omega arith)
-many_letters (x ∷ []) many = absurd (omega arith)
 many_letters (x ∷ y ∷ ys) many = refl
+many_letters text many = absurd (omega arith)
 
 pub other_letter : (text : List ℕ) → 1 ≤ length text → length text < 2 → (IsGroup (slice_index_or text 0 0) → ⊥) → None ≡ letter_in text
 other_letter [] some one other = absurd (omega arith)

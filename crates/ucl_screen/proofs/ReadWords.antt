@@ -71,11 +71,10 @@ EachRead words board = (k : ℕ) → k < length words → IsReadAs (get_or words
 pub all-read : (index : ℕ) (words board : List ℕ) → length board ≡ length words → EachRead words board → read_words index words ≡ Ok board
 unfolding read_words
 all-read index [] [] e h = refl
-all-read index [] (b ∷ board) e h = absurd (omega arith)
-all-read index (w ∷ words) [] e h = absurd (omega arith)
 all-read index (w ∷ words) (b ∷ board) e h =
     let first = read-as w b (h 0 (omega arith)) in
     let rest = all-read (index + 1) words board (omega arith) (λ k less. h (suc k) (omega arith)) in rw (first, rest) refl
+all-read index words board e h = absurd (omega arith)
 
 pub are-read : (words board : List ℕ) → length words ≡ 12 → AreReadAs words board → read_words 1 words ≡ Ok board
 are-read words board long r = all-read 1 words board (let t = r.twelve in omega arith) (λ k less. let e : k + 1 - 1 ≡ k = omega arith in rw e at (r.each (k + 1) (omega arith, omega arith)))

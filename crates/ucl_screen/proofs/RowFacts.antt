@@ -2,16 +2,16 @@
 use Rattle.ucl_screen.proofs.Common.{Bool, Err, Fields, InputFault, IsReading, List, NightEvent, None, Ok, Option, Result, Some, []}
 use Rattle.ucl_screen.proofs.Common.{add-one, ap, append_assoc, arith, cases_Bool, event_of, events_from, false, inl, inr, length, refl}
 use Rattle.ucl_screen.proofs.Common.{rows_from, rows_left, rows_of, said_by, suc, true, word_of_row, words_from, zero, ℕ, ◌++◌, ◌+◌, ◌-◌}
-use Rattle.ucl_screen.proofs.Common.{◌<◌, ◌==◌, ◌>>=◌, ◌∙◌, ◌∷◌, ◌≡◌, ◌≤◌, ◌⊎◌}
-use Rattle.std.proofs.Common.{◌||◌, if◌then◌else◌}
-use Rattle.csv.specs.Machine.{Read, next_record, ends_at_end, step, is_end, fields_after, field_after, in_field, start_field, start_record}
+use Rattle.ucl_screen.proofs.Common.{◌<◌, ◌>>=◌, ◌∙◌, ◌∷◌, ◌≡◌, ◌≤◌, ◌⊎◌}
+use Rattle.std.proofs.Common.{if◌then◌else◌}
+use Rattle.ucl_screen.specs.Rows.{bytes_left, FourFields, four_of}
+use Rattle.csv.specs.Machine.{Read, next_record, ends_at_end, step, is_end, fields_after, field_after}
 use Rattle.std.specs.Borrow.{Bor}
 use Rattle.csv.proofs.ReadFacts.{rows-end, rows-more}
 use Rattle.csv.specs.Reading.{default_config, records_from, strip_bom, is_bom, Reached, ReadRecord, took_first, has_failed}
 use Rattle.csv.specs.declared.reader.Reader.{Reader}
 use Rattle.csv.specs.declared.parser.State.{State}
 use Rattle.csv.specs.declared.parser.Action.{Action}
-use Rattle.ucl_screen.specs.Rows.{bytes_left, FourFields, four_of}
 use Rattle.csv.specs.Records.{field_at}
 use Rattle.std.proofs.lemmas.List.{append-nil}
 use Rattle.ucl_screen.specs.declared.fault.InputFault.TheVariants.{BadRow}
@@ -108,10 +108,8 @@ rows-none s xs e = rw (add-one (length xs), e) refl
 
 short-strip : (xs : List ℕ) → length (strip_bom xs) ≤ length xs
 unfolding strip_bom
-short-strip [] = omega arith
-short-strip (a ∷ []) = omega arith
-short-strip (a ∷ b ∷ []) = omega arith
 short-strip (a ∷ b ∷ c ∷ rest) = elim (cases_Bool (is_bom a b c)) [ inl y ↦ rw y (omega arith) | inr n ↦ rw n (omega arith) ]
+short-strip xs = omega arith
 
 pub few-rows : (xs : List ℕ) → length (rows_of xs) ≤ length xs
 few-rows xs = let a = few (length (strip_bom xs) + 1) st.StartRecord (strip_bom xs) refl in let b = short-strip xs in omega arith
@@ -156,11 +154,7 @@ known-left a h = rw h (either-known _ _ _)
 
 abbrev pub four_from : Option (List ℕ) → Option (List ℕ) → Option (List ℕ) → Option (List ℕ) → Option (List ℕ) → Option FourFields
 four_from (Some a) (Some b) (Some c) (Some d) None = Some (record { first = a; second = b; third = c; fourth = d })
-four_from (Some a) (Some b) (Some c) (Some d) (Some e) = None
-four_from (Some a) (Some b) (Some c) None e = None
-four_from (Some a) (Some b) None d e = None
-four_from (Some a) None c d e = None
-four_from None b c d e = None
+four_from a b c d e = None
 
 pub four_by : (fs : List (List ℕ)) → four_of fs ≡ four_from (field_at fs 0) (field_at fs 1) (field_at fs 2) (field_at fs 3) (field_at fs 4)
 unfolding field_at

@@ -4,13 +4,13 @@ use Rattle.ucl_screen.proofs.Common.{Result, Some, [], event_of, events_from, fa
 use Rattle.ucl_screen.proofs.Common.{suc, sym, true≢false, word_of_row, words_from, zero, ℕ, ◌+◌, ◌>>=◌, ◌∙◌, ◌∷◌, ◌≡◌, ◌≤◌}
 use Rattle.std.proofs.Common.{subst}
 use Rattle.std.specs.Prelude.{IfSome, ⊤, IfErr}
+use Rattle.ucl_screen.specs.Parsing.{AnswersAsSaid, Refuses}
+use Rattle.ucl_screen.specs.Script.{or_bad, club_of, club_at, if_good, roster_at, WrittenSheet, night_of_rows, sheet_of_rows, sheet_of}
+use Rattle.ucl_screen.specs.Script.{IsFaultOfScript}
 use Rattle.ucl_order.specs.Roster.{NamedClub, bad_slot}
 use Rattle.ucl_screen.specs.declared.night.Night.{Night}
 use Rattle.ucl_screen.specs.declared.sheet.Sheet.{Sheet}
 use Rattle.ucl_screen.specs.Input.{Reads, CallsRead, whole_input}
-use Rattle.ucl_screen.specs.Script.{or_bad, club_of, club_at, if_good, roster_at, WrittenSheet, night_of_rows, sheet_of_rows, sheet_of}
-use Rattle.ucl_screen.specs.Script.{IsFaultOfScript}
-use Rattle.ucl_screen.specs.Parsing.{AnswersAsSaid, Refuses}
 use Rattle.ucl_screen.specs.declared.fault.InputFault.TheVariants as fault
 
 -- a row or a club is bad

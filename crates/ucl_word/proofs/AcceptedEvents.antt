@@ -5,9 +5,9 @@ use Rattle.ucl_word.proofs.Common.{changed_by, eq-eqb, false, if◌then◌else�
 use Rattle.ucl_word.proofs.Common.{lacks_caution, lacks_goal, nat_le, nat_tests, not, refl, refusal_of, suits_state, sym, true, ℕ, ◌+◌, ◌-◌}
 use Rattle.ucl_word.proofs.Common.{◌<◌, ◌==◌, ◌∙◌, ◌≡◌, ◌≤◌}
 use Rattle.std.proofs.Common.{Option}
-use Rattle.std.specs.Prelude.{◌&&◌, nat_lt}
 use Rattle.ucl_word.specs.Record.{max_number_in_play}
 use Rattle.ucl_word.specs.Rules.{is_scheduled, is_in_play, is_finished, passes_limit}
+use Rattle.std.specs.Prelude.{◌&&◌, nat_lt}
 use Rattle.ucl_word.proofs.ValidRecords.{parts, whole}
 
 -- no condition of a refusal holds

@@ -3,8 +3,8 @@ use Rattle.ucl_word.proofs.Common.{Away, Disallow, Err, Finished, FullTime, Goal
 use Rattle.ucl_word.proofs.Common.{MatchRecord, None, Ok, Red, Refusal, Reopen, Result, Scheduled, SecondYellow, Side, Yellow, after, ap}
 use Rattle.ucl_word.proofs.Common.{arith, bits_at, changed_by, false, layout, nat_le, nat_tests, record_at, refl, refusal_of, state_code}
 use Rattle.ucl_word.proofs.Common.{sym, true, word_of, ℕ, ◌*◌, ◌+◌, ◌-◌, ◌<◌, ◌==◌, ◌^◌, ◌∙◌, ◌≡◌, ◌≤◌}
-use Rattle.ucl_word.specs.declared.refusal.Refusal.TheVariants.{NoGoal, NoCaution}
 use Rattle.ucl_word.specs.Rules.{goals, yellows, expulsions}
+use Rattle.ucl_word.specs.declared.refusal.Refusal.TheVariants.{NoGoal, NoCaution}
 use Rattle.ucl_word.specs.Changes.{goals_field, yellows_field, expulsions_field, Raises, Lowers, Changes}
 use Rattle.ucl_word.proofs.ValidRecords.{parts, whole}
 use Rattle.ucl_word.proofs.Words.{word_high, word_valid, word_packed, record_back}

@@ -2,8 +2,8 @@
 use Rattle.ucl_word.proofs.Common.{BadWord, Err, HasLayoutTag, IsValid, IsWord, MatchRecord, Ok, Result, State, ap, arith, inl, inr, sym}
 use Rattle.ucl_word.proofs.Common.{true, word_of, ℕ, ◌<◌, ◌^◌, ◌∙◌, ◌≡◌, ◌≤◌}
 use Rattle.std.proofs.Common.{true≢false}
-use Rattle.std.specs.Prelude.{IfOk, is_ok}
 use Rattle.ucl_word.specs.Layout.{first_layout}
+use Rattle.std.specs.Prelude.{IfOk, is_ok}
 use Rattle.ucl_word.specs.Migration.{moved_up, max_number_in_play_of_first_layout, first_word_of, IsFirstValid, IsFirstWord, IsReadable}
 use Rattle.ucl_word.specs.Migration.{IsMoved, IsReadAs}
 use Rattle.ucl_word.specs.Theorems.{LayoutsDiffer, WordsAreReadOneWay}

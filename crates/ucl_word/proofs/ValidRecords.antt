@@ -1,8 +1,8 @@
 -- What is known of a valid record.
 use Rattle.ucl_word.proofs.Common.{IsValid, MatchRecord, Scheduled, State, arith, is_within_limits, nat_tests, refl, scheduled, suits_state}
 use Rattle.ucl_word.proofs.Common.{true, ◌≡◌, ◌≤◌}
-use Rattle.std.proofs.lemmas.Bool.{and_from, and_parts}
 use Rattle.ucl_word.specs.Record.{is_untouched, is_valid, max_number}
+use Rattle.std.proofs.lemmas.Bool.{and_from, and_parts}
 
 pub parts : (m : MatchRecord) → IsValid m → (is_within_limits m ≡ true) × (suits_state m.state m ≡ true)
 unfolding is_valid
