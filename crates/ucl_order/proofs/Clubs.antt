@@ -1,11 +1,10 @@
 -- What the clubs of a roster are known to be.
-use Rattle.std.proofs.Common.{◌≡◌, ℕ, ◌<◌, ◌≤◌, nat_le, true, List, [], ◌∷◌, length, map, slice_index_or, None, subst, arith}
-use Rattle.std.proofs.lemmas.Bool.Decides.{nat_tests}
+use Rattle.ucl_order.proofs.Common.{IsClub, IsRoster, List, NamedClub, None, [], and_parts, arith, is_club, length, map, member_seen}
+use Rattle.ucl_order.proofs.Common.{members_seen, nat_le, nat_tests, slice_index_or, subst, true, ℕ, ◌<◌, ◌∷◌, ◌≡◌, ◌≤◌}
+use Rattle.ucl_order.specs.Roster.{club_lent, is_name, bad_slot, bad_slot_from}
 use Rattle.std.proofs.lemmas.List.{get_or-map, length-map}
 use Rattle.std.proofs.lemmas.List.Elements.{All-get_or}
-use Rattle.std.proofs.lemmas.Bool.{and_parts}
 use Rattle.ucl_order.specs.declared.roster.Member.{Member}
-use Rattle.ucl_order.specs.Roster.{member_seen, members_seen, NamedClub, club_lent, IsClub, IsRoster, is_club, is_name, bad_slot, bad_slot_from}
 use Rattle.ucl_order.specs.declared.roster.LentClub.{LentClub}
 use Rattle.ucl_order.proofs.Slots.{by_four}
 
@@ -57,11 +56,7 @@ pub four-lent : (clubs : List LentClub) (p q r s : LentClub) (w x y z : Member) 
     → IsClub (club_lent (slice_index_or clubs 2 r)) × (member_seen y ≡ club_lent (slice_index_or clubs 2 r))
     → IsClub (club_lent (slice_index_or clubs 3 s)) × (member_seen z ≡ club_lent (slice_index_or clubs 3 s))
     → (members_seen (w ∷ x ∷ y ∷ z ∷ []) ≡ map club_lent clubs) × (bad_slot (map club_lent clubs) ≡ None)
-four-lent [] p q r s w x y z n a b c d = absurd (omega arith)
-four-lent (e ∷ []) p q r s w x y z n a b c d = absurd (omega arith)
-four-lent (e ∷ f ∷ []) p q r s w x y z n a b c d = absurd (omega arith)
-four-lent (e ∷ f ∷ g ∷ []) p q r s w x y z n a b c d = absurd (omega arith)
-four-lent (e ∷ f ∷ g ∷ h ∷ i ∷ more) p q r s w x y z n a b c d = absurd (omega arith)
 four-lent (e ∷ f ∷ g ∷ h ∷ []) p q r s w x y z n a b c d =
     four-taken (club_lent e) (club_lent f) (club_lent g) (club_lent h) w x y z
     (record { good = a.0; same = a.1 }) (record { good = b.0; same = b.1 }) (record { good = c.0; same = c.1 }) (record { good = d.0; same = d.1 })
+four-lent clubs p q r s w x y z n a b c d = absurd (omega arith)

@@ -1,15 +1,11 @@
 -- The table goes by the coefficients of the clubs.
-use Rattle.std.proofs.Common.{◌≡◌, ℕ, zero, suc, ◌-◌, Bool, if◌then◌else◌, List, [], ◌∷◌, length, map, get_or, flat_map, slice_index, refl, sym, ap, ◌∙◌}
+use Rattle.ucl_order.proofs.Common.{Bool, List, Match, NamedClub, Profile, Ranking, Row, [], all_clubs, ap, by_points, coefficient_of}
+use Rattle.ucl_order.proofs.Common.{flat_map, get_or, head_to_head, if◌then◌else◌, is_one_class, length, map, mark_by, mark_of, matches_of}
+use Rattle.ucl_order.proofs.Common.{order_of, overall, refl, results_of, row_of, row_with, settled_within, slice_index, split, started_of}
+use Rattle.ucl_order.proofs.Common.{suc, sym, zero, ℕ, ◌-◌, ◌∙◌, ◌∷◌, ◌≡◌}
+use Rattle.ucl_order.specs.Roster.{coefficients_in}
 use Rattle.std.proofs.Math.Path.{fun_ext}
 use Rattle.std.proofs.Math.ListN.{get_or-map}
-use Rattle.ucl_order.specs.declared.game.Match.{Match}
-use Rattle.ucl_order.specs.declared.profile.Profile.{Profile}
-use Rattle.ucl_order.specs.declared.table.Row.{Row}
-use Rattle.ucl_order.specs.Roster.{NamedClub, coefficient_of, coefficients_in}
-use Rattle.ucl_order.specs.Matches.{matches_of, started_of}
-use Rattle.ucl_order.specs.Order.{Ranking, all_clubs, by_points, head_to_head, is_one_class, order_of, overall, settled_within, split}
-use Rattle.ucl_order.specs.Marks.{mark_by, mark_of}
-use Rattle.ucl_order.specs.Rows.{row_of, row_with}
 use Rattle.ucl_order.specs.Theorems.{TableGoesByCoefficients}
 
 coefficient-is : (clubs : List NamedClub) (slot : ℕ) → coefficient_of clubs slot ≡ get_or (coefficients_in clubs) (slot - 1) 0
@@ -47,7 +43,7 @@ module _ (one other : List NamedClub) (same : coefficients_in one ≡ coefficien
   row-same : (profile : Profile) (board : List ℕ) (place : ℕ) → row_of profile board one place ≡ row_of profile board other place
   unfolding row_of mark_of
   row-same profile board place =
-      ap (λ (order : List ℕ). row_with place (slice_index order (place - 1)) (mark_by (matches_of board) order (slice_index order (place - 1))) (started_of board))
+      ap (λ (order : List ℕ). let slot : ℕ = slice_index order (place - 1) in row_with place slot (mark_by (matches_of board) order slot) (results_of slot (started_of board)))
       (order-same profile board)
 
 pub table-same : TableGoesByCoefficients

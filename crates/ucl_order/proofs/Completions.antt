@@ -1,27 +1,19 @@
 -- What a group can still become: points only rise, and never above what the club can reach.
-use Rattle.std.proofs.Common.{◌≡◌, ℕ, ◌+◌, ◌*◌, ◌≤◌, ◌==◌, ◌&&◌, Bool, true, false, not, if◌then◌else◌, List, [], ◌∷◌, Some, None, length, get_or, map, take}
-use Rattle.std.proofs.Common.{count_by, refl, sym, ap, arith, eq-eqb, All, Contains, eqb-true, nat_le, nat_lt, ◌⊎◌, inl, inr}
-use Rattle.std.specs.List.{list_all}
-use Rattle.std.proofs.lemmas.Bool.{cases_Bool, and_parts, leb-true}
-use Rattle.std.proofs.lemmas.Bool.Decides.{nat_tests}
+use Rattle.ucl_order.proofs.Common.{All, All-head, All-tail, Appearance, Bool, Contains, Contains-permutation, IsMatch, IsSlot, List, Match}
+use Rattle.ucl_order.proofs.Common.{NamedClub, None, Profile, Some, [], all_clubs, and_parts, ap, arith, cases_Bool, count_by, eq-eqb}
+use Rattle.ucl_order.proofs.Common.{eqb-true, false, finished, fixture_of, game_at, get_or, has_finished, if◌then◌else◌, inl, inr, is_in}
+use Rattle.ucl_order.proofs.Common.{length, length_permutation, list_all, map, mark_of, match_at, match_numbers, matches_of, nat_le, nat_lt}
+use Rattle.ucl_order.proofs.Common.{nat_tests, not, order_of, played, points, reach, refl, seen_by, started, started_of, sure_points, sym}
+use Rattle.ucl_order.proofs.Common.{take, true, unfinished, ℕ, ◌&&◌, ◌*◌, ◌+◌, ◌==◌, ◌∷◌, ◌≡◌, ◌≤◌, ◌⊎◌}
+use Rattle.std.proofs.lemmas.List.Sorted.{sum_by-IsPermutation}
+use Rattle.std.proofs.lemmas.Bool.{leb-true}
+use Rattle.ucl_order.specs.Marks.{IsCompletion, GoesThrough, rivals, out_of_reach}
 use Rattle.std.proofs.lemmas.Map.Views.{Contains-from_any}
-use Rattle.std.proofs.lemmas.List.Sorted.{Contains-permutation, length_permutation, sum_by-IsPermutation}
-use Rattle.std.proofs.lemmas.List.Elements.{All-head, All-tail}
 use Rattle.std.proofs.lemmas.List.Folds.{list_any_at}
 use Rattle.ucl_word.specs.declared.record.State.{State}
 use Rattle.ucl_word.specs.declared.record.State.TheVariants.{Finished}
 use Rattle.ucl_word.specs.Rules.{is_finished}
-use Rattle.ucl_board.specs.Fixtures.{IsMatch, IsSlot, fixture_of, match_numbers}
-use Rattle.ucl_board.specs.Words.{game_at}
-use Rattle.ucl_order.specs.declared.profile.Profile.{Profile}
-use Rattle.ucl_order.specs.declared.game.Match.{Match}
-use Rattle.ucl_order.specs.declared.game.Appearance.{Appearance}
 use Rattle.ucl_order.specs.declared.mark.Mark.TheVariants.{Plus, Minus, Blank}
-use Rattle.ucl_order.specs.Roster.{NamedClub}
-use Rattle.ucl_order.specs.Matches.{match_at, matches_of, has_finished, started, finished, unfinished, started_of, seen_by}
-use Rattle.ucl_order.specs.Results.{played, points}
-use Rattle.ucl_order.specs.Order.{all_clubs, order_of, is_in}
-use Rattle.ucl_order.specs.Marks.{IsCompletion, GoesThrough, sure_points, reach, rivals, out_of_reach, mark_of}
 use Rattle.ucl_order.proofs.Classes.{IsPermutation-order, count-le}
 use Rattle.ucl_order.proofs.Limits.{plays, gains, gains-le, played-cons, points-cons}
 use Rattle.ucl_order.proofs.Slots.{a_club, are_matches}
@@ -48,34 +40,6 @@ plays_alike at_home away h v h' v' = search arith
 plays_same : (club game : ℕ) (board later : List ℕ) → plays (seen_by club (match_at later game)) ≡ plays (seen_by club (match_at board game))
 plays_same club game board later = plays_alike ((fixture_of game).home == club) ((fixture_of game).away == club) _ _ _ _
 
-module _ (club game : ℕ) (games board later : List ℕ) (rest : Between club games board later) (ended : (game_at later game).state ≡ Finished) where
-  -- a match that was finished counts for both
-  between-done : has_finished (match_at board game) ≡ true → match_at later game ≡ match_at board game → Between club (game ∷ games) board later
-  unfolding board_part
-  between-done done same =
-      let m : Match = match_at board game in
-      let l : Match = match_at later game in
-      let now : List Match = board_part board games in
-      let end : List Match = board_part later games in
-      let worth : gains (seen_by club l) ≡ gains (seen_by club m) = ap (λ x. gains (seen_by club x)) same in
-      let now_points : points club (m ∷ finished now) ≡ gains (seen_by club m) + points club (finished now) = points-cons club m (finished now) in
-      let end_points : points club (l ∷ started end) ≡ gains (seen_by club l) + points club (started end) = points-cons club l (started end) in
-      record { low = rw (done, ended) (omega arith); high = rw (done, ended) (omega arith) }
-
-  -- any other counts at the end alone
-  between-open : has_finished (match_at board game) ≡ false → Between club (game ∷ games) board later
-  unfolding board_part
-  between-open open_now =
-      let m : Match = match_at board game in
-      let l : Match = match_at later game in
-      let now : List Match = board_part board games in
-      let end : List Match = board_part later games in
-      let most : gains (seen_by club l) ≤ 3 * plays (seen_by club l) = gains-le (seen_by club l) in
-      let alike : plays (seen_by club l) ≡ plays (seen_by club m) = plays_same club game board later in
-      let end_points : points club (l ∷ started end) ≡ gains (seen_by club l) + points club (started end) = points-cons club l (started end) in
-      let left : played club (m ∷ unfinished now) ≡ plays (seen_by club m) + played club (unfinished now) = played-cons club m (unfinished now) in
-      record { low = rw (open_now, ended) (omega arith); high = rw (open_now, ended) (omega arith) }
-
 match_kept : (board later : List ℕ) (game : ℕ) → game_at later game ≡ game_at board game → match_at later game ≡ match_at board game
 match_kept board later game e = rw e
 
@@ -83,11 +47,24 @@ between : (club : ℕ) (games board later : List ℕ) → All IsMatch games → 
 unfolding board_part
 between club [] board later are done = record { low = omega arith; high = omega arith }
 between club (game ∷ games) board later are done =
+    let m : Match = match_at board game in
+    let l : Match = match_at later game in
+    let now : List Match = board_part board games in
+    let end : List Match = board_part later games in
     let here : IsMatch game = All-head IsMatch game games are in
     let rest : Between club games board later = between club games board later (All-tail IsMatch game games are) done in
-    elim (cases_Bool (has_finished (match_at board game))) [
-      | inl over ↦ between-done club game games board later rest (done.ended game here) over (match_kept board later game (done.kept game here (is_done _ over)))
-      | inr open_now ↦ between-open club game games board later rest (done.ended game here) open_now
+    let ended = done.ended game here in
+    let end_points : points club (l ∷ started end) ≡ gains (seen_by club l) + points club (started end) = points-cons club l (started end) in
+    elim (cases_Bool (has_finished m)) [
+      | inl over ↦
+          let worth : gains (seen_by club l) ≡ gains (seen_by club m) = ap (λ x. gains (seen_by club x)) (match_kept board later game (done.kept game here (is_done _ over))) in
+          let now_points : points club (m ∷ finished now) ≡ gains (seen_by club m) + points club (finished now) = points-cons club m (finished now) in
+          record { low = rw (over, ended) (omega arith); high = rw (over, ended) (omega arith) }
+      | inr open_now ↦
+          let most : gains (seen_by club l) ≤ 3 * plays (seen_by club l) = gains-le (seen_by club l) in
+          let alike : plays (seen_by club l) ≡ plays (seen_by club m) = plays_same club game board later in
+          let left : played club (m ∷ unfinished now) ≡ plays (seen_by club m) + played club (unfinished now) = played-cons club m (unfinished now) in
+          record { low = rw (open_now, ended) (omega arith); high = rw (open_now, ended) (omega arith) }
     ]
 
 -- Where all matches are finished, a completion is the board itself. --

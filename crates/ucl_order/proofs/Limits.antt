@@ -1,28 +1,22 @@
 -- What a club of a group can do at most.
-use Rattle.std.proofs.Common.{◌≡◌, ℕ, ◌+◌, ◌*◌, ◌-◌, ◌≤◌, ◌==◌, Bool, true, false, cond, if◌then◌else◌, List, [], ◌∷◌, Option, Some, None, length, filter, count_by}
-use Rattle.std.proofs.Common.{refl, arith, All, ◌≢◌, ◌<◌, not, ◌++◌, get_or, set, take, map, sym, ap, append-nil}
-use Rattle.std.specs.List.{slice_index, cons_option}
-use Rattle.std.proofs.lemmas.Bool.Decides.{nat_tests}
-use Rattle.std.proofs.lemmas.List.Sums.{sum_by-cons, sum_by-le, count_by-le-length}
-use Rattle.std.proofs.lemmas.List.Sorted.{All-permutation, length_permutation}
-use Rattle.std.proofs.lemmas.List.Elements.{All-head, All-tail, All-cons, All-nil, All-filter, All-set, filter-append}
-use Rattle.ucl_board.specs.Fixtures.{IsSlot}
-use Rattle.ucl_board.proofs.Histories.{each_slot}
-use Rattle.ucl_order.specs.declared.profile.Profile.{Profile}
-use Rattle.ucl_order.specs.declared.game.Match.{Match}
-use Rattle.ucl_order.specs.declared.game.Appearance.{Appearance}
-use Rattle.ucl_order.specs.declared.mark.Mark.{Mark}
-use Rattle.ucl_order.specs.Roster.{NamedClub}
-use Rattle.ucl_order.specs.Matches.{HasScore, has_started, matches_of, started_of, seen_by, is_won, is_drawn, is_lost, IsPairing, finished, has_finished, unfinished}
-use Rattle.ucl_order.specs.Matches.{seen_from_away, seen_from_home}
-use Rattle.ucl_order.specs.Results.{appearances, played, wins, draws, losses, points, goals_for, goals_against}
-use Rattle.ucl_order.specs.Order.{all_clubs, order_of}
-use Rattle.ucl_order.specs.Counting.{worth, point_bounds}
-use Rattle.ucl_order.specs.Rows.{row_of, row_with, rows_of, IsWithinTable}
+use Rattle.ucl_order.proofs.Common.{All, All-cons, All-filter, All-head, All-nil, All-permutation, All-set, All-tail, Appearance, Bool}
+use Rattle.ucl_order.proofs.Common.{FitsFields, HasScore, IsPairing, IsSlot, IsWithinTable, List, Mark, Match, NamedClub, None, Option}
+use Rattle.ucl_order.proofs.Common.{Profile, Results, Some, [], all_clubs, among, appearances, append-nil, arith, away_goals, away_wins}
+use Rattle.ucl_order.proofs.Common.{cond, count_by, count_by-le-length, discipline, each_slot, false, filter, filter-append, finished}
+use Rattle.ucl_order.proofs.Common.{get_or, get_or-set_other, goals_against, goals_for, has_finished, has_started, if◌then◌else◌, is_in}
+use Rattle.ucl_order.proofs.Common.{length, length_permutation, map, matches_of, nat_tests, not, order_of, played, point_bounds, points}
+use Rattle.ucl_order.proofs.Common.{reach, refl, row_of, row_with, rows_of, seen_by, seen_from_away, seen_from_home, set, slice_index}
+use Rattle.ucl_order.proofs.Common.{started_of, sum_by-cons, sure_points, take, take_more, totals, true, unfinished, wins, ℕ, ◌&&◌, ◌*◌}
+use Rattle.ucl_order.proofs.Common.{◌++◌, ◌+◌, ◌-◌, ◌<◌, ◌==◌, ◌∷◌, ◌≡◌, ◌≢◌, ◌≤◌}
+use Rattle.ucl_order.specs.Matches.{disciplinary_points, is_won, is_drawn, is_lost}
+use Rattle.ucl_order.specs.Results.{away_matches, draws, losses}
+use Rattle.ucl_order.proofs.KeyFacts.{FitsKeys}
+use Rattle.ucl_order.specs.Counting.{worth}
+use Rattle.std.specs.List.{cons_option}
+use Rattle.std.proofs.lemmas.List.Sums.{sum_by-le}
+use Rattle.ucl_order.specs.Marks.{matches_left}
 use Rattle.ucl_order.proofs.Classes.{IsPermutation-order}
 use Rattle.ucl_order.proofs.Slots.{all-four, slots}
-use Rattle.std.proofs.lemmas.List.{take_more, get_or-set_other}
-use Rattle.ucl_order.specs.Marks.{matches_left, reach, sure_points}
 use Rattle.ucl_order.proofs.OneMatchMore.{lists_more}
 
 -- One match more in front. --
@@ -107,21 +101,71 @@ all_few club [] h = All-nil AreFew
 all_few club (m ∷ ms) h =
     few_one (seen_by club m) (appearances club ms) (λ a e. seen_few club m a (All-head HasScore m ms h) e) (all_few club ms (All-tail HasScore m ms h))
 
--- a row of the table
-within_table : (place slot : ℕ) (mark : Mark) (ms : List Match) → IsSlot slot → All HasScore ms → played slot ms ≤ 6 → IsWithinTable (row_with place slot mark ms)
-within_table place slot mark ms is_slot valid most =
-    let games : List Appearance = appearances slot ms in
-    let few : All AreFew games = all_few slot ms valid in
-    let scored : goals_for slot ms ≤ length games * 63 = sum_by-le (λ a. a.scored) 63 games (λ k d h. (few k d h).scored) in
-    let conceded : goals_against slot ms ≤ length games * 63 = sum_by-le (λ a. a.conceded) 63 games (λ k d h. (few k d h).conceded) in
-    let won : wins slot ms ≤ length games = count_by-le-length is_won games in
-    let drawn : draws slot ms ≤ length games = count_by-le-length is_drawn games in
-    let lost : losses slot ms ≤ length games = count_by-le-length is_lost games in
-    let three : points slot ms ≤ 3 * played slot ms = points-le slot ms in
-    search arith
-
 pub at_most_six : (board : List ℕ) (club : ℕ) → IsSlot club → played club (started_of board) ≤ 6
 at_most_six board club slot = omega (arith, played-filter has_started club (matches_of board), six board club slot)
+
+-- Away matches. --
+
+unfoldable visits : Option Appearance → ℕ
+visits None = 0
+visits (Some a) = cond a.is_away 1 0
+
+visits_one : (o : Option Appearance) (games : List Appearance) → length (filter (λ a. a.is_away) (cons_option o games)) ≡ visits o + length (filter (λ a. a.is_away) games)
+unfolding visits
+visits_one o games = search arith
+
+visits-cons : (club : ℕ) (m : Match) (ms : List Match) → length (away_matches club (m ∷ ms)) ≡ visits (seen_by club m) + length (away_matches club ms)
+visits-cons club m ms = visits_one (seen_by club m) (appearances club ms)
+
+visits-filter : (p : Match → Bool) (club : ℕ) (ms : List Match) → length (away_matches club (filter p ms)) ≤ length (away_matches club ms)
+visits-filter p club ms = filter-less (λ l. length (away_matches club l)) (λ m. visits (seen_by club m)) (visits-cons club) p ms
+
+three : (board : List ℕ) (club : ℕ) → IsSlot club → length (away_matches club (matches_of board)) ≡ 3
+unfolding matches_of
+three board club slot = each_slot (λ c. length (away_matches c (matches_of board)) ≡ 3) refl refl refl refl club slot
+
+-- Some of a club's matches, each of a valid record. --
+
+few_cards : (y e : ℕ) → y ≤ 63 → e ≤ 31 → y + 3 * e ≤ 156
+few_cards y e h k = omega arith
+
+fits : (club : ℕ) (ms : List Match) → All HasScore ms → played club ms ≤ 6 → length (away_matches club ms) ≤ 3 → FitsKeys ms club
+unfolding totals
+fits club ms valid most away =
+    let games : List Appearance = appearances club ms in
+    let visited : List Appearance = away_matches club ms in
+    let few : All AreFew games = all_few club ms valid in
+    let few_away : All AreFew visited = All-filter (λ a. a.is_away) AreFew games few in
+    let scored : goals_for club ms ≤ length games * 63 = sum_by-le (λ a. a.scored) 63 games (λ k d h. (few k d h).scored) in
+    let conceded : goals_against club ms ≤ length games * 63 = sum_by-le (λ a. a.conceded) 63 games (λ k d h. (few k d h).conceded) in
+    let scored_away : away_goals club ms ≤ length visited * 63 = sum_by-le (λ a. a.scored) 63 visited (λ k d h. (few_away k d h).scored) in
+    let cards : discipline club ms ≤ length games * 156 =
+    sum_by-le disciplinary_points 156 games (λ k d h. few_cards (get_or games k d).yellows (get_or games k d).expulsions (few k d h).yellows (few k d h).expulsions) in
+    let won : wins club ms ≤ length games = count_by-le-length is_won games in
+    let drawn : draws club ms ≤ length games = count_by-le-length is_drawn games in
+    let lost : losses club ms ≤ length games = count_by-le-length is_lost games in
+    let won_away : away_wins club ms ≤ length visited = count_by-le-length is_won visited in
+    let three_each : points club ms ≤ 3 * played club ms = points-le club ms in
+    search arith
+
+module _ (board : List ℕ) (valid : All HasScore (matches_of board)) (club : ℕ) (slot : IsSlot club) where
+  pub fits_all : FitsKeys (started_of board) club
+  fits_all =
+      fits club (started_of board) (All-filter has_started HasScore (matches_of board) valid) (at_most_six board club slot)
+      (omega (arith, three board club slot, visits-filter has_started club (matches_of board)))
+
+  pub fits_among : (clubs : List ℕ) → FitsKeys (among clubs (started_of board)) club
+  fits_among clubs =
+      let both : Match → Bool = λ m. is_in clubs m.home && is_in clubs m.away in
+      let ms : List Match = started_of board in
+      fits club (among clubs ms) (All-filter both HasScore ms (All-filter has_started HasScore (matches_of board) valid))
+      (omega (arith, at_most_six board club slot, played-filter both club ms))
+      (omega (arith, three board club slot, visits-filter has_started club (matches_of board), visits-filter both club ms))
+
+-- The rows of the table. --
+
+within_table : (place slot : ℕ) (mark : Mark) (r : Results) → IsSlot slot → FitsFields r → IsWithinTable (row_with place slot mark r)
+within_table place slot mark r is_slot f = search arith
 
 module _ (profile : Profile) (board : List ℕ) (roster : List NamedClub) (valid : All HasScore (matches_of board)) where
   row_within : (place : ℕ) → 1 ≤ place → place ≤ 4 → IsWithinTable (row_of profile board roster place)
@@ -130,8 +174,7 @@ module _ (profile : Profile) (board : List ℕ) (roster : List NamedClub) (valid
       let order : List ℕ = order_of profile (started_of board) roster in
       let long : length order ≡ 4 = length_permutation _ _ (IsPermutation-order profile board roster) in
       let slot : IsSlot (slice_index order (place - 1)) = All-permutation IsSlot all_clubs order (IsPermutation-order profile board roster) slots (place - 1) 0 (omega arith) in
-      within_table place (slice_index order (place - 1)) _ (started_of board) slot
-      (All-filter has_started HasScore (matches_of board) valid) (at_most_six board (slice_index order (place - 1)) slot)
+      within_table place (slice_index order (place - 1)) _ _ slot (fits_all board valid (slice_index order (place - 1)) slot)
 
   pub rows_within : All IsWithinTable (rows_of profile board roster)
   rows_within = all-four IsWithinTable _ _ _ _ (row_within 1 (omega arith) (omega arith)) (row_within 2 (omega arith) (omega arith))
@@ -147,32 +190,37 @@ played-push : (club : ℕ) (ms : List Match) (m : Match) → played club (ms ++ 
 played-push club [] m = omega (arith, played-cons club m [])
 played-push club (x ∷ ms) m = omega (arith, played-cons club x (ms ++ m ∷ []), played-cons club x ms, played-push club ms m)
 
-module _ (ms : List Match) (m : Match) where
-  finished-push : finished (ms ++ m ∷ []) ≡ finished ms ++ cond (has_finished m) (m ∷ []) []
-  finished-push = filter-append has_finished ms (m ∷ [])
+module _ (ms : List Match) (m : Match) (club : ℕ) where
+  sure-push : sure_points (ms ++ m ∷ []) club ≡ sure_points ms club + cond (has_finished m) (gains (seen_by club m)) 0
+  sure-push = rw (filter-append has_finished ms (m ∷ []))
+      (elim (has_finished m) as (λ v. points club (finished ms ++ cond v (m ∷ []) []) ≡ points club (finished ms) + cond v (gains (seen_by club m)) 0) [
+        | true ↦ points-push club (finished ms) m
+        | false ↦ rw (append-nil (finished ms)) (omega arith)
+      ])
 
-  unfinished-push : unfinished (ms ++ m ∷ []) ≡ unfinished ms ++ cond (not (has_finished m)) (m ∷ []) []
-  unfinished-push = filter-append (λ x. not (has_finished x)) ms (m ∷ [])
+  left-push : matches_left (ms ++ m ∷ []) club ≡ matches_left ms club + cond (has_finished m) 0 (plays (seen_by club m))
+  left-push = rw (filter-append (λ x. not (has_finished x)) ms (m ∷ []))
+      (elim (has_finished m) as (λ v. played club (unfinished ms ++ cond (not v) (m ∷ []) []) ≡ played club (unfinished ms) + cond v 0 (plays (seen_by club m))) [
+        | true ↦ rw (append-nil (unfinished ms)) (omega arith)
+        | false ↦ played-push club (unfinished ms) m
+      ])
 
-  module _ (done : has_finished m ≡ true) where
-    sure_done : (club : ℕ) → sure_points ms club + gains (seen_by club m) ≡ sure_points (ms ++ m ∷ []) club
-    sure_done club = rw (finished-push, done) (sym (points-push club (finished ms) m))
+-- what a match is sure to give a club, and the most that it can give it
+unfoldable sure_by : Bool → Option Appearance → ℕ
+sure_by over None = 0
+sure_by over (Some a) = (point_bounds over a).0
 
-    left_done : (club : ℕ) → matches_left (ms ++ m ∷ []) club ≡ matches_left ms club
-    left_done club = rw (unfinished-push, done, append-nil (unfinished ms))
+unfoldable most_by : Bool → Option Appearance → ℕ
+most_by over None = 0
+most_by over (Some a) = (point_bounds over a).1
 
-    reach_done : (club : ℕ) → reach ms club + gains (seen_by club m) ≡ reach (ms ++ m ∷ []) club
-    reach_done club = omega (arith, sure_done club, left_done club)
+sure_is : (over : Bool) (o : Option Appearance) → sure_by over o ≡ cond over (gains o) 0
+unfolding sure_by gains
+sure_is over o = search arith
 
-  module _ (open_now : has_finished m ≡ false) where
-    sure_open : (club : ℕ) → sure_points (ms ++ m ∷ []) club ≡ sure_points ms club
-    sure_open club = rw (finished-push, open_now, append-nil (finished ms))
-
-    left_open : (club : ℕ) → matches_left ms club + plays (seen_by club m) ≡ matches_left (ms ++ m ∷ []) club
-    left_open club = rw (unfinished-push, open_now) (sym (played-push club (unfinished ms) m))
-
-    reach_open : (club : ℕ) → reach ms club + 3 * plays (seen_by club m) ≡ reach (ms ++ m ∷ []) club
-    reach_open club = omega (arith, sure_open club, left_open club)
+most_is : (over : Bool) (o : Option Appearance) → most_by over o ≡ cond over (gains o) 0 + 3 * cond over 0 (plays o)
+unfolding most_by gains plays
+most_is over o = search arith
 
 -- The pass over the matches: one match more. --
 
@@ -189,41 +237,22 @@ module _ (ms : List Match) (i : ℕ) (d : Match) (h : i < length ms) (pair : IsP
       (get_or before p e + x) (get_or (set before p (get_or before p e + x)) q f + y) pair
       (λ c. rw (take_more ms i d h) (next c)) is at_p (rw is_x) at_q (rw is_y) is_after
 
-  -- what a match is sure to give a club, and the most that it can give it
-  unfoldable sure_by : Bool → Option Appearance → ℕ
-  sure_by over None = 0
-  sure_by over (Some a) = (point_bounds over a).0
-
-  unfoldable most_by : Bool → Option Appearance → ℕ
-  most_by over None = 0
-  most_by over (Some a) = (point_bounds over a).1
-
-  sure_is : (over : Bool) (club : ℕ) (seen : Option Appearance) → has_finished game ≡ over → seen ≡ seen_by club game
-      → sure_points (take i ms) club + sure_by over seen ≡ sure_points (take i ms ++ game ∷ []) club
-  unfolding sure_by gains
-  sure_is true club None e is = omega (arith, sure_done (take i ms) game e club, ap gains is)
-  sure_is true club (Some a) e is = omega (arith, sure_done (take i ms) game e club, ap gains is)
-  sure_is false club None e is = omega (arith, sure_open (take i ms) game e club)
-  sure_is false club (Some a) e is = omega (arith, sure_open (take i ms) game e club)
-
-  most_is : (over : Bool) (club : ℕ) (seen : Option Appearance) → has_finished game ≡ over → seen ≡ seen_by club game → reach (take i ms) club + most_by over seen ≡ reach (take i ms ++ game ∷ []) club
-  unfolding most_by gains plays
-  most_is true club None e is = omega (arith, reach_done (take i ms) game e club, ap gains is)
-  most_is true club (Some a) e is = omega (arith, reach_done (take i ms) game e club, ap gains is)
-  most_is false club None e is = omega (arith, reach_open (take i ms) game e club, ap plays is)
-  most_is false club (Some a) e is = omega (arith, reach_open (take i ms) game e club, ap plays is)
-
   pub sure_more : (e f : ℕ) (before after : List ℕ) (p q x y : ℕ) (over : Bool) → has_finished game ≡ over → before ≡ map (sure_points (take i ms)) all_clubs
       → p ≡ game.home - 1 → x ≡ (point_bounds over (seen_from_home game)).0 → q ≡ game.away - 1 → y ≡ (point_bounds over (seen_from_away game)).0 →
       after ≡ set (set before p (get_or before p e + x)) q (get_or (set before p (get_or before p e + x)) q f + y) → after ≡ map (sure_points (take (i + 1) ms)) all_clubs
   unfolding sure_by
-  sure_more e f before after p q x y over is = numbers_more (sure_by over) sure_points e f before after p q x y refl (λ club. sure_is over club (seen_by club game) is refl)
+  sure_more e f before after p q x y over is =
+      numbers_more (sure_by over) sure_points e f before after p q x y refl
+      (λ club. let next = rw is at (sure-push (take i ms) game club) in let by = sure_is over (seen_by club game) in omega arith)
 
   pub reach_more : (e f : ℕ) (before after : List ℕ) (p q x y : ℕ) (over : Bool) → has_finished game ≡ over → before ≡ map (reach (take i ms)) all_clubs
       → p ≡ game.home - 1 → x ≡ (point_bounds over (seen_from_home game)).1 → q ≡ game.away - 1 → y ≡ (point_bounds over (seen_from_away game)).1 →
       after ≡ set (set before p (get_or before p e + x)) q (get_or (set before p (get_or before p e + x)) q f + y) → after ≡ map (reach (take (i + 1) ms)) all_clubs
   unfolding most_by
-  reach_more e f before after p q x y over is = numbers_more (most_by over) reach e f before after p q x y refl (λ club. most_is over club (seen_by club game) is refl)
+  reach_more e f before after p q x y over is =
+      numbers_more (most_by over) reach e f before after p q x y refl
+      (λ club. let sure = rw is at (sure-push (take i ms) game club) in let left = rw is at (left-push (take i ms) game club) in
+      let by = most_is over (seen_by club game) in omega arith)
 
 -- no number rises by more than three
 pub three_more : (n e f : ℕ) (before : List ℕ) (p q x y : ℕ) → q ≢ p → p < length before → q < length before → x ≤ 3 → y ≤ 3 → All (λ k. k ≤ 3 * n) before →

@@ -1,22 +1,10 @@
 -- The rows, from what the calls answered.
-use Rattle.std.proofs.Common.{◌≡◌, ◌∙◌, ℕ, ◌-◌, List, [], ◌∷◌, get_or, All, refl, sym, false, length, map, arith}
-use Rattle.std.specs.List.{slice_index, list_all}
-use Rattle.ucl_order.specs.declared.profile.Profile.{Profile}
-use Rattle.ucl_order.specs.declared.game.Match.{Match}
-use Rattle.ucl_order.specs.declared.mark.Mark.{Mark}
-use Rattle.ucl_order.specs.declared.table.Row.{Row}
-use Rattle.ucl_order.specs.Roster.{NamedClub}
-use Rattle.ucl_order.specs.Matches.{matches_of, started, started_of, has_finished}
-use Rattle.ucl_order.specs.Order.{order_of, all_clubs}
-use Rattle.ucl_order.specs.Marks.{mark_by, mark_of, early_mark}
-use Rattle.ucl_order.specs.Rows.{IsWithinTable, MarkIsCertain, row_of, row_with, rows_of}
+use Rattle.ucl_order.proofs.Common.{All, IsWithinTable, List, Mark, MarkIsCertain, Match, NamedClub, Profile, Row, [], arith, false, get_or}
+use Rattle.ucl_order.proofs.Common.{has_finished, length, list_all, map, mark_by, mark_of, matches_of, order_of, refl, results_of, row_of}
+use Rattle.ucl_order.proofs.Common.{row_with, rows_of, slice_index, started, started_of, sym, ℕ, ◌-◌, ◌∙◌, ◌∷◌, ◌≡◌}
+use Rattle.ucl_order.specs.Marks.{early_mark}
 use Rattle.ucl_order.proofs.Completions.{plus_is_certain, minus_is_certain}
 use Rattle.ucl_order.proofs.Slots.{all-four}
-
-pub row_is : (place n : ℕ) (order : List ℕ) (ms now : List Match) (mark : Mark) (r : Row) → n ≡ place → now ≡ started ms →
-    mark ≡ mark_by ms order (slice_index order (n - 1)) → r ≡ row_with place (slice_index order (n - 1)) mark now →
-    r ≡ row_with place (slice_index order (place - 1)) (mark_by ms order (slice_index order (place - 1))) (started ms)
-row_is place n order ms now mark r is_n is_now is_mark is = rw (is, is_mark, is_now, is_n)
 
 pub order_is : (profile : Profile) (board : List ℕ) (roster : List NamedClub) (now : List Match) (order : List ℕ)
     → now ≡ started_of board → order ≡ order_of profile now roster → order ≡ order_of profile (started_of board) roster
@@ -24,8 +12,8 @@ unfolding order_of
 order_is profile board roster now order is_now is = rw (is, is_now)
 
 pub row_of_place : (profile : Profile) (board : List ℕ) (roster : List NamedClub) (place : ℕ) (ms given : List Match) (order : List ℕ) (r : Row)
-    → ms ≡ matches_of board → given ≡ ms → order ≡ order_of profile (started_of board) roster →
-    r ≡ row_with place (slice_index order (place - 1)) (mark_by given order (slice_index order (place - 1))) (started given) → r ≡ row_of profile board roster place
+    → ms ≡ matches_of board → given ≡ ms → order ≡ order_of profile (started_of board) roster → (let slot = slice_index order (place - 1) in
+    r ≡ row_with place slot (mark_by given order slot) (results_of slot (started given))) → r ≡ row_of profile board roster place
 unfolding row_of mark_of
 row_of_place profile board roster place ms given order r is_ms is_given is_order is = rw (is, is_given, is_ms, is_order)
 
@@ -38,13 +26,13 @@ module _ (profile : Profile) (board : List ℕ) (roster : List NamedClub) where
   unfolding row_of
   marked place = refl
 
-  abbrev HasLayoutTag : Row → Type 0
-  HasLayoutTag row = row.mark ≡ mark_of profile board roster row.slot
+  abbrev HasMark : Row → Type 0
+  HasMark row = row.mark ≡ mark_of profile board roster row.slot
 
-  all_marked : All HasLayoutTag (rows_of profile board roster)
-  all_marked = all-four HasLayoutTag _ _ _ _ (marked 1) (marked 2) (marked 3) (marked 4)
+  all_marked : All HasMark (rows_of profile board roster)
+  all_marked = all-four HasMark _ _ _ _ (marked 1) (marked 2) (marked 3) (marked 4)
 
-  certain : (row : Row) → IsWithinTable row → HasLayoutTag row → MarkIsCertain profile board roster row
+  certain : (row : Row) → IsWithinTable row → HasMark row → MarkIsCertain profile board roster row
   certain row within is = record {
     plus = λ mark later done. plus_is_certain profile board later done roster row.slot within.slot (sym is ∙ mark);
     minus = λ mark later done. minus_is_certain profile board later done roster row.slot (sym is ∙ mark);
@@ -55,15 +43,8 @@ module _ (profile : Profile) (board : List ℕ) (roster : List NamedClub) where
 
 -- ---- the marks, from what the calls answered
 
-pub four_clubs : (f : ℕ → ℕ) (a b c d : ℕ) → a ≡ f 1 → b ≡ f 2 → c ≡ f 3 → d ≡ f 4 → a ∷ b ∷ c ∷ d ∷ [] ≡ map f all_clubs
-four_clubs f a b c d is_a is_b is_c is_d = rw (is_a, is_b, is_c, is_d)
-
 pub early_marks : (ms : List Match) (order : List ℕ) (a b c d : Mark) → length order ≡ 4 → list_all has_finished ms ≡ false →
     a ≡ early_mark ms (get_or order 0 0) → b ≡ early_mark ms (get_or order 1 0) → c ≡ early_mark ms (get_or order 2 0) → d ≡ early_mark ms (get_or order 3 0) →
     ◌≡◌ {A = List Mark} (a ∷ b ∷ c ∷ d ∷ []) (map (mark_by ms order) order)
-early_marks ms [] a b c d long some is_a is_b is_c is_d = absurd (omega arith)
-early_marks ms (w ∷ []) a b c d long some is_a is_b is_c is_d = absurd (omega arith)
-early_marks ms (w ∷ x ∷ []) a b c d long some is_a is_b is_c is_d = absurd (omega arith)
-early_marks ms (w ∷ x ∷ y ∷ []) a b c d long some is_a is_b is_c is_d = absurd (omega arith)
 early_marks ms (w ∷ x ∷ y ∷ z ∷ []) a b c d long some is_a is_b is_c is_d = rw (some, is_a, is_b, is_c, is_d)
-early_marks ms (w ∷ x ∷ y ∷ z ∷ v ∷ vs) a b c d long some is_a is_b is_c is_d = absurd (omega arith)
+early_marks ms order a b c d long some is_a is_b is_c is_d = absurd (omega arith)

@@ -5,7 +5,6 @@ use Rattle.ucl_order.specs.declared.game.Appearance.{Appearance}
 use Rattle.ucl_order.specs.declared.results.Results.{Results}
 use Rattle.ucl_order.specs.Matches.{seen_by, is_won, is_drawn, is_lost, disciplinary_points}
 use Rattle.ucl_order.specs.Results.{points_for, points_of_win}
-use Rattle.ucl_order.specs.Order.{is_in}
 
 -- one match more is counted
 abbrev pub with_match : Results → Appearance → Results
@@ -47,14 +46,9 @@ pub record FitsFields (r : Results) : Type 0 where
   pub goals_for : r.goals_for ≤ 378
   pub goals_against : r.goals_against ≤ 378
   pub away_goals : r.away_goals ≤ 189
+  pub played : r.played ≤ 6
   pub wins : r.wins ≤ 6
+  pub draws : r.draws ≤ 6
+  pub losses : r.losses ≤ 6
   pub away_wins : r.away_wins ≤ 3
   pub discipline : r.discipline ≤ 936
-
--- how many clubs are in the set
-abbrev pub size_of : List Bool → ℕ
-size_of clubs = count_by (λ one. one) clubs
-
--- a match as the club sees it, if it plays in it and both clubs are of the set
-abbrev pub seen_among : ℕ → List ℕ → Match → Option Appearance
-seen_among club clubs m = if is_in clubs m.home && is_in clubs m.away then seen_by club m else None

@@ -40,7 +40,7 @@ rivals ms club = count_by (is_rival ms club) all_clubs
 abbrev pub out_of_reach : List Match → ℕ → ℕ
 out_of_reach ms club = count_by (is_out_of_reach ms club) all_clubs
 
--- before the last match is finished: by points alone
+-- before the last match is finished: by points
 abbrev pub early_mark : List Match → ℕ → Mark
 early_mark ms club = if nat_le (rivals ms club) 1 then Plus else (if nat_le 2 (out_of_reach ms club) then Minus else Blank)
 

@@ -1,5 +1,5 @@
 -- Codes and names of orders.
--- Each stands here and nowhere else.
+-- Each is written only here.
 use Rattle.std.specs.Prelude.{ℕ, List, [], ◌∷◌, codes, find, slice_get, Option}
 use Rattle.std.specs.Str.{bytes_eq}
 use Rattle.ucl_order.specs.declared.profile.Profile.{Profile}

@@ -56,16 +56,19 @@ away_wins club ms = count_by is_won (away_matches club ms)
 abbrev pub discipline : ℕ → List Match → ℕ
 discipline club ms = sum_by disciplinary_points (appearances club ms)
 
--- all of these together
-unfoldable pub results_of : ℕ → List Match → Results
-results_of club ms = record {
-  played = played club ms;
-  wins = wins club ms;
-  draws = draws club ms;
-  losses = losses club ms;
-  goals_for = goals_for club ms;
-  goals_against = goals_against club ms;
-  away_goals = away_goals club ms;
-  away_wins = away_wins club ms;
-  discipline = discipline club ms;
+-- all of these together, of matches as the club sees them
+unfoldable pub totals : List Appearance → Results
+totals games = record {
+  played = length games;
+  wins = count_by is_won games;
+  draws = count_by is_drawn games;
+  losses = count_by is_lost games;
+  goals_for = sum_by (λ a. a.scored) games;
+  goals_against = sum_by (λ a. a.conceded) games;
+  away_goals = sum_by (λ a. a.scored) (filter (λ a. a.is_away) games);
+  away_wins = count_by is_won (filter (λ a. a.is_away) games);
+  discipline = sum_by disciplinary_points games;
 }
+
+abbrev pub results_of : ℕ → List Match → Results
+results_of club ms = totals (appearances club ms)

@@ -13,7 +13,7 @@ pub record NamedClub : Type 0 where
 abbrev pub named : List ℕ → ℕ → NamedClub
 named name coefficient = record { name = name; coefficient = coefficient }
 
--- what a club says
+-- the name and the coefficient of a club
 abbrev pub club_seen : Club → NamedClub
 club_seen club = named club.name.items club.coefficient
 

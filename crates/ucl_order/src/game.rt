@@ -2,11 +2,9 @@
 
 ghost use Rattle.std.specs.Prelude.{◌≡◌, ◌≤◌, [], All, length};
 ghost use Rattle.ucl_word.specs.Record.{IsValid};
-ghost use Rattle.ucl_order.specs.Counting.{point_bounds, worth, seen_among};
-ghost use Rattle.ucl_order.specs.Rounds.{is_level};
-ghost use Rattle.ucl_order.specs.Keys.{slots_in};
-ghost use Rattle.ucl_order.specs.Order.{is_in};
-ghost use Rattle.ucl_order.specs.Matches.{HasScore, IsPairing, IsScore, has_finished, has_started, matches_of, score_of, started, is_drawn, is_lost, is_won, disciplinary_points, seen_by, seen_from_away, seen_from_home};
+ghost use Rattle.ucl_order.specs.Counting.{point_bounds, worth};
+ghost use Rattle.ucl_order.specs.Rounds.{AreStarted, is_level};
+ghost use Rattle.ucl_order.specs.Matches.{HasScore, IsPairing, IsScore, has_finished, has_started, matches_of, score_of, started, is_drawn, is_lost, is_won, disciplinary_points, seen_from_away, seen_from_home};
 
 use arrayvec::ArrayVec;
 use ucl_board::{Board, away_of, home_of};
@@ -98,30 +96,6 @@ impl Match {
         }
     }
 
-    /// Returns the match as the club sees it, if it plays in it.
-    pub(crate) fn seen_by(&self, club: u8) -> Option<Appearance>
-        ensures { result ≡ seen_by club self.now }
-    {
-        if self.home == club {
-            Some(self.seen_from_home())
-        } else if self.away == club {
-            Some(self.seen_from_away())
-        } else {
-            None
-        }
-    }
-
-    /// Returns the match as the club sees it, if it plays in it and both clubs are of the set.
-    pub(crate) fn seen_among(&self, club: u8, clubs: &[bool; 4]) -> Option<Appearance>
-        ensures { result ≡ seen_among club (slots_in clubs.now) self.now }
-    {
-        if is_in(clubs, self.home) && is_in(clubs, self.away) {
-            self.seen_by(club)
-        } else {
-            None
-        }
-    }
-
     /// Returns whether the match is in play or finished.
     fn has_started(&self) -> bool
         ensures { result ≡ has_started self.now }
@@ -200,16 +174,6 @@ impl Appearance {
     }
 }
 
-/// Returns whether the slot is in the set, of which place i says whether slot i + 1 is in it.
-fn is_in(clubs: &[bool; 4], slot: u8) -> bool
-    ensures { result ≡ is_in (slots_in clubs.now) slot }
-{
-    match slot {
-        1..=4 => clubs[usize::from(slot - 1)],
-        _ => false,
-    }
-}
-
 /// Puts the twelve matches of the board into an empty list. The list is filled in place, since a copy of what was just written would wait
 /// for it.
 pub(crate) fn fill_matches(board: &Board, matches: &mut ArrayVec<Match, 12>)
@@ -218,6 +182,7 @@ pub(crate) fn fill_matches(board: &Board, matches: &mut ArrayVec<Match, 12>)
     ensures twelve { length matches.new.items ≡ 12 }
     ensures scores { All HasScore matches.new.items }
     ensures pairings { All IsPairing matches.new.items }
+    ensures started { AreStarted (started matches.new.items) }
 {
     for number in 1..13 {
         if let Some(game) = MatchNo::new(number) {
@@ -226,19 +191,6 @@ pub(crate) fn fill_matches(board: &Board, matches: &mut ArrayVec<Match, 12>)
                 away: away_of(game),
                 score: Score::of(board.game(game)),
             });
-        }
-    }
-}
-
-/// Puts the matches in play and finished into an empty list.
-pub(crate) fn fill_started(matches: &[Match], chosen: &mut ArrayVec<Match, 12>)
-    requires short { length matches.now ≤ 12 }
-    requires empty { chosen.old.items ≡ [] }
-    ensures { chosen.new.items ≡ started matches.now }
-{
-    for game in matches {
-        if game.has_started() {
-            chosen.push(*game);
         }
     }
 }

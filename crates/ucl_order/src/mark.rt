@@ -16,7 +16,7 @@ pub enum Mark {
     Plus,
     /// However the group ends, the club is not among the first two.
     Minus,
-    /// Points alone do not settle it.
+    /// Points do not settle it.
     Blank,
 }
 
@@ -114,7 +114,7 @@ impl PointBounds {
             + u8::from(self.is_out_of_reach(club, 4))
     }
 
-    /// Returns the mark before the last match is finished: by points alone.
+    /// Returns the mark while a match is left: by points.
     fn early_mark(&self, club: u8) -> Mark
         requires { IsSlot club }
         ensures { (matches : List Match) → ArePointBounds matches self.now

@@ -8,7 +8,7 @@ ghost use Rattle.ucl_order.specs.Names.{profile_name, profile_named, profile_wit
 pub enum Profile {
     /// Those of the Regulations of the UEFA Champions League 2021/22: points, goal difference and goals scored.
     Uefa,
-    /// This project's own: after these, away goals, also where head to head is applied again.
+    /// This project's own: after these, away goals, also when head to head is applied again.
     AwayInTie,
 }
 

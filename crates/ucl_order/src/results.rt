@@ -3,11 +3,9 @@
 ghost use Rattle.std.specs.Prelude.{◌≡◌, ℕ, ◌≤◌, ◌+◌, ◌*◌, ◌++◌, ◌∷◌, [], All, List, length};
 ghost use Rattle.ucl_order.specs.declared.game.Match.{Match};
 ghost use Rattle.ucl_order.specs.Matches.{IsPairing, started};
-ghost use Rattle.ucl_order.specs.Results.{points_for, results_of};
-ghost use Rattle.ucl_order.specs.Counting.{IsWithin, with_match};
-ghost use Rattle.ucl_order.specs.Keys.{slots_in};
-ghost use Rattle.ucl_order.specs.Order.{among};
-ghost use Rattle.ucl_order.specs.Rounds.{level_matches, results_of_clubs};
+ghost use Rattle.ucl_order.specs.Results.{points_for};
+ghost use Rattle.ucl_order.specs.Counting.{FitsFields, IsWithin, with_match};
+ghost use Rattle.ucl_order.specs.Rounds.{AreStarted, results_of_clubs, tied_results};
 
 use crate::game::{Appearance, Match, WIN};
 
@@ -59,36 +57,6 @@ impl Results {
         }
     }
 
-    /// Returns what the club has done in these matches.
-    pub(crate) fn of(club: u8, matches: &[Match]) -> Results
-        requires { length matches.now ≤ 12 }
-        ensures value { result ≡ results_of club matches.now }
-        ensures few { IsWithin 12 result }
-    {
-        let mut results = Results::NONE;
-        for game in matches {
-            if let Some(seen) = game.seen_by(club) {
-                results.add(&seen);
-            }
-        }
-        results
-    }
-
-    /// Returns what the club has done in the matches between clubs of the set.
-    pub(crate) fn among(club: u8, clubs: &[bool; 4], matches: &[Match]) -> Results
-        requires { length matches.now ≤ 12 }
-        ensures value { result ≡ results_of club (among (slots_in clubs.now) matches.now) }
-        ensures few { IsWithin 12 result }
-    {
-        let mut results = Results::NONE;
-        for game in matches {
-            if let Some(seen) = game.seen_among(club, clubs) {
-                results.add(&seen);
-            }
-        }
-        results
-    }
-
     /// Counts one match more for its two clubs.
     fn add_match(results: &mut [Results; 4], game: &Match)
         requires pairing { IsPairing game.now }
@@ -102,12 +70,14 @@ impl Results {
         results[usize::from(game.away - 1)].add(&game.seen_from_away());
     }
 
-    /// Returns what each club has done in those matches in play and finished whose two clubs have the same key.
+    /// Returns what each club has done in the matches in play and finished among the clubs that have its key: those whose two clubs have the
+    /// same key.
     pub(crate) fn of_level(keys: &[u64; 4], matches: &[Match]) -> [Results; 4]
         requires short { length matches.now ≤ 12 }
         requires pairings { All IsPairing matches.now }
-        ensures value { result ≡ results_of_clubs (level_matches keys.now matches.now) }
-        ensures few { All (IsWithin 12) result }
+        requires started { AreStarted (started matches.now) }
+        ensures value { result ≡ tied_results (started matches.now) keys.now }
+        ensures fits { All FitsFields result }
     {
         let mut results = [Results::NONE; 4];
         for game in matches {
@@ -122,8 +92,9 @@ impl Results {
     pub(crate) fn of_clubs(matches: &[Match]) -> [Results; 4]
         requires short { length matches.now ≤ 12 }
         requires pairings { All IsPairing matches.now }
+        requires started { AreStarted (started matches.now) }
         ensures value { result ≡ results_of_clubs (started matches.now) }
-        ensures few { All (IsWithin 12) result }
+        ensures fits { All FitsFields result }
     {
         Results::of_level(&[0; 4], matches)
     }

@@ -21,7 +21,7 @@ const LAST_PRINTED: u8 = 0x7e;
 /// The greatest coefficient of a club.
 const MAX_COEFFICIENT: u32 = 999_999;
 
-/// A club as a roster takes it in. Either field can hold anything; [`Roster::new`] says what a roster takes.
+/// A club to put in a roster. Either field can have any value; [`Roster::new`] says which a roster takes.
 #[derive(Debug, Drop)]
 pub struct Club {
     /// The name: 1 to 20 bytes of printed ASCII, 0x20 to 0x7e.
@@ -30,7 +30,7 @@ pub struct Club {
     pub coefficient: u32,
 }
 
-/// A club as a roster takes it in, with a name that is lent. Either field can hold anything; [`Roster::of_lent`] says what a roster takes.
+/// A club to put in a roster, with a name that is lent. Either field can have any value; [`Roster::of_lent`] says which a roster takes.
 #[derive(Clone, Copy)]
 pub struct LentClub<'a> {
     /// The name: 1 to 20 bytes of printed ASCII, 0x20 to 0x7e.

@@ -3,7 +3,7 @@
 ghost use Rattle.std.specs.Prelude.{◌≡◌, ◌-◌, ◌≤◌, List, [], ◌∷◌, All, length, map, slice_index};
 ghost use Rattle.ucl_board.specs.Fixtures.{IsSlot};
 ghost use Rattle.ucl_order.specs.declared.game.Match.{Match};
-ghost use Rattle.ucl_order.specs.Counting.{IsWithin};
+ghost use Rattle.ucl_order.specs.Counting.{FitsFields};
 ghost use Rattle.ucl_order.specs.Marks.{mark_by};
 ghost use Rattle.ucl_order.specs.Matches.{started};
 ghost use Rattle.ucl_order.specs.Results.{results_of};
@@ -26,7 +26,7 @@ pub struct Row {
     pub slot: u8,
     /// The place, 1 to 4.
     pub place: u8,
-    /// Whether the club is sure of a place among the first two, by finished matches alone.
+    /// Whether the club is sure of a place among the first two. Only finished matches count.
     pub mark: Mark,
     /// Matches, 0 to 6.
     pub played: u8,
@@ -46,9 +46,8 @@ pub struct Row {
 
 /// Returns the row of a club at its place, by what it has done.
 fn row_with(place: u8, slot: u8, mark: Mark, results: &Results) -> Row
-    requires { IsWithin 12 results.now }
-    ensures { (matches : List Match) → results.now ≡ results_of slot matches
-        → result ≡ row_with place slot mark matches }
+    requires { FitsFields results.now }
+    ensures { result ≡ row_with place slot mark results.now }
 {
     Row {
         slot,
@@ -70,11 +69,11 @@ fn row_at(place: u8, order: &[u8; 4], marks: &[Mark; 4], results: &[Results; 4])
     requires at_least { 1 ≤ place }
     requires at_most { place ≤ 4 }
     requires slots { All IsSlot order.now }
-    requires few { All (IsWithin 12) results.now }
+    requires fits { All FitsFields results.now }
     ensures { (matches : List Match) → marks.now ≡ map (mark_by matches order.now) order.now
         → results.now ≡ results_of_clubs (started matches) →
-        let slot = slice_index order.now (place - 1) in
-        result ≡ row_with place slot (mark_by matches order.now slot) (started matches) }
+        let slot = slice_index order.now (place - 1) in result
+        ≡ row_with place slot (mark_by matches order.now slot) (results_of slot (started matches)) }
 {
     let index = usize::from(place - 1);
     let slot = order[index];

@@ -45,17 +45,19 @@ pub fn higher_has_greater_key()
     ensures { HigherHasGreaterKey }
 {}
 
-/// The rows of the table, with their marks, go by the coefficients of the clubs alone: rosters of other names have the same table.
+/// The rows of the table, with their marks, depend only on the coefficients of the clubs: rosters of other names have the same table.
 pub fn table_goes_by_coefficients()
     ensures { TableGoesByCoefficients }
 {}
 
 /// A club marked `Plus` is among the first two however the group ends.
+#[tactic(auto, using(crate::proofs::Completions::plus_is_certain))]
 pub fn plus_is_certain()
     ensures { PlusIsCertain }
 {}
 
 /// A club marked `Minus` is not among the first two, however the group ends.
+#[tactic(auto, using(crate::proofs::Completions::minus_is_certain))]
 pub fn minus_is_certain()
     ensures { MinusIsCertain }
 {}

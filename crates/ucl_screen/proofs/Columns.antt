@@ -1,18 +1,17 @@
 -- How wide the lines are.
-use Rattle.std.proofs.Common.{◌≡◌, ℕ, ◌+◌, ◌-◌, ◌<◌, ◌≤◌, ◌^◌, Bool, true, false, cond, List, ◌++◌, length, replicate, codes, arith, refl, length-append}
-use Rattle.std.proofs.Common.{append_assoc, [], ◌∷◌}
-use Rattle.std.specs.Prelude.{decimal, nat_le, ◌&&◌}
+use Rattle.ucl_screen.proofs.Common.{Bool, List, [], and_parts, append_assoc, arith, cond, false, length, length-append, nat_le, nat_tests}
+use Rattle.ucl_screen.proofs.Common.{refl, replicate, true, ℕ, ◌++◌, ◌+◌, ◌-◌, ◌<◌, ◌^◌, ◌∷◌, ◌≡◌, ◌≤◌}
+use Rattle.std.proofs.Common.{codes}
+use Rattle.std.specs.Prelude.{decimal}
 use Rattle.std.proofs.lemmas.List.{length-replicate}
 use Rattle.std.proofs.lemmas.Fmt.{length-decimal-le}
 use Rattle.ucl_order.specs.declared.mark.Mark.{Mark}
-use Rattle.ucl_order.specs.declared.mark.Mark.TheVariants.{Plus, Minus, Blank}
 use Rattle.ucl_order.specs.declared.table.Row.{Row}
 use Rattle.ucl_order.specs.Rows.{IsWithinTable}
 use Rattle.ucl_screen.specs.Lines.{left, right, difference_text, mark_text, place_line}
 use Rattle.ucl_screen.specs.Theorems.{LinesHave53Columns}
 use Rattle.std.specs.List.{list_all}
 use Rattle.std.specs.Str.{IsAscii, IsUtf8}
-use Rattle.std.proofs.lemmas.Bool.Decides.{nat_tests}
 use Rattle.std.proofs.lemmas.Str.{IsUtf8-from_ascii}
 use Rattle.std.proofs.lemmas.Str.Ascii.{IsAscii-nil, IsAscii-cons}
 use Rattle.ucl_order.specs.Roster.{is_printed, is_name}
@@ -34,9 +33,7 @@ wide_difference : (scored conceded : ℕ) → scored ≤ 378 → conceded ≤ 37
 wide_difference scored conceded s c = wide_right 5 (difference_text scored conceded) (signed (nat_le conceded scored) (scored - conceded) (conceded - scored) (omega arith) (omega arith))
 
 wide_mark : (mark : Mark) → length (mark_text mark) ≡ 3
-wide_mark Plus = refl
-wide_mark Minus = refl
-wide_mark Blank = refl
+wide_mark mark = search arith
 
 -- twelve pieces of known lengths
 added : (a b c d e f g h i j k l : List ℕ) → length (a ++ b ++ c ++ d ++ e ++ f ++ g ++ h ++ i ++ j ++ k ++ l)
@@ -83,17 +80,12 @@ line_written row name o p q r s t u v w x y z after p' q' r' s' t' u' v' w' x' y
 
 -- ---- names are text
 
-both : (a b : Bool) → (a && b) ≡ true → (a ≡ true) × (b ≡ true)
-both true true h = (h, h)
-both true false h = absurd cc
-both false b h = absurd cc
-
 below : (b : ℕ) → is_printed b ≡ true → b < 128
-below b h = let e = (both (nat_le 0x20 b) (nat_le b 0x7e) h).1 in grind (arith, nat_tests)
+below b h = let e = (and_parts (nat_le 0x20 b) (nat_le b 0x7e) h).1 in grind (arith, nat_tests)
 
 printed_ascii : (bs : List ℕ) → list_all is_printed bs ≡ true → IsAscii bs
 printed_ascii [] h = IsAscii-nil
-printed_ascii (b ∷ bs) h = let e = both (is_printed b) (list_all is_printed bs) h in IsAscii-cons b bs (below b e.0) (printed_ascii bs e.1)
+printed_ascii (b ∷ bs) h = let e = and_parts (is_printed b) (list_all is_printed bs) h in IsAscii-cons b bs (below b e.0) (printed_ascii bs e.1)
 
 pub name_text : (name : List ℕ) → is_name name ≡ true → IsUtf8 name
-name_text name h = IsUtf8-from_ascii name (printed_ascii name (both _ _ h).1)
+name_text name h = IsUtf8-from_ascii name (printed_ascii name (and_parts _ _ h).1)

@@ -1,10 +1,9 @@
 -- Numbers read one digit at a time.
-use Rattle.std.proofs.Common.{◌≡◌, ℕ, ◌+◌, ◌-◌, ◌*◌, ◌^◌, ◌<◌, ◌≤◌, ◌==◌, Bool, true, false, List, [], length, drop, get_or, Some, None, refl, arith, add-one}
-use Rattle.std.proofs.Common.{drop-cons, zero}
+use Rattle.ucl_screen.proofs.Common.{Bool, List, None, Some, [], add-one, arith, common_steps, digits_after, drop, drop-cons, false, get_or}
+use Rattle.ucl_screen.proofs.Common.{hex_after, inl, inr, length, nat_tests, refl, true, zero, ℕ, ◌*◌, ◌+◌, ◌-◌, ◌<◌, ◌==◌, ◌^◌, ◌≡◌, ◌≤◌}
+use Rattle.ucl_screen.proofs.Common.{◌⊎◌}
+use Rattle.ucl_screen.specs.Numbers.{is_digit, number, hex_digit, hex_word}
 use Rattle.std.proofs.Math.Nat.{pow-suc, pow-le-pow_right}
-use Rattle.std.proofs.lemmas.Grind.{common_steps}
-use Rattle.std.proofs.lemmas.Bool.Decides.{nat_tests}
-use Rattle.ucl_screen.specs.Numbers.{digits_after, is_digit, number, hex_after, hex_digit, hex_word}
 
 pub number-is : (most : ℕ) (text : List ℕ) → 1 ≤ length text → length text ≤ most → number most text ≡ digits_after 0 text
 number-is most text a b = grind (arith, nat_tests)
@@ -17,19 +16,13 @@ pub more-digits : (n i : ℕ) (text : List ℕ) → i < length text → 48 ≤ g
 unfolding digits_after
 more-digits n i text h p q = rw (drop-cons text i 0, add-one i, digit-true _ p q) refl
 
-digit-low : (b : ℕ) → b < 48 → is_digit b ≡ false
-digit-low b p = grind (arith, nat_tests)
+other-byte : (b : ℕ) → (b < 48) ⊎ (57 < b) → is_digit b ≡ false
+other-byte b (inl low) = grind (arith, nat_tests)
+other-byte b (inr high) = grind (arith, nat_tests)
 
-digit-high : (b : ℕ) → 57 < b → is_digit b ≡ false
-digit-high b p = grind (arith, nat_tests)
-
-pub no-digit-low : (n i : ℕ) (text : List ℕ) → i < length text → get_or text i 0 < 48 → digits_after n (drop i text) ≡ None
+pub no-digit : (n i : ℕ) (text : List ℕ) → i < length text → (get_or text i 0 < 48) ⊎ (57 < get_or text i 0) → digits_after n (drop i text) ≡ None
 unfolding digits_after
-no-digit-low n i text h p = rw (drop-cons text i 0, digit-low _ p) refl
-
-pub no-digit-high : (n i : ℕ) (text : List ℕ) → i < length text → 57 < get_or text i 0 → digits_after n (drop i text) ≡ None
-unfolding digits_after
-no-digit-high n i text h p = rw (drop-cons text i 0, digit-high _ p) refl
+no-digit n i text h other = rw (drop-cons text i 0, other-byte _ other) refl
 
 pub no-more : (n i : ℕ) (text : List ℕ) → length text ≤ i → digits_after n (drop i text) ≡ Some n
 unfolding digits_after

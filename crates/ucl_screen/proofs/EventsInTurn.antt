@@ -1,17 +1,15 @@
 -- Events that are entered in turn.
-use Rattle.std.proofs.Common.{◌≡◌, ℕ, suc, ◌+◌, ◌<◌, ◌≤◌, List, [], ◌∷◌, length, map, drop, get_or, sym, ap, ◌∙◌, add-one, drop-cons, arith, ◌-◌, ◌++◌, take, refl}
-use Rattle.std.proofs.Common.{append-nil}
+use Rattle.ucl_screen.proofs.Common.{List, NightEvent, [], add-one, ap, append-nil, arith, common_steps, drop, drop-cons, flat_map, get_or}
+use Rattle.ucl_screen.proofs.Common.{length, match_numbers, refl, suc, sym, take, ℕ, ◌++◌, ◌+◌, ◌-◌, ◌<◌, ◌∙◌, ◌∷◌, ◌≡◌, ◌≤◌}
+use Rattle.std.proofs.Common.{map}
+use Rattle.std.proofs.lemmas.Grind.{flat_map-append}
 use Rattle.std.specs.List.{fold}
-use Rattle.std.proofs.lemmas.Grind.{common_steps, flat_map-append}
 use Rattle.ucl_board.specs.declared.entry.Entry.{Entry}
 use Rattle.ucl_board.specs.History.{after_attempt}
 use Rattle.ucl_board.specs.Words.{max_version}
 use Rattle.ucl_board.proofs.HistoryTheorems.{versions}
-use Rattle.ucl_screen.specs.declared.night.NightEvent.{NightEvent}
 use Rattle.ucl_screen.specs.Events.{IsBoardAfter, attempt_of}
-use Rattle.std.specs.Prelude.{flat_map}
 use Rattle.std.proofs.lemmas.List.{take_more}
-use Rattle.ucl_board.specs.Fixtures.{match_numbers}
 use Rattle.ucl_board.proofs.Histories.{each_match}
 
 pub past : {X : Type 0} (i : ℕ) (xs : List X) → length xs ≤ i → drop i xs ≡ []

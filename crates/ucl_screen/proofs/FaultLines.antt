@@ -1,5 +1,5 @@
 -- The line of a fault, by its parts.
-use Rattle.std.proofs.Common.{◌≡◌, ℕ, List, [], ◌++◌, ◌∙◌, ap, sym, append-nil}
+use Rattle.ucl_screen.proofs.Common.{List, [], ap, append-nil, sym, ℕ, ◌++◌, ◌∙◌, ◌≡◌}
 
 -- a line of one part, and of two
 pub one_part : (before : List ℕ) → before ++ [] ++ [] ≡ before

@@ -1,26 +1,21 @@
 -- Letters of groups.
-use Rattle.std.proofs.Common.{◌≡◌, ℕ, ◌<◌, ◌≤◌, ◌&&◌, Bool, cond, true, false, refl, arith, List, [], ◌∷◌, length, None, Some, le-leb, leb-true}
-use Rattle.std.specs.Prelude.{nat_le}
+use Rattle.ucl_screen.proofs.Common.{Bool, List, None, Some, [], and_parts, arith, cond, false, length, nat_le, refl, true, ℕ, ◌&&◌, ◌<◌}
+use Rattle.ucl_screen.proofs.Common.{◌∷◌, ◌≡◌, ◌≤◌}
+use Rattle.std.proofs.Common.{le-leb, leb-true}
 use Rattle.std.specs.List.{slice_index_or}
 use Rattle.ucl_screen.specs.Screen.{IsGroup, letter_in}
 
-both : (a b : Bool) → (a && b) ≡ true → (a ≡ true) × (b ≡ true)
-both true b h = (refl, h)
-both false b h = cc
-
 pub is_letter : (text : List ℕ) → 1 ≤ length text → length text < 2 → IsGroup (slice_index_or text 0 0) → Some (slice_index_or text 0 0) ≡ letter_in text
-is_letter [] some one group = absurd (omega arith)
 is_letter (x ∷ []) some one group = rw (le-leb 65 x group.0, le-leb x 72 group.1) refl
-is_letter (x ∷ y ∷ ys) some one group = absurd (omega arith)
+is_letter text some one group = absurd (omega arith)
 
 pub no_letter : (text : List ℕ) → length text < 1 → None ≡ letter_in text
 no_letter [] none = refl
 no_letter (x ∷ xs) none = absurd (omega arith)
 
 pub many_letters : (text : List ℕ) → 2 ≤ length text → None ≡ letter_in text
-many_letters [] many = absurd (omega arith)
-many_letters (x ∷ []) many = absurd (omega arith)
 many_letters (x ∷ y ∷ ys) many = refl
+many_letters text many = absurd (omega arith)
 
 pub other_letter : (text : List ℕ) → 1 ≤ length text → length text < 2 → (IsGroup (slice_index_or text 0 0) → ⊥) → None ≡ letter_in text
 other_letter [] some one other = absurd (omega arith)
@@ -29,4 +24,4 @@ other_letter (x ∷ []) some one other = go (nat_le 65 x && nat_le x 72) refl
   where
     go : (b : Bool) → (nat_le 65 x && nat_le x 72) ≡ b → None ≡ cond b (Some x) None
     go false e = refl
-    go true e = let parts = both _ _ e in absurd (other (leb-true _ _ parts.0, leb-true _ _ parts.1))
+    go true e = let parts = and_parts _ _ e in absurd (other (leb-true _ _ parts.0, leb-true _ _ parts.1))

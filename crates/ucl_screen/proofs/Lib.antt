@@ -1,3 +1,4 @@
+pub mod Common
 pub mod RowFacts
 pub mod Digits
 pub mod RowFaults

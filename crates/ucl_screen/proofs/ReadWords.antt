@@ -1,66 +1,49 @@
 -- What twelve words are read as.
-use Rattle.std.proofs.Common.{◌≡◌, ℕ, zero, suc, ◌+◌, ◌-◌, ◌<◌, ◌≤◌, ◌==◌, ◌&&◌, Bool, true, false, List, [], ◌∷◌, length, get_or, Option, Some, None, refl, sym, ap}
-use Rattle.std.proofs.Common.{◌∙◌, inl, inr, arith}
-use Rattle.std.specs.Prelude.{nat_le, Result, Ok, Err}
-use Rattle.std.proofs.lemmas.Bool.{cases_Bool}
-use Rattle.std.proofs.lemmas.Bool.Decides.{nat_tests}
+use Rattle.ucl_screen.proofs.Common.{AreReadAs, Err, IsFirstBad, List, None, Ok, Option, Result, Some, [], and_parts, ap, arith, false}
+use Rattle.ucl_screen.proofs.Common.{get_or, inl, inr, length, nat_le, refl, suc, sym, true, zero, ℕ, ◌&&◌, ◌+◌, ◌-◌, ◌<◌, ◌==◌, ◌∙◌, ◌∷◌}
+use Rattle.ucl_screen.proofs.Common.{◌≡◌}
+use Rattle.std.proofs.Common.{eq-eqb, eqb-true}
+use Rattle.std.proofs.lemmas.Bool.{false_from_ne_true, le-leb, leb-true}
 use Rattle.ucl_word.specs.Record.{is_valid}
 use Rattle.ucl_word.specs.Layout.{IsWord, first_layout, record_at, word_of}
 use Rattle.ucl_word.specs.Migration.{IsFirstWord, IsReadAs, IsReadable, first_word_of, max_number_in_play_of_first_layout}
 use Rattle.ucl_word.proofs.Words.{record_told, word_packed, word_valid}
 use Rattle.ucl_word.proofs.FirstWords.{first_back, layouts_apart}
-use Rattle.ucl_board.specs.Words.{AreReadAs, IsFirstBad}
 use Rattle.ucl_screen.specs.WordsRead.{before_words, first_record_at, is_first_word, is_word, read_word, read_words}
-
-both : (a b : Bool) → (a && b) ≡ true → (a ≡ true) × (b ≡ true)
-both true b h = (refl, h)
-both false b h = cc
 
 -- what a word is read as
 
-same-test : (a b : ℕ) → a ≡ b → (a == b) ≡ true
-same-test a b e = grind (arith, nat_tests)
-
-test-same : (a b : ℕ) → (a == b) ≡ true → a ≡ b
-test-same a b e = grind (arith, nat_tests)
-
-test-below : (a b : ℕ) → nat_le a b ≡ true → a ≤ b
-test-below a b e = grind (arith, nat_tests)
-
 word-is : (word : ℕ) → is_word word ≡ true → IsWord word
 word-is word h =
-    let p = both (is_valid (record_at word)) (word_of (record_at word) == word) h in
-    record { of = record_at word; valid = p.0; packed = test-same (word_of (record_at word)) word p.1 }
+    let p = and_parts (is_valid (record_at word)) (word_of (record_at word) == word) h in
+    record { of = record_at word; valid = p.0; packed = eqb-true (word_of (record_at word)) word p.1 }
 
 is-word : (word : ℕ) → IsWord word → is_word word ≡ true
-is-word word w = rw (word_valid word w, same-test (word_of (record_at word)) word (word_packed word w)) refl
-
-first-told : (word : ℕ) → first_record_at word ≡ record_told first_layout.number.width word
-unfolding first_record_at
-first-told word = refl
+is-word word w = rw (word_valid word w, eq-eqb (word_of (record_at word)) word (word_packed word w)) refl
 
 first-is : (word : ℕ) → is_first_word word ≡ true → IsFirstWord word
 first-is word h =
     let m = first_record_at word in
-    let p = both (is_valid m && nat_le m.number (max_number_in_play_of_first_layout m.state)) (first_word_of m == word) h in
-    let q = both (is_valid m) (nat_le m.number (max_number_in_play_of_first_layout m.state)) p.0 in
-    record { of = m; valid = record { valid = q.0; number = test-below m.number (max_number_in_play_of_first_layout m.state) q.1 }; packed = test-same (first_word_of m) word p.1 }
+    let p = and_parts (is_valid m && nat_le m.number (max_number_in_play_of_first_layout m.state)) (first_word_of m == word) h in
+    let q = and_parts (is_valid m) (nat_le m.number (max_number_in_play_of_first_layout m.state)) p.0 in
+    record { of = m; valid = record { valid = q.0; number = leb-true m.number (max_number_in_play_of_first_layout m.state) q.1 }; packed = eqb-true (first_word_of m) word p.1 }
 
 first-of : (word : ℕ) (w : IsFirstWord word) → first_record_at word ≡ w.of
-first-of word w = first-told word ∙ ap (record_told first_layout.number.width) (sym w.packed) ∙ first_back w.of w.valid
+unfolding first_record_at
+first-of word w = ap (record_told first_layout.number.width) (sym w.packed) ∙ first_back w.of w.valid
 
 is-first : (word : ℕ) → IsFirstWord word → is_first_word word ≡ true
 is-first word w =
     let e = first-of word w in
     let a = w.valid.valid in
-    let b : nat_le w.of.number (max_number_in_play_of_first_layout w.of.state) ≡ true = let k = w.valid.number in grind (arith, nat_tests) in
-    let c = same-test (first_word_of w.of) word w.packed in rw (e, a, b, c) refl
+    let b = le-leb w.of.number (max_number_in_play_of_first_layout w.of.state) w.valid.number in
+    let c = eq-eqb (first_word_of w.of) word w.packed in rw (e, a, b, c) refl
 
 not-word : (word : ℕ) → (IsWord word → ⊥) → is_word word ≡ false
-not-word word h = elim (cases_Bool (is_word word)) [ inl y ↦ absurd (h (word-is word y)) | inr n ↦ n ]
+not-word word h = false_from_ne_true _ (λ yes. h (word-is word yes))
 
 not-first : (word : ℕ) → (IsFirstWord word → ⊥) → is_first_word word ≡ false
-not-first word h = elim (cases_Bool (is_first_word word)) [ inl y ↦ absurd (h (first-is word y)) | inr n ↦ n ]
+not-first word h = false_from_ne_true _ (λ yes. h (first-is word yes))
 
 pub read-as : (word new : ℕ) → IsReadAs word new → read_word word ≡ Some new
 unfolding read_word
@@ -88,11 +71,10 @@ EachRead words board = (k : ℕ) → k < length words → IsReadAs (get_or words
 pub all-read : (index : ℕ) (words board : List ℕ) → length board ≡ length words → EachRead words board → read_words index words ≡ Ok board
 unfolding read_words
 all-read index [] [] e h = refl
-all-read index [] (b ∷ board) e h = absurd (omega arith)
-all-read index (w ∷ words) [] e h = absurd (omega arith)
 all-read index (w ∷ words) (b ∷ board) e h =
     let first = read-as w b (h 0 (omega arith)) in
     let rest = all-read (index + 1) words board (omega arith) (λ k less. h (suc k) (omega arith)) in rw (first, rest) refl
+all-read index words board e h = absurd (omega arith)
 
 pub are-read : (words board : List ℕ) → length words ≡ 12 → AreReadAs words board → read_words 1 words ≡ Ok board
 are-read words board long r = all-read 1 words board (let t = r.twelve in omega arith) (λ k less. let e : k + 1 - 1 ≡ k = omega arith in rw e at (r.each (k + 1) (omega arith, omega arith)))

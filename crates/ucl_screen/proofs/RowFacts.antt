@@ -1,58 +1,29 @@
 -- The records of a text, one after the other.
-use Rattle.std.proofs.Common.{◌≡◌, ℕ, zero, suc, ◌+◌, ◌<◌, ◌≤◌, ◌-◌, Bool, true, false, ◌==◌, ◌||◌, if◌then◌else◌, List, [], ◌∷◌, ◌++◌, length, Option, Some, None}
-use Rattle.std.proofs.Common.{refl, ap, ◌∙◌, arith, add-one, ◌⊎◌, inl, inr, append_assoc}
-use Rattle.std.proofs.lemmas.Bool.{cases_Bool}
-use Rattle.csv.specs.Machine.{Read, next_record, ends_at_end, step, is_end, fields_after, field_after, in_field, start_field, start_record}
+use Rattle.ucl_screen.proofs.Common.{Bool, Err, Fields, InputFault, IsReading, List, NightEvent, None, Ok, Option, Result, Some, []}
+use Rattle.ucl_screen.proofs.Common.{add-one, ap, append_assoc, arith, cases_Bool, event_of, events_from, false, inl, inr, length, refl}
+use Rattle.ucl_screen.proofs.Common.{rows_from, rows_left, rows_of, said_by, suc, true, word_of_row, words_from, zero, ℕ, ◌++◌, ◌+◌, ◌-◌}
+use Rattle.ucl_screen.proofs.Common.{◌<◌, ◌>>=◌, ◌∙◌, ◌∷◌, ◌≡◌, ◌≤◌, ◌⊎◌}
+use Rattle.std.proofs.Common.{if◌then◌else◌}
+use Rattle.ucl_screen.specs.Rows.{bytes_left, FourFields, four_of}
+use Rattle.csv.specs.Machine.{Read, next_record, ends_at_end, step, is_end, fields_after, field_after}
 use Rattle.std.specs.Borrow.{Bor}
 use Rattle.csv.proofs.ReadFacts.{rows-end, rows-more}
 use Rattle.csv.specs.Reading.{default_config, records_from, strip_bom, is_bom, Reached, ReadRecord, took_first, has_failed}
 use Rattle.csv.specs.declared.reader.Reader.{Reader}
 use Rattle.csv.specs.declared.parser.State.{State}
-use Rattle.csv.specs.declared.parser.State.TheVariants as st
 use Rattle.csv.specs.declared.parser.Action.{Action}
-use Rattle.csv.specs.declared.parser.Action.TheVariants as act
-use Rattle.ucl_screen.specs.Rows.{Fields, IsReading, bytes_left, rows_from, rows_left, rows_of, FourFields, four_of}
 use Rattle.csv.specs.Records.{field_at}
 use Rattle.std.proofs.lemmas.List.{append-nil}
-use Rattle.std.specs.Prelude.{Result, Ok, Err}
-use Rattle.ucl_screen.specs.declared.fault.InputFault.{InputFault}
 use Rattle.ucl_screen.specs.declared.fault.InputFault.TheVariants.{BadRow}
-use Rattle.ucl_screen.specs.declared.night.NightEvent.{NightEvent}
-use Rattle.ucl_screen.specs.Events.{event_of}
-use Rattle.ucl_screen.specs.Script.{◌>>=◌, said_by, events_from, word_of_row, words_from}
+use Rattle.csv.specs.declared.parser.State.TheVariants as st
+use Rattle.csv.specs.declared.parser.Action.TheVariants as act
 
 -- a byte that ends a record leaves a state between two records
 abbrev Closes : State × Action → Type 0
 Closes p = is_end p.1 ≡ true → ends_at_end p.0 ≡ false
 
-closes-if : (x : Bool) (p q : State × Action) → Closes p → Closes q → Closes (if x then p else q)
-closes-if true p q a b = a
-closes-if false p q a b = b
-
-between-if : (x : Bool) → ends_at_end (if x then st.AfterCr else st.StartRecord) ≡ false
-between-if true = refl
-between-if false = refl
-
-in-field : (c : ℕ) → Closes (in_field default_config c)
-in-field c =
-    closes-if (c == 44) _ _ (λ h. cc h)
-    (closes-if ((c == 13) || (c == 10)) (if c == 13 then st.AfterCr else st.StartRecord, act.EndRecord) (st.InField, act.Copy) (λ h. between-if (c == 13)) (λ h. cc h))
-
-start-field : (c : ℕ) → Closes (start_field default_config c)
-start-field c = closes-if (c == 34) _ _ (λ h. cc h) (in-field c)
-
-start-record : (c : ℕ) → Closes (start_record default_config c)
-start-record c = closes-if ((c == 13) || (c == 10)) (st.StartRecord, act.Skip) (start_field default_config c) (λ h. cc h) (start-field c)
-
 any-step : (s : State) (c : ℕ) → Closes (step default_config s c)
-any-step st.StartRecord c = start-record c
-any-step st.StartField c = start-field c
-any-step st.InField c = in-field c
-any-step st.InQuoted c = closes-if (c == 34) _ _ (λ h. cc h) (λ h. cc h)
-any-step st.InEscape c = let no : Closes (st.InQuoted, act.Copy) = λ h. cc h in no
-any-step st.AfterQuote c = closes-if (c == 34) _ _ (λ h. cc h) (in-field c)
-any-step st.InComment c = closes-if (c == 10) _ _ (λ h. cc h) (λ h. cc h)
-any-step st.AfterCr c = closes-if (c == 10) _ _ (λ h. cc h) (start-record c)
+any-step s c h = search arith
 
 -- what is behind a record that was read: the state is between two records, and the text is shorter, or was empty
 pub record Behind (xs : List ℕ) (p : Read) : Type 0 where
@@ -137,10 +108,8 @@ rows-none s xs e = rw (add-one (length xs), e) refl
 
 short-strip : (xs : List ℕ) → length (strip_bom xs) ≤ length xs
 unfolding strip_bom
-short-strip [] = omega arith
-short-strip (a ∷ []) = omega arith
-short-strip (a ∷ b ∷ []) = omega arith
 short-strip (a ∷ b ∷ c ∷ rest) = elim (cases_Bool (is_bom a b c)) [ inl y ↦ rw y (omega arith) | inr n ↦ rw n (omega arith) ]
+short-strip xs = omega arith
 
 pub few-rows : (xs : List ℕ) → length (rows_of xs) ≤ length xs
 few-rows xs = let a = few (length (strip_bom xs) + 1) st.StartRecord (strip_bom xs) refl in let b = short-strip xs in omega arith
@@ -185,11 +154,7 @@ known-left a h = rw h (either-known _ _ _)
 
 abbrev pub four_from : Option (List ℕ) → Option (List ℕ) → Option (List ℕ) → Option (List ℕ) → Option (List ℕ) → Option FourFields
 four_from (Some a) (Some b) (Some c) (Some d) None = Some (record { first = a; second = b; third = c; fourth = d })
-four_from (Some a) (Some b) (Some c) (Some d) (Some e) = None
-four_from (Some a) (Some b) (Some c) None e = None
-four_from (Some a) (Some b) None d e = None
-four_from (Some a) None c d e = None
-four_from None b c d e = None
+four_from a b c d e = None
 
 pub four_by : (fs : List (List ℕ)) → four_of fs ≡ four_from (field_at fs 0) (field_at fs 1) (field_at fs 2) (field_at fs 3) (field_at fs 4)
 unfolding field_at

@@ -1,19 +1,17 @@
 -- What the rows of an input are refused for.
-use Rattle.std.proofs.Common.{◌≡◌, ℕ, zero, suc, ◌+◌, ◌≤◌, Bool, false, List, [], ◌∷◌, length, Option, Some, None, refl, sym, ◌∙◌, subst, true≢false}
-use Rattle.std.proofs.lemmas.Bool.{le-leb}
-use Rattle.std.specs.Prelude.{Result, Ok, Err, IfSome, ⊤, IfErr}
+use Rattle.ucl_screen.proofs.Common.{AreReadAs, Bool, Err, Fields, InputFault, IsFirstBad, List, MeansNight, MeansSheet, None, Ok, Option}
+use Rattle.ucl_screen.proofs.Common.{Result, Some, [], event_of, events_from, false, length, night_seen, refl, rows_of, said_by, sheet_seen}
+use Rattle.ucl_screen.proofs.Common.{suc, sym, true≢false, word_of_row, words_from, zero, ℕ, ◌+◌, ◌>>=◌, ◌∙◌, ◌∷◌, ◌≡◌, ◌≤◌}
+use Rattle.std.proofs.Common.{subst}
+use Rattle.std.specs.Prelude.{IfSome, ⊤, IfErr}
+use Rattle.ucl_screen.specs.Parsing.{AnswersAsSaid, Refuses}
+use Rattle.ucl_screen.specs.Script.{or_bad, club_of, club_at, if_good, roster_at, WrittenSheet, night_of_rows, sheet_of_rows, sheet_of}
+use Rattle.ucl_screen.specs.Script.{IsFaultOfScript}
 use Rattle.ucl_order.specs.Roster.{NamedClub, bad_slot}
-use Rattle.ucl_screen.specs.declared.fault.InputFault.{InputFault}
-use Rattle.ucl_screen.specs.declared.fault.InputFault.TheVariants as fault
-use Rattle.ucl_board.specs.Words.{AreReadAs, IsFirstBad}
 use Rattle.ucl_screen.specs.declared.night.Night.{Night}
 use Rattle.ucl_screen.specs.declared.sheet.Sheet.{Sheet}
 use Rattle.ucl_screen.specs.Input.{Reads, CallsRead, whole_input}
-use Rattle.ucl_screen.specs.Rows.{Fields, rows_of}
-use Rattle.ucl_screen.specs.Events.{event_of}
-use Rattle.ucl_screen.specs.Script.{◌>>=◌, said_by, or_bad, club_of, club_at, if_good, roster_at, events_from, word_of_row, words_from, WrittenSheet, night_of_rows}
-use Rattle.ucl_screen.specs.Script.{sheet_of_rows, sheet_of, IsFaultOfScript}
-use Rattle.ucl_screen.specs.Parsing.{AnswersAsSaid, Refuses, MeansNight, MeansSheet, night_seen, sheet_seen}
+use Rattle.ucl_screen.specs.declared.fault.InputFault.TheVariants as fault
 
 -- a row or a club is bad
 abbrev pub IsOfRows : InputFault → Type 0
@@ -82,9 +80,6 @@ sheet-sound rows =
 pub never : {A : Type 0} (r : Result A InputFault) (e : InputFault) → Sound r → r ≡ Err e → IsOfRows e
 never r e s h = subst Sound h s
 
-whole : (bytes : List ℕ) → length bytes ≤ 4194304 → whole_input bytes ≡ Ok bytes
-whole bytes h = rw (le-leb _ _ h) refl
-
 -- what the bytes of a source that was read are known to mean
 pub known : (old : Option (List ℕ)) (bytes : List ℕ) (P : Result (List ℕ) InputFault → Type 0) → IfSome old (λ xs. whole_input xs ≡ Ok bytes)
     → P (Ok bytes) → IfSome old (λ xs. P (whole_input xs))
@@ -94,12 +89,10 @@ known (Some xs) bytes P h p = subst P (sym h) p
 pub night-reads : (r : Result Night InputFault) (old new : Option (List ℕ)) (failed : Bool) (bytes : List ℕ) → failed ≡ false
     → IfSome old (λ xs. whole_input xs ≡ Ok bytes) → AnswersAsSaid night_seen r (night_of_rows (rows_of bytes)) → Reads MeansNight night_seen old new failed r
 night-reads (Ok night) old new failed bytes f h g = (f, known old bytes (λ w. (w >>= λ text. night_of_rows (rows_of text)) ≡ Ok (night_seen night)) h g)
-night-reads (Err (fault.BadWordAt index)) old new failed bytes f h g = absurd (never (night_of_rows (rows_of bytes)) (fault.BadWordAt index) (night-sound (rows_of bytes)) g)
 night-reads (Err (fault.BadRow row)) old new failed bytes f h g = (f, known old bytes (λ w. (w >>= λ text. night_of_rows (rows_of text)) ≡ Err (fault.BadRow row)) h g)
 night-reads (Err (fault.BadRoster slot)) old new failed bytes f h g = (f, known old bytes (λ w. (w >>= λ text. night_of_rows (rows_of text)) ≡ Err (fault.BadRoster slot)) h g)
-night-reads (Err (fault.ReadFailed n)) old new failed bytes f h g = absurd (never (night_of_rows (rows_of bytes)) (fault.ReadFailed n) (night-sound (rows_of bytes)) g)
 night-reads (Err fault.OutOfMemory) old new failed bytes f h g = f
-night-reads (Err fault.TooLong) old new failed bytes f h g = absurd (never (night_of_rows (rows_of bytes)) fault.TooLong (night-sound (rows_of bytes)) g)
+night-reads (Err e) old new failed bytes f h g = absurd (never (night_of_rows (rows_of bytes)) e (night-sound (rows_of bytes)) g)
 
 -- a text whose rows make a sheet
 abbrev pub rows_say : List ℕ → Result WrittenSheet InputFault → Type 0
@@ -111,12 +104,10 @@ sheet-known old bytes said h g = known old bytes (λ w. (w >>= λ text. sheet_of
 
 pub sheet-refused : (e : InputFault) (old new : Option (List ℕ)) (failed : Bool) (bytes : List ℕ) → failed ≡ false
     → IfSome old (λ xs. whole_input xs ≡ Ok bytes) → Refuses e (sheet_of_rows (rows_of bytes)) → Reads MeansSheet sheet_seen old new failed (Err e)
-sheet-refused (fault.BadWordAt index) old new failed bytes f h g = absurd (never (sheet_of_rows (rows_of bytes)) (fault.BadWordAt index) (sheet-sound (rows_of bytes)) g)
 sheet-refused (fault.BadRow row) old new failed bytes f h g = (f, sheet-known old bytes (Err (fault.BadRow row)) h g)
 sheet-refused (fault.BadRoster slot) old new failed bytes f h g = (f, sheet-known old bytes (Err (fault.BadRoster slot)) h g)
-sheet-refused (fault.ReadFailed n) old new failed bytes f h g = absurd (never (sheet_of_rows (rows_of bytes)) (fault.ReadFailed n) (sheet-sound (rows_of bytes)) g)
 sheet-refused fault.OutOfMemory old new failed bytes f h g = f
-sheet-refused fault.TooLong old new failed bytes f h g = absurd (never (sheet_of_rows (rows_of bytes)) fault.TooLong (sheet-sound (rows_of bytes)) g)
+sheet-refused e old new failed bytes f h g = absurd (never (sheet_of_rows (rows_of bytes)) e (sheet-sound (rows_of bytes)) g)
 
 both-known : (old : Option (List ℕ)) (P Q : List ℕ → Type 0) → IfSome old P → ((xs : List ℕ) → P xs → Q xs) → IfSome old Q
 both-known None P Q p q = tt
@@ -137,21 +128,12 @@ sheet-tested sheet index old new failed bytes f h g bad =
 -- a read that did not fail made its calls for the bytes that were left, whatever these mean
 pub calls-read : {V E : Type 0} (Means : List ℕ → Result E InputFault → Type 0) (view : V → E) (left after : Option (List ℕ)) (failed : Bool) (old new : ℕ) (r : Result V InputFault)
     → failed ≡ false → Reads Means view left after failed r → IfSome left (λ bytes. new ≤ old + length bytes + 1) → CallsRead left old new r
-calls-read Means view left after failed old new (Ok v) f reads h = h
-calls-read Means view left after failed old new (Err (fault.BadWordAt index)) f reads h = h
-calls-read Means view left after failed old new (Err (fault.BadRow row)) f reads h = h
-calls-read Means view left after failed old new (Err (fault.BadRoster slot)) f reads h = h
 calls-read Means view left after failed old new (Err (fault.ReadFailed n)) f reads h = absurd (true≢false (sym reads.0 ∙ f))
-calls-read Means view left after failed old new (Err fault.OutOfMemory) f reads h = h
-calls-read Means view left after failed old new (Err fault.TooLong) f reads h = h
+calls-read Means view left after failed old new r f reads h = h
 
 -- ---- which faults a script can have
 
 pub script-faults : (r : Result Night InputFault) (rows : List Fields) → AnswersAsSaid night_seen r (night_of_rows rows) → IfErr r IsFaultOfScript
-script-faults (Ok night) rows g = tt
 script-faults (Err (fault.BadWordAt index)) rows g = absurd (never (night_of_rows rows) (fault.BadWordAt index) (night-sound rows) g)
-script-faults (Err (fault.BadRow row)) rows g = tt
-script-faults (Err (fault.BadRoster slot)) rows g = tt
 script-faults (Err (fault.ReadFailed n)) rows g = absurd (never (night_of_rows rows) (fault.ReadFailed n) (night-sound rows) g)
-script-faults (Err fault.OutOfMemory) rows g = tt
-script-faults (Err fault.TooLong) rows g = tt
+script-faults r rows g = tt

@@ -1,4 +1,4 @@
--- What an event row says, and which board and history come of it.
+-- The event of a row, and the board and the history after it.
 use Rattle.std.specs.Prelude.{◌≡◌, ℕ, List, length, Option, Some, option_and_then}
 use Rattle.ucl_word.specs.declared.event.EventCall.{EventCall}
 use Rattle.ucl_word.specs.Names.{kind_named}

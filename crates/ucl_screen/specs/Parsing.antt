@@ -27,12 +27,12 @@ Tested said (Err fault) = said ≡ Err fault
 abbrev pub MeansSheet : List ℕ → Result WrittenSheet InputFault → Type 0
 MeansSheet bytes sheet = Tested (sheet_of bytes) sheet
 
--- a fault that the code answers is the one that is said, unless memory ran out
+-- a fault that the code returns is that of the definition, unless memory ran out
 abbrev pub Refuses : {Y : Type 0} → InputFault → Result Y InputFault → Type 0
 Refuses OutOfMemory said = ⊤
 Refuses fault said = said ≡ Err fault
 
--- what the code answers, as `view` shows it, is what is said
+-- what the code returns, as `view` shows it, is that of the definition
 abbrev pub AnswersAsSaid : {X Y : Type 0} → (X → Y) → Result X InputFault → Result Y InputFault → Type 0
 AnswersAsSaid view (Ok x) said = said ≡ Ok (view x)
 AnswersAsSaid view (Err fault) said = Refuses fault said

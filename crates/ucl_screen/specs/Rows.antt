@@ -44,7 +44,7 @@ bytes_left reader = source_of (λ s. Some s.now) reader
 abbrev pub rows_left : Reader (Bor (List ℕ)) → List Fields
 rows_left reader = rows_from reader.state (bytes_left reader)
 
--- a reader that stands between two rows, and reads every row as it is
+-- a reader between two rows, which reads every row as it is
 pub record IsReading (reader : Reader (Bor (List ℕ))) : Type 0 where
   pub config : reader.config ≡ default_config
   pub untrimmed : reader.trim ≡ trim.None

@@ -17,7 +17,7 @@ abbrev pub ◌>>=◌ : {A B : Type 0} → Result A InputFault → (A → Result 
 (Ok x) >>= f = f x
 (Err fault) >>= f = Err fault
 
--- what a row says, where it has four fields and says something
+-- what a row means, if it has four fields that mean something
 abbrev pub said_by : {A : Type 0} → (FourFields → Option A) → Fields → Option A
 said_by says fields = option_and_then says (four_of fields)
 
@@ -101,11 +101,11 @@ sheet_of_rows rows = do
   words ← words_from 12 1 roster.1
   Ok (record { clubs = roster.0; words = words })
 
--- the night that an input says, or its first fault
+-- the night of an input, or its first fault
 abbrev pub night_of : List ℕ → Result Script InputFault
 night_of bytes = whole_input bytes >>= λ text. night_of_rows (rows_of text)
 
--- the sheet that an input says before its words are read, or its first fault
+-- the sheet of an input before its words are read, or its first fault
 abbrev pub sheet_of : List ℕ → Result WrittenSheet InputFault
 sheet_of bytes = whole_input bytes >>= λ text. sheet_of_rows (rows_of text)
 

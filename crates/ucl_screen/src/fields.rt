@@ -59,7 +59,7 @@ pub fn call_of_fields(game: &[u8], expected: &[u8], kind: &[u8]) -> Option<Event
     })
 }
 
-/// Returns what a hexadecimal digit stands for.
+/// Returns the value of a hexadecimal digit.
 fn hex_digit(b: u8) -> Option<u8>
     ensures value { result ≡ hex_digit b }
     ensures small { IfSome result (λ digit. digit < 16) }

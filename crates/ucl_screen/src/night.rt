@@ -12,7 +12,7 @@ pub struct NightEvent {
     pub call: EventCall,
 }
 
-/// What a script says: the clubs, and the events that reporters enter. Event i, counted from 1, is row i + 4.
+/// What a script contains: the clubs, and the events that reporters enter. Event i, counted from 1, is row i + 4.
 #[derive(Debug, Drop)]
 pub struct Night {
     /// The clubs of rows 1 to 4.

@@ -32,7 +32,7 @@ pub(crate) fn open(alloc: Global, text: &[u8]) -> Reader<&[u8]>
         .from_reader(alloc, text)
 }
 
-/// Reads the next row, if there is one. A reader of bytes in memory can fail for memory alone.
+/// Reads the next row, if there is one. A reader of bytes in memory fails only if memory runs out.
 pub(crate) fn next_row(rows: &mut Reader<&[u8]>, row: &mut ByteRecord) -> Result<bool, AllocError>
     requires { IsReading rows.old }
     ensures reading { IfOk result (λ found. found ≡ true → IsReading rows.new) }

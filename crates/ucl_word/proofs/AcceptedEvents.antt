@@ -1,17 +1,13 @@
 -- What an accepted event tells of the record, and that the record after it is valid.
-use Rattle.std.proofs.Common.{◌≡◌, ℕ, ◌+◌, ◌<◌, ◌≤◌, Bool, true, false, ◌==◌, Option, Some, None, refl, ◌∙◌, arith, eq-eqb, ◌-◌, sym, ap}
-use Rattle.std.proofs.lemmas.Bool.Decides.{nat_tests}
-use Rattle.std.specs.Prelude.{not, nat_le, ◌&&◌, if◌then◌else◌, nat_lt}
-use Rattle.ucl_word.specs.declared.record.MatchRecord.{MatchRecord}
-use Rattle.ucl_word.specs.declared.record.State.{State}
-use Rattle.ucl_word.specs.declared.record.State.TheVariants.{Scheduled, InPlay, Finished}
-use Rattle.ucl_word.specs.declared.event.Side.TheVariants.{Home, Away}
-use Rattle.ucl_word.specs.declared.event.Kind.{Kind}
-use Rattle.ucl_word.specs.declared.event.Kind.TheVariants.{KickOff, Goal, Disallow, Yellow, SecondYellow, Red, FullTime, Reopen}
-use Rattle.ucl_word.specs.declared.refusal.Refusal.{Refusal}
-use Rattle.ucl_word.specs.Record.{is_within_limits, max_number_in_play, suits_state, IsReporter, IsValid}
-use Rattle.ucl_word.specs.Rules.{is_scheduled, is_in_play, is_finished, is_kick_off, is_full_time, is_reopen, lacks_goal, lacks_caution, passes_limit, refusal_of}
-use Rattle.ucl_word.specs.Rules.{after}
+use Rattle.ucl_word.proofs.Common.{Away, Bool, Disallow, Finished, FullTime, Goal, Home, InPlay, IsReporter, IsValid, KickOff, Kind}
+use Rattle.ucl_word.proofs.Common.{MatchRecord, None, Red, Refusal, Reopen, Scheduled, SecondYellow, Some, State, Yellow, after, ap, arith}
+use Rattle.ucl_word.proofs.Common.{changed_by, eq-eqb, false, if◌then◌else◌, is_full_time, is_kick_off, is_reopen, is_within_limits}
+use Rattle.ucl_word.proofs.Common.{lacks_caution, lacks_goal, nat_le, nat_tests, not, refl, refusal_of, suits_state, sym, true, ℕ, ◌+◌, ◌-◌}
+use Rattle.ucl_word.proofs.Common.{◌<◌, ◌==◌, ◌∙◌, ◌≡◌, ◌≤◌}
+use Rattle.std.proofs.Common.{Option}
+use Rattle.ucl_word.specs.Record.{max_number_in_play}
+use Rattle.ucl_word.specs.Rules.{is_scheduled, is_in_play, is_finished, passes_limit}
+use Rattle.std.specs.Prelude.{◌&&◌, nat_lt}
 use Rattle.ucl_word.proofs.ValidRecords.{parts, whole}
 
 -- no condition of a refusal holds
@@ -45,19 +41,13 @@ accepts m expected kind h =
     record { current = a.0; unfinished = b.0; finished = c.0; started = d.0; not_started = e.0; room = f.0; goal = g.0; caution = i.0; limit = j.0 }
 
 pub begun : (s : State) → (is_finished s && true) ≡ false → (is_scheduled s && true) ≡ false → s ≡ InPlay
-begun Scheduled f h = absurd cc
-begun InPlay f h = refl
-begun Finished f h = absurd cc
+begun s f h = search arith
 
 pub unbegun : (s : State) → (is_finished s && true) ≡ false → (is_in_play s && true) ≡ false → s ≡ Scheduled
-unbegun Scheduled f h = refl
-unbegun InPlay f h = absurd cc
-unbegun Finished f h = absurd cc
+unbegun s f h = search arith
 
 pub over : (s : State) → (not (is_finished s) && true) ≡ false → s ≡ Finished
-over Scheduled h = absurd cc
-over InPlay h = absurd cc
-over Finished h = refl
+over s h = search arith
 
 pub under : (k n : ℕ) → nat_le k n ≡ false → n < k
 under k n h = grind (arith, nat_tests)
@@ -74,22 +64,19 @@ finished m e v = let s = rw e at (parts m v).1 in grind (arith, nat_tests)
 suits_in_play : (s : State) (m : MatchRecord) → s ≡ InPlay → 1 ≤ m.number → m.number ≤ max_number_in_play → IsReporter m.reporter → suits_state s m ≡ true
 suits_in_play s m e low high r = let a = r.0 in let b = r.1 in rw e (grind (arith, nat_tests))
 
+-- only a kick-off, a full time or a reopening changes the state
+pub state_kept : (kind : Kind) (m : MatchRecord) → is_kick_off kind ≡ false → is_full_time kind ≡ false → is_reopen kind ≡ false → (changed_by kind m).state ≡ m.state
+state_kept kind m a b c = search arith
+
 module _ (m : MatchRecord) (reporter expected : ℕ) where
   after_within : (kind : Kind) → is_within_limits m ≡ true → Accepts m expected kind → is_within_limits (after m reporter kind) ≡ true
   unfolding after
-  after_within KickOff w a = w
-  after_within FullTime w a = w
-  after_within Reopen w a = w
-  after_within (Goal Home) w a = let l = under 63 m.home_goals a.limit in grind (arith, nat_tests)
-  after_within (Goal Away) w a = let l = under 63 m.away_goals a.limit in grind (arith, nat_tests)
-  after_within (Disallow Home) w a = grind (arith, nat_tests)
-  after_within (Disallow Away) w a = grind (arith, nat_tests)
-  after_within (Yellow Home) w a = let l = under 63 m.home_yellows a.limit in grind (arith, nat_tests)
-  after_within (Yellow Away) w a = let l = under 63 m.away_yellows a.limit in grind (arith, nat_tests)
-  after_within (SecondYellow Home) w a = let l = under 31 m.home_expulsions a.limit in grind (arith, nat_tests)
-  after_within (SecondYellow Away) w a = let l = under 31 m.away_expulsions a.limit in grind (arith, nat_tests)
-  after_within (Red Home) w a = let l = under 31 m.home_expulsions a.limit in grind (arith, nat_tests)
-  after_within (Red Away) w a = let l = under 31 m.away_expulsions a.limit in grind (arith, nat_tests)
+  after_within (Goal Home) w a = let l = a.limit in grind (arith, nat_tests)
+  after_within (Disallow Home) w a = let l = a.limit in grind (arith, nat_tests)
+  after_within (Yellow Home) w a = let l = a.limit in grind (arith, nat_tests)
+  after_within (SecondYellow Home) w a = let l = a.limit in grind (arith, nat_tests)
+  after_within (Red Home) w a = let l = a.limit in grind (arith, nat_tests)
+  after_within kind w a = let l = a.limit in grind (arith, nat_tests)
 
   -- a match that goes on
   goes_on : (m' : MatchRecord) → IsValid m → IsReporter reporter → (is_finished m.state && true) ≡ false → (is_scheduled m.state && true) ≡ false →
@@ -114,23 +101,13 @@ module _ (m : MatchRecord) (reporter expected : ℕ) where
       let low = finished m (over m.state a.finished) v in
       let room = room_left m.number a.room in
       suits_in_play InPlay (after m reporter Reopen) refl (omega arith) (omega arith) r
-  after_suits (Goal Home) v r a = goes_on (after m reporter (Goal Home)) v r a.unfinished a.started a.room refl refl refl
-  after_suits (Goal Away) v r a = goes_on (after m reporter (Goal Away)) v r a.unfinished a.started a.room refl refl refl
-  after_suits (Disallow Home) v r a = goes_on (after m reporter (Disallow Home)) v r a.unfinished a.started a.room refl refl refl
-  after_suits (Disallow Away) v r a = goes_on (after m reporter (Disallow Away)) v r a.unfinished a.started a.room refl refl refl
-  after_suits (Yellow Home) v r a = goes_on (after m reporter (Yellow Home)) v r a.unfinished a.started a.room refl refl refl
-  after_suits (Yellow Away) v r a = goes_on (after m reporter (Yellow Away)) v r a.unfinished a.started a.room refl refl refl
-  after_suits (SecondYellow Home) v r a = goes_on (after m reporter (SecondYellow Home)) v r a.unfinished a.started a.room refl refl refl
-  after_suits (SecondYellow Away) v r a = goes_on (after m reporter (SecondYellow Away)) v r a.unfinished a.started a.room refl refl refl
-  after_suits (Red Home) v r a = goes_on (after m reporter (Red Home)) v r a.unfinished a.started a.room refl refl refl
-  after_suits (Red Away) v r a = goes_on (after m reporter (Red Away)) v r a.unfinished a.started a.room refl refl refl
+  after_suits kind v r a = goes_on (after m reporter kind) v r a.unfinished a.started a.room (state_kept kind m refl refl refl) refl refl
 
   pub after_valid : (kind : Kind) → IsValid m → IsReporter reporter → Accepts m expected kind → IsValid (after m reporter kind)
   after_valid kind v r a = whole (after m reporter kind) (after_within kind (parts m v).0 a) (after_suits kind v r a)
 
 and_no : (b : Bool) → (b && false) ≡ false
-and_no true = refl
-and_no false = refl
+and_no b = search arith
 
 pub full_time : (m : MatchRecord) → IsValid m → m.state ≡ InPlay → refusal_of m m.number FullTime ≡ None
 unfolding refusal_of
@@ -170,9 +147,6 @@ same n = grind (arith, nat_tests)
 
 more : (n : ℕ) → nat_lt n (n + 1) ≡ true
 more n = grind (arith, nat_tests)
-
-no_more : (n : ℕ) → nat_lt (n + 1) n ≡ false
-no_more n = grind (arith, nat_tests)
 
 less : (n : ℕ) → (n == 0) ≡ false → nat_lt (n - 1) n ≡ true
 less n stands = grind (arith, nat_tests)

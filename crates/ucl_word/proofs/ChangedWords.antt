@@ -1,18 +1,10 @@
 -- What each change of a word does to its record, and that the next word is that of the record after the event.
-use Rattle.std.proofs.Common.{◌≡◌, ℕ, ◌+◌, ◌-◌, ◌*◌, ◌^◌, ◌<◌, ◌≤◌, true, false, None, Result, Ok, Err, refl, sym, ap, ◌∙◌, arith}
-use Rattle.std.proofs.lemmas.Bool.Decides.{nat_tests}
-use Rattle.std.specs.Prelude.{nat_le, ◌==◌}
-use Rattle.ucl_word.specs.declared.record.MatchRecord.{MatchRecord}
-use Rattle.ucl_word.specs.declared.record.State.TheVariants.{Scheduled, InPlay, Finished}
-use Rattle.ucl_word.specs.declared.event.Side.{Side}
-use Rattle.ucl_word.specs.declared.event.Side.TheVariants.{Home, Away}
-use Rattle.ucl_word.specs.declared.event.Kind.{Kind}
-use Rattle.ucl_word.specs.declared.event.Kind.TheVariants.{KickOff, Goal, Disallow, Yellow, SecondYellow, Red, FullTime, Reopen}
-use Rattle.ucl_word.specs.declared.refusal.Refusal.{Refusal}
+use Rattle.ucl_word.proofs.Common.{Away, Disallow, Err, Finished, FullTime, Goal, Home, InPlay, IsReporter, IsValid, IsWord, KickOff, Kind}
+use Rattle.ucl_word.proofs.Common.{MatchRecord, None, Ok, Red, Refusal, Reopen, Result, Scheduled, SecondYellow, Side, Yellow, after, ap}
+use Rattle.ucl_word.proofs.Common.{arith, bits_at, changed_by, false, layout, nat_le, nat_tests, record_at, refl, refusal_of, state_code}
+use Rattle.ucl_word.proofs.Common.{sym, true, word_of, ℕ, ◌*◌, ◌+◌, ◌-◌, ◌<◌, ◌==◌, ◌^◌, ◌∙◌, ◌≡◌, ◌≤◌}
+use Rattle.ucl_word.specs.Rules.{goals, yellows, expulsions}
 use Rattle.ucl_word.specs.declared.refusal.Refusal.TheVariants.{NoGoal, NoCaution}
-use Rattle.ucl_word.specs.Record.{IsReporter, IsValid}
-use Rattle.ucl_word.specs.Layout.{layout, word_of, record_at, state_code, bits_at, IsWord}
-use Rattle.ucl_word.specs.Rules.{goals, yellows, expulsions, refusal_of, changed_by, after}
 use Rattle.ucl_word.specs.Changes.{goals_field, yellows_field, expulsions_field, Raises, Lowers, Changes}
 use Rattle.ucl_word.proofs.ValidRecords.{parts, whole}
 use Rattle.ucl_word.proofs.Words.{word_high, word_valid, word_packed, record_back}
@@ -24,39 +16,32 @@ word_below word is = let high = word_high word is in omega arith
 -- the fields of a side
 goals_held : (side : Side) (word : ℕ) → goals side (record_at word) ≡ bits_at word (goals_field side).low layout.home_goals.width
 unfolding record_at
-goals_held Home word = refl
-goals_held Away word = refl
+goals_held side word = search arith
 
 yellows_held : (side : Side) (word : ℕ) → yellows side (record_at word) ≡ bits_at word (yellows_field side).low layout.home_yellows.width
 unfolding record_at
-yellows_held Home word = refl
-yellows_held Away word = refl
+yellows_held side word = search arith
 
 expulsions_held : (side : Side) (word : ℕ) → expulsions side (record_at word) ≡ bits_at word (expulsions_field side).low layout.home_expulsions.width
 unfolding record_at
-expulsions_held Home word = refl
-expulsions_held Away word = refl
+expulsions_held side word = search arith
 
 -- each kind's change of the record, as a sum
 goal_added : (side : Side) (m : MatchRecord) → word_of (changed_by (Goal side) m) ≡ word_of m + 2 ^ (goals_field side).low
 unfolding word_of
-goal_added Home m = omega arith
-goal_added Away m = omega arith
+goal_added side m = search arith
 
 goal_taken : (side : Side) (m : MatchRecord) → 0 < goals side m → word_of (changed_by (Disallow side) m) + 2 ^ (goals_field side).low ≡ word_of m
 unfolding word_of
-goal_taken Home m some = omega arith
-goal_taken Away m some = omega arith
+goal_taken side m some = search arith
 
 yellow_added : (side : Side) (m : MatchRecord) → word_of (changed_by (Yellow side) m) ≡ word_of m + 2 ^ (yellows_field side).low
 unfolding word_of
-yellow_added Home m = omega arith
-yellow_added Away m = omega arith
+yellow_added side m = search arith
 
 red_added : (side : Side) (m : MatchRecord) → word_of (changed_by (Red side) m) ≡ word_of m + 2 ^ (expulsions_field side).low
 unfolding word_of
-red_added Home m = omega arith
-red_added Away m = omega arith
+red_added side m = search arith
 
 kicked_off : (m : MatchRecord) → m.state ≡ Scheduled → word_of (changed_by KickOff m) ≡ word_of m + 2 ^ layout.state.low
 unfolding word_of
@@ -77,13 +62,11 @@ without_yellow Away m = record m { away_yellows = m.away_yellows - 1 }
 
 yellow_taken : (side : Side) (m : MatchRecord) → 0 < yellows side m → word_of (without_yellow side m) + 2 ^ (yellows_field side).low ≡ word_of m
 unfolding word_of without_yellow
-yellow_taken Home m some = omega arith
-yellow_taken Away m some = omega arith
+yellow_taken side m some = search arith
 
 yellow_turned : (side : Side) (m : MatchRecord) → word_of (changed_by (SecondYellow side) m) ≡ word_of (without_yellow side m) + 2 ^ (expulsions_field side).low
 unfolding word_of without_yellow
-yellow_turned Home m = omega arith
-yellow_turned Away m = omega arith
+yellow_turned side m = search arith
 
 fewer_valid : (side : Side) (m : MatchRecord) → m.state ≡ InPlay → IsValid m → IsValid (without_yellow side m)
 unfolding without_yellow
@@ -92,8 +75,7 @@ fewer_valid Away m e v = let p = parts m v in let w = p.0 in whole (without_yell
 
 fewer_expulsions : (side : Side) (m : MatchRecord) → expulsions side (without_yellow side m) ≡ expulsions side m
 unfolding without_yellow
-fewer_expulsions Home m = refl
-fewer_expulsions Away m = refl
+fewer_expulsions side m = search arith
 
 -- tests on what a field holds
 under_limit : (most n : ℕ) → n < most → nat_le most n ≡ false
@@ -110,19 +92,7 @@ is_none n none = grind (arith, nat_tests)
 
 -- a kind's change leaves the number and the reporter
 kept : (kind : Kind) (m : MatchRecord) → ((changed_by kind m).number ≡ m.number) × ((changed_by kind m).reporter ≡ m.reporter)
-kept KickOff m = (refl, refl)
-kept FullTime m = (refl, refl)
-kept Reopen m = (refl, refl)
-kept (Goal Home) m = (refl, refl)
-kept (Goal Away) m = (refl, refl)
-kept (Disallow Home) m = (refl, refl)
-kept (Disallow Away) m = (refl, refl)
-kept (Yellow Home) m = (refl, refl)
-kept (Yellow Away) m = (refl, refl)
-kept (SecondYellow Home) m = (refl, refl)
-kept (SecondYellow Away) m = (refl, refl)
-kept (Red Home) m = (refl, refl)
-kept (Red Away) m = (refl, refl)
+kept kind m = search arith
 
 -- the number and the reporter, as a sum
 entered_word : (kind : Kind) (m : MatchRecord) (reporter : ℕ)

@@ -1,24 +1,17 @@
 -- The count of a match's entries after one entry more.
-use Rattle.std.proofs.Common.{◌≡◌, ℕ, ◌+◌, ◌-◌, ◌<◌, ◌≤◌, Bool, true, false, cond, ◌==◌, List, [], ◌∷◌, ◌++◌, length, None, refl, sym, ap, ◌∙◌, arith, subst}
-use Rattle.std.proofs.Common.{length-append, eq-eqb, ne_eqb}
-use Rattle.std.specs.Prelude.{not, if◌then◌else◌}
+use Rattle.ucl_word.proofs.Common.{Away, Bool, Disallow, Finished, FullTime, Goal, Home, InPlay, IsReporter, IsValid, KickOff, Kind, List}
+use Rattle.ucl_word.proofs.Common.{MatchRecord, None, Red, Reopen, Scheduled, SecondYellow, Side, State, Yellow, [], after, ap, arith}
+use Rattle.ucl_word.proofs.Common.{eq-eqb, false, if◌then◌else◌, is_full_time, is_kick_off, is_reopen, lacks_caution, lacks_goal, length}
+use Rattle.ucl_word.proofs.Common.{nat_tests, not, refl, refusal_of, scheduled, subst, sym, true, ℕ, ◌++◌, ◌+◌, ◌-◌, ◌<◌, ◌==◌, ◌∙◌, ◌∷◌}
+use Rattle.ucl_word.proofs.Common.{◌≡◌, ◌≤◌}
+use Rattle.std.proofs.Common.{cond, length-append, ne_eqb}
 use Rattle.std.proofs.Math.Nat.{zero-add, add-zero, add_assoc, le_refl}
-use Rattle.std.proofs.lemmas.Bool.Decides.{nat_tests}
 use Rattle.std.proofs.lemmas.List.Sums.{sum_by-append}
-use Rattle.ucl_word.specs.declared.record.MatchRecord.{MatchRecord}
-use Rattle.ucl_word.specs.declared.record.State.{State}
-use Rattle.ucl_word.specs.declared.record.State.TheVariants.{Scheduled, InPlay, Finished}
-use Rattle.ucl_word.specs.declared.event.Side.{Side}
-use Rattle.ucl_word.specs.declared.event.Side.TheVariants.{Home, Away}
-use Rattle.ucl_word.specs.declared.event.Kind.{Kind}
-use Rattle.ucl_word.specs.declared.event.Kind.TheVariants.{KickOff, Goal, Disallow, Yellow, SecondYellow, Red, FullTime, Reopen}
-use Rattle.ucl_word.specs.Record.{scheduled, IsReporter, IsValid}
-use Rattle.ucl_word.specs.Rules.{is_kick_off, is_full_time, is_reopen, lacks_goal, lacks_caution, refusal_of, after}
-use Rattle.ucl_word.specs.Counts.{MatchEntry, count, is_goal, is_disallow, is_yellow, is_second_yellow, is_red, state_of, last_reporter, counted_match, IsAccepted}
-use Rattle.ucl_word.specs.Counts.{IsLegalMatch}
+use Rattle.ucl_word.specs.Counts.{MatchEntry, count, is_goal, is_disallow, is_yellow, is_second_yellow, is_red, state_of, last_reporter}
+use Rattle.ucl_word.specs.Counts.{counted_match, IsAccepted, IsLegalMatch}
 use Rattle.ucl_word.specs.Theorems.{IsBalanced, CaseOf, IsCase, OneCaseHolds}
 use Rattle.ucl_word.proofs.ValidRecords.{scheduled_valid}
-use Rattle.ucl_word.proofs.AcceptedEvents.{Accepts, accepts, begun, unbegun, over, after_valid}
+use Rattle.ucl_word.proofs.AcceptedEvents.{Accepts, accepts, begun, unbegun, over, after_valid, state_kept}
 use Rattle.ucl_word.proofs.Sequences.{may_induction, may_next}
 
 -- one entry more
@@ -110,16 +103,7 @@ case_next es r FullTime h a =
 case_next es r Reopen h a =
     let c = subst (λ (s : State). IsCase s es) (over (state_of es) a.finished) h in
     simp (count_next, add-zero) (c.0, c.1)
-case_next es r (Goal Home) h a = same_case es (record { reporter = r; kind = Goal Home }) refl refl refl (state_of es) h
-case_next es r (Goal Away) h a = same_case es (record { reporter = r; kind = Goal Away }) refl refl refl (state_of es) h
-case_next es r (Disallow Home) h a = same_case es (record { reporter = r; kind = Disallow Home }) refl refl refl (state_of es) h
-case_next es r (Disallow Away) h a = same_case es (record { reporter = r; kind = Disallow Away }) refl refl refl (state_of es) h
-case_next es r (Yellow Home) h a = same_case es (record { reporter = r; kind = Yellow Home }) refl refl refl (state_of es) h
-case_next es r (Yellow Away) h a = same_case es (record { reporter = r; kind = Yellow Away }) refl refl refl (state_of es) h
-case_next es r (SecondYellow Home) h a = same_case es (record { reporter = r; kind = SecondYellow Home }) refl refl refl (state_of es) h
-case_next es r (SecondYellow Away) h a = same_case es (record { reporter = r; kind = SecondYellow Away }) refl refl refl (state_of es) h
-case_next es r (Red Home) h a = same_case es (record { reporter = r; kind = Red Home }) refl refl refl (state_of es) h
-case_next es r (Red Away) h a = same_case es (record { reporter = r; kind = Red Away }) refl refl refl (state_of es) h
+case_next es r kind h a = rw (state_kept kind (counted_match es) refl refl refl) (same_case es (record { reporter = r; kind = kind }) refl refl refl (state_of es) h)
 
 pub balanced_none : IsBalanced []
 balanced_none = record { goals = λ side. le_refl 0; yellows = λ side. le_refl 0 }
@@ -129,38 +113,19 @@ stands given taken h = grind (arith, nat_tests)
 
 goal_stands : (es : List MatchEntry) (side : Side) (kind : Kind) → lacks_goal (counted_match es) kind ≡ false → is_disallow side kind ≡ true → count (is_disallow side) es < count (is_goal side) es
 unfolding counted_match
-goal_stands es side KickOff h is = absurd cc
-goal_stands es side FullTime h is = absurd cc
-goal_stands es side Reopen h is = absurd cc
-goal_stands es side (Goal s) h is = absurd cc
-goal_stands es side (Yellow s) h is = absurd cc
-goal_stands es side (SecondYellow s) h is = absurd cc
-goal_stands es side (Red s) h is = absurd cc
 goal_stands es Home (Disallow Home) h is = stands _ _ h
 goal_stands es Away (Disallow Away) h is = stands _ _ h
-goal_stands es Home (Disallow Away) h is = absurd cc
-goal_stands es Away (Disallow Home) h is = absurd cc
+goal_stands es side kind h is = absurd cc
 
 yellow_stands : (es : List MatchEntry) (side : Side) (kind : Kind) → lacks_caution (counted_match es) kind ≡ false
     → is_second_yellow side kind ≡ true → count (is_second_yellow side) es < count (is_yellow side) es
 unfolding counted_match
-yellow_stands es side KickOff h is = absurd cc
-yellow_stands es side FullTime h is = absurd cc
-yellow_stands es side Reopen h is = absurd cc
-yellow_stands es side (Goal s) h is = absurd cc
-yellow_stands es side (Disallow s) h is = absurd cc
-yellow_stands es side (Yellow s) h is = absurd cc
-yellow_stands es side (Red s) h is = absurd cc
 yellow_stands es Home (SecondYellow Home) h is = stands _ _ h
 yellow_stands es Away (SecondYellow Away) h is = stands _ _ h
-yellow_stands es Home (SecondYellow Away) h is = absurd cc
-yellow_stands es Away (SecondYellow Home) h is = absurd cc
+yellow_stands es side kind h is = absurd cc
 
 stays : (taken given : ℕ) (takes gives : Bool) → taken ≤ given → (takes ≡ true → taken < given) → taken + cond takes 1 0 ≤ given + cond gives 1 0
-stays taken given true true le lt = omega arith
-stays taken given true false le lt = let l = lt refl in omega arith
-stays taken given false true le lt = omega arith
-stays taken given false false le lt = omega arith
+stays taken given takes gives le lt = search (arith, lt)
 
 balanced_next : (es : List MatchEntry) (e : MatchEntry) → IsBalanced es → Accepts (counted_match es) (length es) e.kind → IsBalanced (es ++ e ∷ [])
 balanced_next es e b a = record {

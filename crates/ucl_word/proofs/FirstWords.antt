@@ -1,20 +1,16 @@
 -- Words of the first layout: each is read back, no word is of both layouts, and what words are read as.
-use Rattle.std.proofs.Common.{◌≡◌, ℕ, ◌^◌, ◌<◌, ◌≤◌, sym, ap, ◌∙◌, arith, inl, inr, true, true≢false}
-use Rattle.std.specs.Prelude.{Result, Ok, Err, IfOk, is_ok}
-use Rattle.ucl_word.specs.declared.refusal.BadWord.{BadWord}
-use Rattle.ucl_word.specs.declared.record.MatchRecord.{MatchRecord}
-use Rattle.ucl_word.specs.declared.record.State.{State}
-use Rattle.ucl_word.specs.declared.record.State.TheVariants.{Scheduled, InPlay, Finished}
-use Rattle.ucl_word.specs.Record.{IsValid}
-use Rattle.ucl_word.specs.Layout.{first_layout, HasLayoutTag, word_of, IsWord}
-use Rattle.ucl_word.specs.Migration.{moved_up, max_number_in_play_of_first_layout, first_word_of, IsFirstValid, IsFirstWord, IsReadable, IsMoved, IsReadAs}
+use Rattle.ucl_word.proofs.Common.{BadWord, Err, HasLayoutTag, IsValid, IsWord, MatchRecord, Ok, Result, State, ap, arith, inl, inr, sym}
+use Rattle.ucl_word.proofs.Common.{true, word_of, ℕ, ◌<◌, ◌^◌, ◌∙◌, ◌≡◌, ◌≤◌}
+use Rattle.std.proofs.Common.{true≢false}
+use Rattle.ucl_word.specs.Layout.{first_layout}
+use Rattle.std.specs.Prelude.{IfOk, is_ok}
+use Rattle.ucl_word.specs.Migration.{moved_up, max_number_in_play_of_first_layout, first_word_of, IsFirstValid, IsFirstWord, IsReadable}
+use Rattle.ucl_word.specs.Migration.{IsMoved, IsReadAs}
 use Rattle.ucl_word.specs.Theorems.{LayoutsDiffer, WordsAreReadOneWay}
 use Rattle.ucl_word.proofs.Words.{Tells, tells, record_told, told_back, word_high}
 
 most_numbers : (s : State) (n : ℕ) → n ≤ max_number_in_play_of_first_layout s → n < 2 ^ first_layout.number.width
-most_numbers Scheduled n h = omega arith
-most_numbers InPlay n h = omega arith
-most_numbers Finished n h = omega arith
+most_numbers s n h = search arith
 
 module _ (m : MatchRecord) (is : IsFirstValid m) where
   pub first_told : Tells first_layout.number.width 0 (first_word_of m) m

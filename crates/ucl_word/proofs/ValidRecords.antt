@@ -1,11 +1,8 @@
 -- What is known of a valid record.
-use Rattle.std.proofs.Common.{◌≡◌, ◌<◌, ◌≤◌, true, refl, arith}
+use Rattle.ucl_word.proofs.Common.{IsValid, MatchRecord, Scheduled, State, arith, is_within_limits, nat_tests, refl, scheduled, suits_state}
+use Rattle.ucl_word.proofs.Common.{true, ◌≡◌, ◌≤◌}
+use Rattle.ucl_word.specs.Record.{is_untouched, is_valid, max_number}
 use Rattle.std.proofs.lemmas.Bool.{and_from, and_parts}
-use Rattle.std.proofs.lemmas.Bool.Decides.{nat_tests}
-use Rattle.ucl_word.specs.declared.record.MatchRecord.{MatchRecord}
-use Rattle.ucl_word.specs.declared.record.State.{State}
-use Rattle.ucl_word.specs.declared.record.State.TheVariants.{Scheduled, InPlay, Finished}
-use Rattle.ucl_word.specs.Record.{is_untouched, is_valid, is_within_limits, max_number, scheduled, suits_state, IsReporter, IsValid}
 
 pub parts : (m : MatchRecord) → IsValid m → (is_within_limits m ≡ true) × (suits_state m.state m ≡ true)
 unfolding is_valid
@@ -40,9 +37,7 @@ module _ (m : MatchRecord) (v : IsValid m) where
   away_expulsions_valid = let w = within in grind (arith, nat_tests)
 
 number_within : (s : State) (m : MatchRecord) → suits_state s m ≡ true → (m.number ≤ max_number) × (m.reporter ≤ 255)
-number_within Scheduled m h = (grind (arith, nat_tests), grind (arith, nat_tests))
-number_within InPlay m h = (grind (arith, nat_tests), grind (arith, nat_tests))
-number_within Finished m h = (grind (arith, nat_tests), grind (arith, nat_tests))
+number_within s m h = (search (arith, nat_tests), search (arith, nat_tests))
 
 pub number_valid : (m : MatchRecord) → IsValid m → m.number ≤ max_number
 number_valid m v = (number_within m.state m (parts m v).1).0
@@ -51,14 +46,6 @@ pub reporter_valid : (m : MatchRecord) → IsValid m → m.reporter ≤ 255
 reporter_valid m v = (number_within m.state m (parts m v).1).1
 
 pub ruleset limits = (home_goals_valid, away_goals_valid, home_yellows_valid, away_yellows_valid, home_expulsions_valid, away_expulsions_valid, number_valid)
-
-reporter_within : (s : State) (m : MatchRecord) → suits_state s m ≡ true → (s ≡ Scheduled → ⊥) → IsReporter m.reporter
-reporter_within Scheduled m h b = absurd (b refl)
-reporter_within InPlay m h b = (grind (arith, nat_tests), grind (arith, nat_tests))
-reporter_within Finished m h b = (grind (arith, nat_tests), grind (arith, nat_tests))
-
-pub reported : (m : MatchRecord) → IsValid m → (m.state ≡ Scheduled → ⊥) → IsReporter m.reporter
-reported m v b = reporter_within m.state m (parts m v).1 b
 
 -- ---- before kick-off
 
@@ -85,22 +72,4 @@ default_is m d = λ i. record {
 pub untouched : (m : MatchRecord) → m.state ≡ Scheduled → IsValid m → m ≡ scheduled
 untouched m s v =
     let h : is_untouched m ≡ true = rw s at (parts m v).1 in
-    default_is m (
-      grind (arith, nat_tests),
-      (
-        s,
-        (
-          grind (arith, nat_tests),
-          (
-            grind (arith, nat_tests),
-            (
-              grind (arith, nat_tests),
-              (
-                grind (arith, nat_tests),
-                (grind (arith, nat_tests), (grind (arith, nat_tests), grind (arith, nat_tests))),
-              ),
-            ),
-          ),
-        ),
-      ),
-    )
+    default_is m (grind (arith, nat_tests))

@@ -20,7 +20,7 @@ GainsOne {X} IsLegal view x before after = (xs : List X) → IsLegal xs → view
 
 -- ---- a match after a list of its events, by counting; which lists are legal
 
--- an event of one match that was accepted: who entered it, and what it said
+-- an event of one match that was accepted: who entered it, and its kind
 pub record MatchEntry : Type 0 where
   pub reporter : ℕ
   pub kind : Kind

@@ -48,7 +48,7 @@ IsReadAs word new = (IsWord word × (new ≡ word)) ⊎ IsMoved word new
 
 -- ---- where a word of the first layout moves
 
--- the event number stays, all that stands above it moves up to where the fields above it stand now, and the mark is put there
+-- the event number stays, all above it moves up to the places of this layout, and the mark is added
 abbrev pub moved_up : ℕ → ℕ
 moved_up word =
     word % 2 ^ first_layout.number.width

@@ -1,5 +1,5 @@
 -- Numbers, names and texts of refusals; codes and names of kinds of events.
--- Each stands here and nowhere else.
+-- Each is written only here.
 use Rattle.std.specs.Prelude.{ℕ, ◌==◌, List, [], ◌∷◌, ◌++◌, codes, decimal, find, slice_get, Option, None, Some}
 use Rattle.std.specs.Str.{bytes_eq}
 use Rattle.ucl_word.specs.declared.event.Side.TheVariants.{Home, Away}
@@ -33,7 +33,7 @@ refusal_name NoCaution = codes "no-caution"
 refusal_name LimitReached = codes "limit-reached"
 refusal_name NotFinished = codes "not-finished"
 
--- each refusal, a stale event being told this number
+-- each refusal; that of a stale event has this number
 abbrev pub refusals : ℕ → List Refusal
 refusals found = Stale found ∷ Finished ∷ NotStarted ∷ AlreadyStarted ∷ NumberFull ∷ NoGoal ∷ NoCaution ∷ LimitReached ∷ NotFinished ∷ []
 
@@ -41,7 +41,7 @@ refusals found = Stale found ∷ Finished ∷ NotStarted ∷ AlreadyStarted ∷ 
 abbrev pub refusal_with : ℕ → ℕ → Option Refusal
 refusal_with code found = find (λ refusal. refusal_code refusal == code) (refusals found)
 
--- the number found, which a stale event is told
+-- the number found, which the refusal of a stale event has
 abbrev pub found_of : Refusal → Option ℕ
 found_of (Stale found) = Some found
 found_of _ = None

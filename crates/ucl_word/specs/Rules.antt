@@ -59,7 +59,7 @@ abbrev pub lacks_goal : MatchRecord → Kind → Bool
 lacks_goal m (Disallow side) = goals side m == 0
 lacks_goal m _ = false
 
--- a second yellow is shown where none stands
+-- a second yellow with no standing yellow
 abbrev pub lacks_caution : MatchRecord → Kind → Bool
 lacks_caution m (SecondYellow side) = yellows side m == 0
 lacks_caution m _ = false

@@ -23,7 +23,7 @@ WordsAreRead = (m : MatchRecord) → IsValid m → record_at (word_of m) ≡ m
 abbrev pub LayoutsDiffer : Type 0
 LayoutsDiffer = (word : ℕ) → IsWord word → IsFirstWord word → ⊥
 
--- a word is read as one word alone, which is of a valid record
+-- a word is read as exactly one word, which is of a valid record
 abbrev pub WordsAreReadOneWay : Type 0
 WordsAreReadOneWay = (word a b : ℕ) → IsReadAs word a → IsReadAs word b → IsWord a × (a ≡ b)
 

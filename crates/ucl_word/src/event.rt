@@ -15,7 +15,7 @@ pub enum Side {
     Away,
 }
 
-/// What an event says has happened.
+/// What happened in a match, as an event reports it.
 ///
 /// # Examples
 ///
@@ -39,7 +39,7 @@ pub enum Kind {
     Red(Side),
     /// The match is over.
     FullTime,
-    /// The match is not over after all, and goes on.
+    /// The match is not over after all, and is in play again.
     Reopen,
 }
 

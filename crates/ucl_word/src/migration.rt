@@ -29,14 +29,14 @@ fn has_room(game: &MatchRecord) -> bool
     }
 }
 
-/// Returns whether nothing stands above the fields: the first layout had no mark.
+/// Returns whether the bits above the fields are zero: the first layout had no mark.
 fn has_no_layout_tag(word: u64) -> bool
     ensures { IsTrue result ↔ HasLayoutTag first_layout word }
 {
     word >> FIRST_FIELDS_END == 0
 }
 
-/// Moves the fields of a word to where they stand now, and adds the mark.
+/// Moves the fields of a word to their places in this layout, and adds its mark.
 fn moved(word: u64) -> u64
     requires { HasLayoutTag first_layout word }
     ensures { result ≡ moved_up word }

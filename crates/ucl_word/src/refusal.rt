@@ -116,7 +116,7 @@ impl error::Error for Refusal {}
 #[error("bad word 10")]
 pub struct BadWord;
 
-/// 23: memory was asked for, and there was none. All crates of the board answer it, and only where an allocation was really refused.
+/// 23: memory was asked for, and there was none. All crates of the board answer it, and only if an allocation was refused.
 #[derive(Clone, Copy, Debug, PartialEq, Eq, Error)]
 #[error("out of memory 23")]
 pub struct OutOfMemory;

@@ -108,7 +108,7 @@ pub fn number_of(word: u64) -> u16
     field(word, 0, NUMBER_WIDTH) as u16
 }
 
-/// Returns the state in a word, where 3 stands for finished.
+/// Returns the state in a word; 3 counts as finished.
 #[tactic(auto, unfolding(crate::specs::Layout::record_at))]
 pub(crate) fn state_in(word: u64) -> State
     ensures { result ≡ (record_at word).state }
@@ -120,7 +120,7 @@ pub(crate) fn state_in(word: u64) -> State
     }
 }
 
-/// Returns whether the mark of the layout, and nothing else, stands above the fields.
+/// Returns whether the bits above the fields are the mark of the layout.
 fn has_layout_tag(word: u64) -> bool
     ensures { IsTrue result ↔ HasLayoutTag layout word }
 {

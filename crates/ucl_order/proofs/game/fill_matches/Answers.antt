@@ -1,9 +1,8 @@
-use Rattle.std.proofs.Common.{◌≡◌, ◌∙◌, ap, arith, rules}
+use Rattle.ucl_order.proofs.Common.{HasScore, ap, arith, rules, score_of, started, ◌∙◌, ◌≡◌}
 use Rattle.std.proofs.lemmas.List.Elements.{All-push}
-use Rattle.ucl_order.specs.Matches.{HasScore, score_of}
 use Rattle.ucl_order.proofs.OneMatchMore.{match_is, matches_more, matches_all}
-use Rattle.ucl_order.proofs.game.fill_matches.Goals as goal
 use Rattle.ucl_order.proofs.game.fill_matches.Goals.{in-Some, in_default}
+use Rattle.ucl_order.proofs.game.fill_matches.Goals as goal
 
 pub loop-number-preserved : goal.loop-number-preserved
 loop-number-preserved c = elim c.match-new.branch [
@@ -22,3 +21,8 @@ pub returns-clause-value : goal.returns-clause-value
 returns-clause-value c =
     let last : c.loop-number.number ≡ 13 = omega arith in
     matches_all c.args.board.now c.loop-number.number c.loop-number.matches.items last c.loop-number.invariant.so_far
+
+pub returns-clause-started : goal.returns-clause-started
+returns-clause-started c =
+    let value = returns-clause-value c in
+    record { board = c.args.board.now; valid = rw value at c.loop-number.invariant.valid; are = ap started value }

@@ -1,6 +1,4 @@
-use Rattle.std.proofs.Common.{◌≡◌, ◌-◌, ◌+◌, All, take, map, length}
-use Rattle.ucl_board.specs.Fixtures.{match_numbers}
-use Rattle.ucl_order.specs.Matches.{HasScore, match_at}
+use Rattle.ucl_order.proofs.Common.{All, HasScore, length, map, match_at, match_numbers, take, ◌+◌, ◌-◌, ◌≡◌}
 use Rattle.ucl_order.proofs.game.fill_matches.Given as goal
 
 abbrev pub invariant-loop-number : goal.invariant-loop-number

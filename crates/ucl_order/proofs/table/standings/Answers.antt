@@ -1,25 +1,9 @@
-use Rattle.std.proofs.Common.{◌≡◌, ◌∙◌, ap, refl, sym, subst, All, List, map, ℕ}
+use Rattle.ucl_order.proofs.Common.{All, HasScore, IsWithinTable, List, MarkIsCertain, Match, Row, ap, map, mark_by, matches_of, order_of}
+use Rattle.ucl_order.proofs.Common.{refl, results_of_clubs, rows_of, started, started_of, subst, ℕ, ◌∙◌, ◌≡◌}
 use Rattle.std.proofs.lemmas.List.Elements.{All-same}
-use Rattle.ucl_order.specs.declared.game.Match.{Match}
-use Rattle.ucl_order.specs.Matches.{HasScore, matches_of, started, started_of}
-use Rattle.ucl_order.specs.Marks.{mark_by}
-use Rattle.ucl_order.specs.Rounds.{results_of_clubs}
-use Rattle.ucl_order.specs.Order.{order_of}
-use Rattle.ucl_order.specs.Rows.{rows_of, IsWithinTable, MarkIsCertain}
-use Rattle.ucl_order.specs.declared.table.Row.{Row}
 use Rattle.ucl_order.proofs.Limits.{rows_within}
 use Rattle.ucl_order.proofs.TableRows.{all_certain, four_rows, order_is, row_of_place}
 use Rattle.ucl_order.proofs.table.standings.Goals as goal
-
-pub order-order-requires-clause-started : goal.order-order-requires-clause-started
-order-order-requires-clause-started c = record {
-  board = c.args.board.now;
-  valid = subst (All HasScore) c.fill_matches.ensures.value c.fill_matches.ensures.scores;
-  are = ap started (c.deref-2.ensures.0 ∙ c.fill_matches.ensures.value);
-}
-
-pub order-order-requires-clause-results : goal.order-order-requires-clause-results
-order-order-requires-clause-results c = c.of_clubs-results.ensures.value ∙ ap (λ m. results_of_clubs (started m)) (c.deref.ensures.0 ∙ sym c.deref-2.ensures.0)
 
 pub returns-clause-rows : goal.returns-clause-rows
 returns-clause-rows c =

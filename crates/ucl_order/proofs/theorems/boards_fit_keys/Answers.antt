@@ -1,6 +1,6 @@
-use Rattle.ucl_order.specs.Matches.{started_of}
-use Rattle.ucl_order.specs.Order.{among}
-use Rattle.ucl_order.proofs.KeysFit.{fits_all, fits_among, has_room, words_valid}
+use Rattle.ucl_order.proofs.Common.{among, started_of}
+use Rattle.ucl_order.proofs.KeysFit.{has_room, words_valid}
+use Rattle.ucl_order.proofs.Limits.{fits_all, fits_among}
 use Rattle.ucl_order.proofs.theorems.boards_fit_keys.Goals as goal
 
 pub returns : goal.returns

@@ -1,5 +1,5 @@
-use Rattle.ucl_order.proofs.TieBreaks.{order-unique}
+use Rattle.ucl_order.proofs.TieBreaks.{order_unique}
 use Rattle.ucl_order.proofs.theorems.order_is_unique.Goals as goal
 
 pub returns : goal.returns
-returns c = order-unique
+returns c = order_unique

@@ -1,4 +1,4 @@
-use Rattle.ucl_order.specs.Matches.{started_of}
+use Rattle.ucl_order.proofs.Common.{started_of}
 use Rattle.ucl_order.proofs.Classes.{by_points_total, head_to_head_total, overall_total}
 use Rattle.ucl_order.proofs.TieBreaks.{overall-same}
 use Rattle.ucl_order.proofs.theorems.rankings_are_orders.Goals as goal

@@ -1,5 +1,4 @@
-use Rattle.std.proofs.Common.{arith, length}
-use Rattle.ucl_order.specs.Matches.{started_of}
+use Rattle.ucl_order.proofs.Common.{arith, length, started_of}
 use Rattle.ucl_order.proofs.TieBreaks.{bound_unused, settled-few, settled-level, settled-classes}
 use Rattle.ucl_order.proofs.theorems.ties_follow_rule.Goals as goal
 

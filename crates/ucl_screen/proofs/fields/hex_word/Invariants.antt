@@ -1,5 +1,4 @@
-use Rattle.std.proofs.Common.{◌≡◌, ◌^◌, ◌<◌, drop}
-use Rattle.ucl_screen.specs.Numbers.{hex_after}
+use Rattle.ucl_screen.proofs.Common.{drop, hex_after, ◌<◌, ◌^◌, ◌≡◌}
 use Rattle.ucl_screen.proofs.fields.hex_word.Given as goal
 
 abbrev pub invariant-loop-b : goal.invariant-loop-b

@@ -1,15 +1,15 @@
-use Rattle.std.proofs.Common.{◌≤◌, ◌-◌, ◌∙◌, get_or, sym, arith}
-use Rattle.ucl_screen.proofs.Digits.{number-is, more-digits, no-digit-low, no-digit-high, no-more, nonempty, one-more-digit}
-use Rattle.ucl_screen.proofs.fields.number.Goals as goal
+use Rattle.ucl_screen.proofs.Common.{arith, get_or, inl, inr, sym, ◌-◌, ◌∙◌, ◌≤◌}
+use Rattle.ucl_screen.proofs.Digits.{number-is, more-digits, no-digit, no-more, nonempty, one-more-digit}
 use Rattle.ucl_screen.proofs.fields.number.Goals.{then-b-lt48-via-then-b-lt48, then-b-lt48-via-else-b-lt48+then-b-gt57}
+use Rattle.ucl_screen.proofs.fields.number.Goals as goal
 
 pub returns-then-b-lt48 : goal.returns-then-b-lt48
 returns-then-b-lt48 c =
     let some = nonempty c.args.text.now c.is_empty.result c.is_empty.ensures c.if-is_empty.false in
     let whole = number-is c.args.most c.args.text.now some c.if-text-most.false in
     elim c.then-b-lt48.branch [
-      | then-b-lt48-via-then-b-lt48 w ↦ sym (whole ∙ sym c.loop-b.invariant.1 ∙ no-digit-low c.loop-b.n c.loop-b.b-index c.args.text.now c.loop-b-test.true w.if-b-lt48.true)
-      | then-b-lt48-via-else-b-lt48+then-b-gt57 w ↦ sym (whole ∙ sym c.loop-b.invariant.1 ∙ no-digit-high c.loop-b.n c.loop-b.b-index c.args.text.now c.loop-b-test.true w.if-b-gt57.true)
+      | then-b-lt48-via-then-b-lt48 w ↦ sym (whole ∙ sym c.loop-b.invariant.1 ∙ no-digit c.loop-b.n c.loop-b.b-index c.args.text.now c.loop-b-test.true (inl w.if-b-lt48.true))
+      | then-b-lt48-via-else-b-lt48+then-b-gt57 w ↦ sym (whole ∙ sym c.loop-b.invariant.1 ∙ no-digit c.loop-b.n c.loop-b.b-index c.args.text.now c.loop-b-test.true (inr w.if-b-gt57.true))
     ]
 
 pub loop-b-preserved : goal.loop-b-preserved

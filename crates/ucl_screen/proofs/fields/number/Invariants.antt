@@ -1,5 +1,4 @@
-use Rattle.std.proofs.Common.{◌≡◌, ◌^◌, ◌<◌, drop}
-use Rattle.ucl_screen.specs.Numbers.{digits_after}
+use Rattle.ucl_screen.proofs.Common.{digits_after, drop, ◌<◌, ◌^◌, ◌≡◌}
 use Rattle.ucl_screen.proofs.fields.number.Given as goal
 
 abbrev pub invariant-loop-b : goal.invariant-loop-b

@@ -1,4 +1,4 @@
-use Rattle.std.proofs.Common.{append_assoc}
+use Rattle.ucl_screen.proofs.Common.{append_assoc}
 use Rattle.ucl_screen.specs.Matches.{counts_text}
 use Rattle.ucl_screen.proofs.games.push_counts.Goals as goal
 

@@ -1,5 +1,4 @@
-use Rattle.std.proofs.Common.{append_assoc}
-use Rattle.ucl_screen.specs.Matches.{match_line}
+use Rattle.ucl_screen.proofs.Common.{append_assoc, match_line}
 use Rattle.ucl_screen.proofs.games.push_match.Goals as goal
 
 pub returns : goal.returns

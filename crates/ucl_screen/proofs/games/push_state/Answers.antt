@@ -1,4 +1,4 @@
-use Rattle.std.proofs.Common.{append_assoc}
+use Rattle.ucl_screen.proofs.Common.{append_assoc}
 use Rattle.ucl_screen.specs.Matches.{state_text}
 use Rattle.ucl_screen.proofs.games.push_state.Goals as goal
 

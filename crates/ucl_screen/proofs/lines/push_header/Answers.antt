@@ -1,4 +1,4 @@
-use Rattle.std.proofs.Common.{append_assoc, arith}
+use Rattle.ucl_screen.proofs.Common.{append_assoc, arith}
 use Rattle.ucl_screen.specs.Lines.{header}
 use Rattle.ucl_screen.proofs.lines.push_header.Goals as goal
 

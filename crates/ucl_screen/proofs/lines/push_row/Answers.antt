@@ -1,4 +1,4 @@
-use Rattle.std.proofs.Common.{string_bytes}
+use Rattle.ucl_screen.proofs.Common.{string_bytes}
 use Rattle.ucl_screen.proofs.Columns.{line_written}
 use Rattle.ucl_screen.proofs.lines.push_row.Goals as goal
 

@@ -1,4 +1,4 @@
-use Rattle.std.proofs.Common.{◌≡◌, ◌++◌, replicate, string_bytes}
+use Rattle.ucl_screen.proofs.Common.{replicate, string_bytes, ◌++◌, ◌≡◌}
 use Rattle.ucl_screen.proofs.lines.push_times.Given as goal
 
 abbrev pub invariant-loop-done : goal.invariant-loop-done

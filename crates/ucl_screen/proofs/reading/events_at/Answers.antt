@@ -1,7 +1,5 @@
-use Rattle.std.proofs.Common.{◌≡◌, ◌∷◌, [], ◌∙◌, sym, ap, length, true, arith, rules, length-append}
+use Rattle.ucl_screen.proofs.Common.{[], ap, arith, fields_of, length, length-append, rows_left, rules, sym, true, ◌∙◌, ◌∷◌, ◌≡◌}
 use Rattle.std.specs.Result.{is_ok}
-use Rattle.csv.specs.Records.{fields_of}
-use Rattle.ucl_screen.specs.Rows.{rows_left}
 use Rattle.ucl_screen.proofs.RowFacts.{goes-on, stops, is-done}
 use Rattle.ucl_screen.proofs.reading.events_at.Goals as goal
 

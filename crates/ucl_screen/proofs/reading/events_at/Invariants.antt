@@ -1,6 +1,4 @@
-use Rattle.std.proofs.Common.{◌≡◌, ◌+◌, ◌≤◌, length}
-use Rattle.ucl_screen.specs.Rows.{IsReading, rows_left}
-use Rattle.ucl_screen.specs.Script.{events_from}
+use Rattle.ucl_screen.proofs.Common.{IsReading, events_from, length, rows_left, ◌+◌, ◌≡◌, ◌≤◌}
 use Rattle.ucl_screen.proofs.RowFacts.{with_front}
 use Rattle.ucl_screen.proofs.reading.events_at.Given as goal
 

@@ -1,4 +1,4 @@
-use Rattle.ucl_screen.specs.Rows.{rows_of}
+use Rattle.ucl_screen.proofs.Common.{rows_of}
 use Rattle.ucl_screen.proofs.RowFaults.{script-faults}
 use Rattle.ucl_screen.proofs.reading.night_of_bytes.Goals as goal
 

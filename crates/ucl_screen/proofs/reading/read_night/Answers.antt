@@ -1,4 +1,4 @@
-use Rattle.ucl_screen.specs.Parsing.{MeansNight, night_seen}
+use Rattle.ucl_screen.proofs.Common.{MeansNight, night_seen}
 use Rattle.ucl_screen.proofs.RowFaults.{calls-read, night-reads}
 use Rattle.ucl_screen.proofs.reading.read_night.Goals as goal
 

@@ -1,5 +1,5 @@
+use Rattle.ucl_screen.proofs.Common.{MeansSheet, sheet_seen}
 use Rattle.std.proofs.lemmas.Result.{err_from_is_err_and}
-use Rattle.ucl_screen.specs.Parsing.{MeansSheet, sheet_seen}
 use Rattle.ucl_screen.proofs.RowFaults.{calls-read, sheet-refused, sheet-taken, sheet-tested}
 use Rattle.ucl_screen.proofs.reading.read_words.Goals as goal
 

@@ -1,9 +1,7 @@
-use Rattle.std.proofs.Common.{◌≡◌, zero, suc, ◌+◌, ◌-◌, ◌<◌, ◌∙◌, Ok, refl, sym, take, length, arith}
+use Rattle.ucl_screen.proofs.Common.{Ok, arith, fields_of, length, refl, rows_left, suc, sym, take, words_from, zero, ◌+◌, ◌-◌, ◌<◌, ◌∙◌}
+use Rattle.ucl_screen.proofs.Common.{◌≡◌}
 use Rattle.std.proofs.lemmas.List.{take_all, length-set}
 use Rattle.std.proofs.lemmas.Grind.{take-set_at}
-use Rattle.csv.specs.Records.{fields_of}
-use Rattle.ucl_screen.specs.Rows.{rows_left}
-use Rattle.ucl_screen.specs.Script.{words_from}
 use Rattle.ucl_screen.proofs.RowFacts.{word-more, word-bad, word-missing, word-over, words-done}
 use Rattle.ucl_screen.proofs.reading.words_at.Goals as goal
 

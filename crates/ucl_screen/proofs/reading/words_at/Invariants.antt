@@ -1,6 +1,4 @@
-use Rattle.std.proofs.Common.{◌≡◌, ◌-◌, take, length}
-use Rattle.ucl_screen.specs.Rows.{IsReading, rows_left}
-use Rattle.ucl_screen.specs.Script.{words_from}
+use Rattle.ucl_screen.proofs.Common.{IsReading, length, rows_left, take, words_from, ◌-◌, ◌≡◌}
 use Rattle.ucl_screen.proofs.RowFacts.{with_front}
 use Rattle.ucl_screen.proofs.reading.words_at.Given as goal
 

@@ -1,5 +1,4 @@
-use Rattle.std.proofs.Common.{inl, inr}
-use Rattle.std.proofs.lemmas.Bool.{cases_Bool}
+use Rattle.ucl_screen.proofs.Common.{cases_Bool, inl, inr}
 use Rattle.ucl_screen.proofs.RowFacts.{known-left, read-found, read-none}
 use Rattle.ucl_screen.proofs.rows.next_row.Goals as goal
 

@@ -1,5 +1,4 @@
-use Rattle.std.proofs.Common.{refl}
-use Rattle.ucl_screen.specs.Rows.{rows_from}
+use Rattle.ucl_screen.proofs.Common.{refl, rows_from}
 use Rattle.ucl_screen.proofs.RowFacts.{few-rows}
 use Rattle.ucl_screen.proofs.rows.open.Goals as goal
 

@@ -1,4 +1,4 @@
-use Rattle.std.proofs.Common.{sym, refl, true≢false}
+use Rattle.ucl_screen.proofs.Common.{refl, sym, true≢false}
 use Rattle.ucl_screen.proofs.Letters.{is_letter, many_letters, no_letter, other_letter}
 use Rattle.ucl_screen.proofs.text.letter_in.Goals as goal
 

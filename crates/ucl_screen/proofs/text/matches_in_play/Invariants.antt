@@ -1,4 +1,4 @@
-use Rattle.std.proofs.Common.{◌≡◌, ◌≤◌, take}
+use Rattle.ucl_screen.proofs.Common.{take, ◌≡◌, ◌≤◌}
 use Rattle.ucl_screen.specs.Screen.{in_play}
 use Rattle.ucl_screen.proofs.text.matches_in_play.Given as goal
 

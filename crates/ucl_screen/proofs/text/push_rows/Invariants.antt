@@ -1,5 +1,4 @@
-use Rattle.std.proofs.Common.{◌≡◌, ◌++◌, take, string_bytes}
-use Rattle.std.specs.Prelude.{flat_map}
+use Rattle.ucl_screen.proofs.Common.{flat_map, string_bytes, take, ◌++◌, ◌≡◌}
 use Rattle.ucl_screen.specs.Screen.{row_line}
 use Rattle.ucl_screen.proofs.text.push_rows.Given as goal
 

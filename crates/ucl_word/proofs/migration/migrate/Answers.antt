@@ -1,4 +1,4 @@
-use Rattle.std.proofs.Common.{sym, ◌∙◌}
+use Rattle.ucl_word.proofs.Common.{sym, ◌∙◌}
 use Rattle.ucl_word.proofs.FirstWords.{layouts_apart, read_word}
 use Rattle.ucl_word.proofs.migration.migrate.Goals as goal
 

@@ -1,7 +1,4 @@
-use Rattle.std.proofs.Common.{◌≡◌, ◌∙◌, sym}
-use Rattle.std.specs.Prelude.{Result, Ok}
-use Rattle.ucl_word.specs.declared.record.MatchRecord.{MatchRecord}
-use Rattle.ucl_word.specs.declared.refusal.BadWord.{BadWord}
+use Rattle.ucl_word.proofs.Common.{BadWord, MatchRecord, Ok, Result, sym, ◌∙◌, ◌≡◌}
 use Rattle.ucl_word.proofs.FirstWords.{first_high, moves_to_word, word_moves, moved_from}
 use Rattle.ucl_word.proofs.migration.unpack_first.Goals as goal
 

@@ -1,6 +1,6 @@
-use Rattle.std.proofs.Common.{◌≡◌, Err, rules, arith}
-use Rattle.ucl_word.proofs.ChangedWords.{word_below, kick_off_changes, full_time_changes, reopen_below, reopen_changes, goal_changes, disallow_changes}
-use Rattle.ucl_word.proofs.ChangedWords.{yellow_changes, no_caution, second_yellow_changes, red_changes}
+use Rattle.ucl_word.proofs.Common.{Err, arith, rules, ◌≡◌}
+use Rattle.ucl_word.proofs.ChangedWords.{word_below, kick_off_changes, full_time_changes, reopen_below, reopen_changes, goal_changes}
+use Rattle.ucl_word.proofs.ChangedWords.{disallow_changes, yellow_changes, no_caution, second_yellow_changes, red_changes}
 use Rattle.ucl_word.proofs.rules.changed.Goals as goal
 
 pub overflow_add-result : goal.overflow_add-result

@@ -1,12 +1,9 @@
-use Rattle.std.proofs.Common.{◌≡◌, None, ◌∙◌, sym, ap, arith}
-use Rattle.ucl_word.specs.Layout.{record_at}
-use Rattle.ucl_word.specs.Record.{IsReporter}
-use Rattle.ucl_word.specs.Rules.{refusal_of, after}
+use Rattle.ucl_word.proofs.Common.{IsReporter, None, after, ap, arith, record_at, refusal_of, sym, ◌∙◌, ◌≡◌}
 use Rattle.ucl_word.proofs.Words.{record_back}
 use Rattle.ucl_word.proofs.EntryCounts.{counted}
 use Rattle.ucl_word.proofs.ChangedWords.{Entered, entered}
-use Rattle.ucl_word.proofs.rules.next_word.Goals as goal
 use Rattle.ucl_word.proofs.rules.next_word.Goals.{After-from}
+use Rattle.ucl_word.proofs.rules.next_word.Goals as goal
 
 by : (c : After-from) → IsReporter c.args.reporter
 by c = rw (← c.get.ensures.value) c.get.ensures.within

@@ -1,4 +1,4 @@
-use Rattle.ucl_word.specs.Layout.{record_at}
+use Rattle.ucl_word.proofs.Common.{record_at}
 use Rattle.ucl_word.proofs.word.fields_of.Goals as goal
 
 pub returns : goal.returns

@@ -1,5 +1,4 @@
-use Rattle.std.proofs.Common.{sym, subst}
-use Rattle.ucl_word.specs.Record.{IsValid}
+use Rattle.ucl_word.proofs.Common.{IsValid, subst, sym}
 use Rattle.ucl_word.proofs.Words.{word_valid}
 use Rattle.ucl_word.proofs.word.record_of.Goals as goal
 

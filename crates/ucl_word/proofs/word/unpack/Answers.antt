@@ -1,6 +1,4 @@
-use Rattle.std.proofs.Common.{Ok, sym, ap, ◌∙◌, subst}
-use Rattle.ucl_word.specs.Record.{IsValid}
-use Rattle.ucl_word.specs.Layout.{word_of, record_at}
+use Rattle.ucl_word.proofs.Common.{IsValid, Ok, ap, record_at, subst, sym, word_of, ◌∙◌}
 use Rattle.ucl_word.proofs.Words.{record_back, word_holds, held_word}
 use Rattle.ucl_word.proofs.word.unpack.Goals as goal
 

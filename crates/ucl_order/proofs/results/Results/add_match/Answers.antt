@@ -1,5 +1,4 @@
-use Rattle.std.proofs.Common.{◌≢◌, ◌∙◌, ap, refl, arith}
-use Rattle.ucl_order.specs.Counting.{with_match}
+use Rattle.ucl_order.proofs.Common.{ap, arith, refl, with_match, ◌∙◌, ◌≢◌}
 use Rattle.ucl_order.proofs.OneMatchMore.{clubs_more, second_within, within_two}
 use Rattle.ucl_order.proofs.results.Results.add_match.Goals as goal
 

@@ -1,4 +1,4 @@
-use Rattle.std.proofs.Common.{◌∙◌}
+use Rattle.ucl_order.proofs.Common.{◌∙◌}
 use Rattle.ucl_order.proofs.LevelMatches.{of_all}
 use Rattle.ucl_order.proofs.results.Results.of_clubs.Goals as goal
 

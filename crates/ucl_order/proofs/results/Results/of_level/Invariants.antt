@@ -1,6 +1,4 @@
-use Rattle.std.proofs.Common.{◌≡◌, All, take}
-use Rattle.ucl_order.specs.Counting.{IsWithin}
-use Rattle.ucl_order.specs.Rounds.{level_matches, results_of_clubs}
+use Rattle.ucl_order.proofs.Common.{All, IsWithin, level_matches, results_of_clubs, take, ◌≡◌}
 use Rattle.ucl_order.proofs.results.Results.of_level.Given as goal
 
 abbrev pub invariant-loop-game : goal.invariant-loop-game

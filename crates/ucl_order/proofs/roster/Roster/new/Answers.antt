@@ -1,4 +1,4 @@
-use Rattle.std.proofs.Common.{◌≡◌, length, arith}
+use Rattle.ucl_order.proofs.Common.{arith, length, ◌≡◌}
 use Rattle.ucl_order.specs.Roster.{club_seen}
 use Rattle.ucl_order.proofs.Clubs.{IsTaken, four-places, four-taken}
 use Rattle.ucl_order.proofs.roster.Roster.new.Goals as goal

@@ -1,7 +1,5 @@
-use Rattle.std.proofs.Common.{set, subst, sym, ◌∙◌}
+use Rattle.ucl_order.proofs.Common.{All-set, IsClub, IsRoster, member_seen, members_seen, subst, sym, ◌∙◌}
 use Rattle.std.proofs.lemmas.List.{length-set, map-set}
-use Rattle.std.proofs.lemmas.List.Elements.{All-set}
-use Rattle.ucl_order.specs.Roster.{IsClub, IsRoster, member_seen, members_seen}
 use Rattle.ucl_order.proofs.roster.Roster.put.Goals as goal
 
 pub invariant_of-self : goal.invariant_of-self
