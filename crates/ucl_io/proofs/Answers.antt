@@ -2,7 +2,7 @@
 use Rattle.std.proofs.Common.{◌≡◌, ℕ, ◌+◌, ◌-◌, ◌^◌, ◌≤◌, List, [], ◌∷◌, ◌++◌, length, sym, ap, ◌∙◌, subst, inl, inr, append_assoc, append-nil, arith, length-append}
 use Rattle.std.proofs.Common.{refl}
 use Rattle.ucl_io.specs.declared.fault.ServeFault.{ServeFault}
-use Rattle.ucl_io.specs.declared.fault.ServeFault.TheVariants.{Handler, ReadFailed, TooLong, WriteFailed}
+use Rattle.ucl_io.specs.declared.fault.ServeFault.TheVariants.{Handler, WriteFailed}
 use Rattle.std.specs.Prelude.{⊤, Result, Ok, Err, OnOk}
 use Rattle.ucl_io.specs.Output.{HasPut, Outlet, PutsOrStops}
 use Rattle.ucl_io.specs.Turns.{AreAnswered, AreTurns, Closed, FallShort, Progress, Rules, Turn, Turned, WhyShort, lines_in, state_after, text_in}
@@ -52,9 +52,7 @@ module _ (M F : Type 0) (R : Rules M F) where
       lines_are = p.lines_are ∙ sym (append-nil (lines_in turns));
       why = put_cut a.outlet b.outlet c.outlet (text_in turns) written p.put s;
     }
-    answered_cut (Handler fault) s = absurd s
-    answered_cut (ReadFailed k) s = absurd s
-    answered_cut TooLong s = absurd s
+    answered_cut _ s = absurd s
 
     module _ (more : List (List ℕ)) where
       pub more_lines : (later : List (Turn M)) (rest : List (List ℕ)) → more ≡ lines_in later ++ rest → lines ++ more ≡ lines_in (turns ++ later) ++ rest
@@ -93,8 +91,7 @@ module _ (M F : Type 0) (R : Rules M F) where
         rw (text_then M turns later) (put_then a.outlet b.outlet c.outlet (text_in turns) (text_in later) p.put put),
         none,
       )
-      why_then (ReadFailed k) later rest s = absurd s
-      why_then TooLong later rest s = absurd s
+      why_then _ _ _ s = absurd s
 
       -- some were not
       abbrev pub short_then : (f : ServeFault F) → FallShort R b c more f → FallShort R a c (lines ++ more) f
@@ -140,16 +137,14 @@ module _ (M F : Type 0) (R : Rules M F) where
       s.2,
     );
   }
-  short_one a b line (ReadFailed k) s = absurd s
-  short_one a b line TooLong s = absurd s
+  short_one _ _ _ _ s = absurd s
 
   -- of more lines
   why_more : (a b : Progress M) (turns : List (Turn M)) (rest more : List (List ℕ)) (f : ServeFault F) → WhyShort R a b turns rest f → WhyShort R a b turns (rest ++ more) f
   why_more a b turns rest more (WriteFailed written) s = s
   why_more a b turns rest more (Handler fault) (s, put, none) =
       (record { line = s.line; later = s.later ++ more; next = ap (λ (l : List (List ℕ)). l ++ more) s.next; stops = s.stops }, put, none)
-  why_more a b turns rest more (ReadFailed k) s = absurd s
-  why_more a b turns rest more TooLong s = absurd s
+  why_more _ _ _ _ _ _ s = absurd s
 
   pub short_more : (a b : Progress M) (lines more : List (List ℕ)) (f : ServeFault F) → FallShort R a b lines f → FallShort R a b (lines ++ more) f
   short_more a b lines more f q = record {
@@ -166,28 +161,20 @@ module _ (M F : Type 0) (R : Rules M F) where
       PutsOrStops a.outlet b.outlet text r → Turned R a b line r
   turned_by a b line text (Ok done) h p = (text, h, p)
   turned_by a b line text (Err (WriteFailed n)) h p = inl (text, h, p)
-  turned_by a b line text (Err (Handler fault)) h p = absurd p
-  turned_by a b line text (Err (ReadFailed k)) h p = absurd p
-  turned_by a b line text (Err TooLong) h p = absurd p
+  turned_by _ _ _ _ _ _ p = absurd p
 
   pub turned_cut : (a b : Progress M) (line : List ℕ) (f : ServeFault F) → PutsOrStops {V = ⊤} a.outlet b.outlet [] (Err f) → Turned {V = ⊤} R a b line (Err f)
   turned_cut a b line (WriteFailed n) p = inr p
-  turned_cut a b line (Handler fault) p = absurd p
-  turned_cut a b line (ReadFailed k) p = absurd p
-  turned_cut a b line TooLong p = absurd p
+  turned_cut _ _ _ _ p = absurd p
 
   pub closed_cut : (a b : Progress M) (line text : List ℕ) (f : ServeFault F) → R.Answers a.handler a.row line b.handler text → PutsOrStops {V = ⊤} a.outlet b.outlet text (Err f)
       → Closed {V = ⊤} R a b line (Err f)
   closed_cut a b line text (WriteFailed n) h p = (text, h, p)
-  closed_cut a b line text (Handler fault) h p = absurd p
-  closed_cut a b line text (ReadFailed k) h p = absurd p
-  closed_cut a b line text TooLong h p = absurd p
+  closed_cut _ _ _ _ _ _ p = absurd p
 
   pub closed_by : (a b : Progress M) (mid : Outlet) (line text : List ℕ) (r : Result ⊤ (ServeFault F)) → R.Answers a.handler a.row line b.handler text → HasPut a.outlet mid text
       → PutsOrStops mid b.outlet [] r
       → OnOk r (b.outlet.held ≡ []) → Closed R a b line r
   closed_by a b mid line text (Ok done) h p q none = (text, h, put_flushed a.outlet mid b.outlet text p q, none)
   closed_by a b mid line text (Err (WriteFailed n)) h p q none = (text, h, put_cut a.outlet mid b.outlet text n p q)
-  closed_by a b mid line text (Err (Handler fault)) h p q none = absurd q
-  closed_by a b mid line text (Err (ReadFailed k)) h p q none = absurd q
-  closed_by a b mid line text (Err TooLong) h p q none = absurd q
+  closed_by _ _ _ _ _ _ _ _ q _ = absurd q

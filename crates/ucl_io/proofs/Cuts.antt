@@ -1,8 +1,8 @@
 -- The lines of bytes that come one after the other.
-use Rattle.std.proofs.Common.{◌≡◌, ℕ, zero, suc, ◌+◌, ◌-◌, ◌≤◌, ◌<◌, ◌==◌, Bool, true, List, [], ◌∷◌, ◌++◌, length, take, drop, get_or, refl, sym, ap, ap₂, ◌∙◌, inl}
-use Rattle.std.proofs.Common.{inr, append_assoc, append-nil, arith, ne_eqb, length-append}
+use Rattle.std.proofs.Common.{◌≡◌, ℕ, zero, suc, ◌+◌, ◌-◌, ◌≤◌, ◌<◌, ◌==◌, Bool, true, List, [], ◌∷◌, ◌++◌, length, take, drop, get_or, refl, sym, ap, ◌∙◌, inl}
+use Rattle.std.proofs.Common.{inr, subst, append_assoc, append-nil, arith, ne_eqb, length-append}
 use Rattle.std.specs.Prelude.{nat_le}
-use Rattle.std.proofs.Math.Seq.{take-add, take-append_seam}
+use Rattle.std.proofs.Math.Seq.{take-add, take-append_seam, take-length}
 use Rattle.std.proofs.lemmas.Bool.{cases_Bool}
 use Rattle.std.proofs.lemmas.Bool.Decides.{nat_tests}
 use Rattle.std.proofs.lemmas.List.{length-drop, take-append-drop, take-append-le, take_all, take_more}
@@ -68,8 +68,7 @@ no_feed_front (b ∷ text) zero h = tt
 no_feed_front (b ∷ text) (suc n) h = (h 0 (omega arith), no_feed_front text n (λ k l e. h (suc k) (omega arith) e))
 
 pub no_feed_all : (text : List ℕ) → NoFeedIn text (length text) → HasNoFeed text
-no_feed_all [] h = tt
-no_feed_all (b ∷ text) h = (h 0 (omega arith), no_feed_all text (λ k l e. h (suc k) (omega arith) e))
+no_feed_all text h = subst HasNoFeed (take-length text) (no_feed_front text (length text) h)
 
 pub no_ended : (cap : ℕ) (line bytes : List ℕ) → HasNoFeed bytes → ended_lines cap line bytes ≡ []
 unfolding ended_lines
@@ -157,9 +156,6 @@ pub record IsCutAt (cap : ℕ) (line bytes : List ℕ) (lines : List (List ℕ))
   pub before : ended_lines cap line front ≡ lines
   pub begun : begun_line cap line front ≡ last
 
-heads : (x : List ℕ) (xs : List (List ℕ)) (y : List ℕ) (ys : List (List ℕ)) → x ∷ xs ≡ y ∷ ys → (x ≡ y) × (xs ≡ ys)
-heads x xs y ys e = (ap (elim [ [] ↦ [] | h ∷ t ↦ h ]) e, ap (elim [ [] ↦ [] | h ∷ t ↦ t ]) e)
-
 pub cut_at : (cap : ℕ) (line bytes : List ℕ) (lines : List (List ℕ)) (last : List ℕ) (rest : List (List ℕ)) → ended_lines cap line bytes ≡ lines ++ last ∷ rest → IsCutAt cap line bytes lines last
 unfolding ended_lines begun_line
 cut_at cap line [] [] last rest e = cc
@@ -170,7 +166,7 @@ cut_at cap line (b ∷ bytes) [] last rest e = elim (cases_Bool (b == 10)) [
     more = bytes;
     parts = ap (λ (x : ℕ). x ∷ bytes) k;
     before = refl;
-    begun = (heads line (ended_lines cap [] bytes) last rest h).0;
+    begun = cc;
   }
   | inr n ↦ let q = cut_at cap (longer cap line b) bytes [] last rest (rw n at e) in record {
     front = b ∷ q.front;
@@ -181,11 +177,11 @@ cut_at cap line (b ∷ bytes) [] last rest e = elim (cases_Bool (b == 10)) [
   }
 ]
 cut_at cap line (b ∷ bytes) (l ∷ lines) last rest e = elim (cases_Bool (b == 10)) [
-  | inl y ↦ let h = heads line (ended_lines cap [] bytes) l (lines ++ last ∷ rest) (rw y at e) in let q = cut_at cap [] bytes lines last rest h.1 in record {
+  | inl y ↦ let h = rw y at e in let q = cut_at cap [] bytes lines last rest (cc h) in record {
     front = b ∷ q.front;
     more = q.more;
     parts = ap (λ (k : List ℕ). b ∷ k) q.parts;
-    before = rw y (ap₂ (λ (x : List ℕ) (xs : List (List ℕ)). x ∷ xs) h.0 q.before);
+    before = let same = q.before in rw y (cc);
     begun = rw y q.begun;
   }
   | inr n ↦ let q = cut_at cap (longer cap line b) bytes (l ∷ lines) last rest (rw n at e) in record {

@@ -1,4 +1,3 @@
-pub mod Walks
 pub mod MovedBytes
 pub mod Puts
 pub mod Cuts

@@ -5,7 +5,7 @@ use Rattle.std.proofs.lemmas.List.{take-append-le}
 use Rattle.std.specs.Io.KnownBytes.{Appends}
 use Rattle.std.specs.Prelude.{⊤, Err}
 use Rattle.ucl_io.specs.declared.fault.ServeFault.{ServeFault}
-use Rattle.ucl_io.specs.declared.fault.ServeFault.TheVariants.{Handler, ReadFailed, TooLong, WriteFailed}
+use Rattle.ucl_io.specs.declared.fault.ServeFault.TheVariants.{WriteFailed}
 use Rattle.ucl_io.specs.Output.{HasPut, Outlet, PutsOrStops, StopsIn, StoppedShort, WritesOn}
 use Rattle.ucl_io.proofs.MovedBytes.{appends-none, appends-then}
 
@@ -87,6 +87,4 @@ module _ (F : Type 0) where
   pub short_within : (a b c : Outlet) (text : List ℕ) (f : ServeFault F) → HasPut a b [] → b.held ≡ [] → WritesOn b.out b.failed c.failed b.taken c.taken text (Err f)
       → PutsOrStops {V = ⊤} a c text (Err f)
   short_within a b c text (WriteFailed n) put none s = put_stops a b c [] text n put (rw none s)
-  short_within a b c text (Handler fault) put none s = absurd s
-  short_within a b c text (ReadFailed k) put none s = absurd s
-  short_within a b c text TooLong put none s = absurd s
+  short_within _ _ _ _ _ _ _ s = absurd s
