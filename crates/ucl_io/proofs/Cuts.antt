@@ -156,39 +156,22 @@ pub record IsCutAt (cap : ℕ) (line bytes : List ℕ) (lines : List (List ℕ))
   pub before : ended_lines cap line front ≡ lines
   pub begun : begun_line cap line front ≡ last
 
+more_cut : (cap : ℕ) (line line2 bytes : List ℕ) (b : ℕ) (lines lines2 : List (List ℕ)) (last : List ℕ) (q : IsCutAt cap line2 bytes lines2 last)
+    → ended_lines cap line (b ∷ q.front) ≡ lines → begun_line cap line (b ∷ q.front) ≡ last → IsCutAt cap line (b ∷ bytes) lines last
+more_cut cap line line2 bytes b lines lines2 last q before begun =
+    record { front = b ∷ q.front; more = q.more; parts = ap (λ (l : List ℕ). b ∷ l) q.parts; before = before; begun = begun }
+
 pub cut_at : (cap : ℕ) (line bytes : List ℕ) (lines : List (List ℕ)) (last : List ℕ) (rest : List (List ℕ)) → ended_lines cap line bytes ≡ lines ++ last ∷ rest → IsCutAt cap line bytes lines last
 unfolding ended_lines begun_line
 cut_at cap line [] [] last rest e = cc
 cut_at cap line [] (l ∷ lines) last rest e = cc
 cut_at cap line (b ∷ bytes) [] last rest e = elim (cases_Bool (b == 10)) [
-  | inl y ↦ let h = rw y at e in let k : b ≡ 10 = grind (arith, nat_tests) in record {
-    front = [];
-    more = bytes;
-    parts = ap (λ (x : ℕ). x ∷ bytes) k;
-    before = refl;
-    begun = cc;
-  }
-  | inr n ↦ let q = cut_at cap (longer cap line b) bytes [] last rest (rw n at e) in record {
-    front = b ∷ q.front;
-    more = q.more;
-    parts = ap (λ (l : List ℕ). b ∷ l) q.parts;
-    before = rw n q.before;
-    begun = rw n q.begun;
-  }
+  | inl y ↦ let h = rw y at e in record { front = []; more = bytes; parts = ap (λ (x : ℕ). x ∷ bytes) (grind (arith, nat_tests)); before = refl; begun = cc }
+  | inr n ↦ let q = cut_at cap (longer cap line b) bytes [] last rest (rw n at e) in more_cut cap line (longer cap line b) bytes b [] [] last q (rw n q.before) (rw n q.begun)
 ]
 cut_at cap line (b ∷ bytes) (l ∷ lines) last rest e = elim (cases_Bool (b == 10)) [
-  | inl y ↦ let h = rw y at e in let q = cut_at cap [] bytes lines last rest (cc h) in record {
-    front = b ∷ q.front;
-    more = q.more;
-    parts = ap (λ (k : List ℕ). b ∷ k) q.parts;
-    before = let same = q.before in rw y (cc);
-    begun = rw y q.begun;
-  }
-  | inr n ↦ let q = cut_at cap (longer cap line b) bytes (l ∷ lines) last rest (rw n at e) in record {
-    front = b ∷ q.front;
-    more = q.more;
-    parts = ap (λ (k : List ℕ). b ∷ k) q.parts;
-    before = rw n q.before;
-    begun = rw n q.begun;
-  }
+  | inl y ↦ let h = rw y at e in let q = cut_at cap [] bytes lines last rest (cc h) in
+      more_cut cap line [] bytes b (l ∷ lines) lines last q (let same = q.before in rw y (cc)) (rw y q.begun)
+  | inr n ↦ let q = cut_at cap (longer cap line b) bytes (l ∷ lines) last rest (rw n at e) in
+      more_cut cap line (longer cap line b) bytes b (l ∷ lines) (l ∷ lines) last q (rw n q.before) (rw n q.begun)
 ]

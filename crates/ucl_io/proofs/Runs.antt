@@ -9,12 +9,10 @@ use Rattle.ucl_io.specs.Lines.{begun_line, ended_lines}
 use Rattle.ucl_io.specs.Turns.{AreAnswered, Closed, FallShort, Progress, Turn, WhyShort, lines_in, state_after, text_in}
 use Rattle.ucl_io.specs.Output.{Outlet}
 use Rattle.ucl_io.specs.Serving.{ServeEnds, HasClosed, IsOut, IsPromptAt, LineRules, Served, Run, Seen}
-use Rattle.ucl_io.proofs.Answers.{answered_none, answered_then, short_then}
+use Rattle.ucl_io.proofs.Turns.{answered_none, answered_then, lines_count, short_then}
 use Rattle.ucl_io.proofs.Calls.{ended, ended-since, logs-as, logs-none, logs-then}
 use Rattle.ucl_io.proofs.Cuts.{begun_append, begun_none, ended_append, ended_none, few_lines}
-use Rattle.ucl_io.proofs.MovedBytes.{consumes-kept, consumes-none, consumes-then}
-use Rattle.ucl_io.proofs.Puts.{all_out, put_stops, put_then}
-use Rattle.ucl_io.proofs.Turns.{lines_count}
+use Rattle.ucl_io.proofs.Puts.{all_out, consumes-kept, consumes-none, consumes-then, put_stops, put_then}
 
 -- before the first line
 abbrev pub first_of : {M : Type 0} → Seen M → Progress M
@@ -54,8 +52,8 @@ module _ {M F T : Type 0} {D : LineRules M F} {cap : ℕ} {at : T → Seen M} {c
   abbrev Logged : List T → T → List (Turn M) → Type 0
   Logged log3 new turns = LogsCalls count log log3 (count start) (count new) (λ time. IsPromptAt cap (at start) (at time) turns)
 
-  abbrev so_far : Run M
-  so_far = record { bytes = s.bytes; turns = s.turns; rest = []; last = [] }
+  abbrev with_last : List ℕ → Run M
+  with_last text = record { bytes = s.bytes; turns = s.turns; rest = []; last = text }
 
   -- there were no more lines than bytes
   pub row_low : row ≤ 1 + length s.bytes
@@ -78,20 +76,23 @@ module _ {M F T : Type 0} {D : LineRules M F} {cap : ℕ} {at : T → Seen M} {c
     out = gone;
   }
 
-  all_lines : ended_lines cap [] s.bytes ≡ lines_in s.turns ++ []
-  all_lines = s.answered.lines_are ∙ sym (append-nil (lines_in s.turns))
+  -- all lines were answered
+  served : (new : T) {log3 : List T} (last : List ℕ) (result : Result ℕ (ServeFault F)) → Consumes (at start).device.left (at new).device.left s.bytes → Logged log3 new s.turns
+      → IsOut (at start).device (at new).device (text_in s.turns ++ last) result → ServeEnds D cap (at start) (at new) (with_last last) result
+      → Served D cap (at start) (at new) result (Logged log3 new)
+  served new last result consumed logged out ends = record {
+    run = with_last last;
+    consumed = consumed;
+    turned = s.answered.turned;
+    lines_are = s.answered.lines_are ∙ sym (append-nil (lines_in s.turns));
+    prompt = logged;
+    out = out;
+    ends = ends;
+  }
 
   -- more bytes came than any input has
   pub run_too_long : 2 ^ 62 < length s.bytes → Served D cap (at start) (at now) (Err TooLong) (Logged log2 now)
-  run_too_long long = record {
-    run = so_far;
-    consumed = s.consumed;
-    turned = s.answered.turned;
-    lines_are = all_lines;
-    prompt = s.logged;
-    out = (rw append-nil gone, s.answered.put.sound);
-    ends = (long, refl, refl);
-  }
+  run_too_long long = served now [] (Err TooLong) s.consumed s.logged (rw append-nil gone, s.answered.put.sound) (long, refl, refl)
 
   -- the source is called once more
   module _ (new : T) {log3 : List T} (logs : log3 ≡ log2 ++ now ∷ []) (counts : count new ≡ count now + 1) where
@@ -117,19 +118,16 @@ module _ {M F T : Type 0} {D : LineRules M F} {cap : ℕ} {at : T → Seen M} {c
     -- the source failed
     pub run_read_failed : (read : ℕ) → Keeps (at now).device.left (at new).device.left → (at new).device.taken ≡ (at now).device.taken → (at new).device.failed ≡ (at now).device.failed
         → read ≡ length s.bytes → Served D cap (at start) (at new) (Err (ReadFailed read)) (Logged log3 new)
-    run_read_failed read kept same sound is = record {
-      run = so_far;
-      consumed = consumes-kept (at start).device.left (at now).device.left (at new).device.left s.bytes s.consumed kept;
-      turned = s.answered.turned;
-      lines_are = all_lines;
-      prompt = asked;
-      out = all_text same sound;
-      ends = (is, refl, refl);
-    }
+    run_read_failed read kept same sound is =
+        served new [] (Err (ReadFailed read)) (consumes-kept (at start).device.left (at now).device.left (at new).device.left s.bytes s.consumed kept)
+        asked (all_text same sound) (is, refl, refl)
 
     module _ (row2 : ℕ) (held2 : List ℕ) (out2 : ℕ) (more : List ℕ) (moved : Consumes (at now).device.left (at new).device.left more) where
       abbrev there : Progress M
       there = stands (at new) row2 held2 out2
+
+      abbrev longer : List (Turn M) → List (List ℕ) → Run M
+      longer all rest = record { bytes = s.bytes ++ more; turns = all; rest = rest; last = [] }
 
       pub took_more : Consumes (at start).device.left (at new).device.left (s.bytes ++ more)
       took_more = consumes-then (at start).device.left (at now).device.left (at new).device.left s.bytes more s.consumed moved
@@ -151,7 +149,7 @@ module _ {M F T : Type 0} {D : LineRules M F} {cap : ℕ} {at : T → Seen M} {c
       }
 
       why : (all : List (Turn M)) (rest : List (List ℕ)) (f : ServeFault F) → WhyShort D.line (first_of (at start)) there all rest f
-          → IsOut (at start).device (at new).device (text_in all ++ []) (Err f) × ServeEnds D cap (at start) (at new) (record { bytes = s.bytes ++ more; turns = all; rest = rest; last = [] }) (Err f)
+          → IsOut (at start).device (at new).device (text_in all ++ []) (Err f) × ServeEnds D cap (at start) (at new) (longer all rest) (Err f)
       why all rest (WriteFailed count) w = (rw append-nil w, inl refl)
       why all rest (Handler fault) (w, put, none2) =
           ((rw append-nil (all_out (first_of (at start)).outlet there.outlet (text_in all) put refl none2), put.sound), (inl w, refl))
@@ -162,7 +160,7 @@ module _ {M F T : Type 0} {D : LineRules M F} {cap : ℕ} {at : T → Seen M} {c
       run_stopped f q =
           let t = short_then M F D.line (first_of (at start)) here there (ended_lines cap [] s.bytes) s.turns s.answered (ended_lines cap begun more) f q in
           let w = why t.turns t.rest f t.why in record {
-            run = record { bytes = s.bytes ++ more; turns = t.turns; rest = t.rest; last = [] };
+            run = longer t.turns t.rest;
             consumed = took_more;
             turned = t.turned;
             lines_are = more_ended ∙ t.lines_are;
@@ -185,9 +183,6 @@ module _ {M F T : Type 0} {D : LineRules M F} {cap : ℕ} {at : T → Seen M} {c
       at_end : HasEnded (at start).device.left (at new).device.left
       at_end = ended-since (at start).device.left (at now).device.left (at new).device.left s.bytes s.consumed (ended (at now).device.left (at new).device.left over moved)
 
-      abbrev with_last : List ℕ → Run M
-      with_last text = record { bytes = s.bytes; turns = s.turns; rest = []; last = text }
-
       closed : (text : List ℕ) → D.last.Answers (at now).handler row begun (at new).handler text → HasClosed D cap (at start) (at new) (with_last text)
       closed text h = record {
         ended = at_end;
@@ -197,47 +192,23 @@ module _ {M F T : Type 0} {D : LineRules M F} {cap : ℕ} {at : T → Seen M} {c
 
       -- what has begun of a last line was answered, at the end of the input
       pub run_ended : (rows : ℕ) → rows + 1 ≡ row → Closed {V = ⊤} D.last here end begun (Ok tt) → Served D cap (at start) (at new) (Ok rows) (Logged log3 new)
-      run_ended rows is (text, answered, put, none2) = record {
-        run = with_last text;
-        consumed = took_all;
-        turned = s.answered.turned;
-        lines_are = all_lines;
-        prompt = asked;
-        out = (
-          all_out (first_of (at start)).outlet end.outlet (text_in s.turns ++ text)
-              (put_then (first_of (at start)).outlet here.outlet end.outlet (text_in s.turns) text s.answered.put put) refl none2,
-          put.sound ∙ s.answered.put.sound,
-        );
-        ends = ((let e = s.answered.row in omega arith), closed text answered);
-      }
+      run_ended rows is (text, answered, put, none2) =
+          let all = put_then (first_of (at start)).outlet here.outlet end.outlet (text_in s.turns) text s.answered.put put in
+          served new text (Ok rows) took_all asked (all_out (first_of (at start)).outlet end.outlet (text_in s.turns ++ text) all refl none2, all.sound)
+          ((let e = s.answered.row in omega arith), closed text answered)
 
       -- it was not
       ends_badly : (f : ServeFault F) → Closed {V = ⊤} D.last here end begun (Err f) → Served D cap (at start) (at new) (Err f) (Logged log3 new)
-      ends_badly (WriteFailed count) (text, answered, w) = record {
-        run = with_last text;
-        consumed = took_all;
-        turned = s.answered.turned;
-        lines_are = all_lines;
-        prompt = asked;
-        out = put_stops (first_of (at start)).outlet here.outlet end.outlet (text_in s.turns) text count s.answered.put w;
-        ends = inr (closed text answered);
-      }
-      ends_badly (Handler fault) (w, same) = record {
-        run = so_far;
-        consumed = took_all;
-        turned = s.answered.turned;
-        lines_are = all_lines;
-        prompt = asked;
-        out = all_text (ap (λ (o : Outlet). o.taken) same) (ap (λ (o : Outlet). o.failed) same);
-        ends = (
-          inr (record {
+      ends_badly (WriteFailed count) (text, answered, w) =
+          served new text (Err (WriteFailed count)) took_all asked
+          (put_stops (first_of (at start)).outlet here.outlet end.outlet (text_in s.turns) text count s.answered.put w) (inr (closed text answered))
+      ends_badly (Handler fault) (w, same) =
+          served new [] (Err (Handler fault)) took_all asked (all_text (ap (λ (o : Outlet). o.taken) same) (ap (λ (o : Outlet). o.failed) same))
+          (inr (record {
             ended = at_end;
             all = refl;
             stops = last_of (λ (k : M) (n : ℕ) (l : List ℕ) (g : F). D.last.Stops k n l (at new).handler g) fault w;
-          }),
-          refl,
-        );
-      }
+          }), refl)
       ends_badly _ q = absurd q
 
       pub run_ends_badly : (f : ServeFault F) (b : Progress M) → Closed {V = ⊤} D.last b end begun (Err f) → b ≡ here → Served D cap (at start) (at new) (Err f) (Logged log3 new)

@@ -15,6 +15,7 @@ pub use Rattle.std.specs.Fmt.{digit_glyph}
 pub use Rattle.std.specs.Io.KnownBytes.{Appends}
 pub use Rattle.std.specs.List.{list_all}
 pub use Rattle.std.specs.Prelude.{nat_le}
+pub use Rattle.ucl_io.proofs.Cuts.{rest_of}
 pub use Rattle.ucl_order.specs.Roster.{is_printed}
 pub use Rattle.ucl_rows.specs.BadRows.{shown_text}
 pub use Rattle.ucl_rows.specs.Lines.{word_lines, word_line}

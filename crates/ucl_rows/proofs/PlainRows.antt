@@ -22,16 +22,7 @@ record Apart (b : ℕ) : Type 0 where
   end : ((b == 13) || (b == 10)) ≡ false
 
 apart : (b : ℕ) → is_joining b ≡ true → Apart b
-apart b h = elim (cases_Bool (b == 44)) [
-  | inl y ↦ cc (rw y at h)
-  | inr n ↦ elim (cases_Bool (b == 34)) [
-    | inl y ↦ cc (rw (n, y) at h)
-    | inr m ↦ elim (cases_Bool (b == 13)) [
-      | inl y ↦ cc (rw (n, m, y) at h)
-      | inr k ↦ elim (cases_Bool (b == 10)) [ inl y ↦ cc (rw (n, m, k, y) at h) | inr l ↦ record { comma = n; quote = m; end = rw (k, l) refl } ]
-    ]
-  ]
-]
+apart b h = record { comma = grind (arith, nat_tests, h); quote = grind (arith, nat_tests, h); end = grind (arith, nat_tests, h) }
 
 joins : (b : ℕ) → is_joining b ≡ true → step default_config st.InField b ≡ (st.InField, act.Copy)
 joins b h = let p = apart b h in rw (p.comma, p.end) refl

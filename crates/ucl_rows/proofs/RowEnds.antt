@@ -1,11 +1,11 @@
 -- The fields of a row, and the rows of a line.
 use Rattle.ucl_rows.proofs.Common.{Bool, IsBehindEnds, List, None, Option, Read, RowAction, RowState, Some, StartField, State, [], after_action, ap, arith}
 use Rattle.ucl_rows.proofs.Common.{begins_row, csv_state_of, default_config, drop, drop-length, drop_more, ends_at_end, false, get_or, inl, inr, length, csv_step_of}
-use Rattle.ucl_rows.proofs.Common.{nat_tests, records, refl, step, suc, sym, take, take_all, true, ℕ, ◌++◌, ◌+◌, ◌-◌, ◌<◌, ◌==◌, ◌∙◌, ◌∷◌, ◌≡◌, ◌≤◌}
+use Rattle.ucl_rows.proofs.Common.{nat_tests, records, refl, step, suc, sym, true, ℕ, ◌++◌, ◌+◌, ◌<◌, ◌==◌, ◌∙◌, ◌∷◌, ◌≡◌, ◌≤◌}
 use Rattle.csv.specs.Machine.{next_record}
 use Rattle.csv.specs.Records.{Rising, cut_from, last_end}
 use Rattle.csv.proofs.RecordFacts.{last-append, rising-last}
-use Rattle.std.proofs.lemmas.List.{drop-append-le, drop_all, length-drop}
+use Rattle.std.proofs.lemmas.List.{drop-append-le, drop_all}
 use Rattle.ucl_screen.specs.Rows.{Fields as Row, rows_from}
 use Rattle.ucl_screen.proofs.RowFacts.{behind, rows-next, rows-none}
 use Rattle.ucl_rows.specs.declared.row.RowCount.TheVariants.{One, More}
@@ -67,9 +67,6 @@ no-fields text = refl
 pub none-rising : Rising 0 [] 0
 unfolding Rising
 none-rising = omega arith
-
-pub rest-of : (i : ℕ) (xs : List ℕ) → take (length xs - i) (drop i xs) ≡ drop i xs
-rest-of i xs = take_all (length xs - i) (drop i xs) (omega (arith, length-drop i xs))
 
 full : (n : ℕ) → true ≡ (suc n == 0) → ⊥
 full n h = grind (arith, nat_tests)

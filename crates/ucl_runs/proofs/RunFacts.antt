@@ -20,7 +20,7 @@ pub shown : (profile : Profile) (known : Option (List ℕ)) (group : ℕ) (sheet
 shown profile None group sheet text means is = tt
 shown profile (Some bytes) group sheet text means is = record { sheet = sheet; means = means; text_is = is }
 
-text-has : (CallsFor : List ℕ → List ℕ → Type 0) (known : Option (List ℕ)) (text : List ℕ) (P : List ℕ → Type 0) → IfSome known (λ bytes. CallsFor bytes text) → P text → TextHas CallsFor known P
+pub text-has : (CallsFor : List ℕ → List ℕ → Type 0) (known : Option (List ℕ)) (text : List ℕ) (P : List ℕ → Type 0) → IfSome known (λ bytes. CallsFor bytes text) → P text → TextHas CallsFor known P
 text-has CallsFor None text P is h = tt
 text-has CallsFor (Some bytes) text P is h = (text, is, h)
 
