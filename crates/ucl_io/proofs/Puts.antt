@@ -1,6 +1,7 @@
 -- Bytes that move in several calls, and texts that are put one after the other.
 use Rattle.std.proofs.Common.{◌≡◌, ℕ, ◌+◌, ◌-◌, ◌≤◌, Bool, true, false, List, [], ◌++◌, length, take, drop, Option, Some, None, refl, sym, ap, ◌∙◌}
 use Rattle.std.proofs.Common.{append_assoc, arith, true≢false, suc, ◌^◌, min, ◌∷◌, subst, append-nil, length-append}
+use Rattle.std.proofs.lemmas.Bool.{false_from_ne_true}
 use Rattle.std.proofs.lemmas.Grind.{common_steps}
 use Rattle.std.proofs.Math.Seq.{take-add}
 use Rattle.std.proofs.lemmas.List.{take-append-le}
@@ -45,9 +46,7 @@ consumes-kept (Some a) (Some b) (Some c) xs p q = p ∙ ap (λ (t : List ℕ). x
 
 -- neither has failed
 pub same_failed : (a b : Bool) → (a ≡ true → true ≡ false) → (b ≡ true → true ≡ false) → a ≡ b
-same_failed true b p q = absurd (true≢false (p refl))
-same_failed false true p q = absurd (true≢false (q refl))
-same_failed false false p q = refl
+same_failed a b p q = false_from_ne_true a (λ e. true≢false (p e)) ∙ sym (false_from_ne_true b (λ e. true≢false (q e)))
 
 -- ---- texts that are put one after the other
 

@@ -203,12 +203,14 @@ module _ {M F T : Type 0} {D : LineRules M F} {cap : ℕ} {at : T → Seen M} {c
           served new text (Err (WriteFailed count)) took_all asked
           (put_stops (first_of (at start)).outlet here.outlet end.outlet (text_in s.turns) text count s.answered.put w) (inr (closed text answered))
       ends_badly (Handler fault) (w, same) =
-          served new [] (Err (Handler fault)) took_all asked (all_text (ap (λ (o : Outlet). o.taken) same) (ap (λ (o : Outlet). o.failed) same))
-          (inr (record {
-            ended = at_end;
-            all = refl;
-            stops = last_of (λ (k : M) (n : ℕ) (l : List ℕ) (g : F). D.last.Stops k n l (at new).handler g) fault w;
-          }), refl)
+          served new [] (Err (Handler fault)) took_all asked (all_text (ap (λ (o : Outlet). o.taken) same) (ap (λ (o : Outlet). o.failed) same)) (
+            inr (record {
+              ended = at_end;
+              all = refl;
+              stops = last_of (λ (k : M) (n : ℕ) (l : List ℕ) (g : F). D.last.Stops k n l (at new).handler g) fault w;
+            }),
+            refl,
+          )
       ends_badly _ q = absurd q
 
       pub run_ends_badly : (f : ServeFault F) (b : Progress M) → Closed {V = ⊤} D.last b end begun (Err f) → b ≡ here → Served D cap (at start) (at new) (Err f) (Logged log3 new)

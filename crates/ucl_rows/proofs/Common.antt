@@ -8,8 +8,7 @@ pub use Rattle.std.proofs.Math.Nat.{pow-suc}
 pub use Rattle.std.proofs.Math.Seq.{drop-length}
 pub use Rattle.std.proofs.lemmas.Bool.{and_parts, cases_Bool}
 pub use Rattle.std.proofs.lemmas.Bool.Decides.{nat_tests}
-pub use Rattle.std.proofs.lemmas.List.{drop_more, take-append-drop, take-append-le, take_all, take_more}
-pub use Rattle.std.proofs.lemmas.Option.{none-some, same_Some}
+pub use Rattle.std.proofs.lemmas.List.{drop_more, take-append-drop, take_all, take_more}
 pub use Rattle.std.proofs.lemmas.Str.{IsUtf8-from_ascii}
 pub use Rattle.std.specs.Fmt.{digit_glyph}
 pub use Rattle.std.specs.Io.KnownBytes.{Appends}
@@ -28,4 +27,3 @@ pub use Rattle.ucl_rows.specs.declared.row.RowAction.TheVariants.{EndRecord}
 pub use Rattle.ucl_rows.specs.declared.row.RowState.{RowState}
 pub use Rattle.ucl_rows.specs.declared.row.RowState.TheVariants.{InField, StartField}
 pub use Rattle.ucl_screen.specs.Numbers.{hex_digits}
-pub use Rattle.ucl_screen.specs.Rows.{FourFields}

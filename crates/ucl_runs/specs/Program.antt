@@ -19,8 +19,7 @@ use Rattle.ucl_runs.specs.Feed.{IsFed}
 use Rattle.ucl_runs.specs.Show.{IsShown}
 use Rattle.ucl_live_board.specs.declared.live_board.LiveBoard as boards
 use Rattle.ucl_runs.specs.declared.night.NightEnd.{NightEnd}
-use Rattle.ucl_runs.specs.Nights.{IsFirstOffDuty, IsNightEnd, IsOnDuty, night_output}
-use Rattle.ucl_runs.specs.Workers.{IsWhyNoNight}
+use Rattle.ucl_runs.specs.Nights.{IsFirstOffDuty, IsNightEnd, IsOnDuty, IsWhyNoNight, night_output}
 use Rattle.ucl_runs.specs.Styles.{styled}
 use Rattle.ucl_io.specs.Stream.{WroteFirst}
 use Rattle.ucl_io.specs.Output.{StoppedShort}
@@ -79,7 +78,7 @@ abbrev pub RefusesInput : Line → Option (List ℕ) → Option (List ℕ) → B
 RefusesInput (Show group profile) old new failed e = Reads MeansSheet sheet_seen old new failed (Err e)
 RefusesInput _ old new failed e = Reads MeansNight night_seen old new failed (Err e)
 
--- the output stopped within the text: it took the first so many bytes, and their number is told
+-- the output stopped within the text: it took the first so many bytes
 abbrev pub StopsWithin : Line → Bool → Option (List ℕ) → Option (List ℕ) → ℕ → List ℕ → Type 0
 StopsWithin (Night group readings profile) failed old new written text = StoppedShort 0 failed old new text written
 StopsWithin _ failed old new written text = WroteFirst old new written text

@@ -1,8 +1,8 @@
-use Rattle.std.proofs.Common.{◌+◌, ◌≡◌, ◌++◌, ◌∙◌, length, take, inl, inr, refl, ap, arith, length-append, true≢false}
+use Rattle.std.proofs.Common.{◌+◌, ◌≡◌, ◌∙◌, length, take, inl, inr, refl, ap, arith, length-append, true≢false}
 use Rattle.std.proofs.lemmas.List.{length-take}
 use Rattle.std.proofs.lemmas.Result.{err_from_is_err_and}
 use Rattle.ucl_io.specs.Output.{Waiting}
-use Rattle.ucl_io.proofs.Calls.{sound}
+use Rattle.std.proofs.lemmas.Bool.{false_from_ne_true}
 use Rattle.ucl_io.proofs.Runs.{row_low, run_ended, run_ends_badly, run_read_failed, run_stopped, run_too_long, standing_first, standing_then}
 use Rattle.ucl_io.proofs.driver.serve_lines.Goals as goal
 
@@ -80,5 +80,5 @@ pieces-preserved g c =
       so_far = standing_then so_far (c.take.new.self.source, c.enter.new.sink, c.enter.new.handler) c.take.ensures.log c.take.ensures.counts _ _ _ _
           c.in-Some.ensures.moves there.0 there.1 there.2 new.begun;
       read = omega arith;
-      source_sound = inr (sound _ (λ h. true≢false (c.in-Some.ensures.fails.1 h)));
+      source_sound = inr (false_from_ne_true _ (λ h. true≢false (c.in-Some.ensures.fails.1 h)));
     }

@@ -1,6 +1,5 @@
 use Rattle.ucl_rows.proofs.Common.{rest_of}
-use Rattle.ucl_rows.proofs.PlainRows.{row-ends}
-use Rattle.ucl_rows.proofs.RowEnds.{empty-list}
+use Rattle.ucl_rows.proofs.RowEnds.{empty-list, row-ends}
 use Rattle.ucl_rows.proofs.plain.last_field.Goals as goal
 
 pub returns-then-is_empty : goal.returns-then-is_empty

@@ -1,5 +1,5 @@
 use Rattle.ucl_rows.proofs.Common.{arith, sym, ◌∙◌, rest_of}
-use Rattle.ucl_rows.proofs.RowBytes.{marked, unmarked}
+use Rattle.ucl_rows.proofs.RowEnds.{marked, unmarked}
 use Rattle.ucl_rows.proofs.row.without_mark.Goals.{else-line-ge3-via-then-line-ge3+then-line+then-line-2+else-line-3}
 use Rattle.ucl_rows.proofs.row.without_mark.Goals.{else-line-ge3-via-then-line-ge3+then-line+else-line-2, else-line-ge3-via-then-line-ge3+else-line}
 use Rattle.ucl_rows.proofs.row.without_mark.Goals.{else-line-ge3-via-else-line-ge3}

@@ -1,6 +1,6 @@
 use Rattle.ucl_runs.proofs.Common.{err_from_is_err_and, night_seen, rules}
 use Rattle.ucl_runs.specs.Nights.{night_output}
-use Rattle.ucl_runs.proofs.NightOutput.{ended_badly, played, put}
+use Rattle.ucl_runs.proofs.RunFacts.{ended_badly, played, put}
 use Rattle.ucl_runs.proofs.program.execute.Goals as goal
 
 -- found by search: they are written down so that a mutant is refused at the arm that it breaks

@@ -1,5 +1,5 @@
 use Rattle.ucl_runs.proofs.Common.{refl, rules}
-use Rattle.ucl_runs.proofs.Unasked.{over_streams}
+use Rattle.ucl_runs.proofs.RunFacts.{over_streams}
 use Rattle.ucl_runs.proofs.program.run.Goals as goal
 
 -- found by search: it is written down so that a mutant is refused at the arm that it breaks

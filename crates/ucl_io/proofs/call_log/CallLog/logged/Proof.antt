@@ -10,7 +10,7 @@ use types.Kit.{‵, raw, ◌⊛◌, prop, ◌$◌, ◌∵◌, !, qed, move, keep
 use types.Run.{no_more, and_then, returns, enter}
 use types.Part.{agg}
 use types.ByLocal.{alloc_all, pass_all, free_all, look_at, get, sets}
-use denote.RattleType.{RattleType, owns}
+use denote.RattleType.{owns}
 use denote.Exit.{yes}
 use denote.Param.{param, layouts}
 use denote.Shadow.{makes_shadow}
