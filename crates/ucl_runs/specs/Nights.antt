@@ -170,12 +170,8 @@ abbrev pub lasts_text : Option (List ℕ) → Option (List ℕ) → List ℕ
 lasts_text first second = last_text (codes "READER 1\n") first ++ last_text (codes "READER 2\n") second
 
 -- the output of a night: the last screens of both readers, if there are any, and the closing screen
-abbrev pub night_text : Option (List ℕ) → Option (List ℕ) → List ℕ → List ℕ
-night_text first second closing = lasts_text first second ++ (codes "FINAL\n" ++ closing)
-
--- the output of a night whose readers had these last screens, and whose closing screen is this
 abbrev pub night_output : {Y Z : Type 0} → List (Option (String Y)) → String Z → List ℕ
-night_output last closing = night_text (last_shown last 0) (last_shown last 1) (string_bytes closing)
+night_output last closing = lasts_text (last_shown last 0) (last_shown last 1) ++ (codes "FINAL\n" ++ string_bytes closing)
 
 -- why a night has no end
 module _ {B R P : Type 0} (live : boards.Ghosts B R P) (board : B) where

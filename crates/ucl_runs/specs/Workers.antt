@@ -1,17 +1,12 @@
 -- What is lent to the workers of a night, and what they hand back, on any live board.
-use Rattle.std.specs.Prelude.{ℕ, List, option_map, string_bytes}
-use Rattle.ucl_screen.specs.declared.night.NightEvent.{NightEvent}
+use Rattle.std.specs.Prelude.{ℕ, option_map, string_bytes}
 use Rattle.ucl_live_board.specs.declared.live_board.LiveBoard as boards
 use Rattle.ucl_runs.specs.declared.config.NightConfig.{NightConfig}
 use Rattle.ucl_runs.specs.declared.workers.ReaderResult.{ReaderResult}
 use Rattle.ucl_runs.specs.Nights.{IsFresh, IsNew, HasEntered, HasShown}
 use Rattle.ucl_runs.specs.Styles.{Style, styled}
 
--- the rows of the script of a plan
-abbrev pub rows_of_config : {G : Type 0} → NightConfig G → List NightEvent
-rows_of_config config = config.night.now.events.items
-
--- the style of its screens
+-- the style of the screens of a night
 abbrev pub style_of : {G : Type 0} → NightConfig G → Style
 style_of config = styled config.profile config.night.now.roster config.group
 
@@ -26,7 +21,7 @@ module _ {B R P : Type 0} (live : boards.Ghosts B R P) (board : B) where
 
   -- a reporter's pass of the board has entered its rows of a script
   abbrev pub HasEnteredOn : {G : Type 0} → NightConfig G → P → ℕ → P → Type 0
-  HasEnteredOn config before reporter after = live.is_reporter board after × HasEntered (live.reporter before) (live.reporter after) reporter (rows_of_config config)
+  HasEnteredOn config before reporter after = live.is_reporter board after × HasEntered (live.reporter before) (live.reporter after) reporter config.night.now.events.items
 
   -- a reader's pass of the board has shown its readings
   abbrev pub HasShownOn : {G : Type 0} → NightConfig G → R → ReaderResult R → Type 0
