@@ -71,17 +71,16 @@ TRAITS = {
 DERIVES = re.compile(r"#\s*\[derive\(([^)]*)\)\](?:\s*#\s*\[[^\]]*\])*\s*(?:pub(?:\([^)]*\))?\s+)?(?:struct|enum)\s+(\w+)")
 IMPL = re.compile(r"\bimpl\b\s*(?:<[^{]*?>\s*)?([\w:]+(?:<[^{]*?>)?)\s+for\s+([^{]+?)\s*\{")
 ALIAS = re.compile(r"(?<!ghost )\buse\b[^;]*\bas\b[^;]*;|\bmacro_rules\b")
-# What is written of letting go: a count that contracts alone see has nothing to let go, and a handle of C keeps its pass until it lets it go.
+# What is written of letting go: a handle of C keeps its pass until it lets it go.
 LETS_GO = re.compile(r"[^{}]*{ fn drop\b|\bfn (?:drop|let_go|uclboard_pass_drop)\b|\b(?:forget|leak|into_raw\w*|ManuallyDrop)\b")
 LET_GO = re.compile(
-    r"impl Drop for CallCount { fn drop\(self\) { let Self { marker: _ } = self; } }"
-    r"|fn let_go\(&mut self, alloc: Global\) ensures {[^{}]*} { if !self\.is_null\(\) { drop\(self\.take\(alloc\)\.into_box\(\)\); } }"
+    r"fn let_go\(&mut self, alloc: Global\) ensures {[^{}]*} { if !self\.is_null\(\) { drop\(self\.take\(alloc\)\.into_box\(\)\); } }"
     r"|let \(ptr, alloc\) = Box::into_raw_with_allocator\(b\);"
     r"|fn uclboard_pass_drop\(alloc: Global, pass: &mut Handle\)(?: ensures \w+ {[^{}]*})+ { pass\.let_go\(alloc\); }"
 )
 # What makes, lengthens or replaces the list of the times at which a source was called; `logged_io.rt` does so twice.
-LISTS = re.compile(r"\blog\.and\(|\.log\s*=(?!=)|&mut [\w.]+\.log\b|\bIoTrace::(?:new|and)\b")
-LISTED = ["log: IoTrace::new(),", "self.log = self.log.and(&self.source, &self.sink, handler);"]
+LISTS = re.compile(r"\blog\.and\(|\.log\s*=(?!=)|&mut [\w.]+\.log\b|(?<!calls: )\bCallLog::(?:new|and)\b")
+LISTED = ["log: CallLog::new(),", "self.log = self.log.and(&self.source, &self.sink, handler);"]
 HANDLES = "e3846fb4d06c"
 DEFINED = re.compile(r"^ *(?:abbrev pub|unfoldable pub|pub record|pub data) (\S+)", re.M)
 # Names that definitions of two files have, and that stand for one thing of two kinds, as the words of either board.
@@ -149,7 +148,7 @@ def traits_are_listed(top):
 def nothing_acts_when_let_go(top):
     """No value of any crate does anything when it is let go, but let go of its parts; and each is let go."""
     rest, count = LET_GO.subn("", " ".join(" ".join(code_of(top, crate) for crate in sources.crates_of(top)).split()))
-    return LETS_GO.findall(rest) + ([] if count == 4 else ["a count or a handle is not let go as it was"])
+    return LETS_GO.findall(rest) + ([] if count == 3 else ["a handle is not let go as it was"])
 
 
 def boards_hold_words_alone(top):

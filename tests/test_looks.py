@@ -56,7 +56,6 @@ FAULTS = {
     "a pass that acts": (looks.nothing_acts_when_let_go, "ucl_words/src/passes.rt", "impl WordReporterPass {", "impl ops::Drop\n    for WordReporterPass { fn drop(self) {} }\n\nimpl WordReporterPass {"),
     "a writer that writes a line more": (looks.nothing_acts_when_let_go, "ucl_io/src/devices.rt", "impl<W: Write> ToWrite<W> {", TO_WRITE + "impl<W: Write> ToWrite<W> {"),
     "memory that is never given back": (looks.nothing_acts_when_let_go, "ucl_*runs/src/*.rt", "        let before = self.board.version();\n", "        let before = self.board.version();\n        mem::forget(text);\n"),
-    "a count that acts": (looks.nothing_acts_when_let_go, "ucl_io/src/call_count.rt", "let Self { marker: _ } = self;", "tell(self);"),
     "a handle that acts": (looks.nothing_acts_when_let_go, "ucl_c*/src/*.rt", "            drop(self.take(alloc).into_box());", "            report(self.take(alloc));"),
     "a call of C that acts": (looks.nothing_acts_when_let_go, "ucl_c*/src/*.rt", "    pass.let_go(alloc);\n", "    report(pass);\n    pass.let_go(alloc);\n"),
     "a trait by another name": (looks.traits_are_listed, "ucl_pass/src/passes.rt", "use std::marker::Model;", "use std::marker::Model;\nuse std::ops::{\n    Drop as Quiet,\n};"),

@@ -7,10 +7,10 @@ pub(crate) mod night;
 /// The version, and what it is proved with.
 pub(crate) const VERSION: &str = "1.0.0+dev (proved with logic dac8208d650f15bf)";
 
-/// What is told where a word of the command line is no text.
+/// The text if an argument is no text.
 pub(crate) const NOT_UTF_8: &str = "error: a word of the command line is not UTF-8\n";
 
-/// What is told where `clap` has no text, or left something out.
+/// The text if `clap` has none, or left something out.
 pub(crate) const UNREAD: &str = "error: the words of the command line cannot be read; see --help\n";
 
 /// What `--group` is.

@@ -1,14 +1,10 @@
 -- A source that is called once more.
-use Rattle.std.proofs.Common.{◌≡◌, ℕ, ◌+◌, Bool, true, false, List, [], ◌∷◌, ◌++◌, length, Option, Some, None, sym, ap, ◌∙◌, refl, subst, append_assoc, append-nil}
+use Rattle.std.proofs.Common.{◌≡◌, ℕ, ◌+◌, List, [], ◌∷◌, ◌++◌, length, Option, Some, None, sym, ap, ◌∙◌, subst, append_assoc, append-nil}
 use Rattle.std.proofs.Common.{arith, length-append}
 use Rattle.std.specs.Prelude.{IfSome}
 use Rattle.std.specs.Io.KnownBytes.{Consumes, IsAtEnd}
 use Rattle.std.proofs.lemmas.List.Elements.{All-nil, All-push}
 use Rattle.ucl_io.specs.Calls.{HasEnded, InTurn, LogsCalls}
-
-turn-none : {T : Type 0} (count : T → ℕ) (calls : ℕ) → InTurn count calls []
-unfolding InTurn
-turn-none count calls = tt
 
 turn-then : {T : Type 0} (count : T → ℕ) (calls : ℕ) (times : List T) (time : T) → InTurn count calls times → count time ≡ calls + length times → InTurn count calls (times ++ time ∷ [])
 unfolding InTurn
@@ -16,7 +12,8 @@ turn-then count calls [] time p e = (omega arith, tt)
 turn-then count calls (first ∷ times) time p e = (p.0, turn-then count (calls + 1) times time p.1 (omega arith))
 
 pub logs-none : {T : Type 0} (count : T → ℕ) (old : List T) (calls : ℕ) (P : T → Type 0) → LogsCalls count old old calls calls P
-logs-none count old calls P = record { times = []; more = sym (append-nil old); each = omega arith; in_turn = turn-none count calls; held = All-nil P }
+unfolding InTurn
+logs-none count old calls P = record { times = []; more = sym (append-nil old); each = omega arith; in_turn = tt; held = All-nil P }
 
 -- it is called once more, just before this call
 pub logs-then : {T : Type 0} (count : T → ℕ) (old mid new : List T) (calls calls2 calls3 : ℕ) (P : T → Type 0) (time : T) → LogsCalls count old mid calls calls2 P → new ≡ mid ++ time ∷ []
@@ -62,7 +59,3 @@ whole P (Some xs) None bytes over took p = absurd took
 whole P (Some xs) (Some ys) bytes over took p =
     let none : ys ≡ [] = ap (elim [ None ↦ ys | Some l ↦ l ]) over in
     subst P (sym (took ∙ ap (λ (l : List ℕ). bytes ++ l) none ∙ append-nil bytes)) p
-
-pub sound : (b : Bool) → (b ≡ true → ⊥) → b ≡ false
-sound true h = absurd (h refl)
-sound false h = refl

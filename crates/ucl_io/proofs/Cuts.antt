@@ -1,13 +1,12 @@
 -- The lines of bytes that come one after the other.
-use Rattle.std.proofs.Common.{◌≡◌, ℕ, zero, suc, ◌+◌, ◌-◌, ◌≤◌, ◌<◌, ◌==◌, Bool, true, List, [], ◌∷◌, ◌++◌, length, take, drop, get_or, refl, sym, ap, ap₂, ◌∙◌, inl}
-use Rattle.std.proofs.Common.{inr, append_assoc, append-nil, arith, ne_eqb, length-append}
+use Rattle.std.proofs.Common.{◌≡◌, ℕ, zero, suc, ◌+◌, ◌-◌, ◌≤◌, ◌<◌, ◌==◌, List, [], ◌∷◌, ◌++◌, length, take, drop, get_or, refl, sym, ap, ◌∙◌, inl}
+use Rattle.std.proofs.Common.{inr, subst, append_assoc, append-nil, arith, ne_eqb, length-append}
 use Rattle.std.specs.Prelude.{nat_le}
-use Rattle.std.proofs.Math.Seq.{take-add, take-append_seam}
+use Rattle.std.proofs.Math.Seq.{take-add, take-append_seam, take-length}
 use Rattle.std.proofs.lemmas.Bool.{cases_Bool}
 use Rattle.std.proofs.lemmas.Bool.Decides.{nat_tests}
 use Rattle.std.proofs.lemmas.List.{length-drop, take-append-drop, take-append-le, take_all, take_more}
 use Rattle.ucl_io.specs.Lines.{HasNoFeed, BeginsWithLine, begun_line, ended_lines, longer}
-use Rattle.ucl_io.proofs.Puts.{take_past}
 
 pub ended_none : (cap : ℕ) (line : List ℕ) → ended_lines cap line [] ≡ []
 unfolding ended_lines
@@ -68,8 +67,7 @@ no_feed_front (b ∷ text) zero h = tt
 no_feed_front (b ∷ text) (suc n) h = (h 0 (omega arith), no_feed_front text n (λ k l e. h (suc k) (omega arith) e))
 
 pub no_feed_all : (text : List ℕ) → NoFeedIn text (length text) → HasNoFeed text
-no_feed_all [] h = tt
-no_feed_all (b ∷ text) h = (h 0 (omega arith), no_feed_all text (λ k l e. h (suc k) (omega arith) e))
+no_feed_all text h = subst HasNoFeed (take-length text) (no_feed_front text (length text) h)
 
 pub no_ended : (cap : ℕ) (line bytes : List ℕ) → HasNoFeed bytes → ended_lines cap line bytes ≡ []
 unfolding ended_lines
@@ -157,42 +155,22 @@ pub record IsCutAt (cap : ℕ) (line bytes : List ℕ) (lines : List (List ℕ))
   pub before : ended_lines cap line front ≡ lines
   pub begun : begun_line cap line front ≡ last
 
-heads : (x : List ℕ) (xs : List (List ℕ)) (y : List ℕ) (ys : List (List ℕ)) → x ∷ xs ≡ y ∷ ys → (x ≡ y) × (xs ≡ ys)
-heads x xs y ys e = (ap (elim [ [] ↦ [] | h ∷ t ↦ h ]) e, ap (elim [ [] ↦ [] | h ∷ t ↦ t ]) e)
+more_cut : (cap : ℕ) (line line2 bytes : List ℕ) (b : ℕ) (lines lines2 : List (List ℕ)) (last : List ℕ) (q : IsCutAt cap line2 bytes lines2 last)
+    → ended_lines cap line (b ∷ q.front) ≡ lines → begun_line cap line (b ∷ q.front) ≡ last → IsCutAt cap line (b ∷ bytes) lines last
+more_cut cap line line2 bytes b lines lines2 last q before begun =
+    record { front = b ∷ q.front; more = q.more; parts = ap (λ (l : List ℕ). b ∷ l) q.parts; before = before; begun = begun }
 
 pub cut_at : (cap : ℕ) (line bytes : List ℕ) (lines : List (List ℕ)) (last : List ℕ) (rest : List (List ℕ)) → ended_lines cap line bytes ≡ lines ++ last ∷ rest → IsCutAt cap line bytes lines last
 unfolding ended_lines begun_line
 cut_at cap line [] [] last rest e = cc
 cut_at cap line [] (l ∷ lines) last rest e = cc
 cut_at cap line (b ∷ bytes) [] last rest e = elim (cases_Bool (b == 10)) [
-  | inl y ↦ let h = rw y at e in let k : b ≡ 10 = grind (arith, nat_tests) in record {
-    front = [];
-    more = bytes;
-    parts = ap (λ (x : ℕ). x ∷ bytes) k;
-    before = refl;
-    begun = (heads line (ended_lines cap [] bytes) last rest h).0;
-  }
-  | inr n ↦ let q = cut_at cap (longer cap line b) bytes [] last rest (rw n at e) in record {
-    front = b ∷ q.front;
-    more = q.more;
-    parts = ap (λ (l : List ℕ). b ∷ l) q.parts;
-    before = rw n q.before;
-    begun = rw n q.begun;
-  }
+  | inl y ↦ let h = rw y at e in record { front = []; more = bytes; parts = ap (λ (x : ℕ). x ∷ bytes) (grind (arith, nat_tests)); before = refl; begun = cc }
+  | inr n ↦ let q = cut_at cap (longer cap line b) bytes [] last rest (rw n at e) in more_cut cap line (longer cap line b) bytes b [] [] last q (rw n q.before) (rw n q.begun)
 ]
 cut_at cap line (b ∷ bytes) (l ∷ lines) last rest e = elim (cases_Bool (b == 10)) [
-  | inl y ↦ let h = heads line (ended_lines cap [] bytes) l (lines ++ last ∷ rest) (rw y at e) in let q = cut_at cap [] bytes lines last rest h.1 in record {
-    front = b ∷ q.front;
-    more = q.more;
-    parts = ap (λ (k : List ℕ). b ∷ k) q.parts;
-    before = rw y (ap₂ (λ (x : List ℕ) (xs : List (List ℕ)). x ∷ xs) h.0 q.before);
-    begun = rw y q.begun;
-  }
-  | inr n ↦ let q = cut_at cap (longer cap line b) bytes (l ∷ lines) last rest (rw n at e) in record {
-    front = b ∷ q.front;
-    more = q.more;
-    parts = ap (λ (k : List ℕ). b ∷ k) q.parts;
-    before = rw n q.before;
-    begun = rw n q.begun;
-  }
+  | inl y ↦ let h = rw y at e in let q = cut_at cap [] bytes lines last rest (cc h) in
+      more_cut cap line [] bytes b (l ∷ lines) lines last q (let same = q.before in rw y (cc)) (rw y q.begun)
+  | inr n ↦ let q = cut_at cap (longer cap line b) bytes (l ∷ lines) last rest (rw n at e) in
+      more_cut cap line (longer cap line b) bytes b (l ∷ lines) (l ∷ lines) last q (rw n q.before) (rw n q.begun)
 ]

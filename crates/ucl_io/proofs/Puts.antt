@@ -1,13 +1,54 @@
--- Texts that are put one after the other.
-use Rattle.std.proofs.Common.{◌≡◌, ℕ, suc, ◌+◌, ◌-◌, ◌^◌, ◌≤◌, min, Bool, List, [], ◌∷◌, ◌++◌, length, take, Option, sym, ap, ◌∙◌, subst, append_assoc, append-nil}
-use Rattle.std.proofs.Common.{arith, length-append, refl}
+-- Bytes that move in several calls, and texts that are put one after the other.
+use Rattle.std.proofs.Common.{◌≡◌, ℕ, ◌+◌, ◌-◌, ◌≤◌, Bool, true, false, List, [], ◌++◌, length, take, drop, Option, Some, None, refl, sym, ap, ◌∙◌}
+use Rattle.std.proofs.Common.{append_assoc, arith, true≢false, suc, ◌^◌, min, ◌∷◌, subst, append-nil, length-append}
+use Rattle.std.proofs.lemmas.Bool.{false_from_ne_true}
+use Rattle.std.proofs.lemmas.Grind.{common_steps}
+use Rattle.std.proofs.Math.Seq.{take-add}
 use Rattle.std.proofs.lemmas.List.{take-append-le}
-use Rattle.std.specs.Io.KnownBytes.{Appends}
+use Rattle.std.specs.Io.KnownBytes.{Keeps, Appends, Consumes}
 use Rattle.std.specs.Prelude.{⊤, Err}
 use Rattle.ucl_io.specs.declared.fault.ServeFault.{ServeFault}
-use Rattle.ucl_io.specs.declared.fault.ServeFault.TheVariants.{Handler, ReadFailed, TooLong, WriteFailed}
+use Rattle.ucl_io.specs.declared.fault.ServeFault.TheVariants.{WriteFailed}
 use Rattle.ucl_io.specs.Output.{HasPut, Outlet, PutsOrStops, StopsIn, StoppedShort, WritesOn}
-use Rattle.ucl_io.proofs.MovedBytes.{appends-none, appends-then}
+
+pub appends-none : (a : Option (List ℕ)) → Appends a a []
+appends-none None = tt
+appends-none (Some xs) = sym (append-nil xs)
+
+pub appends-then : (a b c : Option (List ℕ)) (xs ys : List ℕ) → Appends a b xs → Appends b c ys → Appends a c (xs ++ ys)
+appends-then None b c xs ys p q = tt
+appends-then (Some a) None c xs ys p q = absurd p
+appends-then (Some a) (Some b) None xs ys p q = absurd q
+appends-then (Some a) (Some b) (Some c) xs ys p q = q ∙ ap (λ (t : List ℕ). t ++ ys) p ∙ append_assoc a xs ys
+
+-- one more call of a sink that took the first `at` bytes
+pub gives-more : (a b c : Option (List ℕ)) (at n : ℕ) (text : List ℕ) → at + n ≤ length text → Appends a b (take at text)
+    → Appends b c (take n (take (length text - at) (drop at text))) → Appends a c (take (at + n) text)
+gives-more a b c at n text le p q =
+    let part : take n (take (length text - at) (drop at text)) ≡ take n (drop at text) = grind (arith, common_steps) in
+    rw (take-add at n text) (appends-then a b c (take at text) (take n (drop at text)) p (rw part at q))
+
+pub consumes-none : (a : Option (List ℕ)) → Consumes a a []
+consumes-none None = tt
+consumes-none (Some xs) = refl
+
+pub consumes-then : (a b c : Option (List ℕ)) (xs ys : List ℕ) → Consumes a b xs → Consumes b c ys → Consumes a c (xs ++ ys)
+consumes-then None b c xs ys p q = tt
+consumes-then (Some a) None c xs ys p q = absurd p
+consumes-then (Some a) (Some b) None xs ys p q = absurd q
+consumes-then (Some a) (Some b) (Some c) xs ys p q = p ∙ ap (λ (t : List ℕ). xs ++ t) q ∙ sym (append_assoc xs ys c)
+
+pub consumes-kept : (a b c : Option (List ℕ)) (xs : List ℕ) → Consumes a b xs → Keeps b c → Consumes a c xs
+consumes-kept None b c xs p q = tt
+consumes-kept (Some a) None c xs p q = absurd p
+consumes-kept (Some a) (Some b) None xs p q = absurd q
+consumes-kept (Some a) (Some b) (Some c) xs p q = p ∙ ap (λ (t : List ℕ). xs ++ t) (sym q)
+
+-- neither has failed
+pub same_failed : (a b : Bool) → (a ≡ true → true ≡ false) → (b ≡ true → true ≡ false) → a ≡ b
+same_failed a b p q = false_from_ne_true a (λ e. true≢false (p e)) ∙ sym (false_from_ne_true b (λ e. true≢false (q e)))
+
+-- ---- texts that are put one after the other
 
 pub take_past : (a b : List ℕ) (n : ℕ) → take (length a + n) (a ++ b) ≡ a ++ take n b
 take_past [] b n = let none : length {A = ℕ} [] + n ≡ n = omega arith in ap (λ k. take k b) none
@@ -87,6 +128,4 @@ module _ (F : Type 0) where
   pub short_within : (a b c : Outlet) (text : List ℕ) (f : ServeFault F) → HasPut a b [] → b.held ≡ [] → WritesOn b.out b.failed c.failed b.taken c.taken text (Err f)
       → PutsOrStops {V = ⊤} a c text (Err f)
   short_within a b c text (WriteFailed n) put none s = put_stops a b c [] text n put (rw none s)
-  short_within a b c text (Handler fault) put none s = absurd s
-  short_within a b c text (ReadFailed k) put none s = absurd s
-  short_within a b c text TooLong put none s = absurd s
+  short_within _ _ _ _ _ _ _ s = absurd s

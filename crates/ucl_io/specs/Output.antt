@@ -28,15 +28,15 @@ pub record HasPut (before after : Outlet) (text : List ℕ) : Type 0 where
   pub told : after.out ≡ min (before.out + length given) (2 ^ 64 - 1)
   pub sound : after.failed ≡ before.failed
 
--- the sink has failed: the first bytes of the text went out, and not all of them; others were out before, and the number of all that went out is
--- told (at most the greatest that can be told)
+-- the sink has failed: the first bytes of the text went out, and not all of them; others were out before, and this is the number of all that went
+-- out (at most the greatest that there is)
 pub record StoppedShort (before : ℕ) (failed : Bool) (old new : Option (List ℕ)) (text : List ℕ) (written : ℕ) : Type 0 where
   pub failed_is : failed ≡ true
   pub count : ℕ
   pub first : WroteFirst old new count text
   pub told : written ≡ min (before + count) (2 ^ 64 - 1)
 
--- a text was given to a sink after so many bytes, and how many are out then is told; or the sink failed in it
+-- a text was given to a sink after so many bytes, and the result is how many are out then; or the sink failed in it
 abbrev pub WritesOn : {F : Type 0} → ℕ → Bool → Bool → Option (List ℕ) → Option (List ℕ) → List ℕ → Result ℕ (ServeFault F) → Type 0
 WritesOn before failed failed2 old new text (Ok out) = Appends old new text × (out ≡ min (before + length text) (2 ^ 64 - 1)) × (failed2 ≡ failed)
 WritesOn before failed failed2 old new text (Err (WriteFailed written)) = StoppedShort before failed2 old new text written

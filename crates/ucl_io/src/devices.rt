@@ -1,9 +1,9 @@
 //! Sources and sinks over std's readers and writers.
 
-ghost use Rattle.std.specs.Prelude.{◌≡◌, false};
+ghost use Rattle.std.specs.Prelude.{◌≡◌, false, length};
 ghost use Rattle.ucl_io.specs.Devices.{given_by, reader_of, read_failed, taken_by, writer_of, write_failed};
 
-use crate::call_count::CallCount;
+use crate::call_log::CallLog;
 use crate::stream::{Sink, Source};
 use std::io;
 use std::io::{Read, Write};
@@ -35,7 +35,7 @@ fn given_by(answer: &io::Result<usize>) -> Option<usize>
 pub struct FromRead<R> {
     reader: R,
     has_failed: bool,
-    calls: CallCount,
+    calls: CallLog<(), (), ()>,
 }
 
 impl<R: Read> FromRead<R> {
@@ -47,7 +47,7 @@ impl<R: Read> FromRead<R> {
         FromRead {
             reader,
             has_failed: false,
-            calls: CallCount::start(),
+            calls: CallLog::new(),
         }
     }
 }
@@ -55,12 +55,12 @@ impl<R: Read> FromRead<R> {
 impl<R: Read> Source for FromRead<R> {
     ghost left = { λ s. R.remaining s.reader };
 
-    ghost calls = { λ s. s.calls.value };
+    ghost calls = { λ s. length s.calls.times };
 
     ghost failed = { λ s. s.has_failed };
 
     fn take(&mut self, buf: &mut [u8]) -> Option<usize> {
-        self.calls = self.calls.next();
+        self.calls = self.calls.and(&(), &(), &());
         if self.has_failed {
             return None;
         }
@@ -80,7 +80,7 @@ impl<R: Read> Source for FromRead<R> {
 pub struct ToWrite<W> {
     writer: W,
     has_failed: bool,
-    calls: CallCount,
+    calls: CallLog<(), (), ()>,
 }
 
 impl<W: Write> ToWrite<W> {
@@ -92,7 +92,7 @@ impl<W: Write> ToWrite<W> {
         ToWrite {
             writer,
             has_failed: false,
-            calls: CallCount::start(),
+            calls: CallLog::new(),
         }
     }
 }
@@ -100,12 +100,12 @@ impl<W: Write> ToWrite<W> {
 impl<W: Write> Sink for ToWrite<W> {
     ghost taken = { λ s. W.contents s.writer };
 
-    ghost calls = { λ s. s.calls.value };
+    ghost calls = { λ s. length s.calls.times };
 
     ghost failed = { λ s. s.has_failed };
 
     fn give(&mut self, text: &[u8]) -> Option<usize> {
-        self.calls = self.calls.next();
+        self.calls = self.calls.and(&(), &(), &());
         if self.has_failed {
             return None;
         }

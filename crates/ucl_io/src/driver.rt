@@ -16,15 +16,16 @@ const PIECE: usize = 16_384;
 /// The most bytes of an input, which none lives to see.
 const MAX_READ: usize = 0x4000_0000_0000_0000;
 
-/// Answers the lines of a source until it ends: each before more is asked for. Says how many lines had an end.
+/// Answers the lines of a source until it ends: each before more is asked for. Returns how many lines had an end.
 ///
-/// Of a line `cap` bytes are kept, and what comes after them is passed over. A handler that tells long lines apart takes one byte more
+/// Of a line `cap` bytes are kept, and what comes after them is passed over. A handler that distinguishes long lines takes one byte more
 /// than a line may have. Answers to lines that came together are gathered, at most 4,096 bytes of them.
 ///
 /// # Errors
 ///
-/// If the source fails, all lines that had an end are answered. Where the handler has no answer, the answers before are out. Where the
-/// sink fails, a first part of the answers is out, and how many bytes is told. `TooLong` comes after more than 2^62 bytes, which no input has.
+/// If the source fails, all lines that had an end are answered. If the handler has no answer, the answers before are out. If the
+/// sink fails, a first part of the answers is out, and the fault has the number of its bytes. `TooLong` comes after more than 2^62 bytes, which no
+/// input has.
 pub fn serve_lines<S: Source, W: Sink, M: LineHandler>(
     handler: &mut M,
     cap: usize,

@@ -2,25 +2,24 @@
 //! before more is asked for.
 #![tactic(auto)]
 
-mod call_count;
+mod call_log;
 mod cutting;
 mod devices;
 mod driver;
 mod fault;
 mod handler;
-mod io_trace;
 mod lines;
 mod logged_io;
 mod output;
 mod stream;
 mod transfer;
 
+pub use call_log::CallLog;
 pub use cutting::{MAX_KEPT_BYTES, first_line};
 pub use devices::{FromRead, ToWrite};
 pub use driver::serve_lines;
 pub use fault::ServeFault;
 pub use handler::{LineHandler, Text};
-pub use io_trace::IoTrace;
 pub use logged_io::LoggedIo;
 pub use stream::{Sink, Source};
 pub use transfer::give_all;

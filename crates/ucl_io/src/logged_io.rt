@@ -4,7 +4,7 @@ ghost use Rattle.std.specs.Prelude.{◌≡◌, ◌+◌, ◌<◌, ◌≤◌, ◌�
 ghost use Rattle.std.specs.Io.KnownBytes.{IsAtEnd};
 ghost use Rattle.ucl_io.specs.Stream.{Takes};
 
-use crate::io_trace::IoTrace;
+use crate::call_log::CallLog;
 use crate::stream::{Sink, Source};
 
 /// A device for both ways: a source and a sink, and when the source was called, with both and a handler as they were then.
@@ -15,7 +15,7 @@ pub struct LoggedIo<S, W, M> {
     /// Where bytes go.
     pub sink: W,
     /// When the source was called.
-    pub log: IoTrace<S, W, M>,
+    pub log: CallLog<S, W, M>,
 }
 
 impl<S: Source, W: Sink, M> LoggedIo<S, W, M> {
@@ -28,7 +28,7 @@ impl<S: Source, W: Sink, M> LoggedIo<S, W, M> {
         LoggedIo {
             source,
             sink,
-            log: IoTrace::new(),
+            log: CallLog::new(),
         }
     }
 

@@ -28,7 +28,7 @@ impl Model for Output {
     ghost view = { λ p. record { held = p.held.items; out = p.out } };
 }
 
-/// Gives bytes to a sink after so many, and says how many are out then, also where it fails.
+/// Gives bytes to a sink after so many, and returns how many are out then, also if it fails.
 fn put_bytes<W: Sink, F>(sink: &mut W, out: usize, bytes: &[u8]) -> Result<usize, ServeFault<F>>
     ensures { WritesOn out (W.failed sink.old) (W.failed sink.new)
         (W.taken sink.old) (W.taken sink.new) bytes.now result }
@@ -71,7 +71,7 @@ impl Output {
         Ok(())
     }
 
-    /// Holds a text back, after what waits, where there is room for both. Says whether it does.
+    /// Holds a text back, after what waits, where there is room for both. Returns whether it does.
     fn hold(&mut self, text: &[u8]) -> bool
         ensures held { result ≡ true → self.new
             ≡ record { held = self.old.held ++ text.now; out = self.old.out } }

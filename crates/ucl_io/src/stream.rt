@@ -15,7 +15,7 @@ pub trait Source {
     /// Whether a call has failed.
     ghost failed: { Self → Bool };
 
-    /// Moves the next bytes to the front of the buffer, and says how many. `None` means that this call or one before
+    /// Moves the next bytes to the front of the buffer, and returns how many. `None` means that this call or one before
     /// it has failed, and moves nothing. A buffer with room gets no byte only at the end of the bytes.
     fn take(&mut self, buf: &mut [u8]) -> Option<usize>
         ensures counts { calls self.new ≡ calls self.old + 1 }
@@ -37,7 +37,7 @@ pub trait Sink {
     /// Whether a call has failed.
     ghost failed: { Self → Bool };
 
-    /// Takes the first bytes of the text, and says how many: at least one of a text that is not empty. `None` means
+    /// Takes the first bytes of the text, and returns how many: at least one of a text that is not empty. `None` means
     /// that this call or one before it has failed, and takes nothing.
     fn give(&mut self, text: &[u8]) -> Option<usize>
         ensures counts { calls self.new ≡ calls self.old + 1 }

@@ -8,13 +8,13 @@ pub use Rattle.std.proofs.Math.Nat.{pow-suc}
 pub use Rattle.std.proofs.Math.Seq.{drop-length}
 pub use Rattle.std.proofs.lemmas.Bool.{and_parts, cases_Bool}
 pub use Rattle.std.proofs.lemmas.Bool.Decides.{nat_tests}
-pub use Rattle.std.proofs.lemmas.List.{drop_more, take-append-drop, take-append-le, take_all, take_more}
-pub use Rattle.std.proofs.lemmas.Option.{none-some, same_Some}
+pub use Rattle.std.proofs.lemmas.List.{drop_more, take-append-drop, take_all, take_more}
 pub use Rattle.std.proofs.lemmas.Str.{IsUtf8-from_ascii}
 pub use Rattle.std.specs.Fmt.{digit_glyph}
 pub use Rattle.std.specs.Io.KnownBytes.{Appends}
 pub use Rattle.std.specs.List.{list_all}
 pub use Rattle.std.specs.Prelude.{nat_le}
+pub use Rattle.ucl_io.proofs.Cuts.{rest_of}
 pub use Rattle.ucl_order.specs.Roster.{is_printed}
 pub use Rattle.ucl_rows.specs.BadRows.{shown_text}
 pub use Rattle.ucl_rows.specs.Lines.{word_lines, word_line}
@@ -27,4 +27,3 @@ pub use Rattle.ucl_rows.specs.declared.row.RowAction.TheVariants.{EndRecord}
 pub use Rattle.ucl_rows.specs.declared.row.RowState.{RowState}
 pub use Rattle.ucl_rows.specs.declared.row.RowState.TheVariants.{InField, StartField}
 pub use Rattle.ucl_screen.specs.Numbers.{hex_digits}
-pub use Rattle.ucl_screen.specs.Rows.{FourFields}

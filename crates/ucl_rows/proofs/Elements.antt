@@ -1,5 +1,7 @@
 -- Elements of lists at a place.
-use Rattle.ucl_rows.proofs.Common.{List, Some, [], ap, arith, length, none-some, refl, same_Some, suc, take, zero, ℕ, ◌++◌, ◌<◌, ◌∷◌, ◌≡◌}
+use Rattle.ucl_rows.proofs.Common.{List, Some, [], ap, arith, length, refl, suc, take, zero, ℕ, ◌++◌, ◌<◌, ◌∙◌, ◌∷◌, ◌≡◌}
+use Rattle.std.proofs.Math.Seq.{take-suc}
+use Rattle.std.proofs.lemmas.Option.{get_or_from_slice_get, slice_get_within}
 use Rattle.std.specs.Prelude.{slice_get}
 
 module _ {A : Type 0} where
@@ -9,6 +11,4 @@ module _ {A : Type 0} where
   get_some (x ∷ xs) (suc k) l = get_some xs k (omega arith)
 
   pub take_one : (xs : List A) (k : ℕ) (x : A) → slice_get xs k ≡ Some x → take (suc k) xs ≡ take k xs ++ x ∷ []
-  take_one [] k x e = absurd (none-some x e)
-  take_one (y ∷ xs) zero x e = ap (λ (z : A). z ∷ []) (same_Some y x e)
-  take_one (y ∷ xs) (suc k) x e = ap (λ (z : List A). y ∷ z) (take_one xs k x e)
+  take_one xs k x e = take-suc xs k x (slice_get_within xs k x e) ∙ ap (λ (y : A). take k xs ++ y ∷ []) (get_or_from_slice_get xs k x x e)

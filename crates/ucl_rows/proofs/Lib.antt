@@ -3,7 +3,5 @@ pub mod Elements
 pub mod Texts
 pub mod NightParts
 pub mod WordDigits
-pub mod RowBytes
 pub mod RowEnds
-pub mod PlainRows
 pub mod LiveShown

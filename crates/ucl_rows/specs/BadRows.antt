@@ -1,4 +1,4 @@
--- What an answer in JSON tells of a row that asks for nothing that there is.
+-- What an answer in JSON reports of a row that is no request.
 use Rattle.std.specs.Prelude.{ℕ, if◌then◌else◌, List, [], ◌∷◌, take, codes, is_some}
 use Rattle.ucl_order.specs.Roster.{is_printed}
 use Rattle.ucl_screen.specs.Events.{expected_in, match_in, reporter_in}

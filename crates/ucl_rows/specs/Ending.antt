@@ -11,7 +11,7 @@ use Rattle.ucl_rows.specs.Printing.{Prints, fault_line}
 use Rattle.ucl_command.specs.declared.fault.LineFault.{LineFault}
 use Rattle.ucl_command.specs.declared.fault.LineFault.TheVariants as words
 
--- how a program ended: its exit status, and the sink on which it tells faults, before and after
+-- how a program ended: its exit status, and the sink on which it prints faults, before and after
 pub record Ended : Type 0 where
   pub code : ℕ
   pub failed : Bool
@@ -21,7 +21,7 @@ pub record Ended : Type 0 where
 abbrev pub ended_with : {E : Type 0} → (E → Bool) → (E → Option (List ℕ)) → ℕ → E → E → Ended
 ended_with failed taken code old new = record { code = code; failed = failed new; old = taken old; new = taken new }
 
--- status 0 and nothing is told; or the line of the fault is printed, and its status
+-- status 0 and nothing is printed; or the line of the fault is printed, and its status
 abbrev pub Ends : Result ⊤ RunFault → Ended → Type 0
 Ends (Ok done) e = (e.code ≡ 0) × (e.new ≡ e.old)
 Ends (Err fault) e = (e.code ≡ status fault) × Prints e.failed e.old e.new (fault_line fault)
@@ -31,7 +31,7 @@ pub record WritesText (text : List ℕ) (failed : Bool) (old new : Option (List 
   pub all : OnOk r (Appends old new text)
   pub part : IfErr r (IsCutShort failed old new text)
 
--- what a program does whose words name nothing to do: help is written on its output, a refusal is told as it is, and lack of memory by its
+-- what a program does if its arguments ask for no command: help is written on its output, a refusal is printed as it is, and lack of memory by its
 -- line. Of the output it is known whether it has failed, and what it took
 module _ {W : Type 0} (failed_of : W → Bool) (taken_of : W → Option (List ℕ)) where
   abbrev pub ExitsWithoutCommand : LineFault → W → W → Ended → Type 0
@@ -40,7 +40,7 @@ module _ {W : Type 0} (failed_of : W → Bool) (taken_of : W → Option (List �
   ExitsWithoutCommand (words.Refused text) before after e = (after ≡ before) × (e.code ≡ 2) × Prints e.failed e.old e.new (string_bytes text)
   ExitsWithoutCommand words.OutOfMemory before after e = (after ≡ before) × Ends (Err OutOfMemory) e
 
--- nothing was read, and it was answered that the words name nothing to do
+-- nothing was read, and it was answered that the arguments ask for no command
 abbrev pub AnsweredAlone : {S W M : Type 0} → writes.Ghosts W → LineFault → LoggedIo S W M → LoggedIo S W M → Ended → Type 0
 AnsweredAlone sink fault before after e =
     (after ≡ record before { sink = after.sink }) × ExitsWithoutCommand sink.failed sink.taken fault before.sink after.sink e

@@ -18,17 +18,13 @@ only_row [] = NoRow
 only_row (row ∷ []) = OneRow row
 only_row (row ∷ other ∷ rows) = Unread
 
--- a byte order mark is passed over at the start of the first line, which is that of the input
-abbrev pub rows_of_line : Bool → List ℕ → List Fields
-rows_of_line first text = if first then rows_of text else records default_config text
-
 -- at most 256 bytes, and the end: a line feed, or a carriage return and a line feed
 abbrev pub fits : List ℕ → Bool
 fits text = nat_le (length text) (if get_or text (length text - 2) 0 == 13 then 258 else 257)
 
--- what a line with its line feed has, where it has this number
+-- what a line with its line feed has, if it has this number: a byte order mark is ignored at the start of the first line, which is that of the input
 unfoldable pub row_by_text : ℕ → List ℕ → LineRow
-row_by_text row text = if fits text then only_row (rows_of_line (row == 1) text) else Unread
+row_by_text row text = if fits text then only_row (if row == 1 then rows_of text else records default_config text) else Unread
 
 -- what a line has
 abbrev pub row_on : ℕ → List ℕ → LineRow

@@ -46,7 +46,7 @@ is_read_failed _ = false
 abbrev pub WritesAll : {U : Type 0} → (List ℕ → List ℕ → Type 0) → Option (List ℕ) → Option (List ℕ) → Option (List ℕ) → Result U RunFault → Type 0
 WritesAll CallsFor known old new result = OnOk result (TextHas CallsFor known (Appends old new))
 
--- where it failed for the output, that took the first bytes of the text, as many as are told
+-- where it failed for the output, that took the first bytes of the text, as many as the fault has
 abbrev pub WritesFirst : {U : Type 0} → (List ℕ → List ℕ → Type 0) → Option (List ℕ) → Option (List ℕ) → Option (List ℕ) → Result U RunFault → Type 0
 WritesFirst CallsFor known old new result =
     IfErr result (λ f. IfWriteFailed f (λ written. TextHas CallsFor known (WroteFirst old new written)))
@@ -59,12 +59,12 @@ WritesNothing old new result = IfErr result (λ f. UnlessWriteFailed f (new ≡ 
 abbrev pub BlamesOutput : {U : Type 0} → Bool → Result U RunFault → Type 0
 BlamesOutput failed result = IfErr result (λ f. IfWriteFailed f (λ written. failed ≡ true))
 
--- where it failed for the input, the input has that fault, as reading it tells
+-- where it failed for the input, the input has that fault
 abbrev pub BlamesInput : {V E U : Type 0} → (List ℕ → Result E InputFault → Type 0) → (V → E) → Option (List ℕ) → Option (List ℕ) → Bool
     → Result U RunFault → Type 0
 BlamesInput Means view old new failed result = IfErr result (λ f. IfInput f (λ e. Reads Means view old new failed (Err e)))
 
--- lack of memory is not told as a fault of the input
+-- lack of memory is not reported as a fault of the input
 abbrev pub DistinguishesMemory : {U : Type 0} → Result U RunFault → Type 0
 DistinguishesMemory result = IsErrOf result (Input input.OutOfMemory) → ⊥
 
@@ -74,12 +74,12 @@ CallsWithin old new = new ≤ old + max_bytes + 2
 
 -- Rows and parts of a night. --
 
--- P holds of the row that is told, where the run failed for a row whose reporter is not on duty, and else Q holds
+-- P holds of the row of the fault if the run failed for a row whose reporter is not on duty, and else Q holds
 abbrev pub MatchDuty : RunFault → (ℕ → Type 0) → Type 0 → Type 0
 MatchDuty (NotOnDuty row) P Q = P row
 MatchDuty _ P Q = Q
 
--- the output has failed in a text after so many bytes, and the number of all that went out is told
+-- the output has failed in a text after so many bytes, and the fault has the number of all that went out
 abbrev pub IsStopped : ℕ → Bool → Option (List ℕ) → Option (List ℕ) → List ℕ → RunFault → Type 0
 IsStopped before failed old new text (WriteFailed written) = StoppedShort before failed old new text written
 IsStopped before failed old new text _ = ⊥

@@ -1,4 +1,4 @@
-//! What is told of a row that asks for nothing that there is.
+//! What is reported of a row that is no request.
 
 ghost use Rattle.std.specs.Prelude.{◌≡◌, ◌≤◌, length, take, true};
 ghost use Rattle.std.specs.List.{list_all};

@@ -1,4 +1,4 @@
-//! How a program ends: what it tells on the error sink, and its exit status.
+//! How a program ends: what it prints on the error sink, and its exit status.
 
 ghost use Rattle.std.specs.Prelude.{◌≡◌};
 ghost use Rattle.ucl_rows.specs.Printing.{Prints};
@@ -32,8 +32,8 @@ pub fn ended<E: Sink>(errors: &mut E, done: Result<(), RunFault>) -> u8
     }
 }
 
-/// Returns the exit status if the arguments name nothing to do. Help goes to the output, where it ends as what was done; a refusal, or want of
-/// memory, is printed on the error sink.
+/// Returns the exit status if the arguments ask for no command. Help goes to the output, and ends as a command that was done; a refusal, or lack
+/// of memory, is printed on the error sink.
 pub fn exit_without_command<W: Sink, E: Sink>(sink: &mut W, errors: &mut E, fault: LineFault) -> u8
     ensures { ExitsWithoutCommand W.failed W.taken fault sink.old sink.new
         (ended_with E.failed E.taken result errors.old errors.new) }

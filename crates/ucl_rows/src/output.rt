@@ -20,7 +20,7 @@ pub fn put_text<W: Sink>(sink: &mut W, text: &[u8]) -> Result<(), RunFault>
     }
 }
 
-/// Writes bytes of an output after so many, and tells how many are out then. A number past `usize::MAX` is given as that. A sink that has
+/// Writes bytes of an output after so many, and returns how many are out then. A number past `usize::MAX` is given as that. A sink that has
 /// failed is not called again, and none is called with nothing.
 ///
 /// # Errors
@@ -41,7 +41,7 @@ pub fn put_bytes<W: Sink>(sink: &mut W, before: usize, bytes: &[u8]) -> Result<u
     }
 }
 
-/// Writes a heading and a text after so many bytes, and tells how many bytes are out then.
+/// Writes a heading and a text after so many bytes, and returns how many bytes are out then.
 #[tactic(auto, using(crate::proofs::NightParts::stopped_first, crate::proofs::NightParts::stopped_second))]
 pub fn put_under<W: Sink>(
     sink: &mut W,

@@ -19,7 +19,7 @@ pub const MAX_ROW_LINE_BYTES: usize = 258;
 /// The most fields that so many bytes have.
 const MAX_FIELDS: usize = 259;
 
-/// Where the reading of a row stands.
+/// The state of the reading of a row.
 #[derive(Clone, Copy, Debug, PartialEq, Eq)]
 pub(crate) enum RowState {
     StartField,
@@ -174,7 +174,7 @@ impl Fields {
         self.bytes.push(b);
     }
 
-    /// Does what a byte does, and says where the reading stands then: nowhere, where the record has ended.
+    /// Applies the action of a byte, and returns the state of the reading then: none if the record has ended.
     fn act(&mut self, action: RowAction, b: u8) -> Option<RowState>
         requires ends { length self.old.ends.items < 259 }
         requires bytes { length self.old.bytes.items < 258 }
@@ -202,7 +202,7 @@ impl Fields {
         }
     }
 
-    /// Reads the first record of a text, which begins with a field, and says how many bytes it has with its end.
+    /// Reads the first record of a text, which begins with a field, and returns how many bytes it has with its end.
     fn fill(&mut self, text: &[u8]) -> usize
         requires { length text.now ≤ 258 }
         ensures within { result ≤ length text.now }

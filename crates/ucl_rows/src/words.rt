@@ -74,7 +74,7 @@ fn push_words(out: &mut Lines, words: &[u64])
     }
 }
 
-/// Returns the word lines of a board: those from which a session goes on. They ask for no memory.
+/// Returns the word lines of a board, from which a session can continue it. They ask for no memory.
 pub fn word_lines(board: &Board) -> Lines
     ensures { result.items ≡ word_lines 1 board.now }
 {

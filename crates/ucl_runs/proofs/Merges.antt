@@ -13,7 +13,7 @@ use Rattle.ucl_board.specs.History.{board_of}
 use Rattle.ucl_board.proofs.Histories.{entries_same, entries_else}
 use Rattle.ucl_rows.proofs.Elements.{get_some, take_one}
 use Rattle.ucl_runs.specs.Nights.{ScheduleDoesNotMatter, night_board}
-use Rattle.ucl_runs.proofs.Points.{entered_within, place_within}
+use Rattle.ucl_runs.proofs.EnteredRows.{entered_within, place_within}
 
 -- a merge of the rows, and a match
 module _ (number : ℕ → ℕ) (rows : List NightEvent) (h : List Entry) (merge : IsInterleaving number rows h) (one : EachMatchHasOneReporter rows) (g : ℕ) where

@@ -4,6 +4,7 @@ use Rattle.ucl_runs.proofs.Common.{length, length-append, subst, sym, ℕ, ◌++
 use Rattle.std.proofs.Common.{All}
 use Rattle.std.specs.List.Sorted.{IsNonDecreasing}
 use Rattle.std.proofs.lemmas.List.Sorted.{IsNonDecreasingBy-push}
+use Rattle.ucl_live_board.specs.Passes.{IsReadingOf}
 use Rattle.ucl_runs.specs.Styles.{Style, styled_screen}
 
 -- a version that is no lower than what had been seen
@@ -29,3 +30,7 @@ shown_more style k m z reading readings last text h on read is =
           (All-push (λ v. v ≤ length z.seen) m.shown reading.version (λ i d below. (let a = h.high i d below in let b = read.low in let c = read.high in omega arith)) read.high);
       last_is = record { before = m.shown; version = reading.version; last = read.shown; text_is = is ∙ ap (λ (r : Reading). styled_screen style r.board) read.snapshot };
     }
+
+-- a reading that was just taken is the last of its pass
+pub just_read : (m z : PassView) (reading : Reading) → SharedReading m reading z → IsReadingOf z reading
+just_read m z reading is = record { before = _; last = is.shown; high = is.high; snapshot = is.snapshot }

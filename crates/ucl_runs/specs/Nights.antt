@@ -1,6 +1,6 @@
--- A night: the rows of a script, entered by two reporters in threads of their own while readers look on.
+-- A night: the rows of a script, entered by two reporters in threads of their own while two readers show the board.
 use Rattle.std.specs.Prelude.{◌≡◌, ◌≢◌, ◌⊎◌, ℕ, ◌+◌, ◌<◌, ◌≤◌, ◌==◌, true, false, List, [], ◌∷◌, ◌++◌, All, length, map, take, slice_get, slice_index_or, Option}
-use Rattle.std.specs.Prelude.{Some, None, option_map, if◌then◌else◌, codes, String, string_bytes}
+use Rattle.std.specs.Prelude.{Some, None, option_map, if◌then◌else◌, codes, String, string_bytes, ⊤, Result, IfErr, IfOk, MatchResult}
 use mathlib.Core.List.{IsPrefix}
 use Rattle.std.specs.List.Sorted.{IsNonDecreasing}
 use Rattle.std.specs.Result.{is_ok}
@@ -10,8 +10,11 @@ use Rattle.ucl_screen.specs.declared.night.NightEvent.{NightEvent}
 use Rattle.ucl_screen.specs.Script.{first_event_row}
 use Rattle.ucl_live_board.specs.declared.live_board.LiveBoard as boards
 use Rattle.ucl_live_board.specs.Passes.{PassView, IsSound, SeesOn, Continues, kept_pass, split_pass}
+use Rattle.ucl_live_board.specs.Settling.{AreAlone}
 use Rattle.ucl_live_board.specs.Shares.{first_half, second_half}
 use Rattle.ucl_rows.specs.declared.fault.RunFault.{RunFault}
+use Rattle.ucl_rows.specs.declared.fault.RunFault.TheVariants.{Input, WriteFailed, TooManyReporters, Strangers}
+use Rattle.ucl_rows.specs.Faults.{HasNoNumberLeft}
 use Rattle.ucl_rows.specs.Run.{MatchDuty}
 use Rattle.ucl_runs.specs.declared.night.NightEnd.{NightEnd}
 use Rattle.ucl_runs.specs.Styles.{Style, styled_screen}
@@ -70,22 +73,6 @@ pub record IsInterleaving (number : ℕ → ℕ) (rows : List NightEvent) (histo
       → ComesFirst history (attempt_by number row) (point i) (point j)
   pub one_row : (p : ℕ) → p < length history → IsOfOneRow number rows point history p
 
--- the history of a night is that of the settled version, as the second of two reporters' passes has seen it
-abbrev pub night_history : PassView → ℕ → List Entry
-night_history second version = take version second.seen
-
--- it is a merge of the rows under the numbers of both
-abbrev pub HaveInterleaved : PassView → PassView → List NightEvent → ℕ → Type 0
-HaveInterleaved first second rows version = IsInterleaving (number_of_two first.number second.number) rows (night_history second version)
-
--- the second of two reporters' passes has seen this version, and both have entered just so many events
-abbrev pub HaveEnteredAll : PassView → PassView → ℕ → Type 0
-HaveEnteredAll first second version = (version ≤ length second.seen) × (length first.mine + length second.mine ≡ version)
-
--- of two reporters' passes the first has shown nothing, and the second this version alone
-abbrev pub HaveRead : PassView → PassView → ℕ → Type 0
-HaveRead first second version = (first.shown ≡ []) × (second.shown ≡ version ∷ [])
-
 -- rows of one match are all of one reporter
 abbrev pub EachMatchHasOneReporter : List NightEvent → Type 0
 EachMatchHasOneReporter rows = (i j : ℕ) (row other : NightEvent) → slice_get rows i ≡ Some row → slice_get rows j ≡ Some other → row.call.game ≡ other.call.game → row.reporter ≡ other.reporter
@@ -93,10 +80,6 @@ EachMatchHasOneReporter rows = (i j : ℕ) (row other : NightEvent) → slice_ge
 -- the board after all rows, entered in script order
 abbrev pub night_board : (ℕ → ℕ) → List NightEvent → List ℕ
 night_board number rows = board_of (accepted_of (map (attempt_by number) rows))
-
--- where each match has one reporter, a board is that of the rows in script order, entered under the numbers of two passes
-abbrev pub HaveNightBoard : PassView → PassView → List NightEvent → List ℕ → Type 0
-HaveNightBoard first second rows board = EachMatchHasOneReporter rows → board ≡ night_board (number_of_two first.number second.number) rows
 
 -- where each match has one reporter, all merges of the rows have the same board: that of the rows in script order
 abbrev pub ScheduleDoesNotMatter : Type 0
@@ -111,13 +94,6 @@ pub record IsOwnRow (number reporter : ℕ) (rows : List NightEvent) (point : �
   pub theirs : row.reporter ≡ reporter
   pub point_is : point index ≡ p
   pub entered : IsEnteredAt history (attempted number row.call) p
-
--- the readers' passes as they were split off the lent one, which had given a pass to reporter 2 before
-abbrev pub pass_of_reader_1 : PassView → PassView
-pass_of_reader_1 lent = split_pass (kept_pass lent)
-
-abbrev pub pass_of_reader_2 : PassView → PassView
-pass_of_reader_2 lent = split_pass (kept_pass (kept_pass lent))
 
 -- the passes of two reporters and two readers have the whole share of the lent one, which was halved three times
 pub record HaveShares (lent one two left right : PassView) : Type 0 where
@@ -176,7 +152,7 @@ pub record IsFirstOffDuty (rows : List NightEvent) (row : ℕ) : Type 0 where
   pub off_duty : IsOnDuty event → ⊥
   pub row_is : row ≡ length before + first_event_row
 
--- a fault tells the first row whose reporter is not on duty if there is one, and if there is none it is another fault
+-- a fault names the first row whose reporter is not on duty if there is one, and if there is none it is another fault
 abbrev pub IsDutyTold : List NightEvent → RunFault → Type 0
 IsDutyTold rows f = MatchDuty f (IsFirstOffDuty rows) (All IsOnDuty rows)
 
@@ -194,34 +170,83 @@ abbrev pub lasts_text : Option (List ℕ) → Option (List ℕ) → List ℕ
 lasts_text first second = last_text (codes "READER 1\n") first ++ last_text (codes "READER 2\n") second
 
 -- the output of a night: the last screens of both readers, if there are any, and the closing screen
-abbrev pub night_text : Option (List ℕ) → Option (List ℕ) → List ℕ → List ℕ
-night_text first second closing = lasts_text first second ++ (codes "FINAL\n" ++ closing)
-
--- the output of a night whose readers had these last screens, and whose closing screen is this
 abbrev pub night_output : {Y Z : Type 0} → List (Option (String Y)) → String Z → List ℕ
-night_output last closing = night_text (last_shown last 0) (last_shown last 1) (string_bytes closing)
+night_output last closing = lasts_text (last_shown last 0) (last_shown last 1) ++ (codes "FINAL\n" ++ string_bytes closing)
 
--- what a night on a live board promises of its end: the rows of the script, the style of its screens, and how many readings each reader takes
+-- why a night has no end
+module _ {B R P : Type 0} (live : boards.Ghosts B R P) (board : B) where
+  -- a reporter's pass of the board has entered its rows of a night, and nothing else
+  pub record EnteredRowsOf (rows : List NightEvent) (reporter : ℕ) (pass : P) : Type 0 where
+    pub own : live.is_reporter board pass
+    pub before : PassView
+    pub fresh : IsFresh before
+    pub entered : HasEntered before (live.reporter pass) reporter rows
+
+  -- both reporters have entered the rows of a night, and then one of them has read this version, which is not that of their events alone
+  pub record FoundStrangers (rows : List NightEvent) (version : ℕ) : Type 0 where
+    pub first : P
+    pub second : P
+    pub last : P
+    pub entered_1 : EnteredRowsOf rows 1 first
+    pub entered_2 : EnteredRowsOf rows 2 second
+    pub own : live.is_reporter board last
+    pub high : version ≤ length (live.reporter last).seen
+    pub met_1 : IsPrefix (live.reporter first).seen (take version (live.reporter last).seen)
+    pub met_2 : IsPrefix (live.reporter second).seen (take version (live.reporter last).seen)
+    pub others : AreAlone (live.reporter first) (live.reporter second) version → ⊥
+
+  -- why a night of these rows failed, which reads no input and writes no output: that a number was wanting, or that there are strangers, is so
+  abbrev pub IsWhyNoNight : List NightEvent → RunFault → Type 0
+  IsWhyNoNight rows (Input e) = ⊥
+  IsWhyNoNight rows (WriteFailed written) = ⊥
+  IsWhyNoNight rows TooManyReporters = HasNoNumberLeft live board
+  IsWhyNoNight rows (Strangers version) = FoundStrangers rows version
+  IsWhyNoNight rows _ = ⊤
+
+-- what a night promises: on this board, with the pass that was lent, of these rows, in this style, where each reader takes so many readings
 module _ {B R P : Type 0} (live : boards.Ghosts B R P) (lent : B) (pass : R) (rows : List NightEvent) (style : Style) (asked : ℕ) where
+  -- what is known of the reporters' passes at its end, their numbers, and the settled history: what reporter 2's pass has seen, up to the version read
+  abbrev pub pass_of_reporter_1 : NightEnd R P → PassView
+  pass_of_reporter_1 end = live.reporter end.reporter_1
+
+  abbrev pub pass_of_reporter_2 : NightEnd R P → PassView
+  pass_of_reporter_2 end = live.reporter end.reporter_2
+
+  abbrev pub numbers_of : NightEnd R P → ℕ → ℕ
+  numbers_of end = number_of_two (pass_of_reporter_1 end).number (pass_of_reporter_2 end).number
+
+  abbrev pub settled_history : NightEnd R P → List Entry
+  settled_history end = take end.settled.version (pass_of_reporter_2 end).seen
+
   pub record IsNightEnd (end : NightEnd R P) : Type 0 where
     -- the four passes are of the board that was lent, and the reporters' numbers differ
     pub readers : live.is_reader lent end.reader_1 × live.is_reader lent end.reader_2
     pub reporters : live.is_reporter lent end.reporter_1 × live.is_reporter lent end.reporter_2
-    pub apart : (live.reporter end.reporter_1).number ≢ (live.reporter end.reporter_2).number
-    -- the history that was settled is a merge of the rows, the settled reading is of it, and the closing screen is of that
-    pub merge : HaveInterleaved (live.reporter end.reporter_1) (live.reporter end.reporter_2) rows end.settled.version
-    pub settled : end.settled ≡ snapshot_at (live.reporter end.reporter_2).seen end.settled.version
+    pub apart : (pass_of_reporter_1 end).number ≢ (pass_of_reporter_2 end).number
+    -- the settled history is a merge of the rows, the settled reading is of it, and the closing screen is of that
+    pub merge : IsInterleaving (numbers_of end) rows (settled_history end)
+    pub settled : end.settled ≡ snapshot_at (pass_of_reporter_2 end).seen end.settled.version
     pub closing : string_bytes end.closing ≡ styled_screen style end.settled.board
     -- reporter 2's pass has seen it, both have entered just its events, and what reporter 1's pass and the lent one had seen are beginnings of it
-    pub count : HaveEnteredAll (live.reporter end.reporter_1) (live.reporter end.reporter_2) end.settled.version
-    pub beginning : IsPrefix (live.reporter end.reporter_1).seen (night_history (live.reporter end.reporter_2) end.settled.version)
-    pub since : IsPrefix (live.reader pass).seen (night_history (live.reporter end.reporter_2) end.settled.version)
+    pub count : (end.settled.version ≤ length (pass_of_reporter_2 end).seen) × (length (pass_of_reporter_1 end).mine + length (pass_of_reporter_2 end).mine ≡ end.settled.version)
+    pub beginning : IsPrefix (pass_of_reporter_1 end).seen (settled_history end)
+    pub since : IsPrefix (live.reader pass).seen (settled_history end)
     -- reporter 1's pass has shown nothing, and that of reporter 2 the settled version alone
-    pub readings : HaveRead (live.reporter end.reporter_1) (live.reporter end.reporter_2) end.settled.version
-    -- where each match has one reporter, the schedule does not matter
-    pub board : HaveNightBoard (live.reporter end.reporter_1) (live.reporter end.reporter_2) rows end.settled.board
+    pub readings : ((pass_of_reporter_1 end).shown ≡ []) × ((pass_of_reporter_2 end).shown ≡ end.settled.version ∷ [])
+    -- if each match has one reporter, the board is that of the rows in script order: the schedule does not matter
+    pub board : EachMatchHasOneReporter rows → end.settled.board ≡ night_board (numbers_of end) rows
     -- the four passes have the whole share of the lent one
-    pub shares : HaveShares (live.reader pass) (live.reporter end.reporter_1) (live.reporter end.reporter_2) (live.reader end.reader_1) (live.reader end.reader_2)
-    -- what a reader showed are versions of the history that it has seen, none before what the lent pass had seen
-    pub shown_1 : HasShown style (pass_of_reader_1 (live.reader pass)) (live.reader end.reader_1) asked (last_shown end.last 0)
-    pub shown_2 : HasShown style (pass_of_reader_2 (live.reader pass)) (live.reader end.reader_2) asked (last_shown end.last 1)
+    pub shares : HaveShares (live.reader pass) (pass_of_reporter_1 end) (pass_of_reporter_2 end) (live.reader end.reader_1) (live.reader end.reader_2)
+    -- what a reader showed are versions of the history that it has seen, none before what the lent pass had seen: reader 1's pass was split off the
+    -- lent one after reporter 2's, and reader 2's after that
+    pub shown_1 : HasShown style (split_pass (kept_pass (live.reader pass))) (live.reader end.reader_1) asked (last_shown end.last 0)
+    pub shown_2 : HasShown style (split_pass (kept_pass (kept_pass (live.reader pass)))) (live.reader end.reader_2) asked (last_shown end.last 1)
+
+  pub record NightPromise (result : Result (NightEnd R P) RunFault) : Type 0 where
+    -- a night reads no input and writes no output, so it has no fault of these. It answers 30 only if the board has no number left, and 31 only if
+    -- both reporters have entered their rows, and the board then has events that are not theirs, or they have one number
+    pub kinds : IfErr result (IsWhyNoNight live lent rows)
+    -- a row of a reporter who is not on duty is reported exactly if there is one, and the first is
+    pub duty : MatchResult result (λ _. All IsOnDuty rows) (IsDutyTold rows)
+    -- the rows are merged, the readers have shown what they read, and all passes are of the board that was lent
+    pub night : IfOk result IsNightEnd

@@ -23,7 +23,7 @@ impl<'n, G: Gate> NightGate<'n, G> {
         NightGate { gate }
     }
 
-    /// Tells it that a worker is about to make a call on the board.
+    /// Calls the gate before a worker's call on the board.
     pub fn come(&self, worker: u8, call: u32) {
         self.gate.come(worker, call);
     }
@@ -40,12 +40,12 @@ pub struct NightConfig<'n, G> {
     pub readings: u32,
     /// The order of the clubs in all screens.
     pub profile: Profile,
-    /// Who looks on.
+    /// The gate.
     pub night_gate: NightGate<'n, G>,
 }
 
 impl<G: Gate> NightConfig<'_, G> {
-    /// Shows a screen to who looks on: that of the last reading of a pass of the board, in the style of the night.
+    /// Shows a screen to the gate: that of the last reading of a pass of the board, in the style of the night.
     pub fn shown<B: LiveBoard>(
         &self,
         board: &B,

@@ -105,6 +105,9 @@ pub fn feed_run<S: Source, W: Sink>(
     ensures written { WritesFirst IsFed (S.left source.old)
         (W.taken sink.old) (W.taken sink.new) result }
 
+    // A run that ends well has not made the sink fail.
+    ensures sound { OnOk result (W.failed sink.new ≡ W.failed sink.old) }
+
     // The source is called at most as often as the longest input has bytes, and two times more.
     ensures calls { CallsWithin (S.calls source.old) (S.calls source.new) }
 {

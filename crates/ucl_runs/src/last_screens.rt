@@ -30,7 +30,7 @@ pub fn put_last<W: Sink>(
     }
 }
 
-/// Writes the last screens of both readers, if there are any, and tells how many bytes are out then.
+/// Writes the last screens of both readers, if there are any, and returns how many bytes are out then.
 #[tactic(auto, using(ucl_rows::proofs::NightParts::stopped_first, ucl_rows::proofs::NightParts::stopped_second))]
 pub fn put_lasts<W: Sink>(sink: &mut W, last: &[Option<String>; 2]) -> Result<usize, RunFault>
     ensures all { OnOk result (Appends (W.taken sink.old) (W.taken sink.new)

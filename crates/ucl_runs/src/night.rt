@@ -1,12 +1,11 @@
 //! Nights: two reporters and two readers over one live board.
 
-ghost use Rattle.std.specs.Prelude.{◌≡◌, All, IfOk, IfErr, MatchResult, OnOk};
+ghost use Rattle.std.specs.Prelude.{◌≡◌, All, IfErr, MatchResult, OnOk};
 ghost use Rattle.std.specs.Io.KnownBytes.{Appends};
 ghost use Rattle.ucl_screen.specs.Screen.{IsGroup};
-ghost use Rattle.ucl_runs.specs.Nights.{IsDutyTold, IsFirstOffDuty, IsNightEnd, IsOnDuty, night_output};
+ghost use Rattle.ucl_runs.specs.Nights.{IsFirstOffDuty, IsOnDuty, NightPromise, night_output};
 ghost use Rattle.ucl_rows.specs.Run.{IsStopped, MatchDuty};
 ghost use Rattle.ucl_runs.specs.Styles.{styled};
-ghost use Rattle.ucl_runs.specs.Workers.{IsWhyNoNight};
 
 use crate::config::{NightConfig, NightGate};
 use crate::gate::Gate;
@@ -43,7 +42,7 @@ pub struct NightEnd<R, P> {
     pub reporter_2: P,
 }
 
-/// Refuses a script with a row of a reporter who is not on duty, and tells the first such row.
+/// Refuses a script with a row of a reporter who is not on duty, by the first such row.
 fn check_duty(rows: &[NightEvent]) -> Result<(), RunFault>
     ensures { MatchResult result (λ _. All IsOnDuty rows.now)
         (λ f. MatchDuty f (IsFirstOffDuty rows.now) ⊥) }
@@ -63,8 +62,8 @@ fn check_duty(rows: &[NightEvent]) -> Result<(), RunFault>
 /// is of the history that its own pass has seen.
 ///
 /// `pass` is a reader's pass of the board. It is split three times, and it and one of the others are enlisted, before any
-/// thread starts. `group` has to be the letter of a group. All screens are in the order of the profile. The gate is told of each
-/// call and each screen. Replies to reporters are not looked at. The call may wait, and what it promises holds where it returns.
+/// thread starts. `group` has to be the letter of a group. All screens are in the order of the profile. The gate is called before each
+/// call and after each screen. Replies to reporters are ignored. The call may wait, and what it promises holds where it returns.
 ///
 /// # Errors
 ///
@@ -86,19 +85,8 @@ pub fn night_run<B: LiveBoard, G: Gate, R: Threads + Wait + Sync>(
 ) -> Result<NightEnd<B::ReaderPass, B::ReporterPass>, RunFault>
     requires own { B.is_reader board.now pass }
     requires group { IsGroup group }
-
-    // A night reads no input and writes no output, so it has no fault of these. It answers 30 only where the board has no number left, and
-    // 31 only where both reporters have entered their rows, and the board then has events that are not theirs, or they have one number.
-    ensures kinds { IfErr result (IsWhyNoNight B.LiveBoard board.entry.now
-        night.entry.now.events.items) }
-
-    // A row of a reporter who is not on duty is told exactly if there is one, and the first is.
-    ensures duty { MatchResult result (λ _. All IsOnDuty night.entry.now.events.items)
-        (IsDutyTold night.entry.now.events.items) }
-
-    // The rows are merged, the readers have shown what they read, and all passes are of the board that was lent.
-    ensures night { IfOk result (IsNightEnd B.LiveBoard board.entry.now pass
-        night.entry.now.events.items (styled profile night.entry.now.roster group) readings) }
+    ensures { NightPromise B.LiveBoard board.entry.now pass night.entry.now.events.items
+        (styled profile night.entry.now.roster group) readings result }
 {
     check_duty(&night.events)?;
     let reporter_2 = board.split(rt, &mut pass);
@@ -143,8 +131,8 @@ pub fn night_run<B: LiveBoard, G: Gate, R: Threads + Wait + Sync>(
 ///
 /// # Errors
 ///
-/// `WriteFailed`, only if the sink has failed: exactly the first `written` bytes of the output went out. (Were they more
-/// than `usize::MAX`, that would be told.)
+/// `WriteFailed`, only if the sink has failed: exactly the first `written` bytes of the output went out. (If they are more
+/// than `usize::MAX`, `written` is that.)
 pub fn put_night<R, P, W: Sink>(end: &NightEnd<R, P>, sink: &mut W) -> Result<(), RunFault>
     ensures all { OnOk result (Appends (W.taken sink.old) (W.taken sink.new)
         (night_output end.now.last end.now.closing)) }

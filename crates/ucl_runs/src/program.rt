@@ -59,8 +59,8 @@ where
     }
 }
 
-/// Does what the arguments asked for, as `line_of` answered it, and gives the exit status: 0 where it was done, 2 where the arguments are
-/// refused, by the text of `clap`, and else that of the fault, whose line is printed. Help goes to the output. A night takes place on the
+/// Does what the arguments ask for, as `line_of` returned it, and returns the exit status: 0 if it was done, 2 if the arguments are refused, by the
+/// text of `clap`, and else that of the fault, whose line is printed. Help goes to the output. A night takes place on the
 /// board that `opening` opens, which nothing else does.
 pub fn run<B: LiveBoard + Drop, O, S: Source, W: Sink, E: Sink, R: Threads + Wait + Sync>(
     rt: &R,

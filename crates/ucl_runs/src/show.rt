@@ -1,6 +1,6 @@
 //! Runs of `show`.
 
-ghost use Rattle.std.specs.Prelude.{◌≡◌, IfErr};
+ghost use Rattle.std.specs.Prelude.{◌≡◌, IfErr, OnOk};
 ghost use Rattle.ucl_screen.specs.Parsing.{MeansSheet, sheet_seen};
 ghost use Rattle.ucl_screen.specs.Screen.{IsGroup};
 ghost use Rattle.ucl_rows.specs.Faults.{IsOfOneThread};
@@ -48,6 +48,9 @@ pub fn show_run<S: Source, W: Sink>(
     ensures write_failed { BlamesOutput (W.failed sink.new) result }
     ensures written { WritesFirst (IsShown profile group) (S.left source.old)
         (W.taken sink.old) (W.taken sink.new) result }
+
+    // A run that ends well has not made the sink fail.
+    ensures sound { OnOk result (W.failed sink.new ≡ W.failed sink.old) }
 
     // The source is called at most as often as the longest input has bytes, and two times more.
     ensures calls { CallsWithin (S.calls source.old) (S.calls source.new) }

@@ -133,7 +133,7 @@ pub struct Workers<P, R> {
 }
 
 /// Runs the four workers of a night, each in a thread of its own: the reporters enter the rows of reporters 1 and 2, and the
-/// readers take their readings. Where a thread cannot be had, the workers that run go on to their end before this is told.
+/// readers take their readings. If there is no thread for one, the others still run to their end before this fault is returned.
 pub fn work<B: LiveBoard, G: Gate, R: Threads + Wait + Sync>(
     rt: &R,
     alloc: Global,

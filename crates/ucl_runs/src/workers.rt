@@ -13,8 +13,8 @@ use ucl_live_board::LiveBoard;
 use ucl_screen::{NightEvent, screen};
 use ucl_word::OutOfMemory;
 
-/// Enters the rows of one reporter of the script in their order, on a pass that has entered nothing yet. Replies are not
-/// looked at.
+/// Enters the rows of one reporter of the script in their order, on a pass that has entered nothing yet. Replies are
+/// ignored.
 pub fn enter_rows<B: LiveBoard, G: Gate, R: Wait>(
     rt: &R,
     board: &B,

@@ -1,6 +1,6 @@
 use Rattle.std.proofs.lemmas.Result.{err_from_is_err_and}
 use Rattle.ucl_io.specs.Turns.{progress, rules}
-use Rattle.ucl_io.proofs.Answers.{turned_by, turned_cut}
+use Rattle.ucl_io.proofs.Turns.{turned_by, turned_cut}
 use Rattle.ucl_io.proofs.lines.answer_line.Goals as goal
 
 pub returns-in-Ok-clause-turned : goal.returns-in-Ok-clause-turned

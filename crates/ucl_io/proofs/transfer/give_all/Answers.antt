@@ -1,6 +1,6 @@
 use Rattle.std.proofs.Common.{◌+◌, ◌<◌, ◌≤◌, ◌∙◌, ℕ, length, arith, length-drop}
 use Rattle.std.proofs.lemmas.List.{length-take}
-use Rattle.ucl_io.proofs.MovedBytes.{gives-more, same_failed}
+use Rattle.ucl_io.proofs.Puts.{gives-more, same_failed}
 use Rattle.ucl_io.proofs.transfer.give_all.Goals as goal
 
 pub loop-at-preserved : goal.loop-at-preserved

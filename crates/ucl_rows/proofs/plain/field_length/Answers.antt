@@ -1,5 +1,5 @@
 use Rattle.ucl_rows.proofs.Common.{sym, ◌∙◌}
-use Rattle.ucl_rows.proofs.PlainRows.{joining-more}
+use Rattle.ucl_rows.proofs.RowEnds.{joining-more}
 use Rattle.ucl_rows.proofs.plain.field_length.Goals as goal
 
 pub loop-at-preserved : goal.loop-at-preserved

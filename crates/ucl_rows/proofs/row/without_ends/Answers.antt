@@ -1,5 +1,5 @@
 use Rattle.ucl_rows.proofs.Common.{◌∙◌}
-use Rattle.ucl_rows.proofs.RowBytes.{between-same, is-end, skip-at}
+use Rattle.ucl_rows.proofs.RowEnds.{between-same, is-end, skip-at}
 use Rattle.ucl_rows.proofs.row.without_ends.Goals as goal
 
 pub loop-at-init : goal.loop-at-init

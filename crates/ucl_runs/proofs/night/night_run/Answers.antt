@@ -1,15 +1,14 @@
-use Rattle.ucl_runs.proofs.Common.{HasShown, IsPrefix, List, PassView, [], ap, begins_take, begins_through, err_from_is_err_and, number_of_two, option_map, refl}
+use Rattle.ucl_runs.proofs.Common.{HasShown, IsPrefix, List, PassView, [], ap, begins_take, begins_through, err_from_is_err_and, number_of_two, option_map, refl, rules}
 use Rattle.ucl_runs.proofs.Common.{string_bytes, styled, subst, sym, ℕ, ◌++◌, ◌∙◌, ◌∷◌}
 use Rattle.std.proofs.Common.{true≢false}
 use Rattle.std.specs.Prelude.{take}
 use Rattle.ucl_live_board.specs.Passes.{kept_pass, split_pass}
-use Rattle.ucl_runs.specs.Nights.{night_history}
-use Rattle.ucl_runs.proofs.MergedRows.{each_on_duty, merged_by_settlers}
+use Rattle.ucl_runs.proofs.EnteredRows.{each_on_duty, merged_by_settlers}
 use Rattle.ucl_runs.proofs.Merges.{night_board_read}
 use Rattle.ucl_runs.proofs.night.night_run.Goals as goal
 
-pub returns-clause-night : goal.returns-clause-night
-returns-clause-night g c =
+pub returns : goal.returns
+returns g c =
     let reporter = g.B.LiveBoard.reporter in
     let reader = g.B.LiveBoard.reader in
     let rows = c.args.night.now.events.items in
@@ -35,34 +34,38 @@ returns-clause-night g c =
     let shown_2 = subst (λ (k : PassView). HasShown style k (reader c.in_ok-reader_2.reader_2.pass) c.args.readings (option_map string_bytes c.in_ok-reader_2.reader_2.last))
     given_2 (rw c.in_ok-reader_2.was at worked.reader_2).1 in
     record {
-      readers = ((rw c.in_ok-reader_1.was at worked.reader_1).0, (rw c.in_ok-reader_2.was at worked.reader_2).0);
-      reporters = c.in_ok-settled.ensures.own;
-      apart = λ same. (settling.exactly.0 refl).0 (sym settling.always.0.number ∙ same ∙ settling.always.1.number);
-      merge = merge;
-      settled = settling.reading;
-      closing = c.in_ok-closing.ensures;
-      count = (settled.high, rw (settled.mine_first, settled.mine_second) (sym (settling.exactly.0 refl).1));
-      beginning = subst (λ (k : PassView). IsPrefix k.seen (night_history d version)) (sym settling.unchanged)
-          (begins_take a.seen d.seen version settled.first settled.low_first);
-      since = begins_through lent.seen enlisted.seen (take version d.seen) (subst (λ (k : PassView). IsPrefix k.seen enlisted.seen) halved one.on.seen)
-          (begins_through enlisted.seen a.seen (take version d.seen) worked.reporter_1.1.always.on.seen (begins_take a.seen d.seen version settled.first settled.low_first));
-      readings = (
-        ap (λ (k : PassView). k.shown) settling.unchanged ∙ (worked.reporter_1.1.shown ∙ one.shown),
-        settling.shown ∙ ap (λ (shown : List ℕ). shown ++ version ∷ []) (worked.reporter_2.1.shown ∙ two.shown),
-      );
-      board = λ alone. night_board_read (number_of_two (reporter c.settle.new.first).number d.number) rows d.seen version c.in_ok-settled.settled merge alone settling.reading;
-      shares = record {
-        reporter_2 = settling.always.1.on.share ∙ (worked.reporter_2.1.always.on.share ∙ (two.on.share ∙ ap share c.split-reporter_2.ensures.says.given));
-        reader_1 = shown_1.on.share;
-        reader_2 = shown_2.on.share;
-        reporter_1 = settling.always.0.on.share ∙ (worked.reporter_1.1.always.on.share ∙ (one.on.share ∙ ap share halved));
+      kinds = tt;
+      duty = search rules;
+      night = record {
+        readers = ((rw c.in_ok-reader_1.was at worked.reader_1).0, (rw c.in_ok-reader_2.was at worked.reader_2).0);
+        reporters = c.in_ok-settled.ensures.own;
+        apart = λ same. (settling.exactly.0 refl).0 (sym settling.always.0.number ∙ same ∙ settling.always.1.number);
+        merge = merge;
+        settled = settling.reading;
+        closing = c.in_ok-closing.ensures;
+        count = (settled.high, rw (settled.mine_first, settled.mine_second) (sym (settling.exactly.0 refl).1));
+        beginning = subst (λ (k : PassView). IsPrefix k.seen (take version d.seen)) (sym settling.unchanged)
+            (begins_take a.seen d.seen version settled.first settled.low_first);
+        since = begins_through lent.seen enlisted.seen (take version d.seen) (subst (λ (k : PassView). IsPrefix k.seen enlisted.seen) halved one.on.seen)
+            (begins_through enlisted.seen a.seen (take version d.seen) worked.reporter_1.1.always.on.seen (begins_take a.seen d.seen version settled.first settled.low_first));
+        readings = (
+          ap (λ (k : PassView). k.shown) settling.unchanged ∙ (worked.reporter_1.1.shown ∙ one.shown),
+          settling.shown ∙ ap (λ (shown : List ℕ). shown ++ version ∷ []) (worked.reporter_2.1.shown ∙ two.shown),
+        );
+        board = λ alone. night_board_read (number_of_two (reporter c.settle.new.first).number d.number) rows d.seen version c.in_ok-settled.settled merge alone settling.reading;
+        shares = record {
+          reporter_2 = settling.always.1.on.share ∙ (worked.reporter_2.1.always.on.share ∙ (two.on.share ∙ ap share c.split-reporter_2.ensures.says.given));
+          reader_1 = shown_1.on.share;
+          reader_2 = shown_2.on.share;
+          reporter_1 = settling.always.0.on.share ∙ (worked.reporter_1.1.always.on.share ∙ (one.on.share ∙ ap share halved));
+        };
+        shown_1 = shown_1;
+        shown_2 = shown_2;
       };
-      shown_1 = shown_1;
-      shown_2 = shown_2;
     }
 
-pub returns-in_err-settled-clause-kinds : goal.returns-in_err-settled-clause-kinds
-returns-in_err-settled-clause-kinds g c =
+pub returns-in_err-settled : goal.returns-in_err-settled
+returns-in_err-settled g c =
     let known = g.B.LiveBoard.reporter in
     let back = c.in_ok-reporter_1.field-0 in
     let worked = c.in_ok-reporter_1.ensures in
@@ -75,14 +78,18 @@ returns-in_err-settled-clause-kinds g c =
     let two = c.in_ok-enlist-2.ensures.says in
     let told = err_from_is_err_and c.from_residual-in_err-settled.result c.from_residual-in_err-settled.ensures.1 in
     rw (told.1, told.2) (record {
-      first = back.reporter_1;
-      second = back.reporter_2;
-      last = c.settle.new.second;
-      entered_1 = record { own = worked.reporter_1.0; before = _; fresh = (one.sound, one.mine); entered = worked.reporter_1.1 };
-      entered_2 = record { own = worked.reporter_2.0; before = _; fresh = (two.sound, two.mine); entered = worked.reporter_2.1 };
-      own = c.in_err-settled.ensures.own.1;
-      high = settled.high;
-      met_1 = begins_take first.seen last.seen _ settled.first settled.low_first;
-      met_2 = begins_take second.seen last.seen _ settled.second settled.low_second;
-      others = λ alone. true≢false (sym (settling.exactly.1 alone));
+      duty = search rules;
+      night = tt;
+      kinds = record {
+        first = back.reporter_1;
+        second = back.reporter_2;
+        last = c.settle.new.second;
+        entered_1 = record { own = worked.reporter_1.0; before = _; fresh = (one.sound, one.mine); entered = worked.reporter_1.1 };
+        entered_2 = record { own = worked.reporter_2.0; before = _; fresh = (two.sound, two.mine); entered = worked.reporter_2.1 };
+        own = c.in_err-settled.ensures.own.1;
+        high = settled.high;
+        met_1 = begins_take first.seen last.seen _ settled.first settled.low_first;
+        met_2 = begins_take second.seen last.seen _ settled.second settled.low_second;
+        others = λ alone. true≢false (sym (settling.exactly.1 alone));
+      };
     })

@@ -1,5 +1,5 @@
-use Rattle.ucl_runs.proofs.Common.{rules}
-use Rattle.ucl_runs.proofs.Unasked.{over_streams}
+use Rattle.ucl_runs.proofs.Common.{refl, rules}
+use Rattle.ucl_runs.proofs.RunFacts.{over_streams}
 use Rattle.ucl_runs.proofs.program.run.Goals as goal
 
 -- found by search: it is written down so that a mutant is refused at the arm that it breaks
@@ -8,4 +8,4 @@ returns-in-Ok g c = search rules
 
 pub returns-in-Err : goal.returns-in-Err
 returns-in-Err g c =
-    rw c.in-Err.is (over_streams g.S.Source g.W.Sink c.args.source.now c.in-Err.fault c.args.sink.now _ _ c.exit_without_command.ensures)
+    rw c.in-Err.is (refl, over_streams g.S.Source g.W.Sink c.args.source.now c.in-Err.fault c.args.sink.now _ _ c.exit_without_command.ensures)

@@ -1,6 +1,5 @@
 use Rattle.ucl_runs.proofs.Common.{sym, ◌∙◌, ◌≢◌}
-use Rattle.ucl_runs.proofs.EnteredRows.{entered_none, next_skipped, next_entered}
-use Rattle.ucl_runs.proofs.GateFacts.{next_rows}
+use Rattle.ucl_runs.proofs.EnteredRows.{entered_none, next_entered, next_rows, next_skipped}
 use Rattle.ucl_runs.proofs.workers.enter_rows.Goals.{then-get-reporter, else-get-reporter}
 use Rattle.ucl_runs.proofs.workers.enter_rows.Goals as goal
 

@@ -1,7 +1,7 @@
 use Rattle.std.proofs.lemmas.Result.{err_from_is_err_and}
 use Rattle.ucl_io.specs.Output.{outlet}
 use Rattle.ucl_io.specs.Turns.{progress, rules}
-use Rattle.ucl_io.proofs.Answers.{closed_by, closed_cut}
+use Rattle.ucl_io.proofs.Turns.{closed_by, closed_cut}
 use Rattle.ucl_io.proofs.lines.Lines.end.Goals as goal
 
 pub returns-in_err-put-in-Ok-clause-closed : goal.returns-in_err-put-in-Ok-clause-closed

@@ -1,0 +1,43 @@
+//! The calls of a source or a sink, as contracts see them.
+
+ghost use Rattle.std.specs.Prelude.{◌≡◌, List, [], ◌∷◌, ◌++◌};
+ghost use base.Fml.{ftrue};
+
+use std::marker::{Model, PhantomData};
+
+/// A source, a sink and a handler as they were just before each call of the source, in the order of the calls. Contracts alone see it: it takes
+/// no memory, and its functions do nothing when a program runs. A `CallLog<(), (), ()>` counts calls and keeps nothing else of them.
+#[derive(Drop)]
+pub struct CallLog<S, W, M> {
+    of: PhantomData<(S, W, M)>,
+    pub ghost times: { List (S × W × M) },
+}
+
+impl<S, W, M> Model for CallLog<S, W, M> {
+    ghost also_owns = { λ _. ftrue };
+}
+
+impl<S, W, M> CallLog<S, W, M> {
+    /// Returns the log that a proof works out from what is passed.
+    fn logged<T>(by: &T) -> CallLog<S, W, M>
+        ghost times: { List (S × W × M) }
+        ensures { result.times ≡ times }
+    {
+        let _ = by;
+        CallLog { of: PhantomData }
+    }
+
+    /// Creates a log of no call.
+    pub fn new() -> CallLog<S, W, M>
+        ensures { result.times ≡ [] }
+    {
+        CallLog::logged(&())
+    }
+
+    /// Returns the log with one call more, before which all three were as they are now.
+    pub fn and(&self, source: &S, sink: &W, handler: &M) -> CallLog<S, W, M>
+        ensures { result.times ≡ self.now.times ++ (source.now, sink.now, handler.now) ∷ [] }
+    {
+        CallLog::logged(&(self, source, sink, handler))
+    }
+}
