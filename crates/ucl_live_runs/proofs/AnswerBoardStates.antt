@@ -1,25 +1,25 @@
 -- What the lines of a session's answers tell: nothing, or the board state after their line.
-use Rattle.ucl_live_runs.proofs.Common.{NewBoard, again, answer_with, false, is_bad, next_by, stays_new, header_with, All-get_or, All-head, AreWords, Bad}
-use Rattle.ucl_live_runs.proofs.Common.{AwaitingHeader, Bool, Session, Event, FourFields, HasNumbers, IsAttempt, IsGroup, IsBoardState, IsRoster, IsValid, IsWord}
-use Rattle.ucl_live_runs.proofs.Common.{Json, KickOff, List, LiveArgs, MatchRecord, Matches, BoardState, NamedClub, NightEvent, None, Nothing, Open, Option, Other}
-use Rattle.ucl_live_runs.proofs.Common.{Profile, Refusal, Request, Row, Said, Screen, Some, Phase, BoardHeader, Words, [], accepted_value, after_row, and_parts}
-use Rattle.ucl_live_runs.proofs.Common.{answer, answer_at, answer_of, answer_said, ap, arith, asked_by, asked_header, attempt_of, board_after, cases_Bool}
-use Rattle.ucl_live_runs.proofs.Common.{edition_screen_value, event_of, event_or_bad, game_at, inl, inr, is_group_row, json_line, leb-true, letter_in}
-use Rattle.ucl_live_runs.proofs.Common.{board_state_at, board_state_with, nat_le, next, next_board, next_header, number, number_valid, profile_named, refl}
-use Rattle.ucl_live_runs.proofs.Common.{refusal_of, reply_answer, reply_of, reply_value, request_of, screen_after, screen_answer, start_of, subst, sym, header_by}
-use Rattle.ucl_live_runs.proofs.Common.{header_said, true, version_of, unwrap_or, word_at, word_valid, ℕ, ⊤, ◌&&◌, ◌+◌, ◌-◌, ◌<◌, ◌>>=◌, ◌^◌, ◌∷◌, ◌≡◌, ◌≤◌}
+use Rattle.ucl_live_runs.proofs.Common.{All-get_or, All-head, AreWords, AwaitingHeader, Bad, BoardHeader, BoardState, Bool, Event, FourFields, HasNumbers}
+use Rattle.ucl_live_runs.proofs.Common.{IsAttempt, IsBoardState, IsGroup, IsRoster, IsValid, IsWord, Json, KickOff, List, LiveArgs, MatchRecord, Matches, NamedClub}
+use Rattle.ucl_live_runs.proofs.Common.{NewBoard, NightEvent, None, Nothing, Open, Option, Other, Phase, Profile, Refusal, Request, Row, Said, Screen, Session}
+use Rattle.ucl_live_runs.proofs.Common.{Some, Words, [], accepted_value, after_row, again, and_parts, answer, answer_at, answer_of, answer_said, answer_with, ap}
+use Rattle.ucl_live_runs.proofs.Common.{arith, asked_by, asked_header, attempt_of, board_after, board_state_at, board_state_with, cases_Bool, edition_screen_value}
+use Rattle.ucl_live_runs.proofs.Common.{event_of, event_or_bad, false, game_at, header_by, header_said, header_with, inl, inr, is_bad, is_group_row, json_line}
+use Rattle.ucl_live_runs.proofs.Common.{leb-true, letter_in, nat_le, next, next_board, next_by, next_header, number, number_valid, profile_named, refl, refusal_of}
+use Rattle.ucl_live_runs.proofs.Common.{reply_answer, reply_of, reply_value, request_of, screen_after, screen_answer, start_of, stays_new, subst, sym, true}
+use Rattle.ucl_live_runs.proofs.Common.{unwrap_or, version_of, word_at, word_valid, ℕ, ⊤, ◌&&◌, ◌+◌, ◌-◌, ◌<◌, ◌>>=◌, ◌^◌, ◌∷◌, ◌≡◌, ◌≤◌}
 use Rattle.std.proofs.lemmas.Bool.{cond_both}
-use Rattle.ucl_live_runs.proofs.Boards.{ranged, AreAttempts, asked-by, event-numbers}
-use Rattle.ucl_live_runs.proofs.GoodPhases.{IsGood, good-after-line, of-request}
+use Rattle.ucl_live_runs.proofs.Boards.{AreAttempts, asked-by, event-numbers, of-request, ranged}
+use Rattle.ucl_live_runs.proofs.GoodPhases.{IsGood, good-after-line}
 use Rattle.ucl_live_runs.proofs.BegunAgain.{renewed}
 use Rattle.ucl_live_runs.specs.Headers.{edition_by}
 use Rattle.ucl_command.specs.Groups.{may_be_asked}
 use Rattle.ucl_command.proofs.Letters.{asked_letter}
 use Rattle.ucl_live_runs.specs.LiveText.{header_or}
 use Rattle.ucl_live_runs.proofs.GoodBoards.{good-after}
-use Rattle.ucl_live_runs.proofs.AnswerLines.{IsLineThat, IsShown, PrintsAlone, alone-as, alone-line, alone-none, alone-then, bad-line, board-fits, found-fits}
-use Rattle.ucl_live_runs.proofs.AnswerLines.{matches-line, refused-line, value-line, words-line}
-use Rattle.ucl_live_runs.proofs.Matches.{told-lines}
+use Rattle.ucl_live_runs.proofs.AnswerLines.{CarriesAtMost, IsLineThat, IsShown, bad-line, board-fits, found-fits, matches-line, most-as, most-none, most-then}
+use Rattle.ucl_live_runs.proofs.AnswerLines.{refused-line, value-line, words-line}
+use Rattle.ucl_live_runs.proofs.PlainAnswers.{told-lines}
 
 abbrev pub Lines : Type 0
 Lines = List (List ℕ)
@@ -144,10 +144,10 @@ module _ (options : LiveArgs) (header : BoardHeader) (row : ℕ) (clubs : List N
   abbrev At : List ℕ → Option BoardState
   At board = Some (board_state_with header clubs board)
 
-  screen-tells : (board : List ℕ) → AreWords board → PrintsAlone (At board) (screen_answer options.format header row clubs board)
+  screen-tells : (board : List ℕ) → AreWords board → CarriesAtMost (At board) (screen_answer options.format header row clubs board)
   screen-tells board w =
-      rw json (alone-line (edition_screen_value row header board clubs) (At board) (At board)
-      ((told-lines row kick_off 0 (board_state_with header clubs board) (board_state-good header clubs board good is w) fits kick_off-fits (omega arith)).screen) (inr refl))
+      rw json (most-as (At board) (At board) (json_line (edition_screen_value row header board clubs)) (value-line (edition_screen_value row header board clubs) (At board)
+      (told-lines row kick_off 0 (board_state_with header clubs board) (board_state-good header clubs board good is w) fits kick_off-fits (omega arith)).screen) (inr refl))
 
   module _ (board : List ℕ) (w : AreWords board) (event : NightEvent) (attempted : IsAttempt (attempt_of event)) (small : HasNumbers event) where
     abbrev game_of : List ℕ → MatchRecord
@@ -180,27 +180,27 @@ module _ (options : LiveArgs) (header : BoardHeader) (row : ℕ) (clubs : List N
         → IsLineThat (At now) (reply_answer options.format header row clubs event before (reply_of (game_of board) event.call) now)
     accepted-reply before e = rw json (subst (λ (o : Option Refusal). IsLineThat (At now) (reply-with o)) (sym e) accepted-line)
 
-    reply-by : (o : Option Refusal) → refusal_of (game_of board) event.call.expected event.call.kind ≡ o → PrintsAlone (At now) (reply-with o)
-    reply-by None e = alone-as (At now) (At now) (reply-with None) accepted-line (inr refl)
+    reply-by : (o : Option Refusal) → refusal_of (game_of board) event.call.expected event.call.kind ≡ o → CarriesAtMost (At now) (reply-with o)
+    reply-by None e = most-as (At now) (At now) (reply-with None) accepted-line (inr refl)
     reply-by (Some refusal) e =
         refused-line (At now) row event refusal (game_of now) fits small
         (found-fits (word_at board event.call.game) event.call.expected event.call.kind refusal (is-word board w) e) (is-valid now good-now)
 
-    reply-tells : (before : ℕ) → PrintsAlone (At now) (reply_answer options.format header row clubs event before (reply_of (game_of board) event.call) now)
+    reply-tells : (before : ℕ) → CarriesAtMost (At now) (reply_answer options.format header row clubs event before (reply_of (game_of board) event.call) now)
     reply-tells before = rw json (reply-by (refusal_of (game_of board) event.call.expected event.call.kind) refl)
 
-    after-tells : (o : Option Refusal) → PrintsAlone (At now) (screen_after options header row clubs (answer (game_of board).number o) now)
-    after-tells None = cond_both options.screens (screen_answer options.format header row clubs now) [] (PrintsAlone (At now))
-        (λ _. screen-tells now good-now) (λ _. alone-none (At now))
-    after-tells (Some refusal) = alone-none (At now)
+    after-tells : (o : Option Refusal) → CarriesAtMost (At now) (screen_after options header row clubs (answer (game_of board).number o) now)
+    after-tells None = cond_both options.screens (screen_answer options.format header row clubs now) [] (CarriesAtMost (At now))
+        (λ _. screen-tells now good-now) (λ _. most-none (At now))
+    after-tells (Some refusal) = most-none (At now)
 
   request-tells : (board : List ℕ) (request : Request) (shown : List ℕ) → AreWords board → AreAttempts request → Fits request → IsShown shown
-      → PrintsAlone (At (next_board board request)) (answer_of options header row clubs board request shown)
+      → CarriesAtMost (At (next_board board request)) (answer_of options header row clubs board request shown)
   request-tells board (Event event) shown w all small short =
       let m = game_at board event.call.game in
       let after = board_after board (attempt_of event) in
       let attempted = All-head IsAttempt (attempt_of event) [] all in
-      alone-then (At after) (reply_answer options.format header row clubs event (version_of board) (reply_of m event.call) after)
+      most-then (At after) (reply_answer options.format header row clubs event (version_of board) (reply_of m event.call) after)
       (screen_after options header row clubs (reply_of m event.call) after)
       (reply-tells board w event attempted small (version_of board)) (after-tells board w event attempted small (refusal_of m event.call.expected event.call.kind))
   request-tells board (Bad field) shown w all small short = rw json (bad-line (At board) row field shown fits short)
@@ -220,7 +220,7 @@ never false = refl
 -- a row that asks for nothing that there is tells nothing, and any other the board state after it
 said-tells : (options : LiveArgs) (header : BoardHeader) (row : ℕ) (is_new : Bool) (clubs : List NamedClub) (board : List ℕ) (request : Request) (shown : List ℕ) → options.format ≡ Json
     → row < 2 ^ 64 → IsHeader header → IsRoster clubs → AreWords board → AreAttempts request → Fits request → IsShown shown
-    → PrintsAlone (told_now (is_new && is_bad request) header (Open clubs (next_board board request))) (answer_of options header row clubs board request shown)
+    → CarriesAtMost (told_now (is_new && is_bad request) header (Open clubs (next_board board request))) (answer_of options header row clubs board request shown)
 said-tells options header row is_new clubs board (Bad field) shown json fits t g w all small short =
     rw json (bad-line (told_now (is_new && true) header (Open clubs board)) row field shown fits short)
 said-tells options header row is_new clubs board (Event event) shown json fits t g w all small short =
@@ -233,23 +233,23 @@ said-tells options header row is_new clubs board Matches shown json fits t g w a
     rw (never is_new) (request-tells options header row clubs json fits t g board Matches shown w all small short)
 
 phase-tells : (e : Session) (r : Said) (shown : List ℕ) → e.options.format ≡ Json → e.row < 2 ^ 64 → IsSound e → IsShown shown → (s : Phase) → e.phase ≡ s
-    → PrintsAlone (told_now (stays_new e.is_new s r) (next_header e.header s r) (after_row e.options e.row s r)) (answer_at e.options e.header e.row s (request_of r) shown)
+    → CarriesAtMost (told_now (stays_new e.is_new s r) (next_header e.header s r) (after_row e.options e.row s r)) (answer_at e.options e.header e.row s (request_of r) shown)
 phase-tells e r shown json fits g short (Open clubs board) is =
     let good : IsGood (Open clubs board) = subst IsGood is g.phase in
     said-tells e.options e.header e.row e.is_new clubs board (request_of r) shown json fits g.header good.0 good.1 (of-request r) (fits-request r) short
-phase-tells e r shown json fits g short s is = alone-none (told_now (stays_new e.is_new s r) (next_header e.header s r) (after_row e.options e.row s r))
+phase-tells e r shown json fits g short s is = most-none (told_now (stays_new e.is_new s r) (next_header e.header s r) (after_row e.options e.row s r))
 
 -- a line tells nothing, or the board state after it, and then the edition is new no more
 abbrev pub told_after : Session → Option BoardState
 told_after e = told_now e.is_new e.header e.phase
 
 line-by : (e : Session) (o : Option NewBoard) (r : Said) (shown : List ℕ) → e.options.format ≡ Json → e.row < 2 ^ 64 → IsSound e → IsShown shown
-    → PrintsAlone (told_after (next_by e o r)) (answer_with e o r shown)
-line-by e (Some new) r shown json fits g short = alone-none None
-line-by e None Nothing shown json fits g short = alone-none (told_after (next_by e None Nothing))
+    → CarriesAtMost (told_after (next_by e o r)) (answer_with e o r shown)
+line-by e (Some new) r shown json fits g short = most-none None
+line-by e None Nothing shown json fits g short = most-none (told_after (next_by e None Nothing))
 line-by e None Other shown json fits g short = phase-tells e Other shown json fits g short e.phase refl
 line-by e None (Row f) shown json fits g short = phase-tells e (Row f) shown json fits g short e.phase refl
 
 pub line-tells : (e : Session) (r : Said) (shown : List ℕ) → e.options.format ≡ Json → e.row < 2 ^ 64 → IsSound e → IsShown shown
-    → PrintsAlone (told_after (next e r)) (answer_said e r shown)
+    → CarriesAtMost (told_after (next e r)) (answer_said e r shown)
 line-tells e r shown json fits g short = line-by e (again e r) r shown json fits g short

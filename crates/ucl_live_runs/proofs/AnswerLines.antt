@@ -6,8 +6,8 @@ use Rattle.ucl_live_runs.proofs.Common.{arith, bad_row_value, begun_append, begu
 use Rattle.ucl_live_runs.proofs.Common.{ended_line, ended_lines, ended_none, false, field_name, found_of, if◌then◌else◌, inl, inr, is_printed, json_line, length}
 use Rattle.ucl_live_runs.proofs.Common.{list_all, parse_board_line, number_valid, one_line, record_at, refl, refusal_code, refusal_name, refused_by, shown_text}
 use Rattle.ucl_live_runs.proofs.Common.{subst, sym, take, take_all, true, word_valid, words_value, ℕ, ◌++◌, ◌/◌, ◌<◌, ◌^◌, ◌∙◌, ◌∷◌, ◌≡◌, ◌≤◌, ◌⊎◌}
-use Rattle.std.specs.Prelude.{◌≢◌}
-use Rattle.std.proofs.lemmas.List.{append_cancel_right, length-take, length-take-le}
+use Rattle.std.specs.Prelude.{map, ◌≢◌}
+use Rattle.std.proofs.lemmas.List.{append_cancel_right, length-take, length-take-le, map-append}
 use Rattle.serde_json.proofs.OnLiterals.{serde_json_on_literals}
 use Rattle.ucl_word.specs.declared.refusal.Refusal.TheVariants.{Stale, Finished, NotFinished, NotStarted, AlreadyStarted, NumberFull, NoGoal, NoCaution}
 use Rattle.ucl_word.specs.declared.refusal.Refusal.TheVariants.{LimitReached}
@@ -19,36 +19,41 @@ use Rattle.ucl_rows.specs.declared.bad_row.BadField.{BadField}
 use Rattle.ucl_rows.specs.declared.bad_row.BadField.TheVariants.{Count}
 use Rattle.ucl_json.specs.BoardLines.{parse_board_state}
 use Rattle.ucl_json.proofs.Members.{too-long}
-use Rattle.ucl_live_runs.proofs.Matches.{match-plain, matches-plain, matches-short}
-use Rattle.ucl_live_runs.proofs.PlainAnswers.{kind-text, words-plain}
-use Rattle.ucl_live_runs.proofs.ReadBack.{IsPlain, IsText, size, told-by-line, told-if-short}
+use Rattle.ucl_live_runs.proofs.PlainAnswers.{digits-20, kind-text, match-plain, matches-plain, words-plain}
+use Rattle.ucl_live_runs.proofs.ReadBack.{IsShortPlain, IsText, parsed-line}
 
--- ---- a text of whole lines, of which each tells nothing or this
+-- ---- a text of whole lines, of which each carries nothing or this
 
-abbrev pub PrintsAtMost : Option BoardState → Option BoardState → Type 0
-PrintsAtMost o told = (told ≡ None) ⊎ (told ≡ o)
+-- what the lines of a text carry
+abbrev pub carried_in : List ℕ → List (Option BoardState)
+carried_in text = map parse_board_line (ended_lines 4097 [] text)
 
-abbrev pub lines_in : List ℕ → List (List ℕ)
-lines_in text = ended_lines 4097 [] text
+abbrev pub IsAtMost : Option BoardState → Option BoardState → Type 0
+IsAtMost most o = (o ≡ None) ⊎ (o ≡ most)
 
-pub record PrintsAlone (o : Option BoardState) (text : List ℕ) : Type 0 where
+pub record CarriesAtMost (most : Option BoardState) (text : List ℕ) : Type 0 where
   pub begun : begun_line 4097 [] text ≡ []
-  pub each : All (λ line. PrintsAtMost o (parse_board_line line)) (lines_in text)
+  pub each : All (IsAtMost most) (carried_in text)
 
-pub lines-then : (a b : List ℕ) → begun_line 4097 [] a ≡ [] → lines_in (a ++ b) ≡ lines_in a ++ lines_in b
-lines-then a b h = ended_append 4097 [] a b ∙ ap (λ (l : List ℕ). lines_in a ++ ended_lines 4097 l b) h
+pub carried-then : (a b : List ℕ) → begun_line 4097 [] a ≡ [] → carried_in (a ++ b) ≡ carried_in a ++ carried_in b
+carried-then a b h =
+    ap (map parse_board_line) (ended_append 4097 [] a b ∙ ap (λ (l : List ℕ). ended_lines 4097 [] a ++ ended_lines 4097 l b) h)
+    ∙ map-append parse_board_line (ended_lines 4097 [] a) (ended_lines 4097 [] b)
 
 pub begun-then : (a b : List ℕ) → begun_line 4097 [] a ≡ [] → begun_line 4097 [] b ≡ [] → begun_line 4097 [] (a ++ b) ≡ []
 begun-then a b h k = begun_append 4097 [] a b ∙ ap (λ (l : List ℕ). begun_line 4097 l b) h ∙ k
 
-pub alone-then : (o : Option BoardState) (a b : List ℕ) → PrintsAlone o a → PrintsAlone o b → PrintsAlone o (a ++ b)
-alone-then o a b p q = record {
+pub most-then : (most : Option BoardState) (a b : List ℕ) → CarriesAtMost most a → CarriesAtMost most b → CarriesAtMost most (a ++ b)
+most-then most a b p q = record {
   begun = begun-then a b p.begun q.begun;
-  each = rw (lines-then a b p.begun) (All-append (λ line. PrintsAtMost o (parse_board_line line)) (lines_in a) (lines_in b) p.each q.each);
+  each = rw (carried-then a b p.begun) (All-append (IsAtMost most) (carried_in a) (carried_in b) p.each q.each);
 }
 
-pub alone-none : (o : Option BoardState) → PrintsAlone o []
-alone-none o = record { begun = begun_none 4097 []; each = rw (ended_none 4097 []) (All-nil (λ line. PrintsAtMost o (parse_board_line line))) }
+pub carried-none : carried_in [] ≡ []
+carried-none = ap (map parse_board_line) (ended_none 4097 [])
+
+pub most-none : (most : Option BoardState) → CarriesAtMost most []
+most-none most = record { begun = begun_none 4097 []; each = rw carried-none (All-nil (IsAtMost most)) }
 
 -- what is kept of a line that is too long tells nothing, and neither does the line
 short-told : (body : List ℕ) → parse_board_line (take 4097 body) ≡ parse_board_line body
@@ -68,70 +73,40 @@ text-clean v =
 
 -- the line of a value
 pub record IsLineThat (o : Option BoardState) (text : List ℕ) : Type 0 where
-  pub line : List ℕ
   pub begun : begun_line 4097 [] text ≡ []
-  pub lines_are : lines_in text ≡ line ∷ []
-  pub told : parse_board_line line ≡ o
+  pub carried : carried_in text ≡ o ∷ []
 
 pub value-line : (v : Data) (o : Option BoardState) → parse_board_line (compact_text v) ≡ o → IsLineThat o (json_line v)
 value-line v o h = record {
-  line = take 4097 (compact_text v);
   begun = begun_ended 4097 [] (compact_text v);
-  lines_are = ended_line 4097 [] (compact_text v) (text-clean v) (omega arith);
-  told = short-told (compact_text v) ∙ h;
+  carried = ap (map parse_board_line) (ended_line 4097 [] (compact_text v) (text-clean v) (omega arith)) ∙ ap (λ (p : Option BoardState). p ∷ []) (short-told (compact_text v) ∙ h);
 }
 
-pub alone-as : (o told : Option BoardState) (text : List ℕ) → IsLineThat told text → PrintsAtMost o told → PrintsAlone o text
-alone-as o told text l most = record {
-  begun = l.begun;
-  each = rw l.lines_are (All-cons (λ line. PrintsAtMost o (parse_board_line line)) l.line [] (subst (PrintsAtMost o) (sym l.told) most)
-      (All-nil (λ line. PrintsAtMost o (parse_board_line line))));
-}
+pub most-as : (most o : Option BoardState) (text : List ℕ) → IsLineThat o text → IsAtMost most o → CarriesAtMost most text
+most-as most o text l h = record { begun = l.begun; each = rw l.carried (All-cons (IsAtMost most) o [] h (All-nil (IsAtMost most))) }
 
-pub alone-line : (v : Data) (o told : Option BoardState) → parse_board_line (compact_text v) ≡ told → PrintsAtMost o told → PrintsAlone o (json_line v)
-alone-line v o told h most = alone-as o told (json_line v) (value-line v told h) most
+-- ---- values that carry nothing
 
--- ---- values that tell nothing
+pub silent-line : (v : Data) (most : Option BoardState) → IsShortPlain v → parse_board_state v ≡ None → CarriesAtMost most (json_line v)
+silent-line v most short none = most-as most None (json_line v) (value-line v None (parsed-line v short ∙ none)) (inl refl)
 
-silent-line : (v : Data) (o : Option BoardState) → IsPlain 127 v → size v ≤ 4096 → parse_board_state v ≡ None → PrintsAlone o (json_line v)
-silent-line v o plain short none = alone-line v o None (told-by-line v plain short ∙ none) (inl refl)
-
-no-code : (row : ℕ) (event : NightEvent) (code : ℕ) (name : List ℕ) → parse_board_state (coded_value row event code name) ≡ None
+refused-by-line : (o : Option BoardState) (row : ℕ) (event : NightEvent) (code : ℕ) (name : List ℕ) (found : Option ℕ) (m : MatchRecord)
+    → row < 2 ^ 64 → HasNumbers event → code < 2 ^ 64 → IsText name → length name ≤ 20 → IfSome found (λ n. n < 2 ^ 64) → IsValid m
+    → CarriesAtMost o (json_line (refused_by row event code name found m))
 unfolding parse_board_state serde_json_on_literals
-no-code row event code name = refl
-
-no-number : (row : ℕ) (event : NightEvent) (code : ℕ) (name : List ℕ) (found : ℕ) (m : MatchRecord) → parse_board_state (numbered_value row event code name found m) ≡ None
-unfolding parse_board_state serde_json_on_literals
-no-number row event code name found m = refl
-
-no-event : (row : ℕ) (field shown : List ℕ) → parse_board_state (bad_row_value row field shown) ≡ None
-unfolding parse_board_state serde_json_on_literals
-no-event row field shown = refl
-
-no-words : (row : ℕ) (board : List ℕ) → parse_board_state (words_value row board) ≡ None
-unfolding parse_board_state serde_json_on_literals
-no-words row board = refl
-
-coded-line : (o : Option BoardState) (row : ℕ) (event : NightEvent) (code : ℕ) (name : List ℕ) → row < 2 ^ 64 → HasNumbers event → code < 2 ^ 64 → IsText name → length name ≤ 20
-    → PrintsAlone o (json_line (coded_value row event code name))
-unfolding serde_json_on_literals
-coded-line o row event code name r fits c text short =
+refused-by-line o row event code name None m r fits c text short f v =
     let kind = kind-text event.call.kind in
-    let named = kind.1 in
-    silent-line (coded_value row event code name) o
-    ((refl, refl), (c, (kind.0, (fits.expected, (fits.game, (text, (refl, (fits.reporter, (r, tt))))))))) (omega arith) (no-code row event code name)
-
-numbered-line : (o : Option BoardState) (row : ℕ) (event : NightEvent) (code : ℕ) (name : List ℕ) (found : ℕ) (m : MatchRecord)
-    → row < 2 ^ 64 → HasNumbers event → code < 2 ^ 64 → IsText name → length name ≤ 20 → found < 2 ^ 64 → IsValid m
-    → PrintsAlone o (json_line (numbered_value row event code name found m))
-unfolding serde_json_on_literals
-numbered-line o row event code name found m r fits c text short f v =
+    silent-line (coded_value row event code name) o (record {
+      plain = ((refl, refl), (c, (kind.0, (fits.expected, (fits.game, (text, (refl, (fits.reporter, (r, tt)))))))));
+      size = omega (arith, digits-20, kind.1, fits.expected, fits.game, fits.reporter);
+    }) refl
+refused-by-line o row event code name (Some n) m r fits c text short f v =
     let kind = kind-text event.call.kind in
-    let named = kind.1 in
     let stands = match-plain 124 event.call.game m fits.game v in
-    let few = stands.1 in
-    silent-line (numbered_value row event code name found m) o
-    ((refl, refl), (c, (kind.0, (fits.expected, (fits.game, (text, (f, (refl, (fits.reporter, (r, (stands.0, tt))))))))))) (omega arith) (no-number row event code name found m)
+    silent-line (numbered_value row event code name n m) o (record {
+      plain = ((refl, refl), (c, (kind.0, (fits.expected, (fits.game, (text, (f, (refl, (fits.reporter, (r, (stands.0, tt)))))))))));
+      size = omega (arith, digits-20, kind.1, fits.expected, fits.game, fits.reporter, stands.1);
+    }) refl
 
 -- a row as an answer shows it
 pub record IsShown (shown : List ℕ) : Type 0 where
@@ -164,44 +139,31 @@ field-text : (field : BadField) → IsText (field_name field) × (length (field_
 field-text Count = (refl, omega arith)
 field-text _ = (refl, omega arith)
 
-pub bad-line : (o : Option BoardState) (row : ℕ) (field : BadField) (shown : List ℕ) → row < 2 ^ 64 → IsShown shown → PrintsAlone o (json_line (bad_row_value row (field_name field) shown))
-unfolding serde_json_on_literals
+pub bad-line : (o : Option BoardState) (row : ℕ) (field : BadField) (shown : List ℕ) → row < 2 ^ 64 → IsShown shown → CarriesAtMost o (json_line (bad_row_value row (field_name field) shown))
+unfolding parse_board_state serde_json_on_literals
 bad-line o row field shown r is =
     let name = field-text field in
     let code : 20 < 2 ^ 64 = omega arith in
-    let named = name.1 in
-    let short = is.short in
     silent-line (bad_row_value row (field_name field) shown) o
-    ((refl, refl), (code, (name.0, (refl, (refl, (r, (is.text, tt))))))) (omega arith) (no-event row (field_name field) shown)
+    (record { plain = ((refl, refl), (code, (name.0, (refl, (refl, (r, (is.text, tt))))))); size = omega (arith, digits-20, name.1, is.short) }) refl
 
-pub words-line : (o : Option BoardState) (row : ℕ) (board : List ℕ) → row < 2 ^ 64 → length board ≡ 12 → All (λ word. word < 2 ^ 64) board → PrintsAlone o (json_line (words_value row board))
-unfolding serde_json_on_literals
+pub words-line : (o : Option BoardState) (row : ℕ) (board : List ℕ) → row < 2 ^ 64 → length board ≡ 12 → All (λ word. word < 2 ^ 64) board → CarriesAtMost o (json_line (words_value row board))
+unfolding parse_board_state serde_json_on_literals
 words-line o row board r twelve bits =
     let w = words-plain board bits in
-    silent-line (words_value row board) o ((refl, refl), (refl, (r, (w.0, tt)))) (let k = w.1 in omega arith) (no-words row board)
-
-no-matches : (row : ℕ) (board : List ℕ) (clubs : List NamedClub) → parse_board_state (matches_value row board clubs) ≡ None
-unfolding matches_value parse_board_state serde_json_on_literals
-no-matches row board clubs = refl
+    silent-line (words_value row board) o (record { plain = ((refl, refl), (refl, (r, (w.0, tt)))); size = omega (arith, digits-20, w.1) }) refl
 
 pub matches-line : (o : Option BoardState) (row : ℕ) (board : List ℕ) (clubs : List NamedClub) → row < 2 ^ 64 → IsRoster clubs → AreWords board →
-    PrintsAlone o (json_line (matches_value row board clubs))
-matches-line o row board clubs r is w =
-    alone-line (matches_value row board clubs) o None
-    (told-if-short (matches_value row board clubs) (matches-plain board w row clubs r is) (matches-short board w row clubs r is) ∙ no-matches row board clubs) (inl refl)
+    CarriesAtMost o (json_line (matches_value row board clubs))
+unfolding matches_value parse_board_state serde_json_on_literals
+matches-line o row board clubs r is w = silent-line (matches_value row board clubs) o (matches-plain board w row clubs r is) refl
 
 name-text : (refusal : Refusal) → IsText (refusal_name refusal) × (length (refusal_name refusal) ≤ 20) × (refusal_code refusal < 2 ^ 64)
 name-text (Stale found) = (refl, omega arith, omega arith)
 name-text _ = (refl, omega arith, omega arith)
 
-refused-by-line : (o : Option BoardState) (row : ℕ) (event : NightEvent) (code : ℕ) (name : List ℕ) (found : Option ℕ) (m : MatchRecord)
-    → row < 2 ^ 64 → HasNumbers event → code < 2 ^ 64 → IsText name → length name ≤ 20 → IfSome found (λ n. n < 2 ^ 64) → IsValid m
-    → PrintsAlone o (json_line (refused_by row event code name found m))
-refused-by-line o row event code name None m r fits c text short f v = coded-line o row event code name r fits c text short
-refused-by-line o row event code name (Some n) m r fits c text short f v = numbered-line o row event code name n m r fits c text short f v
-
 pub refused-line : (o : Option BoardState) (row : ℕ) (event : NightEvent) (refusal : Refusal) (m : MatchRecord)
-    → row < 2 ^ 64 → HasNumbers event → IfSome (found_of refusal) (λ n. n < 2 ^ 64) → IsValid m → PrintsAlone o (json_line (refused_value row event refusal m))
+    → row < 2 ^ 64 → HasNumbers event → IfSome (found_of refusal) (λ n. n < 2 ^ 64) → IsValid m → CarriesAtMost o (json_line (refused_value row event refusal m))
 refused-line o row event refusal m r fits f v =
     let p = name-text refusal in refused-by-line o row event (refusal_code refusal) (refusal_name refusal) (found_of refusal) m r fits p.2 p.0 p.1 f v
 

@@ -1,7 +1,8 @@
 -- A row that begins the board again: what its header and its clubs are.
-use Rattle.ucl_live_runs.proofs.Common.{false, AwayInTie, Session, FourFields, IsClub, IsRoster, List, NamedClub, NewBoard, None, Open, Option, Profile, Row, Said}
-use Rattle.ucl_live_runs.proofs.Common.{Some, Phase, BoardHeader, Uefa, again, again_at, and_parts, ap, eqb-true, is_same_order, nat_lt, nat_tests, refl, set, subst}
-use Rattle.ucl_live_runs.proofs.Common.{sym, header_by, true, ℕ, ◌-◌, ◌<◌, ◌==◌, ◌∙◌, ◌≡◌, ◌⊎◌, arith, inl, inr, LiveArgs, is_bad, next_board, request_of, ◌+◌}
+use Rattle.ucl_live_runs.proofs.Common.{BoardHeader, FourFields, IsClub, IsRoster, List, LiveArgs, NamedClub, NewBoard, None, Open, Option, Phase, Row, Said}
+use Rattle.ucl_live_runs.proofs.Common.{Session, Some, again, again_at, and_parts, ap, arith, false, header_by, inl, inr, is_asked, is_bad, nat_lt, nat_tests}
+use Rattle.ucl_live_runs.proofs.Common.{next_board, refl, request_of, set, subst, sym, true, ℕ, ◌+◌, ◌-◌, ◌<◌, ◌∙◌, ◌≡◌, ◌⊎◌}
+use Rattle.ucl_live_runs.proofs.FollowShown.{IsOfSame, asked-same}
 use Rattle.std.proofs.lemmas.List.{length-set}
 use Rattle.std.proofs.lemmas.List.Elements.{All-set}
 use Rattle.std.proofs.lemmas.Option.{cond_some}
@@ -9,7 +10,6 @@ use Rattle.ucl_order.specs.Roster.{is_club}
 use Rattle.ucl_screen.specs.Script.{club_of}
 use Rattle.ucl_rows.specs.Rows.{fields_seen}
 use Rattle.ucl_rows.specs.declared.row.RowFields.{RowFields}
-use Rattle.ucl_rows.specs.declared.row.RowFields.TheVariants as seen
 use Rattle.ucl_live_runs.specs.declared.header.HeaderState.{HeaderState}
 use Rattle.ucl_live_runs.specs.declared.phase.OpenBoard.{OpenBoard}
 use Rattle.ucl_live_runs.specs.SessionRuns.{NeedsMemory, RequestNeedsMemory, session_at}
@@ -17,29 +17,18 @@ use Rattle.ucl_live_runs.specs.LiveText.{answer_of, answer_said, next}
 use Rattle.ucl_live_runs.specs.Seen.{open_board_seen}
 use Rattle.std.specs.Prelude.{Bool, if◌then◌else◌, ◌&&◌}
 use Rattle.ucl_live_runs.specs.NewBoards.{BeginsAgain, again_on, by_edition, clubs_by_slot, clubs_said, new_board, of_clubs, slot_in, with_club_in}
-use Rattle.ucl_live_runs.specs.Headers.{edition_said, is_later_edition, is_group_row, later_header}
+use Rattle.ucl_live_runs.specs.Headers.{edition_said, is_group_row, is_later_edition, later_header}
+use Rattle.ucl_rows.specs.declared.row.RowFields.TheVariants as seen
 
 -- the second header is of a later edition of the first's group and order
 pub record IsLaterHeader (header later : BoardHeader) : Type 0 where
-  pub group : later.group ≡ header.group
-  pub profile : later.profile ≡ header.profile
+  pub same : IsOfSame header later
   pub edition : header.edition < later.edition
-
-same-order : (a b : Profile) → is_same_order a b ≡ true → b ≡ a
-same-order Uefa Uefa h = refl
-same-order AwayInTie AwayInTie h = refl
-same-order Uefa AwayInTie h = cc
-same-order AwayInTie Uefa h = cc
 
 is-later : (header later : BoardHeader) → is_later_edition header later ≡ true → IsLaterHeader header later
 is-later header later h =
-    let p = and_parts ((header.group == later.group) && is_same_order header.profile later.profile) (nat_lt header.edition later.edition) h in
-    let q = and_parts (header.group == later.group) (is_same_order header.profile later.profile) p.0 in
-    let less = p.1 in record {
-      group = sym (eqb-true header.group later.group q.0);
-      profile = same-order header.profile later.profile q.1;
-      edition = grind (arith, nat_tests);
-    }
+    let p = and_parts (is_asked (Some header.group) (Some header.profile) later) (nat_lt header.edition later.edition) h in
+    let less = p.1 in record { same = asked-same header later p.0; edition = grind (arith, nat_tests) }
 
 by-header : (header : BoardHeader) (o : Option BoardHeader) (later : BoardHeader) → later_header header o ≡ Some later → IsLaterHeader header later × (o ≡ Some later)
 by-header header (Some other) later h =

@@ -1,11 +1,11 @@
 -- The board of a session as that of a legal history.
-use Rattle.ucl_live_runs.proofs.Common.{phase_with, header_with, Accepted, All, All-append, All-head, All-tail, Attempt, Bad, Entry, Session, Event, EventCall}
-use Rattle.ucl_live_runs.proofs.Common.{Format, FourFields, IsAttempt, IsLegal, Json, Kind, List, LiveArgs, Matches, NamedClub, NightEvent, None, Nothing, Open}
-use Rattle.ucl_live_runs.proofs.Common.{Option, Other, Refusal, Request, Result, Row, Said, Screen, Some, Phase, Text, NewBoard, BoardHeader, Words, []}
-use Rattle.ucl_live_runs.proofs.Common.{after_attempt, answer_of, ap, append-nil, ap₂, arith, attempt_board, attempt_of, attempts_of, attempts_on, board_after}
-use Rattle.ucl_live_runs.proofs.Common.{board_of, bytes_eq, event_of, event_or_bad, fold, game_at, if◌then◌else◌, in_range, kind_named, length, line_of_reply}
-use Rattle.ucl_live_runs.proofs.Common.{nat_le, nat_tests, next, next_board, next_phase, next_header, number, refl, reply_answer, reply_of, request_of, said_on}
-use Rattle.ucl_live_runs.proofs.Common.{again, screen_after, sequential_reply, shown_text, sym, ℕ, ◌&&◌, ◌++◌, ◌+◌, ◌==◌, ◌>>=◌, ◌∙◌, ◌∷◌, ◌≡◌, ◌≤◌, answer_with}
+use Rattle.ucl_live_runs.proofs.Common.{Accepted, All, All-append, All-head, All-tail, Attempt, Bad, BoardHeader, Entry, Event, EventCall, Format, FourFields}
+use Rattle.ucl_live_runs.proofs.Common.{IsAttempt, IsLegal, Json, Kind, List, LiveArgs, Matches, NamedClub, NewBoard, NightEvent, None, Nothing, Open, Option}
+use Rattle.ucl_live_runs.proofs.Common.{Other, Phase, Refusal, Request, Result, Row, Said, Screen, Session, Some, Text, Words, [], after_attempt, again, answer_of}
+use Rattle.ucl_live_runs.proofs.Common.{answer_with, ap, append-nil, ap₂, arith, attempt_board, attempt_of, attempts_of, board_after, board_of, bytes_eq, event_of}
+use Rattle.ucl_live_runs.proofs.Common.{event_or_bad, fold, game_at, header_with, if◌then◌else◌, in_range, kind_named, length, line_of_reply, nat_le, nat_tests}
+use Rattle.ucl_live_runs.proofs.Common.{next, next_board, next_header, next_phase, number, phase_with, refl, reply_answer, reply_of, request_of, said_on}
+use Rattle.ucl_live_runs.proofs.Common.{screen_after, sequential_reply, shown_text, sym, ℕ, ◌&&◌, ◌++◌, ◌+◌, ◌==◌, ◌>>=◌, ◌∙◌, ◌∷◌, ◌≡◌, ◌≤◌}
 use Rattle.std.proofs.lemmas.Option.{cond_some}
 use Rattle.std.proofs.lemmas.Bool.{cond_both}
 use Rattle.std.specs.Prelude.{codes}
@@ -16,7 +16,7 @@ use Rattle.ucl_rows.specs.BadRows.{bad_field}
 use Rattle.ucl_live_runs.specs.Requests.{asked_by, shown_by}
 use Rattle.ucl_live_runs.specs.LiveText.{after_lines, answers}
 use Rattle.ucl_live_runs.specs.ByHistory.{answer_by_history, answers_by_history, attempts_in, line_by_history, reply_by_history}
-use Rattle.ucl_live_runs.specs.LiveTheorems.{BoardsTakeEvents, SessionsAreSequential, RefusedSessionsAreSilent, RepliesAreThoseOfFeed, StayOnTheBoard}
+use Rattle.ucl_live_runs.specs.LiveTheorems.{BoardsTakeEvents, RefusedSessionsAreSilent, RepliesAreThoseOfFeed, SessionsAreSequential, StayOnTheBoard}
 use Rattle.ucl_live_runs.proofs.Silence.{refused-shut, silent}
 
 -- an event is of a reporter and a match that there are
@@ -95,14 +95,14 @@ module _ (P : Request → Type 0) where
 pub asked : (f : FourFields) → AreAttempts (asked_by f)
 asked f = asked-by AreAttempts f none none none none (by-event f (event_of f) (λ e h. (event-numbers f e h).0))
 
-pub said-attempts : (r : Said) → All IsAttempt (attempts_on r)
-said-attempts (Row f) = asked f
-said-attempts _ = none
+pub of-request : (r : Said) → AreAttempts (request_of r)
+of-request (Row f) = asked f
+of-request _ = none
 
 all-attempts : (row : ℕ) (lines : List (List ℕ)) → All IsAttempt (attempts_in row lines)
 unfolding attempts_in
 all-attempts row [] = none
-all-attempts row (line ∷ lines) = All-append IsAttempt (attempts_on (said_on row line)) (attempts_in (row + 1) lines) (said-attempts (said_on row line)) (all-attempts (row + 1) lines)
+all-attempts row (line ∷ lines) = All-append IsAttempt (attempts_of (request_of (said_on row line))) (attempts_in (row + 1) lines) (of-request (said_on row line)) (all-attempts (row + 1) lines)
 
 -- the board
 
@@ -110,22 +110,14 @@ fold-request : (board : List ℕ) (r : Request) (more : List Attempt) → fold b
 fold-request board (Event e) more = refl
 fold-request _ _ _ = refl
 
-abbrev pub board_on : List ℕ → Said → List ℕ
-board_on board Nothing = board
-board_on board Other = board
-board_on board (Row f) = next_board board (request_of (Row f))
-
-fold-said : (board : List ℕ) (r : Said) (more : List Attempt) → fold board_after board (attempts_on r ++ more) ≡ fold board_after (board_on board r) more
-fold-said board (Row f) more = fold-request board (request_of (Row f)) more
-fold-said _ _ _ = refl
-
-next-open : (options : LiveArgs) (row : ℕ) (clubs : List NamedClub) (board : List ℕ) (r : Said) → next_phase options row (Open clubs board) r ≡ Open clubs (board_on board r)
+next-open : (options : LiveArgs) (row : ℕ) (clubs : List NamedClub) (board : List ℕ) (r : Said) → next_phase options row (Open clubs board) r ≡ Open clubs (next_board board (request_of r))
 next-open options row clubs board Nothing = refl
-next-open _ _ _ _ _ = refl
+next-open options row clubs board Other = refl
+next-open options row clubs board (Row f) = refl
 
 -- the phase after a line that does not begin the board again
 pub phase-stays : (e : Session) (r : Said) (clubs : List NamedClub) (board : List ℕ) → e.phase ≡ Open clubs board → again e r ≡ None
-    → (next e r).phase ≡ Open clubs (board_on board r)
+    → (next e r).phase ≡ Open clubs (next_board board (request_of r))
 phase-stays e r clubs board h none =
     ap (λ (o : Option NewBoard). phase_with o (next_phase e.options e.row e.phase r)) none ∙ ap (λ (s : Phase). next_phase e.options e.row s r) h
     ∙ next-open e.options e.row clubs board r
@@ -135,8 +127,8 @@ unfolding after_lines attempts_in StayOnTheBoard
 boards e [] clubs board h stay = h
 boards e (line ∷ lines) clubs board h stay =
     let r = said_on e.row line in
-    boards (next e r) lines clubs (board_on board r) (phase-stays e r clubs board h stay.0) stay.1
-    ∙ ap (λ (b : List ℕ). Open clubs b) (sym (fold-said board r (attempts_in (e.row + 1) lines)))
+    boards (next e r) lines clubs (next_board board (request_of r)) (phase-stays e r clubs board h stay.0) stay.1
+    ∙ ap (λ (b : List ℕ). Open clubs b) (sym (fold-request board (request_of r) (attempts_in (e.row + 1) lines)))
 
 -- ---- the history
 
@@ -197,17 +189,12 @@ said-answer e clubs history Nothing shown legal h = refl
 said-answer e clubs history Other shown legal h = rw h refl
 said-answer e clubs history (Row f) shown legal h = rw h (request-answer e.options e.header e.row clubs history (request_of (Row f)) shown legal (asked f))
 
--- the board that a line leaves
-said-board : (history : List Entry) (r : Said) → IsLegal history → board_on (board_of history) r ≡ board_of (fold after_attempt history (attempts_on r))
-said-board history r legal = sym (fold-said (board_of history) r []) ∙ whole history r legal
-  where
-    whole : (h : List Entry) (r : Said) → IsLegal h → fold board_after (board_of h) (attempts_on r ++ []) ≡ board_of (fold after_attempt h (attempts_on r))
-    whole h r legal = rw (append-nil (attempts_on r)) (attempts-board h (attempts_on r) legal (said-attempts r))
-
 said-phase : (e : Session) (clubs : List NamedClub) (history : List Entry) (r : Said) → IsLegal history → e.phase ≡ Open clubs (board_of history) → again e r ≡ None
-    → (next e r).phase ≡ Open clubs (board_of (fold after_attempt history (attempts_on r)))
+    → (next e r).phase ≡ Open clubs (board_of (fold after_attempt history (attempts_of (request_of r))))
 said-phase e clubs history r legal h none =
-    phase-stays e r clubs (board_of history) h none ∙ ap (λ (b : List ℕ). Open clubs b) (said-board history r legal)
+    let made = attempts_of (request_of r) in
+    phase-stays e r clubs (board_of history) h none
+    ∙ ap (Open clubs) (sym (fold-request (board_of history) (request_of r) []) ∙ ap (fold board_after (board_of history)) (append-nil made) ∙ attempts-board history made legal (of-request r))
 
 -- an open board keeps its header, where it is not begun again
 pub header-stays : (e : Session) (r : Said) (clubs : List NamedClub) (board : List ℕ) → e.phase ≡ Open clubs board → again e r ≡ None → (next e r).header ≡ e.header
@@ -219,10 +206,10 @@ unfolding answers answers_by_history StayOnTheBoard
 text-by-history e [] clubs history legal h stay = refl
 text-by-history e (line ∷ lines) clubs history legal h stay =
     let r = said_on e.row line in
-    let later = fold after_attempt history (attempts_on r) in
+    let later = fold after_attempt history (attempts_of (request_of r)) in
     let one = ap (λ (o : Option NewBoard). answer_with e o r (shown_text line)) stay.0 ∙ said-answer e clubs history r (shown_text line) legal h in
     ap₂ (λ (a b : List ℕ). a ++ b) one
-    (text-by-history (next e r) lines clubs later (attempts-legal history (attempts_on r) legal (said-attempts r)) (said-phase e clubs history r legal h stay.0) stay.1
+    (text-by-history (next e r) lines clubs later (attempts-legal history (attempts_of (request_of r)) legal (of-request r)) (said-phase e clubs history r legal h stay.0) stay.1
     ∙ ap (λ (t : BoardHeader). answers_by_history e.options t (e.row + 1) clubs later lines) (header-stays e r clubs (board_of history) h stay.0))
 
 pub sequential : SessionsAreSequential

@@ -56,13 +56,13 @@ pub use Rattle.ucl_order.specs.declared.profile.Profile.{Profile}
 pub use Rattle.ucl_order.specs.declared.profile.Profile.TheVariants.{AwayInTie, Uefa}
 pub use Rattle.ucl_live_runs.specs.Answered.{HasNumbers, IsBoardState}
 pub use Rattle.ucl_rows.specs.BadRows.{field_name, shown_text}
-pub use Rattle.ucl_live_runs.specs.ByHistory.{attempts_of, attempts_on}
+pub use Rattle.ucl_live_runs.specs.ByHistory.{attempts_of}
 pub use Rattle.ucl_rows.specs.Lines.{line_of_reply}
-pub use Rattle.ucl_live_runs.specs.Follow.{after_told, follow_text, is_later, is_newer, is_shown, passed_over, shown_too, told_text, unseen, version_at, whole_lines}
+pub use Rattle.ucl_live_runs.specs.Follow.{after_line, follow_text, is_later, is_newer, is_shown, line_output, unseen, version_at, whole_lines}
 pub use Rattle.ucl_live_runs.specs.SessionRuns.{HasNoAnswer, HasNoEnd, after_bytes, answers_to, session_of, missing_at}
 pub use Rattle.ucl_rows.specs.InputLines.{last_lines, lines_of}
 pub use Rattle.ucl_live_runs.specs.Records.{board_state_at, board_state_now, board_state_with}
-pub use Rattle.ucl_live_runs.specs.Latest.{IsNoNewer, IsToldIn}
+pub use Rattle.ucl_live_runs.specs.Latest.{IsNoNewer, IsCarriedIn}
 pub use Rattle.ucl_live_runs.specs.LiveText.{Session, after_lines, answer_at, answer_of, answer_said, answers, live_text, missing_after, next, next_header}
 pub use Rattle.ucl_live_runs.specs.LiveText.{screen_after, start_of, again, again_at, answer_with, newness_with, next_by, phase_with, stays_new, header_with}
 pub use Rattle.ucl_rows.specs.Answers.{reply_answer, screen_answer}

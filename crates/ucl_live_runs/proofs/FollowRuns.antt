@@ -1,7 +1,7 @@
 -- Whole runs of a follower, from what the driver says of them.
 use Rattle.ucl_live_runs.proofs.Common.{Appends, Device, Err, FollowArgs, FollowState, HasClosed, IfSome, IsPromptAt, LineRules, List, Handler, Ok, ServeFault}
-use Rattle.ucl_live_runs.proofs.Common.{Served, Result, Run, RunFault, Seen, StoppedShort, StopsLast, StopsNext, Turn, WriteFailed, [], after_told, ap, append-nil}
-use Rattle.ucl_live_runs.proofs.Common.{append_assoc, cut_at, follow_text, inl, inr, parse_board_line, refl, rules_of, stopped_first, sym, told_text, turns_front}
+use Rattle.ucl_live_runs.proofs.Common.{Served, Result, Run, RunFault, Seen, StoppedShort, StopsLast, StopsNext, Turn, WriteFailed, [], after_line, ap, append-nil}
+use Rattle.ucl_live_runs.proofs.Common.{append_assoc, cut_at, follow_text, inl, inr, refl, rules_of, stopped_first, sym, line_output, turns_front}
 use Rattle.ucl_live_runs.proofs.Common.{unseen, whole, whole_lines, ℕ, length, ◌++◌, ◌+◌, ◌≤◌, ◌∙◌, ◌∷◌, ◌≡◌, ◌⊎◌}
 use Rattle.ucl_io.specs.Turns.{AreTurns, lines_in, state_after, text_in}
 use Rattle.ucl_command.specs.declared.follow.FollowShape.{FollowShape}
@@ -16,14 +16,14 @@ follow_outputs-then : (shape : FollowShape) (f : FollowState) (a b : List (List 
     → follow_outputs shape f (a ++ b) ≡ follow_outputs shape f a ++ follow_outputs shape (followed f a) b
 unfolding follow_outputs followed
 follow_outputs-then shape f [] b = refl
-follow_outputs-then shape f (line ∷ a) b = rw (follow_outputs-then shape (after_told f (parse_board_line line)) a b, append_assoc)
+follow_outputs-then shape f (line ∷ a) b = rw (follow_outputs-then shape (after_line f line) a b, append_assoc)
 
 module _ (T : Type 0) where
   abbrev M : Type 0
   M = Follower T
 
   abbrev Rules : LineRules M RunFault
-  Rules = rules_of (λ m row line n text. IsHandled m n (parse_board_line line) × (text ≡ told_text m.shape m.follow_state (parse_board_line line)))
+  Rules = rules_of (λ m row line n text. IsHandled m n line × (text ≡ line_output m.shape m.follow_state line))
       (λ m row line n fault. (fault ≡ OutOfMemory) × (length line ≤ 4096))
       (λ m row begun n text. (n.shape ≡ m.shape) × (n.follow_state ≡ m.follow_state) × (text ≡ []))
       (λ m row begun n fault. ⊥)

@@ -1,12 +1,12 @@
 -- The stages of a session: rosters and boards that there are.
-use Rattle.ucl_live_runs.proofs.Common.{next, Session, NewBoard, again, phase_with, subst, All, All-cons, All-head, All-nil, AreWords, AwaitingHeader, Event}
-use Rattle.ucl_live_runs.proofs.Common.{IsAttempt, IsClub, IsRoster, List, LiveArgs, NamedClub, AwaitingClubs, None, Nothing, Open, Option, Other, OtherGroup}
-use Rattle.ucl_live_runs.proofs.Common.{Refused, Request, Row, Said, Some, Phase, BoardHeader, [], after_beginning, after_club, after_row, after_header, attempt_of}
-use Rattle.ucl_live_runs.proofs.Common.{bad_slot, cases_Bool, club_said, inl, inr, is_as_asked, is_group_row, length, next_board, next_phase, refl, request_of}
-use Rattle.ucl_live_runs.proofs.Common.{header_said, with_roster, ℕ, ⊤, ◌++◌, ◌+◌, ◌==◌, ◌∷◌, ◌≡◌}
+use Rattle.ucl_live_runs.proofs.Common.{All, All-cons, All-head, All-nil, AreWords, AwaitingClubs, AwaitingHeader, BoardHeader, Event, IsAttempt, IsClub, IsRoster}
+use Rattle.ucl_live_runs.proofs.Common.{List, LiveArgs, NamedClub, NewBoard, None, Nothing, Open, Option, Other, OtherGroup, Phase, Refused, Request, Row, Said}
+use Rattle.ucl_live_runs.proofs.Common.{Session, Some, [], after_beginning, after_club, after_header, after_row, again, attempt_of, bad_slot, cases_Bool, club_said}
+use Rattle.ucl_live_runs.proofs.Common.{header_said, inl, inr, is_as_asked, is_group_row, length, next, next_board, next_phase, phase_with, refl, request_of, subst}
+use Rattle.ucl_live_runs.proofs.Common.{with_roster, ℕ, ⊤, ◌++◌, ◌+◌, ◌==◌, ◌∷◌, ◌≡◌}
 use Rattle.std.proofs.lemmas.Bool.{cond_both, eqb-true}
 use Rattle.ucl_order.specs.Roster.{bad_slot_from, is_club}
-use Rattle.ucl_live_runs.proofs.Boards.{AreAttempts, asked}
+use Rattle.ucl_live_runs.proofs.Boards.{AreAttempts, of-request}
 use Rattle.ucl_live_runs.proofs.BegunAgain.{renewed}
 use Rattle.ucl_live_runs.proofs.GoodBoards.{fresh-good, good-after}
 
@@ -38,10 +38,6 @@ good-club row clubs (Some club) =
 good-board : (board : List ℕ) (request : Request) → AreWords board → AreAttempts request → AreWords (next_board board request)
 good-board board (Event event) w all = good-after board (attempt_of event) w (All-head IsAttempt (attempt_of event) [] all)
 good-board _ _ w _ = w
-
-pub of-request : (r : Said) → AreAttempts (request_of r)
-of-request (Row f) = asked f
-of-request _ = All-nil IsAttempt
 
 good-header : (options : LiveArgs) (row : ℕ) (header : Option BoardHeader) → IsGood (after_header options row header)
 good-header options row None = tt

@@ -14,7 +14,6 @@ pub mod ReadBack
 pub mod PlainAnswers
 pub mod Repeats
 pub mod AnswerLines
-pub mod Matches
 pub mod GoodPhases
 pub mod AnswerBoardStates
 pub mod RecordEnds

@@ -1,19 +1,51 @@
--- What a session answers is plain, and short: so each of its lines tells what its value tells.
-use Rattle.ucl_live_runs.proofs.Common.{All, All-head, All-tail, AreWords, AwayInTie, Disallow, Goal, HasNumbers, Home, IsClub, IsGroup, IsBoardState, IsRoster}
-use Rattle.ucl_live_runs.proofs.Common.{Kind, List, BoardState, NamedClub, NightEvent, Profile, Red, SecondYellow, Uefa, Yellow, [], and_from, and_parts, arith}
-use Rattle.ucl_live_runs.proofs.Common.{cases_Bool, club_in, club_items, digit_glyph, false, hex_digits, inl, inr, is_name, is_printed, le-leb, length, list_all}
-use Rattle.ucl_live_runs.proofs.Common.{nat_le, nat_lt, nat_tests, number_valid, profile_name, record_at, refl, suc, true, version_of, word_items, word_valid, zero}
-use Rattle.ucl_live_runs.proofs.Common.{ℕ, ◌%◌, ◌&&◌, ◌*◌, ◌+◌, ◌-◌, ◌/◌, ◌<◌, ◌^◌, ◌∷◌, ◌≡◌, ◌≤◌}
-use Rattle.std.specs.Prelude.{slice_index_or}
-use Rattle.std.proofs.lemmas.List.Sums.{sum_by-le}
+-- What a session answers in JSON is plain, and short: so each of its lines carries what its value carries.
+use Rattle.ucl_live_runs.proofs.Common.{All, All-get_or, All-head, All-tail, AreWords, AwayInTie, BoardState, Disallow, Goal, HasNumbers, Home, IsBoardState}
+use Rattle.ucl_live_runs.proofs.Common.{IsClub, IsGroup, IsRoster, IsValid, IsWord, Kind, List, Mark, MatchRecord, NamedClub, NightEvent, Plus, Profile, Red}
+use Rattle.ucl_live_runs.proofs.Common.{Scheduled, SecondYellow, Uefa, Yellow, [], accepted_value, and_from, and_parts, arith, cases_Bool, club_in, club_items}
+use Rattle.ucl_live_runs.proofs.Common.{decimal, digit_glyph, false, game_at, hex_digits, in_play, inl, inr, is_in_play, is_name, is_printed, le-leb, leb-true}
+use Rattle.ucl_live_runs.proofs.Common.{length, length-decimal-le, list_all, mark_name, match_items, match_numbers, nat_le, nat_lt, nat_tests, negsuc, number_text}
+use Rattle.ucl_live_runs.proofs.Common.{number_valid, of_integer, place_items, pos, profile_name, record_at, refl, rows_of, suc, true, version_of, word_at}
+use Rattle.ucl_live_runs.proofs.Common.{word_items, word_valid, zero, ℕ, ℤ, ◌%◌, ◌&&◌, ◌*◌, ◌+◌, ◌-ℤ◌, ◌-◌, ◌/◌, ◌<◌, ◌^◌, ◌∙◌, ◌∷◌, ◌≡◌, ◌≤◌}
 use Rattle.serde_json.proofs.OnLiterals.{serde_json_on_literals}
-use Rattle.ucl_word.specs.Names.{kind_name}
+use Rattle.std.proofs.lemmas.Int.{ints}
+use Rattle.std.proofs.lemmas.List.Sums.{count_by-le-length, sum_by-le}
+use Rattle.std.specs.Prelude.{slice_index_or}
 use Rattle.ucl_board.specs.Fixtures.{IsSlot}
+use Rattle.ucl_json.specs.Values.{accepted_value, club_value, edition_screen_value, match_value, matches_value, place_value, screen_value, sides_value}
+use Rattle.ucl_live_runs.proofs.Answered.{answered, long}
+use Rattle.ucl_live_runs.proofs.ReadBack.{ArePlain, IsPlain, IsPlainNumber, IsShortPlain, IsText, items_size, line-short, parsed-line, size}
+use Rattle.ucl_live_runs.specs.Answered.{LinesTellTheirBoardState, MatchesFitTheirLine}
+use Rattle.ucl_order.proofs.KeysFit.{words_valid}
+use Rattle.ucl_order.proofs.Limits.{rows_within}
 use Rattle.ucl_order.specs.Roster.{is_club, named}
-use Rattle.ucl_json.specs.Values.{accepted_value, club_value}
+use Rattle.ucl_order.specs.Rows.{IsWithinTable, row_of}
+use Rattle.ucl_order.specs.declared.table.Row.{Row}
 use Rattle.ucl_rows.proofs.WordDigits.{low, word-digits}
-use Rattle.ucl_live_runs.proofs.Answered.{long}
-use Rattle.ucl_live_runs.proofs.ReadBack.{ArePlain, IsPlain, IsText, items_size, size}
+use Rattle.ucl_screen.specs.Matches.{state_name}
+use Rattle.ucl_word.proofs.ValidRecords.{away_expulsions_valid, away_goals_valid, away_yellows_valid, home_expulsions_valid, home_goals_valid, home_yellows_valid}
+use Rattle.ucl_word.proofs.ValidRecords.{reporter_valid}
+use Rattle.ucl_word.specs.Names.{kind_name}
+use Rattle.ucl_word.specs.declared.record.State.{State}
+
+-- ---- numbers
+
+pub digits-20 : (n : ℕ) → n < 2 ^ 64 → length (decimal n) ≤ 20
+digits-20 n h = length-decimal-le 20 n (omega arith) (omega arith) h
+
+digits-1 : (n : ℕ) → n < 10 → length (decimal n) ≤ 1
+digits-1 n h = length-decimal-le 1 n (omega arith) h (omega arith)
+
+digits-2 : (n : ℕ) → n < 100 → length (decimal n) ≤ 2
+digits-2 n h = length-decimal-le 2 n (omega arith) h (omega arith)
+
+digits-3 : (n : ℕ) → n < 1000 → length (decimal n) ≤ 3
+digits-3 n h = length-decimal-le 3 n (omega arith) h (omega arith)
+
+digits-5 : (n : ℕ) → n < 100000 → length (decimal n) ≤ 5
+digits-5 n h = length-decimal-le 5 n (omega arith) h (omega arith)
+
+digits-6 : (n : ℕ) → n < 1000000 → length (decimal n) ≤ 6
+digits-6 n h = length-decimal-le 6 n (omega arith) h (omega arith)
 
 -- ---- words
 
@@ -92,7 +124,7 @@ clubs-plain clubs is =
     let x = slot-plain clubs is 2 (omega arith, omega arith) in
     let y = slot-plain clubs is 3 (omega arith, omega arith) in
     let z = slot-plain clubs is 4 (omega arith, omega arith) in
-    ((one clubs 1 w, (one clubs 2 x, (one clubs 3 y, (one clubs 4 z, tt)))), omega arith)
+    ((one clubs 1 w, (one clubs 2 x, (one clubs 3 y, (one clubs 4 z, tt)))), omega (arith, digits-6))
   where
     one : (clubs : List NamedClub) (slot : ℕ) → IsPlainClub (club_in clubs slot) → IsPlain 125 (club_value clubs slot)
     one clubs slot is =
@@ -118,24 +150,165 @@ kind-text (Red Home) = (refl, omega arith)
 kind-text _ = (refl, omega arith)
 
 pub accepted-plain : (row : ℕ) (event : NightEvent) (number : ℕ) (m : BoardState) → IsBoardState m → row < 2 ^ 64 → HasNumbers event → number < 2 ^ 64
-    → IsPlain 127 (accepted_value row event number m.header m.board m.roster) × (size (accepted_value row event number m.header m.board m.roster) ≤ 4096)
+    → IsShortPlain (accepted_value row event number m.header m.board m.roster)
 unfolding accepted_value serde_json_on_literals
 accepted-plain row event number m is r fits n =
     let words = words-plain m.board is.bits in
     let clubs = clubs-plain m.roster is.clubs in
     let kind = kind-text event.call.kind in
     let order = order-text m.header.profile in
-    let group = group-text m.header.group is.letter in
     let version : version_of m.board < 2 ^ 64 = let v = version-fits m.board is.words in omega arith in
-    let edition : m.header.edition < 2 ^ 64 = let e = is.edition in omega (arith, e) in
-    let twelve = is.words.twelve in
-    let few = words.1 in
-    let four = clubs.1 in
-    let named = kind.1 in
-    let short = order.1 in (
+    let edition : m.header.edition < 2 ^ 64 = let e = is.edition in omega (arith, e) in record {
+      plain = (
+        (refl, refl),
+        (clubs.0, (edition, (kind.0, (fits.expected, (group-text m.header.group is.letter, (fits.game, (n, (order.0, (refl, (fits.reporter, (r, (version, (words.0, tt))))))))))))),
+      );
+      size = omega (arith, digits-20, words.1, clubs.1, kind.1, order.1, is.words.twelve, fits.expected, fits.game, fits.reporter);
+    }
+
+-- ---- matches
+
+state-text : (s : State) → IsText (state_name s) × (length (state_name s) ≤ 9)
+state-text Scheduled = (refl, omega arith)
+state-text _ = (refl, omega arith)
+
+ruleset valid = (home_goals_valid, away_goals_valid, home_yellows_valid, away_yellows_valid, home_expulsions_valid, away_expulsions_valid, number_valid, reporter_valid)
+
+sides-plain : (deep home away : ℕ) → home ≤ 63 → away ≤ 63 → IsPlain (suc deep) (sides_value home away) × (size (sides_value home away) ≤ 8)
+sides-plain deep home away h k = ((omega arith, (omega arith, tt)), omega (arith, digits-2 home (omega arith), digits-2 away (omega arith)))
+
+-- a match as it stands
+pub match-plain : (deep game : ℕ) (m : MatchRecord) → game < 2 ^ 64 → IsValid m → IsPlain (suc (suc deep)) (match_value game m) × (size (match_value game m) ≤ 150)
+unfolding serde_json_on_literals
+match-plain deep game m g v =
+    let state = state-text m.state in
+    let expulsions = sides-plain deep m.home_expulsions m.away_expulsions (omega (arith, valid)) (omega (arith, valid)) in
+    let score = sides-plain deep m.home_goals m.away_goals (omega (arith, valid)) (omega (arith, valid)) in
+    let yellows = sides-plain deep m.home_yellows m.away_yellows (omega (arith, valid)) (omega (arith, valid)) in
+    let number = digits-5 m.number (omega (arith, valid)) in
+    let reporter = digits-3 m.reporter (omega (arith, valid)) in (
+      ((refl, refl), (expulsions.0, (g, (omega (arith, valid), (omega (arith, valid), (score.0, (state.0, (yellows.0, tt)))))))),
+      omega (arith, expulsions.1, score.1, yellows.1, state.1, digits-20 game g, number, reporter),
+    )
+
+module _ (board : List ℕ) (w : AreWords board) where
+  abbrev ArePlainMatches : List ℕ → Type 0
+  ArePlainMatches games = ArePlain 125 (match_items board games) × (items_size (match_items board games) ≤ 1 + 151 * length games)
+
+  plain-items : (games : List ℕ) → list_all (λ game. nat_le game 12) games ≡ true → ArePlainMatches games
+  plain-items [] h = (tt, omega arith)
+  plain-items (game ∷ games) h =
+      let p = and_parts (nat_le game 12) (list_all (λ g. nat_le g 12) games) h in
+      let few = leb-true game 12 p.0 in
+      let valid = word_valid (word_at board game) (All-get_or IsWord board (game - 1) 0 (omega (arith, w.twelve, few)) w.each) in
+      let one = match-plain 123 game (game_at board game) (omega (arith, few)) valid in
+      let more = plain-items games p.1 in
+      ((one.0, more.0), omega (arith, one.1, more.1))
+
+  pub matches-plain : (row : ℕ) (clubs : List NamedClub) → row < 2 ^ 64 → IsRoster clubs → IsShortPlain (matches_value row board clubs)
+  unfolding matches_value serde_json_on_literals
+  matches-plain row clubs r is =
+      let c = clubs-plain clubs is in
+      let games = plain-items match_numbers refl in
+      record { plain = ((refl, refl), (c.0, (games.0, (refl, (r, tt))))); size = omega (arith, digits-20 row r, c.1, games.1) }
+
+pub matches-fit : MatchesFitTheirLine
+matches-fit row m is r = line-short (matches_value row m.board m.roster) (matches-plain m.board is.words row m.roster r is.clubs)
+
+-- ---- the screen
+
+playing : (board : List ℕ) → AreWords board → in_play board ≤ 12
+playing board w = let t = w.twelve in let few = count_by-le-length (λ word. is_in_play (record_at word).state) board in omega (arith, t, few)
+
+difference-plain : (z : ℤ) (a b : ℕ) → z ≡ pos a -ℤ pos b → a ≤ 378 → b ≤ 378 → IsPlainNumber (of_integer z) × (length (number_text (of_integer z)) ≤ 4)
+difference-plain (pos n) a b e h k = let few : n < 1000 = omega (arith, ints) in (omega arith, omega (arith, digits-3))
+difference-plain (negsuc n) a b e h k = let few : suc n < 1000 = omega (arith, ints) in (omega arith, omega (arith, digits-3))
+
+mark-text : (mark : Mark) → IsText (mark_name mark) × (length (mark_name mark) ≤ 1)
+mark-text Plus = (refl, omega arith)
+mark-text _ = (refl, omega arith)
+
+place-plain : (roster : List NamedClub) (row : Row) → IsRoster roster → IsWithinTable row → row.place ≤ 4
+    → IsPlain 125 (place_value roster row) × (size (place_value roster row) ≤ 210)
+unfolding place_value serde_json_on_literals
+place-plain roster row is w four =
+    let club = slot-plain roster is row.slot w.slot in
+    let mark = mark-text row.mark in
+    let apart = difference-plain (pos row.goals_for -ℤ pos row.goals_against) row.goals_for row.goals_against refl w.goals_for w.goals_against in
+    let one = λ (n : ℕ) (h : n ≤ 6). digits-1 n (omega arith) in
+    let three = λ (n : ℕ) (h : n ≤ 378). digits-3 n (omega arith) in (
       (
         (refl, refl),
-        (clubs.0, (edition, (kind.0, (fits.expected, (group, (fits.game, (n, (order.0, (refl, (fits.reporter, (r, (version, (words.0, tt))))))))))))),
+        (club.name, (omega arith, (apart.0, (omega arith, (omega arith, (omega arith, (mark.0, (omega arith, (omega arith, (omega arith, (omega arith, (omega arith, tt)))))))))))),
       ),
-      omega arith,
+      omega (
+        arith,
+        club.short,
+        mark.1,
+        apart.1,
+        one row.draws w.draws,
+        three row.goals_against w.goals_against,
+        three row.goals_for w.goals_for,
+        one row.losses w.losses,
+        one row.place (omega arith),
+        one row.played w.played,
+        digits-2 row.points (omega (arith, w.points)),
+        one row.slot (omega (arith, w.slot.1)),
+        one row.wins w.wins,
+      ),
     )
+
+row-at : (profile : Profile) (board : List ℕ) (roster : List NamedClub) (place : ℕ) → place ≤ 4 → (row_of profile board roster place).place ≤ 4
+unfolding row_of
+row-at profile board roster place h = h
+
+places-plain : (profile : Profile) (board : List ℕ) (roster : List NamedClub) → IsRoster roster → AreWords board
+    → ArePlain 125 (place_items roster (rows_of profile board roster)) × (items_size (place_items roster (rows_of profile board roster)) ≤ 845)
+places-plain profile board roster is words =
+    let within = rows_within profile board roster (words_valid board words) in
+    let row = row_of profile board roster in
+    let at = row-at profile board roster in
+    let a = place-plain roster (row 1) is (within 0 (row 1) (omega arith)) (at 1 (omega arith)) in
+    let b = place-plain roster (row 2) is (within 1 (row 1) (omega arith)) (at 2 (omega arith)) in
+    let c = place-plain roster (row 3) is (within 2 (row 1) (omega arith)) (at 3 (omega arith)) in
+    let d = place-plain roster (row 4) is (within 3 (row 1) (omega arith)) (at 4 (omega arith)) in
+    ((a.0, (b.0, (c.0, (d.0, tt)))), omega (arith, a.1, b.1, c.1, d.1))
+
+screen-plain : (row : ℕ) (m : BoardState) → IsBoardState m → row < 2 ^ 64 → IsShortPlain (edition_screen_value row m.header m.board m.roster)
+unfolding edition_screen_value screen_value serde_json_on_literals
+screen-plain row m is r =
+    let words = words-plain m.board is.bits in
+    let clubs = clubs-plain m.roster is.clubs in
+    let order = order-text m.header.profile in
+    let places = places-plain m.header.profile m.board m.roster is.clubs is.words in
+    let games = plain-items m.board is.words match_numbers refl in
+    let version = version-fits m.board is.words in
+    let few = playing m.board is.words in
+    let edition = is.edition in record {
+      plain = (
+        (refl, refl),
+        (clubs.0, (omega (arith, edition), (group-text m.header.group is.letter, (omega (arith, few), (games.0, (order.0, (refl, (r, (places.0, (omega (arith, version), (words.0, tt))))))))))),
+      );
+      size = omega (
+        arith,
+        digits-5 m.header.edition (omega (arith, edition)),
+        digits-2 (in_play m.board) (omega (arith, few)),
+        digits-20 row r,
+        digits-5 (version_of m.board) (omega (arith, version)),
+        words.1,
+        clubs.1,
+        order.1,
+        places.1,
+        games.1,
+        is.words.twelve,
+      );
+    }
+
+-- ---- their lines
+
+pub told-lines : LinesTellTheirBoardState
+told-lines row event number m is r fits n =
+    let told = answered row event number m is in record {
+      reply = parsed-line (accepted_value row event number m.header m.board m.roster) (accepted-plain row event number m is r fits n) ∙ told.reply;
+      screen = parsed-line (edition_screen_value row m.header m.board m.roster) (screen-plain row m is r) ∙ told.screen;
+    }

@@ -30,14 +30,9 @@ attempts_of Screen = []
 attempts_of Words = []
 attempts_of Matches = []
 
-abbrev pub attempts_on : Said → List Attempt
-attempts_on Nothing = []
-attempts_on Other = []
-attempts_on (Row f) = attempts_of (request_of (Row f))
-
 unfoldable pub attempts_in : ℕ → List (List ℕ) → List Attempt
 attempts_in row [] = []
-attempts_in row (line ∷ lines) = attempts_on (said_on row line) ++ attempts_in (row + 1) lines
+attempts_in row (line ∷ lines) = attempts_of (request_of (said_on row line)) ++ attempts_in (row + 1) lines
 
 -- ---- answers after a history
 
@@ -68,4 +63,4 @@ unfoldable pub answers_by_history : LiveArgs → BoardHeader → ℕ → List Na
 answers_by_history options header row clubs history [] = []
 answers_by_history options header row clubs history (line ∷ lines) =
     line_by_history options header row clubs history (said_on row line) (shown_text line)
-    ++ answers_by_history options header (row + 1) clubs (fold after_attempt history (attempts_on (said_on row line))) lines
+    ++ answers_by_history options header (row + 1) clubs (fold after_attempt history (attempts_of (request_of (said_on row line)))) lines

@@ -47,30 +47,39 @@ unseen args = record { group = args.group; profile = args.profile; newest = None
 abbrev pub is_shown : FollowState → BoardState → Bool
 is_shown f board_state = is_asked f.group f.profile board_state.header && is_newer f.newest board_state
 
--- after a line: it told no board state, or one that is not shown, or one that is. Its group and order are followed from then on
-abbrev pub passed_over : FollowState → FollowState
-passed_over f = record { group = f.group; profile = f.profile; newest = f.newest; lines = one_more f.lines; shown = f.shown }
+-- the board state of a line, if it is shown
+abbrev pub shown_if : FollowState → Option BoardState → Option BoardState
+shown_if f None = None
+shown_if f (Some board_state) = if is_shown f board_state then Some board_state else None
 
-abbrev pub shown_too : FollowState → BoardState → FollowState
-shown_too f board_state =
+abbrev pub shown_of : FollowState → List ℕ → Option BoardState
+shown_of f line = shown_if f (parse_board_line line)
+
+-- after a line of which nothing is shown, or this board state. Its group and order are followed from then on
+abbrev pub after_shown : FollowState → Option BoardState → FollowState
+after_shown f None = record { group = f.group; profile = f.profile; newest = f.newest; lines = one_more f.lines; shown = f.shown }
+after_shown f (Some board_state) =
     record { group = Some board_state.header.group; profile = Some board_state.header.profile; newest = Some board_state; lines = one_more f.lines; shown = one_more f.shown }
 
-abbrev pub after_told : FollowState → Option BoardState → FollowState
-after_told f None = passed_over f
-after_told f (Some board_state) = if is_shown f board_state then shown_too f board_state else passed_over f
+abbrev pub after_line : FollowState → List ℕ → FollowState
+after_line f line = after_shown f (shown_of f line)
 
-abbrev pub told_text : FollowShape → FollowState → Option BoardState → List ℕ
-told_text shape f None = []
-told_text shape f (Some board_state) = if is_shown f board_state then output_text shape (one_more f.lines) board_state else []
+-- the text that a line makes it write
+abbrev pub shown_output : FollowShape → FollowState → Option BoardState → List ℕ
+shown_output shape f None = []
+shown_output shape f (Some board_state) = output_text shape (one_more f.lines) board_state
 
--- after lines, and what they made it write
+abbrev pub line_output : FollowShape → FollowState → List ℕ → List ℕ
+line_output shape f line = shown_output shape f (shown_of f line)
+
+-- after lines, and the text that they make it write
 unfoldable pub followed : FollowState → List (List ℕ) → FollowState
 followed f [] = f
-followed f (line ∷ lines) = followed (after_told f (parse_board_line line)) lines
+followed f (line ∷ lines) = followed (after_line f line) lines
 
 unfoldable pub follow_outputs : FollowShape → FollowState → List (List ℕ) → List ℕ
 follow_outputs shape f [] = []
-follow_outputs shape f (line ∷ lines) = told_text shape f (parse_board_line line) ++ follow_outputs shape (after_told f (parse_board_line line)) lines
+follow_outputs shape f (line ∷ lines) = line_output shape f line ++ follow_outputs shape (after_line f line) lines
 
 -- the lines that have an end, each without its line feed. What comes after the 4,097th byte of a line is passed over: it is too long by
 -- then. A line that is torn off, last, is none

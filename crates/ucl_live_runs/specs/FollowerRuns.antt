@@ -13,7 +13,7 @@ use Rattle.ucl_live_runs.specs.declared.follower.FollowSummary.{FollowSummary}
 use Rattle.ucl_command.specs.declared.follow.FollowArgs.{FollowArgs}
 use Rattle.ucl_command.specs.declared.follow.FollowShape.{FollowShape}
 use Rattle.ucl_live_runs.specs.Driven.{Due}
-use Rattle.ucl_live_runs.specs.Follow.{after_told, follow_end, follow_text, follow_outputs, unseen, whole_lines}
+use Rattle.ucl_live_runs.specs.Follow.{after_line, follow_end, follow_text, follow_outputs, unseen, whole_lines}
 
 abbrev pub output_bytes : FollowOutput → List ℕ
 output_bytes Nothing = []
@@ -25,9 +25,9 @@ shape_of f = f.shape
 abbrev pub follow_state_of : {T : Type 0} → Follower T → FollowState
 follow_state_of f = f.follow_state
 
--- the second is the first after a line that told this
-abbrev pub IsHandled : {T : Type 0} → Follower T → Follower T → Option BoardState → Type 0
-IsHandled m n told = (n.shape ≡ m.shape) × (n.follow_state ≡ after_told m.follow_state told)
+-- the second is the first after a line
+abbrev pub IsHandled : {T : Type 0} → Follower T → Follower T → List ℕ → Type 0
+IsHandled m n line = (n.shape ≡ m.shape) × (n.follow_state ≡ after_line m.follow_state line)
 
 -- ---- a whole run
 

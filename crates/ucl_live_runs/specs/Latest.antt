@@ -1,5 +1,6 @@
 -- What holds of all that is followed.
-use Rattle.std.specs.Prelude.{◌≡◌, ◌⊎◌, ⊤, true, false, ℕ, if◌then◌else◌, All, List, [], ◌∷◌, ◌++◌, flat_map, Option, Some, None}
+use Rattle.std.specs.Prelude.{◌≡◌, ◌⊎◌, ⊤, true, false, ℕ, All, List, [], ◌∷◌, ◌++◌, flat_map, map, Option, Some, None, option_to_list}
+use Rattle.std.specs.List.{Contains}
 use Rattle.ucl_screen.specs.Screen.{screen_text}
 use Rattle.ucl_json.specs.declared.board_state.BoardState.{BoardState}
 use Rattle.ucl_live_runs.specs.declared.follower.FollowState.{FollowState}
@@ -7,26 +8,18 @@ use Rattle.ucl_live_runs.specs.Headers.{is_asked}
 use Rattle.ucl_command.specs.declared.follow.FollowArgs.{FollowArgs}
 use Rattle.ucl_command.specs.declared.follow.FollowShape.TheVariants.{Text}
 use Rattle.ucl_json.specs.BoardLines.{parse_board_line}
-use Rattle.ucl_live_runs.specs.Follow.{after_told, followed, is_later, is_newer, is_shown, follow_outputs, unseen}
+use Rattle.ucl_live_runs.specs.Follow.{after_line, followed, is_later, is_newer, follow_outputs, shown_of, unseen}
 
 -- ---- what is shown
-
-abbrev pub shown_of : FollowState → Option BoardState → List BoardState
-shown_of f None = []
-shown_of f (Some board_state) = if is_shown f board_state then board_state ∷ [] else []
 
 -- the board states that are shown of lines
 unfoldable pub board_states_shown : FollowState → List (List ℕ) → List BoardState
 board_states_shown f [] = []
-board_states_shown f (line ∷ lines) = shown_of f (parse_board_line line) ++ board_states_shown (after_told f (parse_board_line line)) lines
+board_states_shown f (line ∷ lines) = option_to_list (shown_of f line) ++ board_states_shown (after_line f line) lines
 
--- one of the lines
-abbrev pub IsLineOfThese : List (List ℕ) → List ℕ → Type 0
-IsLineOfThese lines line = (before after : List (List ℕ)) × (lines ≡ before ++ line ∷ after)
-
--- one of the lines tells this board state
-abbrev pub IsToldIn : List (List ℕ) → BoardState → Type 0
-IsToldIn lines board_state = (line : List ℕ) × IsLineOfThese lines line × (parse_board_line line ≡ Some board_state)
+-- one of the lines carries this board state
+abbrev pub IsCarriedIn : List (List ℕ) → BoardState → Type 0
+IsCarriedIn lines board_state = Contains (map parse_board_line lines) (Some board_state)
 
 -- each board state is newer than the one before
 abbrev pub RiseAbove : Option BoardState → List BoardState → Type 0
@@ -42,7 +35,7 @@ IsFollowed f board_state = is_asked f.group f.profile board_state.header ≡ tru
 pub record RisesInText (f : FollowState) (lines : List (List ℕ)) : Type 0 where
   pub rise : RiseAbove f.newest (board_states_shown f lines)
   pub text : follow_outputs Text f lines ≡ flat_map (λ m. screen_text m.header.profile m.board m.roster m.header.group) (board_states_shown f lines)
-  pub told : All (IsToldIn lines) (board_states_shown f lines)
+  pub told : All (IsCarriedIn lines) (board_states_shown f lines)
   pub asked : All (IsFollowed f) (board_states_shown f lines)
   pub has_header : All (IsFollowed (followed f lines)) (board_states_shown f lines)
 
@@ -62,9 +55,9 @@ IsNoNewer args board_state (Some other) = (is_asked args.group args.profile othe
 
 -- a line tells this board state, which is as asked, and no line tells another that is as asked and not older
 pub record IsLatest (args : FollowArgs) (board_state : BoardState) (lines : List (List ℕ)) : Type 0 where
-  pub told : IsToldIn lines board_state
+  pub told : IsCarriedIn lines board_state
   pub asked : is_asked args.group args.profile board_state.header ≡ true
-  pub newest : All (λ line. IsNoNewer args board_state (parse_board_line line)) lines
+  pub newest : All (IsNoNewer args board_state) (map parse_board_line lines)
 
 -- this board state is the last that is shown of lines, and is the newest after them
 pub record IsShownLast (args : FollowArgs) (board_state : BoardState) (lines : List (List ℕ)) : Type 0 where
@@ -77,5 +70,5 @@ LatestIsShownLast = (args : FollowArgs) (board_state : BoardState) (lines : List
 
 -- other lines of which each is one of these, in any order and any number of times, and of which one tells the latest board state
 abbrev pub OthersDoNotMatter : Type 0
-OthersDoNotMatter = (args : FollowArgs) (board_state : BoardState) (lines others : List (List ℕ)) → IsLatest args board_state lines → All (IsLineOfThese lines) others
-    → IsToldIn others board_state → IsShownLast args board_state others
+OthersDoNotMatter = (args : FollowArgs) (board_state : BoardState) (lines others : List (List ℕ)) → IsLatest args board_state lines → All (Contains lines) others
+    → IsCarriedIn others board_state → IsShownLast args board_state others

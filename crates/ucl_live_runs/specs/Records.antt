@@ -1,5 +1,6 @@
 -- A record: the rows of a session, of one edition or of several, and what is told of it by its answers in JSON.
 use Rattle.std.specs.Prelude.{◌≡◌, true, ℕ, ◌≤◌, ◌^◌, List, ◌++◌, All, length, Option, Some, None}
+use Rattle.std.specs.List.{Contains}
 use Rattle.ucl_order.specs.Roster.{NamedClub}
 use Rattle.ucl_screen.specs.Screen.{screen_text}
 use Rattle.ucl_json.specs.declared.board_state.BoardState.{BoardState}
@@ -13,7 +14,7 @@ use Rattle.ucl_live_runs.specs.Phases.{Phase, AwaitingHeader, AwaitingClubs, Ope
 use Rattle.ucl_live_runs.specs.Headers.{is_asked}
 use Rattle.ucl_live_runs.specs.LiveText.{Session, after_lines, live_text, start_of}
 use Rattle.ucl_live_runs.specs.Follow.{follow_outputs, unseen, whole_lines}
-use Rattle.ucl_live_runs.specs.Latest.{IsLatest, IsLineOfThese, IsShownLast, IsToldIn}
+use Rattle.ucl_live_runs.specs.Latest.{IsCarriedIn, IsLatest, IsShownLast}
 
 -- the board state of a session whose board is open
 abbrev pub board_state_with : BoardHeader → List NamedClub → List ℕ → BoardState
@@ -45,7 +46,7 @@ pub record IsRecord (options : LiveArgs) (rows : List ℕ) (args : FollowArgs) (
 -- where the answers tell a board state of the last edition, the board of the record is the latest that they tell
 abbrev pub FollowersEndWithTheBoard : Type 0
 FollowersEndWithTheBoard = (options : LiveArgs) (rows : List ℕ) (args : FollowArgs) (m other : BoardState) → IsRecord options rows args m
-    → IsToldIn (answer_lines options rows) other → other.header.edition ≡ m.header.edition → IsLatest args m (answer_lines options rows)
+    → IsCarriedIn (answer_lines options rows) other → other.header.edition ≡ m.header.edition → IsLatest args m (answer_lines options rows)
 
 -- the board state is the last that is shown of these lines, and its table is the last text
 pub record EndsWithTable (args : FollowArgs) (m : BoardState) (lines : List (List ℕ)) : Type 0 where
@@ -56,4 +57,4 @@ pub record EndsWithTable (args : FollowArgs) (m : BoardState) (lines : List (Lis
 -- lines of which each is one of the answers, in any order and any number of times, and of which one tells the last board state
 abbrev pub SameRowsSameTable : Type 0
 SameRowsSameTable = (options : LiveArgs) (rows : List ℕ) (args : FollowArgs) (m : BoardState) (lines : List (List ℕ)) → IsRecord options rows args m
-    → All (IsLineOfThese (answer_lines options rows)) lines → IsToldIn lines m → EndsWithTable args m lines
+    → All (Contains (answer_lines options rows)) lines → IsCarriedIn lines m → EndsWithTable args m lines

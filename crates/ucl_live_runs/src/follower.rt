@@ -3,7 +3,7 @@
 ghost use Rattle.std.specs.Prelude.{◌≡◌, ◌≤◌, ⊤, [], length, IfOk};
 ghost use Rattle.ucl_rows.specs.declared.fault.RunFault.TheVariants.{OutOfMemory};
 ghost use Rattle.ucl_screen.specs.Screen.{IsGroup};
-ghost use Rattle.ucl_live_runs.specs.Follow.{output_text, told_text, unseen, is_later, is_newer};
+ghost use Rattle.ucl_live_runs.specs.Follow.{is_later, is_newer, line_output, output_text, unseen};
 ghost use Rattle.ucl_live_runs.specs.FollowerRuns.{IsHandled, follow_state_of, shape_of, output_bytes, follow_due};
 ghost use Rattle.ucl_json.specs.BoardLines.{parse_board_line};
 ghost use Rattle.ucl_live_runs.specs.Driven.{IsDriven};
@@ -123,8 +123,8 @@ impl<T: Sink> LineHandler for Follower<T> {
 
     ghost ready = { λ _. ⊤ };
 
-    ghost answers = { λ m row line n text. IsHandled m n (parse_board_line line)
-        × (text ≡ told_text (shape_of m) (follow_state_of m) (parse_board_line line)) };
+    ghost answers = { λ m row line n text. IsHandled m n line
+        × (text ≡ line_output (shape_of m) (follow_state_of m) line) };
 
     ghost stops = { λ _ _ line _ fault. (fault ≡ OutOfMemory) × (length line ≤ 4096) };
 
