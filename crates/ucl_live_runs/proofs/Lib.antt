@@ -2,6 +2,7 @@ pub mod Common
 pub mod BegunAgain
 pub mod OneByOne
 pub mod Silence
+pub mod Driven
 pub mod LiveRuns
 pub mod Boards
 pub mod JsonLines
