@@ -1,13 +1,13 @@
 -- What the lines of a session's answers tell: nothing, or the board state after their line.
 use Rattle.ucl_live_runs.proofs.Common.{All-get_or, All-head, AreWords, AwaitingHeader, Bad, BoardHeader, BoardState, Bool, Event, FourFields, HasNumbers}
 use Rattle.ucl_live_runs.proofs.Common.{IsAttempt, IsBoardState, IsGroup, IsRoster, IsValid, IsWord, Json, KickOff, List, LiveArgs, MatchRecord, Matches, NamedClub}
-use Rattle.ucl_live_runs.proofs.Common.{NewBoard, NightEvent, None, Nothing, Open, Option, Other, Phase, Profile, Refusal, Request, Row, Said, Screen, Session}
-use Rattle.ucl_live_runs.proofs.Common.{Some, Words, [], accepted_value, after_row, again, and_parts, answer, answer_at, answer_of, answer_said, answer_with, ap}
-use Rattle.ucl_live_runs.proofs.Common.{arith, asked_by, asked_header, attempt_of, board_after, board_state_at, board_state_with, cases_Bool, edition_screen_value}
-use Rattle.ucl_live_runs.proofs.Common.{event_of, event_or_bad, false, game_at, header_by, header_said, header_with, inl, inr, is_bad, is_group_row, json_line}
-use Rattle.ucl_live_runs.proofs.Common.{leb-true, letter_in, nat_le, next, next_board, next_by, next_header, number, number_valid, profile_named, refl, refusal_of}
-use Rattle.ucl_live_runs.proofs.Common.{reply_answer, reply_of, reply_value, request_of, screen_after, screen_answer, start_of, stays_new, subst, sym, true}
-use Rattle.ucl_live_runs.proofs.Common.{unwrap_or, version_of, word_at, word_valid, ℕ, ⊤, ◌&&◌, ◌+◌, ◌-◌, ◌<◌, ◌>>=◌, ◌^◌, ◌∷◌, ◌≡◌, ◌≤◌}
+use Rattle.ucl_live_runs.proofs.Common.{NewBoard, NightEvent, None, Nothing, Open, Option, Phase, Profile, Refusal, Request, Row, Said, Screen, Session, Some}
+use Rattle.ucl_live_runs.proofs.Common.{Words, [], accepted_value, again_on, and_parts, answer, answer_of, answer_said, ap, arith, asked_by, asked_header}
+use Rattle.ucl_live_runs.proofs.Common.{attempt_of, board_after, board_state_at, board_state_with, cases_Bool, edition_screen_value, event_of, event_or_bad, false}
+use Rattle.ucl_live_runs.proofs.Common.{game_at, header_by, header_or, header_said, inl, inr, is_bad, is_group_row, json_line, leb-true, letter_in, nat_le, next}
+use Rattle.ucl_live_runs.proofs.Common.{next_at, next_board, next_on, number, number_valid, profile_named, refl, refusal_of, reply_answer, reply_of, reply_value}
+use Rattle.ucl_live_runs.proofs.Common.{request_of, screen_after, screen_answer, start_of, subst, sym, true, unwrap_or, version_of, word_at, word_valid, ℕ, ⊤, ◌&&◌}
+use Rattle.ucl_live_runs.proofs.Common.{◌+◌, ◌-◌, ◌<◌, ◌>>=◌, ◌^◌, ◌∷◌, ◌≡◌, ◌≤◌}
 use Rattle.std.proofs.lemmas.Bool.{cond_both}
 use Rattle.ucl_live_runs.proofs.Boards.{AreAttempts, asked-by, event-numbers, of-request, ranged}
 use Rattle.ucl_live_runs.proofs.GoodPhases.{IsGood, good-after-line}
@@ -15,11 +15,11 @@ use Rattle.ucl_live_runs.proofs.BegunAgain.{renewed}
 use Rattle.ucl_live_runs.specs.Headers.{edition_by}
 use Rattle.ucl_command.specs.Groups.{may_be_asked}
 use Rattle.ucl_command.proofs.Letters.{asked_letter}
-use Rattle.ucl_live_runs.specs.LiveText.{header_or}
 use Rattle.ucl_live_runs.proofs.GoodBoards.{good-after}
 use Rattle.ucl_live_runs.proofs.AnswerLines.{CarriesAtMost, IsLineThat, IsShown, bad-line, board-fits, found-fits, matches-line, most-as, most-none, most-then}
 use Rattle.ucl_live_runs.proofs.AnswerLines.{refused-line, value-line, words-line}
 use Rattle.ucl_live_runs.proofs.PlainAnswers.{told-lines}
+use Rattle.ucl_live_runs.proofs.Silence.{by-line}
 
 abbrev pub Lines : Type 0
 Lines = List (List ℕ)
@@ -72,26 +72,30 @@ row-header : (header : BoardHeader) (r : Said) → IsHeader header → IsHeader 
 row-header header (Row f) is = or-header header (header_by f) is (said-header f)
 row-header _ _ is = is
 
-next-good : (header : BoardHeader) (s : Phase) (r : Said) → IsHeader header → IsHeader (next_header header s r)
-next-good header AwaitingHeader r is =
-    cond_both (is_group_row r) (header_or header (header_said r)) header IsHeader (λ _. row-header header r is) (λ _. is)
-next-good _ _ _ is = is
-
 -- ---- sessions
 
 pub record IsSound (e : Session) : Type 0 where
   pub phase : IsGood e.phase
   pub header : IsHeader e.header
 
-header-again : (e : Session) (r : Said) (o : Option NewBoard) → again e r ≡ o → IsHeader e.header → IsHeader (header_with o (next_header e.header e.phase r))
-header-again e r None is t = next-good e.header e.phase r t
-header-again e r (Some new) is t = elim (renewed e r new is).renews.has_header [
-  | inl later ↦ said-header (renewed e r new is).fields new.header later.1
-  | inr same ↦ subst IsHeader (sym same.1) t
-]
+header-on : (e : Session) (clubs : List NamedClub) (board : List ℕ) (r : Said) (o : Option NewBoard) → again_on e.header e.is_new clubs r ≡ o → IsHeader e.header
+    → IsHeader (next_on e clubs board r o).header
+header-on e clubs board r None is t = t
+header-on e clubs board r (Some new) is t =
+    let x = renewed e.header e.is_new clubs r new is in
+    elim x.renews.has_header [ inl later ↦ said-header x.fields new.header later.1 | inr same ↦ subst IsHeader (sym same.1) t ]
+
+header-at : (e : Session) (s : Phase) (r : Said) → IsHeader e.header → IsHeader (next_at e s r).header
+header-at e AwaitingHeader r is = cond_both (is_group_row r) (header_or e.header (header_said r)) e.header IsHeader (λ _. row-header e.header r is) (λ _. is)
+header-at e (Open clubs board) r is = header-on e clubs board r (again_on e.header e.is_new clubs r) refl is
+header-at e s r is = is
+
+header-next : (e : Session) (r : Said) → IsHeader e.header → IsHeader (next e r).header
+header-next e Nothing is = is
+header-next e r is = header-at e e.phase r is
 
 pub sound-next : (e : Session) (r : Said) → IsSound e → IsSound (next e r)
-sound-next e r g = record { phase = good-after-line e r g.phase; header = header-again e r (again e r) refl g.header }
+sound-next e r g = record { phase = good-after-line e r g.phase; header = header-next e r g.header }
 
 pub start-sound : (options : LiveArgs) → IsSound (start_of options)
 start-sound options = record { phase = tt; header = first-header options }
@@ -138,6 +142,11 @@ kick_off = record { reporter = 1; call = record { game = 1; expected = 0; kind =
 
 kick_off-fits : HasNumbers kick_off
 kick_off-fits = record { reporter = omega arith; game = omega arith; expected = omega arith }
+
+-- what the board stands at, once something but the rows of its heading has come
+abbrev pub told_now : Bool → BoardHeader → Phase → Option BoardState
+told_now true header s = None
+told_now false header s = board_state_at header s
 
 module _ (options : LiveArgs) (header : BoardHeader) (row : ℕ) (clubs : List NamedClub) (json : options.format ≡ Json) (fits : row < 2 ^ 64) (good : IsHeader header)
     (is : IsRoster clubs) where
@@ -194,62 +203,27 @@ module _ (options : LiveArgs) (header : BoardHeader) (row : ℕ) (clubs : List N
         (λ _. screen-tells now good-now) (λ _. most-none (At now))
     after-tells (Some refusal) = most-none (At now)
 
-  request-tells : (board : List ℕ) (request : Request) (shown : List ℕ) → AreWords board → AreAttempts request → Fits request → IsShown shown
-      → CarriesAtMost (At (next_board board request)) (answer_of options header row clubs board request shown)
-  request-tells board (Event event) shown w all small short =
+  -- a row that asks for nothing that there is carries nothing, and any other the board state after it
+  request-tells : (is_new : Bool) (board : List ℕ) (request : Request) (shown : List ℕ) → AreWords board → AreAttempts request → Fits request → IsShown shown
+      → CarriesAtMost (told_now (is_bad request && is_new) header (Open clubs (next_board board request))) (answer_of options header row clubs board request shown)
+  request-tells is_new board (Event event) shown w all small short =
       let m = game_at board event.call.game in
       let after = board_after board (attempt_of event) in
       let attempted = All-head IsAttempt (attempt_of event) [] all in
       most-then (At after) (reply_answer options.format header row clubs event (version_of board) (reply_of m event.call) after)
       (screen_after options header row clubs (reply_of m event.call) after)
       (reply-tells board w event attempted small (version_of board)) (after-tells board w event attempted small (refusal_of m event.call.expected event.call.kind))
-  request-tells board (Bad field) shown w all small short = rw json (bad-line (At board) row field shown fits short)
-  request-tells board Screen shown w all small short = screen-tells board w
-  request-tells board Words shown w all small short = rw json (words-line (At board) row board fits w.twelve (board-fits board w.each))
-  request-tells board Matches shown w all small short = rw json (matches-line (At board) row board clubs fits is w)
+  request-tells is_new board (Bad field) shown w all small short = rw json (bad-line (told_now is_new header (Open clubs board)) row field shown fits short)
+  request-tells is_new board Screen shown w all small short = screen-tells board w
+  request-tells is_new board Words shown w all small short = rw json (words-line (At board) row board fits w.twelve (board-fits board w.each))
+  request-tells is_new board Matches shown w all small short = rw json (matches-line (At board) row board clubs fits is w)
 
--- what the board stands at, once something but the rows of its heading has come
-abbrev pub told_now : Bool → BoardHeader → Phase → Option BoardState
-told_now true header s = None
-told_now false header s = board_state_at header s
-
-never : (b : Bool) → (b && false) ≡ false
-never true = refl
-never false = refl
-
--- a row that asks for nothing that there is tells nothing, and any other the board state after it
-said-tells : (options : LiveArgs) (header : BoardHeader) (row : ℕ) (is_new : Bool) (clubs : List NamedClub) (board : List ℕ) (request : Request) (shown : List ℕ) → options.format ≡ Json
-    → row < 2 ^ 64 → IsHeader header → IsRoster clubs → AreWords board → AreAttempts request → Fits request → IsShown shown
-    → CarriesAtMost (told_now (is_new && is_bad request) header (Open clubs (next_board board request))) (answer_of options header row clubs board request shown)
-said-tells options header row is_new clubs board (Bad field) shown json fits t g w all small short =
-    rw json (bad-line (told_now (is_new && true) header (Open clubs board)) row field shown fits short)
-said-tells options header row is_new clubs board (Event event) shown json fits t g w all small short =
-    rw (never is_new) (request-tells options header row clubs json fits t g board (Event event) shown w all small short)
-said-tells options header row is_new clubs board Screen shown json fits t g w all small short =
-    rw (never is_new) (request-tells options header row clubs json fits t g board Screen shown w all small short)
-said-tells options header row is_new clubs board Words shown json fits t g w all small short =
-    rw (never is_new) (request-tells options header row clubs json fits t g board Words shown w all small short)
-said-tells options header row is_new clubs board Matches shown json fits t g w all small short =
-    rw (never is_new) (request-tells options header row clubs json fits t g board Matches shown w all small short)
-
-phase-tells : (e : Session) (r : Said) (shown : List ℕ) → e.options.format ≡ Json → e.row < 2 ^ 64 → IsSound e → IsShown shown → (s : Phase) → e.phase ≡ s
-    → CarriesAtMost (told_now (stays_new e.is_new s r) (next_header e.header s r) (after_row e.options e.row s r)) (answer_at e.options e.header e.row s (request_of r) shown)
-phase-tells e r shown json fits g short (Open clubs board) is =
-    let good : IsGood (Open clubs board) = subst IsGood is g.phase in
-    said-tells e.options e.header e.row e.is_new clubs board (request_of r) shown json fits g.header good.0 good.1 (of-request r) (fits-request r) short
-phase-tells e r shown json fits g short s is = most-none (told_now (stays_new e.is_new s r) (next_header e.header s r) (after_row e.options e.row s r))
-
--- a line tells nothing, or the board state after it, and then the edition is new no more
+-- a line carries nothing, or the board state after it, and then the edition is new no more
 abbrev pub told_after : Session → Option BoardState
 told_after e = told_now e.is_new e.header e.phase
 
-line-by : (e : Session) (o : Option NewBoard) (r : Said) (shown : List ℕ) → e.options.format ≡ Json → e.row < 2 ^ 64 → IsSound e → IsShown shown
-    → CarriesAtMost (told_after (next_by e o r)) (answer_with e o r shown)
-line-by e (Some new) r shown json fits g short = most-none None
-line-by e None Nothing shown json fits g short = most-none (told_after (next_by e None Nothing))
-line-by e None Other shown json fits g short = phase-tells e Other shown json fits g short e.phase refl
-line-by e None (Row f) shown json fits g short = phase-tells e (Row f) shown json fits g short e.phase refl
-
 pub line-tells : (e : Session) (r : Said) (shown : List ℕ) → e.options.format ≡ Json → e.row < 2 ^ 64 → IsSound e → IsShown shown
     → CarriesAtMost (told_after (next e r)) (answer_said e r shown)
-line-tells e r shown json fits g short = line-by e (again e r) r shown json fits g short
+line-tells e r shown json fits g short = by-line (λ after text. CarriesAtMost (told_after after) text) e r shown (λ after. most-none (told_after after))
+    (λ clubs board is. let good : IsGood (Open clubs board) = subst IsGood is g.phase in
+    request-tells e.options e.header e.row clubs json fits g.header good.0 e.is_new board (request_of r) shown good.1 (of-request r) (fits-request r) short)

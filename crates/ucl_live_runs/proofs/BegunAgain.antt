@@ -1,7 +1,7 @@
 -- A row that begins the board again: what its header and its clubs are.
-use Rattle.ucl_live_runs.proofs.Common.{BoardHeader, FourFields, IsClub, IsRoster, List, LiveArgs, NamedClub, NewBoard, None, Open, Option, Phase, Row, Said}
-use Rattle.ucl_live_runs.proofs.Common.{Session, Some, again, again_at, and_parts, ap, arith, false, header_by, inl, inr, is_asked, is_bad, nat_lt, nat_tests}
-use Rattle.ucl_live_runs.proofs.Common.{next_board, refl, request_of, set, subst, sym, true, ℕ, ◌+◌, ◌-◌, ◌<◌, ◌∙◌, ◌≡◌, ◌⊎◌}
+use Rattle.ucl_live_runs.proofs.Common.{BoardHeader, FourFields, IsClub, IsRoster, List, LiveArgs, NamedClub, NewBoard, None, Option, Row, Said, Session, Some}
+use Rattle.ucl_live_runs.proofs.Common.{again, and_parts, ap, arith, false, header_by, inl, inr, is_asked, is_bad, nat_lt, nat_tests, next_board, refl, request_of}
+use Rattle.ucl_live_runs.proofs.Common.{set, subst, sym, true, ℕ, ◌+◌, ◌-◌, ◌<◌, ◌∙◌, ◌≡◌, ◌⊎◌}
 use Rattle.ucl_live_runs.proofs.FollowShown.{IsOfSame, asked-same}
 use Rattle.std.proofs.lemmas.List.{length-set}
 use Rattle.std.proofs.lemmas.List.Elements.{All-set}
@@ -87,30 +87,15 @@ by-edition header is_new clubs f (Some later) new is h =
 by-edition header true clubs f None new is h = of-clubs header true clubs f (clubs_said clubs f) new refl refl h
 by-edition header false clubs f None new is h = cc
 
--- of a session
+-- of a row
 
-pub record RenewsAt (e : Session) (r : Said) (new : NewBoard) : Type 0 where
+pub record RenewsBy (header : BoardHeader) (is_new : Bool) (clubs : List NamedClub) (r : Said) (new : NewBoard) : Type 0 where
   pub fields : FourFields
-  pub row : r ≡ Row fields
-  pub clubs : List NamedClub
-  pub board : List ℕ
-  pub stands : e.phase ≡ Open clubs board
-  pub renews : Renews e.header e.is_new clubs fields new
+  pub renews : Renews header is_new clubs fields new
 
-at-phase : (e : Session) (f : FourFields) (s : Phase) (new : NewBoard) → e.phase ≡ s → again_at e.header e.is_new s f ≡ Some new → RenewsAt e (Row f) new
-at-phase e f (Open clubs board) new is h = record {
-  fields = f;
-  row = refl;
-  clubs = clubs;
-  board = board;
-  stands = is;
-  renews = by-edition e.header e.is_new clubs f (edition_said e.header (Row f)) new refl h;
-}
-at-phase e f s new is h = cc
-
-pub renewed : (e : Session) (r : Said) (new : NewBoard) → again e r ≡ Some new → RenewsAt e r new
-renewed e (Row f) new h = at-phase e f e.phase new refl h
-renewed e r new h = cc
+pub renewed : (header : BoardHeader) (is_new : Bool) (clubs : List NamedClub) (r : Said) (new : NewBoard) → again_on header is_new clubs r ≡ Some new → RenewsBy header is_new clubs r new
+renewed header is_new clubs (Row f) new h = record { fields = f; renews = by-edition header is_new clubs f (edition_said header (Row f)) new refl h }
+renewed header is_new clubs r new h = cc
 
 -- ---- what the code does
 
@@ -124,7 +109,7 @@ module _ (options : LiveArgs) (head : HeaderState) (row : ℕ) (table : OpenBoar
   e = session_at options head row (open_board_seen table)
 
   pub answered-next : (said : RowFields) (head2 : HeaderState) (table2 : OpenBoard) → again_on head.header head.is_new table.roster (fields_seen said) ≡ None
-      → head2.header ≡ head.header → head2.is_new ≡ (head.is_new && is_bad (request_of (fields_seen said)))
+      → head2.header ≡ head.header → head2.is_new ≡ (is_bad (request_of (fields_seen said)) && head.is_new)
       → table2.roster ≡ table.roster → table2.board ≡ next_board table.board (request_of (fields_seen said))
       → session_at options head2 (row + 1) (open_board_seen table2) ≡ next e (fields_seen said)
   answered-next (seen.Four f) head2 table2 none t n c b = rw (none, t, n, c, b) refl

@@ -1,11 +1,11 @@
 -- The board of a session as that of a legal history.
 use Rattle.ucl_live_runs.proofs.Common.{Accepted, All, All-append, All-head, All-tail, Attempt, Bad, BoardHeader, Entry, Event, EventCall, Format, FourFields}
-use Rattle.ucl_live_runs.proofs.Common.{IsAttempt, IsLegal, Json, Kind, List, LiveArgs, Matches, NamedClub, NewBoard, NightEvent, None, Nothing, Open, Option}
-use Rattle.ucl_live_runs.proofs.Common.{Other, Phase, Refusal, Request, Result, Row, Said, Screen, Session, Some, Text, Words, [], after_attempt, again, answer_of}
-use Rattle.ucl_live_runs.proofs.Common.{answer_with, ap, append-nil, ap₂, arith, attempt_board, attempt_of, attempts_of, board_after, board_of, bytes_eq, event_of}
-use Rattle.ucl_live_runs.proofs.Common.{event_or_bad, fold, game_at, header_with, if◌then◌else◌, in_range, kind_named, length, line_of_reply, nat_le, nat_tests}
-use Rattle.ucl_live_runs.proofs.Common.{next, next_board, next_header, next_phase, number, phase_with, refl, reply_answer, reply_of, request_of, said_on}
-use Rattle.ucl_live_runs.proofs.Common.{screen_after, sequential_reply, shown_text, sym, ℕ, ◌&&◌, ◌++◌, ◌+◌, ◌==◌, ◌>>=◌, ◌∙◌, ◌∷◌, ◌≡◌, ◌≤◌}
+use Rattle.ucl_live_runs.proofs.Common.{IsAttempt, IsLegal, Json, Kind, List, LiveArgs, Matches, NamedClub, NightEvent, None, Nothing, Open, Option, Phase, Refusal}
+use Rattle.ucl_live_runs.proofs.Common.{Request, Result, Row, Said, Screen, Session, Some, Text, Words, [], after_attempt, again, again_at, answer_at, answer_of}
+use Rattle.ucl_live_runs.proofs.Common.{answer_on, answer_said, ap, append-nil, ap₂, arith, attempt_board, attempt_of, attempts_of, board_after, board_of, bytes_eq}
+use Rattle.ucl_live_runs.proofs.Common.{event_of, event_or_bad, fold, game_at, if◌then◌else◌, in_range, kind_named, length, line_of_reply, moved, nat_le, nat_tests}
+use Rattle.ucl_live_runs.proofs.Common.{next, next_at, next_board, next_on, number, refl, reply_answer, reply_of, request_of, said_on, screen_after}
+use Rattle.ucl_live_runs.proofs.Common.{sequential_reply, shown_text, sym, ℕ, ◌&&◌, ◌++◌, ◌+◌, ◌==◌, ◌>>=◌, ◌∙◌, ◌∷◌, ◌≡◌, ◌≤◌}
 use Rattle.std.proofs.lemmas.Option.{cond_some}
 use Rattle.std.proofs.lemmas.Bool.{cond_both}
 use Rattle.std.specs.Prelude.{codes}
@@ -110,24 +110,24 @@ fold-request : (board : List ℕ) (r : Request) (more : List Attempt) → fold b
 fold-request board (Event e) more = refl
 fold-request _ _ _ = refl
 
-next-open : (options : LiveArgs) (row : ℕ) (clubs : List NamedClub) (board : List ℕ) (r : Said) → next_phase options row (Open clubs board) r ≡ Open clubs (next_board board (request_of r))
-next-open options row clubs board Nothing = refl
-next-open options row clubs board Other = refl
-next-open options row clubs board (Row f) = refl
+-- a line that does not begin the board again
+pub on-board : (e : Session) (r : Said) (clubs : List NamedClub) (board : List ℕ) → e.phase ≡ Open clubs board → again e r ≡ None → next e r ≡ moved e (next_on e clubs board r None)
+on-board e Nothing clubs board h none = rw h refl
+on-board e r clubs board h none = ap (moved e) (at e.phase h none)
+  where
+    at : (s : Phase) → s ≡ Open clubs board → again_at e s r ≡ None → next_at e s r ≡ next_on e clubs board r None
+    at s is none = rw is (ap (next_on e clubs board r) (rw is at none))
 
--- the phase after a line that does not begin the board again
-pub phase-stays : (e : Session) (r : Said) (clubs : List NamedClub) (board : List ℕ) → e.phase ≡ Open clubs board → again e r ≡ None
-    → (next e r).phase ≡ Open clubs (next_board board (request_of r))
-phase-stays e r clubs board h none =
-    ap (λ (o : Option NewBoard). phase_with o (next_phase e.options e.row e.phase r)) none ∙ ap (λ (s : Phase). next_phase e.options e.row s r) h
-    ∙ next-open e.options e.row clubs board r
+pub answer-at : (e : Session) (s : Phase) (r : Said) (shown : List ℕ) (clubs : List NamedClub) (board : List ℕ) → s ≡ Open clubs board → again_at e s r ≡ None
+    → answer_at e s r shown ≡ answer_of e.options e.header e.row clubs board (request_of r) shown
+answer-at e s r shown clubs board is none = rw is (ap (answer_on e clubs board r shown) (rw is at none))
 
 pub boards : BoardsTakeEvents
 unfolding after_lines attempts_in StayOnTheBoard
 boards e [] clubs board h stay = h
 boards e (line ∷ lines) clubs board h stay =
     let r = said_on e.row line in
-    boards (next e r) lines clubs (next_board board (request_of r)) (phase-stays e r clubs board h stay.0) stay.1
+    boards (next e r) lines clubs (next_board board (request_of r)) (ap (λ (k : Session). k.phase) (on-board e r clubs board h stay.0)) stay.1
     ∙ ap (λ (b : List ℕ). Open clubs b) (sym (fold-request board (request_of r) (attempts_in (e.row + 1) lines)))
 
 -- ---- the history
@@ -183,22 +183,17 @@ request-answer : (options : LiveArgs) (header : BoardHeader) (row : ℕ) (clubs 
 request-answer options header row clubs history (Event event) shown legal all = event-answer options header row clubs history event shown legal (first (attempt_of event) [] all)
 request-answer _ _ _ _ _ _ _ _ _ = refl
 
-said-answer : (e : Session) (clubs : List NamedClub) (history : List Entry) (r : Said) (shown : List ℕ) → IsLegal history → e.phase ≡ Open clubs (board_of history)
-    → answer_with e None r shown ≡ line_by_history e.options e.header e.row clubs history r shown
-said-answer e clubs history Nothing shown legal h = refl
-said-answer e clubs history Other shown legal h = rw h refl
-said-answer e clubs history (Row f) shown legal h = rw h (request-answer e.options e.header e.row clubs history (request_of (Row f)) shown legal (asked f))
+said-answer : (e : Session) (clubs : List NamedClub) (history : List Entry) (r : Said) (shown : List ℕ) → IsLegal history → e.phase ≡ Open clubs (board_of history) → again e r ≡ None
+    → answer_said e r shown ≡ line_by_history e.options e.header e.row clubs history r shown
+said-answer e clubs history Nothing shown legal h stays = refl
+said-answer e clubs history r shown legal h stays = answer-at e e.phase r shown clubs (board_of history) h stays ∙ request-answer e.options e.header e.row clubs history (request_of r) shown legal (of-request r)
 
 said-phase : (e : Session) (clubs : List NamedClub) (history : List Entry) (r : Said) → IsLegal history → e.phase ≡ Open clubs (board_of history) → again e r ≡ None
     → (next e r).phase ≡ Open clubs (board_of (fold after_attempt history (attempts_of (request_of r))))
 said-phase e clubs history r legal h none =
     let made = attempts_of (request_of r) in
-    phase-stays e r clubs (board_of history) h none
+    ap (λ (k : Session). k.phase) (on-board e r clubs (board_of history) h none)
     ∙ ap (Open clubs) (sym (fold-request (board_of history) (request_of r) []) ∙ ap (fold board_after (board_of history)) (append-nil made) ∙ attempts-board history made legal (of-request r))
-
--- an open board keeps its header, where it is not begun again
-pub header-stays : (e : Session) (r : Said) (clubs : List NamedClub) (board : List ℕ) → e.phase ≡ Open clubs board → again e r ≡ None → (next e r).header ≡ e.header
-header-stays e r clubs board h none = ap (λ (o : Option NewBoard). header_with o (next_header e.header e.phase r)) none ∙ rw h refl
 
 text-by-history : (e : Session) (lines : List (List ℕ)) (clubs : List NamedClub) (history : List Entry) → IsLegal history → e.phase ≡ Open clubs (board_of history)
     → StayOnTheBoard e lines → answers e lines ≡ answers_by_history e.options e.header e.row clubs history lines
@@ -207,10 +202,10 @@ text-by-history e [] clubs history legal h stay = refl
 text-by-history e (line ∷ lines) clubs history legal h stay =
     let r = said_on e.row line in
     let later = fold after_attempt history (attempts_of (request_of r)) in
-    let one = ap (λ (o : Option NewBoard). answer_with e o r (shown_text line)) stay.0 ∙ said-answer e clubs history r (shown_text line) legal h in
+    let one = said-answer e clubs history r (shown_text line) legal h stay.0 in
     ap₂ (λ (a b : List ℕ). a ++ b) one
     (text-by-history (next e r) lines clubs later (attempts-legal history (attempts_of (request_of r)) legal (of-request r)) (said-phase e clubs history r legal h stay.0) stay.1
-    ∙ ap (λ (t : BoardHeader). answers_by_history e.options t (e.row + 1) clubs later lines) (header-stays e r clubs (board_of history) h stay.0))
+    ∙ ap (λ (t : BoardHeader). answers_by_history e.options t (e.row + 1) clubs later lines) (ap (λ (k : Session). k.header) (on-board e r clubs (board_of history) h stay.0)))
 
 pub sequential : SessionsAreSequential
 sequential e lines clubs history legal h stay =

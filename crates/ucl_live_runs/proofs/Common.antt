@@ -63,14 +63,14 @@ pub use Rattle.ucl_live_runs.specs.SessionRuns.{HasNoAnswer, HasNoEnd, after_byt
 pub use Rattle.ucl_rows.specs.InputLines.{last_lines, lines_of}
 pub use Rattle.ucl_live_runs.specs.Records.{board_state_at, board_state_now, board_state_with}
 pub use Rattle.ucl_live_runs.specs.Latest.{IsNoNewer, IsCarriedIn}
-pub use Rattle.ucl_live_runs.specs.LiveText.{Session, after_lines, answer_at, answer_of, answer_said, answers, live_text, missing_after, next, next_header}
-pub use Rattle.ucl_live_runs.specs.LiveText.{screen_after, start_of, again, again_at, answer_with, newness_with, next_by, phase_with, stays_new, header_with}
+pub use Rattle.ucl_live_runs.specs.LiveText.{Session, after_lines, answer_at, answer_of, answer_on, answer_said, answers, begun_again, first_header, header_or, live_text, missing_after, next}
+pub use Rattle.ucl_live_runs.specs.LiveText.{again, again_at, moved, next_at, next_on, screen_after, start_of}
 pub use Rattle.ucl_rows.specs.Answers.{reply_answer, screen_answer}
 pub use Rattle.ucl_live_runs.specs.Requests.{asked_by, event_or_bad, request_of, is_bad}
 pub use Rattle.ucl_rows.specs.Rows.{Nothing, Other, Row, Said, fits, said_on}
-pub use Rattle.ucl_live_runs.specs.Phases.{AwaitingHeader, AwaitingClubs, Open, Refused, Phase, after_beginning, after_club, after_row, after_header, club_said}
-pub use Rattle.ucl_live_runs.specs.Phases.{missing, next_board, next_phase, with_roster}
-pub use Rattle.ucl_live_runs.specs.NewBoards.{NewBoard}
+pub use Rattle.ucl_live_runs.specs.Phases.{AwaitingHeader, AwaitingClubs, Open, Refused, Phase, after_beginning, after_club, after_header, club_said}
+pub use Rattle.ucl_live_runs.specs.Phases.{missing, next_board, with_roster}
+pub use Rattle.ucl_live_runs.specs.NewBoards.{NewBoard, again_on}
 pub use Rattle.ucl_live_runs.specs.Headers.{asked_header, is_as_asked, is_asked, is_group_row, is_same_order, header_by, header_said}
 pub use Rattle.ucl_rows.specs.declared.fault.RunFault.{RunFault}
 pub use Rattle.ucl_live_runs.specs.declared.follower.FollowState.{FollowState}

@@ -1,9 +1,9 @@
 -- The stages of a session: rosters and boards that there are.
 use Rattle.ucl_live_runs.proofs.Common.{All, All-cons, All-head, All-nil, AreWords, AwaitingClubs, AwaitingHeader, BoardHeader, Event, IsAttempt, IsClub, IsRoster}
-use Rattle.ucl_live_runs.proofs.Common.{List, LiveArgs, NamedClub, NewBoard, None, Nothing, Open, Option, Other, OtherGroup, Phase, Refused, Request, Row, Said}
-use Rattle.ucl_live_runs.proofs.Common.{Session, Some, [], after_beginning, after_club, after_header, after_row, again, attempt_of, bad_slot, cases_Bool, club_said}
-use Rattle.ucl_live_runs.proofs.Common.{header_said, inl, inr, is_as_asked, is_group_row, length, next, next_board, next_phase, phase_with, refl, request_of, subst}
-use Rattle.ucl_live_runs.proofs.Common.{with_roster, ℕ, ⊤, ◌++◌, ◌+◌, ◌==◌, ◌∷◌, ◌≡◌}
+use Rattle.ucl_live_runs.proofs.Common.{List, LiveArgs, NamedClub, NewBoard, None, Nothing, Open, Option, OtherGroup, Phase, Refused, Request, Said, Session, Some}
+use Rattle.ucl_live_runs.proofs.Common.{[], after_beginning, after_club, after_header, again_on, attempt_of, bad_slot, cases_Bool, club_said, header_said, inl, inr}
+use Rattle.ucl_live_runs.proofs.Common.{is_as_asked, is_group_row, length, next, next_at, next_board, next_on, refl, request_of, with_roster, ℕ, ⊤, ◌++◌, ◌+◌, ◌==◌}
+use Rattle.ucl_live_runs.proofs.Common.{◌∷◌, ◌≡◌}
 use Rattle.std.proofs.lemmas.Bool.{cond_both, eqb-true}
 use Rattle.ucl_order.specs.Roster.{bad_slot_from, is_club}
 use Rattle.ucl_live_runs.proofs.Boards.{AreAttempts, of-request}
@@ -48,22 +48,17 @@ good-first options row r =
     cond_both (is_group_row r) (after_header options row (header_said r)) (after_club row [] (club_said 1 r)) IsGood
     (λ _. good-header options row (header_said r)) (λ _. good-club row [] (club_said 1 r))
 
-good-row : (options : LiveArgs) (row : ℕ) (s : Phase) (r : Said) → IsGood s → IsGood (after_row options row s r)
-good-row options row AwaitingHeader r g = good-first options row r
-good-row options row (AwaitingClubs clubs) r g = good-club row clubs (club_said (length clubs + 1) r)
-good-row options row (Open clubs board) r g = (g.0, good-board board (request_of r) g.1 (of-request r))
-good-row options row (Refused fault) r g = tt
+good-on : (e : Session) (clubs : List NamedClub) (board : List ℕ) (r : Said) (o : Option NewBoard) → again_on e.header e.is_new clubs r ≡ o → IsGood (Open clubs board)
+    → IsGood (next_on e clubs board r o).phase
+good-on e clubs board r None is g = (g.0, good-board board (request_of r) g.1 (of-request r))
+good-on e clubs board r (Some new) is g = ((renewed e.header e.is_new clubs r new is).renews.good g.0, fresh-good)
 
-good-next : (options : LiveArgs) (row : ℕ) (s : Phase) (r : Said) → IsGood s → IsGood (next_phase options row s r)
-good-next options row s Nothing g = g
-good-next options row s Other g = good-row options row s Other g
-good-next options row s (Row f) g = good-row options row s (Row f) g
-
-good-again : (e : Session) (r : Said) (o : Option NewBoard) → again e r ≡ o → IsGood e.phase → IsGood (phase_with o (next_phase e.options e.row e.phase r))
-good-again e r None is g = good-next e.options e.row e.phase r g
-good-again e r (Some new) is g =
-    let x = renewed e r new is in
-    let good : IsGood (Open x.clubs x.board) = subst IsGood x.stands g in (x.renews.good good.0, fresh-good)
+good-at : (e : Session) (s : Phase) (r : Said) → IsGood s → IsGood (next_at e s r).phase
+good-at e AwaitingHeader r g = good-first e.options e.row r
+good-at e (AwaitingClubs clubs) r g = good-club e.row clubs (club_said (length clubs + 1) r)
+good-at e (Open clubs board) r g = good-on e clubs board r (again_on e.header e.is_new clubs r) refl g
+good-at e (Refused fault) r g = tt
 
 pub good-after-line : (e : Session) (r : Said) → IsGood e.phase → IsGood (next e r).phase
-good-after-line e r g = good-again e r (again e r) refl g
+good-after-line e Nothing g = g
+good-after-line e r g = good-at e e.phase r g

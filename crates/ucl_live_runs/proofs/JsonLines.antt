@@ -1,13 +1,13 @@
 -- In JSON a session answers by lines of values.
-use Rattle.ucl_live_runs.proofs.Common.{NewBoard, None, Option, Some, again, answer_with, Accepted, AreLinesOfValues, Bad, Err, Session, Event, Format, Json, List}
-use Rattle.ucl_live_runs.proofs.Common.{LiveArgs, Matches, NamedClub, NightEvent, Nothing, Ok, Open, Other, Refusal, Request, Result, Row, Said, Screen, Phase}
-use Rattle.ucl_live_runs.proofs.Common.{BoardHeader, Words, [], answer_at, answer_of, answer_said, bad_row_value, edition_screen_value, field_name, game_at}
-use Rattle.ucl_live_runs.proofs.Common.{matches_value, next, next_board, reply_answer, reply_of, reply_value, request_of, said_on, screen_after, screen_answer}
-use Rattle.ucl_live_runs.proofs.Common.{shown_text, version_of, words_value, ℕ, ◌∷◌, ◌≡◌}
+use Rattle.ucl_live_runs.proofs.Common.{Accepted, AreLinesOfValues, Bad, BoardHeader, Err, Event, Format, Json, List, LiveArgs, Matches, NamedClub, NightEvent, Ok}
+use Rattle.ucl_live_runs.proofs.Common.{Refusal, Request, Result, Screen, Words, [], answer_of, answer_said, bad_row_value, edition_screen_value, field_name}
+use Rattle.ucl_live_runs.proofs.Common.{game_at, matches_value, next, next_board, reply_answer, reply_of, reply_value, request_of, said_on, screen_after}
+use Rattle.ucl_live_runs.proofs.Common.{screen_answer, shown_text, version_of, words_value, ℕ, ◌∷◌, ◌≡◌}
 use Rattle.std.proofs.lemmas.Bool.{cond_both}
 use Rattle.ucl_json.proofs.OneLine.{line_of_value, lines_then, no_lines}
 use Rattle.ucl_live_runs.specs.LiveText.{answers}
 use Rattle.ucl_live_runs.specs.LiveTheorems.{JsonAnswersAreLines}
+use Rattle.ucl_live_runs.proofs.Silence.{by-line}
 
 screen-line : (format : Format) (header : BoardHeader) (row : ℕ) (clubs : List NamedClub) (board : List ℕ) → format ≡ Json → AreLinesOfValues (screen_answer format header row clubs board)
 screen-line format header row clubs board h = rw h (line_of_value (edition_screen_value row header board clubs))
@@ -35,20 +35,9 @@ request-lines options header row clubs board Screen shown h = screen-line option
 request-lines options header row clubs board Words shown h = rw h (line_of_value (words_value row board))
 request-lines options header row clubs board Matches shown h = rw h (line_of_value (matches_value row board clubs))
 
-phase-lines : (options : LiveArgs) (header : BoardHeader) (row : ℕ) (phase : Phase) (request : Request) (shown : List ℕ) → options.format ≡ Json
-    → AreLinesOfValues (answer_at options header row phase request shown)
-phase-lines options header row (Open clubs board) request shown h = request-lines options header row clubs board request shown h
-phase-lines _ _ _ _ _ _ _ = no_lines
-
-said-lines : (e : Session) (new : Option NewBoard) (said : Said) (shown : List ℕ) → e.options.format ≡ Json → AreLinesOfValues (answer_with e new said shown)
-said-lines e (Some new) said shown h = no_lines
-said-lines e None Nothing shown h = no_lines
-said-lines e None Other shown h = phase-lines e.options e.header e.row e.phase (request_of Other) shown h
-said-lines e None (Row f) shown h = phase-lines e.options e.header e.row e.phase (request_of (Row f)) shown h
-
 pub json-lines : JsonAnswersAreLines
 unfolding answers
 json-lines e [] h = no_lines
 json-lines e (line ∷ lines) h =
     let said = said_on e.row line in
-    let shown = shown_text line in lines_then (answer_said e said shown) (answers (next e said) lines) (said-lines e (again e said) said shown h) (json-lines (next e said) lines h)
+    let shown = shown_text line in lines_then (answer_said e said shown) (answers (next e said) lines) (by-line (λ _ text. AreLinesOfValues text) e said shown (λ _. no_lines) (λ clubs board _. request-lines e.options e.header e.row clubs board (request_of said) shown h)) (json-lines (next e said) lines h)

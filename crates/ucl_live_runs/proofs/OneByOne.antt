@@ -1,9 +1,8 @@
 -- Lines that are answered one after the other.
-use Rattle.ucl_live_runs.proofs.Common.{NewBoard, answer_with, next_by, Session, HasNoAnswer, HasNoEnd, List, LiveFault, Open, Refused, Some, Phase, [], after_bytes}
-use Rattle.ucl_live_runs.proofs.Common.{answer_said, answers_to, ap, append-nil, append_assoc, arith, begun_append, begun_ended, begun_line, ended_append}
-use Rattle.ucl_live_runs.proofs.Common.{ended_lines, last_lines, lines_of, live_text, min, missing, missing_after, missing_at, next, refl, said_on, shown_text}
-use Rattle.ucl_live_runs.proofs.Common.{same_Some, subst, sym, ℕ, ◌++◌, ◌+◌, ◌-◌, ◌^◌, ◌∙◌, ◌∷◌, ◌≡◌}
-use Rattle.std.specs.Prelude.{Option}
+use Rattle.ucl_live_runs.proofs.Common.{HasNoAnswer, HasNoEnd, List, LiveFault, NewBoard, Nothing, Open, Phase, Refused, Said, Session, Some, [], after_bytes}
+use Rattle.ucl_live_runs.proofs.Common.{again, again_at, answer_at, answer_said, answers_to, ap, append-nil, append_assoc, ap₂, arith, begun_again, begun_append}
+use Rattle.ucl_live_runs.proofs.Common.{begun_ended, begun_line, ended_append, ended_lines, last_lines, lines_of, live_text, min, missing, missing_after}
+use Rattle.ucl_live_runs.proofs.Common.{missing_at, moved, next, next_at, refl, said_on, same_Some, shown_text, subst, sym, ℕ, ◌++◌, ◌+◌, ◌-◌, ◌^◌, ◌∙◌, ◌∷◌, ◌≡◌}
 use Rattle.ucl_rows.specs.declared.fault.RunFault.TheVariants.{Input}
 use Rattle.ucl_live_runs.specs.declared.live_fault.LiveFault.TheVariants.{Run}
 use Rattle.ucl_screen.specs.declared.fault.InputFault.TheVariants.{BadRow}
@@ -11,11 +10,11 @@ use Rattle.ucl_live_runs.specs.SessionRuns.{end_of}
 use Rattle.ucl_live_runs.specs.LiveTheorems.{BeginningsAreAnswered, BoardsBeginAgain, ended}
 use Rattle.ucl_live_runs.specs.Phases.{bad_row, told_row}
 use Rattle.ucl_live_runs.specs.declared.phase.Phase.{Phase as Reached}
-use Rattle.ucl_live_runs.specs.declared.phase.Phase.TheVariants as reached
 use Rattle.ucl_live_runs.specs.LiveFaults.{StopsBy}
 use Rattle.ucl_live_runs.specs.Seen.{phase_seen}
 use Rattle.ucl_live_runs.specs.LiveText.{after_lines, answers, missing_now}
 use Rattle.ucl_live_runs.proofs.Silence.{refused-missing, stops-with}
+use Rattle.ucl_live_runs.specs.declared.phase.Phase.TheVariants as reached
 
 pub answers-none : (e : Session) → answers e [] ≡ []
 unfolding answers
@@ -120,9 +119,20 @@ misses row (reached.AwaitingClubs clubs) fault A B e b = subst (StopsBy A B) (sa
 
 -- ---- a board that is begun again
 
+new-at : (e : Session) (s : Phase) (r : Said) (shown : List ℕ) (new : NewBoard) → again_at e s r ≡ Some new → (moved e (next_at e s r) ≡ begun_again e new) × (answer_at e s r shown ≡ [])
+new-at e (Open clubs board) r shown new h = rw h (refl, refl)
+new-at e s r shown new h = cc
+
+pub begun : (e : Session) (r : Said) (shown : List ℕ) (new : NewBoard) → again e r ≡ Some new → (next e r ≡ begun_again e new) × (answer_said e r shown ≡ [])
+begun e Nothing shown new h = absurd (none e.phase h)
+  where
+    none : (s : Phase) → again_at e s Nothing ≡ Some new → ⊥
+    none (Open clubs board) h = cc
+    none s h = cc
+begun e r shown new h = new-at e e.phase r shown new h
+
 pub begins-again : BoardsBeginAgain
 unfolding answers after_lines
-begins-again e line lines new is = record {
-  text = ap (λ (o : Option NewBoard). answer_with e o (said_on e.row line) (shown_text line) ++ answers (next_by e o (said_on e.row line)) lines) is;
-  after = ap (λ (o : Option NewBoard). after_lines (next_by e o (said_on e.row line)) lines) is;
-}
+begins-again e line lines new is =
+    let b = begun e (said_on e.row line) (shown_text line) new is in
+    record { text = ap₂ (λ (text : List ℕ) (k : Session). text ++ answers k lines) b.1 b.0; after = ap (λ (k : Session). after_lines k lines) b.0 }

@@ -1,17 +1,16 @@
 -- The last board state that the answers of a record tell is its board.
-use Rattle.ucl_live_runs.proofs.Common.{All-head, BoardHeader, BoardState, Bool, Event, FollowArgs, HasNumbers, IsAttempt, Json, List, LiveArgs, NewBoard}
-use Rattle.ucl_live_runs.proofs.Common.{NightEvent, None, Open, Option, Phase, Refusal, Request, Row, Said, Session, Some, [], again, answer_at}
-use Rattle.ucl_live_runs.proofs.Common.{answer_said, answer_with, ap, append-nil, append_assoc, ap₂, arith, attempt_of, begun_line, begun_none}
-use Rattle.ucl_live_runs.proofs.Common.{board_after, board_of, board_state_at, board_state_now, board_state_with, ended_lines, false, flat_map, game_at}
-use Rattle.ucl_live_runs.proofs.Common.{header_with, inl, inr, is_later, last_lines, length, length-append, lines_of, nat_tests, newness_with, next, next_board}
-use Rattle.ucl_live_runs.proofs.Common.{next_header, next_phase, parse_board_line, phase_with, refl, refusal_of, reply_answer, reply_of, request_of, said_on}
-use Rattle.ucl_live_runs.proofs.Common.{same_Some, screen_after, screen_text, shown_text, start_of, stays_new, subst, sym, true, unseen, version_at, version_of, ℕ}
-use Rattle.ucl_live_runs.proofs.Common.{◌++◌, ◌+◌, ◌<◌, ◌^◌, ◌∙◌, ◌∷◌, ◌≡◌, ◌≤◌, ◌⊎◌}
+use Rattle.ucl_live_runs.proofs.Common.{All-head, BoardHeader, BoardState, Bool, Event, FollowArgs, HasNumbers, IsAttempt, Json, List, LiveArgs, NamedClub}
+use Rattle.ucl_live_runs.proofs.Common.{NewBoard, NightEvent, None, Nothing, Open, Option, Phase, Refusal, Request, Said, Session, Some, [], again, and_right}
+use Rattle.ucl_live_runs.proofs.Common.{answer_of, answer_said, ap, append-nil, append_assoc, arith, attempt_of, begun_line, begun_none, board_after, board_of}
+use Rattle.ucl_live_runs.proofs.Common.{board_state_at, board_state_now, board_state_with, ended_lines, false, flat_map, game_at, inl, inr, is_bad, is_later}
+use Rattle.ucl_live_runs.proofs.Common.{last_lines, length, length-append, lines_of, nat_tests, next, next_board, parse_board_line, refl, refusal_of, reply_answer}
+use Rattle.ucl_live_runs.proofs.Common.{reply_of, request_of, said_on, same_Some, screen_after, screen_text, shown_text, start_of, subst, sym, true, unseen}
+use Rattle.ucl_live_runs.proofs.Common.{version_at, version_of, ℕ, ◌++◌, ◌+◌, ◌<◌, ◌^◌, ◌∙◌, ◌∷◌, ◌≡◌, ◌≤◌, ◌⊎◌}
 use Rattle.std.proofs.lemmas.Grind.{flat_map-append}
 use Rattle.ucl_live_runs.proofs.AnswerLines.{CarriesAtMost, IsAtMost, IsShown, begun-then, carried-none, carried-then, carried_in, shown-text}
 use Rattle.ucl_live_runs.proofs.AnswerBoardStates.{Fits, IsSound, Lines, accepted-reply, fits-request, line-tells, sound-next, start-sound, told_after, told_now}
 use Rattle.ucl_live_runs.proofs.BegunAgain.{IsLaterHeader, renewed}
-use Rattle.ucl_live_runs.proofs.Boards.{AreAttempts, of-request, header-stays, phase-stays}
+use Rattle.ucl_live_runs.proofs.Boards.{AreAttempts, answer-at, of-request, on-board}
 use Rattle.ucl_live_runs.proofs.GoodBoards.{version-after}
 use Rattle.ucl_live_runs.proofs.GoodPhases.{IsGood}
 use Rattle.ucl_io.proofs.Cuts.{few_lines}
@@ -22,6 +21,7 @@ use Rattle.ucl_live_runs.specs.LiveText.{after_lines, answers}
 use Rattle.std.specs.List.{Contains}
 use Rattle.std.specs.Prelude.{map}
 use Rattle.std.proofs.lemmas.List.Elements.{All-contains, All-contains_itself, All-weaker, Contains-append_cases, Contains-append_left, Contains-append_right}
+use Rattle.ucl_live_runs.proofs.OneByOne.{begun}
 
 -- ---- older board states
 
@@ -48,10 +48,11 @@ further a b c (inr p) q = record {
 }
 
 -- the answer to what a row asks for
-by-row : (e : Session) (r : Said) (shown : List ℕ) (event : NightEvent) → request_of r ≡ Event event →
-    answer_with e None r shown ≡ answer_at e.options e.header e.row e.phase (Event event) shown
-by-row e (Row f) shown event is = ap (λ (q : Request). answer_at e.options e.header e.row e.phase q shown) is
-by-row e r shown event is = cc
+by-row : (e : Session) (r : Said) (shown : List ℕ) (event : NightEvent) (clubs : List NamedClub) (board : List ℕ) → request_of r ≡ Event event → e.phase ≡ Open clubs board
+    → again e r ≡ None → answer_said e r shown ≡ answer_of e.options e.header e.row clubs board (Event event) shown
+by-row e Nothing shown event clubs board is h none = cc
+by-row e r shown event clubs board is h none =
+    answer-at e e.phase r shown clubs board h none ∙ ap (λ (q : Request). answer_of e.options e.header e.row clubs board q shown) is
 
 no-later : (o m : BoardState) → (o ≡ m) ⊎ IsBehind o m → IsOfSame o.header m.header × (o.header.edition ≤ m.header.edition)
 no-later o m (inl same) = rw same ((refl, refl), omega arith)
@@ -121,9 +122,7 @@ module _ (e : Session) (r : Said) (shown : List ℕ) (json : e.options.format �
       let reply = reply_answer e.options.format e.header e.row m.roster event (version_of m.board) (reply_of (game_at m.board event.call.game) event.call) after in
       let screen = screen_after e.options e.header e.row m.roster (reply_of (game_at m.board event.call.game) event.call) after in
       let line = accepted-reply e.options e.header e.row m.roster json fits g.header good.0 m.board good.1 event attempted small (version_of m.board) takes.none in
-      let whole : text ≡ reply ++ screen =
-      ap (λ (n : Option NewBoard). answer_with e n r shown) none ∙ by-row e r shown event takes.asks
-      ∙ ap (λ (s : Phase). answer_at e.options e.header e.row s (Event event) shown) at.0 in
+      let whole : text ≡ reply ++ screen = by-row e r shown event m.roster m.board takes.asks at.0 none in
       let parts = ap carried_in whole ∙ carried-then reply screen line.begun ∙ ap (λ (os : Carried). os ++ carried_in screen) line.carried in
       subst (λ (os : Carried). Contains os (Some (board_state_with m.header m.roster after))) (sym parts)
       (0, omega arith, ap (λ (t : BoardHeader). Some (board_state_with t m.roster after)) at.1)
@@ -148,8 +147,8 @@ module _ (e : Session) (r : Said) (shown : List ℕ) (json : e.options.format �
       at : (e.phase ≡ Open m.roster m.board) × (e.header ≡ m.header)
       at = is-at e.header e.phase m b.stands
 
-      on-board : again e r ≡ None → Moves m.board (request_of r) → IsNoNewerIn (next e r) all o
-      on-board none how = elim how [
+      stays : again e r ≡ None → Moves m.board (request_of r) → IsNoNewerIn (next e r) all o
+      stays none how = elim how [
         | inl still ↦ record {
           now = m;
           stands = there ∙ ap (λ (ws : List ℕ). Some (board_state_with m.header m.roster ws)) still;
@@ -170,23 +169,22 @@ module _ (e : Session) (r : Said) (shown : List ℕ) (json : e.options.format �
       ]
         where
           there : board_state_now (next e r) ≡ Some (board_state_with m.header m.roster (next_board m.board (request_of r)))
-          there = ap₂ board_state_at (header-stays e r m.roster m.board at.0 none ∙ at.1) (phase-stays e r m.roster m.board at.0 none)
+          there = ap board_state_now (on-board e r m.roster m.board at.0 none) ∙ ap (λ (t : BoardHeader). Some (board_state_with t m.roster (next_board m.board (request_of r)))) at.1
 
           old : e.is_new ≡ false → (next e r).is_new ≡ false
-          old is = ap (λ (n : Option NewBoard). newness_with n (stays_new e.is_new e.phase r)) none ∙ rw (is, at.0) refl
+          old is = ap (λ (k : Session). k.is_new) (on-board e r m.roster m.board at.0 none) ∙ and_right (is_bad (request_of r)) e.is_new is
 
       on-new : (new : NewBoard) → again e r ≡ Some new → IsNoNewerIn (next e r) all o
       on-new new some = record {
         now = board_state_with new.header new.clubs (board_of []);
-        stands = ap₂ board_state_at (ap (λ (n : Option NewBoard). header_with n (next_header e.header e.phase r)) some)
-            (ap (λ (n : Option NewBoard). phase_with n (next_phase e.options e.row e.phase r)) some);
+        stands = ap board_state_now (begun e r shown new some).0;
         behind = inr (record { same = earlier.same; less = inl earlier.edition });
         carried = λ same. absurd (omega (arith, same, earlier.edition));
       }
         where
           earlier : IsLaterHeader o.header new.header
           earlier =
-              let most = no-later o m b.behind in elim (renewed e r new some).renews.has_header [
+              let most = no-later o m b.behind in elim (renewed e.header e.is_new m.roster r new (rw at.0 at some)).renews.has_header [
                 | inl later ↦
                     let l : IsLaterHeader m.header new.header = subst (λ (t : BoardHeader). IsLaterHeader t new.header) at.1 later.0 in
                     record { same = (most.0.0 ∙ l.same.0, most.0.1 ∙ l.same.1); edition = omega (arith, most.1, l.edition) }
@@ -201,7 +199,7 @@ module _ (e : Session) (r : Said) (shown : List ℕ) (json : e.options.format �
     one-line o is = elim (Contains-append_cases out (carried_in text) (Some o) is) [ inl before ↦ by (again e r) refl (told o before) | inr now ↦ now-carried o now ]
       where
         by : (n : Option NewBoard) → again e r ≡ n → IsNoNewerIn e out o → IsNoNewerIn (next e r) all o
-        by None none b = on-board o b none (moves b.now.board (request_of r))
+        by None none b = stays o b none (moves b.now.board (request_of r))
         by (Some new) some b = on-new o b new some
 
 -- ---- all lines

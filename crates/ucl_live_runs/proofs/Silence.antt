@@ -1,7 +1,8 @@
 -- A session whose board is not open has answered nothing, and one that is refused stays so.
-use Rattle.ucl_live_runs.proofs.Common.{NewBoard, None, answer_with, next_by, phase_with, AwaitingHeader, Bool, Session, List, LiveArgs, LiveFault, AwaitingClubs}
-use Rattle.ucl_live_runs.proofs.Common.{Nothing, Open, Other, Refused, Row, Said, Some, Phase, [], after_row, answer_at, cases_Bool, false, inl, Option, inr}
-use Rattle.ucl_live_runs.proofs.Common.{missing, next, next_phase, refl, request_of, said_on, shown_text, true, ℕ, ◌∷◌, ◌≡◌, again}
+use Rattle.ucl_live_runs.proofs.Common.{AwaitingClubs, AwaitingHeader, Bool, List, LiveFault, NamedClub, NewBoard, None, Nothing, Open, Option, Other, Phase}
+use Rattle.ucl_live_runs.proofs.Common.{Refused, Row, Said, Session, Some, [], again, again_on, answer_at, answer_of, answer_on, answer_said, begun_again}
+use Rattle.ucl_live_runs.proofs.Common.{cases_Bool, false, inl, inr, missing, moved, next, next_at, next_on, refl, request_of, said_on, shown_text, true, ℕ, ◌∷◌}
+use Rattle.ucl_live_runs.proofs.Common.{◌≡◌}
 use Rattle.ucl_rows.specs.declared.fault.RunFault.TheVariants.{OutOfMemory}
 use Rattle.ucl_live_runs.specs.declared.live_fault.LiveFault.TheVariants.{Run}
 use Rattle.ucl_live_runs.specs.LiveFaults.{StopsBy}
@@ -15,38 +16,38 @@ is_open (Refused fault) = false
 
 -- an open board stays open
 
-open-row : (options : LiveArgs) (row : ℕ) (s : Phase) (r : Said) → is_open s ≡ true → is_open (after_row options row s r) ≡ true
-open-row options row (Open clubs board) r h = refl
-open-row options row s r h = cc
+open-on : (e : Session) (clubs : List NamedClub) (board : List ℕ) (r : Said) (o : Option NewBoard) → is_open (next_on e clubs board r o).phase ≡ true
+open-on e clubs board r None = refl
+open-on e clubs board r (Some new) = refl
 
-open-next : (options : LiveArgs) (row : ℕ) (s : Phase) (r : Said) → is_open s ≡ true → is_open (next_phase options row s r) ≡ true
-open-next options row s Nothing h = h
-open-next options row s Other h = open-row options row s Other h
-open-next options row s (Row f) h = open-row options row s (Row f) h
+open-at : (e : Session) (s : Phase) (r : Said) → is_open s ≡ true → is_open (next_at e s r).phase ≡ true
+open-at e (Open clubs board) r h = open-on e clubs board r (again_on e.header e.is_new clubs r)
+open-at e s r h = cc
 
-open-with : (o : Option NewBoard) (s : Phase) → is_open s ≡ true → is_open (phase_with o s) ≡ true
-open-with None s h = h
-open-with (Some new) s h = refl
+open-next : (e : Session) (r : Said) → is_open e.phase ≡ true → is_open (next e r).phase ≡ true
+open-next e Nothing h = h
+open-next e r h = open-at e e.phase r h
 
 pub stays-open : (e : Session) (lines : List (List ℕ)) → is_open e.phase ≡ true → is_open (after_lines e lines).phase ≡ true
 unfolding after_lines
 stays-open e [] h = h
-stays-open e (line ∷ lines) h =
-    let r = said_on e.row line in stays-open (next e r) lines (open-with (again e r) (next_phase e.options e.row e.phase r) (open-next e.options e.row e.phase r h))
+stays-open e (line ∷ lines) h = stays-open (next e (said_on e.row line)) lines (open-next e (said_on e.row line) h)
 
--- what is not open in the end was not open before
-shut-row : (options : LiveArgs) (row : ℕ) (s : Phase) (r : Said) → is_open (after_row options row s r) ≡ false → is_open s ≡ false
-shut-row options row s r h = elim (cases_Bool (is_open s)) [ inl y ↦ cc (open-row options row s r y) | inr n ↦ n ]
+-- a line is answered by an open board alone, that it does not begin again
+module _ (P : Session → List ℕ → Type 0) where
+  pub by-line : (e : Session) (r : Said) (shown : List ℕ) → ((after : Session) → P after [])
+      → ((clubs : List NamedClub) (board : List ℕ) → e.phase ≡ Open clubs board
+      → P (moved e (next_on e clubs board r None)) (answer_of e.options e.header e.row clubs board (request_of r) shown)) → P (next e r) (answer_said e r shown)
+  by-line e Nothing shown silent answered = silent (next e Nothing)
+  by-line e r shown silent answered = at e.phase refl
+    where
+      on : (clubs : List NamedClub) (board : List ℕ) → e.phase ≡ Open clubs board → (o : Option NewBoard) → P (moved e (next_on e clubs board r o)) (answer_on e clubs board r shown o)
+      on clubs board is None = answered clubs board is
+      on clubs board is (Some new) = silent (begun_again e new)
 
-silent-at : (e : Session) (s : Phase) (r : Said) (shown : List ℕ) → is_open s ≡ false → answer_at e.options e.header e.row s (request_of r) shown ≡ []
-silent-at e (Open clubs board) r shown h = cc
-silent-at _ _ _ _ _ = refl
-
-silent-by : (e : Session) (o : Option NewBoard) (r : Said) (shown : List ℕ) → is_open (next_by e o r).phase ≡ false → answer_with e o r shown ≡ []
-silent-by e (Some new) r shown h = refl
-silent-by e None Nothing shown h = refl
-silent-by e None Other shown h = silent-at e e.phase Other shown (shut-row e.options e.row e.phase Other h)
-silent-by e None (Row f) shown h = silent-at e e.phase (Row f) shown (shut-row e.options e.row e.phase (Row f) h)
+      at : (s : Phase) → e.phase ≡ s → P (moved e (next_at e s r)) (answer_at e s r shown)
+      at (Open clubs board) is = on clubs board is (again_on e.header e.is_new clubs r)
+      at s is = silent (moved e (next_at e s r))
 
 pub shut-lines : (e : Session) (lines : List (List ℕ)) → is_open (after_lines e lines).phase ≡ false → is_open e.phase ≡ false
 shut-lines e lines h = elim (cases_Bool (is_open e.phase)) [ inl y ↦ cc (stays-open e lines y) | inr n ↦ n ]
@@ -56,7 +57,7 @@ unfolding answers after_lines
 silent e [] h = refl
 silent e (line ∷ lines) h =
     let r = said_on e.row line in
-    let a = silent-by e (again e r) r (shown_text line) (shut-lines (next e r) lines h) in
+    let a = by-line (λ after text. is_open after.phase ≡ false → text ≡ []) e r (shown_text line) (λ _ _. refl) (λ _ _ _ k. cc) (shut-lines (next e r) lines h) in
     let b = silent (next e r) lines h in rw (a, b) refl
 
 -- a refused session stays refused

@@ -59,8 +59,6 @@ after_header options row (Some header) = if is_as_asked options header then Awai
 abbrev pub after_beginning : LiveArgs → ℕ → Said → Phase
 after_beginning options row said = if is_group_row said then after_header options row (header_said said) else after_club row [] (club_said 1 said)
 
--- ---- the phase after a line
-
 -- the board after a request
 abbrev pub next_board : List ℕ → Request → List ℕ
 next_board board (Event event) = board_after board (attempt_of event)
@@ -68,19 +66,6 @@ next_board board (Bad field) = board
 next_board board Screen = board
 next_board board Words = board
 next_board board Matches = board
-
--- the phase after a row with this number, which begins no board again
-abbrev pub after_row : LiveArgs → ℕ → Phase → Said → Phase
-after_row options row AwaitingHeader said = after_beginning options row said
-after_row options row (AwaitingClubs clubs) said = after_club row clubs (club_said (length clubs + 1) said)
-after_row options row (Open clubs board) said = Open clubs (next_board board (request_of said))
-after_row options row (Refused fault) said = Refused fault
-
--- the phase after a line with this number
-abbrev pub next_phase : LiveArgs → ℕ → Phase → Said → Phase
-next_phase options row phase Nothing = phase
-next_phase options row phase Other = after_row options row phase Other
-next_phase options row phase (Row f) = after_row options row phase (Row f)
 
 -- why a session is refused that ends here, before a line with this number: a club is missing
 abbrev pub missing : ℕ → Phase → Option LiveFault

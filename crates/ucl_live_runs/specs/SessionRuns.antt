@@ -22,8 +22,8 @@ use Rattle.ucl_rows.specs.Rows.{Said, Nothing, Other, Row, said_on}
 use Rattle.ucl_live_runs.specs.Seen.{phase_seen}
 use Rattle.ucl_rows.specs.Answers.{bytes_of}
 use Rattle.ucl_live_runs.specs.Phases.{Phase, AwaitingHeader, AwaitingClubs, Open, Refused}
-use Rattle.ucl_live_runs.specs.NewBoards.{NewBoard}
-use Rattle.ucl_live_runs.specs.LiveText.{Session, after_lines, again, answers, live_text, missing_after, missing_now, next}
+use Rattle.ucl_live_runs.specs.NewBoards.{NewBoard, again_on}
+use Rattle.ucl_live_runs.specs.LiveText.{Session, after_lines, answers, live_text, missing_after, missing_now, next}
 
 -- ---- lack of memory
 
@@ -36,22 +36,20 @@ RequestNeedsMemory options board Screen = ⊤
 RequestNeedsMemory options board Words = options.format ≡ Json
 RequestNeedsMemory options board Matches = ⊤
 
--- a club's name asks for memory
-abbrev pub PhaseNeedsMemory : LiveArgs → Phase → Request → Type 0
-PhaseNeedsMemory options AwaitingHeader request = ⊤
-PhaseNeedsMemory options (AwaitingClubs clubs) request = ⊤
-PhaseNeedsMemory options (Open clubs board) request = RequestNeedsMemory options board request
-PhaseNeedsMemory options (Refused fault) request = ⊥
-
 -- a row that begins the board again asks for none
-abbrev pub RowNeedsMemory : Session → Option NewBoard → Said → Type 0
-RowNeedsMemory e (Some new) said = ⊥
-RowNeedsMemory e None Nothing = ⊥
-RowNeedsMemory e None Other = PhaseNeedsMemory e.options e.phase (request_of Other)
-RowNeedsMemory e None (Row f) = PhaseNeedsMemory e.options e.phase (request_of (Row f))
+abbrev pub BoardNeedsMemory : LiveArgs → List ℕ → Request → Option NewBoard → Type 0
+BoardNeedsMemory options board request (Some new) = ⊥
+BoardNeedsMemory options board request None = RequestNeedsMemory options board request
+
+-- a club's name asks for memory
+abbrev pub RowNeedsMemory : Session → Phase → Said → Type 0
+RowNeedsMemory e (Open clubs board) r = BoardNeedsMemory e.options board (request_of r) (again_on e.header e.is_new clubs r)
+RowNeedsMemory e (Refused fault) r = ⊥
+RowNeedsMemory e s r = ⊤
 
 abbrev pub NeedsMemory : Session → Said → Type 0
-NeedsMemory e said = RowNeedsMemory e (again e said) said
+NeedsMemory e Nothing = ⊥
+NeedsMemory e r = RowNeedsMemory e e.phase r
 
 -- ---- the handler
 

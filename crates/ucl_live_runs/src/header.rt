@@ -122,7 +122,7 @@ impl HeaderState {
     /// Notes a row that begins no board again, and asks for this.
     pub(crate) fn goes_on(&mut self, request: &Request)
         ensures header { self.new.header ≡ self.old.header }
-        ensures new { self.new.is_new ≡ (self.old.is_new && is_bad request.now) }
+        ensures new { self.new.is_new ≡ (is_bad request.now && self.old.is_new) }
     {
         if !request.is_bad() {
             self.is_new = false;

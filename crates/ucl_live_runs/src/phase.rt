@@ -4,7 +4,7 @@ ghost use Rattle.std.specs.Prelude.{◌≡◌, ◌+◌, ◌-◌, ◌^◌, ◌<�
 ghost use Rattle.ucl_order.specs.Roster.{bad_slot, club_seen};
 ghost use Rattle.ucl_rows.specs.Rows.{fields_seen};
 ghost use Rattle.ucl_live_runs.specs.Phases.{AwaitingHeader, after_beginning, after_club, bad_row, club_said, missing, told_row, with_clubs, with_roster};
-ghost use Rattle.ucl_live_runs.specs.LiveText.{next_header};
+ghost use Rattle.ucl_live_runs.specs.LiveText.{first_header};
 ghost use Rattle.ucl_live_runs.specs.Seen.{Becomes, BecomesIfMemory, clubs_seen, phase_seen};
 
 use crate::header::{HeaderState, header_said, is_as_asked, is_group_row};
@@ -141,8 +141,7 @@ pub(crate) fn with_first(
 ) -> Result<Phase, LiveFault>
     ensures phase { BecomesIfMemory (after_beginning options.now row
         (fields_seen said.now)) result }
-    ensures header { OnOk result (heading.new.header ≡ next_header heading.old.header AwaitingHeader
-        (fields_seen said.now)) }
+    ensures header { OnOk result (heading.new.header ≡ first_header heading.old.header (fields_seen said.now)) }
     ensures new { OnOk result (heading.new.is_new ≡ heading.old.is_new) }
 {
     if !is_group_row(said) {

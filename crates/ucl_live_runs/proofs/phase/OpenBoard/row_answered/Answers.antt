@@ -13,7 +13,7 @@ returns-clause-next c =
     let answered = c.in_ok-answered.ensures in
     answered-next c.args.options.now c.args.heading.now c.args.row c.args.self.now c.args.said.now c.goes_on.new.self c.answered.new.self same.0
     (c.goes_on.ensures.header ∙ ap (λ (h : HeaderState). h.header) same.1)
-    (c.goes_on.ensures.new ∙ ap₂ (λ (h : HeaderState) (r : Request). h.is_new && is_bad r) same.1 asked)
+    (c.goes_on.ensures.new ∙ ap₂ (λ (h : HeaderState) (r : Request). is_bad r && h.is_new) same.1 asked)
     (answered.roster ∙ ap (λ (t : OpenBoard). t.roster) same.2) (answered.board ∙ ap₂ (λ (t : OpenBoard) (r : Request). next_board t.board r) same.2 asked)
 
 pub returns-clause-text : goal.returns-clause-text
