@@ -1,14 +1,14 @@
 -- Whole runs of a handler whose text is a function of the lines, from what the driver says of them.
 use Rattle.ucl_live_runs.proofs.Common.{Appends, Device, Err, Handler, HasClosed, IsPromptAt, LineRules, List, Ok, Result, Run, Seen, ServeFault, Served}
-use Rattle.ucl_live_runs.proofs.Common.{StopsLast, StopsNext, StoppedShort, Turn, WriteFailed, [], ap, append-nil, begun_line, device, ended_lines, false, inl, inr}
+use Rattle.ucl_live_runs.proofs.Common.{StoppedShort, StopsLast, StopsNext, Turn, WriteFailed, [], ap, append-nil, begun_line, device, ended_lines, false, inl, inr}
 use Rattle.ucl_live_runs.proofs.Common.{length, logs-as, refl, seen, stopped_first, sym, turns_front, whole, ℕ, ◌++◌, ◌+◌, ◌∙◌, ◌∷◌, ◌≡◌, ◌⊎◌}
 use Rattle.ucl_io.specs.Calls.{HasEnded, LogsCalls}
 use Rattle.ucl_io.specs.Serving.{is_source_failed}
 use Rattle.ucl_io.specs.Turns.{AreTurns, lines_in, state_after, text_in}
 use Rattle.ucl_io.specs.declared.logged_io.LoggedIo.{LoggedIo}
+use Rattle.ucl_live_runs.specs.Driven.{Due, FailsAfter, IsDriven, IsOutSoFar, SinkEnds, StopsInText}
 use Rattle.ucl_io.specs.declared.stream.Sink as writes
 use Rattle.ucl_io.specs.declared.stream.Source as reads
-use Rattle.ucl_live_runs.specs.Driven.{Due, FailsAfter, IsDriven, IsOutSoFar, SinkEnds, StopsInText}
 
 -- what is due of the lines of a handler that begins as m and answers by this rule
 pub record Drives {M V F : Type 0} (R : LineRules M F) (cap : ℕ) (D : Due V F) (m : M) (v : M → V) : Type 0 where

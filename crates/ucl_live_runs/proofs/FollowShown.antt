@@ -8,8 +8,8 @@ use Rattle.ucl_live_runs.proofs.Common.{IsNoNewer, List, None, Option, Profile, 
 use Rattle.ucl_live_runs.proofs.Common.{is_later, is_newer, is_same_order, is_shown, nat_tests, parse_board_line, refl, same_Some, screen_text, subst, sym, true}
 use Rattle.ucl_live_runs.proofs.Common.{unseen, ℕ, ⊤, ◌++◌, ◌==◌, ◌∙◌, ◌∷◌, ◌≡◌, ◌⊎◌}
 use Rattle.ucl_command.specs.declared.follow.FollowShape.TheVariants.{Text}
-use Rattle.ucl_live_runs.specs.Follow.{after_shown, follow_outputs, followed, shown_if, shown_of, shown_output}
-use Rattle.ucl_live_runs.specs.Latest.{IsFollowed, IsOlder, IsShownLast, LatestIsShownLast, OthersDoNotMatter, RiseAbove, ShownVersionsRise, board_states_shown}
+use Rattle.ucl_live_runs.specs.Follow.{IsFollowed, IsOlder, IsShownLast, LatestIsShownLast, OthersDoNotMatter, RiseAbove, ShownVersionsRise, after_shown}
+use Rattle.ucl_live_runs.specs.Follow.{board_states_shown, follow_outputs, followed, shown_if, shown_of, shown_output}
 
 abbrev Lines : Type 0
 Lines = List (List ℕ)
@@ -138,7 +138,7 @@ pub versions : ShownVersionsRise
 versions f lines = record {
   rise = rise f lines;
   text = text f lines;
-  told = carried f lines;
+  carried = carried f lines;
   asked = All-weaker _ (IsFollowed f) (narrows f lines) (board_states_shown f lines) (has_header f lines);
   has_header = has_header f lines;
 }
@@ -244,7 +244,7 @@ module _ (args : FollowArgs) (m : BoardState) (asked : is_asked args.group args.
   last lines all is = let p = ends (unseen args) lines (inl (refl, refl)) tt is all in record { before = p.1.0; shown = p.1.1; newest = p.0 }
 
 pub latest : LatestIsShownLast
-latest args m lines h = last args m h.asked lines h.newest h.told
+latest args m lines h = last args m h.asked lines h.newest h.carried
 
 pub others : OthersDoNotMatter
 others args m lines those h these told =

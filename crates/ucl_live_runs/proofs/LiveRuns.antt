@@ -6,8 +6,8 @@ use Rattle.ucl_io.specs.Turns.{AreTurns, lines_in, state_after, text_in}
 use Rattle.ucl_live_runs.specs.declared.session.Session.{Session as Held}
 use Rattle.ucl_live_runs.specs.SessionRuns.{Closes, IsRejected, NeedsMemory, RanOutOfMemory, session_due}
 use Rattle.ucl_live_runs.specs.LiveText.{after_lines, answers}
-use Rattle.ucl_live_runs.proofs.OneByOne.{after-append, after-one, answers-append, whole-missing, whole-text}
-use Rattle.ucl_live_runs.proofs.Silence.{missing-shut, refused-shut, shut-lines, silent, stays-refused, stops-with}
+use Rattle.ucl_live_runs.proofs.Lines.{after-append, answers-append, missing-shut, refused-shut, shut-lines, silent, stays-refused, stops-with, whole-missing}
+use Rattle.ucl_live_runs.proofs.Lines.{whole-text}
 use Rattle.ucl_live_runs.proofs.Driven.{Drives}
 use Rattle.ucl_io.specs.Calls.{HasEnded}
 
@@ -67,9 +67,10 @@ module _ (m : Held) where
           }
 
       rejects : (fault : LiveFault) → then.phase ≡ Refused fault → IsRejected start bytes before after fault
+      unfolding after_lines
       rejects fault h =
           let here = ap (after_lines start) next_is ∙ after-append start (lines_in turns) (line ∷ later) in
-          let refused : (after_bytes start bytes).phase ≡ Refused fault = rw (here, ← reaches, after-one) (stays-refused then later fault h) in
+          let refused : (after_bytes start bytes).phase ≡ Refused fault = rw (here, ← reaches) (stays-refused then later fault h) in
           let shut = rw here at (refused-shut _ fault refused) in
           let none = shows turns p ∙ silent start (lines_in turns) (shut-lines (after_lines start (lines_in turns)) (line ∷ later) shut) in
           record { refused = inl refused; out = rw none at out }

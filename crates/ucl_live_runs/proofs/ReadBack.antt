@@ -1,8 +1,8 @@
 -- The text of a plain value: it is read as that value, has ASCII alone, and is no longer than its parts.
 use Rattle.ucl_live_runs.proofs.Common.{All, All-append, All-cons, All-nil, Bool, Data, IsUtf8-from_ascii, List, Some, [], and_parts, ap, append-nil, arith, array}
-use Rattle.ucl_live_runs.proofs.Common.{cases_eq, compact_text, decimal, false, inl, inr, is_printed, length, length-append, length-decimal-le, list_all, member}
-use Rattle.ucl_live_runs.proofs.Common.{parse_board_line, nat_le, nat_tests, negsuc, no_members, null, number_text, object, option_map, pos, quoted, refl, string}
-use Rattle.ucl_live_runs.proofs.Common.{suc, sym, true, unsigned, ℕ, ⊤, ◌&&◌, ◌*◌, ◌++◌, ◌+◌, ◌<◌, ◌^◌, ◌∙◌, ◌∷◌, ◌≡◌, ◌≤◌}
+use Rattle.ucl_live_runs.proofs.Common.{cases_eq, compact_text, decimal, false, inl, inr, is_printed, length, length-append, list_all, member, nat_le, nat_tests}
+use Rattle.ucl_live_runs.proofs.Common.{negsuc, no_members, null, number_text, object, option_map, parse_board_line, pos, quoted, refl, string, suc, sym, true}
+use Rattle.ucl_live_runs.proofs.Common.{unsigned, ℕ, ⊤, ◌&&◌, ◌*◌, ◌++◌, ◌+◌, ◌<◌, ◌^◌, ◌∙◌, ◌∷◌, ◌≡◌, ◌≤◌}
 use Rattle.std.specs.Prelude.{not, ◌==◌, ◌||◌}
 use Rattle.std.proofs.lemmas.Fmt.{IsAscii-decimal}
 use Rattle.std.proofs.lemmas.Str.Ascii.{All-from_ascii, IsAscii-from_all}
@@ -12,9 +12,9 @@ use Rattle.json.proofs.Printed.Strings.{escape_byte_plain}
 use Rattle.json.proofs.Printed.Decimals.{IsNumber-decimal, IsNumber-signed_decimal}
 use Rattle.json.proofs.Printed.Tokens.{tokens-print}
 use Rattle.json.proofs.Printed.Trees.{ArePrintable-json_tokens, value-json_tokens}
-use Rattle.serde_json.specs.Data.{Num, negative, float, boolean, number, Items, no_items, item, Members, put}
-use Rattle.serde_json.specs.Read.{number_of, of_json, of_items, of_members, read}
-use Rattle.serde_json.specs.Written.{items_text, members_text, comma_if, outline, items_outline, members_outline}
+use Rattle.serde_json.specs.Data.{Items, Members, Num, boolean, float, item, negative, no_items, number, put}
+use Rattle.serde_json.specs.Read.{number_of, of_items, of_json, of_members, read}
+use Rattle.serde_json.specs.Written.{comma_if, items_outline, items_text, members_outline, members_text, outline}
 use Rattle.serde_json.proofs.Numbers.{number_of-decimal, number_of-negative}
 use Rattle.serde_json.proofs.Texts.{print-outline}
 use Rattle.ucl_json.specs.BoardLines.{parse_board_state}

@@ -1,27 +1,23 @@
 -- The last board state that the answers of a record tell is its board.
-use Rattle.ucl_live_runs.proofs.Common.{All-head, BoardHeader, BoardState, Bool, Event, FollowArgs, HasNumbers, IsAttempt, Json, List, LiveArgs, NamedClub}
-use Rattle.ucl_live_runs.proofs.Common.{NewBoard, NightEvent, None, Nothing, Open, Option, Phase, Refusal, Request, Said, Session, Some, [], again, and_right}
-use Rattle.ucl_live_runs.proofs.Common.{answer_of, answer_said, ap, append-nil, append_assoc, arith, attempt_of, begun_line, begun_none, board_after, board_of}
-use Rattle.ucl_live_runs.proofs.Common.{board_state_at, board_state_now, board_state_with, ended_lines, false, flat_map, game_at, inl, inr, is_bad, is_later}
-use Rattle.ucl_live_runs.proofs.Common.{last_lines, length, length-append, lines_of, nat_tests, next, next_board, parse_board_line, refl, refusal_of, reply_answer}
-use Rattle.ucl_live_runs.proofs.Common.{reply_of, request_of, said_on, same_Some, screen_after, screen_text, shown_text, start_of, subst, sym, true, unseen}
-use Rattle.ucl_live_runs.proofs.Common.{version_at, version_of, ℕ, ◌++◌, ◌+◌, ◌<◌, ◌^◌, ◌∙◌, ◌∷◌, ◌≡◌, ◌≤◌, ◌⊎◌}
+use Rattle.ucl_live_runs.proofs.Common.{BoardHeader, BoardState, Bool, Event, FollowArgs, Json, List, LiveArgs, NamedClub, NewBoard, NightEvent, None, Nothing}
+use Rattle.ucl_live_runs.proofs.Common.{Open, Option, Phase, Refusal, Request, Said, Session, Some, [], again, and_right, answer_of, answer_said, ap, append-nil}
+use Rattle.ucl_live_runs.proofs.Common.{append_assoc, arith, attempt_of, begun_line, begun_none, board_after, board_of, board_state_at, board_state_now}
+use Rattle.ucl_live_runs.proofs.Common.{board_state_with, ended_lines, false, flat_map, game_at, inl, inr, is_bad, is_later, last_lines, length, length-append}
+use Rattle.ucl_live_runs.proofs.Common.{lines_of, nat_tests, next, next_board, parse_board_line, refl, refusal_of, reply_answer, reply_of, request_of, said_on}
+use Rattle.ucl_live_runs.proofs.Common.{same_Some, screen_after, screen_text, shown_text, start_of, subst, sym, true, unseen, version_at, version_of, ℕ, ◌++◌, ◌+◌}
+use Rattle.ucl_live_runs.proofs.Common.{◌<◌, ◌^◌, ◌∙◌, ◌∷◌, ◌≡◌, ◌≤◌, ◌⊎◌}
 use Rattle.std.proofs.lemmas.Grind.{flat_map-append}
-use Rattle.ucl_live_runs.proofs.AnswerLines.{CarriesAtMost, IsAtMost, IsShown, begun-then, carried-none, carried-then, carried_in, shown-text}
-use Rattle.ucl_live_runs.proofs.AnswerBoardStates.{Fits, IsSound, Lines, accepted-reply, fits-request, line-tells, sound-next, start-sound, told_after, told_now}
-use Rattle.ucl_live_runs.proofs.BegunAgain.{IsLaterHeader, renewed}
-use Rattle.ucl_live_runs.proofs.Boards.{AreAttempts, answer-at, of-request, on-board}
-use Rattle.ucl_live_runs.proofs.GoodBoards.{version-after}
-use Rattle.ucl_live_runs.proofs.GoodPhases.{IsGood}
+use Rattle.ucl_live_runs.proofs.AnswerLines.{CarriesAtMost, IsAtMost, IsShown, IsSound, Lines, accepted-reply, begun-then, carried-none, carried-then, carried_in}
+use Rattle.ucl_live_runs.proofs.AnswerLines.{line-tells, numbers, shown-text, sound-next, start-sound, told_after, told_now}
+use Rattle.ucl_live_runs.proofs.Boards.{IsGood, IsLaterHeader, IsPossible, answer-at, on-board, possible, renewed, version-after}
 use Rattle.ucl_io.proofs.Cuts.{few_lines}
 use Rattle.ucl_live_runs.proofs.FollowShown.{IsOfSame, among, others, same-asked, versions}
-use Rattle.ucl_live_runs.specs.Latest.{IsCarriedIn, IsLatest, IsNoNewer, IsOlder}
-use Rattle.ucl_live_runs.specs.Records.{FollowersEndWithTheBoard, IsRecord, SameRowsSameTable, after_record, answer_lines}
+use Rattle.ucl_live_runs.specs.Follow.{FollowersEndWithTheBoard, IsCarriedIn, IsLatest, IsNoNewer, IsOlder, IsRecord, SameRowsSameTable, after_record, answer_lines}
 use Rattle.ucl_live_runs.specs.LiveText.{after_lines, answers}
 use Rattle.std.specs.List.{Contains}
 use Rattle.std.specs.Prelude.{map}
 use Rattle.std.proofs.lemmas.List.Elements.{All-contains, All-contains_itself, All-weaker, Contains-append_cases, Contains-append_left, Contains-append_right}
-use Rattle.ucl_live_runs.proofs.OneByOne.{begun}
+use Rattle.ucl_live_runs.proofs.Lines.{begun}
 
 -- ---- older board states
 
@@ -116,12 +112,11 @@ module _ (e : Session) (r : Said) (shown : List ℕ) (json : e.options.format �
   event-told m event none now takes =
       let at = is-at e.header e.phase m now in
       let good : IsGood (Open m.roster m.board) = subst IsGood at.0 g.phase in
-      let attempted : IsAttempt (attempt_of event) = All-head IsAttempt (attempt_of event) [] (subst AreAttempts takes.asks (of-request r)) in
-      let small : HasNumbers event = subst Fits takes.asks (fits-request r) in
+      let p : IsPossible (Event event) = subst IsPossible takes.asks (possible r) in
       let after = board_after m.board (attempt_of event) in
       let reply = reply_answer e.options.format e.header e.row m.roster event (version_of m.board) (reply_of (game_at m.board event.call.game) event.call) after in
       let screen = screen_after e.options e.header e.row m.roster (reply_of (game_at m.board event.call.game) event.call) after in
-      let line = accepted-reply e.options e.header e.row m.roster json fits g.header good.0 m.board good.1 event attempted small (version_of m.board) takes.none in
+      let line = accepted-reply e.options e.header e.row m.roster json fits g.header good.0 m.board good.1 event p.0 (numbers event p) (version_of m.board) takes.none in
       let whole : text ≡ reply ++ screen = by-row e r shown event m.roster m.board takes.asks at.0 none in
       let parts = ap carried_in whole ∙ carried-then reply screen line.begun ∙ ap (λ (os : Carried). os ++ carried_in screen) line.carried in
       subst (λ (os : Carried). Contains os (Some (board_state_with m.header m.roster after))) (sym parts)
@@ -158,8 +153,8 @@ module _ (e : Session) (r : Said) (shown : List ℕ) (json : e.options.format �
         | inr takes ↦
             let event = takes.0 in
             let t = takes.1 in
-            let attempted : IsAttempt (attempt_of event) = All-head IsAttempt (attempt_of event) [] (subst AreAttempts t.asks (of-request r)) in
-            let more = version-after m.board (attempt_of event) (subst IsGood at.0 g.phase).1 attempted t.none in
+            let p : IsPossible (Event event) = subst IsPossible t.asks (possible r) in
+            let more = version-after m.board (attempt_of event) (subst IsGood at.0 g.phase).1 p.0 t.none in
             let next_one = board_state_with m.header m.roster (board_after m.board (attempt_of event)) in record {
               now = next_one;
               stands = there ∙ ap (λ (q : Request). Some (board_state_with m.header m.roster (next_board m.board q))) t.asks;
@@ -184,7 +179,7 @@ module _ (e : Session) (r : Said) (shown : List ℕ) (json : e.options.format �
         where
           earlier : IsLaterHeader o.header new.header
           earlier =
-              let most = no-later o m b.behind in elim (renewed e.header e.is_new m.roster r new (rw at.0 at some)).renews.has_header [
+              let most = no-later o m b.behind in elim (renewed e.header e.is_new m.roster r new (rw at.0 at some)).has_header [
                 | inl later ↦
                     let l : IsLaterHeader m.header new.header = subst (λ (t : BoardHeader). IsLaterHeader t new.header) at.1 later.0 in
                     record { same = (most.0.0 ∙ l.same.0, most.0.1 ∙ l.same.1); edition = omega (arith, most.1, l.edition) }
@@ -252,7 +247,7 @@ module _ (options : LiveArgs) (rows : List ℕ) (args : FollowArgs) (m : BoardSt
   is-latest other t edition =
       let b = told other t in
       let same : b.now ≡ m = same_Some b.now m (sym b.stands ∙ is.ends) in record {
-        told = rw same at (b.carried (edition ∙ ap (λ (x : BoardState). x.header.edition) (sym same))).1;
+        carried = rw same at (b.carried (edition ∙ ap (λ (x : BoardState). x.header.edition) (sym same))).1;
         asked = is.asked;
         newest = All-weaker (Contains os) (IsNoNewer args m) each os (All-contains_itself os);
       }

@@ -1,5 +1,5 @@
 -- The text of a session: the answers to its lines.
-use Rattle.std.specs.Prelude.{ℕ, ◌+◌, ◌&&◌, if◌then◌else◌, Bool, true, length, List, [], ◌∷◌, ◌++◌, Option, None, Some, Result, Ok, Err}
+use Rattle.std.specs.Prelude.{Bool, Err, List, None, Ok, Option, Result, Some, [], if◌then◌else◌, length, true, unwrap_or, ℕ, ◌&&◌, ◌++◌, ◌+◌, ◌∷◌}
 use Rattle.ucl_word.specs.declared.event.Accepted.{Accepted}
 use Rattle.ucl_word.specs.declared.refusal.Refusal.{Refusal}
 use Rattle.ucl_word.specs.Rules.{reply_of}
@@ -11,15 +11,14 @@ use Rattle.ucl_json.specs.declared.header.BoardHeader.{BoardHeader}
 use Rattle.ucl_command.specs.declared.live.LiveArgs.{LiveArgs}
 use Rattle.ucl_live_runs.specs.declared.live_fault.LiveFault.{LiveFault}
 use Rattle.ucl_live_runs.specs.declared.request.Request.{Request}
-use Rattle.ucl_live_runs.specs.declared.request.Request.TheVariants.{Bad, Event, Screen, Words, Matches}
+use Rattle.ucl_live_runs.specs.declared.request.Request.TheVariants.{Bad, Event, Matches, Screen, Words}
 use Rattle.ucl_rows.specs.InputLines.{lines_of}
-use Rattle.ucl_rows.specs.Rows.{Said, Nothing, Other, Row, said_on}
+use Rattle.ucl_rows.specs.Rows.{Nothing, Said, said_on}
 use Rattle.ucl_rows.specs.BadRows.{shown_text}
 use Rattle.ucl_board.specs.History.{board_of}
 use Rattle.ucl_live_runs.specs.NewBoards.{NewBoard, again_on}
-use Rattle.ucl_live_runs.specs.Requests.{is_bad, request_of}
-use Rattle.ucl_live_runs.specs.Headers.{asked_header, is_group_row, header_said}
-use Rattle.ucl_live_runs.specs.Phases.{Phase, AwaitingHeader, AwaitingClubs, Open, Refused, after_beginning, after_club, club_said, missing, next_board}
+use Rattle.ucl_live_runs.specs.Requests.{asked_header, header_said, is_bad, is_group_row, request_of}
+use Rattle.ucl_live_runs.specs.Phases.{AwaitingClubs, AwaitingHeader, Open, Phase, Refused, after_beginning, after_club, club_said, missing, next_board}
 
 -- between two lines: how it answers, the header of its board, which line comes next, counted from 1, how far it is, and whether nothing
 -- but the row of its edition and rows of its clubs has come in that edition
@@ -36,7 +35,7 @@ start_of options = record { options = options; header = asked_header options; ro
 
 -- ---- the answer to a line
 
--- the screen after an accepted event, where screens are wanted
+-- the screen after an accepted event, if screens are wanted
 abbrev pub screen_after : LiveArgs → BoardHeader → ℕ → List NamedClub → Result Accepted Refusal → List ℕ → List ℕ
 screen_after options header row clubs (Ok accepted) board = if options.screens then screen_answer options.format header row clubs board else []
 screen_after options header row clubs (Err refusal) board = []
@@ -74,11 +73,10 @@ abbrev pub answer_at : Session → Phase → Said → List ℕ → List ℕ
 answer_at e (Open clubs board) r shown = answer_on e clubs board r shown (again_on e.header e.is_new clubs r)
 answer_at e s r shown = []
 
--- the answer to what a line says that is shown so
+-- the answer to a line that says this and is shown so
 abbrev pub answer_said : Session → Said → List ℕ → List ℕ
 answer_said e Nothing shown = []
-answer_said e Other shown = answer_at e e.phase Other shown
-answer_said e (Row f) shown = answer_at e e.phase (Row f) shown
+answer_said e r shown = answer_at e e.phase r shown
 
 -- ---- the session after a line
 
@@ -95,14 +93,10 @@ abbrev pub moved : Session → Stage → Session
 moved e s = record { options = e.options; header = s.header; row = e.row + 1; phase = s.phase; is_new = s.is_new }
 
 -- the first row may say the header of the board
-abbrev pub header_or : BoardHeader → Option BoardHeader → BoardHeader
-header_or header None = header
-header_or header (Some other) = other
-
 abbrev pub first_header : BoardHeader → Said → BoardHeader
-first_header header r = if is_group_row r then header_or header (header_said r) else header
+first_header header r = if is_group_row r then unwrap_or (header_said r) header else header
 
--- the fresh board of an edition, in place of the one that stood
+-- the fresh board of an edition, in place of the present one
 abbrev pub begun_again : Session → NewBoard → Session
 begun_again e new = moved e (stage new.header (Open new.clubs (board_of [])) true)
 
@@ -119,8 +113,7 @@ next_at e (Refused fault) r = stage e.header (Refused fault) e.is_new
 
 abbrev pub stage_after : Session → Said → Stage
 stage_after e Nothing = stage e.header e.phase e.is_new
-stage_after e Other = next_at e e.phase Other
-stage_after e (Row f) = next_at e e.phase (Row f)
+stage_after e r = next_at e e.phase r
 
 abbrev pub next : Session → Said → Session
 next e r = moved e (stage_after e r)

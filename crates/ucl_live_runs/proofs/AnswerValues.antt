@@ -1,39 +1,168 @@
--- What a session answers in JSON is plain, and short: so each of its lines carries what its value carries.
-use Rattle.ucl_live_runs.proofs.Common.{All, All-get_or, All-head, All-tail, AreWords, AwayInTie, BoardState, Disallow, Goal, HasNumbers, Home, IsBoardState}
-use Rattle.ucl_live_runs.proofs.Common.{IsClub, IsGroup, IsRoster, IsValid, IsWord, Kind, List, Mark, MatchRecord, NamedClub, NightEvent, Plus, Profile, Red}
-use Rattle.ucl_live_runs.proofs.Common.{Scheduled, SecondYellow, Uefa, Yellow, [], accepted_value, and_from, and_parts, arith, cases_Bool, club_in, club_items}
-use Rattle.ucl_live_runs.proofs.Common.{decimal, digit_glyph, false, game_at, hex_digits, in_play, inl, inr, is_in_play, is_name, is_printed, le-leb, leb-true}
-use Rattle.ucl_live_runs.proofs.Common.{length, length-decimal-le, list_all, mark_name, match_items, match_numbers, nat_le, nat_lt, nat_tests, negsuc, number_text}
-use Rattle.ucl_live_runs.proofs.Common.{number_valid, of_integer, place_items, pos, profile_name, record_at, refl, rows_of, suc, true, version_of, word_at}
-use Rattle.ucl_live_runs.proofs.Common.{word_items, word_valid, zero, ℕ, ℤ, ◌%◌, ◌&&◌, ◌*◌, ◌+◌, ◌-ℤ◌, ◌-◌, ◌/◌, ◌<◌, ◌^◌, ◌∙◌, ◌∷◌, ◌≡◌, ◌≤◌}
+-- The values of answers: the board state that they carry, and that they are plain and short.
+use Rattle.ucl_live_runs.proofs.Common.{All, All-get_or, All-head, All-tail, AreWords, AwayInTie, BoardState, Data, Disallow, Goal, HasNumbers, Home, IsBoardState}
+use Rattle.ucl_live_runs.proofs.Common.{IsClub, IsGroup, IsRoster, IsValid, IsWord, Kind, List, Mark, MatchRecord, NamedClub, NightEvent, None, Ok, Option, Plus}
+use Rattle.ucl_live_runs.proofs.Common.{Profile, Red, Scheduled, SecondYellow, Some, Uefa, Yellow, [], and_from, and_parts, ap, arith, bad_slot, cases_Bool}
+use Rattle.ucl_live_runs.proofs.Common.{club_in, club_items, codes, decimal, digit_glyph, false, game_at, hex_digits, in_play, inl, inr, is_in_play, is_name}
+use Rattle.ucl_live_runs.proofs.Common.{is_printed, le-leb, leb-true, length, length-decimal-le, letter_in, list_all, mark_name, match_items, match_numbers, member}
+use Rattle.ucl_live_runs.proofs.Common.{nat_le, nat_lt, nat_tests, negsuc, no_members, number_text, number_valid, number_value, object, of_integer, place_items}
+use Rattle.ucl_live_runs.proofs.Common.{pos, pow-suc, profile_name, profile_named, read_words, record_at, refl, rows_of, string, suc, true, unsigned, version_of}
+use Rattle.ucl_live_runs.proofs.Common.{word_at, word_items, word_valid, zero, ℕ, ℤ, ◌%◌, ◌&&◌, ◌*◌, ◌+◌, ◌-ℤ◌, ◌-◌, ◌/◌, ◌<◌, ◌==◌, ◌^◌, ◌∙◌, ◌∷◌, ◌≡◌, ◌≤◌}
+use Rattle.std.specs.Prelude.{option_and_then, slice_index_or}
+use Rattle.serde_json.specs.Data.{number}
+use Rattle.serde_json.specs.Find.{get}
 use Rattle.serde_json.proofs.OnLiterals.{serde_json_on_literals}
+use Rattle.ucl_order.specs.Roster.{bad_slot_from, is_club, named}
+use Rattle.ucl_screen.specs.Numbers.{hex_after, hex_digit, hex_word}
+use Rattle.ucl_screen.proofs.ReadWords.{all-read}
+use Rattle.ucl_json.specs.Values.{accepted_value, club_value, edition_screen_value, match_value, matches_value, place_value, screen_value, sides_value}
+use Rattle.ucl_rows.proofs.WordDigits.{low, word-digits}
+use Rattle.ucl_json.specs.BoardLines.{edition_in, if_read, just, list_at, listed, parse_board, parse_board_state, parse_club, parse_clubs, parse_each}
+use Rattle.ucl_json.specs.BoardLines.{parse_edition, parse_group, parse_order, parse_roster, parse_word, text_at}
+use Rattle.ucl_live_runs.specs.Follow.{AnswersTellTheirBoardState, LinesTellTheirBoardState, MatchesFitTheirLine}
 use Rattle.std.proofs.lemmas.Int.{ints}
 use Rattle.std.proofs.lemmas.List.Sums.{count_by-le-length, sum_by-le}
-use Rattle.std.specs.Prelude.{slice_index_or}
 use Rattle.ucl_board.specs.Fixtures.{IsSlot}
-use Rattle.ucl_json.specs.Values.{accepted_value, club_value, edition_screen_value, match_value, matches_value, place_value, screen_value, sides_value}
-use Rattle.ucl_live_runs.proofs.Answered.{answered, long}
 use Rattle.ucl_live_runs.proofs.ReadBack.{ArePlain, IsPlain, IsPlainNumber, IsShortPlain, IsText, items_size, line-short, parsed-line, size}
-use Rattle.ucl_live_runs.specs.Answered.{LinesTellTheirBoardState, MatchesFitTheirLine}
 use Rattle.ucl_order.proofs.KeysFit.{words_valid}
 use Rattle.ucl_order.proofs.Limits.{rows_within}
-use Rattle.ucl_order.specs.Roster.{is_club, named}
 use Rattle.ucl_order.specs.Rows.{IsWithinTable, row_of}
 use Rattle.ucl_order.specs.declared.table.Row.{Row}
-use Rattle.ucl_rows.proofs.WordDigits.{low, word-digits}
 use Rattle.ucl_screen.specs.Matches.{state_name}
 use Rattle.ucl_word.proofs.ValidRecords.{away_expulsions_valid, away_goals_valid, away_yellows_valid, home_expulsions_valid, home_goals_valid, home_yellows_valid}
 use Rattle.ucl_word.proofs.ValidRecords.{reporter_valid}
 use Rattle.ucl_word.specs.Names.{kind_name}
 use Rattle.ucl_word.specs.declared.record.State.{State}
+use Rattle.std.proofs.lemmas.Bool.{eq-eqb}
+
+-- ==== What a session answers tells its board state
+
+-- ---- digits
+
+glyph-back : (d : ℕ) → d < 16 → hex_digit (digit_glyph false d) ≡ Some d
+glyph-back (suc (suc (suc (suc (suc (suc (suc (suc (suc (suc (suc (suc (suc (suc (suc (suc d)))))))))))))))) h = absurd (omega arith)
+glyph-back _ _ = refl
+
+one-digit : (n d : ℕ) (rest : List ℕ) → d < 16 → hex_after n (digit_glyph false d ∷ rest) ≡ hex_after (16 * n + d) rest
+unfolding hex_after
+one-digit n d rest h = ap (λ (o : Option ℕ). option_and_then (λ e. hex_after (16 * n + e) rest) o) (glyph-back d h)
+
+spell : (before last power next n : ℕ) → next ≡ 16 * power → n ≡ 16 * before + last → (a : ℕ) → 16 * (a * power + before) + last ≡ a * next + n
+spell before last power next n e f a = rw (e, f) (omega arith)
+
+low-back : (k n a : ℕ) (rest : List ℕ) → n < 16 ^ k → hex_after a (low k n rest) ≡ hex_after (a * 16 ^ k + n) rest
+low-back zero n a rest h = ap (λ (m : ℕ). hex_after m rest) (omega arith)
+low-back (suc k) n a rest h =
+    let p : 16 ^ suc k ≡ 16 * 16 ^ k = omega (arith, pow-suc 16 k) in
+    let few : n / 16 < 16 ^ k = omega arith in
+    let last : n % 16 < 16 = omega arith in
+    let parts : n ≡ 16 * (n / 16) + n % 16 = omega arith in
+    low-back k (n / 16) a (digit_glyph false (n % 16) ∷ rest) few ∙ one-digit (a * 16 ^ k + n / 16) (n % 16) rest last
+    ∙ ap (λ (m : ℕ). hex_after m rest) (spell (n / 16) (n % 16) (16 ^ k) (16 ^ suc k) n p parts a)
+
+pub long : (k n : ℕ) (rest : List ℕ) → length (low k n rest) ≡ k + length rest
+long zero n rest = omega arith
+long (suc k) n rest = long k (n / 16) (digit_glyph false (n % 16) ∷ rest) ∙ omega arith
+
+of-sixteen : (text : List ℕ) (n : ℕ) → length text ≡ 16 → hex_after 0 text ≡ Some n → hex_word text ≡ Some n
+of-sixteen text n e h = rw (eq-eqb (length text) 16 e) h
+
+word-back : (word : ℕ) → word < 2 ^ 64 → hex_word (hex_digits word) ≡ Some word
+unfolding hex_after
+word-back word h =
+    let back = low-back 16 word 0 [] (omega arith) ∙ ap Some (omega arith) in
+    ap hex_word (word-digits word h) ∙ of-sixteen (low 16 word []) word (long 16 word []) back
+
+-- ---- words
+
+words-back : (words : List ℕ) → All (λ word. word < 2 ^ 64) words → parse_each parse_word (listed (word_items words)) ≡ Some words
+unfolding parse_each
+words-back [] h = refl
+words-back (word ∷ words) h =
+    rw (word-back word (All-head (λ w. w < 2 ^ 64) word words h), words-back words (All-tail (λ w. w < 2 ^ 64) word words h)) refl
+
+count-words : (words : List ℕ) → length (listed (word_items words)) ≡ length words
+count-words [] = refl
+count-words (word ∷ words) = ap suc (count-words words)
+
+pub board-back : (board : List ℕ) → AreWords board → read_words 1 board ≡ Ok board
+board-back board w = all-read 1 board board refl (λ k less. inl (w.each k 0 less, refl))
+
+board-told : (board : List ℕ) → AreWords board → All (λ word. word < 2 ^ 64) board
+    → option_and_then (λ words. if_read (read_words 1 words)) (just 12 parse_word (listed (word_items board))) ≡ Some board
+board-told board w bits = rw (count-words board, eq-eqb (length board) 12 w.twelve, words-back board bits, board-back board w) refl
+
+-- ---- clubs
+
+club-back : (club : NamedClub) → IsClub club →
+    parse_club (object (member (codes "club") (string club.name) (member (codes "coefficient") (number (unsigned club.coefficient)) no_members))) ≡ Some club
+unfolding is_club serde_json_on_literals
+club-back club h = let p = and_parts (is_name club.name) (nat_le club.coefficient 999999) h in rw p.1 refl
+
+pub no-bad : (a b c d : NamedClub) → IsClub a → IsClub b → IsClub c → IsClub d → bad_slot (a ∷ b ∷ c ∷ d ∷ []) ≡ None
+unfolding bad_slot_from
+no-bad a b c d p q r s = rw (p, q, r, s) refl
+
+four : (a b c d : NamedClub) → IsClub a → IsClub b → IsClub c → IsClub d → parse_roster (listed (club_items (a ∷ b ∷ c ∷ d ∷ []))) ≡ Some (a ∷ b ∷ c ∷ d ∷ [])
+unfolding parse_each
+four a b c d p q r s = rw (club-back a p, club-back b q, club-back c r, club-back d s, no-bad a b c d p q r s) refl
+
+clubs-told : (clubs : List NamedClub) → IsRoster clubs → parse_roster (listed (club_items clubs)) ≡ Some clubs
+clubs-told (a ∷ b ∷ c ∷ d ∷ []) is = four a b c d (is.each 0 a (omega arith)) (is.each 1 a (omega arith)) (is.each 2 a (omega arith)) (is.each 3 a (omega arith))
+clubs-told _ is = absurd (let t = is.four in omega arith)
+
+-- ---- the group and its order
+
+letter-told : (group : ℕ) → IsGroup group → letter_in (group ∷ []) ≡ Some group
+letter-told group h = rw (le-leb 65 group h.0, le-leb group 72 h.1) refl
+
+order-back : (profile : Profile) → profile_named (profile_name profile) ≡ Some profile
+order-back Uefa = refl
+order-back AwayInTie = refl
+
+edition-back : (edition : ℕ) → edition ≤ 65535 → edition_in (Some (number_value edition)) ≡ Some edition
+edition-back edition h = rw (le-leb edition 65535 h) refl
+
+-- ---- a board state
+
+told-by : (value : Data) (m : BoardState) → parse_group value ≡ Some m.header.group → parse_order value ≡ Some m.header.profile → parse_edition value ≡ Some m.header.edition
+    → parse_clubs value ≡ Some m.roster → parse_board value ≡ Some m.board
+    → parse_board_state value ≡ Some m
+unfolding parse_board_state
+told-by value m a b c d e = rw (a, b, c, d, e) refl
+
+abbrev Has : Data → BoardState → Type 0
+Has value m = (text_at (codes "group") value ≡ Some (m.header.group ∷ [])) × (text_at (codes "order") value ≡ Some (profile_name m.header.profile))
+    × (get (codes "edition") value ≡ Some (number_value m.header.edition))
+    × (list_at (codes "clubs") value ≡ Some (listed (club_items m.roster))) × (list_at (codes "words") value ≡ Some (listed (word_items m.board)))
+
+tells : (value : Data) (m : BoardState) → IsBoardState m → Has value m → parse_board_state value ≡ Some m
+tells value m is (group, order, edition, clubs, words) = told-by value m
+    (ap (option_and_then letter_in) group ∙ letter-told m.header.group is.letter)
+    (ap (option_and_then profile_named) order ∙ order-back m.header.profile)
+    (ap edition_in edition ∙ edition-back m.header.edition is.edition)
+    (ap (option_and_then parse_roster) clubs ∙ clubs-told m.roster is.clubs)
+    (rw words (board-told m.board is.words is.bits))
+
+reply-has : (row : ℕ) (event : NightEvent) (event_number : ℕ) (m : BoardState) → Has (accepted_value row event event_number m.header m.board m.roster) m
+unfolding accepted_value serde_json_on_literals
+reply-has row event event_number m = (refl, refl, refl, refl, refl)
+
+screen-has : (row : ℕ) (m : BoardState) → Has (edition_screen_value row m.header m.board m.roster) m
+unfolding edition_screen_value screen_value serde_json_on_literals
+screen-has row m = (refl, refl, refl, refl, refl)
+
+pub answered : AnswersTellTheirBoardState
+answered row event event_number m is = record {
+  reply = tells (accepted_value row event event_number m.header m.board m.roster) m is (reply-has row event event_number m);
+  screen = tells (edition_screen_value row m.header m.board m.roster) m is (screen-has row m);
+}
+
+-- ==== What a session answers in JSON is plain, and short: so each of its lines carries what its value carries
 
 -- ---- numbers
 
 pub digits-20 : (n : ℕ) → n < 2 ^ 64 → length (decimal n) ≤ 20
 digits-20 n h = length-decimal-le 20 n (omega arith) (omega arith) h
-
-digits-1 : (n : ℕ) → n < 10 → length (decimal n) ≤ 1
-digits-1 n h = length-decimal-le 1 n (omega arith) h (omega arith)
 
 digits-2 : (n : ℕ) → n < 100 → length (decimal n) ≤ 2
 digits-2 n h = length-decimal-le 2 n (omega arith) h (omega arith)
@@ -152,7 +281,7 @@ kind-text _ = (refl, omega arith)
 pub accepted-plain : (row : ℕ) (event : NightEvent) (number : ℕ) (m : BoardState) → IsBoardState m → row < 2 ^ 64 → HasNumbers event → number < 2 ^ 64
     → IsShortPlain (accepted_value row event number m.header m.board m.roster)
 unfolding accepted_value serde_json_on_literals
-accepted-plain row event number m is r fits n =
+accepted-plain row event event_number m is r fits n =
     let words = words-plain m.board is.bits in
     let clubs = clubs-plain m.roster is.clubs in
     let kind = kind-text event.call.kind in
@@ -229,33 +358,14 @@ mark-text Plus = (refl, omega arith)
 mark-text _ = (refl, omega arith)
 
 place-plain : (roster : List NamedClub) (row : Row) → IsRoster roster → IsWithinTable row → row.place ≤ 4
-    → IsPlain 125 (place_value roster row) × (size (place_value roster row) ≤ 210)
+    → IsPlain 125 (place_value roster row) × (size (place_value roster row) ≤ 230)
 unfolding place_value serde_json_on_literals
 place-plain roster row is w four =
     let club = slot-plain roster is row.slot w.slot in
     let mark = mark-text row.mark in
-    let apart = difference-plain (pos row.goals_for -ℤ pos row.goals_against) row.goals_for row.goals_against refl w.goals_for w.goals_against in
-    let one = λ (n : ℕ) (h : n ≤ 6). digits-1 n (omega arith) in
-    let three = λ (n : ℕ) (h : n ≤ 378). digits-3 n (omega arith) in (
-      (
-        (refl, refl),
-        (club.name, (omega arith, (apart.0, (omega arith, (omega arith, (omega arith, (mark.0, (omega arith, (omega arith, (omega arith, (omega arith, (omega arith, tt)))))))))))),
-      ),
-      omega (
-        arith,
-        club.short,
-        mark.1,
-        apart.1,
-        one row.draws w.draws,
-        three row.goals_against w.goals_against,
-        three row.goals_for w.goals_for,
-        one row.losses w.losses,
-        one row.place (omega arith),
-        one row.played w.played,
-        digits-2 row.points (omega (arith, w.points)),
-        one row.slot (omega (arith, w.slot.1)),
-        one row.wins w.wins,
-      ),
+    let apart = difference-plain (pos row.goals_for -ℤ pos row.goals_against) row.goals_for row.goals_against refl w.goals_for w.goals_against in (
+      ((refl, refl), (club.name, (omega arith, (apart.0, (omega arith, (omega arith, (omega arith, (mark.0, (omega arith, (omega arith, (omega arith, (omega arith, (omega arith, tt))))))))))))),
+      omega (arith, digits-3, club.short, mark.1, apart.1),
     )
 
 row-at : (profile : Profile) (board : List ℕ) (roster : List NamedClub) (place : ℕ) → place ≤ 4 → (row_of profile board roster place).place ≤ 4
@@ -263,7 +373,7 @@ unfolding row_of
 row-at profile board roster place h = h
 
 places-plain : (profile : Profile) (board : List ℕ) (roster : List NamedClub) → IsRoster roster → AreWords board
-    → ArePlain 125 (place_items roster (rows_of profile board roster)) × (items_size (place_items roster (rows_of profile board roster)) ≤ 845)
+    → ArePlain 125 (place_items roster (rows_of profile board roster)) × (items_size (place_items roster (rows_of profile board roster)) ≤ 925)
 places-plain profile board roster is words =
     let within = rows_within profile board roster (words_valid board words) in
     let row = row_of profile board roster in
@@ -307,8 +417,8 @@ screen-plain row m is r =
 -- ---- their lines
 
 pub told-lines : LinesTellTheirBoardState
-told-lines row event number m is r fits n =
-    let told = answered row event number m is in record {
-      reply = parsed-line (accepted_value row event number m.header m.board m.roster) (accepted-plain row event number m is r fits n) ∙ told.reply;
+told-lines row event event_number m is r fits n =
+    let told = answered row event event_number m is in record {
+      reply = parsed-line (accepted_value row event event_number m.header m.board m.roster) (accepted-plain row event event_number m is r fits n) ∙ told.reply;
       screen = parsed-line (edition_screen_value row m.header m.board m.roster) (screen-plain row m is r) ∙ told.screen;
     }
