@@ -330,7 +330,8 @@ request-answer _ _ _ _ _ _ _ _ _ = refl
 said-answer : (e : Session) (clubs : List NamedClub) (history : List Entry) (r : Said) (shown : List ℕ) → IsLegal history → e.phase ≡ Open clubs (board_of history) → again e r ≡ None
     → answer_said e r shown ≡ line_by_history e.options e.header e.row clubs history r shown
 said-answer e clubs history Nothing shown legal h stays = refl
-said-answer e clubs history r shown legal h stays = answer-at e e.phase r shown clubs (board_of history) h stays ∙ request-answer e.options e.header e.row clubs history (request_of r) shown legal (of-request r)
+said-answer e clubs history r shown legal h stays =
+    answer-at e e.phase r shown clubs (board_of history) h stays ∙ request-answer e.options e.header e.row clubs history (request_of r) shown legal (of-request r)
 
 said-phase : (e : Session) (clubs : List NamedClub) (history : List Entry) (r : Said) → IsLegal history → e.phase ≡ Open clubs (board_of history) → again e r ≡ None
     → (next e r).phase ≡ Open clubs (board_of (fold after_attempt history (attempts_of (request_of r))))

@@ -237,7 +237,10 @@ unfolding answers
 json-lines e [] h = no_lines
 json-lines e (line ∷ lines) h =
     let said = said_on e.row line in
-    let shown = shown_text line in lines_then (answer_said e said shown) (answers (next e said) lines) (by-line (λ _ text. AreLinesOfValues text) e said shown (λ _. no_lines) (λ clubs board _. request-lines e.options e.header e.row clubs board (request_of said) shown h)) (json-lines (next e said) lines h)
+    let shown = shown_text line in
+    let one = by-line (λ _ text. AreLinesOfValues text) e said shown (λ _. no_lines)
+    (λ clubs board _. request-lines e.options e.header e.row clubs board (request_of said) shown h) in
+    lines_then (answer_said e said shown) (answers (next e said) lines) one (json-lines (next e said) lines h)
 
 -- ==== The lines as they are read, and as they came
 
