@@ -1,4 +1,3 @@
-pub mod Numerals
 pub mod Places
 pub mod OneLine
 pub mod Matches

@@ -1,10 +1,8 @@
 -- Matches that are added one after the other.
 use Rattle.std.proofs.Common.{◌≡◌, ℕ, ◌+◌, ◌-◌, ◌≤◌, false, List, [], ◌∷◌, ◌++◌, take, refl, ap, arith}
 use Rattle.std.proofs.lemmas.List.{take_more}
-use Rattle.serde_json.specs.Data.{depth, item, items_depth}
-use Rattle.serde_json.specs.Read.{max_depth}
+use Rattle.serde_json.specs.Data.{item}
 use Rattle.serde_json.specs.View.{items_view, view}
-use Rattle.serde_json.specs.Written.{has_float, items_have_float}
 use Rattle.serde_json.specs.declared.value.Value.{Value}
 use Rattle.ucl_board.specs.Fixtures.{match_numbers}
 use Rattle.ucl_board.specs.Words.{game_at}
@@ -14,7 +12,7 @@ use Rattle.ucl_order.specs.Rows.{rows_of}
 use Rattle.serde_json.proofs.OnLiterals.{serde_json_on_literals}
 use Rattle.ucl_json.specs.declared.header.BoardHeader.{BoardHeader}
 use Rattle.ucl_json.specs.Values.{edition_screen_value, match_items, match_value, matches_value, screen_value}
-use Rattle.ucl_json.proofs.Places.{add, places-flat, places-whole, view-add, words-flat, words-items}
+use Rattle.ucl_json.proofs.Places.{AreFlat, IsFlat, add, places-flat, view-add, words-flat}
 
 match-add : (board games : List ℕ) (game : ℕ) → match_items board (games ++ game ∷ []) ≡ add (match_items board games) (match_value game (game_at board game))
 match-add board [] game = refl
@@ -31,30 +29,20 @@ next-match board xs ys v n game low high is so_far now e =
 pub all-matches : (board : List ℕ) (xs : List Value) (n : ℕ) → n ≡ 13 → items_view xs ≡ match_items board (take (n - 1) match_numbers) → items_view xs ≡ match_items board match_numbers
 all-matches board xs n last e = rw last at e
 
--- no float, and no deep nesting
+-- ---- no float, and no deep nesting
 
-items-whole : (board games : List ℕ) → items_have_float (match_items board games) ≡ false
-items-whole board [] = refl
-items-whole board (game ∷ games) = items-whole board games
+items-flat : (board games : List ℕ) → AreFlat (match_items board games) 2
+items-flat board [] = record { whole = refl; shallow = omega arith }
+items-flat board (game ∷ games) = let more = items-flat board games in record { whole = more.whole; shallow = omega (arith, more.shallow) }
 
-pub matches-whole : (row : ℕ) (board : List ℕ) (roster : List NamedClub) → has_float (matches_value row board roster) ≡ false
+pub matches-flat : (row : ℕ) (board : List ℕ) (roster : List NamedClub) → IsFlat (matches_value row board roster)
 unfolding matches_value
-matches-whole row board roster = rw (items-whole board match_numbers) refl
-
-items-flat : (board games : List ℕ) → items_depth (match_items board games) ≤ 2
-items-flat board [] = omega arith
-items-flat board (game ∷ games) = let k = items-flat board games in omega (arith, k)
-
-pub matches-shallow : (row : ℕ) (board : List ℕ) (roster : List NamedClub) → depth (matches_value row board roster) ≤ max_depth
-unfolding matches_value
-matches-shallow row board roster = let k = items-flat board match_numbers in omega (arith, k)
+matches-flat row board roster = let m = items-flat board match_numbers in record { whole = rw m.whole refl; shallow = omega (arith, m.shallow) }
 
 -- and the screen with them
-pub edition-whole : (row : ℕ) (header : BoardHeader) (board : List ℕ) (roster : List NamedClub) → has_float (edition_screen_value row header board roster) ≡ false
+pub edition-flat : (row : ℕ) (header : BoardHeader) (board : List ℕ) (roster : List NamedClub) → IsFlat (edition_screen_value row header board roster)
 unfolding edition_screen_value screen_value serde_json_on_literals
-edition-whole row header board roster = rw (places-whole roster (rows_of header.profile board roster), words-items board, items-whole board match_numbers) refl
-
-pub edition-shallow : (row : ℕ) (header : BoardHeader) (board : List ℕ) (roster : List NamedClub) → depth (edition_screen_value row header board roster) ≤ max_depth
-unfolding edition_screen_value screen_value serde_json_on_literals
-edition-shallow row header board roster =
-    let k = places-flat roster (rows_of header.profile board roster) in let m = items-flat board match_numbers in rw (words-flat board) (omega (arith, k, m))
+edition-flat row header board roster =
+    let p = places-flat roster (rows_of header.profile board roster) in
+    let w = words-flat board in
+    let m = items-flat board match_numbers in record { whole = rw (p.whole, w.whole, m.whole) refl; shallow = omega (arith, p.shallow, w.shallow, m.shallow) }

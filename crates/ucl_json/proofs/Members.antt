@@ -1,14 +1,14 @@
 -- What the members of a value tell.
-use Rattle.std.proofs.Common.{◌≡◌, ◌∙◌, ℕ, suc, ◌+◌, ◌<◌, ◌≤◌, ◌&&◌, ◌==◌, Bool, cond, true, false, refl, sym, ap, arith, List, [], ◌∷◌, ◌++◌, length, take, drop}
-use Rattle.std.proofs.Common.{get_or, append_assoc, Option, Some, None, le-leb, inl, inr}
-use Rattle.std.specs.Prelude.{nat_le, map, option_and_then, IsUtf8}
+use Rattle.std.proofs.Common.{Bool, List, None, Option, Some, [], ap, append_assoc, arith, cond, drop, false, get_or, inl, inr, le-leb, length, refl, sym, take}
+use Rattle.std.proofs.Common.{true, ℕ, ◌&&◌, ◌++◌, ◌+◌, ◌<◌, ◌∙◌, ◌∷◌, ◌≡◌, ◌≤◌}
+use Rattle.std.specs.Prelude.{IsUtf8, map, nat_le, option_and_then}
 use Rattle.std.specs.Str.{is_utf8}
 use Rattle.std.proofs.lemmas.Str.{IsUtf8-from_is_utf8, is_utf8-from_IsUtf8}
 use Rattle.serde_json.specs.Read.{read}
 use Rattle.ucl_json.specs.declared.board_state.BoardState.{BoardState}
-use Rattle.std.proofs.lemmas.Bool.{cases_Bool}
+use Rattle.std.proofs.lemmas.Bool.{cases_Bool, eq-eqb}
 use Rattle.std.proofs.lemmas.Bool.Decides.{nat_tests}
-use Rattle.std.proofs.lemmas.List.{take-append-drop, take_more}
+use Rattle.std.proofs.lemmas.List.{length-map, map-append, take-append-drop, take_more}
 use Rattle.serde_json.specs.Data.{Data}
 use Rattle.serde_json.specs.View.{items_view, view}
 use Rattle.serde_json.specs.declared.value.Value.{Value}
@@ -17,17 +17,13 @@ use Rattle.ucl_board.specs.Words.{AreReadAs, IsFirstBad}
 use Rattle.ucl_screen.proofs.ReadWords.{are-read, first-bad}
 use Rattle.ucl_screen.specs.WordsRead.{read_words}
 use Rattle.ucl_screen.specs.Events.{◌>>=◌}
-use Rattle.ucl_json.specs.BoardLines.{parse_club, parse_each, if_read, just, listed, parse_board_line, parse_board_state, parse_roster, unless_bad}
+use Rattle.ucl_json.specs.BoardLines.{if_read, just, listed, parse_board_line, parse_board_state, parse_club, parse_each, parse_roster, unless_bad}
 
 -- ---- values in a row
 
 pub listed_view : (values : List Value) → listed (items_view values) ≡ map view values
 listed_view [] = refl
 listed_view (v ∷ values) = ap (λ (ds : List Data). view v ∷ ds) (listed_view values)
-
-map-then : (xs ys : List Value) → map view (xs ++ ys) ≡ map view xs ++ map view ys
-map-then [] ys = refl
-map-then (x ∷ xs) ys = ap (λ (ds : List Data). view x ∷ ds) (map-then xs ys)
 
 module _ {T : Type 0} (parsed : Data → Option T) where
   join : (o q : Option T) (p r : Option (List T)) → r ≡ (p >>= λ all. q >>= λ a. Some (all ++ a ∷ []))
@@ -65,14 +61,14 @@ module _ {T : Type 0} (parsed : Data → Option T) where
   next-at : (values : List Value) (i : ℕ) (d : Value) (so_far new : List T) (one : T) → i < length values → parse_each parsed (map view (take i values)) ≡ Some so_far
       → Some one ≡ parsed (view (get_or values i d)) → new ≡ so_far ++ one ∷ [] → parse_each parsed (map view (take (i + 1) values)) ≡ Some new
   next-at values i d so_far new one h so k e =
-      rw (take_more values i d h, map-then (take i values) (get_or values i d ∷ []), parsed-last (map view (take i values)) (view (get_or values i d)), so, ← k, e) refl
+      rw (take_more values i d h, map-append view (take i values) (get_or values i d ∷ []), parsed-last (map view (take i values)) (view (get_or values i d)), so, ← k, e) refl
 
   not-at : (values : List Value) (i : ℕ) (d : Value) → i < length values → None ≡ parsed (view (get_or values i d)) → parse_each parsed (map view values) ≡ None
   not-at values i d h k =
       let parts : values ≡ (take i values ++ get_or values i d ∷ []) ++ drop (i + 1) values =
       sym (take-append-drop (i + 1) values) ∙ ap (λ (l : List Value). l ++ drop (i + 1) values) (take_more values i d h) in
       let all = append_assoc (take i values) (get_or values i d ∷ []) (drop (i + 1) values) in
-      ap (λ (l : List Value). parse_each parsed (map view l)) (parts ∙ all) ∙ ap (parse_each parsed) (map-then (take i values) (get_or values i d ∷ drop (i + 1) values))
+      ap (λ (l : List Value). parse_each parsed (map view l)) (parts ∙ all) ∙ ap (parse_each parsed) (map-append view (take i values) (get_or values i d ∷ drop (i + 1) values))
       ∙ parsed-none (map view (take i values)) (map view (drop (i + 1) values)) (view (get_or values i d)) (sym k)
 
   -- one value more
@@ -85,37 +81,18 @@ module _ {T : Type 0} (parsed : Data → Option T) where
   pub parsed-not : (values : List Value) (i : ℕ) (x : Value) → i < length values → x ≡ get_or values i x → None ≡ parsed (view x) → parse_each parsed (map view values) ≡ None
   parsed-not values i x h is k = not-at values i x h (k ∙ ap (λ (v : Value). parsed (view v)) is)
 
-  many : (values : List Value) → length (map view values) ≡ length values
-  many [] = refl
-  many (v ∷ values) = ap suc (many values)
-
   pub not-parsed : (n : ℕ) (values : List Value) → length values ≡ n → parse_each parsed (map view values) ≡ None → just n parsed (map view values) ≡ None
-  not-parsed n values long e = rw (many values, long, same n) e
-    where
-      same : (k : ℕ) → (k == k) ≡ true
-      same k = grind (arith, nat_tests)
+  not-parsed n values long e = rw (length-map values view, long, eq-eqb n n refl) e
 
--- ---- four values
+-- ---- four clubs
 
-module _ {T : Type 0} where
-  four-each : (a b c e : Option T) → (a >>= λ x. (b >>= λ y. (c >>= λ z. (e >>= λ u. Some [] >>= λ m. Some (u ∷ m)) >>= λ m. Some (z ∷ m)) >>= λ m. Some (y ∷ m)) >>= λ m. Some (x ∷ m))
-      ≡ (a >>= λ x. b >>= λ y. c >>= λ z. e >>= λ u. Some (x ∷ y ∷ z ∷ u ∷ []))
-  four-each None b c e = refl
-  four-each (Some x) None c e = refl
-  four-each (Some x) (Some y) None e = refl
-  four-each (Some x) (Some y) (Some z) None = refl
-  four-each (Some x) (Some y) (Some z) (Some u) = refl
-
-  four-parsed : (parsed : Data → Option T) (values : List Value) (d : Value) → 4 ≤ length values → length values < 5
-      → just 4 parsed (map view values) ≡ (parsed (view (get_or values 0 d)) >>= λ a. parsed (view (get_or values 1 d)) >>= λ b.
-      parsed (view (get_or values 2 d)) >>= λ c. parsed (view (get_or values 3 d)) >>= λ e. Some (a ∷ b ∷ c ∷ e ∷ []))
-  unfolding parse_each
-  four-parsed parsed [] d some few = absurd (omega arith)
-  four-parsed parsed (p ∷ []) d some few = absurd (omega arith)
-  four-parsed parsed (p ∷ q ∷ []) d some few = absurd (omega arith)
-  four-parsed parsed (p ∷ q ∷ r ∷ []) d some few = absurd (omega arith)
-  four-parsed parsed (p ∷ q ∷ r ∷ s ∷ []) d some few = four-each (parsed (view p)) (parsed (view q)) (parsed (view r)) (parsed (view s))
-  four-parsed parsed (p ∷ q ∷ r ∷ s ∷ t ∷ more) d some few = absurd (omega arith)
+four-each : {T : Type 0} (a b c e : Option T) → (a >>= λ x. (b >>= λ y. (c >>= λ z. (e >>= λ u. Some [] >>= λ m. Some (u ∷ m)) >>= λ m. Some (z ∷ m)) >>= λ m. Some (y ∷ m)) >>= λ m. Some (x ∷ m))
+    ≡ (a >>= λ x. b >>= λ y. c >>= λ z. e >>= λ u. Some (x ∷ y ∷ z ∷ u ∷ []))
+four-each None b c e = refl
+four-each (Some x) None c e = refl
+four-each (Some x) (Some y) None e = refl
+four-each (Some x) (Some y) (Some z) None = refl
+four-each (Some x) (Some y) (Some z) (Some u) = refl
 
 pub roster_good : (roster clubs : List NamedClub) → roster ≡ clubs → bad_slot clubs ≡ None → Some roster ≡ unless_bad clubs (bad_slot clubs)
 roster_good roster clubs e h = rw (e, h) refl
@@ -126,17 +103,13 @@ roster_bad clubs slot h = rw h refl
 abbrev pub by_four : Option NamedClub → Option NamedClub → Option NamedClub → Option NamedClub → Option (List NamedClub)
 by_four o p q r = (o >>= λ a. p >>= λ b. q >>= λ c. r >>= λ e. Some (a ∷ b ∷ c ∷ e ∷ [])) >>= λ clubs. unless_bad clubs (bad_slot clubs)
 
-pub four_clubs : (values : List Value) (d : Value) → 4 ≤ length values → length values < 5
-    → parse_roster (map view values) ≡ by_four (parse_club (view (get_or values 0 d))) (parse_club (view (get_or values 1 d)))
-    (parse_club (view (get_or values 2 d))) (parse_club (view (get_or values 3 d)))
-four_clubs values d some few = ap (λ (o : Option (List NamedClub)). o >>= λ clubs. unless_bad clubs (bad_slot clubs)) (four-parsed parse_club values d some few)
-
 abbrev Club : Value → Option NamedClub
 Club value = parse_club (view value)
 
 pub of-four : (values : List Value) (w x y z : Value) (o p q r : Option NamedClub) → 4 ≤ length values → length values < 5
     → w ≡ get_or values 0 w → x ≡ get_or values 1 x → y ≡ get_or values 2 y → z ≡ get_or values 3 z
     → o ≡ Club w → p ≡ Club x → q ≡ Club y → r ≡ Club z → by_four o p q r ≡ parse_roster (map view values)
+unfolding parse_each
 of-four [] w x y z o p q r some few i j k l e f g h = absurd (omega arith)
 of-four (a ∷ []) w x y z o p q r some few i j k l e f g h = absurd (omega arith)
 of-four (a ∷ b ∷ []) w x y z o p q r some few i j k l e f g h = absurd (omega arith)
@@ -146,7 +119,7 @@ of-four (a ∷ b ∷ c ∷ d ∷ []) w x y z o p q r some few i j k l e f g h =
     let second : p ≡ Club b = f ∙ ap Club j in
     let third : q ≡ Club c = g ∙ ap Club k in
     let fourth : r ≡ Club d = h ∙ ap Club l in
-    rw (first, second, third, fourth) (sym (four_clubs (a ∷ b ∷ c ∷ d ∷ []) w some few))
+    rw (first, second, third, fourth) (ap (λ (o : Option (List NamedClub)). o >>= λ clubs. unless_bad clubs (bad_slot clubs)) (sym (four-each (Club a) (Club b) (Club c) (Club d))))
 of-four (a ∷ b ∷ c ∷ d ∷ t ∷ more) w x y z o p q r some few i j k l e f g h = absurd (omega arith)
 
 -- ---- twelve words

@@ -1,16 +1,18 @@
 -- The text of a value has no line feed, nor any other byte below the space.
-use Rattle.std.proofs.Common.{◌≡◌, ◌≢◌, ℕ, ◌/◌, ◌%◌, ◌<◌, ◌≤◌, ◌==◌, Bool, true, false, cond, List, [], ◌∷◌, ◌++◌, refl, sym, ap, ◌∙◌, subst, append_assoc}
-use Rattle.std.proofs.Common.{append-nil, inl, inr, arith}
-use Rattle.std.specs.Prelude.{⊤, All, flat_map, nat_lt, ◌||◌}
+use Rattle.std.proofs.Common.{Bool, List, [], append-nil, arith, cond, false, inl, inr, negsuc, pos, refl, subst, suc, sym, true, zero, ℕ, ◌%◌, ◌++◌, ◌/◌, ◌<◌}
+use Rattle.std.proofs.Common.{◌==◌, ◌∷◌, ◌≡◌, ◌≢◌, ◌≤◌}
+use Rattle.std.specs.Prelude.{All, nat_lt, ⊤, ◌||◌}
 use Rattle.std.specs.Char.{digit_char}
 use Rattle.std.proofs.lemmas.Bool.{cases_Bool}
 use Rattle.std.proofs.lemmas.Bool.Decides.{nat_tests}
 use Rattle.std.proofs.lemmas.List.Elements.{All-cons, All-nil}
 use Rattle.json.specs.Print.{escape, escape_byte, escape_letter, quoted}
-use Rattle.serde_json.specs.Data.{Data, null, boolean, number, string, array, object, Items, no_items, item, Members, no_members, member}
+use Rattle.serde_json.specs.Data.{Data, Items, Members, Num, array, boolean, float, item, member, negative, no_items, no_members, null, number, object, string}
+use Rattle.serde_json.specs.Data.{unsigned}
 use Rattle.serde_json.specs.Written.{comma_if, compact_text, items_text, members_text, number_text}
-use Rattle.ucl_json.proofs.Numerals.{IsNumeral, numeral}
+use Rattle.std.specs.Fmt.{digit_glyph, digits, digits_onto}
 use Rattle.ucl_json.specs.Lines.{AreLinesOfValues, IsOneLine, json_line}
+use Rattle.std.proofs.lemmas.Grind.{flat_map-append}
 
 -- each byte is the space or above it
 abbrev ArePrinted : List ℕ → Type 0
@@ -23,9 +25,28 @@ both (x ∷ a) b h k = (h.0, both a b h.1 k)
 
 -- ---- numbers
 
-numeral-printed : (bytes : List ℕ) → IsNumeral bytes → ArePrinted bytes
-numeral-printed [] h = tt
-numeral-printed (b ∷ bytes) h = let first : 44 < b = h.0.0 in (omega arith, numeral-printed bytes h.1)
+glyph : (n : ℕ) → 32 ≤ digit_glyph false (n % 10)
+glyph n = elim (cases_Bool (nat_lt (n % 10) 10)) [ inl y ↦ rw y (omega arith) | inr more ↦ rw more (omega arith) ]
+
+onto : (k n : ℕ) (rest : List ℕ) → ArePrinted rest → ArePrinted (digits_onto k 10 false n rest)
+onto zero n rest h = h
+onto (suc k) n rest h = elim (cases_Bool (n / 10 == 0)) [
+  | inl y ↦ rw y (glyph n, h)
+  | inr further ↦ rw further (onto k (n / 10) (digit_glyph false (n % 10) ∷ rest) (glyph n, h))
+]
+
+digits-at : (k n : ℕ) → k ≡ 64 → digits_onto k 10 false n [] ≡ digits 10 false n
+unfolding digits
+digits-at k n e = rw e refl
+
+counted : (k n : ℕ) → k ≡ 64 → ArePrinted (digits 10 false n)
+counted k n e = subst ArePrinted (digits-at k n e) (onto k n [] tt)
+
+numeral : (n : Num) → ArePrinted (number_text n)
+numeral (unsigned n) = counted 64 n refl
+numeral (negative (pos n)) = counted 64 n refl
+numeral (negative (negsuc n)) = (omega arith, counted 64 (suc n) refl)
+numeral (float x) = tt
 
 -- ---- strings
 
@@ -90,7 +111,7 @@ mutual
   printed : (d : Data) → ArePrinted (compact_text d)
   printed null = (omega arith, (omega arith, (omega arith, (omega arith, tt))))
   printed (boolean b) = word b
-  printed (number n) = numeral-printed (number_text n) (numeral n)
+  printed (number n) = numeral n
   printed (string s) = in-quotes s
   printed (array ds) = (omega arith, printed-items false ds)
   printed (object ms) = (omega arith, printed-members false ms)
@@ -130,10 +151,6 @@ each : (values : List Data) → All (λ value. IsOneLine (json_line value)) valu
 each [] = All-nil (λ value. IsOneLine (json_line value))
 each (value ∷ values) = All-cons (λ v. IsOneLine (json_line v)) value values (one_line value) (each values)
 
-joined : (xs ys : List Data) → flat_map json_line (xs ++ ys) ≡ flat_map json_line xs ++ flat_map json_line ys
-joined [] ys = refl
-joined (x ∷ xs) ys = ap (λ (l : List ℕ). json_line x ++ l) (joined xs ys) ∙ sym (append_assoc (json_line x) (flat_map json_line xs) (flat_map json_line ys))
-
 pub no_lines : AreLinesOfValues []
 no_lines = record { values = []; whole = refl; each = each [] }
 
@@ -143,6 +160,6 @@ line_of_value value = record { values = value ∷ []; whole = sym (append-nil (j
 pub lines_then : (a b : List ℕ) → AreLinesOfValues a → AreLinesOfValues b → AreLinesOfValues (a ++ b)
 lines_then a b p q = record {
   values = p.values ++ q.values;
-  whole = rw (joined p.values q.values, p.whole, q.whole) refl;
+  whole = rw (flat_map-append json_line p.values q.values, p.whole, q.whole) refl;
   each = each (p.values ++ q.values);
 }

@@ -1,5 +1,5 @@
 -- Items that are added one after the other, and the members of a place.
-use Rattle.std.proofs.Common.{◌≡◌, ℕ, ℤ, pos, negsuc, ◌-ℤ◌, false, arith, ◌+◌, ◌≤◌, ◌<◌, List, [], ◌∷◌, ◌++◌, length, take, get_or, refl, ap, ◌∙◌}
+use Rattle.std.proofs.Common.{List, [], ap, arith, false, get_or, length, negsuc, pos, refl, take, ℕ, ℤ, ◌++◌, ◌+◌, ◌-ℤ◌, ◌<◌, ◌∙◌, ◌∷◌, ◌≡◌, ◌≤◌}
 use Rattle.std.proofs.lemmas.List.{take_all, take_more}
 use Rattle.serde_json.specs.Data.{Data, Items, depth, item, items_depth, no_items, no_members, object, string}
 use Rattle.serde_json.specs.Find.{is_float, of_integer}
@@ -7,8 +7,7 @@ use Rattle.serde_json.specs.Read.{max_depth}
 use Rattle.serde_json.specs.Written.{has_float, items_have_float}
 use Rattle.serde_json.specs.View.{items_view, view}
 use Rattle.serde_json.specs.declared.value.Value.{Value}
-use Rattle.serde_json.proofs.OnLiterals.{serde_json_on_literals}
-use Rattle.std.specs.Prelude.{Option, None, Some, Result, Ok, Err}
+use Rattle.std.specs.Prelude.{Err, None, Ok, Option, Result, Some}
 use Rattle.ucl_word.specs.declared.event.Accepted.{Accepted}
 use Rattle.ucl_word.specs.declared.record.MatchRecord.{MatchRecord}
 use Rattle.ucl_word.specs.declared.refusal.Refusal.{Refusal}
@@ -23,6 +22,7 @@ use Rattle.ucl_screen.specs.Numbers.{hex_digits}
 use Rattle.ucl_json.specs.declared.header.BoardHeader.{BoardHeader}
 use Rattle.ucl_json.specs.Values.{accepted_value, place_items, place_value, refused_by, reply_value, screen_value, with_club, with_goals, with_matches, word_items}
 use Rattle.ucl_json.specs.Values.{words_value}
+use Rattle.serde_json.proofs.OnLiterals.{serde_json_on_literals}
 
 abbrev pub add : Items → Data → Items
 add no_items d = item d no_items
@@ -61,69 +61,50 @@ pub placed : (roster : List NamedClub) (row : Row) → object (with_club roster 
 unfolding place_value serde_json_on_literals
 placed roster row = refl
 
--- no float, and no deep nesting
+-- ---- no float, and no deep nesting
+
+pub record IsFlat (d : Data) : Type 0 where
+  pub whole : has_float d ≡ false
+  pub shallow : depth d ≤ max_depth
+
+pub record AreFlat (ds : Items) (n : ℕ) : Type 0 where
+  pub whole : items_have_float ds ≡ false
+  pub shallow : items_depth ds ≤ n
+
+pub words-flat : (ws : List ℕ) → AreFlat (word_items ws) 0
+words-flat [] = record { whole = refl; shallow = omega arith }
+words-flat (w ∷ ws) = let more = words-flat ws in record { whole = more.whole; shallow = let n = more.shallow in omega arith }
+
+pub words-value-flat : (row : ℕ) (ws : List ℕ) → IsFlat (words_value row ws)
+words-value-flat row ws = let w = words-flat ws in record { whole = rw w.whole refl; shallow = omega (arith, w.shallow) }
 
 int-whole : (z : ℤ) → is_float (of_integer z) ≡ false
 int-whole (pos n) = refl
 int-whole (negsuc n) = refl
 
-pub words-items : (ws : List ℕ) → items_have_float (word_items ws) ≡ false
-words-items [] = refl
-words-items (w ∷ ws) = words-items ws
-
-pub words-whole : (row : ℕ) (ws : List ℕ) → has_float (words_value row ws) ≡ false
-words-whole row ws = rw (words-items ws) refl
-
-pub words-flat : (ws : List ℕ) → items_depth (word_items ws) ≡ 0
-words-flat [] = refl
-words-flat (w ∷ ws) = rw (words-flat ws) refl
-
-pub words-shallow : (row : ℕ) (ws : List ℕ) → depth (words_value row ws) ≤ max_depth
-words-shallow row ws = rw (words-flat ws) (omega arith)
-
-place-whole : (roster : List NamedClub) (row : Row) → has_float (place_value roster row) ≡ false
+place-flat : (roster : List NamedClub) (row : Row) → (has_float (place_value roster row) ≡ false) × (depth (place_value roster row) ≡ 1)
 unfolding place_value
-place-whole roster row = rw (int-whole (pos row.goals_for -ℤ pos row.goals_against)) refl
+place-flat roster row = (rw (int-whole (pos row.goals_for -ℤ pos row.goals_against)) refl, refl)
 
-pub places-whole : (roster : List NamedClub) (rows : List Row) → items_have_float (place_items roster rows) ≡ false
-places-whole roster [] = refl
-places-whole roster (row ∷ rows) = rw (place-whole roster row, places-whole roster rows) refl
+pub places-flat : (roster : List NamedClub) (rows : List Row) → AreFlat (place_items roster rows) 1
+places-flat roster [] = record { whole = refl; shallow = omega arith }
+places-flat roster (row ∷ rows) =
+    let one = place-flat roster row in
+    let more = places-flat roster rows in record { whole = rw (one.0, more.whole) refl; shallow = omega (arith, one.1, more.shallow) }
 
-place-flat : (roster : List NamedClub) (row : Row) → depth (place_value roster row) ≡ 1
-unfolding place_value
-place-flat roster row = refl
-
-pub places-flat : (roster : List NamedClub) (rows : List Row) → items_depth (place_items roster rows) ≤ 1
-places-flat roster [] = omega arith
-places-flat roster (row ∷ rows) = let k = places-flat roster rows in rw (place-flat roster row) (omega (arith, k))
-
-pub screen-whole : (row : ℕ) (profile : Profile) (board : List ℕ) (roster : List NamedClub) (group : ℕ) → has_float (screen_value row profile board roster group) ≡ false
+pub screen-flat : (row : ℕ) (profile : Profile) (board : List ℕ) (roster : List NamedClub) (group : ℕ) → IsFlat (screen_value row profile board roster group)
 unfolding screen_value
-screen-whole row profile board roster group = rw (places-whole roster (rows_of profile board roster), words-items board) refl
+screen-flat row profile board roster group =
+    let p = places-flat roster (rows_of profile board roster) in
+    let w = words-flat board in record { whole = rw (p.whole, w.whole) refl; shallow = omega (arith, p.shallow, w.shallow) }
 
-pub screen-shallow : (row : ℕ) (profile : Profile) (board : List ℕ) (roster : List NamedClub) (group : ℕ) → depth (screen_value row profile board roster group) ≤ max_depth
-unfolding screen_value
-screen-shallow row profile board roster group = let k = places-flat roster (rows_of profile board roster) in rw (words-flat board) (omega (arith, k))
+refused-flat : (row : ℕ) (event : NightEvent) (code : ℕ) (name : List ℕ) (found : Option ℕ) (m : MatchRecord) → IsFlat (refused_by row event code name found m)
+refused-flat row event code name None m = record { whole = refl; shallow = omega arith }
+refused-flat row event code name (Some found) m = record { whole = refl; shallow = omega arith }
 
--- a reply
-refused-whole : (row : ℕ) (event : NightEvent) (code : ℕ) (name : List ℕ) (found : Option ℕ) (m : MatchRecord) → has_float (refused_by row event code name found m) ≡ false
-refused-whole row event code name None m = refl
-refused-whole row event code name (Some found) m = refl
-
-refused-shallow : (row : ℕ) (event : NightEvent) (code : ℕ) (name : List ℕ) (found : Option ℕ) (m : MatchRecord) → depth (refused_by row event code name found m) ≤ max_depth
-refused-shallow row event code name None m = omega arith
-refused-shallow row event code name (Some found) m = omega arith
-
-pub reply-whole : (row : ℕ) (event : NightEvent) (reply : Result Accepted Refusal) (header : BoardHeader) (board : List ℕ) (roster : List NamedClub)
-    → has_float (reply_value row event reply header board roster) ≡ false
+pub reply-flat : (row : ℕ) (event : NightEvent) (reply : Result Accepted Refusal) (header : BoardHeader) (board : List ℕ) (roster : List NamedClub)
+    → IsFlat (reply_value row event reply header board roster)
 unfolding accepted_value
-reply-whole row event (Ok accepted) header board roster = rw (words-items board) refl
-reply-whole row event (Err refusal) header board roster =
-    refused-whole row event (refusal_code refusal) (refusal_name refusal) (found_of refusal) (game_at board event.call.game)
-
-pub reply-shallow : (row : ℕ) (event : NightEvent) (reply : Result Accepted Refusal) (header : BoardHeader) (board : List ℕ) (roster : List NamedClub)
-    → depth (reply_value row event reply header board roster) ≤ max_depth
-unfolding accepted_value
-reply-shallow row event (Ok accepted) header board roster = rw (words-flat board) (omega arith)
-reply-shallow row event (Err refusal) header board roster =
-    refused-shallow row event (refusal_code refusal) (refusal_name refusal) (found_of refusal) (game_at board event.call.game)
+reply-flat row event (Ok accepted) header board roster = let w = words-flat board in record { whole = rw w.whole refl; shallow = omega (arith, w.shallow) }
+reply-flat row event (Err refusal) header board roster =
+    refused-flat row event (refusal_code refusal) (refusal_name refusal) (found_of refusal) (game_at board event.call.game)

@@ -1,17 +1,22 @@
--- The lines that a session in JSON answers, and what each tells.
+-- The lines of answers, and what each carries.
 use Rattle.std.proofs.lemmas.List.Elements.{All-weaker}
-use Rattle.ucl_live_runs.proofs.Common.{All, All-append, All-cons, All-head, All-nil, All-tail, AreWords, Bool, Data, HasNoFeed, HasNumbers, IfSome, IsRoster}
-use Rattle.ucl_live_runs.proofs.Common.{IsValid, IsWord, Kind, List, MatchRecord, BoardState, NamedClub, NightEvent, None, Option, Refusal, Some, [], and_from, ap}
-use Rattle.ucl_live_runs.proofs.Common.{arith, bad_row_value, begun_append, begun_ended, begun_line, begun_none, cases_Bool, cases_lt, compact_text, ended_append}
-use Rattle.ucl_live_runs.proofs.Common.{ended_line, ended_lines, ended_none, false, field_name, found_of, if◌then◌else◌, inl, inr, is_printed, json_line, length}
-use Rattle.ucl_live_runs.proofs.Common.{list_all, parse_board_line, number_valid, one_line, record_at, refl, refusal_code, refusal_name, refused_by, shown_text}
-use Rattle.ucl_live_runs.proofs.Common.{subst, sym, take, take_all, true, word_valid, words_value, ℕ, ◌++◌, ◌/◌, ◌<◌, ◌^◌, ◌∙◌, ◌∷◌, ◌≡◌, ◌≤◌, ◌⊎◌}
-use Rattle.std.specs.Prelude.{◌≢◌}
-use Rattle.std.proofs.lemmas.List.{append_cancel_right, length-take, length-take-le}
+use Rattle.ucl_live_runs.proofs.Common.{All, All-append, All-cons, All-get_or, All-head, All-nil, All-tail, AreWords, AwaitingClubs, AwaitingHeader, Bad}
+use Rattle.ucl_live_runs.proofs.Common.{BoardHeader, BoardState, Bool, Data, Event, FourFields, HasNoFeed, HasNumbers, IfSome, IsAttempt, IsBoardState, IsGroup}
+use Rattle.ucl_live_runs.proofs.Common.{IsRoster, IsValid, IsWord, Json, KickOff, Kind, List, LiveArgs, MatchRecord, Matches, NamedClub, NewBoard, NightEvent, None}
+use Rattle.ucl_live_runs.proofs.Common.{Nothing, Open, Option, Phase, Profile, Refusal, Refused, Request, Row, Said, Screen, Session, Some, Words, []}
+use Rattle.ucl_live_runs.proofs.Common.{accepted_value, again_on, and_from, and_parts, answer, answer_of, answer_said, ap, arith, asked_header, attempt_of}
+use Rattle.ucl_live_runs.proofs.Common.{bad_row_value, begun_append, begun_ended, begun_line, begun_none, board_after, board_state_at, board_state_with, cases_Bool}
+use Rattle.ucl_live_runs.proofs.Common.{cases_lt, club_said, compact_text, edition_screen_value, ended_append, ended_line, ended_lines, ended_none, false}
+use Rattle.ucl_live_runs.proofs.Common.{field_name, found_of, game_at, header_by, header_said, if◌then◌else◌, inl, inr, is_bad, is_group_row, is_printed, json_line}
+use Rattle.ucl_live_runs.proofs.Common.{leb-true, length, letter_in, list_all, nat_le, next, next_at, next_board, next_on, number, number_valid, one_line}
+use Rattle.ucl_live_runs.proofs.Common.{parse_board_line, profile_named, record_at, refl, refusal_code, refusal_name, refused_by, reply_answer, reply_of}
+use Rattle.ucl_live_runs.proofs.Common.{reply_value, request_of, screen_after, screen_answer, shown_text, start_of, subst, sym, take, take_all, true, unwrap_or}
+use Rattle.ucl_live_runs.proofs.Common.{version_of, word_at, word_valid, words_value, ℕ, ◌&&◌, ◌++◌, ◌+◌, ◌-◌, ◌/◌, ◌<◌, ◌>>=◌, ◌^◌, ◌∙◌, ◌∷◌, ◌≡◌, ◌≤◌, ◌⊎◌}
+use Rattle.std.specs.Prelude.{map, ◌≢◌}
+use Rattle.std.proofs.lemmas.List.{append_cancel_right, length-take, length-take-le, map-append}
 use Rattle.serde_json.proofs.OnLiterals.{serde_json_on_literals}
-use Rattle.ucl_word.specs.declared.refusal.Refusal.TheVariants.{Stale, Finished, NotFinished, NotStarted, AlreadyStarted, NumberFull, NoGoal, NoCaution}
-use Rattle.ucl_word.specs.declared.refusal.Refusal.TheVariants.{LimitReached}
-use Rattle.ucl_word.specs.Rules.{refusal_of}
+use Rattle.ucl_word.specs.declared.refusal.Refusal.TheVariants.{AlreadyStarted, Finished, LimitReached, NoCaution, NoGoal, NotFinished, NotStarted, NumberFull}
+use Rattle.ucl_word.specs.declared.refusal.Refusal.TheVariants.{Stale}
 use Rattle.ucl_word.proofs.Words.{word_high}
 use Rattle.ucl_json.specs.Values.{coded_value, matches_value, numbered_value, refused_value}
 use Rattle.ucl_rows.specs.BadRows.{printed}
@@ -19,36 +24,50 @@ use Rattle.ucl_rows.specs.declared.bad_row.BadField.{BadField}
 use Rattle.ucl_rows.specs.declared.bad_row.BadField.TheVariants.{Count}
 use Rattle.ucl_json.specs.BoardLines.{parse_board_state}
 use Rattle.ucl_json.proofs.Members.{too-long}
-use Rattle.ucl_live_runs.proofs.Matches.{match-plain, matches-plain, matches-short}
-use Rattle.ucl_live_runs.proofs.PlainAnswers.{kind-text, words-plain}
-use Rattle.ucl_live_runs.proofs.ReadBack.{IsPlain, IsText, size, told-by-line, told-if-short}
+use Rattle.ucl_live_runs.proofs.AnswerValues.{digits-20, kind-text, match-plain, matches-plain, told-lines, words-plain}
+use Rattle.ucl_live_runs.proofs.ReadBack.{IsShortPlain, IsText, parsed-line}
+use Rattle.std.proofs.lemmas.Bool.{cond_both}
+use Rattle.ucl_live_runs.proofs.Boards.{IsGood, IsPossible, fresh-good, good-after, good-board, good-club, good-first, of-request, possible, ranged, renewed}
+use Rattle.ucl_live_runs.specs.Requests.{edition_by}
+use Rattle.ucl_command.specs.Groups.{may_be_asked}
+use Rattle.ucl_command.proofs.Letters.{asked_letter}
+use Rattle.ucl_live_runs.proofs.Lines.{by-line}
+use Rattle.ucl_word.specs.Rules.{refusal_of}
 
--- ---- a text of whole lines, of which each tells nothing or this
+-- ==== The lines that a session in JSON answers, and what each tells
 
-abbrev pub PrintsAtMost : Option BoardState → Option BoardState → Type 0
-PrintsAtMost o told = (told ≡ None) ⊎ (told ≡ o)
+-- ---- a text of whole lines, of which each carries nothing or this
 
-abbrev pub lines_in : List ℕ → List (List ℕ)
-lines_in text = ended_lines 4097 [] text
+-- what the lines of a text carry
+abbrev pub carried_in : List ℕ → List (Option BoardState)
+carried_in text = map parse_board_line (ended_lines 4097 [] text)
 
-pub record PrintsAlone (o : Option BoardState) (text : List ℕ) : Type 0 where
+abbrev pub IsAtMost : Option BoardState → Option BoardState → Type 0
+IsAtMost most o = (o ≡ None) ⊎ (o ≡ most)
+
+pub record CarriesAtMost (most : Option BoardState) (text : List ℕ) : Type 0 where
   pub begun : begun_line 4097 [] text ≡ []
-  pub each : All (λ line. PrintsAtMost o (parse_board_line line)) (lines_in text)
+  pub each : All (IsAtMost most) (carried_in text)
 
-pub lines-then : (a b : List ℕ) → begun_line 4097 [] a ≡ [] → lines_in (a ++ b) ≡ lines_in a ++ lines_in b
-lines-then a b h = ended_append 4097 [] a b ∙ ap (λ (l : List ℕ). lines_in a ++ ended_lines 4097 l b) h
+pub carried-then : (a b : List ℕ) → begun_line 4097 [] a ≡ [] → carried_in (a ++ b) ≡ carried_in a ++ carried_in b
+carried-then a b h =
+    ap (map parse_board_line) (ended_append 4097 [] a b ∙ ap (λ (l : List ℕ). ended_lines 4097 [] a ++ ended_lines 4097 l b) h)
+    ∙ map-append parse_board_line (ended_lines 4097 [] a) (ended_lines 4097 [] b)
 
 pub begun-then : (a b : List ℕ) → begun_line 4097 [] a ≡ [] → begun_line 4097 [] b ≡ [] → begun_line 4097 [] (a ++ b) ≡ []
 begun-then a b h k = begun_append 4097 [] a b ∙ ap (λ (l : List ℕ). begun_line 4097 l b) h ∙ k
 
-pub alone-then : (o : Option BoardState) (a b : List ℕ) → PrintsAlone o a → PrintsAlone o b → PrintsAlone o (a ++ b)
-alone-then o a b p q = record {
+pub most-then : (most : Option BoardState) (a b : List ℕ) → CarriesAtMost most a → CarriesAtMost most b → CarriesAtMost most (a ++ b)
+most-then most a b p q = record {
   begun = begun-then a b p.begun q.begun;
-  each = rw (lines-then a b p.begun) (All-append (λ line. PrintsAtMost o (parse_board_line line)) (lines_in a) (lines_in b) p.each q.each);
+  each = rw (carried-then a b p.begun) (All-append (IsAtMost most) (carried_in a) (carried_in b) p.each q.each);
 }
 
-pub alone-none : (o : Option BoardState) → PrintsAlone o []
-alone-none o = record { begun = begun_none 4097 []; each = rw (ended_none 4097 []) (All-nil (λ line. PrintsAtMost o (parse_board_line line))) }
+pub carried-none : carried_in [] ≡ []
+carried-none = ap (map parse_board_line) (ended_none 4097 [])
+
+pub most-none : (most : Option BoardState) → CarriesAtMost most []
+most-none most = record { begun = begun_none 4097 []; each = rw carried-none (All-nil (IsAtMost most)) }
 
 -- what is kept of a line that is too long tells nothing, and neither does the line
 short-told : (body : List ℕ) → parse_board_line (take 4097 body) ≡ parse_board_line body
@@ -68,140 +87,87 @@ text-clean v =
 
 -- the line of a value
 pub record IsLineThat (o : Option BoardState) (text : List ℕ) : Type 0 where
-  pub line : List ℕ
   pub begun : begun_line 4097 [] text ≡ []
-  pub lines_are : lines_in text ≡ line ∷ []
-  pub told : parse_board_line line ≡ o
+  pub carried : carried_in text ≡ o ∷ []
 
 pub value-line : (v : Data) (o : Option BoardState) → parse_board_line (compact_text v) ≡ o → IsLineThat o (json_line v)
 value-line v o h = record {
-  line = take 4097 (compact_text v);
   begun = begun_ended 4097 [] (compact_text v);
-  lines_are = ended_line 4097 [] (compact_text v) (text-clean v) (omega arith);
-  told = short-told (compact_text v) ∙ h;
+  carried = ap (map parse_board_line) (ended_line 4097 [] (compact_text v) (text-clean v) (omega arith)) ∙ ap (λ (p : Option BoardState). p ∷ []) (short-told (compact_text v) ∙ h);
 }
 
-pub alone-as : (o told : Option BoardState) (text : List ℕ) → IsLineThat told text → PrintsAtMost o told → PrintsAlone o text
-alone-as o told text l most = record {
-  begun = l.begun;
-  each = rw l.lines_are (All-cons (λ line. PrintsAtMost o (parse_board_line line)) l.line [] (subst (PrintsAtMost o) (sym l.told) most)
-      (All-nil (λ line. PrintsAtMost o (parse_board_line line))));
-}
+pub most-as : (most o : Option BoardState) (text : List ℕ) → IsLineThat o text → IsAtMost most o → CarriesAtMost most text
+most-as most o text l h = record { begun = l.begun; each = rw l.carried (All-cons (IsAtMost most) o [] h (All-nil (IsAtMost most))) }
 
-pub alone-line : (v : Data) (o told : Option BoardState) → parse_board_line (compact_text v) ≡ told → PrintsAtMost o told → PrintsAlone o (json_line v)
-alone-line v o told h most = alone-as o told (json_line v) (value-line v told h) most
+-- ---- values that carry nothing
 
--- ---- values that tell nothing
+pub silent-line : (v : Data) (most : Option BoardState) → IsShortPlain v → parse_board_state v ≡ None → CarriesAtMost most (json_line v)
+silent-line v most short none = most-as most None (json_line v) (value-line v None (parsed-line v short ∙ none)) (inl refl)
 
-silent-line : (v : Data) (o : Option BoardState) → IsPlain 127 v → size v ≤ 4096 → parse_board_state v ≡ None → PrintsAlone o (json_line v)
-silent-line v o plain short none = alone-line v o None (told-by-line v plain short ∙ none) (inl refl)
-
-no-code : (row : ℕ) (event : NightEvent) (code : ℕ) (name : List ℕ) → parse_board_state (coded_value row event code name) ≡ None
+refused-by-line : (o : Option BoardState) (row : ℕ) (event : NightEvent) (code : ℕ) (name : List ℕ) (found : Option ℕ) (m : MatchRecord)
+    → row < 2 ^ 64 → HasNumbers event → code < 2 ^ 64 → IsText name → length name ≤ 20 → IfSome found (λ n. n < 2 ^ 64) → IsValid m
+    → CarriesAtMost o (json_line (refused_by row event code name found m))
 unfolding parse_board_state serde_json_on_literals
-no-code row event code name = refl
-
-no-number : (row : ℕ) (event : NightEvent) (code : ℕ) (name : List ℕ) (found : ℕ) (m : MatchRecord) → parse_board_state (numbered_value row event code name found m) ≡ None
-unfolding parse_board_state serde_json_on_literals
-no-number row event code name found m = refl
-
-no-event : (row : ℕ) (field shown : List ℕ) → parse_board_state (bad_row_value row field shown) ≡ None
-unfolding parse_board_state serde_json_on_literals
-no-event row field shown = refl
-
-no-words : (row : ℕ) (board : List ℕ) → parse_board_state (words_value row board) ≡ None
-unfolding parse_board_state serde_json_on_literals
-no-words row board = refl
-
-coded-line : (o : Option BoardState) (row : ℕ) (event : NightEvent) (code : ℕ) (name : List ℕ) → row < 2 ^ 64 → HasNumbers event → code < 2 ^ 64 → IsText name → length name ≤ 20
-    → PrintsAlone o (json_line (coded_value row event code name))
-unfolding serde_json_on_literals
-coded-line o row event code name r fits c text short =
+refused-by-line o row event code name None m r fits c text short f v =
     let kind = kind-text event.call.kind in
-    let named = kind.1 in
-    silent-line (coded_value row event code name) o
-    ((refl, refl), (c, (kind.0, (fits.expected, (fits.game, (text, (refl, (fits.reporter, (r, tt))))))))) (omega arith) (no-code row event code name)
-
-numbered-line : (o : Option BoardState) (row : ℕ) (event : NightEvent) (code : ℕ) (name : List ℕ) (found : ℕ) (m : MatchRecord)
-    → row < 2 ^ 64 → HasNumbers event → code < 2 ^ 64 → IsText name → length name ≤ 20 → found < 2 ^ 64 → IsValid m
-    → PrintsAlone o (json_line (numbered_value row event code name found m))
-unfolding serde_json_on_literals
-numbered-line o row event code name found m r fits c text short f v =
+    silent-line (coded_value row event code name) o (record {
+      plain = ((refl, refl), (c, (kind.0, (fits.expected, (fits.game, (text, (refl, (fits.reporter, (r, tt)))))))));
+      size = omega (arith, digits-20, kind.1, fits.expected, fits.game, fits.reporter);
+    }) refl
+refused-by-line o row event code name (Some n) m r fits c text short f v =
     let kind = kind-text event.call.kind in
-    let named = kind.1 in
     let stands = match-plain 124 event.call.game m fits.game v in
-    let few = stands.1 in
-    silent-line (numbered_value row event code name found m) o
-    ((refl, refl), (c, (kind.0, (fits.expected, (fits.game, (text, (f, (refl, (fits.reporter, (r, (stands.0, tt))))))))))) (omega arith) (no-number row event code name found m)
+    silent-line (numbered_value row event code name n m) o (record {
+      plain = ((refl, refl), (c, (kind.0, (fits.expected, (fits.game, (text, (f, (refl, (fits.reporter, (r, (stands.0, tt)))))))))));
+      size = omega (arith, digits-20, kind.1, fits.expected, fits.game, fits.reporter, stands.1);
+    }) refl
 
 -- a row as an answer shows it
 pub record IsShown (shown : List ℕ) : Type 0 where
   pub text : IsText shown
   pub short : length shown ≤ 64
 
-printed-text : (text : List ℕ) → IsText (printed text)
+printed-text : (text : List ℕ) → IsText (printed text) × (length (printed text) ≤ length text)
 unfolding printed
-printed-text [] = refl
-printed-text (b ∷ text) = elim (cases_Bool (is_printed b)) [
-  | inl y ↦ rw y (and_from (is_printed b) (list_all is_printed (printed text)) y (printed-text text))
-  | inr n ↦ rw n refl
-]
-
-printed-short : (text : List ℕ) → length (printed text) ≤ length text
-unfolding printed
-printed-short [] = omega arith
-printed-short (b ∷ text) = elim (cases_Bool (is_printed b)) [
-  | inl y ↦ rw y (let more = printed-short text in omega arith)
-  | inr n ↦ rw n (omega arith)
-]
+printed-text [] = (refl, omega arith)
+printed-text (b ∷ text) =
+    let more = printed-text text in elim (cases_Bool (is_printed b)) [
+      | inl y ↦ rw y (and_from (is_printed b) (list_all is_printed (printed text)) y more.0, omega (arith, more.1))
+      | inr n ↦ rw n (refl, omega arith)
+    ]
 
 pub shown-text : (line : List ℕ) → IsShown (shown_text line)
-shown-text line = record {
-  text = printed-text (take 64 line);
-  short = let few = printed-short (take 64 line) in let kept = length-take 64 line in omega (arith, few, kept);
-}
+shown-text line = let p = printed-text (take 64 line) in record { text = p.0; short = omega (arith, p.1, length-take 64 line) }
 
 field-text : (field : BadField) → IsText (field_name field) × (length (field_name field) ≤ 8)
 field-text Count = (refl, omega arith)
 field-text _ = (refl, omega arith)
 
-pub bad-line : (o : Option BoardState) (row : ℕ) (field : BadField) (shown : List ℕ) → row < 2 ^ 64 → IsShown shown → PrintsAlone o (json_line (bad_row_value row (field_name field) shown))
-unfolding serde_json_on_literals
+pub bad-line : (o : Option BoardState) (row : ℕ) (field : BadField) (shown : List ℕ) → row < 2 ^ 64 → IsShown shown → CarriesAtMost o (json_line (bad_row_value row (field_name field) shown))
+unfolding parse_board_state serde_json_on_literals
 bad-line o row field shown r is =
     let name = field-text field in
     let code : 20 < 2 ^ 64 = omega arith in
-    let named = name.1 in
-    let short = is.short in
     silent-line (bad_row_value row (field_name field) shown) o
-    ((refl, refl), (code, (name.0, (refl, (refl, (r, (is.text, tt))))))) (omega arith) (no-event row (field_name field) shown)
+    (record { plain = ((refl, refl), (code, (name.0, (refl, (refl, (r, (is.text, tt))))))); size = omega (arith, digits-20, name.1, is.short) }) refl
 
-pub words-line : (o : Option BoardState) (row : ℕ) (board : List ℕ) → row < 2 ^ 64 → length board ≡ 12 → All (λ word. word < 2 ^ 64) board → PrintsAlone o (json_line (words_value row board))
-unfolding serde_json_on_literals
+pub words-line : (o : Option BoardState) (row : ℕ) (board : List ℕ) → row < 2 ^ 64 → length board ≡ 12 → All (λ word. word < 2 ^ 64) board → CarriesAtMost o (json_line (words_value row board))
+unfolding parse_board_state serde_json_on_literals
 words-line o row board r twelve bits =
     let w = words-plain board bits in
-    silent-line (words_value row board) o ((refl, refl), (refl, (r, (w.0, tt)))) (let k = w.1 in omega arith) (no-words row board)
-
-no-matches : (row : ℕ) (board : List ℕ) (clubs : List NamedClub) → parse_board_state (matches_value row board clubs) ≡ None
-unfolding matches_value parse_board_state serde_json_on_literals
-no-matches row board clubs = refl
+    silent-line (words_value row board) o (record { plain = ((refl, refl), (refl, (r, (w.0, tt)))); size = omega (arith, digits-20, w.1) }) refl
 
 pub matches-line : (o : Option BoardState) (row : ℕ) (board : List ℕ) (clubs : List NamedClub) → row < 2 ^ 64 → IsRoster clubs → AreWords board →
-    PrintsAlone o (json_line (matches_value row board clubs))
-matches-line o row board clubs r is w =
-    alone-line (matches_value row board clubs) o None
-    (told-if-short (matches_value row board clubs) (matches-plain board w row clubs r is) (matches-short board w row clubs r is) ∙ no-matches row board clubs) (inl refl)
+    CarriesAtMost o (json_line (matches_value row board clubs))
+unfolding matches_value parse_board_state serde_json_on_literals
+matches-line o row board clubs r is w = silent-line (matches_value row board clubs) o (matches-plain board w row clubs r is) refl
 
 name-text : (refusal : Refusal) → IsText (refusal_name refusal) × (length (refusal_name refusal) ≤ 20) × (refusal_code refusal < 2 ^ 64)
 name-text (Stale found) = (refl, omega arith, omega arith)
 name-text _ = (refl, omega arith, omega arith)
 
-refused-by-line : (o : Option BoardState) (row : ℕ) (event : NightEvent) (code : ℕ) (name : List ℕ) (found : Option ℕ) (m : MatchRecord)
-    → row < 2 ^ 64 → HasNumbers event → code < 2 ^ 64 → IsText name → length name ≤ 20 → IfSome found (λ n. n < 2 ^ 64) → IsValid m
-    → PrintsAlone o (json_line (refused_by row event code name found m))
-refused-by-line o row event code name None m r fits c text short f v = coded-line o row event code name r fits c text short
-refused-by-line o row event code name (Some n) m r fits c text short f v = numbered-line o row event code name n m r fits c text short f v
-
 pub refused-line : (o : Option BoardState) (row : ℕ) (event : NightEvent) (refusal : Refusal) (m : MatchRecord)
-    → row < 2 ^ 64 → HasNumbers event → IfSome (found_of refusal) (λ n. n < 2 ^ 64) → IsValid m → PrintsAlone o (json_line (refused_value row event refusal m))
+    → row < 2 ^ 64 → HasNumbers event → IfSome (found_of refusal) (λ n. n < 2 ^ 64) → IsValid m → CarriesAtMost o (json_line (refused_value row event refusal m))
 refused-line o row event refusal m r fits f v =
     let p = name-text refusal in refused-by-line o row event (refusal_code refusal) (refusal_name refusal) (found_of refusal) m r fits p.2 p.0 p.1 f v
 
@@ -244,3 +210,187 @@ word-fits word is = let high : word / 2 ^ 56 ≡ 32 = word_high word is in omega
 
 pub board-fits : (board : List ℕ) → All IsWord board → All (λ word. word < 2 ^ 64) board
 board-fits board h = All-weaker IsWord (λ word. word < 2 ^ 64) word-fits board h
+
+-- ==== What the lines of a session's answers tell: nothing, or the board state after their line
+
+abbrev pub Lines : Type 0
+Lines = List (List ℕ)
+
+-- and a header that there is
+
+pub record IsHeader (header : BoardHeader) : Type 0 where
+  pub letter : IsGroup header.group
+  pub edition : header.edition ≤ 65535
+
+within : (text : List ℕ) (group : ℕ) → letter_in text ≡ Some group → IsGroup group
+within (b ∷ []) group e = elim (cases_Bool (nat_le 65 b && nat_le b 72)) [
+  | inl y ↦
+      let same : b ≡ group = cc (rw y at e) in
+      let p = and_parts (nat_le 65 b) (nat_le b 72) y in subst IsGroup same (leb-true 65 b p.0, leb-true b 72 p.1)
+  | inr n ↦ cc (rw n at e)
+]
+within text group e = cc
+
+abbrev has_header : Option ℕ → Option Profile → Option ℕ → Option BoardHeader
+has_header a b c = do
+  group ← a
+  profile ← b
+  edition ← c
+  Some (record { group = group; profile = profile; edition = edition })
+
+by-parts : (a : Option ℕ) (b : Option Profile) (c : Option ℕ) (header : BoardHeader) → has_header a b c ≡ Some header → (a ≡ Some header.group) × (c ≡ Some header.edition)
+by-parts (Some a) (Some b) (Some c) header h =
+    let same : ◌≡◌ {A = BoardHeader} (record { group = a; profile = b; edition = c }) header = cc in
+    (ap (λ (t : BoardHeader). Some t.group) same, ap (λ (t : BoardHeader). Some t.edition) same)
+by-parts a b c header h = cc
+
+said-header : (f : FourFields) (header : BoardHeader) → header_by f ≡ Some header → IsHeader header
+said-header f header h =
+    let p = by-parts (letter_in f.second) (profile_named f.third) (edition_by f.fourth) header h in
+    record { letter = within f.second header.group p.0; edition = (ranged 0 65535 (number 5 f.fourth) header.edition p.1).1 }
+
+letter-of : (asked : Option ℕ) → may_be_asked asked ≡ true → IsGroup (unwrap_or asked 65)
+letter-of None h = (omega arith, omega arith)
+letter-of (Some group) h = asked_letter group h
+
+pub first-header : (options : LiveArgs) → IsHeader (asked_header options)
+first-header options = record { letter = letter-of options.group options.letter; edition = omega arith }
+
+or-header : (header : BoardHeader) (o : Option BoardHeader) → IsHeader header → ((other : BoardHeader) → o ≡ Some other → IsHeader other) → IsHeader (unwrap_or o header)
+or-header header None is more = is
+or-header header (Some other) is more = more other refl
+
+row-header : (header : BoardHeader) (r : Said) → IsHeader header → IsHeader (unwrap_or (header_said r) header)
+row-header header (Row f) is = or-header header (header_by f) is (said-header f)
+row-header _ _ is = is
+
+-- ---- sessions
+
+pub record IsSound (e : Session) : Type 0 where
+  pub phase : IsGood e.phase
+  pub header : IsHeader e.header
+
+sound-on : (e : Session) (clubs : List NamedClub) (board : List ℕ) (r : Said) (o : Option NewBoard) → again_on e.header e.is_new clubs r ≡ o → IsGood (Open clubs board)
+    → IsHeader e.header → IsGood (next_on e clubs board r o).phase × IsHeader (next_on e clubs board r o).header
+sound-on e clubs board r None is g t = ((g.0, good-board board (request_of r) g.1 (of-request r)), t)
+sound-on e clubs board r (Some new) is g t =
+    let x = renewed e.header e.is_new clubs r new is in
+    ((x.good g.0, fresh-good), elim x.has_header [ inl later ↦ said-header later.1 new.header later.2 | inr same ↦ subst IsHeader (sym same.1) t ])
+
+sound-at : (e : Session) (s : Phase) (r : Said) → IsGood s → IsHeader e.header → IsGood (next_at e s r).phase × IsHeader (next_at e s r).header
+sound-at e AwaitingHeader r g t = (
+  good-first e.options e.row r,
+  cond_both (is_group_row r) (unwrap_or (header_said r) e.header) e.header IsHeader (λ _. row-header e.header r t) (λ _. t),
+)
+sound-at e (AwaitingClubs clubs) r g t = (good-club e.row clubs (club_said (length clubs + 1) r), t)
+sound-at e (Open clubs board) r g t = sound-on e clubs board r (again_on e.header e.is_new clubs r) refl g t
+sound-at e (Refused fault) r g t = (tt, t)
+
+pub sound-next : (e : Session) (r : Said) → IsSound e → IsSound (next e r)
+sound-next e Nothing g = record { phase = g.phase; header = g.header }
+sound-next e r g = let p = sound-at e e.phase r g.phase g.header in record { phase = p.0; header = p.1 }
+
+pub start-sound : (options : LiveArgs) → IsSound (start_of options)
+start-sound options = record { phase = tt; header = first-header options }
+
+-- ---- board states
+
+pub board_state-good : (header : BoardHeader) (clubs : List NamedClub) (board : List ℕ) → IsHeader header → IsRoster clubs → AreWords board →
+    IsBoardState (board_state_with header clubs board)
+board_state-good header clubs board t is w = record { letter = t.letter; edition = t.edition; clubs = is; words = w; bits = board-fits board w.each }
+
+pub numbers : (e : NightEvent) → IsPossible (Event e) → HasNumbers e
+numbers e p = record { reporter = omega (arith, p.0.0); game = omega (arith, p.0.1); expected = omega (arith, p.1) }
+
+-- ---- what the answer to a line tells
+
+-- any event
+abbrev kick_off : NightEvent
+kick_off = record { reporter = 1; call = record { game = 1; expected = 0; kind = KickOff } }
+
+kick_off-fits : HasNumbers kick_off
+kick_off-fits = record { reporter = omega arith; game = omega arith; expected = omega arith }
+
+-- what the board stands at, once something but the rows of its heading has come
+abbrev pub told_now : Bool → BoardHeader → Phase → Option BoardState
+told_now true header s = None
+told_now false header s = board_state_at header s
+
+module _ (options : LiveArgs) (header : BoardHeader) (row : ℕ) (clubs : List NamedClub) (json : options.format ≡ Json) (fits : row < 2 ^ 64) (good : IsHeader header)
+    (is : IsRoster clubs) where
+  abbrev At : List ℕ → Option BoardState
+  At board = Some (board_state_with header clubs board)
+
+  screen-tells : (board : List ℕ) → AreWords board → CarriesAtMost (At board) (screen_answer options.format header row clubs board)
+  screen-tells board w =
+      rw json (most-as (At board) (At board) (json_line (edition_screen_value row header board clubs)) (value-line (edition_screen_value row header board clubs) (At board)
+      (told-lines row kick_off 0 (board_state_with header clubs board) (board_state-good header clubs board good is w) fits kick_off-fits (omega arith)).screen) (inr refl))
+
+  module _ (board : List ℕ) (w : AreWords board) (event : NightEvent) (attempted : IsAttempt (attempt_of event)) (small : HasNumbers event) where
+    abbrev game_of : List ℕ → MatchRecord
+    game_of words = game_at words event.call.game
+
+    abbrev now : List ℕ
+    now = board_after board (attempt_of event)
+
+    good-now : AreWords now
+    good-now = good-after board (attempt_of event) w attempted
+
+    is-word : (words : List ℕ) → AreWords words → IsWord (word_at words event.call.game)
+    is-word words good = All-get_or IsWord words (event.call.game - 1) 0 (let t = good.twelve in let r = attempted.1 in omega (arith, t, r)) good.each
+
+    is-valid : (words : List ℕ) → AreWords words → IsValid (game_of words)
+    is-valid words good = word_valid (word_at words event.call.game) (is-word words good)
+
+    number-fits : (game_of board).number + 1 < 2 ^ 64
+    number-fits = let n = number_valid (game_of board) (is-valid board w) in omega arith
+
+    abbrev reply-with : Option Refusal → List ℕ
+    reply-with o = json_line (reply_value row event (answer (game_of board).number o) header now clubs)
+
+    accepted-line : IsLineThat (At now) (reply-with None)
+    accepted-line =
+        value-line (accepted_value row event ((game_of board).number + 1) header now clubs) (At now)
+        ((told-lines row event ((game_of board).number + 1) (board_state_with header clubs now) (board_state-good header clubs now good is good-now) fits small number-fits).reply)
+
+    pub accepted-reply : (before : ℕ) → refusal_of (game_of board) event.call.expected event.call.kind ≡ None
+        → IsLineThat (At now) (reply_answer options.format header row clubs event before (reply_of (game_of board) event.call) now)
+    accepted-reply before e = rw json (subst (λ (o : Option Refusal). IsLineThat (At now) (reply-with o)) (sym e) accepted-line)
+
+    reply-by : (o : Option Refusal) → refusal_of (game_of board) event.call.expected event.call.kind ≡ o → CarriesAtMost (At now) (reply-with o)
+    reply-by None e = most-as (At now) (At now) (reply-with None) accepted-line (inr refl)
+    reply-by (Some refusal) e =
+        refused-line (At now) row event refusal (game_of now) fits small
+        (found-fits (word_at board event.call.game) event.call.expected event.call.kind refusal (is-word board w) e) (is-valid now good-now)
+
+    reply-tells : (before : ℕ) → CarriesAtMost (At now) (reply_answer options.format header row clubs event before (reply_of (game_of board) event.call) now)
+    reply-tells before = rw json (reply-by (refusal_of (game_of board) event.call.expected event.call.kind) refl)
+
+    after-tells : (o : Option Refusal) → CarriesAtMost (At now) (screen_after options header row clubs (answer (game_of board).number o) now)
+    after-tells None = cond_both options.screens (screen_answer options.format header row clubs now) [] (CarriesAtMost (At now))
+        (λ _. screen-tells now good-now) (λ _. most-none (At now))
+    after-tells (Some refusal) = most-none (At now)
+
+  -- a row that asks for nothing that there is carries nothing, and any other the board state after it
+  request-tells : (is_new : Bool) (board : List ℕ) (request : Request) (shown : List ℕ) → AreWords board → IsPossible request → IsShown shown
+      → CarriesAtMost (told_now (is_bad request && is_new) header (Open clubs (next_board board request))) (answer_of options header row clubs board request shown)
+  request-tells is_new board (Event event) shown w p short =
+      let m = game_at board event.call.game in
+      let after = board_after board (attempt_of event) in
+      most-then (At after) (reply_answer options.format header row clubs event (version_of board) (reply_of m event.call) after)
+      (screen_after options header row clubs (reply_of m event.call) after)
+      (reply-tells board w event p.0 (numbers event p) (version_of board)) (after-tells board w event p.0 (numbers event p) (refusal_of m event.call.expected event.call.kind))
+  request-tells is_new board (Bad field) shown w p short = rw json (bad-line (told_now is_new header (Open clubs board)) row field shown fits short)
+  request-tells is_new board Screen shown w p short = screen-tells board w
+  request-tells is_new board Words shown w p short = rw json (words-line (At board) row board fits w.twelve (board-fits board w.each))
+  request-tells is_new board Matches shown w p short = rw json (matches-line (At board) row board clubs fits is w)
+
+-- a line carries nothing, or the board state after it, and then the edition is new no more
+abbrev pub told_after : Session → Option BoardState
+told_after e = told_now e.is_new e.header e.phase
+
+pub line-tells : (e : Session) (r : Said) (shown : List ℕ) → e.options.format ≡ Json → e.row < 2 ^ 64 → IsSound e → IsShown shown
+    → CarriesAtMost (told_after (next e r)) (answer_said e r shown)
+line-tells e r shown json fits g short = by-line (λ after text. CarriesAtMost (told_after after) text) e r shown (λ after. most-none (told_after after))
+    (λ clubs board is. let good : IsGood (Open clubs board) = subst IsGood is g.phase in
+    request-tells e.options e.header e.row clubs json fits g.header good.0 e.is_new board (request_of r) shown good.1 (possible r) short)

@@ -1,23 +1,179 @@
--- The board of a session as that of a legal history.
-use Rattle.ucl_live_runs.proofs.Common.{phase_with, header_with, Accepted, All, All-append, All-head, All-tail, Attempt, Bad, Entry, Session, Event, EventCall}
-use Rattle.ucl_live_runs.proofs.Common.{Format, FourFields, IsAttempt, IsLegal, Json, Kind, List, LiveArgs, Matches, NamedClub, NightEvent, None, Nothing, Open}
-use Rattle.ucl_live_runs.proofs.Common.{Option, Other, Refusal, Request, Result, Row, Said, Screen, Some, Phase, Text, NewBoard, BoardHeader, Words, []}
-use Rattle.ucl_live_runs.proofs.Common.{after_attempt, answer_of, ap, append-nil, ap₂, arith, attempt_board, attempt_of, attempts_of, attempts_on, board_after}
-use Rattle.ucl_live_runs.proofs.Common.{board_of, bytes_eq, event_of, event_or_bad, fold, game_at, if◌then◌else◌, in_range, kind_named, length, line_of_reply}
-use Rattle.ucl_live_runs.proofs.Common.{nat_le, nat_tests, next, next_board, next_phase, next_header, number, refl, reply_answer, reply_of, request_of, said_on}
-use Rattle.ucl_live_runs.proofs.Common.{again, screen_after, sequential_reply, shown_text, sym, ℕ, ◌&&◌, ◌++◌, ◌+◌, ◌==◌, ◌>>=◌, ◌∙◌, ◌∷◌, ◌≡◌, ◌≤◌, answer_with}
+-- The board of a session, and how a row begins it again.
+use Rattle.ucl_live_runs.proofs.Common.{Accepted, All, All-append, All-cons, All-get_or, All-head, All-nil, AreWords, Attempt, AwaitingClubs, Bad, BoardHeader}
+use Rattle.ucl_live_runs.proofs.Common.{Entry, Event, EventCall, Format, FourFields, IsAttempt, IsClub, IsLegal, IsRoster, IsValid, IsWord, Json, Kind, List}
+use Rattle.ucl_live_runs.proofs.Common.{LiveArgs, MatchRecord, Matches, NamedClub, NewBoard, NightEvent, None, Nothing, Open, Option, OtherGroup, Phase, Refusal}
+use Rattle.ucl_live_runs.proofs.Common.{Refused, Request, Result, Row, Said, Screen, Session, Some, Text, Words, [], after_attempt, after_beginning, after_club}
+use Rattle.ucl_live_runs.proofs.Common.{after_header, again, again_at, again_on, and_parts, answer_at, answer_of, answer_on, answer_said, ap, append-nil, ap₂}
+use Rattle.ucl_live_runs.proofs.Common.{arith, attempt_board, attempt_of, attempts_of, bad_slot, board_after, board_of, bytes_eq, cases_Bool, club_said, event_of}
+use Rattle.ucl_live_runs.proofs.Common.{event_or_bad, false, fold, game_at, get_or, header_by, header_said, if◌then◌else◌, in_range, inl, inr, is_as_asked}
+use Rattle.ucl_live_runs.proofs.Common.{is_asked, is_bad, is_group_row, kind_named, length, line_of_reply, moved, nat_le, nat_lt, nat_tests, next, next_at}
+use Rattle.ucl_live_runs.proofs.Common.{next_board, next_on, number, record_at, record_back, refl, refusal_of, reply_answer, reply_of, request_of, said_on}
+use Rattle.ucl_live_runs.proofs.Common.{same_Some, screen_after, sequential_reply, set, shown_text, subst, sym, true, version_of, with_roster, word_of, word_valid}
+use Rattle.ucl_live_runs.proofs.Common.{ℕ, ⊤, ◌&&◌, ◌++◌, ◌+◌, ◌-◌, ◌<◌, ◌==◌, ◌>>=◌, ◌∙◌, ◌∷◌, ◌≡◌, ◌≤◌, ◌⊎◌}
+use Rattle.ucl_live_runs.proofs.FollowShown.{IsOfSame, asked-same}
+use Rattle.std.proofs.lemmas.List.{length-set}
+use Rattle.std.proofs.lemmas.List.Elements.{All-set}
 use Rattle.std.proofs.lemmas.Option.{cond_some}
-use Rattle.std.proofs.lemmas.Bool.{cond_both}
-use Rattle.std.specs.Prelude.{codes}
-use Rattle.ucl_board.proofs.HistoryTheorems.{attempt_legal, versions}
-use Rattle.ucl_board.proofs.Histories.{reply_is}
+use Rattle.ucl_order.specs.Roster.{bad_slot_from, is_club}
+use Rattle.ucl_screen.specs.Script.{club_of}
+use Rattle.ucl_rows.specs.Rows.{fields_seen}
+use Rattle.ucl_rows.specs.declared.row.RowFields.{RowFields}
+use Rattle.ucl_live_runs.specs.declared.header.HeaderState.{HeaderState}
+use Rattle.ucl_live_runs.specs.declared.phase.OpenBoard.{OpenBoard}
+use Rattle.ucl_live_runs.specs.SessionRuns.{NeedsMemory, RequestNeedsMemory, open_board_seen, session_at}
+use Rattle.ucl_live_runs.specs.LiveText.{after_lines, answers}
+use Rattle.std.specs.Prelude.{Bool, codes}
+use Rattle.ucl_live_runs.specs.NewBoards.{BeginsAgain, by_edition, clubs_by_slot, clubs_said, new_board, of_clubs, slot_in, with_club_in}
+use Rattle.ucl_live_runs.specs.Requests.{asked_by, edition_said, is_later_edition, later_header, shown_by}
+use Rattle.std.proofs.lemmas.List.Sums.{sum_by-set}
+use Rattle.ucl_word.specs.Rules.{after}
+use Rattle.ucl_word.proofs.AcceptedEvents.{accepts, after_number, after_valid}
+use Rattle.ucl_word.proofs.Sequences.{may_none}
+use Rattle.ucl_board.specs.History.{MayFollow}
+use Rattle.ucl_board.proofs.Histories.{board_words, reply_is}
+use Rattle.std.proofs.lemmas.Bool.{cond_both, eqb-true}
+use Rattle.ucl_board.proofs.HistoryTheorems.{attempts_from, versions}
 use Rattle.ucl_rows.specs.Lines.{reply_line}
 use Rattle.ucl_rows.specs.BadRows.{bad_field}
-use Rattle.ucl_live_runs.specs.Requests.{asked_by, shown_by}
-use Rattle.ucl_live_runs.specs.LiveText.{after_lines, answers}
-use Rattle.ucl_live_runs.specs.ByHistory.{answer_by_history, answers_by_history, attempts_in, line_by_history, reply_by_history}
-use Rattle.ucl_live_runs.specs.LiveTheorems.{BoardsTakeEvents, SessionsAreSequential, RefusedSessionsAreSilent, RepliesAreThoseOfFeed, StayOnTheBoard}
-use Rattle.ucl_live_runs.proofs.Silence.{refused-shut, silent}
+use Rattle.ucl_live_runs.specs.LiveTheorems.{BoardsTakeEvents, RefusedSessionsAreSilent, RepliesAreThoseOfFeed, SessionsAreSequential, StayOnTheBoard}
+use Rattle.ucl_live_runs.specs.LiveTheorems.{answer_by_history, answers_by_history, attempts_in, line_by_history, reply_by_history}
+use Rattle.ucl_live_runs.proofs.Lines.{refused-shut, silent}
+use Rattle.ucl_rows.specs.declared.row.RowFields.TheVariants as seen
+
+-- ==== A row that begins the board again: what its header and its clubs are
+
+-- the second header is of a later edition of the first's group and order
+pub record IsLaterHeader (header later : BoardHeader) : Type 0 where
+  pub same : IsOfSame header later
+  pub edition : header.edition < later.edition
+
+is-later : (header later : BoardHeader) → is_later_edition header later ≡ true → IsLaterHeader header later
+is-later header later h =
+    let p = and_parts (is_asked (Some header.group) (Some header.profile) later) (nat_lt header.edition later.edition) h in
+    let less = p.1 in record { same = asked-same header later p.0; edition = grind (arith, nat_tests) }
+
+by-header : (header : BoardHeader) (o : Option BoardHeader) (later : BoardHeader) → later_header header o ≡ Some later → IsLaterHeader header later × (o ≡ Some later)
+by-header header (Some other) later h =
+    let p = cond_some (is_later_edition header other) other later h in
+    (subst (IsLaterHeader header) p.1 (is-later header other p.0), ap (λ (t : BoardHeader). Some t) p.1)
+by-header header None later h = cc
+
+edition-is : (header : BoardHeader) (f : FourFields) (later : BoardHeader) → edition_said header (Row f) ≡ Some later → IsLaterHeader header later × (header_by f ≡ Some later)
+edition-is header f later h = by-header header (header_by f) later (if-some (is_group_row (Row f)) (later_header header (header_by f)) later h)
+  where
+    if-some : (b : Bool) (o : Option BoardHeader) (t : BoardHeader) → (if b then o else None) ≡ Some t → o ≡ Some t
+    if-some true o t h = h
+    if-some false o t h = cc
+
+-- ---- clubs
+
+good-put : (slot : ℕ) (clubs : List NamedClub) (o : Option NamedClub) (more : List NamedClub) → with_club_in slot clubs o ≡ Some more → IsRoster clubs → IsRoster more
+good-put slot clubs (Some club) more h roster =
+    let p = cond_some (is_club club) (set clubs (slot - 1) club) more h in
+    subst IsRoster p.1 (record {
+      four = length-set clubs (slot - 1) club ∙ roster.four;
+      each = All-set IsClub clubs (slot - 1) club p.0 roster.each;
+    })
+good-put slot clubs None more h roster = cc
+
+good-clubs : (slot : Option ℕ) (clubs : List NamedClub) (f : FourFields) (more : List NamedClub) → clubs_by_slot slot clubs f ≡ Some more → IsRoster clubs → IsRoster more
+good-clubs (Some slot) clubs f more h roster = good-put slot clubs (club_of slot f) more h roster
+good-clubs None clubs f more h roster = cc
+
+-- ---- the whole row
+
+pub record Renews (header : BoardHeader) (is_new : Bool) (clubs : List NamedClub) (new : NewBoard) : Type 0 where
+  pub has_header : (IsLaterHeader header new.header × (f : FourFields) × (header_by f ≡ Some new.header)) ⊎ ((is_new ≡ true) × (new.header ≡ header))
+  pub good : IsRoster clubs → IsRoster new.clubs
+
+of-clubs : (header : BoardHeader) (clubs : List NamedClub) (f : FourFields) (o : Option (List NamedClub)) (new : NewBoard) → clubs_said clubs f ≡ o → of_clubs header o ≡ Some new
+    → Renews header true clubs new
+of-clubs header clubs f (Some more) new said h =
+    let same = same_Some (new_board header more) new h in record {
+      has_header = inr (refl, ap (λ (n : NewBoard). n.header) (sym same));
+      good = λ roster. subst IsRoster (ap (λ (n : NewBoard). n.clubs) same) (good-clubs (slot_in f.second) clubs f more said roster);
+    }
+of-clubs header clubs f None new said h = cc
+
+by-edition : (header : BoardHeader) (is_new : Bool) (clubs : List NamedClub) (f : FourFields) (o : Option BoardHeader) (new : NewBoard) → edition_said header (Row f) ≡ o
+    → by_edition header is_new clubs f o ≡ Some new → Renews header is_new clubs new
+by-edition header is_new clubs f (Some later) new is h =
+    let same = same_Some (new_board later clubs) new h in
+    let p = edition-is header f later is in
+    subst (Renews header is_new clubs) same (record { has_header = inl (p.0, f, p.1); good = λ roster. roster })
+by-edition header true clubs f None new is h = of-clubs header clubs f (clubs_said clubs f) new refl h
+by-edition header false clubs f None new is h = cc
+
+pub renewed : (header : BoardHeader) (is_new : Bool) (clubs : List NamedClub) (r : Said) (new : NewBoard) → again_on header is_new clubs r ≡ Some new → Renews header is_new clubs new
+renewed header is_new clubs (Row f) new h = by-edition header is_new clubs f (edition_said header (Row f)) new refl h
+renewed header is_new clubs r new h = cc
+
+-- ---- what the code does
+
+pub not-begun : (o : Option NewBoard) (done : Bool) (head head2 : HeaderState) (old new : OpenBoard) → BeginsAgain o done head head2 old new → done ≡ false
+    → (o ≡ None) × (head2 ≡ head) × (new ≡ old)
+not-begun None done head head2 old new h is_not = (refl, h.1, h.2)
+not-begun (Some again) done head head2 old new h is_not = cc (h.0, is_not)
+
+module _ (options : LiveArgs) (head : HeaderState) (row : ℕ) (table : OpenBoard) where
+  abbrev e : Session
+  e = session_at options head row (open_board_seen table)
+
+  pub answered-next : (said : RowFields) (head2 : HeaderState) (table2 : OpenBoard) → again_on head.header head.is_new table.roster (fields_seen said) ≡ None
+      → head2.header ≡ head.header → head2.is_new ≡ (is_bad (request_of (fields_seen said)) && head.is_new)
+      → table2.roster ≡ table.roster → table2.board ≡ next_board table.board (request_of (fields_seen said))
+      → session_at options head2 (row + 1) (open_board_seen table2) ≡ next e (fields_seen said)
+  answered-next (seen.Four f) head2 table2 none t n c b = rw (none, t, n, c, b) refl
+  answered-next seen.Other head2 table2 none t n c b = rw (t, n, c, b) refl
+
+  pub answered-text : (said : RowFields) (shown : List ℕ) → again_on head.header head.is_new table.roster (fields_seen said) ≡ None
+      → answer_of options head.header row table.roster table.board (request_of (fields_seen said)) shown ≡ answer_said e (fields_seen said) shown
+  answered-text (seen.Four f) shown none = rw none refl
+  answered-text seen.Other shown none = refl
+
+  pub answered-asks : (said : RowFields) → again_on head.header head.is_new table.roster (fields_seen said) ≡ None
+      → RequestNeedsMemory options table.board (request_of (fields_seen said)) → NeedsMemory e (fields_seen said)
+  answered-asks (seen.Four f) none asks = rw none asks
+  answered-asks seen.Other none asks = asks
+
+-- ==== Boards of valid words, through a session
+
+set-words : (words : List ℕ) (i word : ℕ) → AreWords words → IsWord word → AreWords (set words i word)
+set-words words i word w is = record { twelve = length-set words i word ∙ w.twelve; each = All-set IsWord words i word is w.each }
+
+module _ (words : List ℕ) (a : Attempt) (w : AreWords words) (is : IsAttempt a) where
+  within : a.call.game - 1 < length words
+  within = let t = w.twelve in let r = is.1 in omega (arith, t, r)
+
+  is-valid : IsValid (game_at words a.call.game)
+  is-valid = word_valid (get_or words (a.call.game - 1) 0) (All-get_or IsWord words (a.call.game - 1) 0 within w.each)
+
+  valid-after : refusal_of (game_at words a.call.game) a.call.expected a.call.kind ≡ None → IsValid (after (game_at words a.call.game) a.reporter a.call.kind)
+  valid-after e = after_valid (game_at words a.call.game) a.reporter a.call.expected a.call.kind is-valid is.0 (accepts (game_at words a.call.game) a.call.expected a.call.kind e)
+
+  after-by : (o : Option Refusal) → refusal_of (game_at words a.call.game) a.call.expected a.call.kind ≡ o → AreWords (board_after words a)
+  after-by None e =
+      let m = after (game_at words a.call.game) a.reporter a.call.kind in
+      rw e (set-words words (a.call.game - 1) (word_of m) w (record { of = m; valid = valid-after e; packed = refl }))
+  after-by (Some r) e = rw e w
+
+  pub good-after : AreWords (board_after words a)
+  good-after = after-by (refusal_of (game_at words a.call.game) a.call.expected a.call.kind) refl
+
+  pub version-after : refusal_of (game_at words a.call.game) a.call.expected a.call.kind ≡ None → version_of (board_after words a) ≡ version_of words + 1
+  version-after e =
+      let n = after (game_at words a.call.game) a.reporter a.call.kind in
+      let sum = sum_by-set (λ (word : ℕ). (record_at word).number) words (a.call.game - 1) (word_of n) 0 within in
+      let more : (record_at (word_of n)).number ≡ (game_at words a.call.game).number + 1 =
+      ap (λ (r : MatchRecord). r.number) (record_back n (valid-after e)) ∙ after_number (game_at words a.call.game) a.reporter a.call.kind in
+      rw e (omega (arith, sum, more))
+
+-- ---- the fresh board
+
+pub fresh-good : AreWords (board_of [])
+fresh-good = board_words [] (may_none MayFollow)
+
+-- ==== The board of a session as that of a legal history
 
 -- an event is of a reporter and a match that there are
 
@@ -40,21 +196,11 @@ made a b c d = do
   call ← call_made b c d
   Some (record { reporter = reporter; call = call })
 
-abbrev reporter_in : Option NightEvent → Option ℕ
-reporter_in None = None
-reporter_in (Some e) = Some e.reporter
-
-abbrev game_in : Option NightEvent → Option ℕ
-game_in None = None
-game_in (Some e) = Some e.call.game
-
-abbrev expected_in : Option NightEvent → Option ℕ
-expected_in None = None
-expected_in (Some e) = Some e.call.expected
-
 parts : (a b c : Option ℕ) (d : Option Kind) (e : NightEvent) → made a b c d ≡ Some e
     → (a ≡ Some e.reporter) × (b ≡ Some e.call.game) × (c ≡ Some e.call.expected)
-parts (Some a) (Some b) (Some c) (Some d) e h = (ap reporter_in h, ap game_in h, ap expected_in h)
+parts (Some a) (Some b) (Some c) (Some d) e h =
+    let same = same_Some (record { reporter = a; call = record { game = b; expected = c; kind = d } }) e h in
+    (ap (λ (x : NightEvent). Some x.reporter) same, ap (λ (x : NightEvent). Some x.call.game) same, ap (λ (x : NightEvent). Some x.call.expected) same)
 parts a b c d e h = cc
 
 pub event-numbers : (f : FourFields) (e : NightEvent) → event_of f ≡ Some e → IsAttempt (attempt_of e) × (e.call.expected ≤ 65535)
@@ -76,9 +222,10 @@ none = λ k d h. absurd (omega arith)
 one : (a : Attempt) → IsAttempt a → All IsAttempt (a ∷ [])
 one a p = λ k d h. let z : k ≡ 0 = omega arith in rw z p
 
-by-event : (f : FourFields) (o : Option NightEvent) → ((e : NightEvent) → o ≡ Some e → IsAttempt (attempt_of e)) → AreAttempts (event_or_bad f o)
-by-event f None p = none
-by-event f (Some e) p = one (attempt_of e) (p e refl)
+-- an event is of a reporter and a match that there are, and of a number of 16 bits
+abbrev pub IsPossible : Request → Type 0
+IsPossible (Event e) = IsAttempt (attempt_of e) × (e.call.expected ≤ 65535)
+IsPossible _ = ⊤
 
 -- what holds of each request that a row can ask for
 module _ (P : Request → Type 0) where
@@ -92,17 +239,25 @@ module _ (P : Request → Type 0) where
       (λ _. cond_both (bytes_eq f.first (codes "words")) Words or_bad P (λ _. words)
       (λ _. cond_both (bytes_eq f.first (codes "matches")) Matches (Bad (bad_field f)) P (λ _. matches) (λ _. bad)))) (λ _. event)
 
-pub asked : (f : FourFields) → AreAttempts (asked_by f)
-asked f = asked-by AreAttempts f none none none none (by-event f (event_of f) (λ e h. (event-numbers f e h).0))
+possible-event : (f : FourFields) (o : Option NightEvent) → event_of f ≡ o → IsPossible (event_or_bad f o)
+possible-event f None is = tt
+possible-event f (Some e) is = event-numbers f e is
 
-pub said-attempts : (r : Said) → All IsAttempt (attempts_on r)
-said-attempts (Row f) = asked f
-said-attempts _ = none
+pub possible : (r : Said) → IsPossible (request_of r)
+possible (Row f) = asked-by IsPossible f tt tt tt tt (possible-event f (event_of f) refl)
+possible _ = tt
+
+pub of-request : (r : Said) → AreAttempts (request_of r)
+of-request r = of (request_of r) (possible r)
+  where
+    of : (q : Request) → IsPossible q → AreAttempts q
+    of (Event e) p = one (attempt_of e) p.0
+    of _ p = none
 
 all-attempts : (row : ℕ) (lines : List (List ℕ)) → All IsAttempt (attempts_in row lines)
 unfolding attempts_in
 all-attempts row [] = none
-all-attempts row (line ∷ lines) = All-append IsAttempt (attempts_on (said_on row line)) (attempts_in (row + 1) lines) (said-attempts (said_on row line)) (all-attempts (row + 1) lines)
+all-attempts row (line ∷ lines) = All-append IsAttempt (attempts_of (request_of (said_on row line))) (attempts_in (row + 1) lines) (of-request (said_on row line)) (all-attempts (row + 1) lines)
 
 -- the board
 
@@ -110,46 +265,27 @@ fold-request : (board : List ℕ) (r : Request) (more : List Attempt) → fold b
 fold-request board (Event e) more = refl
 fold-request _ _ _ = refl
 
-abbrev pub board_on : List ℕ → Said → List ℕ
-board_on board Nothing = board
-board_on board Other = board
-board_on board (Row f) = next_board board (request_of (Row f))
+-- a line that does not begin the board again
+pub on-board : (e : Session) (r : Said) (clubs : List NamedClub) (board : List ℕ) → e.phase ≡ Open clubs board → again e r ≡ None → next e r ≡ moved e (next_on e clubs board r None)
+on-board e Nothing clubs board h none = rw h refl
+on-board e r clubs board h none = ap (moved e) (at e.phase h none)
+  where
+    at : (s : Phase) → s ≡ Open clubs board → again_at e s r ≡ None → next_at e s r ≡ next_on e clubs board r None
+    at s is none = rw is (ap (next_on e clubs board r) (rw is at none))
 
-fold-said : (board : List ℕ) (r : Said) (more : List Attempt) → fold board_after board (attempts_on r ++ more) ≡ fold board_after (board_on board r) more
-fold-said board (Row f) more = fold-request board (request_of (Row f)) more
-fold-said _ _ _ = refl
-
-next-open : (options : LiveArgs) (row : ℕ) (clubs : List NamedClub) (board : List ℕ) (r : Said) → next_phase options row (Open clubs board) r ≡ Open clubs (board_on board r)
-next-open options row clubs board Nothing = refl
-next-open _ _ _ _ _ = refl
-
--- the phase after a line that does not begin the board again
-pub phase-stays : (e : Session) (r : Said) (clubs : List NamedClub) (board : List ℕ) → e.phase ≡ Open clubs board → again e r ≡ None
-    → (next e r).phase ≡ Open clubs (board_on board r)
-phase-stays e r clubs board h none =
-    ap (λ (o : Option NewBoard). phase_with o (next_phase e.options e.row e.phase r)) none ∙ ap (λ (s : Phase). next_phase e.options e.row s r) h
-    ∙ next-open e.options e.row clubs board r
+pub answer-at : (e : Session) (s : Phase) (r : Said) (shown : List ℕ) (clubs : List NamedClub) (board : List ℕ) → s ≡ Open clubs board → again_at e s r ≡ None
+    → answer_at e s r shown ≡ answer_of e.options e.header e.row clubs board (request_of r) shown
+answer-at e s r shown clubs board is none = rw is (ap (answer_on e clubs board r shown) (rw is at none))
 
 pub boards : BoardsTakeEvents
 unfolding after_lines attempts_in StayOnTheBoard
 boards e [] clubs board h stay = h
 boards e (line ∷ lines) clubs board h stay =
     let r = said_on e.row line in
-    boards (next e r) lines clubs (board_on board r) (phase-stays e r clubs board h stay.0) stay.1
-    ∙ ap (λ (b : List ℕ). Open clubs b) (sym (fold-said board r (attempts_in (e.row + 1) lines)))
+    boards (next e r) lines clubs (next_board board (request_of r)) (ap (λ (k : Session). k.phase) (on-board e r clubs board h stay.0)) stay.1
+    ∙ ap (λ (b : List ℕ). Open clubs b) (sym (fold-request board (request_of r) (attempts_in (e.row + 1) lines)))
 
 -- ---- the history
-
-attempts-legal : (h : List Entry) (attempts : List Attempt) → IsLegal h → All IsAttempt attempts → IsLegal (fold after_attempt h attempts)
-attempts-legal h [] legal all = legal
-attempts-legal h (a ∷ attempts) legal all =
-    attempts-legal (after_attempt h a) attempts (attempt_legal h a legal (All-head IsAttempt a attempts all)) (All-tail IsAttempt a attempts all)
-
-attempts-board : (h : List Entry) (attempts : List Attempt) → IsLegal h → All IsAttempt attempts → fold board_after (board_of h) attempts ≡ board_of (fold after_attempt h attempts)
-attempts-board h [] legal all = refl
-attempts-board h (a ∷ attempts) legal all =
-    let is = All-head IsAttempt a attempts all in
-    ap (λ (ws : List ℕ). fold board_after ws attempts) (attempt_board h a legal is) ∙ attempts-board (after_attempt h a) attempts (attempt_legal h a legal is) (All-tail IsAttempt a attempts all)
 
 -- ---- replies
 
@@ -191,27 +327,18 @@ request-answer : (options : LiveArgs) (header : BoardHeader) (row : ℕ) (clubs 
 request-answer options header row clubs history (Event event) shown legal all = event-answer options header row clubs history event shown legal (first (attempt_of event) [] all)
 request-answer _ _ _ _ _ _ _ _ _ = refl
 
-said-answer : (e : Session) (clubs : List NamedClub) (history : List Entry) (r : Said) (shown : List ℕ) → IsLegal history → e.phase ≡ Open clubs (board_of history)
-    → answer_with e None r shown ≡ line_by_history e.options e.header e.row clubs history r shown
-said-answer e clubs history Nothing shown legal h = refl
-said-answer e clubs history Other shown legal h = rw h refl
-said-answer e clubs history (Row f) shown legal h = rw h (request-answer e.options e.header e.row clubs history (request_of (Row f)) shown legal (asked f))
-
--- the board that a line leaves
-said-board : (history : List Entry) (r : Said) → IsLegal history → board_on (board_of history) r ≡ board_of (fold after_attempt history (attempts_on r))
-said-board history r legal = sym (fold-said (board_of history) r []) ∙ whole history r legal
-  where
-    whole : (h : List Entry) (r : Said) → IsLegal h → fold board_after (board_of h) (attempts_on r ++ []) ≡ board_of (fold after_attempt h (attempts_on r))
-    whole h r legal = rw (append-nil (attempts_on r)) (attempts-board h (attempts_on r) legal (said-attempts r))
+said-answer : (e : Session) (clubs : List NamedClub) (history : List Entry) (r : Said) (shown : List ℕ) → IsLegal history → e.phase ≡ Open clubs (board_of history) → again e r ≡ None
+    → answer_said e r shown ≡ line_by_history e.options e.header e.row clubs history r shown
+said-answer e clubs history Nothing shown legal h stays = refl
+said-answer e clubs history r shown legal h stays =
+    answer-at e e.phase r shown clubs (board_of history) h stays ∙ request-answer e.options e.header e.row clubs history (request_of r) shown legal (of-request r)
 
 said-phase : (e : Session) (clubs : List NamedClub) (history : List Entry) (r : Said) → IsLegal history → e.phase ≡ Open clubs (board_of history) → again e r ≡ None
-    → (next e r).phase ≡ Open clubs (board_of (fold after_attempt history (attempts_on r)))
+    → (next e r).phase ≡ Open clubs (board_of (fold after_attempt history (attempts_of (request_of r))))
 said-phase e clubs history r legal h none =
-    phase-stays e r clubs (board_of history) h none ∙ ap (λ (b : List ℕ). Open clubs b) (said-board history r legal)
-
--- an open board keeps its header, where it is not begun again
-pub header-stays : (e : Session) (r : Said) (clubs : List NamedClub) (board : List ℕ) → e.phase ≡ Open clubs board → again e r ≡ None → (next e r).header ≡ e.header
-header-stays e r clubs board h none = ap (λ (o : Option NewBoard). header_with o (next_header e.header e.phase r)) none ∙ rw h refl
+    let made = attempts_of (request_of r) in
+    ap (λ (k : Session). k.phase) (on-board e r clubs (board_of history) h none)
+    ∙ ap (Open clubs) (sym (fold-request (board_of history) (request_of r) []) ∙ ap (fold board_after (board_of history)) (append-nil made) ∙ (attempts_from history made legal (of-request r)).1)
 
 text-by-history : (e : Session) (lines : List (List ℕ)) (clubs : List NamedClub) (history : List Entry) → IsLegal history → e.phase ≡ Open clubs (board_of history)
     → StayOnTheBoard e lines → answers e lines ≡ answers_by_history e.options e.header e.row clubs history lines
@@ -219,19 +346,57 @@ unfolding answers answers_by_history StayOnTheBoard
 text-by-history e [] clubs history legal h stay = refl
 text-by-history e (line ∷ lines) clubs history legal h stay =
     let r = said_on e.row line in
-    let later = fold after_attempt history (attempts_on r) in
-    let one = ap (λ (o : Option NewBoard). answer_with e o r (shown_text line)) stay.0 ∙ said-answer e clubs history r (shown_text line) legal h in
+    let later = fold after_attempt history (attempts_of (request_of r)) in
+    let one = said-answer e clubs history r (shown_text line) legal h stay.0 in
     ap₂ (λ (a b : List ℕ). a ++ b) one
-    (text-by-history (next e r) lines clubs later (attempts-legal history (attempts_on r) legal (said-attempts r)) (said-phase e clubs history r legal h stay.0) stay.1
-    ∙ ap (λ (t : BoardHeader). answers_by_history e.options t (e.row + 1) clubs later lines) (header-stays e r clubs (board_of history) h stay.0))
+    (text-by-history (next e r) lines clubs later (attempts_from history (attempts_of (request_of r)) legal (of-request r)).0 (said-phase e clubs history r legal h stay.0) stay.1
+    ∙ ap (λ (t : BoardHeader). answers_by_history e.options t (e.row + 1) clubs later lines) (ap (λ (k : Session). k.header) (on-board e r clubs (board_of history) h stay.0)))
 
 pub sequential : SessionsAreSequential
 sequential e lines clubs history legal h stay =
-    let all = all-attempts e.row lines in record {
-      legal = attempts-legal history (attempts_in e.row lines) legal all;
-      phase = boards e lines clubs (board_of history) h stay ∙ ap (λ (b : List ℕ). Open clubs b) (attempts-board history (attempts_in e.row lines) legal all);
+    let from = attempts_from history (attempts_in e.row lines) legal (all-attempts e.row lines) in record {
+      legal = from.0;
+      phase = boards e lines clubs (board_of history) h stay ∙ ap (λ (b : List ℕ). Open clubs b) from.1;
       text = text-by-history e lines clubs history legal h stay;
     }
 
 pub silence : RefusedSessionsAreSilent
 silence e lines fault h = silent e lines (refused-shut _ fault h)
+
+-- ==== The stages of a session: rosters and boards that there are
+
+abbrev pub IsGood : Phase → Type 0
+IsGood (Open clubs board) = IsRoster clubs × AreWords board
+IsGood _ = ⊤
+
+all-clubs : (slot : ℕ) (clubs : List NamedClub) → bad_slot_from slot clubs ≡ None → All IsClub clubs
+unfolding bad_slot_from
+all-clubs slot [] h = All-nil IsClub
+all-clubs slot (club ∷ clubs) h = elim (cases_Bool (is_club club)) [
+  | inl y ↦ All-cons IsClub club clubs y (all-clubs (slot + 1) clubs (rw y at h))
+  | inr n ↦ cc (rw n at h)
+]
+
+good-roster : (clubs : List NamedClub) (slot : Option ℕ) → length clubs ≡ 4 → bad_slot clubs ≡ slot → IsGood (with_roster clubs slot)
+good-roster clubs None four e = (record { four = four; each = all-clubs 1 clubs e }, fresh-good)
+good-roster clubs (Some slot) four e = tt
+
+pub good-club : (row : ℕ) (clubs : List NamedClub) (club : Option NamedClub) → IsGood (after_club row clubs club)
+good-club row clubs None = tt
+good-club row clubs (Some club) =
+    let all = clubs ++ club ∷ [] in
+    cond_both (length all == 4) (with_roster all (bad_slot all)) (AwaitingClubs all) IsGood
+    (λ e. good-roster all (bad_slot all) (eqb-true (length all) 4 e) refl) (λ _. tt)
+
+pub good-board : (board : List ℕ) (request : Request) → AreWords board → AreAttempts request → AreWords (next_board board request)
+good-board board (Event event) w all = good-after board (attempt_of event) w (All-head IsAttempt (attempt_of event) [] all)
+good-board _ _ w _ = w
+
+good-header : (options : LiveArgs) (row : ℕ) (header : Option BoardHeader) → IsGood (after_header options row header)
+good-header options row None = tt
+good-header options row (Some header) = cond_both (is_as_asked options header) (AwaitingClubs []) (Refused OtherGroup) IsGood (λ _. tt) (λ _. tt)
+
+pub good-first : (options : LiveArgs) (row : ℕ) (r : Said) → IsGood (after_beginning options row r)
+good-first options row r =
+    cond_both (is_group_row r) (after_header options row (header_said r)) (after_club row [] (club_said 1 r)) IsGood
+    (λ _. good-header options row (header_said r)) (λ _. good-club row [] (club_said 1 r))

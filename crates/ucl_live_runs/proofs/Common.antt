@@ -36,17 +36,33 @@ pub use Rattle.ucl_io.proofs.Turns.{turns_front}
 pub use Rattle.ucl_io.specs.Calls.{Device, device}
 pub use Rattle.ucl_io.specs.Lines.{HasNoFeed, begun_line, ended_lines}
 pub use Rattle.ucl_io.specs.Output.{StoppedShort}
-pub use Rattle.ucl_io.specs.Serving.{HasClosed, IsPromptAt, LineRules, Served, Run, Seen, StopsLast, rules_of, seen}
+pub use Rattle.ucl_io.specs.Serving.{HasClosed, IsPromptAt, LineRules, Run, Seen, Served, StopsLast, rules_of, seen}
 pub use Rattle.ucl_io.specs.Turns.{StopsNext, Turn}
 pub use Rattle.ucl_io.specs.declared.fault.ServeFault.{ServeFault}
 pub use Rattle.ucl_io.specs.declared.fault.ServeFault.TheVariants.{Handler, WriteFailed}
 pub use Rattle.ucl_json.proofs.OneLine.{one_line}
-pub use Rattle.ucl_json.specs.Lines.{AreLinesOfValues, json_line}
 pub use Rattle.ucl_json.specs.BoardLines.{parse_board_line}
+pub use Rattle.ucl_json.specs.Lines.{AreLinesOfValues, json_line}
 pub use Rattle.ucl_json.specs.Values.{accepted_value, bad_row_value, club_items, edition_screen_value, mark_name, match_items, matches_value, number_value}
 pub use Rattle.ucl_json.specs.Values.{place_items, refused_by, reply_value, word_items, words_value}
 pub use Rattle.ucl_json.specs.declared.board_state.BoardState.{BoardState}
 pub use Rattle.ucl_json.specs.declared.header.BoardHeader.{BoardHeader}
+pub use Rattle.ucl_live_runs.specs.Follow.{HasNumbers, IsBoardState, IsCarriedIn, IsNoNewer, after_line, board_state_at, board_state_now, board_state_with}
+pub use Rattle.ucl_live_runs.specs.Follow.{follow_text, is_later, is_newer, is_shown, line_output, unseen, version_at}
+pub use Rattle.ucl_live_runs.specs.LiveText.{Session, again, again_at, answer_at, answer_of, answer_on, answer_said, begun_again, live_text, missing_after, moved}
+pub use Rattle.ucl_live_runs.specs.LiveText.{next, next_at, next_on, screen_after, start_of}
+pub use Rattle.ucl_live_runs.specs.LiveTheorems.{attempts_of}
+pub use Rattle.ucl_live_runs.specs.NewBoards.{NewBoard, again_on}
+pub use Rattle.ucl_live_runs.specs.Phases.{AwaitingClubs, AwaitingHeader, Open, Phase, Refused, after_beginning, after_club, after_header, club_said, missing}
+pub use Rattle.ucl_live_runs.specs.Phases.{next_board, with_roster}
+pub use Rattle.ucl_live_runs.specs.Requests.{asked_header, event_or_bad, header_by, header_said, is_as_asked, is_asked, is_bad, is_group_row, is_same_order}
+pub use Rattle.ucl_live_runs.specs.Requests.{request_of}
+pub use Rattle.ucl_live_runs.specs.SessionRuns.{HasNoAnswer, HasNoEnd, after_bytes, answers_to, missing_at, session_of}
+pub use Rattle.ucl_live_runs.specs.declared.follower.FollowState.{FollowState}
+pub use Rattle.ucl_live_runs.specs.declared.live_fault.LiveFault.{LiveFault}
+pub use Rattle.ucl_live_runs.specs.declared.live_fault.LiveFault.TheVariants.{OtherGroup}
+pub use Rattle.ucl_live_runs.specs.declared.request.Request.{Request}
+pub use Rattle.ucl_live_runs.specs.declared.request.Request.TheVariants.{Bad, Event, Matches, Screen, Words}
 pub use Rattle.ucl_order.specs.Names.{profile_name, profile_named}
 pub use Rattle.ucl_order.specs.Roster.{IsClub, IsRoster, NamedClub, bad_slot, club_in, is_name, is_printed}
 pub use Rattle.ucl_order.specs.Rows.{rows_of}
@@ -54,30 +70,12 @@ pub use Rattle.ucl_order.specs.declared.mark.Mark.{Mark}
 pub use Rattle.ucl_order.specs.declared.mark.Mark.TheVariants.{Plus}
 pub use Rattle.ucl_order.specs.declared.profile.Profile.{Profile}
 pub use Rattle.ucl_order.specs.declared.profile.Profile.TheVariants.{AwayInTie, Uefa}
-pub use Rattle.ucl_live_runs.specs.Answered.{HasNumbers, IsBoardState}
-pub use Rattle.ucl_rows.specs.BadRows.{field_name, shown_text}
-pub use Rattle.ucl_live_runs.specs.ByHistory.{attempts_of, attempts_on}
-pub use Rattle.ucl_rows.specs.Lines.{line_of_reply}
-pub use Rattle.ucl_live_runs.specs.Follow.{after_told, follow_text, is_later, is_newer, is_shown, passed_over, shown_too, told_text, unseen, version_at, whole_lines}
-pub use Rattle.ucl_live_runs.specs.SessionRuns.{HasNoAnswer, HasNoEnd, after_bytes, answers_to, session_of, missing_at}
-pub use Rattle.ucl_rows.specs.InputLines.{last_lines, lines_of}
-pub use Rattle.ucl_live_runs.specs.Records.{board_state_at, board_state_now, board_state_with}
-pub use Rattle.ucl_live_runs.specs.Latest.{IsNoNewer, IsToldIn}
-pub use Rattle.ucl_live_runs.specs.LiveText.{Session, after_lines, answer_at, answer_of, answer_said, answers, live_text, missing_after, next, next_header}
-pub use Rattle.ucl_live_runs.specs.LiveText.{screen_after, start_of, again, again_at, answer_with, newness_with, next_by, phase_with, stays_new, header_with}
 pub use Rattle.ucl_rows.specs.Answers.{reply_answer, screen_answer}
-pub use Rattle.ucl_live_runs.specs.Requests.{asked_by, event_or_bad, request_of, is_bad}
+pub use Rattle.ucl_rows.specs.BadRows.{field_name, shown_text}
+pub use Rattle.ucl_rows.specs.InputLines.{last_lines, lines_of}
+pub use Rattle.ucl_rows.specs.Lines.{line_of_reply}
 pub use Rattle.ucl_rows.specs.Rows.{Nothing, Other, Row, Said, fits, said_on}
-pub use Rattle.ucl_live_runs.specs.Phases.{AwaitingHeader, AwaitingClubs, Open, Refused, Phase, after_beginning, after_club, after_row, after_header, club_said}
-pub use Rattle.ucl_live_runs.specs.Phases.{missing, next_board, next_phase, with_roster}
-pub use Rattle.ucl_live_runs.specs.NewBoards.{NewBoard}
-pub use Rattle.ucl_live_runs.specs.Headers.{asked_header, is_as_asked, is_asked, is_group_row, is_same_order, header_by, header_said}
 pub use Rattle.ucl_rows.specs.declared.fault.RunFault.{RunFault}
-pub use Rattle.ucl_live_runs.specs.declared.follower.FollowState.{FollowState}
-pub use Rattle.ucl_live_runs.specs.declared.live_fault.LiveFault.TheVariants.{OtherGroup}
-pub use Rattle.ucl_live_runs.specs.declared.live_fault.LiveFault.{LiveFault}
-pub use Rattle.ucl_live_runs.specs.declared.request.Request.{Request}
-pub use Rattle.ucl_live_runs.specs.declared.request.Request.TheVariants.{Bad, Event, Matches, Screen, Words}
 pub use Rattle.ucl_screen.specs.Events.{attempt_of, event_of, ◌>>=◌}
 pub use Rattle.ucl_screen.specs.Numbers.{hex_digits, in_range, number}
 pub use Rattle.ucl_screen.specs.Rows.{FourFields}

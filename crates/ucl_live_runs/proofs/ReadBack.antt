@@ -1,8 +1,9 @@
 -- The text of a plain value: it is read as that value, has ASCII alone, and is no longer than its parts.
 use Rattle.ucl_live_runs.proofs.Common.{All, All-append, All-cons, All-nil, Bool, Data, IsUtf8-from_ascii, List, Some, [], and_parts, ap, append-nil, arith, array}
-use Rattle.ucl_live_runs.proofs.Common.{cases_eq, compact_text, decimal, false, inl, inr, is_printed, length, length-append, length-decimal-le, list_all, member}
-use Rattle.ucl_live_runs.proofs.Common.{parse_board_line, nat_le, nat_tests, negsuc, no_members, null, number_text, object, option_map, pos, quoted, refl, string}
-use Rattle.ucl_live_runs.proofs.Common.{suc, sym, true, unsigned, ℕ, ⊤, ◌&&◌, ◌*◌, ◌++◌, ◌+◌, ◌<◌, ◌^◌, ◌∙◌, ◌∷◌, ◌≡◌, ◌≤◌}
+use Rattle.ucl_live_runs.proofs.Common.{cases_eq, compact_text, decimal, false, inl, inr, is_printed, length, length-append, list_all, member, nat_le, nat_tests}
+use Rattle.ucl_live_runs.proofs.Common.{negsuc, no_members, null, number_text, object, option_map, parse_board_line, pos, quoted, refl, string, suc, sym, true}
+use Rattle.ucl_live_runs.proofs.Common.{unsigned, ℕ, ⊤, ◌&&◌, ◌*◌, ◌++◌, ◌+◌, ◌<◌, ◌^◌, ◌∙◌, ◌∷◌, ◌≡◌, ◌≤◌}
+use Rattle.std.specs.Prelude.{not, ◌==◌, ◌||◌}
 use Rattle.std.proofs.lemmas.Fmt.{IsAscii-decimal}
 use Rattle.std.proofs.lemmas.Str.Ascii.{All-from_ascii, IsAscii-from_all}
 use Rattle.json.specs.Lex.{tokens}
@@ -11,9 +12,9 @@ use Rattle.json.proofs.Printed.Strings.{escape_byte_plain}
 use Rattle.json.proofs.Printed.Decimals.{IsNumber-decimal, IsNumber-signed_decimal}
 use Rattle.json.proofs.Printed.Tokens.{tokens-print}
 use Rattle.json.proofs.Printed.Trees.{ArePrintable-json_tokens, value-json_tokens}
-use Rattle.serde_json.specs.Data.{Num, negative, float, boolean, number, Items, no_items, item, Members, put}
-use Rattle.serde_json.specs.Read.{number_of, of_json, of_items, of_members, read}
-use Rattle.serde_json.specs.Written.{items_text, members_text, comma_if, outline, items_outline, members_outline}
+use Rattle.serde_json.specs.Data.{Items, Members, Num, boolean, float, item, negative, no_items, number, put}
+use Rattle.serde_json.specs.Read.{number_of, of_items, of_json, of_members, read}
+use Rattle.serde_json.specs.Written.{comma_if, items_outline, items_text, members_outline, members_text, outline}
 use Rattle.serde_json.proofs.Numbers.{number_of-decimal, number_of-negative}
 use Rattle.serde_json.proofs.Texts.{print-outline}
 use Rattle.ucl_json.specs.BoardLines.{parse_board_state}
@@ -35,14 +36,18 @@ abbrev pub put_all : Members → Members → Members
 put_all no_members found = found
 put_all (member k d ms) found = put_all ms (put k d found)
 
--- whether each key is a text
-abbrev pub have_texts : Members → Bool
-have_texts no_members = true
-have_texts (member k d ms) = list_all is_printed k && have_texts ms
+-- printed, and no quote and no backslash
+abbrev is_bare : ℕ → Bool
+is_bare x = is_printed x && not ((x == 34) || (x == 92))
 
--- members have texts for keys, each once, in order
+-- whether no byte of a key is escaped
+abbrev pub have_bare_keys : Members → Bool
+have_bare_keys no_members = true
+have_bare_keys (member k d ms) = list_all is_bare k && have_bare_keys ms
+
+-- members have such keys, each once, in order
 abbrev pub AreInOrder : Members → Type 0
-AreInOrder ms = (put_all ms no_members ≡ ms) × (have_texts ms ≡ true)
+AreInOrder ms = (put_all ms no_members ≡ ms) × (have_bare_keys ms ≡ true)
 
 -- its numbers fit, its texts are printed bytes, its objects have their members in order, and it nests so deep at most
 abbrev mutual
@@ -112,7 +117,7 @@ abbrev mutual
   pub size : Data → ℕ
   size null = 4
   size (boolean b) = 5
-  size (number n) = 21
+  size (number n) = length (number_text n)
   size (string s) = 2 * length s + 2
   size (array ds) = 1 + items_size ds
   size (object ms) = 1 + members_size ms
@@ -123,11 +128,11 @@ abbrev mutual
 
   pub members_size : Members → ℕ
   members_size no_members = 1
-  members_size (member k d ms) = 1 + ((2 * length k + 2) + (1 + (size d + members_size ms)))
+  members_size (member k d ms) = 1 + ((length k + 2) + (1 + (size d + members_size ms)))
 
-pub record IsShort (text : List ℕ) (n : ℕ) : Type 0 where
-  pub ascii : All (λ b. b < 128) text
-  pub short : length text ≤ n
+record IsShort (text : List ℕ) (n : ℕ) : Type 0 where
+  ascii : All (λ b. b < 128) text
+  short : length text ≤ n
 
 then : (a b : List ℕ) (m n : ℕ) → IsShort a m → IsShort b n → IsShort (a ++ b) (m + n)
 then a b m n p q = record {
@@ -135,42 +140,39 @@ then a b m n p q = record {
   short = let l = length-append a b in let i = p.short in let j = q.short in omega arith;
 }
 
-pub first : (b : ℕ) (text : List ℕ) (n : ℕ) → b < 128 → IsShort text n → IsShort (b ∷ text) (1 + n)
+first : (b : ℕ) (text : List ℕ) (n : ℕ) → b < 128 → IsShort text n → IsShort (b ∷ text) (1 + n)
 first b text n h p = record { ascii = All-cons (λ x. x < 128) b text h p.ascii; short = let i = p.short in omega arith }
 
 none : IsShort [] 0
 none = record { ascii = All-nil (λ x. x < 128); short = omega arith }
 
-pub wider : (text : List ℕ) (m n : ℕ) → m ≤ n → IsShort text m → IsShort text n
+wider : (text : List ℕ) (m n : ℕ) → m ≤ n → IsShort text m → IsShort text n
 wider text m n h p = record { ascii = p.ascii; short = let i = p.short in omega arith }
 
-pub digits-short : (k n : ℕ) → 0 < k → n < 10 ^ k → n < 2 ^ 64 → IsShort (decimal n) k
-digits-short k n some few h = record { ascii = All-from_ascii (decimal n) (IsAscii-decimal n h); short = length-decimal-le k n some few h }
+decimal-short : (n : ℕ) → n < 2 ^ 64 → IsShort (decimal n) (length (decimal n))
+decimal-short n h = record { ascii = All-from_ascii (decimal n) (IsAscii-decimal n h); short = omega arith }
 
-number-short : (n : Num) → IsPlainNumber n → IsShort (number_text n) 21
-number-short (unsigned n) h = wider (decimal n) 20 21 (omega arith) (digits-short 20 n (omega arith) (omega arith) h)
-number-short (negative (negsuc n)) h = first 45 (decimal (suc n)) 20 (omega arith) (digits-short 20 (suc n) (omega arith) (omega arith) (omega arith))
-number-short _ h = absurd h
+numeral-short : (n : Num) → IsPlainNumber n → IsShort (number_text n) (length (number_text n))
+numeral-short (unsigned n) h = decimal-short n h
+numeral-short (negative (negsuc n)) h = wider (45 ∷ decimal (suc n)) (1 + length (decimal (suc n))) (length (45 ∷ decimal (suc n))) (omega arith)
+    (first 45 (decimal (suc n)) (length (decimal (suc n))) (omega arith) (decimal-short (suc n) (omega arith)))
+numeral-short _ h = absurd h
 
-quote : IsShort (escape_byte 34) 2
-unfolding escape_byte
-quote = first 92 (34 ∷ []) 1 (omega arith) (first 34 [] 0 (omega arith) none)
+printed-range : (x : ℕ) → is_printed x ≡ true → (32 ≤ x) × (x ≤ 126)
+printed-range x h = let p = and_parts (nat_le 32 x) (nat_le x 126) h in (grind (arith, nat_tests), grind (arith, nat_tests))
 
-slash : IsShort (escape_byte 92) 2
-unfolding escape_byte
-slash = first 92 (92 ∷ []) 1 (omega arith) (first 92 [] 0 (omega arith) none)
-
-in-range : (x : ℕ) → is_printed x ≡ true → (32 ≤ x) × (x ≤ 126)
-in-range x h = let p = and_parts (nat_le 32 x) (nat_le x 126) h in (grind (arith, nat_tests), grind (arith, nat_tests))
+one-byte : (x : ℕ) → x < 128 → IsShort (x ∷ []) 1
+one-byte x h = first x [] 0 h none
 
 escaped-byte : (x : ℕ) → is_printed x ≡ true → IsShort (escape_byte x) 2
+unfolding escape_byte
 escaped-byte x h =
-    let r = in-range x h in
+    let r = printed-range x h in
     elim (cases_eq x 34) [
-      | inl q ↦ rw q quote
+      | inl q ↦ rw q (first 92 (34 ∷ []) 1 (omega arith) (one-byte 34 (omega arith)))
       | inr a ↦ elim (cases_eq x 92) [
-        | inl b ↦ rw b slash
-        | inr c ↦ rw (escape_byte_plain x a c r.0) (wider (x ∷ []) 1 2 (omega arith) (first x [] 0 (omega arith) none))
+        | inl b ↦ rw b (first 92 (92 ∷ []) 1 (omega arith) (one-byte 92 (omega arith)))
+        | inr c ↦ rw (escape_byte_plain x a c r.0) (wider (x ∷ []) 1 2 (omega arith) (one-byte x (omega arith)))
       ]
     ]
 
@@ -180,86 +182,54 @@ escaped (x ∷ s) h =
     let p = and_parts (is_printed x) (list_all is_printed s) h in
     wider (escape_byte x ++ escape s) (2 + 2 * length s) (2 * length (x ∷ s)) (omega arith) (then (escape_byte x) (escape s) 2 (2 * length s) (escaped-byte x p.0) (escaped s p.1))
 
-pub in-quotes : (s : List ℕ) → IsText s → IsShort (quoted s) (2 * length s + 2)
-in-quotes s h =
-    wider (quoted s) (1 + (2 * length s + 1)) (2 * length s + 2) (omega arith)
-    (first 34 (escape s ++ 34 ∷ []) (2 * length s + 1) (omega arith) (then (escape s) (34 ∷ []) (2 * length s) 1 (escaped s h) (first 34 [] 0 (omega arith) none)))
+bare : (k : List ℕ) → list_all is_bare k ≡ true → IsShort (escape k) (length k)
+bare [] h = none
+bare (x ∷ k) h =
+    let p = and_parts (is_bare x) (list_all is_bare k) h in
+    let q = and_parts (is_printed x) (not ((x == 34) || (x == 92))) p.0 in
+    let r = printed-range x q.0 in
+    let plain = escape_byte_plain x (λ e. cc (rw e at q.1)) (λ e. cc (rw e at q.1)) r.0 in
+    wider (escape_byte x ++ escape k) (1 + length k) (length (x ∷ k)) (omega arith) (then (escape_byte x) (escape k) 1 (length k) (rw plain (one-byte x (omega (arith, r.1)))) (bare k p.1))
 
--- a text in which no byte is escaped
-plain-quotes : (s : List ℕ) → IsText s → escape s ≡ s → IsShort (quoted s) (length s + 2)
-plain-quotes s h same = record {
-  ascii = (in-quotes s h).ascii;
-  short = let long = ap (λ (e : List ℕ). length (e ++ 34 ∷ [])) same in omega (arith, long, length-append s (34 ∷ []));
-}
+in-quotes : (s : List ℕ) (n : ℕ) → IsShort (escape s) n → IsShort (quoted s) (n + 2)
+in-quotes s n h = wider (quoted s) (1 + (n + 1)) (n + 2) (omega arith) (first 34 (escape s ++ 34 ∷ []) (n + 1) (omega arith) (then (escape s) (34 ∷ []) n 1 h (one-byte 34 (omega arith))))
 
 comma : (later : Bool) → IsShort (comma_if later) 1
-comma true = first 44 [] 0 (omega arith) none
+comma true = one-byte 44 (omega arith)
 comma false = wider [] 0 1 (omega arith) none
-
--- elements, and members, after others or not
-
-pub record AreShortItems (ds : Items) (n : ℕ) : Type 0 where
-  pub short : (later : Bool) → IsShort (items_text later ds) n
-
-pub record AreShortMembers (ms : Members) (n : ℕ) : Type 0 where
-  pub short : (later : Bool) → IsShort (members_text later ms) n
-
-pub no-item : AreShortItems no_items 1
-no-item = record { short = λ later. first 93 [] 0 (omega arith) none }
-
-pub with-item : {ds : Items} {n m : ℕ} (d : Data) → IsShort (compact_text d) n → AreShortItems ds m → AreShortItems (item d ds) (1 + (n + m))
-with-item {ds} {n} {m} d p q = record {
-  short = λ later. then (comma_if later) (compact_text d ++ items_text true ds) 1 (n + m) (comma later) (then (compact_text d) (items_text true ds) n m p (q.short true));
-}
-
-pub no-member : AreShortMembers no_members 1
-no-member = record { short = λ later. first 125 [] 0 (omega arith) none }
-
-with-quoted : {ms : Members} {n m : ℕ} (k : List ℕ) (d : Data) (long : ℕ) → IsShort (quoted k) long → IsShort (compact_text d) n → AreShortMembers ms m
-    → AreShortMembers (member k d ms) (1 + (long + (1 + (n + m))))
-with-quoted {ms} {n} {m} k d long key p q =
-    let rest = compact_text d ++ members_text true ms in record {
-      short = λ later. then (comma_if later) (quoted k ++ 58 ∷ rest) 1 (long + (1 + (n + m))) (comma later)
-          (then (quoted k) (58 ∷ rest) long (1 + (n + m)) key
-          (first 58 rest (n + m) (omega arith) (then (compact_text d) (members_text true ms) n m p (q.short true))));
-    }
-
-pub with-member : {ms : Members} {n m : ℕ} (k : List ℕ) (d : Data) → IsText k → IsShort (compact_text d) n → AreShortMembers ms m
-    → AreShortMembers (member k d ms) (1 + ((2 * length k + 2) + (1 + (n + m))))
-with-member k d key p q = with-quoted k d (2 * length k + 2) (in-quotes k key) p q
-
-pub with-key : {ms : Members} {n m : ℕ} (k : List ℕ) (d : Data) → IsText k → escape k ≡ k → IsShort (compact_text d) n → AreShortMembers ms m
-    → AreShortMembers (member k d ms) (1 + ((length k + 2) + (1 + (n + m))))
-with-key k d key same p q = with-quoted k d (length k + 2) (plain-quotes k key same) p q
-
-pub short-array : {ds : Items} {n : ℕ} → AreShortItems ds n → IsShort (compact_text (array ds)) (1 + n)
-short-array {ds} {n} p = first 91 (items_text false ds) n (omega arith) (p.short false)
-
-pub short-object : {ms : Members} {n : ℕ} → AreShortMembers ms n → IsShort (compact_text (object ms)) (1 + n)
-short-object {ms} {n} p = first 123 (members_text false ms) n (omega arith) (p.short false)
 
 mutual
   value-short : (deep : ℕ) (d : Data) → IsPlain deep d → IsShort (compact_text d) (size d)
-  value-short deep (number n) h = number-short n h
-  value-short deep (string s) h = in-quotes s h
-  value-short (suc deep) (array ds) h = short-array (items-short deep ds h)
-  value-short (suc deep) (object ms) h = short-object (members-short deep ms h.0.1 h.1)
+  value-short deep (number n) h = numeral-short n h
+  value-short deep (string s) h = in-quotes s (2 * length s) (escaped s h)
+  value-short (suc deep) (array ds) h = first 91 (items_text false ds) (items_size ds) (omega arith) (items-short deep false ds h)
+  value-short (suc deep) (object ms) h = first 123 (members_text false ms) (members_size ms) (omega arith) (members-short deep false ms h.0.1 h.1)
   value-short _ _ h = absurd h
 
-  pub items-short : (deep : ℕ) (ds : Items) → ArePlain deep ds → AreShortItems ds (items_size ds)
-  items-short deep no_items h = no-item
-  items-short deep (item d ds) h = with-item d (value-short deep d h.0) (items-short deep ds h.1)
+  items-short : (deep : ℕ) (later : Bool) (ds : Items) → ArePlain deep ds → IsShort (items_text later ds) (items_size ds)
+  items-short deep later no_items h = one-byte 93 (omega arith)
+  items-short deep later (item d ds) h = then (comma_if later) (compact_text d ++ items_text true ds) 1 (size d + items_size ds) (comma later)
+      (then (compact_text d) (items_text true ds) (size d) (items_size ds) (value-short deep d h.0) (items-short deep true ds h.1))
 
-  members-short : (deep : ℕ) (ms : Members) → have_texts ms ≡ true → HavePlain deep ms → AreShortMembers ms (members_size ms)
-  members-short deep no_members k h = no-member
-  members-short deep (member k d ms) texts h =
-      let keys = and_parts (list_all is_printed k) (have_texts ms) texts in
-      with-member k d keys.0 (value-short deep d h.0) (members-short deep ms keys.1 h.1)
+  members-short : (deep : ℕ) (later : Bool) (ms : Members) → have_bare_keys ms ≡ true → HavePlain deep ms → IsShort (members_text later ms) (members_size ms)
+  members-short deep later no_members k h = one-byte 125 (omega arith)
+  members-short deep later (member k d ms) keys h =
+      let p = and_parts (list_all is_bare k) (have_bare_keys ms) keys in
+      let rest = compact_text d ++ members_text true ms in
+      then (comma_if later) (quoted k ++ 58 ∷ rest) 1 ((length k + 2) + (1 + (size d + members_size ms))) (comma later)
+      (then (quoted k) (58 ∷ rest) (length k + 2) (1 + (size d + members_size ms)) (in-quotes k (length k) (bare k p.0))
+      (first 58 rest (size d + members_size ms) (omega arith)
+      (then (compact_text d) (members_text true ms) (size d) (members_size ms) (value-short deep d h.0) (members-short deep true ms p.1 h.1))))
 
--- ---- the board state of its line
+-- ---- its line
 
-pub told-if-short : (d : Data) → IsPlain 127 d → IsShort (compact_text d) 4096 → parse_board_line (compact_text d) ≡ parse_board_state d
-told-if-short d h p = sym (was-read (compact_text d) d p.short (IsUtf8-from_ascii (compact_text d) (IsAscii-from_all (compact_text d) p.ascii)) (reads d h))
+pub record IsShortPlain (d : Data) : Type 0 where
+  pub plain : IsPlain 127 d
+  pub size : size d ≤ 4096
 
-pub told-by-line : (d : Data) → IsPlain 127 d → size d ≤ 4096 → parse_board_line (compact_text d) ≡ parse_board_state d
-told-by-line d h few = told-if-short d h (wider (compact_text d) (size d) 4096 few (value-short 127 d h))
+pub line-short : (d : Data) → IsShortPlain d → length (compact_text d) ≤ 4096
+line-short d h = let p = (value-short 127 d h.plain).short in let few = h.size in omega (arith, p, few)
+
+pub parsed-line : (d : Data) → IsShortPlain d → parse_board_line (compact_text d) ≡ parse_board_state d
+parsed-line d h = sym (was-read (compact_text d) d (line-short d h)
+    (IsUtf8-from_ascii (compact_text d) (IsAscii-from_all (compact_text d) (value-short 127 d h.plain).ascii)) (reads d h.plain))

@@ -1,385 +1,219 @@
 -- The last board state that the answers of a record tell is its board.
-use Rattle.ucl_live_runs.proofs.Common.{next, All, All-cons, All-head, All-nil, All-tail, AreWords, Bad, Bool, Session, Event, FollowArgs, FourFields, HasNumbers}
-use Rattle.ucl_live_runs.proofs.Common.{IsAttempt, Json, List, LiveArgs, Matches, BoardState, NamedClub, NewBoard, NightEvent, None, Nothing, Open, Option, Other}
-use Rattle.ucl_live_runs.proofs.Common.{Refusal, Request, Row, Said, Screen, Some, Phase, BoardHeader, Words, [], after_lines, again, answer_at, answer_with}
-use Rattle.ucl_live_runs.proofs.Common.{answer_said, answers, ap, append-nil, append_assoc, ap₂, arith, asked_by, attempt_of, begun_line, begun_none, board_after}
-use Rattle.ucl_live_runs.proofs.Common.{board_of, ended_lines, ended_none, false, flat_map, game_at, inl, inr, is_asked, is_later, last_lines, length, length-append}
-use Rattle.ucl_live_runs.proofs.Common.{lines_of, board_state_at, board_state_now, parse_board_line, board_state_with, nat_tests, newness_with, next_board}
-use Rattle.ucl_live_runs.proofs.Common.{next_phase, next_header, refl, refusal_of, reply_answer, reply_of, request_of, said_on, screen_after, screen_text}
-use Rattle.ucl_live_runs.proofs.Common.{shown_text, phase_with, start_of, stays_new, subst, sym, header_with, true, unseen, version_at, version_of, ℕ, ◌++◌, ◌+◌}
+use Rattle.ucl_live_runs.proofs.Common.{BoardHeader, BoardState, Bool, Event, FollowArgs, Json, List, LiveArgs, NamedClub, NewBoard, NightEvent, None, Nothing}
+use Rattle.ucl_live_runs.proofs.Common.{Open, Option, Phase, Refusal, Request, Said, Session, Some, [], again, and_right, answer_of, answer_said, ap, append-nil}
+use Rattle.ucl_live_runs.proofs.Common.{append_assoc, arith, attempt_of, begun_line, begun_none, board_after, board_of, board_state_at, board_state_now}
+use Rattle.ucl_live_runs.proofs.Common.{board_state_with, ended_lines, false, flat_map, game_at, inl, inr, is_bad, is_later, last_lines, length, length-append}
+use Rattle.ucl_live_runs.proofs.Common.{lines_of, nat_tests, next, next_board, parse_board_line, refl, refusal_of, reply_answer, reply_of, request_of, said_on}
+use Rattle.ucl_live_runs.proofs.Common.{same_Some, screen_after, screen_text, shown_text, start_of, subst, sym, true, unseen, version_at, version_of, ℕ, ◌++◌, ◌+◌}
 use Rattle.ucl_live_runs.proofs.Common.{◌<◌, ◌^◌, ◌∙◌, ◌∷◌, ◌≡◌, ◌≤◌, ◌⊎◌}
 use Rattle.std.proofs.lemmas.Grind.{flat_map-append}
-use Rattle.ucl_live_runs.proofs.AnswerLines.{IsShown, PrintsAlone, PrintsAtMost, begun-then, lines-then, lines_in, shown-text}
-use Rattle.ucl_live_runs.proofs.AnswerBoardStates.{Fits, IsSound, Lines, accepted-reply, fits-request, line-tells, sound-next, start-sound, told_after, told_now}
-use Rattle.ucl_live_runs.proofs.BegunAgain.{IsLaterHeader, RenewsAt, renewed}
-use Rattle.ucl_live_runs.proofs.Boards.{AreAttempts, board_on, phase-stays, header-stays}
-use Rattle.ucl_live_runs.proofs.GoodBoards.{version-after}
-use Rattle.ucl_live_runs.proofs.GoodPhases.{IsGood, of-request}
+use Rattle.ucl_live_runs.proofs.AnswerLines.{CarriesAtMost, IsAtMost, IsShown, IsSound, Lines, accepted-reply, begun-then, carried-none, carried-then, carried_in}
+use Rattle.ucl_live_runs.proofs.AnswerLines.{line-tells, numbers, shown-text, sound-next, start-sound, told_after, told_now}
+use Rattle.ucl_live_runs.proofs.Boards.{IsGood, IsLaterHeader, IsPossible, answer-at, on-board, possible, renewed, version-after}
 use Rattle.ucl_io.proofs.Cuts.{few_lines}
-use Rattle.ucl_live_runs.proofs.FollowShown.{others, has_header-so, versions}
-use Rattle.ucl_live_runs.proofs.OneByOne.{after-none, after-one, answers-none, answers-one}
-use Rattle.ucl_live_runs.specs.Latest.{IsLatest, IsLineOfThese, IsNoNewer, IsToldIn}
-use Rattle.ucl_live_runs.specs.Records.{FollowersEndWithTheBoard, IsRecord, SameRowsSameTable, after_record, answer_lines}
+use Rattle.ucl_live_runs.proofs.FollowShown.{IsOfSame, among, others, same-asked, versions}
+use Rattle.ucl_live_runs.specs.Follow.{FollowersEndWithTheBoard, IsCarriedIn, IsLatest, IsNoNewer, IsOlder, IsRecord, SameRowsSameTable, after_record, answer_lines}
 use Rattle.ucl_live_runs.specs.LiveText.{after_lines, answers}
+use Rattle.std.specs.List.{Contains}
+use Rattle.std.specs.Prelude.{map}
+use Rattle.std.proofs.lemmas.List.Elements.{All-contains, All-contains_itself, All-weaker, Contains-append_cases, Contains-append_left, Contains-append_right}
+use Rattle.ucl_live_runs.proofs.Lines.{begun}
 
--- ---- board states and headers
+-- ---- older board states
 
-asked-so : (a b : BoardHeader) → a.group ≡ b.group → a.profile ≡ b.profile → is_asked (Some a.group) (Some a.profile) b ≡ true
-asked-so a b group profile = rw (group, profile) (has_header-so (board_state_with b [] []) (board_state_with b [] []) refl)
+-- the first is of the group and order of the second, and of an earlier edition, or of the same one and a lower version
+record IsBehind (o m : BoardState) : Type 0 where
+  same : IsOfSame o.header m.header
+  less : (o.header.edition < m.header.edition) ⊎ ((o.header.edition ≡ m.header.edition) × (version_at o < version_at m))
 
-later-edition : (m o : BoardState) → o.header.edition < m.header.edition → is_later m o ≡ true
-later-edition m o less = grind (arith, nat_tests)
+older : (m o : BoardState) → IsBehind o m → IsOlder m o
+older m o b = (same-asked m.header o.header (sym b.same.0, sym b.same.1), later m o b.less)
+  where
+    later : (m o : BoardState) → (o.header.edition < m.header.edition) ⊎ ((o.header.edition ≡ m.header.edition) × (version_at o < version_at m)) → is_later m o ≡ true
+    later m o (inl less) = grind (arith, nat_tests)
+    later m o (inr less) = grind (arith, nat_tests)
 
-later-version : (m o : BoardState) → m.header ≡ o.header → version_at o < version_at m → is_later m o ≡ true
-later-version m o same less = let e = ap (λ (t : BoardHeader). t.edition) same in grind (arith, nat_tests)
-
-same-board_state : (a b : BoardState) → a.header ≡ b.header → a.roster ≡ b.roster → a.board ≡ b.board → a ≡ b
-same-board_state a b p q r = λ i. record { header = p i; roster = q i; board = r i }
-
-after-later : (a b c : BoardHeader) → IsLaterHeader a b → IsLaterHeader b c → IsLaterHeader a c
-after-later a b c p q = record {
-  group = q.group ∙ p.group;
-  profile = q.profile ∙ p.profile;
-  edition = (let less = p.edition in let more = q.edition in omega (arith, less, more));
+further : (a b c : BoardState) → (a ≡ b) ⊎ IsBehind a b → IsBehind b c → IsBehind a c
+further a b c (inl same) q = subst (λ (x : BoardState). IsBehind x c) (sym same) q
+further a b c (inr p) q = record {
+  same = (p.same.0 ∙ q.same.0, p.same.1 ∙ q.same.1);
+  less = elim p.less [
+    | inl less ↦ elim q.less [ inl more ↦ inl (omega arith) | inr more ↦ inl (omega arith) ]
+    | inr less ↦ elim q.less [ inl more ↦ inl (omega arith) | inr more ↦ inr (omega arith) ]
+  ];
 }
 
 -- the answer to what a row asks for
-by-row : (e : Session) (r : Said) (shown : List ℕ) (event : NightEvent) → request_of r ≡ Event event →
-    answer_with e None r shown ≡ answer_at e.options e.header e.row e.phase (Event event) shown
-by-row e (Row f) shown event is = ap (λ (q : Request). answer_at e.options e.header e.row e.phase q shown) is
-by-row e r shown event is = cc
+by-row : (e : Session) (r : Said) (shown : List ℕ) (event : NightEvent) (clubs : List NamedClub) (board : List ℕ) → request_of r ≡ Event event → e.phase ≡ Open clubs board
+    → again e r ≡ None → answer_said e r shown ≡ answer_of e.options e.header e.row clubs board (Event event) shown
+by-row e Nothing shown event clubs board is h none = cc
+by-row e r shown event clubs board is h none =
+    answer-at e e.phase r shown clubs board h none ∙ ap (λ (q : Request). answer_of e.options e.header e.row clubs board q shown) is
 
--- ---- what lines tell
-
-abbrev pub Prints : Lines → BoardState → Type 0
-Prints [] m = ⊥
-Prints (line ∷ lines) m = (parse_board_line line ≡ Some m) ⊎ Prints lines m
-
-told-left : (xs ys : Lines) (m : BoardState) → Prints xs m → Prints (xs ++ ys) m
-told-left [] ys m t = absurd t
-told-left (x ∷ xs) ys m (inl here) = inl here
-told-left (x ∷ xs) ys m (inr more) = inr (told-left xs ys m more)
-
-told-right : (xs ys : Lines) (m : BoardState) → Prints ys m → Prints (xs ++ ys) m
-told-right [] ys m t = t
-told-right (x ∷ xs) ys m t = inr (told-right xs ys m t)
-
-told-either : (xs ys : Lines) (m : BoardState) → Prints (xs ++ ys) m → Prints xs m ⊎ Prints ys m
-told-either [] ys m t = inr t
-told-either (x ∷ xs) ys m (inl here) = inl (inl here)
-told-either (x ∷ xs) ys m (inr more) = elim (told-either xs ys m more) [ inl a ↦ inl (inr a) | inr b ↦ inr b ]
-
-tells-in : (before after : Lines) (line : List ℕ) (m : BoardState) → parse_board_line line ≡ Some m → Prints (before ++ line ∷ after) m
-tells-in before after line m on = told-right before (line ∷ after) m (inl on)
-
-is-told : (lines : Lines) (m : BoardState) → IsToldIn lines m → Prints lines m
-is-told lines m (line, (before, after, parts), on) = subst (λ (ls : Lines). Prints ls m) (sym parts) (tells-in before after line m on)
-
-told-in : (lines : Lines) (m : BoardState) → Prints lines m → IsToldIn lines m
-told-in [] m t = absurd t
-told-in (line ∷ lines) m (inl on) = (line, ([], lines, refl), on)
-told-in (line ∷ lines) m (inr more) =
-    let t = told-in lines m more in
-    (t.0, (line ∷ t.1.0, t.1.1, ap (λ (ls : Lines). line ∷ ls) t.1.2), t.2)
-
--- each of these lines tells this at most
-told-alone : (told : Option BoardState) (lines : Lines) (m : BoardState) → All (λ line. PrintsAtMost told (parse_board_line line)) lines → Prints lines m → told ≡ Some m
-told-alone told [] m each t = absurd t
-told-alone told (line ∷ lines) m each (inl on) = elim (All-head (λ l. PrintsAtMost told (parse_board_line l)) line lines each) [
-  | inl none ↦ cc (none, on)
-  | inr same ↦ sym same ∙ on
-]
-told-alone told (line ∷ lines) m each (inr more) = told-alone told lines m (All-tail (λ l. PrintsAtMost told (parse_board_line l)) line lines each) more
-
-all-told : (P : Option BoardState → Type 0) (lines : Lines) → P None → ((m : BoardState) → Prints lines m → P (Some m)) → All (λ line. P (parse_board_line line)) lines
-all-told P [] none some = All-nil (λ line. P (parse_board_line line))
-all-told P (line ∷ lines) none some =
-    All-cons (λ l. P (parse_board_line l)) line lines (by-told (parse_board_line line) refl) (all-told P lines none (λ m t. some m (inr t)))
-  where
-    by-told : (o : Option BoardState) → parse_board_line line ≡ o → P (parse_board_line line)
-    by-told None is = subst P (sym is) none
-    by-told (Some m) is = subst P (sym is) (some m (inl is))
+no-later : (o m : BoardState) → (o ≡ m) ⊎ IsBehind o m → IsOfSame o.header m.header × (o.header.edition ≤ m.header.edition)
+no-later o m (inl same) = rw same ((refl, refl), omega arith)
+no-later o m (inr b) = (b.same, elim b.less [ inl less ↦ omega arith | inr less ↦ omega arith ])
 
 -- ---- the board state of a session
 
-record IsAt (header : BoardHeader) (s : Phase) (m : BoardState) : Type 0 where
-  clubs : List NamedClub
-  board : List ℕ
-  stands : s ≡ Open clubs board
-  has_header : m.header ≡ header
-  roster : m.roster ≡ clubs
-  board_is : m.board ≡ board
-
-is-at : (header : BoardHeader) (s : Phase) (m : BoardState) → board_state_at header s ≡ Some m → IsAt header s m
+is-at : (header : BoardHeader) (s : Phase) (m : BoardState) → board_state_at header s ≡ Some m → (s ≡ Open m.roster m.board) × (header ≡ m.header)
 is-at header (Open clubs board) m h =
-    let same : board_state_with header clubs board ≡ m = cc in record {
-      clubs = clubs;
-      board = board;
-      stands = refl;
-      has_header = ap (λ (x : BoardState). x.header) (sym same);
-      roster = ap (λ (x : BoardState). x.roster) (sym same);
-      board_is = ap (λ (x : BoardState). x.board) (sym same);
-    }
+    let same = same_Some (board_state_with header clubs board) m h in (ap (λ (x : BoardState). Open x.roster x.board) same, ap (λ (x : BoardState). x.header) same)
 is-at header s m h = cc
 
 told-now : (is_new : Bool) (header : BoardHeader) (s : Phase) (m : BoardState) → told_now is_new header s ≡ Some m → (is_new ≡ false) × (board_state_at header s ≡ Some m)
 told-now false header s m h = (refl, h)
 told-now true header s m h = cc
 
--- ---- what was told stands behind the session
+-- ---- what was carried is no newer than the board state of the session
 
--- of the edition that stands: this board state, or one of a lower version
-record IsNow (e : Session) (clubs : List NamedClub) (board : List ℕ) (o : BoardState) : Type 0 where
-  old : e.is_new ≡ false
-  header : o.header ≡ e.header
-  roster : o.roster ≡ clubs
-  board_is : (o.board ≡ board) ⊎ (version_at o < version_of board)
+abbrev Carried : Type 0
+Carried = List (Option BoardState)
 
--- the board is open; what was told is of an earlier edition, or of this one
-record Behind (e : Session) (o : BoardState) : Type 0 where
-  clubs : List NamedClub
-  board : List ℕ
-  stands : e.phase ≡ Open clubs board
-  how : IsLaterHeader o.header e.header ⊎ IsNow e clubs board o
+record IsNoNewerIn (e : Session) (out : Carried) (o : BoardState) : Type 0 where
+  now : BoardState
+  stands : board_state_now e ≡ Some now
+  behind : (o ≡ now) ⊎ IsBehind o now
+  -- if it is of the present edition, that has begun, and its board state was carried
+  carried : o.header.edition ≡ now.header.edition → (e.is_new ≡ false) × Contains out (Some now)
 
--- the board state that stands was told
-abbrev IsLast : Session → Lines → Type 0
-IsLast e out = (m : BoardState) × (board_state_now e ≡ Some m) × Prints out m
-
-record IsTold (e : Session) (out : Lines) : Type 0 where
-  behind : (o : BoardState) → Prints out o → Behind e o
-  last : (o : BoardState) → Prints out o → o.header.edition ≡ e.header.edition → IsLast e out
+abbrev AreNoNewer : Session → Carried → Type 0
+AreNoNewer e out = (o : BoardState) → Contains out (Some o) → IsNoNewerIn e out o
 
 -- ---- what a line does with the board
 
-record Takes (board : List ℕ) (r : Said) (event : NightEvent) : Type 0 where
-  asks : request_of r ≡ Event event
-  on : board_on board r ≡ board_after board (attempt_of event)
+record Takes (board : List ℕ) (q : Request) (event : NightEvent) : Type 0 where
+  asks : q ≡ Event event
   none : refusal_of (game_at board event.call.game) event.call.expected event.call.kind ≡ None
 
-abbrev Moves : List ℕ → Said → Type 0
-Moves board r = (board_on board r ≡ board) ⊎ ((event : NightEvent) × Takes board r event)
+abbrev Moves : List ℕ → Request → Type 0
+Moves board q = (next_board board q ≡ board) ⊎ ((event : NightEvent) × Takes board q event)
 
-by-reply : (board : List ℕ) (f : FourFields) (event : NightEvent) (o : Option Refusal) → asked_by f ≡ Event event
-    → refusal_of (game_at board event.call.game) event.call.expected event.call.kind ≡ o → Moves board (Row f)
-by-reply board f event None is none =
-    inr (event, record { asks = is; on = ap (λ (q : Request). next_board board q) is; none = none })
-by-reply board f event (Some refusal) is some = inl (ap (λ (q : Request). next_board board q) is ∙ rw some refl)
-
-by-request : (board : List ℕ) (f : FourFields) (q : Request) → asked_by f ≡ q → Moves board (Row f)
-by-request board f (Event event) is =
-    by-reply board f event (refusal_of (game_at board event.call.game) event.call.expected event.call.kind) is refl
-by-request board f (Bad field) is = inl (ap (λ (q : Request). next_board board q) is)
-by-request board f Screen is = inl (ap (λ (q : Request). next_board board q) is)
-by-request board f Words is = inl (ap (λ (q : Request). next_board board q) is)
-by-request board f Matches is = inl (ap (λ (q : Request). next_board board q) is)
-
-moves : (board : List ℕ) (r : Said) → Moves board r
-moves board Nothing = inl refl
-moves board Other = inl refl
-moves board (Row f) = by-request board f (asked_by f) refl
-
-no-lower : (board : List ℕ) (r : Said) → AreWords board → version_of board ≤ version_of (board_on board r)
-no-lower board r w = elim (moves board r) [
-  | inl same ↦ let n = ap version_of same in omega (arith, n)
-  | inr takes ↦
-      let t = takes.1 in
-      let attempted : IsAttempt (attempt_of takes.0) = All-head IsAttempt (attempt_of takes.0) [] (subst AreAttempts t.asks (of-request r)) in
-      let n = ap version_of t.on ∙ version-after board (attempt_of takes.0) w attempted t.none in omega (arith, n)
-]
+moves : (board : List ℕ) (q : Request) → Moves board q
+moves board (Event event) = by (refusal_of (game_at board event.call.game) event.call.expected event.call.kind) refl
+  where
+    by : (o : Option Refusal) → refusal_of (game_at board event.call.game) event.call.expected event.call.kind ≡ o → Moves board (Event event)
+    by None none = inr (event, record { asks = refl; none = none })
+    by (Some refusal) some = inl (rw some refl)
+moves board _ = inl refl
 
 -- ---- one line more
-
-module _ (e : Session) (r : Said) (g : IsSound e) where
-  module _ (none : again e r ≡ None) (clubs : List NamedClub) (board : List ℕ) (stands : e.phase ≡ Open clubs board) where
-    phase-is : (next e r).phase ≡ Open clubs (board_on board r)
-    phase-is = phase-stays e r clubs board stands none
-
-    header-is : (next e r).header ≡ e.header
-    header-is = header-stays e r clubs board stands none
-
-    old-is : e.is_new ≡ false → (next e r).is_new ≡ false
-    old-is old = ap (λ (n : Option NewBoard). newness_with n (stays_new e.is_new e.phase r)) none ∙ rw (old, stands) refl
-
-    words-are : AreWords board
-    words-are = (subst IsGood stands g.phase).1
-
-    now-stays : (o : BoardState) → IsNow e clubs board o → IsNow (next e r) clubs (board_on board r) o
-    now-stays o now = record {
-      old = old-is now.old;
-      header = now.header ∙ sym header-is;
-      roster = now.roster;
-      board_is = elim now.board_is [
-        | inl same ↦ elim (moves board r) [
-          | inl still ↦ inl (same ∙ sym still)
-          | inr takes ↦
-              let t = takes.1 in
-              let attempted : IsAttempt (attempt_of takes.0) = All-head IsAttempt (attempt_of takes.0) [] (subst AreAttempts t.asks (of-request r)) in
-              let n = ap version_of t.on ∙ version-after board (attempt_of takes.0) words-are attempted t.none in
-              let v = ap version_of same in inr (omega (arith, n, v))
-        ]
-        | inr less ↦ let n = no-lower board r words-are in inr (omega (arith, n, less))
-      ];
-    }
-
-    behind-stays : (o : BoardState) → IsLaterHeader o.header e.header ⊎ IsNow e clubs board o → Behind (next e r) o
-    behind-stays o how = record {
-      clubs = clubs;
-      board = board_on board r;
-      stands = phase-is;
-      how = elim how [ inl later ↦ inl (subst (IsLaterHeader o.header) (sym header-is) later) | inr now ↦ inr (now-stays o now) ];
-    }
-
-  module _ (new : NewBoard) (some : again e r ≡ Some new) where
-    x : RenewsAt e r new
-    x = renewed e r new some
-
-    begun-phase : (next e r).phase ≡ Open new.clubs (board_of [])
-    begun-phase = ap (λ (n : Option NewBoard). phase_with n (next_phase e.options e.row e.phase r)) some
-
-    begun-header : (next e r).header ≡ new.header
-    begun-header = ap (λ (n : Option NewBoard). header_with n (next_header e.header e.phase r)) some
-
-    -- what was told is of an earlier edition than that which begins
-    earlier : (o : BoardState) → Behind e o → IsLaterHeader o.header new.header
-    earlier o b = elim x.renews.has_header [
-      | inl later ↦ elim b.how [
-        | inl l ↦ after-later o.header e.header new.header l later.0
-        | inr now ↦ subst (λ (t : BoardHeader). IsLaterHeader t new.header) (sym now.header) later.0
-      ]
-      | inr same ↦ elim b.how [
-        | inl l ↦ subst (IsLaterHeader o.header) (sym same.1) l
-        | inr now ↦ cc (same.0, now.old)
-      ]
-    ]
-
-    behind-again : (o : BoardState) → Behind e o → Behind (next e r) o
-    behind-again o b = record {
-      clubs = new.clubs;
-      board = board_of [];
-      stands = begun-phase;
-      how = inl (subst (IsLaterHeader o.header) (sym begun-header) (earlier o b));
-    }
-
-    none-last : (o : BoardState) → Behind e o → o.header.edition ≡ (next e r).header.edition → ⊥
-    none-last o b same =
-        let less = (earlier o b).edition in
-        let there = ap (λ (t : BoardHeader). t.edition) begun-header in absurd (omega (arith, less, there, same))
-
--- ---- what a line tells
 
 module _ (e : Session) (r : Said) (shown : List ℕ) (json : e.options.format ≡ Json) (fits : e.row < 2 ^ 64) (g : IsSound e) (short : IsShown shown) where
   abbrev text : List ℕ
   text = answer_said e r shown
 
-  tells : PrintsAlone (told_after (next e r)) text
+  tells : CarriesAtMost (told_after (next e r)) text
   tells = line-tells e r shown json fits g short
 
-  now-told : (o : BoardState) → Prints (lines_in text) o → ((next e r).is_new ≡ false) × (board_state_now (next e r) ≡ Some o)
-  now-told o t = told-now (next e r).is_new (next e r).header (next e r).phase o (told-alone (told_after (next e r)) (lines_in text) o tells.each t)
+  -- the answer to an accepted event carries the board state after it
+  event-told : (m : BoardState) (event : NightEvent) → again e r ≡ None → board_state_now e ≡ Some m → Takes m.board (request_of r) event
+      → Contains (carried_in text) (Some (board_state_with m.header m.roster (board_after m.board (attempt_of event))))
+  event-told m event none now takes =
+      let at = is-at e.header e.phase m now in
+      let good : IsGood (Open m.roster m.board) = subst IsGood at.0 g.phase in
+      let p : IsPossible (Event event) = subst IsPossible takes.asks (possible r) in
+      let after = board_after m.board (attempt_of event) in
+      let reply = reply_answer e.options.format e.header e.row m.roster event (version_of m.board) (reply_of (game_at m.board event.call.game) event.call) after in
+      let screen = screen_after e.options e.header e.row m.roster (reply_of (game_at m.board event.call.game) event.call) after in
+      let line = accepted-reply e.options e.header e.row m.roster json fits g.header good.0 m.board good.1 event p.0 (numbers event p) (version_of m.board) takes.none in
+      let whole : text ≡ reply ++ screen = by-row e r shown event m.roster m.board takes.asks at.0 none in
+      let parts = ap carried_in whole ∙ carried-then reply screen line.begun ∙ ap (λ (os : Carried). os ++ carried_in screen) line.carried in
+      subst (λ (os : Carried). Contains os (Some (board_state_with m.header m.roster after))) (sym parts)
+      (0, omega arith, ap (λ (t : BoardHeader). Some (board_state_with t m.roster after)) at.1)
 
-  behind-now : (o : BoardState) → Prints (lines_in text) o → Behind (next e r) o
-  behind-now o t =
-      let n = now-told o t in
-      let at = is-at (next e r).header (next e r).phase o n.1 in record {
-        clubs = at.clubs;
-        board = at.board;
-        stands = at.stands;
-        how = inr (record { old = n.0; header = at.has_header; roster = at.roster; board_is = inl at.board_is });
-      }
+  module _ (out : Carried) (told : AreNoNewer e out) where
+    abbrev all : Carried
+    all = out ++ carried_in text
 
-  -- the answer to an accepted event tells the board state after it
-  event-told : (clubs : List NamedClub) (board : List ℕ) (event : NightEvent) → again e r ≡ None → e.phase ≡ Open clubs board → Takes board r event
-      → Prints (lines_in text) (board_state_with e.header clubs (board_after board (attempt_of event)))
-  event-told clubs board event none stands takes =
-      let good : IsGood (Open clubs board) = subst IsGood stands g.phase in
-      let attempted : IsAttempt (attempt_of event) = All-head IsAttempt (attempt_of event) [] (subst AreAttempts takes.asks (of-request r)) in
-      let small : HasNumbers event = subst Fits takes.asks (fits-request r) in
-      let reply = reply_answer e.options.format e.header e.row clubs event (version_of board) (reply_of (game_at board event.call.game) event.call) (board_after board (attempt_of event)) in
-      let screen = screen_after e.options e.header e.row clubs (reply_of (game_at board event.call.game) event.call) (board_after board (attempt_of event)) in
-      let line = accepted-reply e.options e.header e.row clubs json fits g.header good.0 board good.1 event attempted small (version_of board) takes.none in
-      let whole : text ≡ reply ++ screen =
-      ap (λ (n : Option NewBoard). answer_with e n r shown) none ∙ by-row e r shown event takes.asks
-      ∙ ap (λ (s : Phase). answer_at e.options e.header e.row s (Event event) shown) stands in
-      subst (λ (ls : Lines). Prints ls (board_state_with e.header clubs (board_after board (attempt_of event))))
-      (sym (ap lines_in whole ∙ lines-then reply screen line.begun ∙ ap (λ (ls : Lines). ls ++ lines_in screen) line.lines_are)) (inl line.told)
-
-  module _ (out : Lines) (told : IsTold e out) where
-    abbrev all : Lines
-    all = out ++ lines_in text
-
-    behind-all : (n : Option NewBoard) → again e r ≡ n → (o : BoardState) → Prints all o → Behind (next e r) o
-    behind-all None none o t = elim (told-either out (lines_in text) o t) [
-      | inl before ↦ let b = told.behind o before in behind-stays e r g none b.clubs b.board b.stands o b.how
-      | inr now ↦ behind-now o now
-    ]
-    behind-all (Some new) some o t = elim (told-either out (lines_in text) o t) [
-      | inl before ↦ behind-again e r g new some o (told.behind o before)
-      | inr now ↦ behind-now o now
-    ]
-
-    -- the board state that stood was told, and the line moves it, or not
-    last-moved : again e r ≡ None → (b : List NamedClub) (board : List ℕ) → e.phase ≡ Open b board → IsLast e out → IsLast (next e r) all
-    last-moved none clubs board stands last =
-        let there = phase-is e r g none clubs board stands in
-        let header = header-is e r g none clubs board stands in
-        elim (moves board r) [
-          | inl same ↦ (
-            last.0,
-            ap₂ board_state_at header (there ∙ ap (Open clubs) same ∙ sym stands) ∙ last.1,
-            told-left out (lines_in text) last.0 last.2,
-          )
-          | inr takes ↦
-              let m = board_state_with e.header clubs (board_after board (attempt_of takes.0)) in (
-                m,
-                ap₂ board_state_at header (there ∙ ap (Open clubs) takes.1.on),
-                told-right out (lines_in text) m (event-told clubs board takes.0 none stands takes.1),
-              )
-        ]
-
-    last-all : (n : Option NewBoard) → again e r ≡ n → (o : BoardState) → Prints all o → o.header.edition ≡ (next e r).header.edition → IsLast (next e r) all
-    last-all n is o t same = elim (told-either out (lines_in text) o t) [
-      | inl before ↦ of-before n is o before same
-      | inr now ↦ (o, (now-told o now).1, told-right out (lines_in text) o now)
-    ]
+    now-carried : (o : BoardState) → Contains (carried_in text) (Some o) → IsNoNewerIn (next e r) all o
+    now-carried o is =
+        let n = told-now (next e r).is_new (next e r).header (next e r).phase o (most (All-contains (IsAtMost (told_after (next e r))) (carried_in text) (Some o) tells.each is)) in
+        record { now = o; stands = n.1; behind = inl refl; carried = λ _. (n.0, Contains-append_right out (carried_in text) (Some o) is) }
       where
-        of-before : (n : Option NewBoard) → again e r ≡ n → (o : BoardState) → Prints out o → o.header.edition ≡ (next e r).header.edition → IsLast (next e r) all
-        of-before None none o before same =
-            let b = told.behind o before in
-            let header = header-is e r g none b.clubs b.board b.stands in
-            last-moved none b.clubs b.board b.stands (told.last o before (same ∙ ap (λ (t : BoardHeader). t.edition) header))
-        of-before (Some new) some o before same = absurd (none-last e r g new some o (told.behind o before) same)
+        most : {p : Option BoardState} → IsAtMost p (Some o) → p ≡ Some o
+        most (inl none) = cc
+        most (inr same) = sym same
 
-    one-line : IsTold (next e r) all
-    one-line = record { behind = behind-all (again e r) refl; last = last-all (again e r) refl }
+    module _ (o : BoardState) (b : IsNoNewerIn e out o) where
+      abbrev m : BoardState
+      m = b.now
+
+      at : (e.phase ≡ Open m.roster m.board) × (e.header ≡ m.header)
+      at = is-at e.header e.phase m b.stands
+
+      stays : again e r ≡ None → Moves m.board (request_of r) → IsNoNewerIn (next e r) all o
+      stays none how = elim how [
+        | inl still ↦ record {
+          now = m;
+          stands = there ∙ ap (λ (ws : List ℕ). Some (board_state_with m.header m.roster ws)) still;
+          behind = b.behind;
+          carried = λ same. let c = b.carried same in (old c.0, Contains-append_left out (carried_in text) (Some m) c.1);
+        }
+        | inr takes ↦
+            let event = takes.0 in
+            let t = takes.1 in
+            let p : IsPossible (Event event) = subst IsPossible t.asks (possible r) in
+            let more = version-after m.board (attempt_of event) (subst IsGood at.0 g.phase).1 p.0 t.none in
+            let next_one = board_state_with m.header m.roster (board_after m.board (attempt_of event)) in record {
+              now = next_one;
+              stands = there ∙ ap (λ (q : Request). Some (board_state_with m.header m.roster (next_board m.board q))) t.asks;
+              behind = inr (further o m next_one b.behind (record { same = (refl, refl); less = inr (refl, omega (arith, more)) }));
+              carried = λ same. (old (b.carried same).0, Contains-append_right out (carried_in text) (Some next_one) (event-told m event none b.stands t));
+            }
+      ]
+        where
+          there : board_state_now (next e r) ≡ Some (board_state_with m.header m.roster (next_board m.board (request_of r)))
+          there = ap board_state_now (on-board e r m.roster m.board at.0 none) ∙ ap (λ (t : BoardHeader). Some (board_state_with t m.roster (next_board m.board (request_of r)))) at.1
+
+          old : e.is_new ≡ false → (next e r).is_new ≡ false
+          old is = ap (λ (k : Session). k.is_new) (on-board e r m.roster m.board at.0 none) ∙ and_right (is_bad (request_of r)) e.is_new is
+
+      on-new : (new : NewBoard) → again e r ≡ Some new → IsNoNewerIn (next e r) all o
+      on-new new some = record {
+        now = board_state_with new.header new.clubs (board_of []);
+        stands = ap board_state_now (begun e r shown new some).0;
+        behind = inr (record { same = earlier.same; less = inl earlier.edition });
+        carried = λ same. absurd (omega (arith, same, earlier.edition));
+      }
+        where
+          earlier : IsLaterHeader o.header new.header
+          earlier =
+              let most = no-later o m b.behind in elim (renewed e.header e.is_new m.roster r new (rw at.0 at some)).has_header [
+                | inl later ↦
+                    let l : IsLaterHeader m.header new.header = subst (λ (t : BoardHeader). IsLaterHeader t new.header) at.1 later.0 in
+                    record { same = (most.0.0 ∙ l.same.0, most.0.1 ∙ l.same.1); edition = omega (arith, most.1, l.edition) }
+                | inr kept ↦
+                    let here : m.header ≡ new.header = sym (kept.1 ∙ at.1) in record {
+                      same = rw here at most.0;
+                      edition = let not : o.header.edition ≡ m.header.edition → ⊥ = (λ k. cc ((b.carried k).0, kept.0)) in omega (arith, most.1, not, ap (λ (t : BoardHeader). t.edition) here);
+                    }
+              ]
+
+    one-line : AreNoNewer (next e r) all
+    one-line o is = elim (Contains-append_cases out (carried_in text) (Some o) is) [ inl before ↦ by (again e r) refl (told o before) | inr now ↦ now-carried o now ]
+      where
+        by : (n : Option NewBoard) → again e r ≡ n → IsNoNewerIn e out o → IsNoNewerIn (next e r) all o
+        by None none b = stays o b none (moves b.now.board (request_of r))
+        by (Some new) some b = on-new o b new some
 
 -- ---- all lines
 
-record Walks (e : Session) (out lines : Lines) : Type 0 where
+record Walks (e : Session) (out : Carried) (lines : Lines) : Type 0 where
   begun : begun_line 4097 [] (answers e lines) ≡ []
-  told : IsTold (after_lines e lines) (out ++ lines_in (answers e lines))
+  told : AreNoNewer (after_lines e lines) (out ++ carried_in (answers e lines))
 
-walks : (e : Session) (out lines : Lines) → e.options.format ≡ Json → e.row + length lines ≤ 2 ^ 64 → IsSound e → IsTold e out → Walks e out lines
-walks e out [] json fits g told =
-    let none : lines_in (answers e []) ≡ [] = ap lines_in (answers-none e) ∙ ended_none 4097 [] in record {
-      begun = ap (begun_line 4097 []) (answers-none e) ∙ begun_none 4097 [];
-      told = subst (λ (f : Session). IsTold f (out ++ lines_in (answers e []))) (sym (after-none e))
-          (subst (IsTold e) (sym (ap (λ (ls : Lines). out ++ ls) none ∙ append-nil out)) told);
-    }
+walks : (e : Session) (out : Carried) (lines : Lines) → e.options.format ≡ Json → e.row + length lines ≤ 2 ^ 64 → IsSound e → AreNoNewer e out → Walks e out lines
+unfolding answers after_lines
+walks e out [] json fits g told = record { begun = begun_none 4097 []; told = rw (carried-none, append-nil out) told }
 walks e out (line ∷ lines) json fits g told =
     let r = said_on e.row line in
     let shown = shown_text line in
     let text = answer_said e r shown in
     let one = line-tells e r shown json (omega arith) g (shown-text line) in
-    let next_told = one-line e r shown json (omega arith) g (shown-text line) out told in
-    let more = walks (next e r) (out ++ lines_in text) lines json (omega arith) (sound-next e r g) next_told in
-    let whole = answers-one e line lines in
-    let all : out ++ lines_in (answers e (line ∷ lines)) ≡ (out ++ lines_in text) ++ lines_in (answers (next e r) lines) =
-    ap (λ (ls : Lines). out ++ ls) (ap lines_in whole ∙ lines-then text (answers (next e r) lines) one.begun) ∙ sym (append_assoc out (lines_in text) (lines_in (answers (next e r) lines))) in record {
-      begun = ap (begun_line 4097 []) whole ∙ begun-then text (answers (next e r) lines) one.begun more.begun;
-      told = subst (λ (f : Session). IsTold f (out ++ lines_in (answers e (line ∷ lines)))) (sym (after-one e line lines))
-          (subst (IsTold (after_lines (next e r) lines)) (sym all) more.told);
-    }
+    let more = walks (next e r) (out ++ carried_in text) lines json (omega arith) (sound-next e r g) (one-line e r shown json (omega arith) g (shown-text line) out told) in
+    let parts = ap (λ (os : Carried). out ++ os) (carried-then text (answers (next e r) lines) one.begun) ∙ sym (append_assoc out (carried_in text) (carried_in (answers (next e r) lines))) in
+    record { begun = begun-then text (answers (next e r) lines) one.begun more.begun; told = subst (AreNoNewer (after_lines (next e r) lines)) (sym parts) more.told }
 
 last-few : (line : List ℕ) → length (last_lines line) ≤ 1
 last-few [] = omega arith
@@ -395,63 +229,38 @@ lines-few bytes =
 
 -- ---- the record
 
-none-told : (e : Session) → IsTold e []
-none-told e = record { behind = λ o t. absurd t; last = λ o t same. absurd t }
-
 module _ (options : LiveArgs) (rows : List ℕ) (args : FollowArgs) (m : BoardState) (is : IsRecord options rows args m) where
-  abbrev end : Session
-  end = after_record options rows
+  abbrev lines : Lines
+  lines = answer_lines options rows
 
-  abbrev out : Lines
-  out = answer_lines options rows
+  told : AreNoNewer (after_record options rows) (map parse_board_line lines)
+  told = (walks (start_of options) [] (lines_of rows) is.json (omega (arith, lines-few rows, is.short)) (start-sound options)
+      (λ o none. absurd (omega (arith, none.1)))).told
 
-  told : IsTold end out
-  told = (walks (start_of options) [] (lines_of rows) is.json (let few = lines-few rows in let short = is.short in omega (arith, few, short)) (start-sound options)
-      (none-told (start_of options))).told
+  no-newer : (other : BoardState) → IsCarriedIn lines other → IsNoNewer args m (Some other)
+  no-newer other t =
+      let b = told other t in
+      let same : b.now ≡ m = same_Some b.now m (sym b.stands ∙ is.ends) in
+      elim (rw same at b.behind) [ inl this ↦ inr (inl this) | inr behind ↦ inr (inr (older m other behind)) ]
 
-  at : IsAt end.header end.phase m
-  at = is-at end.header end.phase m is.ends
-
-  older : (o : BoardState) → Behind end o → IsNoNewer args m (Some o)
-  older o b = elim b.how [
-    | inl later ↦ inr (inr (
-      asked-so m.header o.header (ap (λ (t : BoardHeader). t.group) at.has_header ∙ later.group) (ap (λ (t : BoardHeader). t.profile) at.has_header ∙ later.profile),
-      later-edition m o (let less = later.edition in let same = ap (λ (t : BoardHeader). t.edition) at.has_header in omega (arith, less, same)),
-    ))
-    | inr now ↦
-        let header : m.header ≡ o.header = at.has_header ∙ sym now.header in
-        let both : ◌≡◌ {A = Phase} (Open at.clubs at.board) (Open b.clubs b.board) = sym at.stands ∙ b.stands in
-        let clubs : at.clubs ≡ b.clubs = cc in
-        let board : at.board ≡ b.board = cc in
-        elim now.board_is [
-          | inl same ↦ inr (inl (same-board_state o m (sym header) (now.roster ∙ sym clubs ∙ sym at.roster) (same ∙ sym board ∙ sym at.board_is)))
-          | inr less ↦ inr (inr (
-            has_header-so m o header,
-            later-version m o header (let v = ap version_of at.board_is in let w = ap version_of board in omega (arith, less, v, w)),
-          ))
-        ]
-  ]
-
-  pub is-latest : (other : BoardState) → Prints out other → other.header.edition ≡ m.header.edition → IsLatest args m out
-  is-latest other t same =
-      let last = told.last other t (same ∙ ap (λ (x : BoardHeader). x.edition) at.has_header) in
-      let m_is : last.0 ≡ m = cc (last.1, is.ends) in record {
-        told = told-in out m (subst (Prints out) m_is last.2);
+  pub is-latest : (other : BoardState) → IsCarriedIn lines other → other.header.edition ≡ m.header.edition → IsLatest args m lines
+  is-latest other t edition =
+      let b = told other t in
+      let same : b.now ≡ m = same_Some b.now m (sym b.stands ∙ is.ends) in record {
+        carried = rw same at (b.carried (edition ∙ ap (λ (x : BoardState). x.header.edition) (sym same))).1;
         asked = is.asked;
-        newest = all-told (IsNoNewer args m) out tt (λ o t. older o (told.behind o t));
+        newest = All-weaker (Contains os) (IsNoNewer args m) each os (All-contains_itself os);
       }
+    where
+      os : Carried
+      os = map parse_board_line lines
+
+      each : (o : Option BoardState) → Contains os o → IsNoNewer args m o
+      each None t = tt
+      each (Some other) t = no-newer other t
 
 pub ends-with-the-board : FollowersEndWithTheBoard
-ends-with-the-board options rows args m other is told same = is-latest options rows args m is other (is-told (answer_lines options rows) other told) same
-
-among : (P : List ℕ → Type 0) (before : Lines) (line : List ℕ) (after : Lines) → All P (before ++ line ∷ after) → P line
-among P [] line after all = All-head P line after all
-among P (l ∷ before) line after all = among P before line after (All-tail P l (before ++ line ∷ after) all)
-
--- one of these lines tells what one of the answers tells
-told-there : (lines answers : Lines) (m : BoardState) → All (IsLineOfThese answers) lines → IsToldIn lines m → IsToldIn answers m
-told-there lines answers m all (line, (before, after, parts), on) =
-    (line, among (IsLineOfThese answers) before line after (subst (All (IsLineOfThese answers)) parts all), on)
+ends-with-the-board options rows args m other is told same = is-latest options rows args m is other told same
 
 abbrev screen_at : BoardState → List ℕ
 screen_at m = screen_text m.header.profile m.board m.roster m.header.group
@@ -459,10 +268,10 @@ screen_at m = screen_text m.header.profile m.board m.roster m.header.group
 pub same-table : SameRowsSameTable
 same-table options rows args m lines is all told =
     let out = answer_lines options rows in
-    let latest = is-latest options rows args m is m (is-told out m (told-there lines out m all told)) refl in
+    let carried = All-contains (Contains (map parse_board_line out)) (map parse_board_line lines) (Some m) (among out lines all) told in
+    let latest = is-latest options rows args m is m carried refl in
     let last = others args m out lines latest all told in
-    let rises = versions (unseen args) lines in
-    let text = rises.text ∙ ap (flat_map screen_at) last.shown ∙ flat_map-append screen_at last.before (m ∷ []) in record {
+    let text = (versions (unseen args) lines).text ∙ ap (flat_map screen_at) last.shown ∙ flat_map-append screen_at last.before (m ∷ []) in record {
       shown = last;
       before = flat_map screen_at last.before;
       table = text ∙ ap (λ (l : List ℕ). flat_map screen_at last.before ++ l) (append-nil (screen_at m));

@@ -9,7 +9,7 @@ use Rattle.std.proofs.lemmas.List.Sums.{fold-append}
 use Rattle.ucl_board.specs.Theorems.{IsStaleAgain}
 use Rattle.ucl_board.proofs.HistoryTheorems.{attempts_from}
 use Rattle.ucl_board.proofs.Repeats.{go_stale}
-use Rattle.ucl_live_runs.specs.Repeats.{HasRepeats, LeaveTheSame, RepeatedRowsChangeNothing, WasAccepted}
+use Rattle.ucl_live_runs.specs.Follow.{HasRepeats, LeaveTheSame, RepeatedRowsChangeNothing, WasAccepted}
 
 -- the attempts of a part are attempts
 

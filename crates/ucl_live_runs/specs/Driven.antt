@@ -1,17 +1,17 @@
--- Runs whose lines a driver hands to a handler: what they write while they go on, how they end, and why they fail.
-use Rattle.std.specs.Prelude.{◌≡◌, ◌⊎◌, ℕ, ◌^◌, ◌<◌, Bool, true, List, length, Option, IfSome, Result, Err, IfErr, IfOk, OnOk}
+-- Runs whose lines a driver hands to a handler: what they write on the way, how they end, and why they fail.
+use Rattle.std.specs.Prelude.{Bool, Err, IfErr, IfOk, IfSome, List, OnOk, Option, Result, length, true, ℕ, ◌<◌, ◌^◌, ◌≡◌, ◌⊎◌}
 use Rattle.std.specs.Io.KnownBytes.{Appends, Consumes}
 use Rattle.ucl_io.specs.declared.logged_io.LoggedIo.{LoggedIo}
 use Rattle.ucl_io.specs.declared.fault.ServeFault.{ServeFault}
 use Rattle.ucl_io.specs.declared.fault.ServeFault.TheVariants.{Handler, ReadFailed, TooLong, WriteFailed}
-use Rattle.ucl_io.specs.declared.stream.Source as reads
-use Rattle.ucl_io.specs.declared.stream.Sink as writes
 use Rattle.ucl_io.specs.Calls.{Device, HasEnded, LogsCalls, device}
 use Rattle.ucl_io.specs.Output.{StoppedShort}
 use Rattle.ucl_io.specs.Serving.{is_source_failed}
+use Rattle.ucl_io.specs.declared.stream.Source as reads
+use Rattle.ucl_io.specs.declared.stream.Sink as writes
 
--- what is due of the lines that end among the bytes that came, and of a whole input; what holds where the handler stopped in these bytes, and
--- where a run ended well
+-- what is due of the lines that end among the bytes that came, and of a whole input; what holds if the handler stopped in these bytes, and
+-- if a run ended well
 pub record Due (V F : Type 0) : Type 1 where
   pub so_far : List ℕ → List ℕ
   pub whole : List ℕ → List ℕ
@@ -22,7 +22,7 @@ pub record Due (V F : Type 0) : Type 1 where
 abbrev pub IsOutSoFar : (List ℕ → List ℕ) → Option (List ℕ) → Option (List ℕ) → Option (List ℕ) → Option (List ℕ) → Type 0
 IsOutSoFar so_far left left2 taken taken2 = (bytes : List ℕ) × Consumes left left2 bytes × Appends taken taken2 (so_far bytes)
 
--- a failed write is told only if the sink has failed; else the sink is as it was in this
+-- a run returns a failed write only if the sink has failed; after any other end the sink has failed only if it had before
 abbrev pub SinkEnds : {V F : Type 0} → Bool → Bool → Result V (ServeFault F) → Type 0
 SinkEnds failed failed2 (Err (WriteFailed written)) = failed2 ≡ true
 SinkEnds failed failed2 _ = failed2 ≡ failed
@@ -54,7 +54,7 @@ module _ {V F : Type 0} (D : Due V F) where
     -- just before each call for bytes, also in a run that failed, what was due of all lines that had an end by then was out
     pub prompt : LogsCalls (λ time. source.calls time.0) before.log.times after.log.times (source.calls before.source) (source.calls after.source)
         (λ time. IsOutSoFar D.so_far (source.left before.source) (source.left time.0) (sink.taken before.sink) (sink.taken time.1))
-    -- a failed read is answered exactly if the source has failed, and a failed write where the sink has
+    -- a failed read is answered exactly if the source has failed, and a failed write if the sink has
     pub read_failed : source.failed after.source ≡ is_source_failed r
     pub sink_ends : SinkEnds (sink.failed before.sink) (sink.failed after.sink) r
     pub fails : IfErr r (Fails (device source.left sink.taken sink.failed before.source before.sink) (device source.left sink.taken sink.failed after.source after.sink))

@@ -1,5 +1,5 @@
 -- The text of a session: the answers to its lines.
-use Rattle.std.specs.Prelude.{ℕ, ◌+◌, ◌&&◌, if◌then◌else◌, Bool, true, List, [], ◌∷◌, ◌++◌, Option, None, Some, Result, Ok, Err}
+use Rattle.std.specs.Prelude.{Bool, Err, List, None, Ok, Option, Result, Some, [], if◌then◌else◌, length, true, unwrap_or, ℕ, ◌&&◌, ◌++◌, ◌+◌, ◌∷◌}
 use Rattle.ucl_word.specs.declared.event.Accepted.{Accepted}
 use Rattle.ucl_word.specs.declared.refusal.Refusal.{Refusal}
 use Rattle.ucl_word.specs.Rules.{reply_of}
@@ -11,16 +11,14 @@ use Rattle.ucl_json.specs.declared.header.BoardHeader.{BoardHeader}
 use Rattle.ucl_command.specs.declared.live.LiveArgs.{LiveArgs}
 use Rattle.ucl_live_runs.specs.declared.live_fault.LiveFault.{LiveFault}
 use Rattle.ucl_live_runs.specs.declared.request.Request.{Request}
-use Rattle.ucl_live_runs.specs.declared.request.Request.TheVariants.{Bad, Event, Screen, Words, Matches}
+use Rattle.ucl_live_runs.specs.declared.request.Request.TheVariants.{Bad, Event, Matches, Screen, Words}
 use Rattle.ucl_rows.specs.InputLines.{lines_of}
-use Rattle.ucl_rows.specs.Rows.{Said, Nothing, Other, Row, said_on}
+use Rattle.ucl_rows.specs.Rows.{Nothing, Said, said_on}
 use Rattle.ucl_rows.specs.BadRows.{shown_text}
-use Rattle.ucl_screen.specs.Rows.{FourFields}
 use Rattle.ucl_board.specs.History.{board_of}
-use Rattle.ucl_live_runs.specs.NewBoards.{NewBoard, begins_again}
-use Rattle.ucl_live_runs.specs.Requests.{is_bad, request_of}
-use Rattle.ucl_live_runs.specs.Headers.{asked_header, is_group_row, header_said}
-use Rattle.ucl_live_runs.specs.Phases.{Phase, AwaitingHeader, AwaitingClubs, Open, Refused, missing, next_board, next_phase}
+use Rattle.ucl_live_runs.specs.NewBoards.{NewBoard, again_on}
+use Rattle.ucl_live_runs.specs.Requests.{asked_header, header_said, is_bad, is_group_row, request_of}
+use Rattle.ucl_live_runs.specs.Phases.{AwaitingClubs, AwaitingHeader, Open, Phase, Refused, after_beginning, after_club, club_said, missing, next_board}
 
 -- between two lines: how it answers, the header of its board, which line comes next, counted from 1, how far it is, and whether nothing
 -- but the row of its edition and rows of its clubs has come in that edition
@@ -37,7 +35,7 @@ start_of options = record { options = options; header = asked_header options; ro
 
 -- ---- the answer to a line
 
--- the screen after an accepted event, where screens are wanted
+-- the screen after an accepted event, if screens are wanted
 abbrev pub screen_after : LiveArgs → BoardHeader → ℕ → List NamedClub → Result Accepted Refusal → List ℕ → List ℕ
 screen_after options header row clubs (Ok accepted) board = if options.screens then screen_answer options.format header row clubs board else []
 screen_after options header row clubs (Err refusal) board = []
@@ -57,83 +55,68 @@ answer_of options header row clubs board Screen shown = screen_answer options.fo
 answer_of options header row clubs board Words shown = words_answer options.format row board
 answer_of options header row clubs board Matches shown = matches_answer options.format row clubs board
 
--- nothing is answered before the board is open
-abbrev pub answer_at : LiveArgs → BoardHeader → ℕ → Phase → Request → List ℕ → List ℕ
-answer_at options header row (Open clubs board) request shown = answer_of options header row clubs board request shown
-answer_at options header row AwaitingHeader request shown = []
-answer_at options header row (AwaitingClubs clubs) request shown = []
-answer_at options header row (Refused fault) request shown = []
-
--- the board that a line begins again, where it does
-abbrev pub again_at : BoardHeader → Bool → Phase → FourFields → Option NewBoard
-again_at header is_new (Open clubs board) f = begins_again header is_new clubs f
-again_at header is_new AwaitingHeader f = None
-again_at header is_new (AwaitingClubs clubs) f = None
-again_at header is_new (Refused fault) f = None
+-- the board that a line begins again, on an open board
+abbrev pub again_at : Session → Phase → Said → Option NewBoard
+again_at e (Open clubs board) r = again_on e.header e.is_new clubs r
+again_at e s r = None
 
 abbrev pub again : Session → Said → Option NewBoard
-again e Nothing = None
-again e Other = None
-again e (Row f) = again_at e.header e.is_new e.phase f
+again e r = again_at e e.phase r
 
--- the answer to what a line says that is shown so: a row that begins the board again has none
-abbrev pub answer_with : Session → Option NewBoard → Said → List ℕ → List ℕ
-answer_with e (Some new) said shown = []
-answer_with e None Nothing shown = []
-answer_with e None Other shown = answer_at e.options e.header e.row e.phase (request_of Other) shown
-answer_with e None (Row f) shown = answer_at e.options e.header e.row e.phase (request_of (Row f)) shown
+-- a row that begins the board again has no answer
+abbrev pub answer_on : Session → List NamedClub → List ℕ → Said → List ℕ → Option NewBoard → List ℕ
+answer_on e clubs board r shown (Some new) = []
+answer_on e clubs board r shown None = answer_of e.options e.header e.row clubs board (request_of r) shown
 
+-- nothing is answered before the board is open
+abbrev pub answer_at : Session → Phase → Said → List ℕ → List ℕ
+answer_at e (Open clubs board) r shown = answer_on e clubs board r shown (again_on e.header e.is_new clubs r)
+answer_at e s r shown = []
+
+-- the answer to a line that says this and is shown so
 abbrev pub answer_said : Session → Said → List ℕ → List ℕ
-answer_said e said shown = answer_with e (again e said) said shown
+answer_said e Nothing shown = []
+answer_said e r shown = answer_at e e.phase r shown
 
 -- ---- the session after a line
 
--- the first row may say the header of the board
-abbrev pub header_or : BoardHeader → Option BoardHeader → BoardHeader
-header_or header None = header
-header_or header (Some other) = other
+-- what a line changes but the number of the next
+pub record Stage : Type 0 where
+  pub header : BoardHeader
+  pub phase : Phase
+  pub is_new : Bool
 
-abbrev pub next_header : BoardHeader → Phase → Said → BoardHeader
-next_header header AwaitingHeader said = if is_group_row said then header_or header (header_said said) else header
-next_header header (AwaitingClubs clubs) said = header
-next_header header (Open clubs board) said = header
-next_header header (Refused fault) said = header
+abbrev pub stage : BoardHeader → Phase → Bool → Stage
+stage header phase is_new = record { header = header; phase = phase; is_new = is_new }
+
+abbrev pub moved : Session → Stage → Session
+moved e s = record { options = e.options; header = s.header; row = e.row + 1; phase = s.phase; is_new = s.is_new }
+
+-- the first row may say the header of the board
+abbrev pub first_header : BoardHeader → Said → BoardHeader
+first_header header r = if is_group_row r then unwrap_or (header_said r) header else header
+
+-- the fresh board of an edition, in place of the present one
+abbrev pub begun_again : Session → NewBoard → Session
+begun_again e new = moved e (stage new.header (Open new.clubs (board_of [])) true)
 
 -- a line that asks for nothing that there is leaves an edition new
-abbrev pub stays_new : Bool → Phase → Said → Bool
-stays_new is_new (Open clubs board) said = is_new && is_bad (request_of said)
-stays_new is_new AwaitingHeader said = is_new
-stays_new is_new (AwaitingClubs clubs) said = is_new
-stays_new is_new (Refused fault) said = is_new
+abbrev pub next_on : Session → List NamedClub → List ℕ → Said → Option NewBoard → Stage
+next_on e clubs board r (Some new) = stage new.header (Open new.clubs (board_of [])) true
+next_on e clubs board r None = stage e.header (Open clubs (next_board board (request_of r))) (is_bad (request_of r) && e.is_new)
 
--- a line that begins the board again puts the fresh one in place of that which stood
-abbrev pub header_with : Option NewBoard → BoardHeader → BoardHeader
-header_with None header = header
-header_with (Some new) header = new.header
+abbrev pub next_at : Session → Phase → Said → Stage
+next_at e AwaitingHeader r = stage (first_header e.header r) (after_beginning e.options e.row r) e.is_new
+next_at e (AwaitingClubs clubs) r = stage e.header (after_club e.row clubs (club_said (length clubs + 1) r)) e.is_new
+next_at e (Open clubs board) r = next_on e clubs board r (again_on e.header e.is_new clubs r)
+next_at e (Refused fault) r = stage e.header (Refused fault) e.is_new
 
-abbrev pub phase_with : Option NewBoard → Phase → Phase
-phase_with None phase = phase
-phase_with (Some new) phase = Open new.clubs (board_of [])
-
-abbrev pub newness_with : Option NewBoard → Bool → Bool
-newness_with None is_new = is_new
-newness_with (Some new) is_new = true
-
-abbrev pub next_by : Session → Option NewBoard → Said → Session
-next_by e new said = record {
-  options = e.options;
-  header = header_with new (next_header e.header e.phase said);
-  row = e.row + 1;
-  phase = phase_with new (next_phase e.options e.row e.phase said);
-  is_new = newness_with new (stays_new e.is_new e.phase said);
-}
+abbrev pub stage_after : Session → Said → Stage
+stage_after e Nothing = stage e.header e.phase e.is_new
+stage_after e r = next_at e e.phase r
 
 abbrev pub next : Session → Said → Session
-next e said = next_by e (again e said) said
-
--- the fresh board of an edition, in place of the one that stood
-abbrev pub begun_again : Session → NewBoard → Session
-begun_again e new = record { options = e.options; header = new.header; row = e.row + 1; phase = Open new.clubs (board_of []); is_new = true }
+next e r = moved e (stage_after e r)
 
 -- ---- the answers to lines, one after the other
 

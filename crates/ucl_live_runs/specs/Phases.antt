@@ -1,20 +1,19 @@
--- How far a session is, and what a line makes of it.
-use Rattle.std.specs.Prelude.{ℕ, ◌+◌, ◌-◌, ◌^◌, min, ◌==◌, if◌then◌else◌, List, [], ◌∷◌, ◌++◌, length, Option, Some, None}
+-- How far a session is, what a line makes of it, and the faults by which it ends.
+use Rattle.std.specs.Prelude.{List, None, Option, Some, [], codes, if◌then◌else◌, length, min, ℕ, ◌++◌, ◌+◌, ◌-◌, ◌==◌, ◌^◌, ◌∷◌}
 use Rattle.ucl_board.specs.History.{board_after, board_of}
 use Rattle.ucl_order.specs.Roster.{NamedClub, bad_slot}
 use Rattle.ucl_screen.specs.Events.{attempt_of}
 use Rattle.ucl_screen.specs.Script.{club_of}
 use Rattle.ucl_command.specs.declared.live.LiveArgs.{LiveArgs}
-use Rattle.ucl_screen.specs.declared.fault.InputFault.TheVariants.{BadRow, BadRoster}
-use Rattle.ucl_rows.specs.declared.fault.RunFault.TheVariants.{Input}
+use Rattle.ucl_screen.specs.declared.fault.InputFault.TheVariants.{BadRoster, BadRow}
+use Rattle.ucl_rows.specs.declared.fault.RunFault.TheVariants.{Input, OutOfMemory}
 use Rattle.ucl_live_runs.specs.declared.live_fault.LiveFault.{LiveFault}
 use Rattle.ucl_live_runs.specs.declared.live_fault.LiveFault.TheVariants.{OtherGroup, Run}
 use Rattle.ucl_json.specs.declared.header.BoardHeader.{BoardHeader}
-use Rattle.ucl_live_runs.specs.Headers.{is_as_asked, is_group_row, header_said}
-use Rattle.ucl_rows.specs.Rows.{Said, Nothing, Other, Row}
+use Rattle.ucl_live_runs.specs.Requests.{header_said, is_as_asked, is_group_row}
+use Rattle.ucl_rows.specs.Rows.{Row, Said}
 use Rattle.ucl_live_runs.specs.declared.request.Request.{Request}
-use Rattle.ucl_live_runs.specs.declared.request.Request.TheVariants.{Bad, Event, Screen, Words, Matches}
-use Rattle.ucl_live_runs.specs.Requests.{request_of}
+use Rattle.ucl_live_runs.specs.declared.request.Request.TheVariants.{Event}
 
 -- no row came yet; then the clubs are named, fewer than four so far; then the board is open. A session whose clubs have a fault is refused
 pub data Phase : Type 0 where
@@ -23,19 +22,18 @@ pub data Phase : Type 0 where
   Open : (clubs : List NamedClub) (board : List ℕ) → Phase
   Refused : (fault : LiveFault) → Phase
 
--- the number of a row as a fault tells it: a greater one is told as the greatest that can be told
-abbrev pub told_row : ℕ → ℕ
-told_row row = min row (2 ^ 32 - 1)
+-- the number of a row as a fault reports it, at most the greatest of 32 bits
+abbrev pub fault_row : ℕ → ℕ
+fault_row row = min row (2 ^ 32 - 1)
 
 abbrev pub bad_row : ℕ → LiveFault
-bad_row row = Run (Input (BadRow (told_row row)))
+bad_row row = Run (Input (BadRow (fault_row row)))
 
 -- ---- clubs
 
 abbrev pub club_said : ℕ → Said → Option NamedClub
 club_said slot (Row f) = club_of slot f
-club_said slot Other = None
-club_said slot Nothing = None
+club_said slot _ = None
 
 abbrev pub with_roster : List NamedClub → Option ℕ → Phase
 with_roster clubs None = Open clubs (board_of [])
@@ -59,28 +57,10 @@ after_header options row (Some header) = if is_as_asked options header then Awai
 abbrev pub after_beginning : LiveArgs → ℕ → Said → Phase
 after_beginning options row said = if is_group_row said then after_header options row (header_said said) else after_club row [] (club_said 1 said)
 
--- ---- the phase after a line
-
 -- the board after a request
 abbrev pub next_board : List ℕ → Request → List ℕ
 next_board board (Event event) = board_after board (attempt_of event)
-next_board board (Bad field) = board
-next_board board Screen = board
-next_board board Words = board
-next_board board Matches = board
-
--- the phase after a row with this number, which begins no board again
-abbrev pub after_row : LiveArgs → ℕ → Phase → Said → Phase
-after_row options row AwaitingHeader said = after_beginning options row said
-after_row options row (AwaitingClubs clubs) said = after_club row clubs (club_said (length clubs + 1) said)
-after_row options row (Open clubs board) said = Open clubs (next_board board (request_of said))
-after_row options row (Refused fault) said = Refused fault
-
--- the phase after a line with this number
-abbrev pub next_phase : LiveArgs → ℕ → Phase → Said → Phase
-next_phase options row phase Nothing = phase
-next_phase options row phase Other = after_row options row phase Other
-next_phase options row phase (Row f) = after_row options row phase (Row f)
+next_board board _ = board
 
 -- why a session is refused that ends here, before a line with this number: a club is missing
 abbrev pub missing : ℕ → Phase → Option LiveFault
@@ -88,3 +68,14 @@ missing row AwaitingHeader = Some (bad_row row)
 missing row (AwaitingClubs clubs) = Some (bad_row row)
 missing row (Open clubs board) = None
 missing row (Refused fault) = Some fault
+
+-- ---- the faults of a session
+
+-- there was no memory, and A holds; or it is another fault, and B holds
+abbrev pub StopsBy : Type 0 → Type 0 → LiveFault → Type 0
+StopsBy A B (Run OutOfMemory) = A
+StopsBy A B fault = B
+
+-- what is printed if a row of a group differs from what was asked for
+abbrev pub other_group_text : List ℕ
+other_group_text = codes "error: the row of the group differs from --group or --order\n"

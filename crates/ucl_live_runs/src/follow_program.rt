@@ -1,9 +1,9 @@
-//! The lines that `ucl_follow` follows for its arguments.
+//! What `ucl_follow` does for its arguments.
 
 ghost use Rattle.std.specs.Prelude.{◌≡◌};
 ghost use Rattle.ucl_screen.specs.Screen.{IsGroup};
 ghost use Rattle.ucl_rows.specs.Ending.{ended_with};
-ghost use Rattle.ucl_live_runs.specs.FollowProgram.{EndsFollowing, RunsFollowing, counts_line, other_line};
+ghost use Rattle.ucl_live_runs.specs.FollowerRuns.{EndsFollowing, RunsFollowing, counts_line, other_line};
 
 use crate::follower::{FollowSummary, Follower, follow_run};
 use arrayvec::ArrayString;
@@ -15,7 +15,7 @@ use ucl_json::BoardHeader;
 use ucl_rows::{RunFault, exit_without_command, of_driver, print_fault, put_text};
 use ucl_screen::{Sink, Source};
 
-/// Returns the line of how many lines came, were shown and were passed over.
+/// Returns the line that says how many lines came, were shown and were passed over.
 fn counts_line(followed: FollowSummary) -> ArrayString<128>
     ensures { result.bytes ≡ counts_line followed }
 {
@@ -30,7 +30,7 @@ fn counts_line(followed: FollowSummary) -> ArrayString<128>
     line
 }
 
-/// Returns the line that says that the moment of a line is passed over, for its group or order.
+/// Returns the line that says that the board state of a line is passed over, for its group or order.
 pub(crate) fn other_line(line: u64, header: BoardHeader) -> ArrayString<128>
     requires { IsGroup header.group }
     ensures { result.bytes ≡ other_line line header }
@@ -46,7 +46,7 @@ pub(crate) fn other_line(line: u64, header: BoardHeader) -> ArrayString<128>
     text
 }
 
-/// Prints how the lines were followed, or the fault, and returns the exit status.
+/// Prints how many lines were followed, or the fault, and returns the exit status.
 fn print_outcome<E: Sink>(errors: &mut E, done: Result<FollowSummary, ServeFault<RunFault>>) -> u8
     ensures { EndsFollowing done (ended_with E.failed E.taken result errors.old errors.new) }
 {
@@ -59,9 +59,11 @@ fn print_outcome<E: Sink>(errors: &mut E, done: Result<FollowSummary, ServeFault
     }
 }
 
-/// Follows the lines as the arguments asked, as `follow_args` answered it, with `others` to tell of other groups and orders, and gives the exit status: 0 where the input has ended, and the error
-/// sink is told how many lines came, were shown and were passed over; 2 if the arguments are refused, by the text of `clap`; and else that of the fault, whose line is printed: 4 if a device has failed, and 5
-/// if there was no memory. Help goes to the output.
+/// Follows lines as the arguments ask, which `follow_args` has read, and returns the exit status.
+///
+/// The status is 0 if the input has ended, and then the error sink gets the number of lines that came, were shown and were passed over; 2 if
+/// the arguments are refused, with the text of `clap`; 4 if a device failed, and 5 if memory was lacking, each with the line of the fault.
+/// Help goes to the output. `others` gets a line for each other group and order.
 pub fn run_following<S: Source, W: Sink, T: Sink + Drop, E: Sink>(
     alloc: Global,
     asked: Result<FollowArgs, LineFault>,

@@ -1,9 +1,9 @@
-//! A follower, which answers lines with screens.
+//! A follower, which shows the board states that lines carry.
 
 ghost use Rattle.std.specs.Prelude.{◌≡◌, ◌≤◌, ⊤, [], length, IfOk};
 ghost use Rattle.ucl_rows.specs.declared.fault.RunFault.TheVariants.{OutOfMemory};
 ghost use Rattle.ucl_screen.specs.Screen.{IsGroup};
-ghost use Rattle.ucl_live_runs.specs.Follow.{output_text, told_text, unseen, is_later, is_newer};
+ghost use Rattle.ucl_live_runs.specs.Follow.{is_later, is_newer, line_output, output_text, unseen};
 ghost use Rattle.ucl_live_runs.specs.FollowerRuns.{IsHandled, follow_state_of, shape_of, output_bytes, follow_due};
 ghost use Rattle.ucl_json.specs.BoardLines.{parse_board_line};
 ghost use Rattle.ucl_live_runs.specs.Driven.{IsDriven};
@@ -19,7 +19,7 @@ use ucl_rows::RunFault;
 use ucl_screen::{Sink, Source, matches, screen};
 use ucl_word::OutOfMemory;
 
-/// What a line is answered.
+/// What a follower writes for a line.
 #[derive(Drop)]
 pub enum FollowOutput {
     /// Nothing.
@@ -43,7 +43,7 @@ impl Text for FollowOutput {
     }
 }
 
-/// Returns what is shown of a board state that the line of this number told.
+/// Returns the text by which a board state is shown that the line of this number carries.
 fn show(
     alloc: Global,
     shape: FollowShape,
@@ -76,28 +76,28 @@ fn show(
     }
 }
 
-/// Marks a group and its order as told, and returns whether they were not.
-fn is_first(told: &mut [bool; 16], header: BoardHeader) -> bool {
+/// Marks a group and its order as reported, and returns whether they were not before.
+fn is_first_report(reported: &mut [bool; 16], header: BoardHeader) -> bool {
     let order = match header.profile {
         Profile::Uefa => 0,
         Profile::AwayInTie => 8,
     };
     let place = usize::from(header.group.wrapping_sub(b'A')) + order;
-    if place < 16 && !told[place] {
-        told[place] = true;
+    if place < 16 && !reported[place] {
+        reported[place] = true;
         return true;
     }
     false
 }
 
-/// A follower between two lines: what it has followed, what it shows of it, and where it tells of other groups and orders.
+/// A follower between two lines: what it has followed, how it shows it, and where it reports other groups and orders.
 #[derive(Drop)]
 pub struct Follower<T> {
     alloc: Global,
     shape: FollowShape,
     pub(crate) follow_state: FollowState,
     others: T,
-    told: [bool; 16],
+    reported: [bool; 16],
 }
 
 impl<T> Follower<T> {
@@ -111,7 +111,7 @@ impl<T> Follower<T> {
             shape: args.shape,
             follow_state: FollowState::new(args),
             others,
-            told: [false; 16],
+            reported: [false; 16],
         }
     }
 }
@@ -123,8 +123,8 @@ impl<T: Sink> LineHandler for Follower<T> {
 
     ghost ready = { λ _. ⊤ };
 
-    ghost answers = { λ m row line n text. IsHandled m n (parse_board_line line)
-        × (text ≡ told_text (shape_of m) (follow_state_of m) (parse_board_line line)) };
+    ghost answers = { λ m row line n text. IsHandled m n line
+        × (text ≡ line_output (shape_of m) (follow_state_of m) line) };
 
     ghost stops = { λ _ _ line _ fault. (fault ≡ OutOfMemory) × (length line ≤ 4096) };
 
@@ -139,7 +139,7 @@ impl<T: Sink> LineHandler for Follower<T> {
         let (group, profile) = (self.follow_state.group, self.follow_state.profile);
         match told {
             Some(board_state) if !is_asked(group, profile, board_state.header) => {
-                if is_first(&mut self.told, board_state.header) {
+                if is_first_report(&mut self.reported, board_state.header) {
                     let line = other_line(row, board_state.header);
                     let _given = self.others.give(line.as_str().as_bytes());
                 }
@@ -168,7 +168,7 @@ impl<T: Sink> LineHandler for Follower<T> {
     }
 }
 
-/// What was followed by some lines: the group and the order, where one was asked for or was told; the newest board state; how many lines there were,
+/// What was followed so far: the group and the order, if they were asked for or a line was shown; the newest board state; how many lines came,
 /// and how many of them were shown. A number past `u64::MAX` is given as that.
 #[derive(Drop)]
 pub(crate) struct FollowState {
@@ -218,16 +218,17 @@ impl FollowState {
 pub struct FollowSummary {
     /// The lines that had an end.
     pub lines: u64,
-    /// Those that told a board state newer than any before.
+    /// Those that carried a board state newer than any before.
     pub shown: u64,
 }
 
-/// Follows the lines of a source until it ends: each board state that is newer than all that was shown is shown at once, before more is asked
-/// for, and each other line is passed over. The group and the order are those that were asked for, else those of the first board state; a board state of another
-/// one is passed over, and `others` takes a line of each such group and order, at once.
+/// Follows the lines of a source until it ends: shows each board state that is newer than all before at once, before it asks for more, and
+/// passes over each other line.
 ///
-/// A line tells a board state where it is JSON of at most 4,096 bytes whose members `group`, `order`, `clubs` and `words` are those of a board;
-/// so does each answer of a session to an accepted event, and each screen. It takes memory for one line at a time, and keeps none.
+/// The group and the order are those that are asked for, else those of the first board state. A board state of another one is passed over, and
+/// `others` gets a line for each such group and order, at once. A line carries a board state if it is JSON of at most 4,096 bytes whose members
+/// `group`, `order`, `clubs` and `words` are those of a board: each answer of a session to an accepted event, and each screen. It takes memory
+/// for one line at a time, and keeps none.
 ///
 /// # Errors
 ///

@@ -1,12 +1,11 @@
-//! What the first row may say of the board.
+//! The header of a board: its group, its order and its edition.
 
 ghost use Rattle.std.specs.Prelude.{◌≡◌, IfSome, ◌&&◌};
 ghost use Rattle.ucl_order.specs.Names.{profile_named};
 ghost use Rattle.ucl_screen.specs.Rows.{four_seen};
 ghost use Rattle.ucl_screen.specs.Screen.{IsGroup};
 ghost use Rattle.ucl_rows.specs.Rows.{Row, fields_seen};
-ghost use Rattle.ucl_live_runs.specs.Headers.{asked_header, edition_said, is_as_asked, is_asked, is_group_row, header_by, header_said};
-ghost use Rattle.ucl_live_runs.specs.Requests.{is_bad};
+ghost use Rattle.ucl_live_runs.specs.Requests.{asked_header, edition_said, header_by, header_said, is_as_asked, is_asked, is_bad, is_group_row};
 
 use crate::request::Request;
 use ucl_command::LiveArgs;
@@ -28,7 +27,7 @@ fn order_in(text: &[u8]) -> Option<Profile>
     }
 }
 
-/// Returns the header that a row of a group says.
+/// Returns the header that the fields of a row of a group name.
 fn header_by(four: &Four<'_>) -> Option<BoardHeader>
     ensures told { result ≡ header_by (four_seen four.now) }
     ensures letter { IfSome result (λ header. IsGroup header.group) }
@@ -54,7 +53,7 @@ pub(crate) fn is_group_row(row: &RowFields<'_>) -> bool
     }
 }
 
-/// Returns the header that a row says.
+/// Returns the header that a row names.
 pub(crate) fn header_said(row: &RowFields<'_>) -> Option<BoardHeader>
     ensures told { result ≡ header_said (fields_seen row.now) }
     ensures letter { IfSome result (λ header. IsGroup header.group) }
@@ -80,7 +79,7 @@ pub(crate) fn is_as_asked(options: &LiveArgs, header: BoardHeader) -> bool
     is_asked(options.group, options.profile, header)
 }
 
-/// Returns the header where no row says one: what was asked for, else group A and the order of the Regulations.
+/// Returns the header if no row names one: what was asked for, else group A and the order of the Regulations.
 #[tactic(auto, using(ucl_command::proofs::Letters::asked_letter))]
 pub(crate) fn asked_header(options: &LiveArgs) -> BoardHeader
     ensures told { result ≡ asked_header options.now }
@@ -93,7 +92,7 @@ pub(crate) fn asked_header(options: &LiveArgs) -> BoardHeader
     }
 }
 
-/// Returns the header of a later edition of the same group and order, if a row says one.
+/// Returns the header that a row names, if it is of a later edition of the same group and order.
 pub(crate) fn later_edition(header: BoardHeader, four: &Four<'_>) -> Option<BoardHeader>
     ensures told { result ≡ edition_said header (Row (four_seen four.now)) }
     ensures letter { IfSome result (λ later. IsGroup later.group) }
@@ -119,10 +118,10 @@ pub(crate) struct HeaderState {
 }
 
 impl HeaderState {
-    /// Notes a row that begins no board again, and asks for this.
-    pub(crate) fn goes_on(&mut self, request: &Request)
+    /// Notes that a row asked for this: the edition is new no more, unless it is a bad row.
+    pub(crate) fn note_request(&mut self, request: &Request)
         ensures header { self.new.header ≡ self.old.header }
-        ensures new { self.new.is_new ≡ (self.old.is_new && is_bad request.now) }
+        ensures new { self.new.is_new ≡ (is_bad request.now && self.old.is_new) }
     {
         if !request.is_bad() {
             self.is_new = false;

@@ -1,4 +1,4 @@
-//! Why a session goes no further.
+//! The faults of a session.
 
 ghost use Rattle.std.specs.Prelude.{◌≡◌};
 ghost use Rattle.ucl_rows.specs.declared.fault.RunFault.TheVariants.{OutOfMemory};
@@ -13,7 +13,7 @@ pub enum LiveFault {
     /// 20, the first row that is missing or is not as its place demands, where a row past `u32::MAX` is given as that; 21, the least slot with
     /// a club that no roster takes in; or 23, lack of memory.
     Run(RunFault),
-    /// The first row says another group or order than was asked for.
+    /// The first row names another group or order than was asked for.
     OtherGroup,
 }
 

@@ -1,7 +1,7 @@
-//! The session that `ucl_live` holds for its arguments.
+//! What `ucl_live` does for its arguments.
 
 ghost use Rattle.ucl_rows.specs.Ending.{ended_with};
-ghost use Rattle.ucl_live_runs.specs.LiveProgram.{EndsHeld, RunsSession};
+ghost use Rattle.ucl_live_runs.specs.SessionRuns.{EndsHeld, RunsSession};
 
 use crate::live_fault::LiveFault;
 use crate::session::{Session, live_run};
@@ -11,7 +11,7 @@ use ucl_io::{LoggedIo, ServeFault};
 use ucl_rows::{exit_without_command, of_driver, print_fault, print_refusal};
 use ucl_screen::{Sink, Source};
 
-/// What is told where the first row says another group or order than was asked for.
+/// What is printed if the first row names another group or order than was asked for.
 const OTHER_GROUP: &str = "error: the row of the group differs from --group or --order\n";
 
 /// Prints the fault of a session, if it has one, and returns the exit status.
@@ -27,9 +27,11 @@ fn print_outcome<E: Sink>(errors: &mut E, done: Result<(), ServeFault<LiveFault>
     }
 }
 
-/// Holds the session that the arguments asked for, as `live_args` answered it, and gives the exit status: 0 where the input has ended and each row
-/// is answered; 2 if the arguments are refused, by the text of `clap`, or the row of the group differs from them; else that of the fault, which
-/// is told by its line: 3 where the clubs are refused, 4 if a device has failed, 5 if there was no memory. Help goes to the output.
+/// Runs the session that the arguments ask for, which `live_args` has read, and returns the exit status.
+///
+/// The status is 0 if the input has ended and each row is answered; 2 if the arguments are refused, with the text of `clap`, or the row of the
+/// group differs from them; 3 if the clubs are refused, 4 if a device failed, and 5 if memory was lacking, each with the line of the fault.
+/// Help goes to the output.
 pub fn run_session<S: Source, W: Sink, E: Sink>(
     alloc: Global,
     asked: Result<LiveArgs, LineFault>,

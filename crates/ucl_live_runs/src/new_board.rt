@@ -1,11 +1,11 @@
-//! Rows by which an open board is begun again.
+//! Rows that begin an open board again.
 
 ghost use Rattle.std.specs.Prelude.{◌≡◌, ⊤, false, true, Some, None, IfSome, option_map};
 ghost use Rattle.ucl_board.specs.Fixtures.{IsSlot};
 ghost use Rattle.ucl_board.specs.History.{board_of};
 ghost use Rattle.ucl_screen.specs.Rows.{four_seen};
 ghost use Rattle.ucl_live_runs.specs.NewBoards.{BeginsAgain, Puts, again_on, begins_again, clubs_said, slot_in};
-ghost use Rattle.ucl_live_runs.specs.Headers.{edition_said};
+ghost use Rattle.ucl_live_runs.specs.Requests.{edition_said};
 ghost use Rattle.ucl_rows.specs.Rows.{Row, fields_seen};
 
 use crate::header::{HeaderState, later_edition};
@@ -26,7 +26,7 @@ fn slot_in(text: &[u8]) -> Option<u8>
 }
 
 impl OpenBoard {
-    /// Puts the club that a row names in its slot, where a roster takes it, and says whether it did.
+    /// Puts the club that a row names in its slot, if a roster takes it, and returns whether it did.
     fn put_club(&mut self, four: &Four<'_>) -> bool
         ensures { Puts (clubs_said self.old.roster (four_seen four.now)) result self.old self.new }
     {
@@ -39,8 +39,8 @@ impl OpenBoard {
         }
     }
 
-    /// Puts the fresh board in place of this one, where a row of four fields begins it again, and says whether it did.
-    fn begun_by(&mut self, heading: &mut HeaderState, four: &Four<'_>) -> bool
+    /// Puts the fresh board in place of this one if a row of four fields begins it again, and returns whether it did.
+    fn begin_with(&mut self, heading: &mut HeaderState, four: &Four<'_>) -> bool
         ensures { BeginsAgain
             (begins_again heading.old.header heading.old.is_new self.old.roster (four_seen four.now))
             result heading.old heading.new self.old self.new }
@@ -60,15 +60,15 @@ impl OpenBoard {
         false
     }
 
-    /// Puts the fresh board in place of this one, where a row begins it again, and says whether it did.
-    pub(crate) fn is_begun_again(&mut self, heading: &mut HeaderState, said: &RowFields<'_>) -> bool
+    /// Puts the fresh board in place of this one if a row begins it again, and returns whether it did.
+    pub(crate) fn begin_again(&mut self, heading: &mut HeaderState, said: &RowFields<'_>) -> bool
         ensures { BeginsAgain
             (again_on heading.old.header heading.old.is_new self.old.roster (fields_seen said.now))
             result heading.old heading.new self.old self.new }
     {
         match said {
             RowFields::Other => false,
-            RowFields::Four(four) => self.begun_by(heading, four),
+            RowFields::Four(four) => self.begin_with(heading, four),
         }
     }
 }

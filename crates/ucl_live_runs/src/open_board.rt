@@ -19,8 +19,8 @@ use ucl_screen::NightEvent;
 use ucl_word::OutOfMemory;
 
 impl OpenBoard {
-    /// Enters an event, and answers it.
-    fn entered(
+    /// Enters an event and writes the answer to it.
+    fn enter(
         &mut self,
         alloc: Global,
         options: &LiveArgs,
@@ -69,9 +69,9 @@ impl OpenBoard {
         Ok(())
     }
 
-    /// Does what a row asks for, whose text is this, and answers it.
+    /// Does what a row with this text asks for, and writes the answer to it.
     #[inline(always)]
-    pub(crate) fn answered(
+    pub(crate) fn answer_request(
         &mut self,
         alloc: Global,
         options: &LiveArgs,
@@ -90,7 +90,7 @@ impl OpenBoard {
         ensures memory { IfErr result (λ _. RequestNeedsMemory options.now self.old.board request.now) }
     {
         match request {
-            Request::Event(event) => return self.entered(alloc, options, header, row, event, parts),
+            Request::Event(event) => return self.enter(alloc, options, header, row, event, parts),
             Request::Bad(field) => parts.put(bad_answer(alloc, options.format, row, *field, text)?),
             Request::Screen => {
                 parts.put(screen_answer(

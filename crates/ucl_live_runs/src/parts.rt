@@ -1,4 +1,4 @@
-//! What a line is answered.
+//! The answer to a line.
 
 ghost use Rattle.std.specs.Prelude.{◌≡◌, []};
 ghost use Rattle.ucl_rows.specs.Lines.{word_lines};
@@ -9,7 +9,7 @@ use ucl_board::Board;
 use ucl_io::Text;
 use ucl_rows::{Answer, Lines, word_lines};
 
-/// What a line is answered: an answer, or the words of a board.
+/// The answer to a line: an answer of its kind, or the words of a board.
 #[derive(Drop)]
 pub struct Parts {
     answer: Answer,
@@ -38,14 +38,14 @@ impl Text for Parts {
 }
 
 impl Parts {
-    /// Makes it no answer.
+    /// Becomes no answer.
     pub(crate) fn put_nothing(&mut self)
         ensures { parts_bytes self.new ≡ [] }
     {
         self.put(Answer::nothing());
     }
 
-    /// Makes it this answer.
+    /// Becomes this answer.
     pub(crate) fn put(&mut self, answer: Answer)
         ensures { parts_bytes self.new ≡ bytes_of answer }
     {
@@ -53,7 +53,7 @@ impl Parts {
         self.answer = answer;
     }
 
-    /// Makes it the words of this board.
+    /// Becomes the words of this board.
     pub(crate) fn put_words(&mut self, board: &Board)
         ensures { parts_bytes self.new ≡ word_lines 1 board.now }
     {

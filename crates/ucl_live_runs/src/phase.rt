@@ -3,9 +3,9 @@
 ghost use Rattle.std.specs.Prelude.{◌≡◌, ◌+◌, ◌-◌, ◌^◌, ◌<◌, ◌≤◌, ◌++◌, [], ◌∷◌, IfOk, OnOk, length, map, option_map};
 ghost use Rattle.ucl_order.specs.Roster.{bad_slot, club_seen};
 ghost use Rattle.ucl_rows.specs.Rows.{fields_seen};
-ghost use Rattle.ucl_live_runs.specs.Phases.{AwaitingHeader, after_beginning, after_club, bad_row, club_said, missing, told_row, with_clubs, with_roster};
-ghost use Rattle.ucl_live_runs.specs.LiveText.{next_header};
-ghost use Rattle.ucl_live_runs.specs.Seen.{Becomes, BecomesIfMemory, clubs_seen, phase_seen};
+ghost use Rattle.ucl_live_runs.specs.Phases.{AwaitingHeader, after_beginning, after_club, bad_row, club_said, missing, fault_row, with_clubs, with_roster};
+ghost use Rattle.ucl_live_runs.specs.LiveText.{first_header};
+ghost use Rattle.ucl_live_runs.specs.SessionRuns.{Becomes, BecomesIfMemory, clubs_seen, phase_seen};
 
 use crate::header::{HeaderState, header_said, is_as_asked, is_group_row};
 use crate::live_fault::LiveFault;
@@ -16,7 +16,7 @@ use ucl_order::{Club, Roster};
 use ucl_rows::{RowFields, RunFault};
 use ucl_screen::{InputFault, club_of_fields};
 
-/// The clubs that are named so far, fewer than four.
+/// The clubs that are opened so far, fewer than four.
 #[derive(Drop)]
 pub(crate) enum Clubs {
     NoClub,
@@ -37,15 +37,15 @@ pub(crate) struct OpenBoard {
 pub(crate) enum Phase {
     /// No row came yet.
     AwaitingHeader,
-    /// The clubs are named.
+    /// The clubs are opened.
     AwaitingClubs(Clubs),
     /// The board is open.
     Open(OpenBoard),
 }
 
-/// Returns the number of a row as a fault tells it.
-fn told_row(row: u64) -> u32
-    ensures { result ≡ told_row row }
+/// Returns the number of a row as a fault reports it.
+fn fault_row(row: u64) -> u32
+    ensures { result ≡ fault_row row }
 {
     if row < u64::from(u32::MAX) {
         row as u32
@@ -54,14 +54,16 @@ fn told_row(row: u64) -> u32
     }
 }
 
-/// Returns the fault that a row is missing, or is not as its place demands.
+/// Returns the fault of a row that is missing, or is not what its place demands.
 fn bad_row(row: u64) -> LiveFault
     ensures { result ≡ bad_row row }
 {
-    LiveFault::Run(RunFault::Input(InputFault::BadRow { row: told_row(row) }))
+    LiveFault::Run(RunFault::Input(InputFault::BadRow {
+        row: fault_row(row),
+    }))
 }
 
-/// Returns the club that a row says.
+/// Returns the club that a row names.
 fn club_said(alloc: Global, slot: u8, row: &RowFields<'_>) -> Result<Option<Club>, AllocError>
     requires { slot ≤ 4 }
     ensures { IfOk result (λ club. option_map club_seen club ≡ club_said slot
@@ -95,14 +97,14 @@ impl Clubs {
             Clubs::NoClub => Clubs::One(club),
             Clubs::One(first) => Clubs::Two(first, club),
             Clubs::Two(first, second) => Clubs::Three(first, second, club),
-            Clubs::Three(first, second, third) => return named([first, second, third, club]),
+            Clubs::Three(first, second, third) => return opened([first, second, third, club]),
         };
         Ok(Phase::AwaitingClubs(clubs))
     }
 }
 
 /// Returns the phase after four clubs.
-fn named(clubs: [Club; 4]) -> Result<Phase, LiveFault>
+fn opened(clubs: [Club; 4]) -> Result<Phase, LiveFault>
     ensures { Becomes (with_roster (map club_seen clubs) (bad_slot (map club_seen clubs))) result }
 {
     match Roster::new(clubs) {
@@ -141,8 +143,7 @@ pub(crate) fn with_first(
 ) -> Result<Phase, LiveFault>
     ensures phase { BecomesIfMemory (after_beginning options.now row
         (fields_seen said.now)) result }
-    ensures header { OnOk result (heading.new.header ≡ next_header heading.old.header AwaitingHeader
-        (fields_seen said.now)) }
+    ensures header { OnOk result (heading.new.header ≡ first_header heading.old.header (fields_seen said.now)) }
     ensures new { OnOk result (heading.new.is_new ≡ heading.old.is_new) }
 {
     if !is_group_row(said) {
@@ -162,7 +163,7 @@ pub(crate) fn with_first(
 }
 
 impl Phase {
-    /// Returns why a session is refused that ends here, before a line with this number.
+    /// Returns why a session that ends before the line with this number is refused.
     pub(crate) fn missing(&self, row: u64) -> Option<LiveFault>
         ensures { result ≡ missing row (phase_seen self.now) }
     {

@@ -11,20 +11,20 @@ use ucl_screen::{Four, NightEvent, event_of_fields};
 /// What a row asks for, once there is a board.
 #[derive(Clone, Copy, Debug, PartialEq, Eq)]
 pub enum Request {
-    /// Nothing that there is, for this field.
+    /// Nothing that exists: this field is wrong.
     Bad(BadField),
-    /// That a reporter's event be entered.
+    /// To enter the event of a reporter.
     Event(NightEvent),
-    /// The screen of the board as it stands.
+    /// The screen of the board.
     Screen,
-    /// The twelve words of the board as it stands.
+    /// The twelve words of the board.
     Words,
-    /// The twelve matches of the board as it stands.
+    /// The twelve matches of the board.
     Matches,
 }
 
 impl Request {
-    /// Returns whether it asks for nothing that there is.
+    /// Returns whether it asks for nothing that exists.
     pub(crate) fn is_bad(&self) -> bool
         ensures { result ≡ is_bad self.now }
     {

@@ -2,9 +2,8 @@
 
 ghost use Rattle.std.specs.Prelude.{◌≡◌, ◌+◌, ⊤, IfErr, OnOk};
 ghost use Rattle.ucl_rows.specs.BadRows.{shown_text};
-ghost use Rattle.ucl_live_runs.specs.SessionRuns.{NeedsMemory, Closes, HasNoAnswer, HasNoEnd, session_at, session_of, parts_bytes, session_due};
+ghost use Rattle.ucl_live_runs.specs.SessionRuns.{Closes, HasNoAnswer, HasNoEnd, NeedsMemory, open_board_seen, parts_bytes, phase_seen, session_at, session_due, session_of};
 ghost use Rattle.ucl_rows.specs.Rows.{fields_seen, said_on};
-ghost use Rattle.ucl_live_runs.specs.Seen.{phase_seen, open_board_seen};
 ghost use Rattle.ucl_live_runs.specs.LiveText.{answer_said, next, start_of};
 ghost use Rattle.ucl_live_runs.specs.Driven.{IsDriven};
 
@@ -32,8 +31,8 @@ pub struct Session {
 }
 
 impl OpenBoard {
-    /// Answers a row of this number, whose text is this, on the open board, which a row may begin again.
-    fn row_answered(
+    /// Answers the row of this number and text on the open board, which the row may begin again.
+    fn answer_row(
         &mut self,
         alloc: Global,
         options: &LiveArgs,
@@ -51,20 +50,20 @@ impl OpenBoard {
         ensures memory { IfErr result (λ _. NeedsMemory
             (session_at options.now heading.old row (open_board_seen self.old)) (fields_seen said.now)) }
     {
-        if self.is_begun_again(heading, said) {
+        if self.begin_again(heading, said) {
             parts.put_nothing();
             return Ok(());
         }
         let request = request_of(said);
-        self.answered(alloc, options, heading.header, row, &request, text, parts)?;
-        heading.goes_on(&request);
+        self.answer_request(alloc, options, heading.header, row, &request, text, parts)?;
+        heading.note_request(&request);
         Ok(())
     }
 }
 
 impl Phase {
-    /// Answers a row of this number, whose text is this.
-    fn answered(
+    /// Answers the row of this number and text.
+    fn answer_row(
         &mut self,
         alloc: Global,
         options: &LiveArgs,
@@ -84,7 +83,7 @@ impl Phase {
             (fields_seen said.now)) }
     {
         if let Phase::Open(table) = self {
-            table.row_answered(alloc, options, heading, row, said, text, parts)?;
+            table.answer_row(alloc, options, heading, row, said, text, parts)?;
             return Ok(());
         }
         parts.put_nothing();
@@ -135,7 +134,7 @@ impl LineHandler for Session {
 
     fn answer(&mut self, row: u64, line: &[u8], text: &mut Parts) -> Result<(), LiveFault> {
         if let Some(four) = plain_row(row, line) {
-            return self.phase.answered(
+            return self.phase.answer_row(
                 self.alloc,
                 &self.options,
                 &mut self.heading,
@@ -150,7 +149,7 @@ impl LineHandler for Session {
                 text.put_nothing();
                 Ok(())
             }
-            RowCount::More => self.phase.answered(
+            RowCount::More => self.phase.answer_row(
                 self.alloc,
                 &self.options,
                 &mut self.heading,
@@ -161,7 +160,7 @@ impl LineHandler for Session {
             ),
             RowCount::One => {
                 let said = self.reader.row();
-                self.phase.answered(
+                self.phase.answer_row(
                     self.alloc,
                     &self.options,
                     &mut self.heading,
@@ -192,14 +191,14 @@ impl LineHandler for Session {
 
 /// Answers the rows of a source until it ends: each at once, before more is asked for.
 ///
-/// The first four lines with something on them name the clubs, after the row of a group, where one stands first; then come events and what is
-/// asked for, in any order and without an end. The row of a later edition puts the fresh board in place of the one that stands.
+/// The first four lines with something on them name the clubs; the row of a group may come before them. Then come events and requests, in any
+/// order and without an end. The row of a later edition puts a fresh board in place of the present one.
 ///
 /// # Errors
 ///
-/// If the source fails, the answers before are out. If the sink fails, a first part of the answers is out, and how many bytes. Where
-/// there is no memory for the answer to a line, those before it are out, whole; only a line that names a club, that asks for the screen, an
-/// accepted event which the screen follows, and any line in JSON, ask for memory. Where the clubs have a fault, nothing is out.
+/// If the source fails, the answers before are out. If the sink fails, the error says how many bytes of the answers are out. If there is no
+/// memory for the answer to a line, those before it are out, whole. Memory is needed only for the names of clubs, for screens and matches, and
+/// for each answer in JSON. If the clubs have a fault, nothing is out.
 /// `TooLong` comes after more than 2^62 bytes, which no session has.
 pub fn live_run<S: Source, W: Sink>(
     alloc: Global,

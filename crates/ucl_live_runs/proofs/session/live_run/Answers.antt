@@ -1,40 +1,17 @@
-use Rattle.ucl_live_runs.proofs.Common.{device, err_from_is_err_and, logs-as, seen}
-use Rattle.ucl_live_runs.proofs.LiveRuns.{answered_at, run_complete, run_fails, run_sink, run_text}
+use Rattle.ucl_live_runs.proofs.Common.{err_from_is_err_and}
+use Rattle.ucl_live_runs.proofs.Driven.{ends, fails}
+use Rattle.ucl_live_runs.proofs.LiveRuns.{drives}
 use Rattle.ucl_live_runs.proofs.session.live_run.Goals as goal
 
 pub returns-in_err-serve_lines : goal.returns-in_err-serve_lines
 returns-in_err-serve_lines g c =
-    let serve_lines = c.in_err-serve_lines.ensures in
-    let run = serve_lines.served in
     let p = err_from_is_err_and c.from_residual.result c.from_residual.ensures.1 in
-    let seen_as = device g.S.Source.left g.W.Sink.taken g.W.Sink.failed in
-    let before = seen_as c.args.logged_io.now.source c.args.logged_io.now.sink in
-    let after = seen_as c.serve_lines.new.logged_io.source c.serve_lines.new.logged_io.sink in
-    let at = seen g.S.Source.left g.W.Sink.taken g.W.Sink.failed in
-    rw (p.1, p.2, ← c.new-session.ensures) (record {
-      text = tt;
-      ends = tt;
-      prompt = logs-as _ _ _ _ _ _ _
-          (λ time u. answered_at before c.new-session.result (at time) run.run.turns run.turned u) run.prompt;
-      read_failed = serve_lines.read_failed;
-      sink_ends = run_sink before c.new-session.result after c.serve_lines.new.handler _ c.in_err-serve_lines.field-0.0 run;
-      fails = run_fails before c.new-session.result after c.serve_lines.new.handler _ c.in_err-serve_lines.field-0.0 run;
-    })
+    rw (p.1, p.2, ← c.new-session.ensures)
+    (fails (drives c.new-session.result) g.S.Source g.W.Sink c.args.logged_io.now c.serve_lines.new.logged_io c.serve_lines.new.handler c.in_err-serve_lines.field-0.0
+    c.in_err-serve_lines.ensures.served c.in_err-serve_lines.ensures.read_failed)
 
 pub returns : goal.returns
 returns g c =
-    let serve_lines = c.in_ok-serve_lines.ensures in
-    let run = serve_lines.served in
-    let seen_as = device g.S.Source.left g.W.Sink.taken g.W.Sink.failed in
-    let before = seen_as c.args.logged_io.now.source c.args.logged_io.now.sink in
-    let after = seen_as c.serve_lines.new.logged_io.source c.serve_lines.new.logged_io.sink in
-    let at = seen g.S.Source.left g.W.Sink.taken g.W.Sink.failed in
-    rw (← c.new-session.ensures) (record {
-      text = run_text before c.new-session.result after c.serve_lines.new.handler _ _ run;
-      ends = run_complete before c.new-session.result after c.serve_lines.new.handler _ _ run;
-      prompt = logs-as _ _ _ _ _ _ _
-          (λ time u. answered_at before c.new-session.result (at time) run.run.turns run.turned u) run.prompt;
-      read_failed = serve_lines.read_failed;
-      sink_ends = run.out.1;
-      fails = tt;
-    })
+    rw (← c.new-session.ensures)
+    (ends (drives c.new-session.result) g.S.Source g.W.Sink c.args.logged_io.now c.serve_lines.new.logged_io c.serve_lines.new.handler _
+    c.in_ok-serve_lines.ensures.served c.in_ok-serve_lines.ensures.read_failed)

@@ -1,5 +1,5 @@
 use Rattle.ucl_live_runs.proofs.Common.{err_from_is_err_and, session_of, sym, ◌∙◌}
-use Rattle.ucl_live_runs.proofs.OneByOne.{misses, none-answers, none-missing, some-answers, some-missing, some-stops}
+use Rattle.ucl_live_runs.proofs.Lines.{misses, none-answers, none-missing, some-answers, some-missing, some-stops}
 use Rattle.ucl_rows.proofs.RowEnds.{empty-list, full-list}
 use Rattle.ucl_live_runs.proofs.session.SessionLineHandler.end.Goals as goal
 

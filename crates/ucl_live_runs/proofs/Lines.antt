@@ -1,0 +1,322 @@
+-- The lines of a session, one after the other.
+use Rattle.ucl_live_runs.proofs.Common.{Accepted, AreLinesOfValues, AwaitingClubs, AwaitingHeader, Bad, BoardHeader, Bool, Err, Event, Format, HasNoAnswer}
+use Rattle.ucl_live_runs.proofs.Common.{HasNoEnd, Json, List, LiveArgs, LiveFault, Matches, NamedClub, NewBoard, NightEvent, None, Nothing, Ok, Open, Option, Other}
+use Rattle.ucl_live_runs.proofs.Common.{Phase, Refusal, Refused, Request, Result, Row, Said, Screen, Session, Some, Words, [], after_bytes, again, again_at}
+use Rattle.ucl_live_runs.proofs.Common.{again_on, answer_at, answer_of, answer_on, answer_said, answers_to, ap, append-nil, append_assoc, ap₂, arith, bad_row_value}
+use Rattle.ucl_live_runs.proofs.Common.{begun_again, begun_append, begun_ended, cases_Bool, edition_screen_value, ended_append, false, field_name, fits, game_at}
+use Rattle.ucl_live_runs.proofs.Common.{get_or, inl, inr, last_lines, length, length-append, lines_of, live_text, lt-leb, matches_value, min, missing}
+use Rattle.ucl_live_runs.proofs.Common.{missing_after, missing_at, moved, nat_le, nat_tests, next, next_at, next_board, next_on, refl, reply_answer, reply_of}
+use Rattle.ucl_live_runs.proofs.Common.{reply_value, request_of, said_on, same_Some, screen_after, screen_answer, shown_text, subst, sym, take, take-append-le}
+use Rattle.ucl_live_runs.proofs.Common.{true, version_of, words_value, ℕ, ⊤, ◌++◌, ◌+◌, ◌-◌, ◌<◌, ◌==◌, ◌^◌, ◌∙◌, ◌∷◌, ◌≡◌, ◌≤◌}
+use Rattle.ucl_rows.specs.declared.fault.RunFault.TheVariants.{Input, OutOfMemory}
+use Rattle.ucl_live_runs.specs.declared.live_fault.LiveFault.TheVariants.{Run}
+use Rattle.ucl_live_runs.specs.Phases.{StopsBy, bad_row, fault_row}
+use Rattle.ucl_live_runs.specs.LiveText.{after_lines, answers, missing_now}
+use Rattle.ucl_screen.specs.declared.fault.InputFault.TheVariants.{BadRow}
+use Rattle.ucl_live_runs.specs.SessionRuns.{end_of, phase_seen}
+use Rattle.ucl_live_runs.specs.LiveTheorems.{BeginningsAreAnswered, BoardsBeginAgain, JsonAnswersAreLines, LinesAreReadWhole, ended, uncut_after, uncut_lines}
+use Rattle.ucl_live_runs.specs.declared.phase.Phase.{Phase as Reached}
+use Rattle.std.proofs.lemmas.Bool.{cond_both}
+use Rattle.ucl_json.proofs.OneLine.{line_of_value, lines_then, no_lines}
+use Rattle.std.specs.Prelude.{◌⊎◌}
+use Rattle.ucl_io.specs.Lines.{begun_line, ended_lines, longer}
+use Rattle.ucl_rows.specs.BadRows.{printed}
+use Rattle.ucl_rows.specs.Rows.{row_by_text}
+use Rattle.ucl_live_runs.specs.declared.phase.Phase.TheVariants as reached
+
+-- ==== A session whose board is not open has answered nothing, and one that is refused stays so
+
+abbrev pub is_open : Phase → Bool
+is_open (Open clubs board) = true
+is_open _ = false
+
+-- an open board stays open
+
+open-on : (e : Session) (clubs : List NamedClub) (board : List ℕ) (r : Said) (o : Option NewBoard) → is_open (next_on e clubs board r o).phase ≡ true
+open-on e clubs board r None = refl
+open-on e clubs board r (Some new) = refl
+
+open-at : (e : Session) (s : Phase) (r : Said) → is_open s ≡ true → is_open (next_at e s r).phase ≡ true
+open-at e (Open clubs board) r h = open-on e clubs board r (again_on e.header e.is_new clubs r)
+open-at e s r h = cc
+
+open-next : (e : Session) (r : Said) → is_open e.phase ≡ true → is_open (next e r).phase ≡ true
+open-next e Nothing h = h
+open-next e r h = open-at e e.phase r h
+
+pub stays-open : (e : Session) (lines : List (List ℕ)) → is_open e.phase ≡ true → is_open (after_lines e lines).phase ≡ true
+unfolding after_lines
+stays-open e [] h = h
+stays-open e (line ∷ lines) h = stays-open (next e (said_on e.row line)) lines (open-next e (said_on e.row line) h)
+
+-- a line is answered by an open board alone, that it does not begin again
+module _ (P : Session → List ℕ → Type 0) where
+  pub by-line : (e : Session) (r : Said) (shown : List ℕ) → ((after : Session) → P after [])
+      → ((clubs : List NamedClub) (board : List ℕ) → e.phase ≡ Open clubs board
+      → P (moved e (next_on e clubs board r None)) (answer_of e.options e.header e.row clubs board (request_of r) shown)) → P (next e r) (answer_said e r shown)
+  by-line e Nothing shown silent answered = silent (next e Nothing)
+  by-line e r shown silent answered = at e.phase refl
+    where
+      on : (clubs : List NamedClub) (board : List ℕ) → e.phase ≡ Open clubs board → (o : Option NewBoard) → P (moved e (next_on e clubs board r o)) (answer_on e clubs board r shown o)
+      on clubs board is None = answered clubs board is
+      on clubs board is (Some new) = silent (begun_again e new)
+
+      at : (s : Phase) → e.phase ≡ s → P (moved e (next_at e s r)) (answer_at e s r shown)
+      at (Open clubs board) is = on clubs board is (again_on e.header e.is_new clubs r)
+      at s is = silent (moved e (next_at e s r))
+
+pub shut-lines : (e : Session) (lines : List (List ℕ)) → is_open (after_lines e lines).phase ≡ false → is_open e.phase ≡ false
+shut-lines e lines h = elim (cases_Bool (is_open e.phase)) [ inl y ↦ cc (stays-open e lines y) | inr n ↦ n ]
+
+pub silent : (e : Session) (lines : List (List ℕ)) → is_open (after_lines e lines).phase ≡ false → answers e lines ≡ []
+unfolding answers after_lines
+silent e [] h = refl
+silent e (line ∷ lines) h =
+    let r = said_on e.row line in
+    let a = by-line (λ after text. is_open after.phase ≡ false → text ≡ []) e r (shown_text line) (λ _ _. refl) (λ _ _ _ k. cc) (shut-lines (next e r) lines h) in
+    let b = silent (next e r) lines h in rw (a, b) refl
+
+-- a refused session stays refused
+
+refused-next : (e : Session) (r : Said) (fault : LiveFault) → e.phase ≡ Refused fault → (next e r).phase ≡ Refused fault
+refused-next e Nothing fault h = h
+refused-next e Other fault h = rw h refl
+refused-next e (Row f) fault h = rw h refl
+
+pub stays-refused : (e : Session) (lines : List (List ℕ)) (fault : LiveFault) → e.phase ≡ Refused fault → (after_lines e lines).phase ≡ Refused fault
+unfolding after_lines
+stays-refused e [] fault h = h
+stays-refused e (line ∷ lines) fault h =
+    let r = said_on e.row line in stays-refused (next e r) lines fault (refused-next e r fault h)
+
+pub refused-shut : (s : Phase) (fault : LiveFault) → s ≡ Refused fault → is_open s ≡ false
+refused-shut s fault h = rw h refl
+
+pub refused-missing : (row : ℕ) (s : Phase) (fault : LiveFault) → s ≡ Refused fault → missing row s ≡ Some fault
+refused-missing row s fault h = rw h refl
+
+pub missing-shut : (row : ℕ) (s : Phase) (fault : LiveFault) → missing row s ≡ Some fault → is_open s ≡ false
+missing-shut row (Open clubs board) fault h = cc
+missing-shut _ _ _ _ = refl
+
+-- the same of weaker facts
+pub stops-with : (A B C D : Type 0) → (A → C) → (B → D) → (fault : LiveFault) → StopsBy A B fault → StopsBy C D fault
+stops-with A B C D f g (Run OutOfMemory) h = f h
+stops-with A B C D f g _ h = g h
+
+-- ==== Lines that are answered one after the other
+
+pub answers-append : (e : Session) (a b : List (List ℕ)) → answers e (a ++ b) ≡ answers e a ++ answers (after_lines e a) b
+unfolding answers after_lines
+answers-append e [] b = refl
+answers-append e (line ∷ a) b = rw (answers-append (next e (said_on e.row line)) a b, append_assoc)
+
+pub after-append : (e : Session) (a b : List (List ℕ)) → after_lines e (a ++ b) ≡ after_lines (after_lines e a) b
+unfolding after_lines
+after-append e [] b = refl
+after-append e (line ∷ a) b = after-append (next e (said_on e.row line)) a b
+
+-- ---- a beginning of an input
+
+lines-append : (xs ys : List ℕ) → begun_line 258 [] xs ≡ [] → lines_of (xs ++ ys) ≡ lines_of xs ++ lines_of ys
+lines-append xs ys e =
+    rw (ended_append 258 [] xs ys, begun_append 258 [] xs ys, e)
+    (append_assoc (ended_lines 258 [] xs) (ended_lines 258 [] ys) (last_lines (begun_line 258 [] ys))
+    ∙ ap (λ (l : List (List ℕ)). l ++ lines_of ys) (sym (append-nil (ended_lines 258 [] xs))))
+
+pub text-append : (e : Session) (xs ys : List ℕ) → begun_line 258 [] xs ≡ [] → live_text e (xs ++ ys) ≡ live_text e xs ++ live_text (after_lines e (lines_of xs)) ys
+text-append e xs ys k = ap (answers e) (lines-append xs ys k) ∙ answers-append e (lines_of xs) (lines_of ys)
+
+pub beginnings : BeginningsAreAnswered
+beginnings e bytes more = text-append e (ended bytes) more (begun_ended 258 [] bytes)
+
+-- ---- a whole input
+
+pub whole-text : (e : Session) (bytes : List ℕ) → live_text e bytes ≡ answers_to e bytes ++ answers (after_bytes e bytes) (last_lines (begun_line 258 [] bytes))
+whole-text e bytes = answers-append e (ended_lines 258 [] bytes) (last_lines (begun_line 258 [] bytes))
+
+pub whole-end : (e : Session) (bytes : List ℕ) → after_lines e (lines_of bytes) ≡ end_of (after_bytes e bytes) (begun_line 258 [] bytes)
+whole-end e bytes = after-append e (ended_lines 258 [] bytes) (last_lines (begun_line 258 [] bytes))
+
+pub whole-missing : (e : Session) (bytes : List ℕ) → missing_after e bytes ≡ missing_at (after_bytes e bytes) (begun_line 258 [] bytes)
+whole-missing e bytes = ap missing_now (whole-end e bytes)
+
+-- ---- what has begun of a last line
+
+pub none-answers : (e : Session) (begun : List ℕ) → begun ≡ [] → answers e (last_lines begun) ≡ []
+unfolding answers
+none-answers e begun none = ap (λ (l : List ℕ). answers e (last_lines l)) none
+
+pub none-missing : (e : Session) (begun : List ℕ) → begun ≡ [] → missing_at e begun ≡ missing e.row e.phase
+unfolding after_lines
+none-missing e begun none = ap (λ (l : List ℕ). missing_at e l) none
+
+pub some-answers : (e : Session) (begun : List ℕ) → (begun ≡ [] → ⊥) → answers e (last_lines begun) ≡ answer_said e (said_on e.row begun) (shown_text begun)
+unfolding answers
+some-answers e [] some = absurd (some refl)
+some-answers e (b ∷ line) some = append-nil (answer_said e (said_on e.row (b ∷ line)) (shown_text (b ∷ line)))
+
+some-end : (e : Session) (begun : List ℕ) → (begun ≡ [] → ⊥) → end_of e begun ≡ next e (said_on e.row begun)
+unfolding after_lines
+some-end e [] some = absurd (some refl)
+some-end e (b ∷ line) some = refl
+
+-- a greater row is told as the greatest that can be told
+told-alike : (a b : ℕ) (s : Phase) → fault_row a ≡ fault_row b → missing a s ≡ missing b s
+told-alike a b (Open clubs board) e = refl
+told-alike a b (Refused fault) e = refl
+told-alike _ _ _ e = ap (λ (n : ℕ). Some (Run (Input (BadRow n)))) e
+
+-- the session after the line is this one
+pub some-missing : (e f : Session) (begun : List ℕ) → (begun ≡ [] → ⊥) → f ≡ next e (said_on e.row begun) → missing_at e begun ≡ missing (min (e.row + 1) (2 ^ 64 - 1)) f.phase
+some-missing e f begun some is =
+    ap missing_now (some-end e begun some ∙ sym is) ∙ ap (λ (k : Session). missing k.row f.phase) is
+    ∙ told-alike (e.row + 1) (min (e.row + 1) (2 ^ 64 - 1)) f.phase (omega arith)
+
+pub some-stops : (e : Session) (begun : List ℕ) (fault : LiveFault) → (begun ≡ [] → ⊥) → HasNoAnswer e (said_on e.row begun) fault → HasNoEnd e begun fault
+some-stops e begun fault some h =
+    stops-with _ _ _ _ (λ asks. asks)
+    (λ refused. ap missing_now (some-end e begun some) ∙ refused-missing (e.row + 1) (next e (said_on e.row begun)).phase fault refused) fault h
+
+-- a club that is missing is no lack of memory
+pub misses : (row : ℕ) (s : Reached) (fault : LiveFault) (A B : Type 0) → missing row (phase_seen s) ≡ Some fault → B → StopsBy A B fault
+misses row (reached.Open table) fault A B e b = absurd (cc)
+misses row reached.AwaitingHeader fault A B e b = subst (StopsBy A B) (same_Some (bad_row row) fault e) b
+misses row (reached.AwaitingClubs clubs) fault A B e b = subst (StopsBy A B) (same_Some (bad_row row) fault e) b
+
+-- ---- a board that is begun again
+
+new-at : (e : Session) (s : Phase) (r : Said) (shown : List ℕ) (new : NewBoard) → again_at e s r ≡ Some new → (moved e (next_at e s r) ≡ begun_again e new) × (answer_at e s r shown ≡ [])
+new-at e (Open clubs board) r shown new h = rw h (refl, refl)
+new-at e s r shown new h = cc
+
+pub begun : (e : Session) (r : Said) (shown : List ℕ) (new : NewBoard) → again e r ≡ Some new → (next e r ≡ begun_again e new) × (answer_said e r shown ≡ [])
+begun e Nothing shown new h = absurd (none e.phase h)
+  where
+    none : (s : Phase) → again_at e s Nothing ≡ Some new → ⊥
+    none (Open clubs board) h = cc
+    none s h = cc
+begun e r shown new h = new-at e e.phase r shown new h
+
+pub begins-again : BoardsBeginAgain
+unfolding answers after_lines
+begins-again e line lines new is =
+    let b = begun e (said_on e.row line) (shown_text line) new is in
+    record { text = ap₂ (λ (text : List ℕ) (k : Session). text ++ answers k lines) b.1 b.0; after = ap (λ (k : Session). after_lines k lines) b.0 }
+
+-- ==== In JSON a session answers by lines of values
+
+screen-line : (format : Format) (header : BoardHeader) (row : ℕ) (clubs : List NamedClub) (board : List ℕ) → format ≡ Json → AreLinesOfValues (screen_answer format header row clubs board)
+screen-line format header row clubs board h = rw h (line_of_value (edition_screen_value row header board clubs))
+
+after-line : (options : LiveArgs) (header : BoardHeader) (row : ℕ) (clubs : List NamedClub) (reply : Result Accepted Refusal) (board : List ℕ)
+    → options.format ≡ Json → AreLinesOfValues (screen_after options header row clubs reply board)
+after-line options header row clubs (Ok accepted) board h =
+    cond_both options.screens (screen_answer options.format header row clubs board) [] AreLinesOfValues
+    (λ _. screen-line options.format header row clubs board h) (λ _. no_lines)
+after-line options header row clubs (Err refusal) board h = no_lines
+
+reply-lines : (format : Format) (header : BoardHeader) (row : ℕ) (clubs : List NamedClub) (event : NightEvent) (before : ℕ) (reply : Result Accepted Refusal) (board : List ℕ) → format ≡ Json
+    → AreLinesOfValues (reply_answer format header row clubs event before reply board)
+reply-lines format header row clubs event before reply board h = rw h (line_of_value (reply_value row event reply header board clubs))
+
+request-lines : (options : LiveArgs) (header : BoardHeader) (row : ℕ) (clubs : List NamedClub) (board : List ℕ) (request : Request) (shown : List ℕ) → options.format ≡ Json
+    → AreLinesOfValues (answer_of options header row clubs board request shown)
+request-lines options header row clubs board (Event event) shown h =
+    let reply = reply_of (game_at board event.call.game) event.call in
+    let after = next_board board (Event event) in
+    lines_then (reply_answer options.format header row clubs event (version_of board) reply after) (screen_after options header row clubs reply after)
+    (reply-lines options.format header row clubs event (version_of board) reply after h) (after-line options header row clubs reply after h)
+request-lines options header row clubs board (Bad field) shown h = rw h (line_of_value (bad_row_value row (field_name field) shown))
+request-lines options header row clubs board Screen shown h = screen-line options.format header row clubs board h
+request-lines options header row clubs board Words shown h = rw h (line_of_value (words_value row board))
+request-lines options header row clubs board Matches shown h = rw h (line_of_value (matches_value row board clubs))
+
+pub json-lines : JsonAnswersAreLines
+unfolding answers
+json-lines e [] h = no_lines
+json-lines e (line ∷ lines) h =
+    let said = said_on e.row line in
+    let shown = shown_text line in
+    let one = by-line (λ _ text. AreLinesOfValues text) e said shown (λ _. no_lines)
+    (λ clubs board _. request-lines e.options e.header e.row clubs board (request_of said) shown h) in
+    lines_then (answer_said e said shown) (answers (next e said) lines) one (json-lines (next e said) lines h)
+
+-- ==== The lines as they are read, and as they came
+
+-- a line and what was kept of it: the same, or both too long, and shown in the same way
+abbrev Alike : List ℕ → List ℕ → Type 0
+Alike line whole = (line ≡ whole) ⊎ ((258 ≤ length line) × (258 ≤ length whole) × (take 64 line ≡ take 64 whole))
+
+longer-by : (line : List ℕ) (b : ℕ) → length (line ++ b ∷ []) ≡ length line + 1
+longer-by line b = length-append line (b ∷ [])
+
+more-taken : (line : List ℕ) (b : ℕ) → 64 ≤ length line → take 64 line ≡ take 64 (line ++ b ∷ [])
+more-taken line b h = sym (take-append-le 64 line (b ∷ []) h)
+
+one-more : (line whole : List ℕ) (b : ℕ) → Alike line whole → Alike (longer 258 line b) (whole ++ b ∷ [])
+one-more line whole b (inl e) = elim (cases_Bool (nat_le 258 (length line))) [
+  | inl full ↦ rw full (let h : 258 ≤ length line = grind (arith, nat_tests) in
+      let k : length line ≡ length whole = ap length e in
+      let m = longer-by whole b in inr (h, omega (arith, h, k, m), ap (take 64) e ∙ more-taken whole b (omega (arith, h, k))))
+  | inr less ↦ rw less (inl (ap (λ (l : List ℕ). l ++ b ∷ []) e))
+]
+one-more line whole b (inr (p, q, t)) = elim (cases_Bool (nat_le 258 (length line))) [
+  | inl full ↦ rw full (let m = longer-by whole b in inr (p, omega (arith, q, m), t ∙ more-taken whole b (omega (arith, q))))
+  | inr less ↦ absurd (grind (arith, nat_tests))
+]
+
+-- a line that is too long
+
+no-room : (text : List ℕ) → 258 < length text → fits text ≡ false
+no-room text h = elim (cases_Bool (get_or text (length text - 2) 0 == 13)) [
+  | inl y ↦ rw y (lt-leb (length text) 258 h)
+  | inr n ↦ rw n (lt-leb (length text) 257 (omega (arith, h)))
+]
+
+too-long : (row : ℕ) (line : List ℕ) → 258 ≤ length line → said_on row line ≡ Other
+unfolding row_by_text
+too-long row line h = rw (no-room (line ++ 10 ∷ []) (let m = longer-by line 10 in omega (arith, h, m))) refl
+
+same-said : (row : ℕ) (line whole : List ℕ) → Alike line whole → said_on row line ≡ said_on row whole
+same-said row line whole (inl e) = rw e refl
+same-said row line whole (inr (p, q, t)) = rw (too-long row line p, too-long row whole q) refl
+
+same-shown : (line whole : List ℕ) → Alike line whole → shown_text line ≡ shown_text whole
+same-shown line whole (inl e) = ap shown_text e
+same-shown line whole (inr (p, q, t)) = ap printed t
+
+-- line by line
+
+abbrev AllAlike : List (List ℕ) → List (List ℕ) → Type 0
+AllAlike [] [] = ⊤
+AllAlike [] (whole ∷ wholes) = ⊥
+AllAlike (line ∷ lines) [] = ⊥
+AllAlike (line ∷ lines) (whole ∷ wholes) = Alike line whole × AllAlike lines wholes
+
+last-alike : (line whole : List ℕ) → Alike line whole → AllAlike (last_lines line) (last_lines whole)
+last-alike [] [] h = tt
+last-alike (b ∷ line) (c ∷ whole) h = (h, tt)
+last-alike [] (c ∷ whole) (inl e) = cc
+last-alike [] (c ∷ whole) (inr (p, q, t)) = absurd (omega (arith, p))
+last-alike (b ∷ line) [] (inl e) = cc
+last-alike (b ∷ line) [] (inr (p, q, t)) = absurd (omega (arith, q))
+
+lines-alike : (line whole bytes : List ℕ) → Alike line whole → AllAlike (ended_lines 258 line bytes ++ last_lines (begun_line 258 line bytes)) (uncut_after whole bytes)
+unfolding ended_lines begun_line uncut_after
+lines-alike line whole [] h = last-alike line whole h
+lines-alike line whole (b ∷ bytes) h = elim (cases_Bool (b == 10)) [
+  | inl y ↦ rw y (h, lines-alike [] [] bytes (inl refl))
+  | inr n ↦ rw n (lines-alike (longer 258 line b) (whole ++ b ∷ []) bytes (one-more line whole b h))
+]
+
+same-lines : (e : Session) (lines wholes : List (List ℕ)) → AllAlike lines wholes → (answers e lines ≡ answers e wholes) × (after_lines e lines ≡ after_lines e wholes)
+unfolding answers after_lines
+same-lines e [] [] h = (refl, refl)
+same-lines e (line ∷ lines) (whole ∷ wholes) h =
+    let more = same-lines (next e (said_on e.row whole)) lines wholes h.1 in
+    rw (same-said e.row line whole h.0, same-shown line whole h.0) (ap (λ (l : List ℕ). answer_said e (said_on e.row whole) (shown_text whole) ++ l) more.0, more.1)
+same-lines _ _ _ h = absurd h
+
+pub read-whole : LinesAreReadWhole
+read-whole e bytes = let same = same-lines e (lines_of bytes) (uncut_lines bytes) (lines-alike [] [] bytes (inl refl)) in record { text = same.0; after = same.1 }

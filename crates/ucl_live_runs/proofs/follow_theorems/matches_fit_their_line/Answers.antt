@@ -1,5 +1,0 @@
-use Rattle.ucl_live_runs.proofs.Matches.{matches-fit}
-use Rattle.ucl_live_runs.proofs.follow_theorems.matches_fit_their_line.Goals as goal
-
-pub returns : goal.returns
-returns c = matches-fit
