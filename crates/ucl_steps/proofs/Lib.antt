@@ -17,5 +17,4 @@ pub mod LogHistory
 pub mod LogTurns
 pub mod LogSeats
 pub mod LogFacts
-pub mod LogProgress
 pub mod LogRuns

@@ -2,7 +2,7 @@
 
 ghost use Rattle.ucl_steps.specs.Theorems.{RunsAreLinearizable, WordsAreOfTheHistory, UncleanTriesSeeMore, UncleanTriesAreFew, ReadingsAreSnapshots, ReportsAreSequential};
 ghost use Rattle.ucl_steps.specs.LogHistory.{LogsAreLinearizable};
-ghost use Rattle.ucl_steps.specs.LogFacts.{LogsHaveFacts, CallsFinish};
+ghost use Rattle.ucl_steps.specs.LogFacts.{LogsHaveFacts};
 ghost use Rattle.ucl_steps.specs.LogRuns.{LogsAreRuns, LongerLogsAreLongerRuns};
 
 /// Whatever steps the callers take, in whatever order, and wherever the list is cut: one legal history of the board of
@@ -58,11 +58,6 @@ pub fn logs_are_linearizable()
 /// a number are those that its pass added.
 pub fn logs_have_facts()
     ensures { LogsHaveFacts }
-{}
-
-/// While passes take steps, calls finish: of further steps by which no call is finished each pass takes 35 on match words at most.
-pub fn calls_finish()
-    ensures { CallsFinish }
 {}
 
 /// Every log that follows the protocol is a run of the machine: each of its steps on a match word is one step of the machine, by a caller of

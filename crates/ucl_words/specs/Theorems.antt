@@ -1,6 +1,5 @@
 -- What holds of all exchanges of match words, and of every running board.
-use Rattle.std.specs.Prelude.{◌≡◌, ◌<◌, ◌≤◌, ◌*◌, ◌++◌, ℕ, List, ◌∷◌, [], map, length}
-use Rattle.std.specs.List.{sum_by}
+use Rattle.std.specs.Prelude.{◌≡◌, ◌<◌, ℕ, List, ◌∷◌, [], map, length}
 use mathlib.Core.List.{IsPrefix}
 use mathlib.Core.Option.{some}
 use lib.ListN.{get_elem?}
@@ -9,10 +8,8 @@ use Rattle.ucl_word.specs.Counts.{GainsOne}
 use Rattle.ucl_board.specs.declared.entry.Entry.{Entry}
 use Rattle.ucl_board.specs.Words.{word_at}
 use Rattle.ucl_board.specs.History.{board_of, IsLegal}
-use Rattle.ucl_steps.specs.WordLog.{SeatStep, WordLog, taken_at, enlisted_by}
-use Rattle.ucl_steps.specs.ClientState.{client_of}
+use Rattle.ucl_steps.specs.WordLog.{enlisted_by}
 use Rattle.ucl_steps.specs.LogHistory.{IsLinearizableLog}
-use Rattle.ucl_steps.specs.LogFacts.{matches_in, max_between}
 use Rattle.ucl_steps.specs.LogRuns.{LeadsToLog}
 use Rattle.ucl_live_board.specs.Numbers.{IsGivenAfter}
 use Rattle.ucl_live_board.specs.OneHistory.{BoardInvariant}
@@ -50,21 +47,6 @@ BoardsAreLinearizable = (s : State Entry WordView) (r : TableInvariant s) → Bo
 abbrev pub LaterBoardsExtend : Type 0
 LaterBoardsExtend =
     (s t : State Entry WordView) (r : TableInvariant s) (q : TableInvariant t) → LaterState s t → IsPrefix r.log q.log
-
--- how many calls passes have finished
-abbrev pub calls_finished : List WordView → ℕ
-calls_finished views = sum_by (λ (v : WordView). length (client_of v.own).calls) views
-
--- each pass took few of the steps on match words, and so all passes did
-pub record PassStepsAreBounded (views : List WordView) (since : WordLog) : Type 0 where
-  pub each : (seat : ℕ) → matches_in (taken_at seat since) ≤ max_between
-  pub all : matches_in (map (λ (x : SeatStep). x.step) since) ≤ length views * max_between
-
--- while passes take steps, calls finish: between two moments at which as many calls were finished, passes took few steps
-abbrev pub SomeCallFinishes : Type 0
-SomeCallFinishes =
-    (s t : State Entry WordView) (r : TableInvariant s) (q : TableInvariant t) (since : WordLog) → q.log ≡ r.log ++ since
-    → calls_finished t.views ≡ calls_finished s.views → PassStepsAreBounded t.views since
 
 -- the number that a reader was given is above all that had been given when it had none
 abbrev pub NumbersRiseInTime : Type 0

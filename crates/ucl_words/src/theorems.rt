@@ -1,6 +1,6 @@
 //! What holds of all exchanges of match words, and of every running board. The functions do nothing: each is there for its contract.
 
-ghost use Rattle.ucl_words.specs.Theorems.{WordsTellTheEntry, BoardsAreLinearizable, LaterBoardsExtend, SomeCallFinishes, NumbersRiseInTime};
+ghost use Rattle.ucl_words.specs.Theorems.{WordsTellTheEntry, BoardsAreLinearizable, LaterBoardsExtend, NumbersRiseInTime};
 ghost use Rattle.ucl_words.specs.LaterState.{PassExtends, StepIsMonotone, SplitIsMonotone, JoinIsMonotone, FindsEnlisted};
 ghost use Rattle.ucl_words.specs.declared.view.WordView.{WordView};
 ghost use Rattle.ucl_words.specs.WordSteps.{LogsOneStep};
@@ -52,12 +52,6 @@ pub fn steps_are_monotone<K: Asking>()
 /// The log of a later state begins with that of the earlier one, whichever steps of whichever passes came between.
 pub fn later_boards_extend()
     ensures { LaterBoardsExtend }
-{}
-
-/// While passes take steps, calls finish: between two states of which the later one has as many finished calls, each pass has taken 35
-/// steps on match words at most, and all passes 35 times as many as there are. It says nothing of which pass finishes a call.
-pub fn some_call_finishes()
-    ensures { SomeCallFinishes }
 {}
 
 /// The number that a reader is given is above all that had been given at any earlier moment at which it had none: so of two enlistments
