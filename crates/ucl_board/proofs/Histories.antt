@@ -1,6 +1,6 @@
 -- The entries of a match and the words of the board after one entry more.
-use Rattle.std.proofs.Common.{◌≡◌, ◌≢◌, ℕ, ◌+◌, ◌-◌, ◌<◌, Bool, cond, ◌==◌, List, [], ◌∷◌, ◌++◌, length, map, filter, get_or, set, replicate, Option, Some, None, Ok}
-use Rattle.std.proofs.Common.{Err, refl, sym, ap, ◌∙◌, subst, arith, append-nil, eq-eqb, ne_eqb}
+use Rattle.std.proofs.Common.{◌≡◌, ◌≢◌, ℕ, ◌+◌, ◌-◌, ◌<◌, Bool, cond, ◌==◌, List, [], ◌∷◌, ◌++◌, length, map, filter, get_or, set, replicate, Option, Some}
+use Rattle.std.proofs.Common.{None, Ok, Err, refl, sym, ap, ◌∙◌, subst, arith, append-nil, eq-eqb, ne_eqb}
 use Rattle.std.proofs.lemmas.List.{map-append, get_or-map, get_or-set_same, get_or-set_other, length-set, get_or_default}
 use Rattle.std.proofs.lemmas.List.Elements.{filter-append}
 use Rattle.std.proofs.lemmas.Grind.{same_number_lists}
@@ -95,10 +95,6 @@ board_next h e game = let long = board_length h in
     (λ not. word_after (followed_by h e) g is
     ∙ (ap (λ (es : List MatchEntry). word_of (counted_match es)) (entries_else h e g not)
     ∙ (sym (word_after h g is) ∙ sym (get_or-set_other (board_of h) (e.game - 1) (g - 1) _ 0 (λ eq. not (omega arith)))))))
-
--- the same by the word that is there after it
-pub board_with : (h : List Entry) (e : Entry) (next : ℕ) → IsMatch e.game → next ≡ word_at (board_of (followed_by h e)) e.game → set (board_of h) (e.game - 1) next ≡ board_of (followed_by h e)
-board_with h e next game is = ap (set (board_of h) (e.game - 1)) (is ∙ word_after (followed_by h e) e.game game) ∙ sym (board_next h e game)
 
 -- the board and the history after an accepted event
 pub next_board : (h : List Entry) (words : List ℕ) (game reporter : ℕ) (kind : Kind) (m : MatchRecord) → IsLegal h → board_of h ≡ words → IsMatch game

@@ -18,7 +18,6 @@ mod live_words;
 mod passes;
 pub mod rule;
 mod theorems;
-mod view;
 
 pub use board::WordBoard;
 pub use passes::{WordReaderPass, WordReporterPass};
@@ -26,4 +25,4 @@ pub use theorems::{
     boards_are_linearizable, each_step_is_logged, later_boards_extend, numbers_are_there,
     numbers_rise_in_time, steps_are_monotone, words_tell_the_entry,
 };
-pub use view::WordView;
+pub use ucl_live_board::View;

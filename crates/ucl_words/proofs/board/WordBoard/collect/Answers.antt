@@ -1,4 +1,4 @@
-use Rattle.ucl_words.proofs.Common.{◌+◌, ◌∙◌, arith, length-set, known}
+use Rattle.ucl_words.proofs.Common.{◌+◌, ◌∙◌, arith, length-set}
 use Rattle.ucl_board.specs.Log.{First}
 use Rattle.ucl_words.proofs.InvariantIsKept.{firsts}
 use Rattle.ucl_words.proofs.CollectFacts.{collected_none, collected_set}
@@ -31,7 +31,7 @@ loop-i-preserved c =
       same = c.load.ensures.0 ∙ was.same;
       place = c.load.ensures.1 ∙ was.place;
       long = length-set words i n ∙ was.long;
-      collected = collected_set First (known v) (known x) (known w) words i n (omega arith) was.collected loads was.long shown;
+      collected = collected_set First v x w words i n (omega arith) was.collected loads was.long shown;
       does = first_on v x words i (omega arith) was.long c.requires.next step.0 n w step.1 was.does;
     }
 
