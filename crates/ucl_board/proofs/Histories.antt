@@ -47,8 +47,7 @@ or_else P k p n other = dite (ℕ_discrete n k) (λ is. subst P (sym is) p) othe
 
 -- what holds of matches 1 to 12 holds of each match
 pub each_match : (P : ℕ → Type 0) → P 1 → P 2 → P 3 → P 4 → P 5 → P 6 → P 7 → P 8 → P 9 → P 10 → P 11 → P 12 → (n : ℕ) → IsMatch n → P n
-each_match P a b c d e f g h i j k l n is =
-    or_else P 1 a n (λ not_1. or_else P 2 b n
+each_match P a b c d e f g h i j k l n is = or_else P 1 a n (λ not_1. or_else P 2 b n
     (λ not_2. or_else P 3 c n (λ not_3. or_else P 4 d n
     (λ not_4. or_else P 5 e n (λ not_5. or_else P 6 f n
     (λ not_6. or_else P 7 g n (λ not_7. or_else P 8 h n
@@ -92,8 +91,7 @@ board_next h e game = let long = board_length h in
     (λ g is. dite (ℕ_discrete e.game g)
     (λ same. subst (λ (g : ℕ). word_at (board_of (followed_by h e)) g ≡ word_at (set (board_of h) (e.game - 1) (word_of (match_after (followed_by h e) e.game))) g) same
     (word_after (followed_by h e) e.game game ∙ sym (get_or-set_same (board_of h) (e.game - 1) _ 0 (omega arith))))
-    (λ not. word_after (followed_by h e) g is
-    ∙ (ap (λ (es : List MatchEntry). word_of (counted_match es)) (entries_else h e g not)
+    (λ not. word_after (followed_by h e) g is ∙ (ap (λ (es : List MatchEntry). word_of (counted_match es)) (entries_else h e g not)
     ∙ (sym (word_after h g is) ∙ sym (get_or-set_other (board_of h) (e.game - 1) (g - 1) _ 0 (λ eq. not (omega arith)))))))
 
 -- the board and the history after an accepted event

@@ -215,8 +215,7 @@ attempts_counted attempts all =
     record { legal = end.0; board = end.1; version = ap version_of end.1 ∙ (versions (accepted_of attempts) end.0).0 }
 
 made_alike : (e f : Entry) → e.game ≡ f.game → e.reporter ≡ f.reporter → e.kind ≡ f.kind → e ≡ f
-made_alike e f game reporter kind =
-    ap (λ (g : ℕ). record { game = g; reporter = e.reporter; kind = e.kind }) game
+made_alike e f game reporter kind = ap (λ (g : ℕ). record { game = g; reporter = e.reporter; kind = e.kind }) game
     ∙ (ap (λ (r : ℕ). record { game = f.game; reporter = r; kind = e.kind }) reporter
     ∙ ap (λ (k : Kind). record { game = f.game; reporter = f.reporter; kind = k }) kind)
 

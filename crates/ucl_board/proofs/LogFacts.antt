@@ -89,8 +89,7 @@ module _ (log : Log) (r : LogFacts log) (x : Logged) where
           ∙ (ap (λ (l : List Entry). entries_by (number k) (history_of log) ++ l)
           (sym (other_entries (history_of log) (number x.seat) (number k) x.step.entry may (λ pos is. not (r.apart x.seat k pos is))))
           ∙ sym (entries_append (number k) (history_of log) (entry_list x.step.entry)))))
-          seat
-          ∙ (λ i. entries_by (sym same i) (sym (history_more log x) i))
+          seat ∙ (λ i. entries_by (sym same i) (sym (history_more log x) i))
 
   -- an enlistment
   facts_more : (found : ℕ) → x.step.target ≡ Enlists found → found ≡ enlisted_by log → found < 255 → number_of (taken_by x.seat log) ≡ 0 → x.step.entry ≡ None → LogFacts (log ++ x ∷ [])

@@ -63,8 +63,7 @@ module _ (views : List View) (seat : ℕ) (v : View) (here : get_elem? views sea
   apart_kept w same = apart_set views seat w (lone_by w (λ t over. subst (λ (s : Share). Overlap s t) same over)) apart
 
   apart_split : ApartShares (set views seat (left_pass v) ++ second_pass v ∷ [])
-  apart_split =
-      apart_last (set views seat (left_pass v)) (second_pass v)
+  apart_split = apart_last (set views seat (left_pass v)) (second_pass v)
       (λ j u at over. elim (at_set views seat j (left_pass v) u at) [
         | inl t ↦ halves_apart v.share (subst (λ (z : View). Overlap (second_pass v).share z.share) (sym t.1) over)
         | inr t ↦ lone_by (second_pass v) (half_overlaps true v.share) j u t.0 t.1 over

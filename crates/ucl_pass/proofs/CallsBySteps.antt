@@ -148,8 +148,7 @@ module _ (board same : TableId) (own : same ≡ board) (v w u : View) (x : List 
 
     -- or is won, by a report that the rules accept
     pub accepted_report : (call : EventCall) (reply : Accepted) → Exchanges (StoresEvent call) u x next r z → is_ok r ≡ true
-        → Replies call x (Ok reply)
-        → CellReported (record { board = board; view = v }) call (Ok reply) (record { board = same; view = z })
+        → Replies call x (Ok reply) → CellReported (record { board = board; view = v }) call (Ok reply) (record { board = same; view = z })
     accepted_report call reply exchanged ok said =
         let e : Entry = entry_of (number_of v.own) call in
         let stored : CellStep (Whole false) (Some e) u x next z =

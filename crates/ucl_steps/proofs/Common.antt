@@ -50,4 +50,3 @@ pub use Rattle.ucl_word.specs.declared.record.MatchRecord.{MatchRecord}
 pub use Rattle.ucl_word.specs.declared.refusal.Refusal.{Refusal}
 pub use Rattle.ucl_word.specs.declared.refusal.Refusal.TheVariants.{Stale}
 pub use mathlib.Core.List.{IsPrefix}
-pub use mathlib.Core.Option.{some}

@@ -140,8 +140,7 @@ module _ (steps : List Step) (w : MachineState) (kept : Keeps steps w) where
       search (arith, cases_lt i (length loaded), long, before i, get_or_append_left, le_refl now, word_at_place i, get_or_push)
 
   first_kept : (c : Caller) (k : ℕ) (loaded : List ℕ) (holds : held_by w.callers c ≡ Some (Within k (Collecting loaded))) (b : Bool)
-      → (length (loaded ++ slice_index w.words (length loaded) ∷ []) == 12) ≡ b
-      → Keeps (steps ++ First c ∷ []) (with_held
+      → (length (loaded ++ slice_index w.words (length loaded) ∷ []) == 12) ≡ b → Keeps (steps ++ First c ∷ []) (with_held
       (Within k (cond b (Checking (loaded ++ slice_index w.words (length loaded) ∷ []) 0 now) (Collecting (loaded ++ slice_index w.words (length loaded) ∷ [])))) c w)
   first_kept c k loaded holds b is =
       let m = kept.knows c (Within k (Collecting loaded)) k holds refl in

@@ -11,7 +11,6 @@ use Rattle.ucl_board.proofs.LogFacts.{log_facts}
 use Rattle.ucl_steps.proofs.LogHistory.{by_seat, holds_all, enlist_none}
 use Rattle.ucl_steps.specs.ClientState.{ClientState, FollowsProtocol, IsNextFor, IsNextOfProtocol, with_outcome, with_target, with_step, client_at, client_of}
 use Rattle.ucl_steps.specs.ClientState.{FinishedCall, call_answered, entry_by, new_client, outcome}
-use Rattle.ucl_steps.specs.Theorems.{LogsHaveFacts}
 
 -- the number of a pass is the one that its steps gave it
 
@@ -77,7 +76,7 @@ legal_steps log = may_induction MayBeTaken (λ l. FollowsProtocol l → HasLegal
     }))
     log
 
-pub logs_facts : LogsHaveFacts
+pub logs_facts : (log : Log) → IsLog log → FollowsProtocol log → LogFacts log
 logs_facts log is follows = log_facts log is (legal_steps log is follows)
 
 -- finished calls are of numbers that their pass had, which only rise

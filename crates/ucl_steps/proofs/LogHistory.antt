@@ -29,8 +29,7 @@ pub client_other : (log : Log) (x : Logged) (seat : ℕ) → x.seat ≢ seat →
 client_other log x seat not = ap client_of (taken_other seat log x not)
 
 pub by_seat : (log : Log) (x : Logged) (P : ℕ → ClientState → Type 0) (d : ClientState) → with_step (client_at x.seat log) x.step ≡ d → P x.seat d
-    → ((seat : ℕ) → x.seat ≢ seat → P seat (client_at seat log))
-    → (seat : ℕ) → P seat (client_at seat (log ++ x ∷ []))
+    → ((seat : ℕ) → x.seat ≢ seat → P seat (client_at seat log)) → (seat : ℕ) → P seat (client_at seat (log ++ x ∷ []))
 by_seat log x P d is own other seat = elim (cases_eq x.seat seat) [
   | inl same ↦ subst (λ (k : ℕ). P k (client_at k (log ++ x ∷ []))) same (subst (P x.seat) (sym (client_own log x ∙ is)) own)
   | inr not ↦ subst (P seat) (sym (client_other log x seat not)) (other seat not)
@@ -38,12 +37,9 @@ by_seat log x P d is own other seat = elim (cases_eq x.seat seat) [
 
 -- how many entries there were
 
-split_take : (n : ℕ) (log : Log) → take n log ++ Rattle.std.proofs.Common.drop n log ≡ log
-split_take n log = Rattle.std.proofs.lemmas.List.take-append-drop n log
-
 pub entries_low : (log : Log) (place : ℕ) → entries_before log place ≤ length (history_of log)
 entries_low log place =
-    let e = ap (λ (l : Log). length (history_of l)) (sym (split_take place log))
+    let e = ap (λ (l : Log). length (history_of l)) (sym (Rattle.std.proofs.lemmas.List.take-append-drop place log))
     ∙ (ap length (history_append (take place log) (Rattle.std.proofs.Common.drop place log))
     ∙ length-append (history_of (take place log)) (history_of (Rattle.std.proofs.Common.drop place log))) in
     omega arith
@@ -364,8 +360,7 @@ module _ (log : Log) (r : HoldsOf log) (seat place at : ℕ) (entry : Option Ent
             ++ record { number = d.number; call = Event e; reply = Refused refusal; first = first; last = place; point = at } ∷ [];
         held = NoCall;
         first = then;
-      }
-      → entry ≡ None → refusal_of (match_after (history_of log) e.game) e.expected e.kind ≡ Some refusal → HoldsOf (log ++ x target ∷ [])
+      } → entry ≡ None → refusal_of (match_after (history_of log) e.game) e.expected e.kind ≡ Some refusal → HoldsOf (log ++ x target ∷ [])
   refused target h e refusal first then is low does none refuses =
       let c : FinishedCall = record { number = d.number; call = Event e; reply = Refused refusal; first = first; last = place; point = at } in
       let before = entries_low log first in
@@ -387,8 +382,7 @@ module _ (log : Log) (r : HoldsOf log) (seat place at : ℕ) (entry : Option Ent
     found_there = there ∙ ap (λ (g : ℕ). word_of (match_after (history_of log) g)) of
 
     look_by : (o : Option Refusal) → refusal_of (record_at found) e.expected e.kind ≡ o → HoldsOf (log ++ x (Match (Look e) game found) ∷ [])
-    look_by (Some refusal) is =
-        refused (Match (Look e) game found) NoCall e refusal place d.first nothing (omega arith)
+    look_by (Some refusal) is = refused (Match (Look e) game found) NoCall e refusal place d.first nothing (omega arith)
         (ap (λ (o : Option Refusal). with_outcome (by_rules d.number e found o) (x (Match (Look e) game found)).step (d_at NoCall)) is) none
         (ap (λ (m : MatchRecord). refusal_of m e.expected e.kind) (sym (record_now e.game found found_there)) ∙ is)
     look_by None is =
@@ -474,8 +468,7 @@ module _ (log : Log) (r : HoldsOf log) (seat place at : ℕ) (entry : Option Ent
         let before = entries_low log d.first in
         let whole : take at h ≡ h = ap (λ (k : ℕ). take k h) at_is ∙ take-length h in
         let history : history_of (log ++ y ∷ []) ≡ h ++ made ∷ [] = history_more log y ∙ ap (λ (z : Option Entry). h ++ entry_list z) is in
-        let answer : c.reply ≡ sequential_answer (take at h) (Event e) =
-        ap (λ (k : ℕ). Accepted (record { number = k })) new_number
+        let answer : c.reply ≡ sequential_answer (take at h) (Event e) = ap (λ (k : ℕ). Accepted (record { number = k })) new_number
         ∙ sym (ap (λ (z : List Entry). sequential_answer z (Event e)) whole
         ∙ ap (λ (z : Option Refusal). Rattle.ucl_steps.specs.Protocol.report_reply (Rattle.ucl_word.specs.Rules.answer (match_after h g).number z)) accepted) in
         let all = entries_all (log ++ y ∷ []) in
@@ -614,8 +607,7 @@ module _ (log : Log) (r : HoldsOf log) (seat place at : ℕ) (entry : Option Ent
         let long : length h ≡ point = Rattle.std.proofs.lemmas.List.length-take-le point (history_of log) o.late in
         let version : version_of words ≡ length h = ap version_of board ∙ (versions h (legal_take (history_of log) point r.legal)).0 in
         let c : FinishedCall = record { number = d.number; call = Reading; reply = Copied (reading_of words); first = d.first; last = place; point = point } in
-        let answer : c.reply ≡ sequential_answer h Reading =
-        (λ i. Copied (record { board = board i; version = version i }))
+        let answer : c.reply ≡ sequential_answer h Reading = (λ i. Copied (record { board = board i; version = version i }))
         ∙ ap (λ (z : List Entry). Copied (record { board = board_of z; version = length h })) (sym (take-length h)) in
         finish (Match Second game found) (Checking words checked point) c d.first holds (ap (λ (b : Bool). compared_by b (checked == 11)) is
         ∙ ap (compared_by true) is_last)
@@ -627,8 +619,7 @@ module _ (log : Log) (r : HoldsOf log) (seat place at : ℕ) (entry : Option Ent
   no_match game is zero_is = let l = is.0 in omega arith
 
   swap_by : (h : Pending) (game found : ℕ) → d.held ≡ h → IsMatch game → found ≡ word_of (match_after (history_of log) game) → game ≡ next_game Swap h
-      → entry ≡ entry_by d.number h (Match Swap game found)
-      → HoldsOf (log ++ x (Match Swap game found) ∷ [])
+      → entry ≡ entry_by d.number h (Match Swap game found) → HoldsOf (log ++ x (Match Swap game found) ∷ [])
   swap_by (Holding e old new) game found is m there next made = by_bool (found == old) refl
     where
       by_bool : (b : Bool) → (found == old) ≡ b → HoldsOf (log ++ x (Match Swap game found) ∷ [])
@@ -656,8 +647,7 @@ module _ (log : Log) (r : HoldsOf log) (seat place at : ℕ) (entry : Option Ent
   -- a step on no match word
   same_client : (target : Target) (h : Pending) → d.held ≡ h
       → with_target target (x target).step (d_at h) ≡ record { number = d.number; calls = d.calls; held = h; first = first_place h d.first place }
-      → entry ≡ None
-      → HoldsOf (log ++ x target ∷ [])
+      → entry ≡ None → HoldsOf (log ++ x target ∷ [])
   same_client target h is does none = stays_at target h h (first_place h d.first place) is does none (seen h (sees_at h is))
     where
       seen : (h : Pending) → Sees log d.number d.first h → Sees (log ++ x target ∷ []) d.number (first_place h d.first place) h

@@ -36,8 +36,7 @@ steps_append before (x ∷ xs) ys =
 
 steps_more : (log : Log) (x : Logged) → machine_steps (log ++ x ∷ []) ≡ machine_steps log ++ steps_on x.seat (client_at x.seat log).number
     (client_at x.seat log).held x.step.target x.step.at
-steps_more log x = steps_append [] log (x ∷ [])
-    ∙ ap (λ (l : List Step). machine_steps log ++ l)
+steps_more log x = steps_append [] log (x ∷ []) ∙ ap (λ (l : List Step). machine_steps log ++ l)
     (append-nil (steps_on x.seat (client_at x.seat log).number (client_at x.seat log).held x.step.target x.step.at))
 
 pub longer_logs : LongerLogsAreLongerRuns
@@ -69,8 +68,7 @@ record Leaves (c : Caller) (w : MachineState) (steps : List Step) (o : Outcome) 
 
 -- from the step on a match word on, where v is the board after it
 leaves_by : (c : Caller) (w v : MachineState) (s : Step) (k point : ℕ) (x : CallerState) (o : Outcome) → held_by w.callers c ≡ Some x → v.callers ≡ w.callers
-    → after_step w s ≡ Some (after_outcome c k point o v)
-    → Leaves c w (s ∷ ends_by o c) o v.history
+    → after_step w s ≡ Some (after_outcome c k point o v) → Leaves c w (s ∷ ends_by o c) o v.history
 leaves_by c w v s k point x (GoesOn held) holds same one =
     let here = ap (λ cs. held_by cs c) same ∙ holds in
     let last = with_held (Within k held) c v in
@@ -99,8 +97,7 @@ leaves_by c w v s k point x (Answers reply) holds same one =
 
 -- where a call begins
 leaves_begun : (c : Caller) (call : Call) (w : MachineState) (steps : List Step) (o : Outcome) (history : List Entry) → held_by w.callers c ≡ Some Idle
-    → rules.may_begin c call ≡ true
-    → Leaves c (after_begin c call w) steps o history → Leaves c w (machine.Begin c call ∷ steps) o history
+    → rules.may_begin c call ≡ true → Leaves c (after_begin c call w) steps o history → Leaves c w (machine.Begin c call ∷ steps) o history
 leaves_begun c call w steps o history idle may l =
     let v = after_begin c call w in
     let one : after_step w (machine.Begin c call) ≡ Some v =
@@ -228,22 +225,19 @@ holds_else seat number NoCall w w' same f = λ c of. same c of ∙ f c of
 holds_else seat number (Holding e old new) w w' same u = record {
   of = u.of;
   place = u.place;
-  holds = same _ u.of
-      ∙ u.holds;
+  holds = same _ u.of ∙ u.holds;
   others = λ c of not. same c of ∙ u.others c of not;
 }
 holds_else seat number (Collecting words) w w' same u = record {
   of = u.of;
   place = u.place;
   holds = same _ u.of ∙ u.holds;
-  others = λ c of not. same c of
-      ∙ u.others c of not;
+  others = λ c of not. same c of ∙ u.others c of not;
 }
 holds_else seat number (Checking words checked point) w w' same u = record {
   of = u.of;
   place = u.place;
-  holds = same _ u.of
-      ∙ u.holds;
+  holds = same _ u.of ∙ u.holds;
   others = λ c of not. same c of ∙ u.others c of not;
 }
 
@@ -389,8 +383,7 @@ module _ (readers : ℕ) (log : Log) (r : Leads readers log) (facts : LogFacts l
 
     -- what is held, and what came of the step
     turn : (h : Pending) → (client_at seat log).held ≡ h → IsOf seat number (caller_at seat number act) → (entries : List Entry) → entry_list entry ≡ entries
-        → Given h entries
-        → ((e : Caller) → IsOf seat number e → e ≢ caller_at seat number act → held_by r.state.callers e ≡ Some Idle)
+        → Given h entries → ((e : Caller) → IsOf seat number e → e ≢ caller_at seat number act → held_by r.state.callers e ≡ Some Idle)
         → Stays seat number (caller_at seat number act) (outcome number h (Match act game found) at)
         → Leads readers (log ++ placed seat (Match act game found) place at entry ∷ [])
     turn h is_held of entries made l idle stays =
@@ -403,8 +396,7 @@ module _ (readers : ℕ) (log : Log) (r : Leads readers log) (facts : LogFacts l
   holds_now h is = subst (HoldsAs r.state seat number) is (r.each seat seated)
 
   leads_look : (e : EventCall) (game found : ℕ) → IsMatch game → found ≡ word_of (match_after (history_of log) game) → held ≡ NoCall → game ≡ e.game
-      → IsReporter number → entry ≡ None
-      → Leads readers (log ++ placed seat (Match (Look e) game found) place at entry ∷ [])
+      → IsReporter number → entry ≡ None → Leads readers (log ++ placed seat (Match (Look e) game found) place at entry ∷ [])
   leads_look e game found is there nothing of reporter none =
       let idle = holds_now NoCall nothing in
       turn (Look e) game found is there NoCall nothing (inr (refl, reporter)) [] (ap entry_list none)
@@ -413,8 +405,7 @@ module _ (readers : ℕ) (log : Log) (r : Leads readers log) (facts : LogFacts l
       (λ c mine not. idle c mine) (look_stays seat number e found (refusal_of (record_at found) e.expected e.kind))
 
   leads_swap : (h : Pending) → held ≡ h → (game found : ℕ) → IsMatch game → found ≡ word_of (match_after (history_of log) game) → game ≡ next_game Swap h
-      → entry ≡ entry_by number h (Match Swap game found)
-      → Leads readers (log ++ placed seat (Match Swap game found) place at entry ∷ [])
+      → entry ≡ entry_by number h (Match Swap game found) → Leads readers (log ++ placed seat (Match Swap game found) place at entry ∷ [])
   leads_swap (Holding e old new) is_held game found is there next made =
       let u = holds_now (Holding e old new) is_held in
       turn Swap game found is there (Holding e old new) is_held u.of (entry_list (cond (found == old) (Some (entry_of number e)) None)) (ap entry_list made)
@@ -423,8 +414,7 @@ module _ (readers : ℕ) (log : Log) (r : Leads readers log) (facts : LogFacts l
   leads_swap h is_held game found is there next made = absurd (let low = is.0 in omega arith)
 
   leads_first : (h : Pending) → held ≡ h → (game found : ℕ) → IsMatch game → found ≡ word_of (match_after (history_of log) game) → game ≡ next_game First h
-      → entry ≡ None
-      → Leads readers (log ++ placed seat (Match First game found) place at entry ∷ [])
+      → entry ≡ None → Leads readers (log ++ placed seat (Match First game found) place at entry ∷ [])
   leads_first NoCall is_held game found is there next none =
       let idle = holds_now NoCall is_held in
       turn First game found is there NoCall is_held (inl refl) [] (ap entry_list none)
@@ -439,8 +429,7 @@ module _ (readers : ℕ) (log : Log) (r : Leads readers log) (facts : LogFacts l
   leads_first h is_held game found is there next none = absurd (let low = is.0 in omega arith)
 
   leads_second : (h : Pending) → held ≡ h → (game found : ℕ) → IsMatch game → found ≡ word_of (match_after (history_of log) game) → game ≡ next_game Second h
-      → entry ≡ None
-      → Leads readers (log ++ placed seat (Match Second game found) place at entry ∷ [])
+      → entry ≡ None → Leads readers (log ++ placed seat (Match Second game found) place at entry ∷ [])
   leads_second (Checking ws checked point) is_held game found is there next none =
       let u = holds_now (Checking ws checked point) is_held in
       turn Second game found is there (Checking ws checked point) is_held u.of [] (ap entry_list none)

@@ -39,9 +39,7 @@ checking words checked point is = cc
 first_after : (n : ℕ) (d : ClientState) (h : Pending) → d.held ≡ h → InTurn n d → (k : ℕ) (a : FinishedCall) → slice_get d.calls k ≡ Some a
     → a.last < first_place h d.first n
 first_after n d NoCall is t k a at = t.past k a at
-first_after n d (Holding e old new) is t k a at = t.under k a at (λ none. holding e old new (sym is ∙ none))
-first_after n d (Collecting words) is t k a at = t.under k a at (λ none. collecting words (sym is ∙ none))
-first_after n d (Checking words checked point) is t k a at = t.under k a at (λ none. checking words checked point (sym is ∙ none))
+first_after n d h is t k a at = t.under k a at (λ none. cc)
 
 turns_outcome : (n : ℕ) (d : ClientState) (y : Taken) (o : Outcome) → y.place ≡ n → InTurn n d → InTurn (n + 1) (with_outcome o y d)
 turns_outcome n d y (GoesOn k) place t = record {

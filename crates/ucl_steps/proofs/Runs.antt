@@ -1,11 +1,11 @@
 -- Every run keeps what every step keeps, and so its history explains its calls.
 use Rattle.ucl_board.proofs.Histories.{board_none}
-use Rattle.ucl_steps.proofs.Common.{MayFollow, may_none, ◌≡◌, ℕ, suc, ◌<◌, ◌≤◌, false, List, ◌∷◌, ◌++◌, map, Option, Some, ◌⊎◌, inl, inr, refl, sym, ap}
-use Rattle.ucl_steps.proofs.Common.{◌∙◌, subst, arith, append_assoc, append-nil, get_or, [], ◌↔◌, All, slice_get, IfSome, IsSome, replicate, option_map}
-use Rattle.ucl_steps.proofs.Common.{none-some, same_Some, slice_get-map, slice_get-get_or, option_and_then_some, cases_lt, Entry, board_of, Cast, Caller, Call}
-use Rattle.ucl_steps.proofs.Common.{Step, CallRecord, Reply, CallerState, Idle, MachineState, initial_state, held_by, caller_of, after_step, after_steps}
-use Rattle.ucl_steps.proofs.Common.{EndsAt, EndedBySteps, PointWithinCall, AcceptedIsEntry, is_accepted, RefusedAtPoint, ReadingIsSnapshot, Precedes}
-use Rattle.ucl_steps.proofs.Common.{caller_and_call, RealTimeOrder, version_read, VersionsRise, IsLinearizable, RunsAreLinearizable, WordsAreOfTheHistory}
+use Rattle.ucl_steps.proofs.Common.{MayFollow, may_none, ◌≡◌, ℕ, suc, ◌<◌, ◌≤◌, false, List, ◌∷◌, ◌++◌, map, Option, Some, ◌⊎◌, inl, inr, refl, sym, ap, ◌∙◌}
+use Rattle.ucl_steps.proofs.Common.{subst, arith, append_assoc, append-nil, get_or, [], ◌↔◌, All, slice_get, IfSome, IsSome, replicate, option_map, none-some}
+use Rattle.ucl_steps.proofs.Common.{same_Some, slice_get-map, slice_get-get_or, option_and_then_some, cases_lt, Entry, board_of, Cast, Caller, Call, Step}
+use Rattle.ucl_steps.proofs.Common.{CallRecord, Reply, CallerState, Idle, MachineState, initial_state, held_by, caller_of, after_step, after_steps, EndsAt}
+use Rattle.ucl_steps.proofs.Common.{EndedBySteps, PointWithinCall, AcceptedIsEntry, is_accepted, RefusedAtPoint, ReadingIsSnapshot, Precedes, caller_and_call}
+use Rattle.ucl_steps.proofs.Common.{RealTimeOrder, version_read, VersionsRise, IsLinearizable, RunsAreLinearizable, WordsAreOfTheHistory}
 use Rattle.ucl_steps.proofs.Lists.{if_some}
 use Rattle.ucl_steps.specs.declared.trace.Trace.{Trace}
 use Rattle.ucl_steps.specs.Traces.{IsLeftBy}
@@ -29,8 +29,7 @@ kept_at_start cast = search (arith, may_none MayFollow, board_none, none-some, t
 
 pub run_kept : (steps done : List Step) (w w' : MachineState) → Keeps done w → after_steps steps w ≡ Some w' → Keeps (done ++ steps) w'
 run_kept [] done w w' kept e = subst (λ (z : List Step). Keeps z w') (sym (append-nil done)) (subst (Keeps done) (same_Some w w' e) kept)
-run_kept (s ∷ steps) done w w' kept e =
-    option_and_then_some (after_steps steps) (after_step w s) w' e (λ v is then.
+run_kept (s ∷ steps) done w w' kept e = option_and_then_some (after_steps steps) (after_step w s) w' e (λ v is then.
     subst (λ (z : List Step). Keeps z w') (append_assoc done (s ∷ []) steps)
     (run_kept steps (done ++ s ∷ []) v w' (step_kept done w kept s (held_by w.callers (caller_of s)) v refl is) then))
 

@@ -11,8 +11,7 @@ use Rattle.ucl_steps.specs.declared.step.Cast.{Cast}
 use Rattle.ucl_steps.specs.declared.step.Step.{Step}
 use Rattle.ucl_steps.specs.Machine.{MachineState, initial_state, after_steps}
 use Rattle.ucl_steps.specs.Linearizable.{IsLinearizable}
-use Rattle.ucl_board.specs.Log.{Access, Log, IsLog, LogFacts}
-use Rattle.ucl_steps.specs.ClientState.{FollowsProtocol}
+use Rattle.ucl_board.specs.Log.{Access}
 use Rattle.ucl_steps.specs.Trails.{Follows, ReportAccesses, decided_at, max_tries, max_loads, IsUnclean, accesses_of, ReadingAccesses}
 
 -- for every list of steps of any reporters and readers, cut anywhere, its history explains every call
@@ -47,7 +46,3 @@ ReadingsAreSnapshots = (history : List Entry) (low high : ℕ) (reading : Readin
 abbrev pub ReportsAreSequential : Type 0
 ReportsAreSequential = (history : List Entry) (low high now : ℕ) (call : EventCall) (reply : Result Accepted Refusal) (ms : List Access) → IsLegal history → Follows history low ms high → ReportAccesses call reply ms now
     → sequential_reply (take (decided_at reply now) history) call ≡ reply
-
--- each log that follows the protocol has such numbers and entries
-abbrev pub LogsHaveFacts : Type 0
-LogsHaveFacts = (log : Log) → IsLog log → FollowsProtocol log → LogFacts log

@@ -1,8 +1,8 @@
 //! What holds of every list of steps. The functions do nothing: each is there for its contract.
 
-ghost use Rattle.ucl_board.specs.Log.{IsLegalRule};
-ghost use Rattle.ucl_steps.specs.ClientState.{IsNextOfProtocol};
-ghost use Rattle.ucl_steps.specs.Theorems.{RunsAreLinearizable, WordsAreOfTheHistory, UncleanTriesSeeMore, UncleanTriesAreFew, ReadingsAreSnapshots, ReportsAreSequential, LogsHaveFacts};
+ghost use Rattle.ucl_board.specs.Log.{Log, IsLog, IsLegalRule, LogFacts};
+ghost use Rattle.ucl_steps.specs.ClientState.{FollowsProtocol, IsNextOfProtocol};
+ghost use Rattle.ucl_steps.specs.Theorems.{RunsAreLinearizable, WordsAreOfTheHistory, UncleanTriesSeeMore, UncleanTriesAreFew, ReadingsAreSnapshots, ReportsAreSequential};
 ghost use Rattle.ucl_steps.specs.LogHistory.{LogsAreLinearizable};
 ghost use Rattle.ucl_steps.specs.LogRuns.{LogsAreRuns, LongerLogsAreLongerRuns};
 
@@ -58,7 +58,7 @@ pub fn logs_are_linearizable()
 /// The numbers that a log gave are those from 1 to the number of the enlisted, which is at most 255, each to one pass; and the entries of
 /// a number are those that its pass added. Each step of such a log is a legal one.
 pub fn logs_have_facts()
-    ensures facts { LogsHaveFacts }
+    ensures facts { (log : Log) → IsLog log → FollowsProtocol log → LogFacts log }
     ensures legal { IsLegalRule IsNextOfProtocol }
 {}
 

@@ -17,11 +17,11 @@ use Rattle.ucl_live_board.specs.CallSteps.{CountsReporters}
 use Rattle.ucl_live_board.proofs.Alone.{seat_there}
 use Rattle.ucl_live_board.proofs.Halves.{acts_some}
 use Rattle.ucl_live_board.proofs.InvariantIsKept.{place_below}
-use Rattle.ucl_live_board.proofs.StepFacts.{since, own_is}
+use Rattle.ucl_live_board.proofs.StepFacts.{Sees, since, own_is}
 use Rattle.ucl_words.specs.LaterState.{PassExtends, SplitIsMonotone, JoinIsMonotone, FindsEnlisted}
 use Rattle.ucl_words.specs.Theorems.{BoardsAreLinearizable, LaterBoardsExtend, NumbersRiseInTime}
 use Rattle.ucl_words.specs.WordSteps.{EnlistedStep, EnlistStep}
-use Rattle.ucl_words.proofs.StepFacts.{LoadsEnlisted, loads_enlisted, enlist_won}
+use Rattle.ucl_words.proofs.StepFacts.{loads_enlisted, enlist_won}
 use Rattle.ucl_words.proofs.InvariantIsKept.{Position, count_there}
 
 pub boards_linearizable : BoardsAreLinearizable
@@ -127,8 +127,8 @@ numbers_rise s t r q later seat v w here none there some_number =
 
 -- what steps on the enlist word find
 
-counts_reporters : (k n : ℕ) (v w : View) → n ≡ k → LoadsEnlisted v n w → CountsReporters k v w
-counts_reporters k n v w is l = subst (λ (j : ℕ). CountsReporters j v w) is (record { step = _; takes = l.sees.takes; found_is = (inl refl, refl) })
+counts_reporters : (k n : ℕ) (v w : View) → n ≡ k → Sees (Enlisted n) v w → CountsReporters k v w
+counts_reporters k n v w is l = subst (λ (j : ℕ). CountsReporters j v w) is (record { step = _; takes = l.takes; found_is = (inl refl, refl) })
 
 pub counts_find : (place : ℕ) → FindsEnlisted (EnlistedStep place)
 counts_find place s r st m m' l =

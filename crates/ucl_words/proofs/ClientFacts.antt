@@ -1,11 +1,10 @@
 -- What the steps of a call leave as done and as held.
 use Rattle.ucl_words.proofs.Common.{◌≡◌, ◌≢◌, ◌⊎◌, inl, inr, ℕ, zero, suc, ◌+◌, ◌<◌, ◌≤◌, ◌==◌, Bool, true, cond, List, ◌∷◌, ◌++◌, take, length, set, Some}
 use Rattle.ucl_words.proofs.Common.{None, refl, sym, ap, ◌∙◌, subst, arith, [], eq-eqb, ne_eqb, slice_index, length-take-le, take-length, append-nil, EventCall}
-use Rattle.ucl_words.proofs.Common.{Refusal, Stale, refusal_of, after, record_at, word_of, reading_of, version_of, Call, Reply, Pending, NoCall, Holding}
-use Rattle.ucl_words.proofs.Common.{Collecting, Checking, Outcome, GoesOn, by_rules, collected, View, Target, AccessKind, ClientState, FinishedCall, client_of}
-use Rattle.ucl_words.proofs.Common.{client_at, outcome, with_outcome, call_answered, first_place, next_game, entry_by, versions_by, version_in, Steps}
-use Rattle.ucl_words.proofs.Common.{IsAnswered, CompletesCall, StaysIn, Finishes, MayCollect, IsBegun, words_after, IsNextOfProtocol, history_of, number_of}
-use Rattle.ucl_words.proofs.Common.{versions_shown, DoneAsBefore}
+use Rattle.ucl_words.proofs.Common.{Refusal, Stale, refusal_of, after, record_at, word_of, reading_of, Call, Reply, Pending, NoCall, Holding, Collecting}
+use Rattle.ucl_words.proofs.Common.{Checking, Outcome, GoesOn, by_rules, collected, View, Target, AccessKind, ClientState, FinishedCall, client_of, client_at}
+use Rattle.ucl_words.proofs.Common.{outcome, with_outcome, call_answered, first_place, next_game, entry_by, version_in, Steps, IsAnswered, CompletesCall}
+use Rattle.ucl_words.proofs.Common.{StaysIn, Finishes, MayCollect, IsBegun, words_after, IsNextOfProtocol, history_of, number_of, versions_shown, DoneAsBefore}
 use Rattle.ucl_steps.specs.declared.step.Call.TheVariants as calls
 use Rattle.ucl_steps.specs.declared.trace.Reply.TheVariants as replies
 use Rattle.ucl_steps.specs.Protocol as protocol
@@ -13,7 +12,9 @@ use Rattle.ucl_steps.specs.ClientState.{call_asked}
 use Rattle.ucl_board.specs.Log.{Match, Look, Swap, First, Second, Enlisted, Enlists}
 use Rattle.ucl_steps.proofs.LogHistory.{look_none, first_none, second_none}
 use Rattle.ucl_steps.proofs.LogTurns.{collecting, checking}
-use Rattle.ucl_words.proofs.StepFacts.{LoadsMatch, Loads, ExchangeWon, ExchangeMissed, client_is, shows_answer, loads_match, exchange_won, count_stays}
+use Rattle.std.specs.List.{flat_map}
+use Rattle.std.proofs.lemmas.List.Concat.{flat_map-append}
+use Rattle.ucl_words.proofs.StepFacts.{LoadsMatch, ExchangeWon, ExchangeMissed, client_is, shown_of, loads_match, exchange_won, count_stays}
 use Rattle.ucl_steps.proofs.LogFacts.{legal_steps, client_number}
 use Rattle.ucl_live_board.proofs.StepFacts.{first_later, log_long, at_is}
 
@@ -43,9 +44,6 @@ module _ (seat game n : ℕ) (kind : AccessKind) (v w : View) (s : Steps seat (M
     goes_calls : (client_of w.own).calls ≡ (client_of v.own).calls
     goes_calls = ap (λ (z : ClientState). z.calls) (done (GoesOn held) comes)
 
-    goes_shown : versions_by (client_of w.own) ≡ versions_by (client_of v.own)
-    goes_shown = ap versions_by (done (GoesOn held) comes)
-
     goes_first : (client_of w.own).first ≡ first_place (client_of v.own).held (client_of v.own).first s.step.place
     goes_first = ap (λ (z : ClientState). z.first) (done (GoesOn held) comes)
 
@@ -71,8 +69,19 @@ module _ (seat game n : ℕ) (kind : AccessKind) (v w : View) (s : Steps seat (M
       held = ap (λ (z : ClientState). z.held) (done (protocol.Answers reply) comes);
     }
 
-    pub answer_shown : versions_by (client_of w.own) ≡ versions_by (client_of v.own) ++ version_in reply
-    answer_shown = ap versions_by (done (protocol.Answers reply) comes) ∙ shows_answer (client_of v.own) s.step reply
+-- what a pass has shown, by the calls that it has finished
+
+pub done_shown : (v w : View) → (client_of w.own).calls ≡ (client_of v.own).calls → number_of w.own ≡ number_of v.own → versions_shown w.own ≡ versions_shown v.own
+done_shown v w calls same = λ i. flat_map (shown_of ((client_number w.own ∙ (same ∙ sym (client_number v.own))) i)) (calls i)
+
+pub answered_shown : (v w : View) (call : Call) (reply : Reply) → IsAnswered v call reply w → number_of w.own ≡ number_of v.own
+    → versions_shown w.own ≡ versions_shown v.own ++ version_in reply
+answered_shown v w call reply a same =
+    let d = client_of v.own in
+    (λ i. flat_map (shown_of ((client_number w.own ∙ (same ∙ sym (client_number v.own))) i)) (a.calls i))
+    ∙ (flat_map-append (shown_of d.number) d.calls (a.last ∷ []) ∙ ap (λ (l : List ℕ). versions_shown v.own ++ l)
+    (append-nil (shown_of d.number a.last) ∙ ((λ i. cond (a.asked.2 i == d.number) (version_in (a.asked.1 i)) [])
+    ∙ ap (λ (b : Bool). cond b (version_in reply) []) (eq-eqb d.number d.number refl))))
 
 -- steps of one call, one after another
 
@@ -114,15 +123,12 @@ module _ (seat n : ℕ) (e : EventCall) (v w : View) (s : Steps seat (Match (Loo
   look_adds = s.next.entry ∙ (ap (entry_by (client_at seat s.before).number (client_at seat s.before).held) s.of
       ∙ look_none (client_at seat s.before).held (client_at seat s.before).number e.game n e)
 
-  pub look_loads : versions_by (client_of w.own) ≡ versions_by (client_of v.own) → Loads (Look e) e.game v n w
-  look_loads shown = record { loads = loads_match seat e.game n (Look e) v w s look_adds; shown = shown }
+  pub look_loads : LoadsMatch (Look e) e.game v n w
+  look_loads = loads_match seat e.game n (Look e) v w s look_adds
 
   module _ (refusal : Refusal) (refused : refusal_of (record_at n) e.expected e.kind ≡ Some refusal) where
     look_comes : outcome (client_of v.own).number (client_of v.own).held (Match (Look e) e.game n) s.step.at ≡ protocol.Answers (replies.Refused refusal)
     look_comes = ap (by_rules (client_of v.own).number e n) refused
-
-    pub look_refused : Loads (Look e) e.game v n w
-    look_refused = look_loads (answer_shown seat e.game n (Look e) v w s (replies.Refused refusal) look_comes ∙ append-nil (versions_by (client_of v.own)))
 
     pub look_answers : CompletesCall v (calls.Event e) (replies.Refused refusal) w
     look_answers =
@@ -137,9 +143,6 @@ module _ (seat n : ℕ) (e : EventCall) (v w : View) (s : Steps seat (Match (Loo
 
     pub look_holds : StaysIn v (Holding e n (word_of (after (record_at n) (client_of v.own).number e.kind))) w
     look_holds = goes_on seat e.game n (Look e) v w s (Holding e n (word_of (after (record_at n) (client_of v.own).number e.kind))) look_goes
-
-    pub look_accepted : Loads (Look e) e.game v n w
-    look_accepted = look_loads (goes_shown seat e.game n (Look e) v w s (Holding e n (word_of (after (record_at n) (client_of v.own).number e.kind))) look_goes)
 
 -- the exchange
 
@@ -163,28 +166,16 @@ module _ (seat game n old new : ℕ) (e : EventCall) (v w : View) (s : Steps sea
       first = ap (λ (h : Pending). first_place h (client_of v.own).first s.step.place) held;
     }
 
-    swap_shown : versions_by (client_of w.own) ≡ versions_by (client_of v.own) ++ version_in (reply_by b)
-    swap_shown = answer_shown seat game n Swap v w s (reply_by b) comes_as
-
   pub swap_missed : n ≢ old → ExchangeMissed e.game v n w
   swap_missed other =
       let none : s.step.entry ≡ None = s.next.entry ∙ ((λ i. entry_by (client_of (sym s.own i)).number (client_of (sym s.own i)).held (s.of i))
       ∙ (ap (λ (h : Pending). entry_by (client_of v.own).number h (Match Swap game n)) held
       ∙ ap (λ (b : Bool). cond b (Some (Rattle.ucl_board.specs.History.entry_of (client_of v.own).number e)) None) (ne_eqb n old other))) in
-      subst (λ (g : ℕ). ExchangeMissed g v n w) of
-      (record {
-        loads = loads_match seat game n Swap v w s none;
-        shown = swap_shown (n == old) refl
-            ∙ (ap (λ (b : Bool). versions_by (client_of v.own) ++ version_in (reply_by b)) (ne_eqb n old other)
-            ∙ append-nil (versions_by (client_of v.own)));
-      })
+      subst (λ (g : ℕ). ExchangeMissed g v n w) of (loads_match seat game n Swap v w s none)
 
   pub swap_won : n ≡ old → ExchangeWon (Rattle.ucl_board.specs.History.entry_of (number_of v.own) e) v n w
-  swap_won same =
-      let shown = swap_shown (n == old) refl
-      ∙ (ap (λ (b : Bool). versions_by (client_of v.own) ++ version_in (reply_by b)) (eq-eqb n old same) ∙ append-nil (versions_by (client_of v.own))) in
-      subst (λ (k : ℕ). ExchangeWon (Rattle.ucl_board.specs.History.entry_of (number_of v.own) e) v k w) (sym same)
-      (exchange_won seat game old new e v w (subst (λ (k : ℕ). Steps seat (Match Swap game k) v w) same s) held of shown)
+  swap_won same = subst (λ (k : ℕ). ExchangeWon (Rattle.ucl_board.specs.History.entry_of (number_of v.own) e) v k w) (sym same)
+      (exchange_won seat game old new e v w (subst (λ (k : ℕ). Steps seat (Match Swap game k) v w) same s) held of)
 
 -- a first collect
 
@@ -207,8 +198,7 @@ module _ (v x : View) (words : List ℕ) (i : ℕ) (less : i < 12) (long : lengt
   first_begins : (h : Pending) → MayCollect h → 1 ≡ next_game First h
   first_begins NoCall m = refl
   first_begins (Collecting ws) m = ap (λ (l : List ℕ). length l + 1) (sym m)
-  first_begins (Holding e old new) m = absurd m
-  first_begins (Checking ws checked point) m = absurd m
+  first_begins h m = absurd m
 
   pub first_next : Firsts v words i x → i + 1 ≡ next_game First (client_of x.own).held
   first_next (inl t) = ap (λ (k : ℕ). k + 1) t.0 ∙ (first_begins (client_of v.own).held may ∙ ap (λ (z : View). next_game First (client_of z.own).held) (sym t.1))
@@ -245,8 +235,7 @@ module _ (v x : View) (words : List ℕ) (i : ℕ) (less : i < 12) (long : lengt
     may_be : (h : Pending) → MayCollect h → (h ≡ NoCall) ⊎ (h ≡ Collecting [])
     may_be NoCall m = inl refl
     may_be (Collecting ws) m = inr (ap Collecting m)
-    may_be (Holding e old new) m = absurd m
-    may_be (Checking ws checked point) m = absurd m
+    may_be h m = absurd m
 
     comes : Firsts v words i x → outcome (client_of x.own).number (client_of x.own).held (Match First (i + 1) n) s.step.at ≡ GoesOn more
     comes (inl t) = first_comes (client_of x.own).held refl
@@ -256,9 +245,6 @@ module _ (v x : View) (words : List ℕ) (i : ℕ) (less : i < 12) (long : lengt
           t.0,
         ))
     comes (inr t) = first_comes (client_of x.own).held refl (inr (t.1.held_is ∙ collecting_still (length (history_of x.log))))
-
-    pub first_shown : Firsts v words i x → versions_shown w.own ≡ versions_shown x.own
-    first_shown so_far = goes_shown seat (i + 1) n First x w s more (comes so_far)
 
     pub first_loads : LoadsMatch First (i + 1) x n w
     first_loads = loads_match seat (i + 1) n First x w s first_adds
@@ -323,9 +309,6 @@ module _ (v x w : View) (words : List ℕ) (point i seat n : ℕ) (so_far : Seco
         number = ap (λ (z : ClientState). z.number) (done seat (i + 1) n Second x w s (GoesOn (Checking words (i + 1) point)) on_comes) ∙ so_far.number;
       }
 
-      pub second_shown : versions_shown w.own ≡ versions_shown x.own
-      second_shown = goes_shown seat (i + 1) n Second x w s (Checking words (i + 1) point) on_comes
-
     module _ (eleven : i ≡ 11) where
       all_comes : outcome (client_of x.own).number (client_of x.own).held (Match Second (i + 1) n) s.step.at ≡ protocol.Answers (replies.Copied (reading_of words))
       all_comes = same_comes ∙ ap (compared_by true) (eq-eqb i 11 eleven)
@@ -345,9 +328,6 @@ module _ (v x w : View) (words : List ℕ) (point i seat n : ℕ) (so_far : Seco
             first = first_kept a.last.first refl;
           }
 
-      pub last_shown : versions_shown w.own ≡ versions_shown x.own ++ version_of words ∷ []
-      last_shown = answer_shown seat (i + 1) n Second x w s (replies.Copied (reading_of words)) all_comes
-
   module _ (other : n ≢ slice_index words i) where
     anew_comes : outcome (client_of x.own).number (client_of x.own).held (Match Second (i + 1) n) s.step.at ≡ GoesOn (Collecting [])
     anew_comes = second_comes ∙ ap (λ (b : Bool). compared_by b (i == 11)) (ne_eqb n (slice_index words i) other)
@@ -359,9 +339,6 @@ module _ (v x w : View) (words : List ℕ) (point i seat n : ℕ) (so_far : Seco
       begun = subst (λ (h : Pending). IsBegun h (length v.log) (client_of v.own).first (client_of w.own).first) (sym was)
           (first_kept (client_of w.own).first (goes_first seat (i + 1) n Second x w s (Collecting []) anew_comes));
     }
-
-    pub other_shown : versions_shown w.own ≡ versions_shown x.own
-    other_shown = goes_shown seat (i + 1) n Second x w s (Collecting []) anew_comes
 
 -- tries of a reading
 

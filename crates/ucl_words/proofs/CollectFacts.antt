@@ -20,11 +20,10 @@ pub record Collected (kind : AccessKind) (v : View) (words : List ℕ) (count : 
   pub many : length accesses ≡ count
   pub words_are : IsCollect kind words accesses
   pub last : (m : Access) → slice_get accesses 11 ≡ Some m → m.at ≡ length (history_of w.log)
-  pub shown : versions_shown w.own ≡ versions_shown v.own
 
 pub collected_none : (kind : AccessKind) (v : View) (words : List ℕ) → IsConsistent v → Collected kind v words 0 v
 collected_none kind v words consistent = record
-    { accesses = []; walks = walks_none v consistent; many = refl; words_are = collect_none kind words; last = λ m e. absurd (none-some m e); shown = refl }
+    { accesses = []; walks = walks_none v consistent; many = refl; words_are = collect_none kind words; last = λ m e. absurd (none-some m e) }
 
 -- one load more
 module _ (kind : AccessKind) (v x w : View) (words : List ℕ) (i n : ℕ) (below : i < 12) (was : Collected kind v words i x) (loads : LoadsMatch kind (i + 1) x n w) where
@@ -38,8 +37,8 @@ module _ (kind : AccessKind) (v x w : View) (words : List ℕ) (i n : ℕ) (belo
   more_last m e = search (arith, at_either)
 
   -- the word of the match after the new load
-  pub collected_more : (now : List ℕ) → IsCollect kind now was.accesses → n ≡ slice_index now i → versions_shown w.own ≡ versions_shown x.own → Collected kind v now (i + 1) w
-  collected_more now again is silent =
+  pub collected_more : (now : List ℕ) → IsCollect kind now was.accesses → n ≡ slice_index now i → Collected kind v now (i + 1) w
+  collected_more now again is =
       let many = was.many in
       record {
         accesses = was.accesses ++ new_access ∷ [];
@@ -47,24 +46,23 @@ module _ (kind : AccessKind) (v x w : View) (words : List ℕ) (i n : ℕ) (belo
         many = omega (arith, length-append was.accesses (new_access ∷ []));
         words_are = collect_more kind now was.accesses new_access again (refl, ap (λ (k : ℕ). k + 1) (sym many)) (is ∙ ap (slice_index now) (sym many));
         last = more_last;
-        shown = silent ∙ was.shown;
       }
 
   -- which is put among the words
-  pub collected_set : length words ≡ 12 → versions_shown w.own ≡ versions_shown x.own → Collected kind v (set words i n) (i + 1) w
-  collected_set long silent =
-      collected_more (set words i n) (collect_set kind words was.accesses i n (omega arith) was.words_are) (sym (get_or-set_same words i n 0 (omega arith))) silent
+  pub collected_set : length words ≡ 12 → Collected kind v (set words i n) (i + 1) w
+  collected_set long =
+      collected_more (set words i n) (collect_set kind words was.accesses i n (omega arith) was.words_are) (sym (get_or-set_same words i n 0 (omega arith)))
 
   -- or is compared with them
-  pub collected_same : n ≡ slice_index words i → versions_shown w.own ≡ versions_shown x.own → Collected kind v words (i + 1) w
-  collected_same is silent = collected_more words was.words_are is silent
+  pub collected_same : n ≡ slice_index words i → Collected kind v words (i + 1) w
+  collected_same is = collected_more words was.words_are is
 
-  pub collected_other : n ≢ slice_index words i → kind ≡ Second → versions_shown w.own ≡ versions_shown x.own → FindsAnother v words w
-  collected_other other is silent = search (arith, more_walks)
+  pub collected_other : n ≢ slice_index words i → kind ≡ Second → FindsAnother v words w
+  collected_other other is = search (arith, more_walks)
 
   -- with the twelfth
-  pub finds_again : n ≡ slice_index words i → i ≡ 11 → kind ≡ Second → versions_shown w.own ≡ versions_shown x.own ++ version_of words ∷ [] → FindsAgain v words w
-  finds_again same eleven is shows =
+  pub finds_again : n ≡ slice_index words i → i ≡ 11 → kind ≡ Second → FindsAgain v words w
+  finds_again same eleven is =
       let many = was.many in
       record {
         accesses = was.accesses ++ new_access ∷ [];
@@ -72,7 +70,6 @@ module _ (kind : AccessKind) (v x w : View) (words : List ℕ) (i n : ℕ) (belo
         twelve = omega (arith, length-append was.accesses (new_access ∷ []));
         again = subst (λ (a : AccessKind). IsCollect a words (was.accesses ++ new_access ∷ [])) is
             (collect_more kind words was.accesses new_access was.words_are (refl, ap (λ (k : ℕ). k + 1) (sym many)) (same ∙ ap (slice_index words) (sym many)));
-        shown = shows ∙ ap (λ (l : List ℕ). l ++ version_of words ∷ []) was.shown;
       }
 
 -- tries, none of them clean
@@ -80,10 +77,9 @@ pub record Tried (v x : View) : Type 0 where
   pub tries : List (List Access)
   pub walks : Walks v (accesses_of tries) x
   pub unclean : AllByRecursion IsUnclean tries
-  pub shown : versions_shown x.own ≡ versions_shown v.own
 
 pub tried_none : (v : View) → IsConsistent v → Tried v v
-tried_none v consistent = record { tries = []; walks = walks_none v consistent; unclean = tt; shown = refl }
+tried_none v consistent = record { tries = []; walks = walks_none v consistent; unclean = tt }
 
 accesses_next : (tries : List (List Access)) (ms : List Access) → accesses_of (tries ++ ms ∷ []) ≡ accesses_of tries ++ ms
 accesses_next [] ms = append-nil ms
@@ -114,7 +110,6 @@ module _ (x u w : View) (words : List ℕ) (collects : Collects x words u) (anot
     tries = tried.tries ++ (collects.accesses ++ another.accesses) ∷ [];
     walks = search (arith, accesses_next, walks_on, both_walks);
     unclean = unclean_next tried.tries (collects.accesses ++ another.accesses) tried.unclean is_unclean;
-    shown = another.shown ∙ (collects.shown ∙ tried.shown);
   }
 
 -- a reading, as a whole
@@ -175,11 +170,8 @@ module _ (x u w : View) (words : List ℕ) (long : length words ≡ 12) (collect
     whole = reading_whole (history_of w.log) (length (history_of v.log)) (length (history_of w.log)) clean_reading all_accesses all_walks.consistent.sound.legal
         (le_refl (length (history_of w.log))) all_walks.leaves.follows reading_accesses
 
-    shown_clean : versions_shown w.own ≡ versions_shown v.own ++ length (history_of u.log) ∷ []
-    shown_clean = again.shown ∙ (λ i. (collects.shown ∙ tried.shown) i ++ version_seen i ∷ [])
-
-    reads_clean : Reads v clean_reading w
-    reads_clean =
+    reads_clean : versions_shown w.own ≡ versions_shown v.own ++ length (history_of u.log) ∷ [] → Reads v clean_reading w
+    reads_clean shown =
         let taken = all_walks.leaves.taken in
         let steps = whole.steps.0 in
         let bound = whole.bound.1 in
@@ -187,7 +179,7 @@ module _ (x u w : View) (words : List ℕ) (long : length words ≡ 12) (collect
         record {
           consistent = all_walks.consistent;
           always = walks_continue v w all_accesses all_walks;
-          shared = search (arith, whole, all_walks, shown_clean);
+          shared = search (arith, whole, all_walks, shown);
           steps = record {
             accesses = all_accesses;
             leaves = all_walks.leaves;
@@ -203,5 +195,6 @@ module _ (x u w : View) (words : List ℕ) (long : length words ≡ 12) (collect
           most = omega arith;
         }
 
-    pub reads : (reading : Reading) → reading ≡ reading_of words → Reads v reading w
-    reads reading is = search (arith, version_seen, reads_clean)
+    pub reads : (reading : Reading) → reading ≡ reading_of words → versions_shown w.own ≡ versions_shown v.own ++ version_of words ∷ [] → Reads v reading w
+    reads reading is shown = subst (λ (r : Reading). Reads v r w) ((λ i. record { board = words; version = sym version_seen i }) ∙ sym is)
+        (reads_clean (shown ∙ ap (λ (k : ℕ). versions_shown v.own ++ k ∷ []) version_seen))

@@ -42,7 +42,6 @@ pub use Rattle.ucl_steps.specs.Trails.{Follows, IsClean, IsCollect, IsUnclean, R
 pub use Rattle.ucl_steps.specs.declared.step.Call.{Call}
 pub use Rattle.ucl_steps.specs.declared.trace.Reply.{Reply}
 pub use Rattle.ucl_words.specs.CollectSteps.{Collects, FindsAgain, FindsAnother, Finishes, IsBegun, IsHoldingFor, MayCollect, StaysIn, Walks}
-pub use Rattle.ucl_words.specs.Theorems.{WordsTellTheEntry}
 pub use Rattle.ucl_words.specs.WordCalls.{EnlistTries, Enlisting, HasTrail, IsConsistent, KeepsTrail, ReadingSteps, ReportSteps}
 pub use Rattle.ucl_words.specs.CompletedCalls.{CompletesCall, DoneAsBefore, IsAnswered}
 pub use Rattle.ucl_words.specs.TableInvariants.{OccurAfterSplit, Occurs, TableInvariant, words_after}

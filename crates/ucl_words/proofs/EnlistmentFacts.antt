@@ -6,8 +6,9 @@ use Rattle.ucl_words.proofs.Common.{one_more, HasTrail, IsConsistent, Enlisting,
 use Rattle.ucl_words.proofs.Common.{history_of, enlisted_by, number_of, versions_shown, sound_left, sound_second}
 use Rattle.ucl_board.specs.Log.{Enlisted, Enlists}
 use Rattle.ucl_live_board.proofs.CallsBySteps.{Stays, enlists, hears, meets, stays_continue, stays_more, stays_none}
-use Rattle.ucl_live_board.proofs.StepFacts.{Goes, sound}
-use Rattle.ucl_words.proofs.StepFacts.{LoadsEnlisted, EnlistWon, loads_enlisted}
+use Rattle.ucl_live_board.proofs.StepFacts.{Goes, Sees, sound}
+use Rattle.ucl_words.proofs.StepFacts.{EnlistWon, loads_enlisted}
+use Rattle.ucl_words.proofs.ClientFacts.{counted_does, done_shown}
 use Rattle.ucl_words.proofs.StepRuns.{trail_longer, takes_trail}
 
 -- a step on the enlist word leaves no access
@@ -37,7 +38,6 @@ tries_full known n (x ∷ steps) t high = (t.0, t.1, t.2, inr (t.3, tries_full t
 pub record Missed (v x : View) (n : ℕ) : Type 0 where
   pub consistent : IsConsistent x
   pub stays : Stays v x
-  pub shown : versions_shown x.own ≡ versions_shown v.own
   pub known : n ≤ enlisted_by x.log
   pub steps : EnlistSteps v x
   pub tries : MissedTries 0 steps.steps n
@@ -48,7 +48,6 @@ pub missed_none : (v : View) → IsConsistent v → Missed v v 0
 missed_none v consistent = record {
   consistent = consistent;
   stays = stays_none v;
-  shown = refl;
   known = omega arith;
   steps = record { steps = []; takes = takes_none v; on_enlisted = tt };
   tries = refl;
@@ -67,31 +66,30 @@ after_count v w x was goes none takes = record {
 
 module _ (v x w : View) (n found : ℕ) (was : Missed v x n) where
   -- one that was missed again has found a higher number
-  module _ (other : found ≢ n) (missed : LoadsEnlisted x found w) where
+  module _ (other : found ≢ n) (missed : Sees (Enlisted found) x w) where
     pub missed_higher : (n < found) × (found ≤ 255)
-    missed_higher = (let a = was.known in let b = missed.above in omega arith, let a = missed.sees.goes.few in let b = missed.listed in omega arith)
+    missed_higher = let a = was.known in let b = missed.goes.listed in let c = missed.there in let d = missed.goes.few in (omega arith, omega arith)
 
     pub missed_more : n < 255 → Missed v w found
     missed_more below =
-        let listed = missed.listed in
+        let there = missed.there in
         let taken = was.taken in
-        let above = missed.above in
+        let above = missed.goes.listed in
         let known = was.known in
-        let next : Taken = step_taken (Enlisted found) missed.sees.place (length (history_of w.log)) None in
-        let one = takes_count x w (next ∷ []) missed.sees.takes in
-        let goes = missed.sees.goes in
+        let next : Taken = step_taken (Enlisted found) missed.place (length (history_of w.log)) None in
+        let one = takes_count x w (next ∷ []) missed.takes in
+        let goes = missed.goes in
         record {
-          consistent = after_count x w next was.consistent.trail goes refl missed.sees.takes;
-          stays = stays_more v x w (Enlisted found) was.stays missed.sees;
-          shown = missed.shown ∙ was.shown;
+          consistent = after_count x w next was.consistent.trail goes refl missed.takes;
+          stays = stays_more v x w (Enlisted found) was.stays missed;
           known = omega arith;
           steps = record {
             steps = was.steps.steps ++ next ∷ [];
-            takes = takes_on v x w was.steps.steps (next ∷ []) was.steps.takes missed.sees.takes;
+            takes = takes_on v x w was.steps.steps (next ∷ []) was.steps.takes missed.takes;
             on_enlisted = all_more IsOnEnlisted was.steps.steps next was.steps.on_enlisted (found, (inl refl, refl));
           };
-          tries = tries_more 0 n found missed.sees.place (length (history_of w.log)) was.steps.steps was.tries below other;
-          trail = no_access x w next refl missed.sees.takes ∙ was.trail;
+          tries = tries_more 0 n found missed.place (length (history_of w.log)) was.steps.steps was.tries below other;
+          trail = no_access x w next refl missed.takes ∙ was.trail;
           taken = omega arith;
         }
 
@@ -148,37 +146,37 @@ module _ (v : View) where
 
 -- a note of a pass was joined to another, which then loaded the enlist word
 module _ (a v w : View) (seat n : ℕ) (consistent : IsConsistent v) (s : Steps seat (Enlisted n) (told_pass v (note_pass a)) w) where
-  loads : LoadsEnlisted (told_pass v (note_pass a)) n w
+  loads : Sees (Enlisted n) (told_pass v (note_pass a)) w
   loads = loads_enlisted seat n (told_pass v (note_pass a)) w s
 
   stays : Stays v w
-  stays = hears versions_shown a v w (Enlisted n) loads.sees
+  stays = hears versions_shown a v w (Enlisted n) loads
 
   abbrev counted : Taken
-  counted = step_taken (Enlisted n) loads.sees.place (length (history_of w.log)) None
+  counted = step_taken (Enlisted n) loads.place (length (history_of w.log)) None
 
   met_takes : Takes v (counted ∷ []) w
-  met_takes = record { own = loads.sees.takes.own; copied = loads.sees.takes.copied }
+  met_takes = record { own = loads.takes.own; copied = loads.takes.copied }
 
   pub met_steps : MeetingSteps v w
-  met_steps = record { found = n; place = loads.sees.place; takes = met_takes; listed = loads.listed }
+  met_steps = record { found = n; place = loads.place; takes = met_takes; listed = sym loads.there }
 
   met_trail_is : trail_of w ≡ trail_of v
   met_trail_is = no_access v w counted refl met_takes
 
   pub met_consistent : IsConsistent w
   met_consistent = record {
-    sound = sound versions_shown (told_pass v (note_pass a)) w loads.sees.goes;
-    told = loads.sees.goes.told;
+    sound = sound versions_shown (told_pass v (note_pass a)) w loads.goes;
+    told = loads.goes.told;
     trail = subst (λ (t : List Access). Follows (history_of w.log) 0 t (length (history_of w.log))) (sym met_trail_is)
         (trail_longer (history_of v.log) (history_of w.log) (trail_of v) stays.seen consistent.trail);
   }
 
   pub met_continues : Continues (pass_view_of v) (pass_view_of w)
-  met_continues = stays_continue versions_shown v (told_pass v (note_pass a)) w stays loads.sees.goes
+  met_continues = stays_continue versions_shown v (told_pass v (note_pass a)) w stays loads.goes
 
   pub met_says : Meeting (pass_view_of a) (pass_view_of v) (pass_view_of w)
-  met_says = meets versions_shown a v w (Enlisted n) loads.sees loads.shown
+  met_says = meets versions_shown a v w (Enlisted n) loads (done_shown (told_pass v (note_pass a)) w (counted_does seat n (told_pass v (note_pass a)) w s).calls loads.number)
 
   pub met_trail : KeepsTrail v w
   met_trail = record {

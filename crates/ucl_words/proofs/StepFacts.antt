@@ -1,12 +1,10 @@
 -- What a step of the table tells of what its pass knows and has shown.
-use Rattle.ucl_words.proofs.Common.{◌≡◌, ℕ, ◌+◌, ◌<◌, ◌≤◌, ◌==◌, Bool, cond, List, ◌∷◌, ◌++◌, Some, None, refl, sym, ap, ◌∙◌, subst, arith, [], append-nil}
-use Rattle.ucl_words.proofs.Common.{eq-eqb, ne_eqb, All, All-head, All-tail, Entry, EventCall, entry_of, match_after, match_valid, IsWord, Reply, Pending}
-use Rattle.ucl_words.proofs.Common.{Holding, Outcome, GoesOn, View, Taken, Target, AccessKind, history_of, number_of, enlisted_by, ClientState, FinishedCall}
-use Rattle.ucl_words.proofs.Common.{IsNextOfProtocol, client_of, client_at, new_client, outcome, with_outcome, with_target, with_step, call_answered, entry_by}
-use Rattle.ucl_words.proofs.Common.{words_after, version_in, versions_by, versions_shown, Steps}
+use Rattle.ucl_words.proofs.Common.{◌≡◌, ℕ, ◌+◌, ◌<◌, ◌≤◌, ◌==◌, Bool, cond, List, ◌∷◌, ◌++◌, Some, None, refl, sym, ap, ◌∙◌, subst, arith, [], eq-eqb, ne_eqb}
+use Rattle.ucl_words.proofs.Common.{All, All-head, All-tail, Entry, EventCall, entry_of, match_after, match_valid, IsWord, Pending, Holding, GoesOn, View}
+use Rattle.ucl_words.proofs.Common.{Target, AccessKind, history_of, number_of, ClientState, FinishedCall, IsNextOfProtocol, client_of, client_at, new_client}
+use Rattle.ucl_words.proofs.Common.{outcome, with_target, with_step, entry_by, words_after, version_in, versions_by, versions_shown, Steps}
 use Rattle.std.specs.List.{flat_map}
 use Rattle.std.proofs.lemmas.List.Sums.{fold-append}
-use Rattle.std.proofs.lemmas.List.Concat.{flat_map-append}
 use Rattle.ucl_board.specs.Log.{Match, Swap, Enlisted, Enlists}
 use Rattle.ucl_steps.specs.ClientState.{IsNextFor}
 use Rattle.ucl_steps.proofs.LogHistory.{holds_all, count_none}
@@ -17,26 +15,13 @@ use Rattle.ucl_live_board.proofs.StepFacts.{Sees, Adds, GivesNumber, own_is, the
 abbrev pub LoadsMatch : AccessKind → ℕ → View → ℕ → View → Type 0
 LoadsMatch kind game v n w = Sees (Match kind game n) v w
 
--- one that shows nothing
-pub record Loads (kind : AccessKind) (game : ℕ) (v : View) (n : ℕ) (w : View) : Type 0 where
-  pub loads : LoadsMatch kind game v n w
-  pub shown : versions_shown w.own ≡ versions_shown v.own
-
 -- an exchange of a match word that was missed
 abbrev pub ExchangeMissed : ℕ → View → ℕ → View → Type 0
-ExchangeMissed = Loads Swap
+ExchangeMissed = LoadsMatch Swap
 
 -- an exchange of a match word that was won: its entry is the last that the pass has seen
-pub record ExchangeWon (e : Entry) (v : View) (n : ℕ) (w : View) : Type 0 where
-  pub adds : Adds (Match Swap e.game n) e v w
-  pub shown : versions_shown w.own ≡ versions_shown v.own
-
--- a load of the enlist word, or an exchange of it that was missed: the pass then knows how many it found
-pub record LoadsEnlisted (v : View) (n : ℕ) (w : View) : Type 0 where
-  pub sees : Sees (Enlisted n) v w
-  pub above : enlisted_by v.log ≤ n
-  pub listed : enlisted_by w.log ≡ n
-  pub shown : versions_shown w.own ≡ versions_shown v.own
+abbrev pub ExchangeWon : Entry → View → ℕ → View → Type 0
+ExchangeWon e v n w = Adds (Match Swap e.game n) e v w
 
 -- an exchange of the enlist word that was won: the pass is a reporter's
 pub record EnlistWon (v : View) (n : ℕ) (w : View) : Type 0 where
@@ -48,15 +33,9 @@ pub client_is : (seat : ℕ) (target : Target) (v w : View) (s : Steps seat targ
 client_is seat target v w s = ap client_of (own_is words_after IsNextOfProtocol seat target v w s)
     ∙ (fold-append with_step new_client v.own (s.step ∷ []) ∙ ap (λ (t : Target). with_target t s.step (client_of v.own)) s.of)
 
--- what readings show, by what comes of a step
-
+-- what finished calls show under a number
 abbrev pub shown_of : ℕ → FinishedCall → List ℕ
 shown_of number c = cond (c.number == number) (version_in c.reply) []
-
-pub shows_answer : (d : ClientState) (x : Taken) (reply : Reply) → versions_by (with_outcome (Rattle.ucl_steps.specs.Protocol.Answers reply) x d) ≡ versions_by d ++ version_in reply
-shows_answer d x reply =
-    flat_map-append (shown_of d.number) d.calls (call_answered reply x d ∷ [])
-    ∙ ap (λ (l : List ℕ). versions_by d ++ l) (append-nil (shown_of d.number (call_answered reply x d)) ∙ ap (λ (b : Bool). cond b (version_in reply) []) (eq-eqb d.number d.number refl))
 
 -- the word that a step on a match word found is that of a valid record
 pub found_word : (seat game n : ℕ) (kind : AccessKind) (v w : View) → Steps seat (Match kind game n) v w → IsWord n
@@ -71,38 +50,25 @@ loads_match seat game n kind v w s none = sees words_after IsNextOfProtocol seat
 
 -- an exchange that was won
 pub exchange_won : (seat game old new : ℕ) (e : EventCall) (v w : View) (s : Steps seat (Match Swap game old) v w) → (client_of v.own).held ≡ Holding e old new → game ≡ e.game
-    → versions_shown w.own ≡ versions_shown v.own → ExchangeWon (entry_of (number_of v.own) e) v old w
-exchange_won seat game old new e v w s held of shown =
+    → ExchangeWon (entry_of (number_of v.own) e) v old w
+exchange_won seat game old new e v w s held of =
     let made : Entry = entry_of (client_of v.own).number e in
     let entry : s.step.entry ≡ Some (entry_of (number_of v.own) e) =
     s.next.entry ∙ ((λ i. entry_by (client_of (sym s.own i)).number (client_of (sym s.own i)).held (s.of i))
     ∙ (ap (λ (h : Pending). entry_by (client_of v.own).number h (Match Swap game old)) held
     ∙ (ap (λ (b : Bool). cond b (Some made) None) (eq-eqb old old refl) ∙ ap (λ (n : ℕ). Some (entry_of n e)) (client_number v.own)))) in
-    record {
-      adds = subst (λ (g : ℕ). Adds (Match Swap g old) (entry_of (number_of v.own) e) v w) of
-          (adds words_after IsNextOfProtocol seat (Match Swap game old) v w s legal_steps (entry_of (number_of v.own) e) entry refl);
-      shown = shown;
-    }
+    subst (λ (g : ℕ). Adds (Match Swap g old) (entry_of (number_of v.own) e) v w) of
+    (adds words_after IsNextOfProtocol seat (Match Swap game old) v w s legal_steps (entry_of (number_of v.own) e) entry refl)
 
 -- a step on the enlist word
 
 pub count_stays : (number found now : ℕ) (k : Pending) → outcome number k (Enlisted found) now ≡ GoesOn k
 count_stays number found now k = search arith
 
-pub loads_enlisted : (seat n : ℕ) (v w : View) → Steps seat (Enlisted n) v w → LoadsEnlisted v n w
-loads_enlisted seat n v w s =
-    let none : s.step.entry ≡ None = s.next.entry ∙ (ap (entry_by (client_at seat s.before).number (client_at seat s.before).held) s.of
-    ∙ count_none (client_at seat s.before).held (client_at seat s.before).number n) in
-    let found = sees words_after IsNextOfProtocol seat (Enlisted n) v w s legal_steps none refl in
-    let there = found.there in
-    let low = found.goes.listed in
-    record {
-      sees = found;
-      above = omega arith;
-      listed = sym found.there;
-      shown = ap versions_by (client_is seat (Enlisted n) v w s
-          ∙ ap (λ (o : Outcome). with_outcome o s.step (client_of v.own)) (count_stays (client_of v.own).number n s.step.at (client_of v.own).held));
-    }
+-- a load, or an exchange that was missed: the pass then knows how many it found
+pub loads_enlisted : (seat n : ℕ) (v w : View) → Steps seat (Enlisted n) v w → Sees (Enlisted n) v w
+loads_enlisted seat n v w s = sees words_after IsNextOfProtocol seat (Enlisted n) v w s legal_steps
+    (s.next.entry ∙ (ap (entry_by (client_at seat s.before).number (client_at seat s.before).held) s.of ∙ count_none (client_at seat s.before).held (client_at seat s.before).number n)) refl
 
 pub enlist_won : (seat n : ℕ) (v w : View) → Steps seat (Enlists n) v w → EnlistWon v n w
 enlist_won seat n v w s =

@@ -8,7 +8,7 @@ use Rattle.ucl_live_board.specs.CallSteps.{HasCopyOf}
 use Rattle.ucl_words.specs.WordRecords.{WordSplit, WordEnlisted, WordFull, WordMet}
 use Rattle.ucl_words.proofs.InvariantIsKept.{split_occurs}
 use Rattle.ucl_words.proofs.StepFacts.{EnlistWon}
-use Rattle.ucl_words.proofs.ClientFacts.{counted_does}
+use Rattle.ucl_words.proofs.ClientFacts.{counted_does, done_shown}
 use Rattle.ucl_words.proofs.EnlistmentFacts.{Missed, missed_tries, won_enlists, won_trail, won_tries, second_steps, met_steps, met_continues, met_says}
 use Rattle.ucl_words.proofs.EnlistmentFacts.{met_trail}
 
@@ -79,7 +79,7 @@ module _ (k m : WordPass) (own : m.board ≡ k.board) (seat : m.seat ≡ k.seat)
         seat = seat;
         says = record {
           always = record { sound = was.consistent.sound; on = stays_on versions_shown k.pass m.pass was.stays; number = was.stays.number };
-          full = record { listed = omega arith; mine = was.stays.mine; shown = was.shown };
+          full = record { listed = omega arith; mine = was.stays.mine; shown = done_shown k.pass m.pass does.calls was.stays.number };
         };
         trail = record { steps = was.steps; trail = was.trail; whole_trail = was.consistent.trail };
         tries = missed_tries k.pass m.pass n was many;

@@ -2,7 +2,6 @@
 -- The pass was v and is w.
 use Rattle.std.specs.Prelude.{◌≡◌, ℕ, ◌≤◌, List, [], ◌∷◌, ◌++◌, length, Some, None, slice_get}
 use Rattle.ucl_word.specs.declared.event.EventCall.{EventCall}
-use Rattle.ucl_board.specs.Words.{version_of}
 use Rattle.ucl_board.specs.Log.{First, Second, Access, added_by, history_of, number_of}
 use Rattle.ucl_steps.specs.declared.step.Call.{Call}
 use Rattle.ucl_steps.specs.declared.trace.Reply.{Reply}
@@ -11,7 +10,7 @@ use Rattle.ucl_steps.specs.ClientState.{client_of}
 use Rattle.ucl_steps.specs.Trails.{IsCollect, IsBroken}
 use Rattle.ucl_live_board.specs.Passes.{SeesOn}
 use Rattle.ucl_live_board.specs.declared.view.View.{View}
-use Rattle.ucl_words.specs.WordViews.{pass_view_of, versions_shown}
+use Rattle.ucl_words.specs.WordViews.{pass_view_of}
 use Rattle.ucl_words.specs.WordCalls.{IsConsistent, LeavesAccesses}
 use Rattle.ucl_words.specs.CompletedCalls.{IsAnswered}
 
@@ -39,22 +38,19 @@ pub record Collects (v : View) (words : List ℕ) (w : View) : Type 0 where
   pub accesses : List Access
   pub walks : Walks v accesses w
   pub collect : IsFirstCollect words accesses (length (history_of w.log))
-  pub shown : versions_shown w.own ≡ versions_shown v.own
 
--- a second collect that found all words again: their version is shown
+-- a second collect that found all words again
 pub record FindsAgain (v : View) (words : List ℕ) (w : View) : Type 0 where
   pub accesses : List Access
   pub walks : Walks v accesses w
   pub twelve : length accesses ≡ 12
   pub again : IsCollect Second words accesses
-  pub shown : versions_shown w.own ≡ versions_shown v.own ++ version_of words ∷ []
 
 -- a second collect that found another word
 pub record FindsAnother (v : View) (words : List ℕ) (w : View) : Type 0 where
   pub accesses : List Access
   pub walks : Walks v accesses w
   pub broken : IsBroken words accesses
-  pub shown : versions_shown w.own ≡ versions_shown v.own
 
 -- what is held, and what is done, after each part
 

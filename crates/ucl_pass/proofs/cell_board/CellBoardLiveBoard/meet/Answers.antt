@@ -12,8 +12,7 @@ join_pass-requires g c =
     let seat = c.second.inside.seat in
     let v = cell_view seat in
     let note = c.split_pass-note.result in
-    let joined =
-    subst (λ (n : View). Merges CellInvariant seat.id v note.id n (told_pass v n) new_pass)
+    let joined = subst (λ (n : View). Merges CellInvariant seat.id v note.id n (told_pass v n) new_pass)
     (sym c.split_pass-note.ensures.given.1) (joins _ _ _ (cell_view c.first.inside.seat)) in
     (search rules, (search rules, (search rules, joined)))
 

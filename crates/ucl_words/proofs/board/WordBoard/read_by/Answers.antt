@@ -2,7 +2,7 @@ use Rattle.ucl_words.proofs.Common.{history_of, inl, inr, ◌∙◌, refl, sym, 
 use Rattle.ucl_steps.specs.declared.step.Call.TheVariants as calls
 use Rattle.ucl_steps.specs.declared.trace.Reply.TheVariants as replies
 use Rattle.ucl_words.proofs.CollectFacts.{tried_none, tried_longer, tried_again, are_words, reads}
-use Rattle.ucl_words.proofs.ClientFacts.{tries_may, tries_on, tries_again, stays_answered}
+use Rattle.ucl_words.proofs.ClientFacts.{tries_may, tries_on, tries_again, stays_answered, answered_shown}
 use Rattle.ucl_words.proofs.board.WordBoard.read_by.Goals as goal
 
 pub tries-init : goal.tries-init
@@ -46,7 +46,7 @@ tries-preserved c =
     }
 
 pub returns-then-is_clean-clause-consistent : goal.returns-then-is_clean-clause-consistent
-returns-then-is_clean-clause-consistent c = search (arith, reads)
+returns-then-is_clean-clause-consistent c = c.if-is_clean.ensures.compared.walks.consistent
 
 pub returns-then-is_clean-clause-read : goal.returns-then-is_clean-clause-read
 returns-then-is_clean-clause-read c =
@@ -57,10 +57,11 @@ returns-then-is_clean-clause-read c =
     let collected = c.collect-words.ensures in
     let was = c.tries.invariant in
     let is = c.of.ensures ∙ ap reading_of c.of_packed.ensures in
-    let all = reads x u w c.collect-words.result collected.long collected.collects c.if-is_clean.ensures.compared
-    v c.requires.consistent was.tried c.of.result is in
     let number = collected.collects.walks.number ∙ was.tried.walks.number in
     let answers = stays_answered v u w _ calls.Reading _ c.requires.next number (tries_on v x c.requires.next _ u was.does collected.does) c.if-is_clean.ensures.does in
+    let shown = answered_shown v w calls.Reading _ answers.answers (c.if-is_clean.ensures.compared.walks.number ∙ number) in
+    let all = reads x u w c.collect-words.result collected.long collected.collects c.if-is_clean.ensures.compared
+    v c.requires.consistent was.tried c.of.result is shown in
     record {
       own = c.is_clean.ensures.own ∙ (collected.own ∙ was.same);
       seat = c.is_clean.ensures.seat ∙ (collected.seat ∙ was.place);
