@@ -1,9 +1,9 @@
 -- What the invariant of the table says of every board, and of later states of one.
 use Rattle.ucl_words.proofs.Common.{◌≡◌, ◌≢◌, ◌⊎◌, inl, inr, ℕ, ◌+◌, ◌<◌, ◌==◌, Bool, true, false, cond, List, ◌∷◌, ◌++◌, length, set, slice_index, refl, sym}
-use Rattle.ucl_words.proofs.Common.{ap, ◌∙◌, subst, arith, [], append-nil, append_assoc, cases_eq, IsPrefix, begins_same, some, get_elem?, at_longer, set_here}
+use Rattle.ucl_words.proofs.Common.{ap, ◌∙◌, subst, arith, [], append-nil, append_assoc, cases_eq, IsPrefix, begins_same, begins_through, some, get_elem?, at_longer, set_here}
 use Rattle.ucl_words.proofs.Common.{View, Taken, Logged, Log, Target, taken_by, enlisted_by, number_of, IsLog, IsThere, MayBeTaken, words_after, Steps}
 use Rattle.ucl_words.proofs.Common.{left_pass, second_pass, told_pass, new_pass, IsNextOfProtocol}
-use Rattle.std.specs.Prelude.{nat_lt}
+use Rattle.std.specs.Prelude.{None, nat_lt}
 use Rattle.std.proofs.lemmas.Bool.{ltb-true}
 use mathlib.Core.Option.{some-injective}
 use Rattle.ucl_word.proofs.Sequences.{may_begin, may_last}
@@ -14,11 +14,11 @@ use Rattle.ucl_steps.proofs.LogTurns.{logs_linearizable}
 use Rattle.ucl_steps.proofs.LogRuns.{logs_run}
 use Rattle.ucl_steps.proofs.LogFacts.{logs_facts}
 use Rattle.ucl_live_board.specs.CallSteps.{CountsReporters}
-use Rattle.ucl_live_board.proofs.Alone.{seat_there}
-use Rattle.ucl_live_board.proofs.Halves.{acts_some}
+use Rattle.ucl_live_board.proofs.Alone.{seat_there, some_acts}
+use Rattle.ucl_live_board.proofs.Halves.{acts_some, half_acts}
 use Rattle.ucl_live_board.proofs.InvariantIsKept.{place_below}
 use Rattle.ucl_live_board.proofs.StepFacts.{Sees, since, own_is}
-use Rattle.ucl_words.specs.LaterState.{PassExtends, SplitIsMonotone, JoinIsMonotone, FindsEnlisted}
+use Rattle.ucl_words.specs.LaterState.{LaterState, LaterStatesCompose, SplitIsMonotone, JoinIsMonotone, FindsEnlisted}
 use Rattle.ucl_words.specs.Theorems.{BoardsAreLinearizable, LaterBoardsExtend, NumbersRiseInTime}
 use Rattle.ucl_words.specs.WordSteps.{EnlistedStep, EnlistStep}
 use Rattle.ucl_words.proofs.StepFacts.{loads_enlisted, enlist_won}
@@ -42,29 +42,41 @@ later_go_on s t r q later = log_begins r.log q.log r.is_log q.is_log (λ j. by j
         let f = r.fits j u.0 u.1 in
         let w = later j u.0 u.1 (acts_some u.0.share u.2) in
         let g = q.fits j w.0 w.1 in
-        subst (λ (l : List Taken). IsPrefix l (taken_by j q.log)) (sym f.own.0 ∙ f.own.1) (subst (IsPrefix (taken_by j u.0.log)) (sym g.own.0 ∙ g.own.1) (taken_on j u.0.log w.0.log w.2))
+        subst (λ (l : List Taken). IsPrefix l (taken_by j q.log)) (sym f.own.0 ∙ f.own.1) (subst (IsPrefix (taken_by j u.0.log)) (sym g.own.0 ∙ g.own.1) (taken_on j u.0.log w.0.log w.3))
 
 -- what happens on a board leads to later states
 
-pub steps_on : (seat : ℕ) (target : Target) (v w : View) → Steps seat target v w → PassExtends v w
-steps_on seat target v w s = record { log = since words_after IsNextOfProtocol seat target v w s; own = (s.step ∷ [], sym (own_is words_after IsNextOfProtocol seat target v w s)) }
+pub compose : LaterStatesCompose
+compose s t u first second seat v here acts =
+    let w = first seat v here acts in
+    let x = second seat w.0 w.1 w.2 in
+    (x.0, x.1, x.2, begins_through v.log w.0.log x.0.log w.3 x.3)
 
-pub goes_still : (v w : View) → w.log ≡ v.log → w.own ≡ v.own → PassExtends v w
-goes_still v w log own = record { log = subst (IsPrefix v.log) (sym log) (begins_same v.log); own = subst (IsPrefix v.own) (sym own) (begins_same v.own) }
-
-later_set : (s : Position) (seat : ℕ) (v u : View) → get_elem? s.views seat ≡ some v → IsPrefix v.log u.log → (j : ℕ) (w : View) → get_elem? s.views j ≡ some w
-    → (z : View) × (get_elem? (set s.views seat u) j ≡ some z) × IsPrefix w.log z.log
-later_set s seat v u here p j w at = elim (cases_eq j seat) [
+later_set : (s : Position) (seat : ℕ) (v u : View) (words : List ℕ) → get_elem? s.views seat ≡ some v → IsPrefix v.log u.log → (v.share ≢ None → u.share ≢ None)
+    → LaterState s (record s { words = words; views = set s.views seat u })
+later_set s seat v u words here p still j w at acts = elim (cases_eq j seat) [
   | inl is ↦
-      let same : v ≡ w = some-injective v w (sym here ∙ (ap (get_elem? s.views) (sym is) ∙ at)) in
-      (u, ap (get_elem? (set s.views seat u)) is ∙ set_here s.views seat u (place_below s.views seat v here), subst (λ (z : View). IsPrefix z.log u.log) same p)
-  | inr not ↦ (w, set_else s.views seat j u not ∙ at, begins_same w.log)
+      let same : v ≡ w = some-injective v w (sym here ∙ (ap (get_elem? s.views) (sym is) ∙ at)) in (
+        u,
+        ap (get_elem? (set s.views seat u)) is ∙ set_here s.views seat u (place_below s.views seat v here),
+        still (λ none. acts (ap (λ (z : View). z.share) (sym same) ∙ none)),
+        subst (λ (z : View). IsPrefix z.log u.log) same p,
+      )
+  | inr not ↦ (w, set_else s.views seat j u not ∙ at, acts, begins_same w.log)
 ]
 
-pub splits_on : SplitIsMonotone left_pass second_pass
-splits_on s seat v here j w at acts =
-    let t = later_set s seat v (left_pass v) here (begins_same v.log) j w at in
-    (t.0, at_longer (set s.views seat (left_pass v)) (second_pass v ∷ []) j t.0 t.1, t.2)
+pub steps_on : (seat : ℕ) (target : Target) (s : Position) (place : ℕ) (v w : View) (words : List ℕ) → get_elem? s.views place ≡ some v → Steps seat target v w
+    → LaterState s (record s { words = words; views = set s.views place w })
+steps_on seat target s place v w words here t =
+    later_set s place v w words here (since words_after IsNextOfProtocol seat target v w t) (λ acts none. acts (sym (ap (λ (z : View). z.share) t.is) ∙ none))
+
+pub left_acts : (v : View) → v.share ≢ None → (left_pass v).share ≢ None
+left_acts v acts = acts_some (left_pass v).share (half_acts false v.share (some_acts v.share acts))
+
+pub splits_on : (left right : View → View) → ((v : View) → (left v).log ≡ v.log) → ((v : View) → v.share ≢ None → (left v).share ≢ None) → SplitIsMonotone left right
+splits_on left right log still s seat v here j w at acts =
+    let t = later_set s seat v (left v) s.words here (subst (IsPrefix v.log) (sym (log v)) (begins_same v.log)) (still v) j w at acts in
+    (t.0, at_longer (set s.views seat (left v)) (right v ∷ []) j t.0 t.1, t.2, t.3)
 
 pub hears_on : JoinIsMonotone told_pass new_pass
 hears_on s r seat other v note here there apart none j w at acts =
@@ -72,8 +84,8 @@ hears_on s r seat other v note here there apart none j w at acts =
     let g = r.fits other note there in
     let not : j ≢ other = (λ is. acts (ap (λ (z : View). z.share) (some-injective w note (sym at ∙ (ap (get_elem? s.views) is ∙ there))) ∙ none)) in
     let longer : IsPrefix v.log (told_pass v note).log = told_longer (nat_lt (length v.log) (length note.log)) refl in
-    let t = later_set s seat v (told_pass v note) here longer j w at in
-    (t.0, set_else (set s.views seat (told_pass v note)) other j new_pass not ∙ t.1, t.2)
+    let t = later_set s seat v (told_pass v note) s.words here longer (λ some. some) j w at acts in
+    (t.0, set_else (set s.views seat (told_pass v note)) other j new_pass not ∙ t.1, t.2, t.3)
   where
     told_longer : (b : Bool) → nat_lt (length v.log) (length note.log) ≡ b → IsPrefix v.log (cond b note.log v.log)
     told_longer true is = let less = ltb-true (length v.log) (length note.log) is in shorter v.log note.log r.log (r.fits seat v here).knows (r.fits other note there).knows (omega (arith, less))

@@ -1,5 +1,5 @@
--- Later states of a board: each pass that can take steps is still at its seat, and knows all that it had known of the log.
-use Rattle.std.specs.Prelude.{◌≡◌, ◌≢◌, ℕ, [], ◌∷◌, ◌++◌, None, slice_index, slice_set}
+-- Later states of a board: each pass that can take steps is still at its seat, still can, and knows all that it had known of the log.
+use Rattle.std.specs.Prelude.{◌≡◌, ◌≢◌, ℕ, List, [], ◌∷◌, ◌++◌, None, slice_index, slice_set}
 use mathlib.Core.Option.{some}
 use mathlib.Core.List.{IsPrefix}
 use lib.ListN.{get_elem?}
@@ -13,20 +13,21 @@ use Rattle.ucl_words.specs.TableInvariants.{TableInvariant}
 abbrev pub LaterState : State Entry View → State Entry View → Type 0
 LaterState s t =
     (seat : ℕ) (v : View) → get_elem? s.views seat ≡ some v → v.share ≢ None
-    → (w : View) × (get_elem? t.views seat ≡ some w) × IsPrefix v.log w.log
+    → (w : View) × (get_elem? t.views seat ≡ some w) × (w.share ≢ None) × IsPrefix v.log w.log
+
+-- so what follows a later state is one too, after any number of steps
+abbrev pub LaterStatesCompose : Type 0
+LaterStatesCompose = (s t u : State Entry View) → LaterState s t → LaterState t u → LaterState s u
 
 -- what a step tells: of the step, the pass before it, the word that was found, and the pass after it
 abbrev pub StepKind : Type 1
 StepKind = Step Entry → Me Entry View → ℕ → Me Entry View → Type 0
 
--- a pass has gone on: it knows what it had known of the log, and has done what it had done
-pub record PassExtends (v w : View) : Type 0 where
-  pub log : IsPrefix v.log w.log
-  pub own : IsPrefix v.own w.own
-
--- whatever it finds, a step of this kind lets its pass go on
+-- after a step of this kind of the pass at a seat, whatever it finds and leaves, a state is a later one
 abbrev pub StepIsMonotone : StepKind → Type 0
-StepIsMonotone tells = (st : Step Entry) (m : Me Entry View) (n : ℕ) (m' : Me Entry View) → tells st m n m' → PassExtends m.0 m'.0
+StepIsMonotone tells =
+    (s : State Entry View) (seat : ℕ) (st : Step Entry) (m : Me Entry View) (n : ℕ) (m' : Me Entry View) (words : List ℕ)
+    → get_elem? s.views seat ≡ some m.0 → tells st m n m' → LaterState s (record s { words = words; views = slice_set s.views seat m'.0 })
 
 -- after a split a state is a later one
 abbrev pub SplitIsMonotone : (View → View) → (View → View) → Type 0

@@ -1,7 +1,7 @@
 //! What holds of all exchanges of match words, and of every running board. The functions do nothing: each is there for its contract.
 
 ghost use Rattle.ucl_words.specs.Theorems.{WordsTellTheEntry, BoardsAreLinearizable, LaterBoardsExtend, NumbersRiseInTime};
-ghost use Rattle.ucl_words.specs.LaterState.{PassExtends, StepIsMonotone, SplitIsMonotone, JoinIsMonotone, FindsEnlisted};
+ghost use Rattle.ucl_words.specs.LaterState.{StepIsMonotone, SplitIsMonotone, JoinIsMonotone, LaterStatesCompose, FindsEnlisted};
 ghost use Rattle.ucl_live_board.specs.declared.view.View.{View};
 ghost use Rattle.ucl_words.specs.WordSteps.{LogsOneStep};
 
@@ -34,8 +34,9 @@ pub fn each_step_is_logged<K: Asking>()
     ensures enlists { LogsOneStep ⟦<Enlist<K> as Play<Entry, View>>⟧.then }
 {}
 
-/// Each kind of step on the words of a board, whatever it finds, lets its pass go on: it knows what it had known of the log, and has done
-/// what it had done. A split, and a note that is taken in, lead to later states, as steps do: in the sense of the theorems below.
+/// After a step of any kind on the words of a board, whatever it finds and leaves, the state is a later one: its pass knows what it had
+/// known of the log, and can still take steps. So it is after a split, and after a note was split off or taken in; and what comes later
+/// than a later state is later too, after any number of steps of any passes.
 pub fn steps_are_monotone<K: Asking>()
     ensures looks { StepIsMonotone ⟦<Look<K> as Play<Entry, View>>⟧.then }
     ensures first { StepIsMonotone ⟦<First as Play<Entry, View>>⟧.then }
@@ -45,8 +46,10 @@ pub fn steps_are_monotone<K: Asking>()
     ensures enlists { StepIsMonotone ⟦<Enlist<K> as Play<Entry, View>>⟧.then }
     ensures splits { SplitIsMonotone (⟦<SecondPass as Split<View>>⟧.left)
         (⟦<SecondPass as Split<View>>⟧.right) }
-    ensures notes { (v : View) → PassExtends v (⟦<Note as Split<View>>⟧.left v) }
+    ensures notes { SplitIsMonotone (⟦<Note as Split<View>>⟧.left)
+        (⟦<Note as Split<View>>⟧.right) }
     ensures hears { JoinIsMonotone (⟦<Note as Join<View>>⟧.both) ⟦<Note as Join<View>>⟧.spent }
+    ensures compose { LaterStatesCompose }
 {}
 
 /// The log of a later state begins with that of the earlier one, whichever steps of whichever passes came between.
