@@ -26,8 +26,8 @@ KINDS = {
 PARTS = """struct WordBoard { table: Table, }
 struct WordReaderPass { seat: Seat, }
 struct WordReporterPass { seat: Seat, number: ReporterNo, accepted: u16, }
-type Table = atomic_table::Table<Entry, WordView, (), OneHistory, Global>;
-type Seat = atomic_table::Seat<Entry, WordView>;
+type Table = atomic_table::Table<Entry, View, (), OneHistory, Global>;
+type Seat = atomic_table::Seat<Entry, View>;
 struct CellBoard { cell: Cell, }
 struct CellReaderPass { seat: Seat, }
 struct CellReporterPass { seat: Seat, number: ReporterNo, accepted: u16, }
@@ -59,13 +59,13 @@ TRAITS = {
     "ucl_pass": {
         **dict.fromkeys(["Adds<K>", "Enlists", "Looks", "Reads"], "| Outcome<[u64; 13], View>"),
         **dict.fromkeys(["CellReaderPass", "CellReporterPass"], "Drop | Model"), "CellBoard": "Drop | LiveBoard Model",
-        "Note": "| Join<View> Split<View>", "OneHistory": "| Protocol<[u64; 13], View>", "SecondPass": "| Split<View>",
+        "Note": "| Join<View> Split<View>", "OneHistory": "| BoardRule Protocol<[u64; 13], View>", "SecondPass": "| Split<View>",
     },
     "ucl_words": {
-        **dict.fromkeys(["CountEnlisted<K>", "Enlist<K>", "First", "Look<K>", "Second<K>", "Swap<K>"], "| Play<Entry, WordView>"),
+        **dict.fromkeys(["CountEnlisted<K>", "Enlist<K>", "First", "Look<K>", "Second<K>", "Swap<K>"], "| Play<Entry, View>"),
         **dict.fromkeys(["WordReaderPass", "WordReporterPass"], "Drop | Model"), "WordBoard": "Drop | LiveBoard Model",
-        "WordView": "| Model", "Note": "| Join<WordView> Split<WordView>", "OneHistory": "Clone Copy | TableRule<Entry, WordView, ()>",
-        "SecondPass": "| Split<WordView>",
+        "Note": "| Join<View> Split<View>", "OneHistory": "Clone Copy | BoardRule TableRule<Entry, View, ()>",
+        "SecondPass": "| Split<View>",
     },
 }
 DERIVES = re.compile(r"#\s*\[derive\(([^)]*)\)\](?:\s*#\s*\[[^\]]*\])*\s*(?:pub(?:\([^)]*\))?\s+)?(?:struct|enum)\s+(\w+)")

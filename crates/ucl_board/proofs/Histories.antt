@@ -1,6 +1,6 @@
 -- The entries of a match and the words of the board after one entry more.
-use Rattle.std.proofs.Common.{◌≡◌, ◌≢◌, ℕ, ◌+◌, ◌-◌, ◌<◌, Bool, cond, ◌==◌, List, [], ◌∷◌, ◌++◌, length, map, filter, get_or, set, replicate, Option, Some, None, Ok}
-use Rattle.std.proofs.Common.{Err, refl, sym, ap, ◌∙◌, subst, arith, append-nil, eq-eqb, ne_eqb}
+use Rattle.std.proofs.Common.{◌≡◌, ◌≢◌, ℕ, ◌+◌, ◌-◌, ◌<◌, Bool, cond, ◌==◌, List, [], ◌∷◌, ◌++◌, length, map, filter, get_or, set, replicate, Option, Some}
+use Rattle.std.proofs.Common.{None, Ok, Err, refl, sym, ap, ◌∙◌, subst, arith, append-nil, eq-eqb, ne_eqb}
 use Rattle.std.proofs.lemmas.List.{map-append, get_or-map, get_or-set_same, get_or-set_other, length-set, get_or_default}
 use Rattle.std.proofs.lemmas.List.Elements.{filter-append}
 use Rattle.std.proofs.lemmas.Grind.{same_number_lists}
@@ -47,8 +47,7 @@ or_else P k p n other = dite (ℕ_discrete n k) (λ is. subst P (sym is) p) othe
 
 -- what holds of matches 1 to 12 holds of each match
 pub each_match : (P : ℕ → Type 0) → P 1 → P 2 → P 3 → P 4 → P 5 → P 6 → P 7 → P 8 → P 9 → P 10 → P 11 → P 12 → (n : ℕ) → IsMatch n → P n
-each_match P a b c d e f g h i j k l n is =
-    or_else P 1 a n (λ not_1. or_else P 2 b n
+each_match P a b c d e f g h i j k l n is = or_else P 1 a n (λ not_1. or_else P 2 b n
     (λ not_2. or_else P 3 c n (λ not_3. or_else P 4 d n
     (λ not_4. or_else P 5 e n (λ not_5. or_else P 6 f n
     (λ not_6. or_else P 7 g n (λ not_7. or_else P 8 h n
@@ -92,13 +91,8 @@ board_next h e game = let long = board_length h in
     (λ g is. dite (ℕ_discrete e.game g)
     (λ same. subst (λ (g : ℕ). word_at (board_of (followed_by h e)) g ≡ word_at (set (board_of h) (e.game - 1) (word_of (match_after (followed_by h e) e.game))) g) same
     (word_after (followed_by h e) e.game game ∙ sym (get_or-set_same (board_of h) (e.game - 1) _ 0 (omega arith))))
-    (λ not. word_after (followed_by h e) g is
-    ∙ (ap (λ (es : List MatchEntry). word_of (counted_match es)) (entries_else h e g not)
+    (λ not. word_after (followed_by h e) g is ∙ (ap (λ (es : List MatchEntry). word_of (counted_match es)) (entries_else h e g not)
     ∙ (sym (word_after h g is) ∙ sym (get_or-set_other (board_of h) (e.game - 1) (g - 1) _ 0 (λ eq. not (omega arith)))))))
-
--- the same by the word that is there after it
-pub board_with : (h : List Entry) (e : Entry) (next : ℕ) → IsMatch e.game → next ≡ word_at (board_of (followed_by h e)) e.game → set (board_of h) (e.game - 1) next ≡ board_of (followed_by h e)
-board_with h e next game is = ap (set (board_of h) (e.game - 1)) (is ∙ word_after (followed_by h e) e.game game) ∙ sym (board_next h e game)
 
 -- the board and the history after an accepted event
 pub next_board : (h : List Entry) (words : List ℕ) (game reporter : ℕ) (kind : Kind) (m : MatchRecord) → IsLegal h → board_of h ≡ words → IsMatch game

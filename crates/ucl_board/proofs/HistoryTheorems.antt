@@ -1,6 +1,6 @@
 -- The theorems of fixtures and histories.
-use Rattle.std.proofs.Common.{◌≡◌, ◌≢◌, ℕ, zero, suc, ◌+◌, ◌-◌, ◌*◌, ◌<◌, ◌≤◌, ◌==◌, List, [], ◌∷◌, ◌++◌, take, drop, set, length, refl, sym, ap, ◌∙◌, subst, arith}
-use Rattle.std.proofs.Common.{Option, Some, None, append-nil, length-append}
+use Rattle.std.proofs.Common.{◌≡◌, ◌≢◌, ℕ, zero, suc, ◌+◌, ◌-◌, ◌*◌, ◌<◌, ◌≤◌, ◌==◌, List, [], ◌∷◌, ◌++◌, take, drop, set, length, refl, sym, ap, ◌∙◌, subst}
+use Rattle.std.proofs.Common.{arith, Option, Some, None, append-nil, length-append}
 use Rattle.std.specs.Prelude.{if◌then◌else◌}
 use Rattle.std.specs.List.{fold, All}
 use Rattle.std.specs.Result.{is_ok}
@@ -23,8 +23,8 @@ use Rattle.ucl_word.proofs.Words.{record_back, words_apart}
 use Rattle.ucl_board.specs.declared.entry.Entry.{Entry}
 use Rattle.ucl_board.specs.Fixtures.{Fixture, at, fixture_of, IsMatch, IsSlot}
 use Rattle.ucl_board.specs.Words.{version_of, word_at}
-use Rattle.ucl_board.specs.History.{entries_of, match_after, board_of, MayFollow, IsLegal, followed_by, Attempt, IsAttempt, entry_of, after_attempt, board_after}
-use Rattle.ucl_board.specs.History.{accepted_of}
+use Rattle.ucl_board.specs.History.{entries_of, match_after, board_of, MayFollow, IsLegal, followed_by, Attempt, IsAttempt, entry_of, after_attempt}
+use Rattle.ucl_board.specs.History.{board_after, accepted_of}
 use Rattle.ucl_board.specs.Theorems.{EachPairMeetsOnce, BeginningsAreLegal, BoardsAreCounted, VersionsAreLengths, SameNumberSameWord, SameWordSameEntries}
 use Rattle.ucl_board.specs.Theorems.{OneWordChanges, EntryIsKnown, AttemptsAreCounted}
 use Rattle.ucl_board.proofs.Histories.{each_match, each_slot, entries-append, entries_same, entries_else, legal_match, match_valid, board_words, word_after}
@@ -215,8 +215,7 @@ attempts_counted attempts all =
     record { legal = end.0; board = end.1; version = ap version_of end.1 ∙ (versions (accepted_of attempts) end.0).0 }
 
 made_alike : (e f : Entry) → e.game ≡ f.game → e.reporter ≡ f.reporter → e.kind ≡ f.kind → e ≡ f
-made_alike e f game reporter kind =
-    ap (λ (g : ℕ). record { game = g; reporter = e.reporter; kind = e.kind }) game
+made_alike e f game reporter kind = ap (λ (g : ℕ). record { game = g; reporter = e.reporter; kind = e.kind }) game
     ∙ (ap (λ (r : ℕ). record { game = f.game; reporter = r; kind = e.kind }) reporter
     ∙ ap (λ (k : Kind). record { game = f.game; reporter = f.reporter; kind = k }) kind)
 

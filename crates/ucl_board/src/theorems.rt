@@ -3,11 +3,13 @@
 ghost use Rattle.ucl_board.specs.Theorems.{EachPairMeetsOnce, BeginningsAreLegal, BoardsAreCounted, VersionsAreLengths, SameNumberSameWord, SameWordSameEntries, OneWordChanges, EntryIsKnown, AttemptsAreCounted, AcceptedEventsGoStale, RepeatsChangeNothing, BoardsGoOn};
 
 /// Each club meets each other club once at home.
+#[tactic(auto, using(crate::proofs::HistoryTheorems::fixtures_meet))]
 pub fn each_pair_meets_once()
     ensures { EachPairMeetsOnce }
 {}
 
 /// A prefix of a legal history is legal.
+#[tactic(auto, using(crate::proofs::HistoryTheorems::beginnings))]
 pub fn beginnings_are_legal()
     ensures { BeginningsAreLegal }
 {}
@@ -23,11 +25,13 @@ pub fn versions_are_lengths()
 {}
 
 /// A match that has the same number at two places of a history has the same word there.
+#[tactic(auto, using(crate::proofs::HistoryTheorems::same_number))]
 pub fn same_number_same_word()
     ensures { SameNumberSameWord }
 {}
 
 /// A match that has the same word at two places of a legal history has the same entries there.
+#[tactic(auto, using(crate::proofs::HistoryTheorems::same_word))]
 pub fn same_word_same_entries()
     ensures { SameWordSameEntries }
 {}
@@ -38,6 +42,7 @@ pub fn one_word_changes()
 {}
 
 /// Which entry was added to a history follows from its match and the match's word before and after.
+#[tactic(auto, using(crate::proofs::HistoryTheorems::entry_known))]
 pub fn added_entry_is_known()
     ensures { EntryIsKnown }
 {}

@@ -6,7 +6,8 @@ use Rattle.ucl_word.specs.declared.event.Accepted.{Accepted}
 use Rattle.ucl_word.specs.declared.refusal.Refusal.{Refusal}
 use Rattle.ucl_board.specs.declared.reading.Reading.{Reading}
 use Rattle.ucl_words.specs.WordRecords.{WordOpened, WordReported, WordRead, WordSplit, WordEnlisted, WordFull}
-use Rattle.ucl_words.specs.WordViews.{WordPass, known}
+use Rattle.ucl_board.specs.Log.{number_of}
+use Rattle.ucl_words.specs.WordViews.{WordPass}
 use Rattle.ucl_c.specs.declared.board_pass.AnyPass.{AnyPass}
 use Rattle.ucl_c.specs.declared.board_pass.AnyPass.TheVariants.{Nobody, Reader, Reporter}
 use Rattle.ucl_c.specs.declared.fault.Fault.{Fault}
@@ -71,7 +72,7 @@ IsRead _ _ _ = ⊥
 
 -- this is the number of the pass, a reporter's
 abbrev pub IsNumberOf : AnyPass → ℕ → Type 0
-IsNumberOf (Reporter k) number = number ≡ (known k.pass).number
+IsNumberOf (Reporter k) number = number ≡ number_of k.pass.own
 IsNumberOf _ number = ⊥
 
 -- Why a call is not done. --

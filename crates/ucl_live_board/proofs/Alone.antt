@@ -1,7 +1,11 @@
--- Whose steps a log has; and what the invariant says of a pass that has the whole board.
-use Rattle.ucl_live_board.proofs.Common.{◌≡◌, ◌≢◌, ℕ, zero, suc, ◌<◌, ◌≤◌, List, ◌∷◌, ◌++◌, length, map, refl, sym, ap, ◌∙◌, subst, arith, eq-eqb, ne_eqb, [], All}
-use Rattle.ucl_live_board.proofs.Common.{Some, None, dite, some, some-injective, get_elem?, ℕ_discrete, Entry, Taken, Logged, logged_by, Log, taken_by, entry_list}
-use Rattle.ucl_live_board.proofs.Common.{added_by, history_of, taken_none, View, Share, whole, Overlap, BoardInvariant, DidAllAlone, WholeIsAlone}
+-- Whose steps the log of a board has: of passes that have a share; all of them, of a pass that has the whole.
+use Rattle.ucl_live_board.proofs.Common.{◌≡◌, ◌≢◌, ℕ, zero, suc, ◌<◌, ◌≤◌, List, ◌∷◌, ◌++◌, length, map, refl, sym, ap, ◌∙◌, subst, arith, eq-eqb, ne_eqb, []}
+use Rattle.ucl_live_board.proofs.Common.{All, IsSome, Some, None, dite, some, get_elem?, ℕ_discrete, Entry, Taken, Logged, logged_by, Log, taken_by, entry_list}
+use Rattle.ucl_live_board.proofs.Common.{added_by, number_of, history_of, enlisted_by, IsLegalRule, View, Share, whole, Overlap, BoardInvariant, DidAllAlone}
+use Rattle.ucl_live_board.proofs.Common.{WholeIsAlone}
+use Rattle.ucl_board.specs.Log.{LogFacts}
+use Rattle.ucl_board.proofs.Logs.{taken_none, below_more}
+use Rattle.ucl_board.proofs.LogFacts.{log_facts}
 use Rattle.ucl_live_board.proofs.Halves.{in_whole}
 
 -- the first step of a log
@@ -33,51 +37,61 @@ view_at (v ∷ views) (suc j) below = view_at views j (omega arith)
 
 -- a seat that is not there took no step
 pub none_beyond : (n j : ℕ) (log : Log) → n ≤ j → All (λ (x : Logged). x.seat < n) log → taken_by j log ≡ []
-none_beyond n j log le all = taken_none j log (λ k d lt. let b = all k d lt in omega arith)
+none_beyond n j log le all = taken_none j log (below_more n j log le all)
+
+pub some_acts : (s : Share) → s ≢ None → IsSome s
+some_acts None not = absurd (not refl)
+some_acts (Some path) not = refl
 
 -- the history of the steps of one seat
 history_by : (seat : ℕ) (steps : List Taken) → history_of (map (logged_by seat) steps) ≡ added_by steps
 history_by seat [] = refl
 history_by seat (t ∷ steps) = ap (λ (l : List Entry). entry_list t.entry ++ l) (history_by seat steps)
 
-module _ (words_after : List Entry → ℕ → List ℕ) (words : List ℕ) (views : List View) (r : BoardInvariant words_after words views) (seat : ℕ) (v : View)
-    (here : get_elem? views seat ≡ some v)
-    (share : v.share ≡ whole) where
-  -- another pass has no share
-  shareless : (j : ℕ) (u : View) → j ≢ seat → get_elem? views j ≡ some u → u.share ≡ None
-  shareless j u not there = by_share u.share refl
-    where
-      by_share : (s : Share) → u.share ≡ s → s ≡ None
-      by_share None is = refl
-      by_share (Some path) is = absurd (not (r.shared j seat u v there here
-          (subst (λ (t : Share). Overlap u.share t) (sym share) (subst (λ (t : Share). Overlap t whole) (sym is) (in_whole (Some path) refl)))))
+pub number_some : (n : ℕ) (steps : List Taken) → 1 ≤ n → number_of steps ≡ n → steps ≢ []
+number_some n steps low is none = let e = ap number_of none in omega arith
 
-  idle_else : (j : ℕ) → j ≢ seat → taken_by j r.log ≡ []
-  idle_else j not = dite (native.Mathlib.Decide.dec_le (suc j) (length views))
+module _ (words_after : List Entry → ℕ → List ℕ) (May : Log → Logged → Type 0) (words : List ℕ) (views : List View) (r : BoardInvariant words_after May words views) where
+  -- the pass of a seat that took steps has a share
+  pub seat_there : (j : ℕ) → taken_by j r.log ≢ [] → (u : View) × (get_elem? views j ≡ some u) × IsSome u.share
+  seat_there j any = dite (native.Mathlib.Decide.dec_le (suc j) (length views))
       (λ less.
       let u = view_at views j less in
       let f = r.fits j u.0 u.1 in
-      sym f.own ∙ (f.idle (shareless j u.0 not u.1)).1)
-      (λ over. none_beyond (length views) j r.log (omega (arith, over)) r.seated)
+      (u.0, u.1, some_acts u.0.share (λ none. any (sym f.own.1 ∙ f.idle none))))
+      (λ over. absurd (any (none_beyond (length views) j r.log (omega (arith, over)) r.seated)))
 
-  -- whoever has a number is this pass
-  numbered : (n : ℕ) → 1 ≤ n → n ≤ r.enlisted → v.number ≡ n
-  numbered n low high =
-      let g = r.given n low high in
-      dite (ℕ_discrete g.0 seat)
-      (λ is. ap (λ (u : View). u.number) (some-injective v g.1 (sym here ∙ (ap (get_elem? views) (sym is) ∙ g.2))) ∙ g.3)
-      (λ not. let idle = ((r.fits g.0 g.1 g.2).idle (shareless g.0 g.1 not g.2)).0 in let is = g.3 in absurd (omega arith))
+  module _ (legal : IsLegalRule May) (seat : ℕ) (v : View) (here : get_elem? views seat ≡ some v) (share : v.share ≡ whole) where
+    facts : LogFacts r.log
+    facts = log_facts r.log r.is_log (legal r.log r.is_log r.follows)
 
-  alone_there : DidAllAlone r.log r.enlisted v
-  alone_there =
-      let f = r.fits seat v here in
-      let number = f.number in
-      record {
-        mine = f.made ∙ (ap added_by f.own ∙ (sym (history_by seat (taken_by seat r.log)) ∙ ap history_of (sym (only_own seat r.log idle_else))));
-        number = dite (ℕ_discrete r.enlisted 0) (λ none. omega arith) (λ some. numbered r.enlisted (omega arith) (omega arith));
-        one = dite (native.Mathlib.Decide.dec_le r.enlisted 1) (λ few. few)
-            (λ many. let a = numbered 1 (omega arith) (omega (arith, many)) in let b = numbered 2 (omega arith) (omega (arith, many)) in absurd (omega arith));
-      }
+    only_it : (j : ℕ) → taken_by j r.log ≢ [] → j ≡ seat
+    only_it j any = let u = seat_there j any in r.shared j seat u.0 v u.1 here (subst (λ (t : Share). Overlap u.0.share t) (sym share) (in_whole u.0.share u.2))
 
-pub whole_is_alone : WholeIsAlone
-whole_is_alone = alone_there
+    idle_else : (j : ℕ) → j ≢ seat → taken_by j r.log ≡ []
+    idle_else j not = by (taken_by j r.log) refl
+      where
+        by : (steps : List Taken) → taken_by j r.log ≡ steps → taken_by j r.log ≡ []
+        by [] is = is
+        by (t ∷ steps) is = absurd (not (only_it j (λ none. let l = ap length (sym none ∙ is) in omega arith)))
+
+    -- whoever has a number is this pass
+    numbered : (n : ℕ) → 1 ≤ n → n ≤ enlisted_by r.log → number_of v.own ≡ n
+    numbered n low high =
+        let g = facts.given n low high in
+        ap number_of (r.fits seat v here).own.1 ∙ (ap (λ (k : ℕ). number_of (taken_by k r.log)) (sym (only_it g.0 (number_some n (taken_by g.0 r.log) low g.1))) ∙ g.1)
+
+    pub alone_there : DidAllAlone r.log v
+    alone_there =
+        let f = r.fits seat v here in
+        let own = ap number_of f.own.1 in
+        let low = facts.low seat in
+        record {
+          mine = ap added_by f.own.1 ∙ (sym (history_by seat (taken_by seat r.log)) ∙ ap history_of (sym (only_own seat r.log idle_else)));
+          number = dite (ℕ_discrete (enlisted_by r.log) 0) (λ none. omega arith) (λ some. numbered (enlisted_by r.log) (omega arith) (omega arith));
+          one = dite (native.Mathlib.Decide.dec_le (enlisted_by r.log) 1) (λ few. few)
+              (λ many. let a = numbered 1 (omega arith) (omega (arith, many)) in let b = numbered 2 (omega arith) (omega (arith, many)) in absurd (omega arith));
+        }
+
+pub whole_is_alone : (words_after : List Entry → ℕ → List ℕ) (May : Log → Logged → Type 0) → IsLegalRule May → WholeIsAlone words_after May
+whole_is_alone words_after May legal words views r seat v here share = alone_there words_after May words views r legal seat v here share

@@ -1,14 +1,18 @@
 -- What a call leaves after its steps, on any shared board.
 use Rattle.ucl_live_board.proofs.Common.{◌≡◌, ℕ, ◌+◌, ◌≤◌, List, ◌∷◌, ◌++◌, length, refl, sym, ap, ◌∙◌, arith, le_refl, true≢false, true, false, length-append}
-use Rattle.ucl_live_board.proofs.Common.{append-nil, append_assoc, [], Result, Ok, Err, is_ok, None, IfOk, max_version, Enlisted, Taken, step_taken, begins_same}
-use Rattle.ucl_live_board.proofs.Common.{begins_through, View, PassView, IsSound, SeesOn, AcceptedReport, pass_view_of, count_of, Takes, kept_of, second_of, Goes}
-use Rattle.ucl_live_board.proofs.Common.{IsOnEnlisted, EnlistSteps}
+use Rattle.ucl_live_board.proofs.Common.{append-nil, append_assoc, [], Result, Ok, Err, is_ok, IfOk, max_version, Target, Taken, added_by, number_of}
+use Rattle.ucl_live_board.proofs.Common.{history_of, enlisted_by, begins_same, IsPrefix, begins_through, View, PassView, IsSound, AcceptedReport, pass_view_by}
+use Rattle.ucl_live_board.proofs.Common.{count_of, Takes, left_pass, second_pass, IsOnEnlisted, EnlistSteps, Entry, SeesOn, Continues, Meeting, All-head}
+use Rattle.ucl_live_board.proofs.Common.{All-tail, note_pass, told_pass}
 use Rattle.std.specs.List.{AllByRecursion}
 use Rattle.ucl_word.specs.declared.event.EventCall.{EventCall}
 use Rattle.ucl_word.specs.declared.event.Accepted.{Accepted}
 use Rattle.ucl_word.specs.declared.refusal.Refusal.{Refusal}
 use Rattle.ucl_live_board.proofs.Lists.{none_by_zero, few_mine}
 use Rattle.ucl_live_board.proofs.Halves.{half_acts, half_not_whole}
+use Rattle.ucl_board.proofs.Logs.{history_on, enlisted_on}
+use Rattle.ucl_live_board.specs.Passes.{Enlistment}
+use Rattle.ucl_live_board.proofs.StepFacts.{Goes, Sees, Adds, GivesNumber, sound}
 
 -- steps, one after another
 
@@ -23,31 +27,92 @@ takes_count v w xs t = search (arith, length-append v.own xs, length-append v.co
 
 -- a pass after any number of steps that changed nothing else
 pub record Stays (v w : View) : Type 0 where
-  pub on : SeesOn (pass_view_of v) (pass_view_of w)
-  pub mine : w.mine ≡ v.mine
-  pub number : w.number ≡ v.number
-  pub shown : w.shown ≡ v.shown
+  pub seen : IsPrefix (history_of v.log) (history_of w.log)
+  pub listed : enlisted_by v.log ≤ enlisted_by w.log
+  pub share : w.share ≡ v.share
+  pub mine : added_by w.own ≡ added_by v.own
+  pub number : number_of w.own ≡ number_of v.own
 
 pub stays_none : (v : View) → Stays v v
-stays_none v = record { on = record { seen = begins_same v.seen; listed = le_refl v.listed; share = refl }; mine = refl; number = refl; shown = refl }
+stays_none v = record { seen = begins_same (history_of v.log); listed = le_refl (enlisted_by v.log); share = refl; mine = refl; number = refl }
 
-pub stays_more : (v w u : View) → Stays v w → Goes w u → w.listed ≤ u.listed → u.mine ≡ w.mine → u.number ≡ w.number → u.shown ≡ w.shown → Stays v u
-stays_more v w u t goes le mine number shown = search (arith, begins_through)
+pub stays_more : (v w u : View) (target : Target) → Stays v w → Sees target w u → Stays v u
+stays_more v w u target t sees = let a = t.listed in let b = sees.goes.listed in record {
+  seen = begins_through (history_of v.log) (history_of w.log) (history_of u.log) t.seen sees.goes.seen;
+  listed = omega arith;
+  share = sees.goes.share ∙ t.share;
+  mine = sees.mine ∙ t.mine;
+  number = sees.number ∙ t.number;
+}
+
+-- what contracts see of it: after steps of which the last was this, that gave the pass a number, or that came after a note was taken in
+
+module _ (shown : List Taken → List ℕ) where
+  pub stays_on : (v w : View) → Stays v w → SeesOn (pass_view_by shown v) (pass_view_by shown w)
+  stays_on v w t = record { seen = t.seen; listed = t.listed; share = t.share }
+
+  pub stays_continue : (v w u : View) → Stays v u → Goes w u → Continues (pass_view_by shown v) (pass_view_by shown u)
+  stays_continue v w u t goes = record { sound = sound shown w u goes; on = stays_on v u t; number = t.number }
+
+  pub adds_continue : (v w u : View) (target : Target) (e : Entry) → Stays v w → Adds target e w u → Continues (pass_view_by shown v) (pass_view_by shown u)
+  adds_continue v w u target e t adds = let a = t.listed in let b = adds.goes.listed in record {
+    sound = sound shown w u adds.goes;
+    on = record {
+      seen = begins_through (history_of v.log) (history_of w.log) (history_of u.log) t.seen adds.goes.seen;
+      listed = omega arith;
+      share = adds.goes.share ∙ t.share;
+    };
+    number = adds.number ∙ t.number;
+  }
+
+  pub enlists : (v w u : View) (found : ℕ) → Stays v w → GivesNumber found w u → shown u.own ≡ [] → Enlistment (pass_view_by shown v) (pass_view_by shown u)
+  enlists v w u found t gives none = let a = t.listed in let b = gives.above in let c = gives.listed in record {
+    sound = sound shown w u gives.goes;
+    on = record {
+      seen = begins_through (history_of v.log) (history_of w.log) (history_of u.log) t.seen gives.goes.seen;
+      listed = omega arith;
+      share = gives.goes.share ∙ t.share;
+    };
+    number = gives.number ∙ sym c;
+    above = omega arith;
+    fresh = sym gives.goes.own ∙ gives.mine;
+    mine = gives.mine;
+    shown = none;
+  }
+
+  module _ (a v w : View) (target : Target) (sees : Sees target (told_pass v (note_pass a)) w) where
+    first : IsPrefix v.log w.log
+    first = All-head (λ l. IsPrefix l w.log) v.log (a.log ∷ v.told) sees.goes.heard
+
+    pub hears : Stays v w
+    hears = record { seen = history_on v.log w.log first; listed = enlisted_on v.log w.log first; share = sees.goes.share; mine = sees.mine; number = sees.number }
+
+    pub meets : shown w.own ≡ shown v.own → Meeting (pass_view_by shown a) (pass_view_by shown v) (pass_view_by shown w)
+    meets same = record {
+      met = history_on a.log w.log (All-head (λ l. IsPrefix l w.log) a.log v.told (All-tail (λ l. IsPrefix l w.log) v.log (a.log ∷ v.told) sees.goes.heard));
+      mine = sees.mine;
+      shown = same;
+    }
 
 pub all_more : {X : Type 0} (P : X → Type 0) (xs : List X) (x : X) → AllByRecursion P xs → P x → AllByRecursion P (xs ++ x ∷ [])
 all_more P [] x all one = (one, tt)
 all_more P (y ∷ xs) x all one = (all.0, all_more P xs x all.1 one)
 
 -- one step more on the number of the enlisted
-pub one_more : (v w u : View) (found at : ℕ) → EnlistSteps v w → Takes w (step_taken (Enlisted found) at None ∷ []) u → EnlistSteps v u
-one_more v w u found at s t =
-    search (arith, takes_on v w u s.steps (step_taken (Enlisted found) at None ∷ []) s.takes t, all_more IsOnEnlisted s.steps (step_taken (Enlisted found) at None) s.on_enlisted (found, (refl, refl)))
+pub one_more : (v w u : View) (x : Taken) → EnlistSteps v w → IsOnEnlisted x → Takes w (x ∷ []) u → EnlistSteps v u
+one_more v w u x s on t = record { steps = s.steps ++ x ∷ []; takes = takes_on v w u s.steps (x ∷ []) s.takes t; on_enlisted = all_more IsOnEnlisted s.steps x s.on_enlisted on }
 
-pub sound_second : (v : View) → IsSound (pass_view_of v) → IsSound (pass_view_of (second_of v))
-sound_second v s = record { legal = s.legal; own = sym (none_by_zero v.seen s.legal); few = s.few; acts = half_acts true v.share s.acts; alone = λ is. absurd (half_not_whole true v.share is) }
+pub sound_second : (shown : List Taken → List ℕ) (v : View) → IsSound (pass_view_by shown v) → IsSound (pass_view_by shown (second_pass v))
+sound_second shown v s = record {
+  legal = s.legal;
+  own = sym (none_by_zero (history_of v.log) s.legal);
+  few = s.few;
+  acts = half_acts true v.share s.acts;
+  alone = λ is. absurd (half_not_whole true v.share is);
+}
 
-pub sound_kept : (v : View) → IsSound (pass_view_of v) → IsSound (pass_view_of (kept_of v))
-sound_kept v s = record { legal = s.legal; own = s.own; few = s.few; acts = half_acts false v.share s.acts; alone = λ is. absurd (half_not_whole false v.share is) }
+pub sound_left : (shown : List Taken → List ℕ) (v : View) → IsSound (pass_view_by shown v) → IsSound (pass_view_by shown (left_pass v))
+sound_left shown v s = record { legal = s.legal; own = s.own; few = s.few; acts = half_acts false v.share s.acts; alone = λ is. absurd (half_not_whole false v.share is) }
 
 -- the count of accepted events has room for one more
 pub room : (k m : PassView) (call : EventCall) (r : Result Accepted Refusal) (n : ℕ) → IfOk r (λ reply. AcceptedReport k call reply m) → is_ok r ≡ true → IsSound m → length k.mine ≡ n

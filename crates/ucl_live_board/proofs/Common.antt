@@ -1,26 +1,25 @@
 -- The words and lemmas from elsewhere that the proofs of this crate share.
-pub use Rattle.atomic_table.proofs.Lists.{at_longer, at_set, set_else, set_here}
-pub use Rattle.std.proofs.Common.{Bool, List, [], ap, append-nil, append_assoc, arith, cond, eq-eqb, false, if◌then◌else◌, inl, inr, le_refl, length, length-append}
-pub use Rattle.std.proofs.Common.{length-set, length-take-le, map, nat_lt, ne_eqb, refl, set, subst, suc, sym, take, true, true≢false, zero, ℕ, ⊎_elim, ◌++◌, ◌+◌}
-pub use Rattle.std.proofs.Common.{◌<◌, ◌==◌, ◌∙◌, ◌∷◌, ◌≡◌, ◌≢◌, ◌≤◌, ◌⊎◌}
+pub use Rattle.atomic_table.proofs.Lists.{at_set, set_else, set_here}
+pub use Rattle.std.proofs.Common.{Bool, List, [], ap, append-nil, append_assoc, arith, cond, eq-eqb, false, inl, inr, le_refl, length, length-append}
+pub use Rattle.std.proofs.Common.{length-set, length-take-le, map, nat_lt, ne_eqb, refl, set, subst, suc, sym, take, true, true≢false, zero, ℕ, ⊎_elim, ◌++◌}
+pub use Rattle.std.proofs.Common.{◌+◌, ◌<◌, ◌==◌, ◌∙◌, ◌∷◌, ◌≡◌, ◌≢◌, ◌≤◌, ◌⊎◌}
 pub use Rattle.std.proofs.lemmas.Bool.{eqb-true, ltb-true}
 pub use Rattle.std.proofs.lemmas.List.{nil_from_length}
 pub use Rattle.std.proofs.lemmas.List.Elements.{All-append, All-cons, All-head, All-nil, All-tail, filter-append}
-pub use Rattle.std.specs.Prelude.{All, Err, IfOk, IsSome, IsTrue, None, Ok, Result, Some, drop, filter, is_ok, not, ◌&&◌}
+pub use Rattle.std.specs.Prelude.{All, Err, IfOk, IsSome, Option, IsTrue, None, Ok, Result, Some, filter, is_ok, not, ◌&&◌}
 pub use Rattle.ucl_board.proofs.Repeats.{begins_length, begins_more, begins_none, begins_same, begins_take, begins_through}
-pub use Rattle.ucl_board.proofs.Logs.{added_more, history_more, history_same, log_more, log_none, taken_append, taken_none, taken_other, taken_own}
 pub use Rattle.ucl_board.specs.History.{IsLegal, MayFollow, followed_by}
-pub use Rattle.ucl_board.specs.Log.{Enlisted, IsLog, IsThere, Log, Logged, Match, Swap, Taken, Target, added_by, entry_list, history_of, logged_by, step_taken}
-pub use Rattle.ucl_board.specs.Log.{taken_by}
+pub use Rattle.ucl_board.specs.Log.{Enlisted, Enlists, IsLegalRule, IsLog, IsThere, Log, Logged, Match, MayBeTaken, Taken, Target, added_by, enlisted_by}
+pub use Rattle.ucl_board.specs.Log.{enlists, entry_list, history_of, logged_by, number_by, number_of, step_taken, taken_by}
 pub use Rattle.ucl_board.specs.Words.{max_version}
 pub use Rattle.ucl_board.specs.declared.entry.Entry.{Entry}
 pub use Rattle.ucl_live_board.specs.CallSteps.{EnlistSteps, IsOnEnlisted}
 pub use Rattle.ucl_live_board.specs.OneHistory.{BoardsOpenFresh, DidAllAlone, ViewInvariant, HoldersDidAll, IsHeld, BoardInvariant, LastStepsSeeAll, Covers}
-pub use Rattle.ucl_live_board.specs.OneHistory.{StepsComeLast, WholeIsAlone}
-pub use Rattle.ucl_live_board.specs.Passes.{AcceptedReport, Continues, IsAlone, IsSound, Meeting, PassView, SeesOn, SharedReading, entries_by}
+pub use Rattle.ucl_live_board.specs.OneHistory.{NumbersAreApart, StepsComeLast, WholeIsAlone}
+pub use Rattle.ucl_live_board.specs.Passes.{AcceptedReport, Continues, IsSound, Meeting, PassView, SeesOn, SharedReading, entries_by}
 pub use Rattle.ucl_live_board.specs.Shares.{Overlap, Share, first_half, half_of, second_half, whole}
-pub use Rattle.ucl_live_board.specs.Steps.{Adds, Enlists, Goes, Sees}
-pub use Rattle.ucl_live_board.specs.Views.{Takes, count_of, kept_of, newcomer, note_of, opener, pass_view_of, second_of, told_by}
+pub use Rattle.ucl_live_board.specs.Steps.{BoardStep, stepped_to}
+pub use Rattle.ucl_live_board.specs.Views.{Takes, count_of, first_pass, left_pass, new_pass, note_pass, pass_view_by, second_pass, told_pass}
 pub use Rattle.ucl_live_board.specs.declared.view.View.{View}
 pub use Rattle.ucl_word.proofs.Sequences.{may_induction, may_none}
 pub use lib.ListN.{get_elem?}

@@ -4,5 +4,6 @@ pub mod Halves
 pub mod Alone
 pub mod SettledPasses
 pub mod InvariantIsKept
+pub mod StepFacts
 pub mod CallsBySteps
 pub mod LogFacts

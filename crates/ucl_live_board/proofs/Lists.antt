@@ -1,7 +1,7 @@
 -- The entries of one reporter.
-use Rattle.ucl_live_board.proofs.Common.{◌≡◌, ◌≢◌, ℕ, ◌≤◌, Bool, cond, ◌==◌, List, ◌∷◌, ◌++◌, length, refl, sym, ap, ◌∙◌, subst, arith, append-nil, eq-eqb, ne_eqb}
-use Rattle.ucl_live_board.proofs.Common.{le_refl, [], not, filter-append, IsPrefix, may_induction, Entry, max_version, MayFollow, IsLegal, followed_by, begins_same}
-use Rattle.ucl_live_board.proofs.Common.{begins_through, PassView, IsSound, Continues, entries_by}
+use Rattle.ucl_live_board.proofs.Common.{◌≡◌, ◌≢◌, ℕ, ◌≤◌, Bool, cond, ◌==◌, List, ◌∷◌, ◌++◌, length, refl, sym, ap, ◌∙◌, subst, arith, append-nil, eq-eqb}
+use Rattle.ucl_live_board.proofs.Common.{ne_eqb, le_refl, [], not, filter-append, IsPrefix, may_induction, Entry, max_version, MayFollow, IsLegal, followed_by}
+use Rattle.ucl_live_board.proofs.Common.{begins_same, begins_through, PassView, IsSound, Continues, entries_by}
 use Rattle.std.proofs.lemmas.List.Filters.{length-filter_both}
 use Rattle.ucl_board.proofs.HistoryTheorems.{versions}
 

@@ -1,8 +1,8 @@
 -- Two passes that met, and a reading by the second: the counts decide whether there was a third reporter.
-use Rattle.ucl_live_board.proofs.Common.{◌≡◌, ◌≢◌, ◌⊎◌, inl, inr, ⊎_elim, ℕ, suc, ◌+◌, ◌<◌, Bool, true, false, cond, ◌==◌, List, ◌∷◌, ◌++◌, length, take, refl, sym}
-use Rattle.ucl_live_board.proofs.Common.{ap, ◌∙◌, arith, append-nil, length-append, [], length-take-le, eq-eqb, true≢false, All, filter, not, ◌&&◌, eqb-true}
-use Rattle.ucl_live_board.proofs.Common.{nil_from_length, All-cons, All-nil, IsPrefix, Entry, begins_length, begins_take, begins_through, PassView, entries_by}
-use Rattle.ucl_live_board.proofs.Common.{IsSound, Continues, SharedReading, Meeting}
+use Rattle.ucl_live_board.proofs.Common.{◌≡◌, ◌≢◌, ◌⊎◌, inl, inr, ⊎_elim, ℕ, suc, ◌+◌, ◌<◌, Bool, true, false, cond, ◌==◌, List, ◌∷◌, ◌++◌, length, take, refl}
+use Rattle.ucl_live_board.proofs.Common.{sym, ap, ◌∙◌, arith, append-nil, length-append, [], length-take-le, eq-eqb, true≢false, All, filter, not, ◌&&◌}
+use Rattle.ucl_live_board.proofs.Common.{eqb-true, nil_from_length, All-cons, All-nil, IsPrefix, Entry, begins_length, begins_take, begins_through, PassView}
+use Rattle.ucl_live_board.proofs.Common.{entries_by, IsSound, Continues, SharedReading, Meeting}
 use Rattle.std.proofs.lemmas.Bool.Decides.{eqb_tells, nat_tests}
 use Rattle.ucl_board.specs.declared.reading.Reading.{Reading}
 use Rattle.ucl_live_board.specs.Settling.{AreAlone, both_accepted, Settled, IsOfBoth}

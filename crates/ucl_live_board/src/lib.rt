@@ -13,5 +13,8 @@ pub use asking::Asking;
 pub use errors::{Strangers, TooManyReporters};
 pub use live_board::{LiveBoard, MAX_REPORTERS};
 pub use settling::settle;
-pub use theorems::{holders_did_all, last_steps_see_all, steps_come_last, whole_is_alone};
+pub use theorems::{
+    BoardRule, holders_did_all, last_steps_see_all, numbers_are_apart, steps_come_last,
+    whole_is_alone,
+};
 pub use view::View;

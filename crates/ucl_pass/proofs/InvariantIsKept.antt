@@ -1,13 +1,16 @@
 -- Each kind of step on the cell keeps the invariant, and tells its pass what it says.
-use Rattle.ucl_pass.proofs.Common.{◌≡◌, ◌≢◌, inl, inr, ℕ, zero, suc, ◌+◌, ◌-◌, ◌<◌, true, false, List, ◌∷◌, ◌++◌, length, set, take, nat_eq, get_or, []}
-use Rattle.ucl_pass.proofs.Common.{if◌then◌else◌, refl, sym, ap, ◌∙◌, subst, arith, le_refl, true≢false, slice_index, Result, MatchResult, IsSome, some, get_elem?}
-use Rattle.ucl_pass.proofs.Common.{Turns, Forks, Merges, EventCall, word_of, Entry, IsMatch, word_at, match_after, IsLegal, followed_by, Swap, Match, Whole}
-use Rattle.ucl_pass.proofs.Common.{history_of, IsThere, board_length, word_after, one_word, View, opener, newcomer, kept_of, second_of, note_of, told_by}
-use Rattle.ucl_pass.proofs.Common.{words_after, CellInvariant, IsNextBoard, with_one_more, entry_at, Looks, LooksOnly, LooksAndShows, StoresEntry, StoresEvent}
-use Rattle.ucl_pass.proofs.Common.{StoresReporter, MayStore, Exchanges, looked, look_keeps, look_tells, same_history, entered, add_keeps, add_tells, longer_history}
-use Rattle.ucl_pass.proofs.Common.{enlisted_as, enlist_keeps, enlist_tells, unchanged_history, second_added, note_added, note_joined, opens}
+use Rattle.ucl_pass.proofs.Common.{Err, Ok, ◌≡◌, ◌≢◌, inl, inr, ℕ, ◌+◌, ◌<◌, Bool, true, false, List, ◌∷◌, ◌++◌, length, set, take, nat_eq, [], Option, Some}
+use Rattle.ucl_pass.proofs.Common.{None, if◌then◌else◌, refl, sym, ap, ◌∙◌, subst, arith, true≢false, slice_index, Result, MatchResult, IsSome, some, get_elem?}
+use Rattle.ucl_pass.proofs.Common.{Turns, Forks, Merges, EventCall, Entry, IsLegal, followed_by, one_word, View, new_pass, first_pass, left_pass, second_pass}
+use Rattle.ucl_pass.proofs.Common.{note_pass, told_pass, words_after, CellInvariant, IsNextBoard, with_one_more, entry_at, CellStep, LooksOnly, LooksAndShows}
+use Rattle.ucl_pass.proofs.Common.{StoresEvent, StoresReporter, MayStore, Exchanges, Taken, Target, history_of, enlisted_by, number_of, taken_by, IsLegalStep}
 use lib.Pointwise.{pointwise, bytes_decides}
-use Rattle.ucl_board.specs.History.{board_of}
+use Rattle.ucl_word.proofs.Sequences.{may_last}
+use Rattle.ucl_board.specs.History.{board_of, MayFollow}
+use Rattle.ucl_board.specs.Log.{Enlists, Whole, step_taken, logged_by, IsThere, MayAdd, MayBeTaken, MayEnlist}
+use Rattle.ucl_board.proofs.LogFacts.{legal_history}
+use Rattle.ucl_live_board.proofs.InvariantIsKept.{step_keeps, step_tells, words_stay, words_entered, words_enlisted, seconds_keep, notes_keep, joins_keep}
+use Rattle.ucl_live_board.proofs.InvariantIsKept.{opens_keep}
 
 -- the thirteen words
 
@@ -23,16 +26,6 @@ more_words : (h : List Entry) (n : ℕ) → with_one_more (words_after h n) ≡ 
 unfolding board_of
 more_words h n = refl
 
--- a match word among the thirteen
-
-get_front : (xs ys : List ℕ) (k : ℕ) → k < length xs → get_or (xs ++ ys) k 0 ≡ get_or xs k 0
-get_front [] ys k less = absurd (omega arith)
-get_front (x ∷ xs) ys zero less = refl
-get_front (x ∷ xs) ys (suc k) less = get_front xs ys k (omega arith)
-
-match_word : (h : List Entry) (n game : ℕ) → IsMatch game → word_at (words_after h n) game ≡ word_of (match_after h game)
-match_word h n game is = let long = board_length h in get_front (board_of h) (n ∷ []) (game - 1) (omega arith) ∙ word_after h game is
-
 entry_differs : (h : List Entry) (n : ℕ) (e : Entry) → IsLegal (followed_by h e) → words_after h n ≢ words_after (followed_by h e) n
 entry_differs h n e legal same = search (arith, match_words h n, match_words (followed_by h e) n, one_word h e legal)
 
@@ -45,141 +38,126 @@ by_exchange current next P x hit miss = search (arith, pointwise, nat_eq, bytes_
 
 -- one pass takes one step
 module _ (x : List ℕ) (views : List View) (r : CellInvariant x views) (seat : ℕ) (v : View) (here : get_elem? views seat ≡ some v) (acts : IsSome v.share) where
-  -- that stores nothing
-  module _ (shown : List ℕ) where
-    abbrev seen_by_load : View
-    seen_by_load = looked words_after x views r seat v here acts Whole tt r.enlisted shown (le_refl r.enlisted)
+  number_is : number_of v.own ≡ number_of (taken_by seat r.log)
+  number_is = ap number_of (r.fits seat v here).own.1
 
-    load_same : seen_by_load.seen ≡ history_of r.log
-    load_same = same_history words_after x views r seat v here acts Whole tt r.enlisted shown (le_refl r.enlisted)
+  abbrev taken : Target → Option Entry → Taken
+  taken target entry = step_taken target (length r.log) (length (history_of r.log)) entry
 
-    load_keeps : CellInvariant x (set views seat seen_by_load)
-    load_keeps = (look_keeps words_after x views r seat v here acts Whole tt r.enlisted shown (le_refl r.enlisted)).rule
-
-    load_tells : Looks v shown x seen_by_load
-    load_tells =
-        let f = r.fits seat v here in
+  one_step : (target : Target) (entry : Option Entry) (y : List ℕ) → IsThere r.log target → MayAdd (history_of r.log) (number_of (taken_by seat r.log)) entry
+      → MayEnlist (number_of (taken_by seat r.log)) target entry
+      → y ≡ words_after (history_of (r.log ++ logged_by seat (taken target entry) ∷ [])) (enlisted_by (r.log ++ logged_by seat (taken target entry) ∷ []))
+      → (w : View) × CellInvariant y (set views seat w) × CellStep target entry v x y w
+  one_step target entry y there adds enlists are =
+      let t = taken target entry in
+      let may : MayBeTaken r.log (logged_by seat t) = record { place = (refl, refl); there = there } in
+      let next : IsLegalStep r.log (logged_by seat t) = record { adds = adds; enlists = enlists } in
+      let rule = step_keeps words_after IsLegalStep x views r seat v here y t acts may next are in (
+        _,
+        rule,
         record {
-          seen_all = search (arith, load_same);
-          sees = look_tells words_after x views r seat v here acts Whole tt r.enlisted shown (le_refl r.enlisted);
-          shown_is = refl;
-        }
+          seat = seat;
+          steps = step_tells words_after IsLegalStep x views r seat v here y t target refl acts may next rule;
+          entry_is = refl;
+          found = r.words_are;
+          left = are;
+        },
+      )
 
-  load : (w : View) × CellInvariant x (set views seat w) × LooksOnly v x x w
-  load = (seen_by_load v.shown, load_keeps v.shown, load_tells v.shown)
+  -- that stores nothing
+  load : (shown : Bool) → (w : View) × CellInvariant x (set views seat w) × CellStep (Whole shown) None v x x w
+  load shown = one_step (Whole shown) None x tt tt tt (words_stay words_after IsLegalStep x views r seat v here (taken (Whole shown) None) refl refl)
 
   -- that stores an event
-  module _ (next : List ℕ) (e : EventCall) (pos : 0 < v.number) (game : IsMatch e.game) (is : IsNextBoard (entry_at v e) x next) where
-    abbrev entry : Entry
-    entry = entry_at v e
-
-    next_is : (next ≡ words_after (followed_by (history_of r.log) entry) r.enlisted) × IsLegal (followed_by (history_of r.log) entry)
-    next_is = is r.enlisted (history_of r.log) r.legal (sym r.words_are)
-
-    there_now : IsThere (history_of r.log) (Match Swap e.game (word_at x e.game))
-    there_now = (game, ap (λ (ws : List ℕ). word_at ws e.game) r.words_are ∙ match_word (history_of r.log) r.enlisted e.game game)
-
-    abbrev seen_by_store : View
-    seen_by_store = entered words_after x views r seat v here acts entry (word_at x e.game) there_now pos refl next_is.1 r.enlisted (le_refl r.enlisted)
-
-    longer : seen_by_store.seen ≡ followed_by (history_of r.log) entry
-    longer = longer_history words_after x views r seat v here acts entry (word_at x e.game) there_now pos refl next_is.1 r.enlisted (le_refl r.enlisted)
-
-    store_tells : StoresEntry entry v x next seen_by_store
-    store_tells =
-        let f = r.fits seat v here in
-        record {
-          seen_all = search (arith, next_is, longer);
-          adds = add_tells words_after x views r seat v here acts entry (word_at x e.game) there_now pos refl next_is.1 r.enlisted (le_refl r.enlisted);
-          before = history_of r.log;
-          legal = r.legal;
-          found = r.words_are;
-        }
-
-    store : (w : View) × CellInvariant next (set views seat w) × MayStore (StoresEvent e) v x next w
-    store = (
-      seen_by_store,
-      (add_keeps words_after x views r seat v here acts entry (word_at x e.game) there_now pos refl next_is.1 r.enlisted (le_refl r.enlisted) next next_is.0).rule,
-      inr (λ same. entry_differs (history_of r.log) r.enlisted entry next_is.1 (sym r.words_are ∙ (same ∙ next_is.0)), store_tells),
-    )
+  store : (next : List ℕ) (e : EventCall) → IsNextBoard (entry_at v e) x next → (w : View) × CellInvariant next (set views seat w) × MayStore (StoresEvent e) v x next w
+  store next e is =
+      let h = history_of r.log in
+      let entry = entry_at v e in
+      let next_is = is (enlisted_by r.log) h (legal_history r.log r.follows) (sym r.words_are) in
+      let t = one_step (Whole false) (Some entry) next tt (may_last MayFollow h entry next_is.1, number_is) tt
+      (next_is.0 ∙ words_entered words_after IsLegalStep x views r seat v here (taken (Whole false) (Some entry)) entry refl refl) in
+      (t.0, t.1, inr (λ same. entry_differs h (enlisted_by r.log) entry next_is.1 (sym r.words_are ∙ (same ∙ next_is.0)), t.2))
 
   -- that stores an enlistment
-  module _ (reader : v.number ≡ 0) (room : slice_index x 12 < 255) where
-    found_last : r.enlisted ≡ slice_index x 12
-    found_last = sym (ap (λ (ws : List ℕ). slice_index ws 12) r.words_are ∙ last_word (history_of r.log) r.enlisted)
-
-    left : r.enlisted < 255
-    left = subst (λ (k : ℕ). k < 255) (sym found_last) room
-
-    more : with_one_more x ≡ words_after (history_of r.log) (r.enlisted + 1)
-    more = ap with_one_more r.words_are ∙ more_words (history_of r.log) r.enlisted
-
-    abbrev seen_by_enlisting : View
-    seen_by_enlisting = enlisted_as words_after x views r seat v here acts reader left
-
-    enlisting_same : seen_by_enlisting.seen ≡ history_of r.log
-    enlisting_same = unchanged_history words_after x views r seat v here acts reader left
-
-    enlisting_tells : StoresReporter v x (with_one_more x) seen_by_enlisting
-    enlisting_tells = search (arith, found_last, enlist_tells words_after x views r seat v here acts reader left, more, enlisting_same, left)
-
-    enlisting : (w : View) × CellInvariant (with_one_more x) (set views seat w) × MayStore StoresReporter v x (with_one_more x) w
-    enlisting = (
-      seen_by_enlisting,
-      (enlist_keeps words_after x views r seat v here acts reader left (with_one_more x) more).rule,
-      inr (λ same. reporter_differs (history_of r.log) r.enlisted (sym r.words_are ∙ (same ∙ more)), enlisting_tells),
-    )
+  enlisting : number_of v.own ≡ 0 → slice_index x 12 < 255 → (w : View) × CellInvariant (with_one_more x) (set views seat w) × MayStore StoresReporter v x (with_one_more x) w
+  enlisting reader room =
+      let h = history_of r.log in
+      let found : slice_index x 12 ≡ enlisted_by r.log = ap (λ (ws : List ℕ). slice_index ws 12) r.words_are ∙ last_word h (enlisted_by r.log) in
+      let more : with_one_more x ≡ words_after h (enlisted_by r.log + 1) = ap with_one_more r.words_are ∙ more_words h (enlisted_by r.log) in
+      let target = Enlists (slice_index x 12) in
+      let t = one_step target None (with_one_more x) (found, room) tt (sym number_is ∙ reader, refl)
+      (more ∙ words_enlisted words_after IsLegalStep x views r seat v here (taken target None) refl refl) in
+      (t.0, t.1, inr (λ same. reporter_differs h (enlisted_by r.log) (sym r.words_are ∙ (same ∙ more)), t.2))
 
 pub looks : (seat : ℕ) (v : View) → IsSome v.share → Turns CellInvariant seat v (λ x. x) LooksOnly
-looks seat v acts x views r here = load x views r seat v here acts
+looks seat v acts x views r here = load x views r seat v here acts false
 
 pub reads : (seat : ℕ) (v : View) → IsSome v.share → Turns CellInvariant seat v (λ x. x) LooksAndShows
-reads seat v acts x views r here =
-    let shown : List ℕ = v.shown ++ length (history_of r.log) ∷ [] in
-    let w = seen_by_load x views r seat v here acts shown in
-    let same : shown ≡ v.shown ++ length w.seen ∷ [] = ap (λ (h : List Entry). v.shown ++ length h ∷ []) (sym (load_same x views r seat v here acts shown)) in
-    (w, load_keeps x views r seat v here acts shown, subst (λ (l : List ℕ). Looks v l x w) same (load_tells x views r seat v here acts shown))
+reads seat v acts x views r here = load x views r seat v here acts true
 
-pub adds : (seat : ℕ) (v : View) (e : EventCall) (current next : List ℕ) → IsSome v.share → 0 < v.number → IsMatch e.game → IsNextBoard (entry_at v e) current next
+pub adds : (seat : ℕ) (v : View) (e : EventCall) (current next : List ℕ) → IsSome v.share → IsNextBoard (entry_at v e) current next
     → Turns CellInvariant seat v (λ x. if pointwise nat_eq x current then next else x) (MayStore (StoresEvent e))
-adds seat v e current next acts pos game is x views r here =
+adds seat v e current next acts is x views r here =
     by_exchange current next (λ x' y. (w : View) × CellInvariant y (set views seat w) × MayStore (StoresEvent e) v x' y w) x
-    (λ same. store x views r seat v here acts next e pos game (subst (λ (ws : List ℕ). IsNextBoard (entry_at v e) ws next) (sym same) is))
-    (λ _. let l = load x views r seat v here acts in (l.0, l.1, inl (refl, l.2)))
+    (λ same. store x views r seat v here acts next e (subst (λ (ws : List ℕ). IsNextBoard (entry_at v e) ws next) (sym same) is))
+    (λ _. let l = load x views r seat v here acts false in (l.0, l.1, inl (refl, l.2)))
 
-pub enlists : (seat : ℕ) (v : View) (current next : List ℕ) → IsSome v.share → v.number ≡ 0 → slice_index current 12 < 255 → next ≡ with_one_more current
+pub enlists : (seat : ℕ) (v : View) (current next : List ℕ) → IsSome v.share → number_of v.own ≡ 0 → slice_index current 12 < 255 → next ≡ with_one_more current
     → Turns CellInvariant seat v (λ x. if pointwise nat_eq x current then next else x) (MayStore StoresReporter)
 enlists seat v current next acts reader room is x views r here =
     by_exchange current next (λ x' y. (w : View) × CellInvariant y (set views seat w) × MayStore StoresReporter v x' y w) x
     (λ same. subst (λ (y : List ℕ). (w : View) × CellInvariant y (set views seat w) × MayStore StoresReporter v x y w) (ap with_one_more same ∙ sym is)
     (enlisting x views r seat v here acts reader (subst (λ (ws : List ℕ). slice_index ws 12 < 255) (sym same) room)))
-    (λ _. let l = load x views r seat v here acts in (l.0, l.1, inl (refl, l.2)))
+    (λ _. let l = load x views r seat v here acts false in (l.0, l.1, inl (refl, l.2)))
 
 -- a board may open with the words of no event and no reporter
-pub begins : (words : List ℕ) → words ≡ words_after [] 0 → CellInvariant words (opener ∷ [])
-begins words are = (opens words_after words are).rule
+pub begins : (words : List ℕ) → words ≡ words_after [] 0 → CellInvariant words (first_pass ∷ [])
+begins words are = opens_keep words_after IsLegalStep words are
 
-pub seconds : (seat : ℕ) (v : View) → Forks CellInvariant seat v (kept_of v) (second_of v)
-seconds seat v x views r here = (second_added words_after x views r seat v here).rule
+pub seconds : (seat : ℕ) (v : View) → Forks CellInvariant seat v (left_pass v) (second_pass v)
+seconds seat v x views r here = seconds_keep words_after IsLegalStep x views r seat v here
 
-pub notes : (seat : ℕ) (v : View) → Forks CellInvariant seat v v (note_of v)
-notes seat v x views r here = (note_added words_after x views r seat v here).rule
+pub notes : (seat : ℕ) (v : View) → Forks CellInvariant seat v v (note_pass v)
+notes seat v x views r here = notes_keep words_after IsLegalStep x views r seat v here
 
-pub joins : (seat : ℕ) (v : View) (other : ℕ) (a : View) → Merges CellInvariant seat v other (note_of a) (told_by v (note_of a)) newcomer
-joins seat v other a x views r here apart there = (note_joined words_after x views r seat v here other (note_of a) apart there refl refl).rule
+pub joins : (seat : ℕ) (v : View) (other : ℕ) (a : View) → Merges CellInvariant seat v other (note_pass a) (told_pass v (note_pass a)) new_pass
+joins seat v other a x views r here apart there = joins_keep words_after IsLegalStep x views r seat v here other (note_pass a) apart there refl
 
 -- what an exchange says by its answer
 
 other_words : (x current : List ℕ) → pointwise nat_eq x current ≡ false → x ≢ current
 other_words x current not is = true≢false (sym ((bytes_decides x current).1 is) ∙ not)
 
+missed_by : (Stores : View → List ℕ → List ℕ → View → Type 0) (v w : View) (x : List ℕ) → MayStore Stores v x x w → LooksOnly v x x w
+missed_by Stores v w x (inl t) = t.1
+missed_by Stores v w x (inr t) = absurd (t.0 refl)
+
 abbrev pub Answers : (View → List ℕ → List ℕ → View → Type 0) → View → List ℕ → List ℕ → Result (List ℕ) (List ℕ) → View → Type 0
 Answers tells v current next r w = MatchResult r (λ x. (pointwise nat_eq x current ≡ true) × tells v x next w) (λ x. (pointwise nat_eq x current ≡ false) × tells v x x w)
 
 pub add_says : (e : EventCall) (v w : View) (current next : List ℕ) (r : Result (List ℕ) (List ℕ)) → IsNextBoard (entry_at v e) current next → Answers (MayStore (StoresEvent e)) v current next r w
     → Exchanges (StoresEvent e) v current next r w
-add_says e v w current next r is said = search (arith, bytes_decides, entry_differs, other_words)
+add_says e v w current next (Ok x) is said = by ((bytes_decides x current).0 said.0) said.1
+  where
+    by : x ≡ current → MayStore (StoresEvent e) v x next w → (x ≡ current) × StoresEvent e v current next w
+    by same (inl t) =
+        let s = t.1 in
+        let words = sym (sym same ∙ s.found) in
+        let next_is = is (enlisted_by s.steps.before) (history_of s.steps.before) (legal_history s.steps.before s.steps.follows) words in
+        absurd (entry_differs (history_of s.steps.before) (enlisted_by s.steps.before) (entry_at v e) next_is.1 (words ∙ (sym same ∙ (t.0 ∙ next_is.0))))
+    by same (inr t) = (same, subst (λ (y : List ℕ). StoresEvent e v y next w) same t.1)
+add_says e v w current next (Err x) is said = (other_words x current said.0, missed_by (StoresEvent e) v w x said.1)
 
 pub enlist_says : (v w : View) (current next : List ℕ) (r : Result (List ℕ) (List ℕ)) → next ≡ with_one_more current → Answers (MayStore StoresReporter) v current next r w
     → Exchanges StoresReporter v current next r w
-enlist_says v w current next r is said = search (arith, bytes_decides, more_words, reporter_differs, other_words)
+enlist_says v w current next (Ok x) is said = by ((bytes_decides x current).0 said.0) said.1
+  where
+    by : x ≡ current → MayStore StoresReporter v x next w → (x ≡ current) × StoresReporter v current next w
+    by same (inl t) =
+        let s = t.1 in
+        let h = history_of s.steps.before in
+        let n = enlisted_by s.steps.before in
+        let words : current ≡ words_after h n = sym same ∙ s.found in
+        absurd (reporter_differs h n (sym words ∙ (sym same ∙ (t.0 ∙ (is ∙ (ap with_one_more words ∙ more_words h n))))))
+    by same (inr t) = (same, subst (λ (y : List ℕ). StoresReporter v y next w) same t.1)
+enlist_says v w current next (Err x) is said = (other_words x current said.0, missed_by StoresReporter v w x said.1)

@@ -9,11 +9,12 @@ use Rattle.ucl_word.specs.declared.event.EventCall.{EventCall}
 use Rattle.ucl_word.specs.declared.event.Accepted.{Accepted}
 use Rattle.ucl_word.specs.declared.refusal.Refusal.{Refusal}
 use Rattle.ucl_board.specs.declared.reading.Reading.{Reading}
+use Rattle.ucl_board.specs.Log.{history_of}
 use Rattle.ucl_live_board.specs.LiveRecords.{LiveReported, LiveRead, LiveSplit, LiveFull, LiveMet}
 use Rattle.ucl_live_board.specs.Passes.{Enlistment, opening_pass}
 use Rattle.ucl_live_board.specs.declared.view.View.{View}
-use Rattle.ucl_live_board.specs.Views.{count_of, kept_of, pass_view_of}
-use Rattle.ucl_pass.specs.CellInvariants.{IsUpToDate}
+use Rattle.ucl_live_board.specs.Views.{count_of, left_pass}
+use Rattle.ucl_pass.specs.CellInvariants.{IsUpToDate, cell_pass_view}
 
 -- the board that a pass is of, and what it knows
 pub record CellPass : Type 0 where
@@ -25,49 +26,49 @@ cell_pass_of p = record { board = p.table_id; view = cell_view p }
 
 -- the first pass of a board that was just opened
 pub record CellOpened (m : CellPass) : Type 0 where
-  pub fresh : pass_view_of m.view ≡ opening_pass
+  pub fresh : cell_pass_view m.view ≡ opening_pass
   pub acts : count_of m.view ≡ 0
 
 -- an event was entered or refused
 pub record CellReported (k : CellPass) (call : EventCall) (reply : Result Accepted Refusal) (m : CellPass) : Type 0 where
   pub own : m.board ≡ k.board
-  pub says : LiveReported (pass_view_of k.view) call reply (pass_view_of m.view)
+  pub says : LiveReported (cell_pass_view k.view) call reply (cell_pass_view m.view)
   pub acts : count_of k.view < count_of m.view
   pub up_to_date : IsUpToDate m.view
 
 -- the board was read
 pub record CellRead (k : CellPass) (read : Reading) (m : CellPass) : Type 0 where
   pub own : m.board ≡ k.board
-  pub says : LiveRead (pass_view_of k.view) read (pass_view_of m.view)
-  pub version : read.version ≡ length m.view.seen
+  pub says : LiveRead (cell_pass_view k.view) read (cell_pass_view m.view)
+  pub version : read.version ≡ length (history_of m.view.log)
   pub acts : count_of m.view ≡ count_of k.view + 1
   pub up_to_date : IsUpToDate m.view
 
 -- a second pass n was split off: the pass has the first half of its share, and is else as it was
 pub record CellSplit (k m n : CellPass) : Type 0 where
   pub own : (m.board ≡ k.board) × (n.board ≡ k.board)
-  pub says : LiveSplit (pass_view_of k.view) (pass_view_of m.view) (pass_view_of n.view)
-  pub kept : m.view ≡ kept_of k.view
+  pub says : LiveSplit (cell_pass_view k.view) (cell_pass_view m.view) (cell_pass_view n.view)
+  pub kept : m.view ≡ left_pass k.view
   pub acts : count_of n.view ≡ count_of k.view
 
 -- a reader's pass became a reporter's
 pub record CellEnlisted (k m : CellPass) : Type 0 where
   pub own : m.board ≡ k.board
-  pub enlisted : Enlistment (pass_view_of k.view) (pass_view_of m.view)
+  pub enlisted : Enlistment (cell_pass_view k.view) (cell_pass_view m.view)
   pub acts : count_of k.view < count_of m.view
   pub up_to_date : IsUpToDate m.view
 
 -- a pass that was to be enlisted found that as many reporters are enlisted as there are numbers
 pub record CellFull (k m : CellPass) : Type 0 where
   pub own : m.board ≡ k.board
-  pub says : LiveFull (pass_view_of k.view) (pass_view_of m.view)
+  pub says : LiveFull (cell_pass_view k.view) (cell_pass_view m.view)
   pub acts : count_of k.view < count_of m.view
   pub up_to_date : IsUpToDate m.view
 
 -- the pass met another, which was a and is b
 pub record CellMet (a b k m : CellPass) : Type 0 where
   pub own : (b.board ≡ a.board) × (m.board ≡ k.board)
-  pub says : LiveMet (pass_view_of a.view) (pass_view_of b.view) (pass_view_of k.view) (pass_view_of m.view)
+  pub says : LiveMet (cell_pass_view a.view) (cell_pass_view b.view) (cell_pass_view k.view) (cell_pass_view m.view)
   pub unchanged : b ≡ a
   pub acts : count_of m.view ≡ count_of k.view + 1
   pub up_to_date : IsUpToDate m.view

@@ -6,8 +6,8 @@ ghost use Rattle.crossbeam_utils.specs.Seq.{cell_view};
 ghost use Rattle.ucl_board.specs.Words.{AreWords};
 ghost use Rattle.ucl_live_board.specs.OneHistory.{BoardsOpenFresh};
 ghost use Rattle.ucl_live_board.specs.Passes.{reporter_figures};
-ghost use Rattle.ucl_live_board.specs.Views.{pass_view_of};
-ghost use Rattle.ucl_pass.specs.CellInvariants.{words_after, ImpliesInvariant};
+ghost use Rattle.ucl_board.specs.Log.{IsLegalStep};
+ghost use Rattle.ucl_pass.specs.CellInvariants.{words_after, ImpliesInvariant, cell_pass_view};
 ghost use Rattle.ucl_pass.specs.CellSteps.{LooksOnly, Exchanges, StoresEvent, IsNextBoard, entry_at, with_one_more};
 ghost use Rattle.ucl_pass.specs.CellRecords.{cell_pass_of, CellOpened, CellReported, CellRead, CellSplit, CellEnlisted, CellFull, CellMet};
 
@@ -75,7 +75,7 @@ impl CellBoard {
     pub fn open<R>(_rt: &R, alloc: Global) -> Result<(CellBoard, CellReaderPass), OutOfMemory>
         ensures own { IfOk result (λ opened. opened.1.board ≡ opened.0) }
         ensures opened { IfOk result (λ opened. CellOpened opened.1) }
-        ensures rule { BoardsOpenFresh words_after }
+        ensures rule { BoardsOpenFresh words_after IsLegalStep }
         ensures tied { ImpliesInvariant ⟦<OneHistory as Protocol<[u64; 13], View>>⟧.holds }
     {
         let (cell, seat) = Cell::ruled(alloc, words_with(&Board::fresh(), 0))?;
@@ -104,7 +104,6 @@ impl CellBoard {
         requires cell { seat.old.table_id ≡ self.now }
         requires acts { IsSome (cell_view seat.old).share }
         requires asks { K.call ≡ call.now }
-        requires me { 0 < (cell_view seat.old).number }
         requires next { IsNextBoard (entry_at (cell_view seat.old) call.now) current next }
         ensures own { seat.new.table_id ≡ seat.old.table_id }
         ensures stored { Exchanges (StoresEvent call.now) (cell_view seat.old) current next result
@@ -140,9 +139,9 @@ impl LiveBoard for CellBoard {
 
     ghost is_reporter = { λ board pass. pass.board ≡ board };
 
-    ghost reader = { λ pass. pass_view_of pass.view };
+    ghost reader = { λ pass. cell_pass_view pass.view };
 
-    ghost reporter = { λ pass. pass_view_of pass.view };
+    ghost reporter = { λ pass. cell_pass_view pass.view };
 
     fn report<R: Wait>(
         &self,
@@ -233,13 +232,13 @@ impl LiveBoard for CellBoard {
     }
 
     fn number_of(pass: &CellReporterPass) -> ReporterNo
-        ensures { result ≡ (reporter_figures (pass_view_of pass.now.view)).number }
+        ensures { result ≡ (reporter_figures (cell_pass_view pass.now.view)).number }
     {
         pass.number
     }
 
     fn accepted_of(pass: &CellReporterPass) -> u16
-        ensures { result ≡ (reporter_figures (pass_view_of pass.now.view)).accepted }
+        ensures { result ≡ (reporter_figures (cell_pass_view pass.now.view)).accepted }
     {
         pass.accepted
     }

@@ -22,5 +22,5 @@ pub use passes::{CellReaderPass, CellReporterPass};
 pub use theorems::each_cell_step_is_logged;
 pub use ucl_live_board::{
     LiveBoard, MAX_REPORTERS, Strangers, TooManyReporters, View, holders_did_all,
-    last_steps_see_all, settle, steps_come_last, whole_is_alone,
+    last_steps_see_all, numbers_are_apart, settle, steps_come_last, whole_is_alone,
 };

@@ -2,9 +2,10 @@
 
 ghost use Rattle.std.specs.Prelude.{◌≡◌, length};
 ghost use Rattle.ucl_live_board.specs.Passes.{IsSound};
-ghost use Rattle.ucl_live_board.specs.Views.{pass_view_of};
+ghost use Rattle.ucl_board.specs.Log.{added_by, number_of};
 ghost use Rattle.crossbeam_utils.specs.Seq.{cell_view};
 ghost use Rattle.ucl_pass.specs.CellRecords.{CellPass, cell_pass_of};
+ghost use Rattle.ucl_pass.specs.CellInvariants.{cell_pass_view};
 
 use crate::rule::Seat;
 use std::marker::Model;
@@ -21,8 +22,8 @@ impl Model for CellReaderPass {
 
     ghost view = { λ reader. cell_pass_of reader.seat };
 
-    ghost invariant = { λ reader. IsSound (pass_view_of (cell_view reader.seat))
-        × ((cell_view reader.seat).number ≡ 0) };
+    ghost invariant = { λ reader. IsSound (cell_pass_view (cell_view reader.seat))
+        × (number_of (cell_view reader.seat).own ≡ 0) };
 }
 
 impl CellReaderPass {
@@ -47,9 +48,9 @@ impl Model for CellReporterPass {
 
     ghost view = { λ reporter. cell_pass_of reporter.seat };
 
-    ghost invariant = { λ reporter. IsSound (pass_view_of (cell_view reporter.seat))
-        × ((cell_view reporter.seat).number ≡ reporter.number)
-        × (length (cell_view reporter.seat).mine ≡ reporter.accepted) };
+    ghost invariant = { λ reporter. IsSound (cell_pass_view (cell_view reporter.seat))
+        × (number_of (cell_view reporter.seat).own ≡ reporter.number)
+        × (length (added_by (cell_view reporter.seat).own) ≡ reporter.accepted) };
 }
 
 impl CellReporterPass {

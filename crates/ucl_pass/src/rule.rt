@@ -1,7 +1,8 @@
 //! The invariant of the cell, and the kinds of its steps. The values named here exist in proofs alone.
 
-ghost use Rattle.ucl_live_board.specs.Views.{newcomer, opener, kept_of, second_of, note_of, told_by};
-ghost use Rattle.ucl_pass.specs.CellInvariants.{CellInvariant};
+ghost use Rattle.ucl_board.specs.Log.{IsLegalStep};
+ghost use Rattle.ucl_live_board.specs.Views.{new_pass, first_pass, left_pass, second_pass, note_pass, told_pass};
+ghost use Rattle.ucl_pass.specs.CellInvariants.{CellInvariant, words_after};
 ghost use Rattle.ucl_pass.specs.CellSteps.{LooksOnly, LooksAndShows, MayStore, StoresEvent, StoresReporter};
 
 use atomic_table::{Join, Split};
@@ -9,7 +10,7 @@ use crossbeam_utils::atomic::seq_cell::{Pass, RuledSeqCell};
 use crossbeam_utils::rule::{Outcome, Protocol};
 use std::marker::PhantomData;
 pub use ucl_live_board::Asking;
-use ucl_live_board::View;
+use ucl_live_board::{BoardRule, View};
 
 /// One log of all steps, whose history has the twelve match words and whose reporters are as many as the thirteenth.
 pub struct OneHistory;
@@ -17,7 +18,13 @@ pub struct OneHistory;
 impl Protocol<[u64; 13], View> for OneHistory {
     ghost holds = { CellInvariant };
 
-    ghost first = { opener };
+    ghost first = { first_pass };
+}
+
+impl BoardRule for OneHistory {
+    ghost words_after = { words_after };
+
+    ghost may = { IsLegalStep };
 }
 
 /// A load of all words.
@@ -52,9 +59,9 @@ impl Outcome<[u64; 13], View> for Enlists {
 pub struct SecondPass;
 
 impl Split<View> for SecondPass {
-    ghost left = { kept_of };
+    ghost left = { left_pass };
 
-    ghost right = { second_of };
+    ghost right = { second_pass };
 }
 
 /// The split and the join of a note.
@@ -63,13 +70,13 @@ pub struct Note;
 impl Split<View> for Note {
     ghost left = { λ v. v };
 
-    ghost right = { note_of };
+    ghost right = { note_pass };
 }
 
 impl Join<View> for Note {
-    ghost both = { told_by };
+    ghost both = { told_pass };
 
-    ghost spent = { newcomer };
+    ghost spent = { new_pass };
 }
 
 /// The cell: the words of matches 1 to 12, then the number of enlisted reporters.

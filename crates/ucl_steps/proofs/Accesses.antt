@@ -1,13 +1,14 @@
 -- Accesses along a history, and what clean and unclean tries show.
-use Rattle.ucl_steps.proofs.Common.{◌≡◌, ℕ, suc, ◌+◌, ◌-◌, ◌*◌, ◌<◌, ◌≤◌, List, ◌∷◌, ◌++◌, take, length, Option, Some, None, Ok, Err, inl, inr, refl, sym, ap, ◌∙◌}
-use Rattle.ucl_steps.proofs.Common.{subst, arith, [], length-append, le_refl, get_or, get_or-set_other, slice_get, slice_index, slice_set, IsOk, AllByRecursion}
-use Rattle.ucl_steps.proofs.Common.{none-some, same_Some, false≢true, take-length, IsPrefix, MatchRecord, Refusal, answer, reply_of, word_of, record_at, at_below}
-use Rattle.ucl_steps.proofs.Common.{at_end, at_either, Entry, match_after, board_of, IsLegal, versions, same_number, take_beginning, AccessKind, Access, access}
-use Rattle.ucl_steps.proofs.Common.{Does, IsFoundIn, Follows, IsCollect, IsUnclean, IsClean, accesses_of, UncleanTriesSeeMore, UncleanTriesAreFew}
-use Rattle.ucl_steps.proofs.Common.{ReadingsAreSnapshots, ReportsAreSequential}
+use Rattle.ucl_board.proofs.Repeats.{is_stale}
+use Rattle.ucl_steps.proofs.Common.{legal_take, ◌≡◌, ℕ, suc, ◌+◌, ◌-◌, ◌*◌, ◌<◌, ◌≤◌, List, ◌∷◌, ◌++◌, take, length, Option, Some, None, Ok, Err, inl, inr}
+use Rattle.ucl_steps.proofs.Common.{refl, sym, ap, ◌∙◌, subst, arith, [], length-append, le_refl, get_or, get_or-set_other, slice_get, slice_index, slice_set}
+use Rattle.ucl_steps.proofs.Common.{IsOk, AllByRecursion, none-some, same_Some, false≢true, take-length, IsPrefix, MatchRecord, Refusal, answer, reply_of}
+use Rattle.ucl_steps.proofs.Common.{word_of, record_at, at_below, at_end, at_either, Entry, match_after, board_of, IsLegal, versions, same_number}
+use Rattle.ucl_steps.proofs.Common.{take_beginning, AccessKind, Access, access, Does, IsFoundIn, Follows, IsCollect, IsUnclean, IsClean, accesses_of}
+use Rattle.ucl_steps.proofs.Common.{UncleanTriesSeeMore, UncleanTriesAreFew, ReadingsAreSnapshots, ReportsAreSequential}
 use Rattle.ucl_board.specs.declared.reading.Reading.{Reading}
 use Rattle.ucl_steps.proofs.Lists.{get_some}
-use Rattle.ucl_steps.proofs.Histories.{number_expected, is_stale, legal_beginning, read_back, squeezed, board_from}
+use Rattle.ucl_steps.proofs.Histories.{number_expected, read_back, squeezed, board_from}
 use Rattle.ucl_board.specs.Log.{Look, Swap}
 
 -- accesses along a history
@@ -139,21 +140,21 @@ none_of_ok n o is = search (arith, false≢true)
 
 -- the record of the word that an access of a match found
 pub found_record : (h : List Entry) (m : Access) (game : ℕ) → IsLegal h → IsFoundIn h m → m.game ≡ game → record_at m.found ≡ match_after (take m.at h) game
-found_record h m game legal found is = ap record_at (found ∙ ap (λ (z : ℕ). word_of (match_after (take m.at h) z)) is) ∙ read_back (take m.at h) game (legal_beginning h m.at legal)
+found_record h m game legal found is = ap record_at (found ∙ ap (λ (z : ℕ). word_of (match_after (take m.at h) z)) is) ∙ read_back (take m.at h) game (legal_take h m.at legal)
 
 pub report_whole : ReportsAreSequential
 report_whole h low high now call (Ok reply) ms legal f won =
-    let swapped : Access = access Swap call.game won.looked won.before in
-    let t : Follows h low (access Look call.game won.looked won.at ∷ swapped ∷ []) high = subst (λ (z : List Access). Follows h low z high) won.accesses f in
+    let swapped : Access = access Swap call.game won.looked won.places.1 won.before in
+    let t : Follows h low (access (Look call) call.game won.looked won.places.0 won.at ∷ swapped ∷ []) high = subst (λ (z : List Access). Follows h low z high) won.accesses f in
     let place : now - 1 ≡ won.before = omega arith in
     search (arith, found_record h swapped call.game legal t.2.1 refl)
 report_whole h low high now call (Err refusal) ms legal f (inl refused) =
-    let looked : Access = access Look call.game refused.looked now in
+    let looked : Access = access (Look call) call.game refused.looked refused.place now in
     let t : Follows h low (looked ∷ []) high = subst (λ (z : List Access). Follows h low z high) refused.accesses f in
     ap (λ (z : MatchRecord). reply_of z call) (sym (found_record h looked call.game legal t.1 refl)) ∙ refused.answer
 report_whole h low high now call (Err refusal) ms legal f (inr missed) =
-    let a : Access = access Look call.game missed.looked missed.missed.at in
-    let b : Access = access Swap call.game missed.found now in
+    let a : Access = access (Look call) call.game missed.looked missed.missed.places.0 missed.missed.at in
+    let b : Access = access Swap call.game missed.found missed.missed.places.1 now in
     let t : Follows h low (a ∷ b ∷ []) high = subst (λ (z : List Access). Follows h low z high) missed.missed.accesses f in
     let g = call.game in
     let old = found_record h a g legal t.1 refl in

@@ -1,8 +1,8 @@
 -- What is known of a call by what its caller holds, and that a longer history leaves it.
-use Rattle.ucl_steps.proofs.Common.{◌≡◌, ℕ, ◌+◌, ◌<◌, ◌≤◌, List, take, length, Option, Some, None, sym, ap, ◌∙◌, arith, get_or, le_refl, slice_get, IsSome, IsPrefix}
-use Rattle.ucl_steps.proofs.Common.{EventCall, refusal_of, after, word_of, record_at, Entry, match_after, at_beginning, begins_length, take_beginning, Caller}
-use Rattle.ucl_steps.proofs.Common.{Reporter, Call, Event, Reading, Reply, CallRecord, NoCall, Holding, Collecting, Checking, CallerState, Idle, Wanting, Within}
-use Rattle.ucl_steps.proofs.Common.{Answered}
+use Rattle.ucl_steps.proofs.Common.{◌≡◌, ℕ, ◌+◌, ◌<◌, ◌≤◌, List, take, length, Option, Some, None, sym, ap, ◌∙◌, arith, get_or, le_refl, slice_get, IsSome}
+use Rattle.ucl_steps.proofs.Common.{IsPrefix, EventCall, refusal_of, after, word_of, record_at, Entry, match_after, at_beginning, begins_length, take_beginning}
+use Rattle.ucl_steps.proofs.Common.{Caller, Reporter, Call, Event, Reading, Reply, CallRecord, NoCall, Holding, Collecting, Checking, CallerState, Idle}
+use Rattle.ucl_steps.proofs.Common.{Wanting, Within, Answered}
 use Rattle.ucl_steps.proofs.Explanations.{IsSequential, LiesWithin, IsExplained}
 
 -- a reporter asks for an event of a match

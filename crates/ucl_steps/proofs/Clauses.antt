@@ -1,7 +1,7 @@
 -- The clauses of linearizability on one call, from what explains it.
-use Rattle.ucl_steps.proofs.Common.{◌≡◌, ℕ, ◌<◌, ◌≤◌, List, take, length, Option, Some, refl, ap, ◌∙◌, subst, arith, ◌↔◌, IsSome, IfSome, false≢true, Refusal, Entry}
-use Rattle.ucl_steps.proofs.Common.{board_of, snapshot_at, Caller, Call, Reading, Reply, Accepted, Refused, Copied, CallRecord, PointWithinCall, IsDecided, IsEntry}
-use Rattle.ucl_steps.proofs.Common.{AcceptedIsEntry, IsRefused, RefusedAtPoint, ReadingIsSnapshot}
+use Rattle.ucl_steps.proofs.Common.{◌≡◌, ℕ, ◌<◌, ◌≤◌, List, take, length, Option, Some, refl, ap, ◌∙◌, subst, arith, ◌↔◌, IsSome, IfSome, false≢true, Refusal}
+use Rattle.ucl_steps.proofs.Common.{Entry, board_of, snapshot_at, Caller, Call, Reading, Reply, Accepted, Refused, Copied, CallRecord, PointWithinCall}
+use Rattle.ucl_steps.proofs.Common.{IsDecided, IsEntry, AcceptedIsEntry, IsRefused, RefusedAtPoint, ReadingIsSnapshot}
 use Rattle.ucl_word.specs.declared.event.Accepted as word
 use Rattle.ucl_board.specs.declared.reading.Reading as board
 use Rattle.ucl_steps.proofs.Explanations.{IsSequential, IsExplained}

@@ -1,21 +1,19 @@
 -- The words and lemmas from elsewhere that the proofs of this crate share.
 pub use Rattle.std.proofs.Common.{Bool, Err, List, None, Ok, Option, Some, [], add-one, ap, append-nil, append_assoc, arith, cond, drop, eq-eqb, false, get_or}
-pub use Rattle.std.proofs.Common.{get_or-set_other, inl, inr, le_refl, length, length-append, length-take, map, nat_le, ne_eqb, refl, rules, set, subst, suc, sym}
-pub use Rattle.std.proofs.Common.{take, true, zero, ℕ, ⊎_elim, ◌&&◌, ◌*◌, ◌++◌, ◌+◌, ◌-◌, ◌<◌, ◌==◌, ◌∙◌, ◌∷◌, ◌≡◌, ◌≢◌, ◌≤◌, ◌⊎◌}
+pub use Rattle.std.proofs.Common.{get_or-set_other, inl, inr, le_refl, length, length-append, length-take, map, nat_le, ne_eqb, refl, rules, set, subst, suc}
+pub use Rattle.std.proofs.Common.{sym, take, true, zero, ℕ, ◌&&◌, ◌*◌, ◌++◌, ◌+◌, ◌-◌, ◌<◌, ◌==◌, ◌∙◌, ◌∷◌, ◌≡◌, ◌≢◌, ◌≤◌, ◌⊎◌}
 pub use Rattle.std.proofs.Math.Seq.{take-append_seam, take-length}
-pub use Rattle.std.proofs.lemmas.Bool.{and_parts, cases_eq, cases_lt, cases_order, eqb-false, eqb-true, false≢true, le-leb, leb-true, not-false, not_from_false}
-pub use Rattle.std.proofs.lemmas.List.{drop_more, ext_get_or, get_or_append_left, get_or_default, get_or_push, length-drop, length-map, length-replicate, length-set}
-pub use Rattle.std.proofs.lemmas.List.{length-take-le, length_push, map-append, map-set, take-append-drop, take-append-le, take-take, take_all, take_more_set}
-pub use Rattle.std.proofs.lemmas.List.Concat.{flat_map-append}
-pub use Rattle.std.proofs.lemmas.List.Elements.{All-append, All-cons, All-head, All-nil, All-tail, filter-append}
-pub use Rattle.std.proofs.lemmas.List.Sums.{sum_by-cons, sum_by-le}
+pub use Rattle.std.proofs.lemmas.Bool.{and_parts, cases_eq, cases_lt, cases_order, eqb-false, eqb-true, false≢true, le-leb, leb-true, not-false}
+pub use Rattle.std.proofs.lemmas.List.{ext_get_or, get_or_append_left, get_or_default, get_or_push, length-map, length-set, length-take-le, length_push}
+pub use Rattle.std.proofs.lemmas.List.{map-append, map-set, take-append-drop, take-append-le, take-take, take_all, take_more_set}
+pub use Rattle.std.proofs.lemmas.List.Elements.{All-append, All-cons, All-nil}
 pub use Rattle.std.proofs.lemmas.Option.{cond_some, none-some, option_and_then_some, same_Some, slice_get-get_or, slice_get-map, slice_get_past}
-pub use Rattle.std.specs.List.{AllByRecursion, sum_by}
+pub use Rattle.std.specs.List.{AllByRecursion}
 pub use Rattle.std.specs.Option.{option_and_then, option_map}
-pub use Rattle.std.specs.Prelude.{All, IfSome, IsOk, IsSome, IsSomeAnd, filter, is_some, replicate, slice_get, slice_index, slice_set, ◌↔◌}
+pub use Rattle.std.specs.Prelude.{All, IfSome, IsOk, IsSome, IsSomeAnd, replicate, slice_get, slice_index, slice_set, ◌↔◌}
 pub use Rattle.ucl_board.proofs.Repeats.{at_beginning, begins_length, begins_same, get_back, take_beginning}
 pub use Rattle.ucl_board.proofs.Histories.{board_length, entries-append, entries_same, legal_match, match_valid, word_after}
-pub use Rattle.ucl_board.proofs.HistoryTheorems.{may_attempt, same_number, same_word, versions}
+pub use Rattle.ucl_board.proofs.HistoryTheorems.{legal_take, may_attempt, same_number, same_word, versions}
 pub use Rattle.ucl_board.specs.Fixtures.{IsMatch}
 pub use Rattle.ucl_board.specs.History.{IsLegal, MayFollow, attempted, board_of, entries_of, entry_of, match_after, reading_of, sequential_reply, snapshot_at}
 pub use Rattle.ucl_board.specs.Log.{Access, AccessKind, access}
@@ -23,14 +21,14 @@ pub use Rattle.ucl_board.specs.Words.{AreWords, max_version, version_of, word_at
 pub use Rattle.ucl_board.specs.declared.entry.Entry.{Entry}
 pub use Rattle.ucl_steps.specs.Theorems.{ReadingsAreSnapshots, ReportsAreSequential, RunsAreLinearizable, UncleanTriesAreFew, UncleanTriesSeeMore}
 pub use Rattle.ucl_steps.specs.Theorems.{WordsAreOfTheHistory}
-pub use Rattle.ucl_steps.specs.Linearizable.{AcceptedIsEntry, BeginsAt, EndedBySteps, EndsAt, EntryHasOneCall, IsDecided, IsEntry, IsLinearizable, IsRefused, Makes}
-pub use Rattle.ucl_steps.specs.Linearizable.{PointWithinCall, Precedes, ReadingIsSnapshot, RealTimeOrder, RefusedAtPoint, VersionsRise, begun_in, caller_and_call}
-pub use Rattle.ucl_steps.specs.Linearizable.{is_accepted, version_read}
+pub use Rattle.ucl_steps.specs.Linearizable.{AcceptedIsEntry, BeginsAt, EndedBySteps, EndsAt, EntryHasOneCall, IsDecided, IsEntry, IsLinearizable, IsRefused}
+pub use Rattle.ucl_steps.specs.Linearizable.{Makes, PointWithinCall, Precedes, ReadingIsSnapshot, RealTimeOrder, RefusedAtPoint, VersionsRise, begun_in}
+pub use Rattle.ucl_steps.specs.Linearizable.{caller_and_call, is_accepted, version_read}
 pub use Rattle.ucl_steps.specs.Machine.{Answered, Callers, CallerState, Idle, MachineState, Wanting, Within, after_begin, after_end, after_outcome, after_reply}
 pub use Rattle.ucl_steps.specs.Machine.{after_step, after_step_holding, after_steps, caller_of, change_at, held_at_begin, held_by, initial_state, may_begin}
-pub use Rattle.ucl_steps.specs.Machine.{set_held, state_after_first, state_after_second, state_after_swap, stored, with_end, with_held, with_reply}
-pub use Rattle.ucl_steps.specs.Protocol.{Answers, Checking, Collecting, GoesOn, Pending, Holding, NoCall, Outcome, by_rules, collected, compared, loaded, looked}
-pub use Rattle.ucl_steps.specs.Protocol.{swapped}
+pub use Rattle.ucl_steps.specs.Machine.{set_held, state_after_first, stored, with_end, with_held, with_reply}
+pub use Rattle.ucl_steps.specs.Protocol.{Answers, Checking, Collecting, GoesOn, Pending, Holding, NoCall, Outcome, by_rules, collected, compared, loaded}
+pub use Rattle.ucl_steps.specs.Protocol.{looked, swapped}
 pub use Rattle.ucl_steps.specs.Running.{IsReachable, Takes, holds_of, state_of}
 pub use Rattle.ucl_steps.specs.Trails.{Does, Follows, IsClean, IsCollect, IsFoundIn, IsUnclean, accesses_of}
 pub use Rattle.ucl_steps.specs.declared.step.Call.{Call}
@@ -45,12 +43,10 @@ pub use Rattle.ucl_steps.specs.declared.trace.Reply.{Reply}
 pub use Rattle.ucl_steps.specs.declared.trace.Reply.TheVariants.{Accepted, Copied, Refused}
 pub use Rattle.ucl_word.proofs.Sequences.{at_below, at_either, at_end, at_longer, may_next, may_none}
 pub use Rattle.ucl_word.specs.Layout.{IsWord, record_at, word_of}
-pub use Rattle.ucl_word.specs.Record.{IsReporter, scheduled}
+pub use Rattle.ucl_word.specs.Record.{IsReporter}
 pub use Rattle.ucl_word.specs.Rules.{after, answer, refusal_of, reply_of}
 pub use Rattle.ucl_word.specs.declared.event.EventCall.{EventCall}
 pub use Rattle.ucl_word.specs.declared.record.MatchRecord.{MatchRecord}
 pub use Rattle.ucl_word.specs.declared.refusal.Refusal.{Refusal}
 pub use Rattle.ucl_word.specs.declared.refusal.Refusal.TheVariants.{Stale}
-pub use lib.ListN.{get_elem?}
 pub use mathlib.Core.List.{IsPrefix}
-pub use mathlib.Core.Option.{some, some-injective, some-ne-none}

@@ -1,7 +1,7 @@
 -- Each entry is made by one call, when one call changes or begins.
-use Rattle.ucl_steps.proofs.Common.{◌≡◌, ◌≢◌, ℕ, ◌<◌, true, false, List, ◌∷◌, ◌++◌, length, Option, Some, None, inl, inr, sym, ap, ◌∙◌, subst, arith, [], slice_get}
-use Rattle.ucl_steps.proofs.Common.{IsSomeAnd, none-some, same_Some, map, slice_get-map, cases_eq, false≢true, length_push, Entry, at_longer, at_either, Reply}
-use Rattle.ucl_steps.proofs.Common.{CallRecord, change_at, is_accepted, Makes, EntryHasOneCall}
+use Rattle.ucl_steps.proofs.Common.{◌≡◌, ◌≢◌, ℕ, ◌<◌, true, false, List, ◌∷◌, ◌++◌, length, Option, Some, None, inl, inr, sym, ap, ◌∙◌, subst, arith, []}
+use Rattle.ucl_steps.proofs.Common.{slice_get, IsSomeAnd, none-some, same_Some, map, slice_get-map, cases_eq, false≢true, length_push, Entry, at_longer}
+use Rattle.ucl_steps.proofs.Common.{at_either, Reply, CallRecord, change_at, is_accepted, Makes, EntryHasOneCall}
 use Rattle.ucl_steps.proofs.Explanations.{IsExplained}
 use Rattle.ucl_steps.proofs.Lists.{get-change_at, change_at_here, change_at_else, map_unseen}
 

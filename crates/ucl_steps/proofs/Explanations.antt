@@ -1,6 +1,6 @@
 -- What a call is to the history that explains it, by cases of its reply.
-use Rattle.ucl_steps.proofs.Common.{IfSome, slice_get, Entry, board_of, entry_of, sequential_reply, Caller, Reporter, Call, Event, Reading, Reply, Accepted, Refused}
-use Rattle.ucl_steps.proofs.Common.{Copied, CallRecord}
+use Rattle.ucl_steps.proofs.Common.{IfSome, slice_get, Entry, board_of, entry_of, sequential_reply, Caller, Reporter, Call, Event, Reading, Reply, Accepted}
+use Rattle.ucl_steps.proofs.Common.{Refused, Copied, CallRecord}
 use Rattle.std.specs.Prelude.{◌≡◌, ℕ, ◌<◌, ◌≤◌, List, length, take, Option, Some, None, Ok, Err}
 
 -- what the board of one thread replies to a call of this caller after the first k entries, and the entry that it makes

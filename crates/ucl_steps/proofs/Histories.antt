@@ -1,13 +1,11 @@
 -- Histories: one entry more, their beginnings, and the words of their boards.
-use Rattle.ucl_steps.proofs.Common.{◌≡◌, ℕ, ◌+◌, ◌-◌, ◌==◌, ◌<◌, ◌≤◌, List, ◌∷◌, ◌++◌, take, drop, length, Some, None, sym, ap, ◌∙◌, subst, arith, length-append}
-use Rattle.ucl_steps.proofs.Common.{get_or, set, ne_eqb, [], slice_index, slice_set, replicate, eqb-true, not-false, not_from_false, take-append-drop, ext_get_or}
-use Rattle.ucl_steps.proofs.Common.{MatchRecord, Stale, scheduled, after, word_of, record_at, may_none, may_next, Entry, IsMatch, version_of, entries_of}
+use Rattle.ucl_steps.proofs.Common.{◌≡◌, ℕ, ◌+◌, ◌-◌, ◌==◌, ◌<◌, ◌≤◌, List, ◌∷◌, ◌++◌, take, length, None, sym, ap, ◌∙◌, arith, length-append, get_or, set, []}
+use Rattle.ucl_steps.proofs.Common.{slice_set, eqb-true, not-false, ext_get_or, MatchRecord, after, word_of, record_at, may_next, Entry, entries_of}
 use Rattle.ucl_steps.proofs.Common.{match_after, board_of, MayFollow, IsLegal, entries-append, entries_same, legal_match, match_valid, word_after, board_length}
-use Rattle.ucl_steps.proofs.Common.{versions, same_number, same_word}
+use Rattle.ucl_steps.proofs.Common.{same_number, same_word}
 use Rattle.ucl_word.specs.declared.event.Kind.{Kind}
 use Rattle.ucl_word.specs.Rules.{refusal_of}
 use Rattle.ucl_word.proofs.AcceptedEvents.{accepts, after_number}
-use Rattle.ucl_word.proofs.Sequences.{may_begin}
 use Rattle.ucl_word.proofs.EntryCounts.{legal_balanced, legal_case, record_next, number_of_count}
 use Rattle.ucl_word.proofs.Words.{record_back}
 use Rattle.ucl_board.proofs.Histories as low
@@ -17,19 +15,8 @@ use Rattle.ucl_steps.proofs.Lists.{take_split}
 pub number_expected : (m : MatchRecord) (expected : ℕ) (kind : Kind) → refusal_of m expected kind ≡ None → expected ≡ m.number
 number_expected m expected kind e = eqb-true expected m.number (not-false (expected == m.number) (accepts m expected kind e).current)
 
--- at another number the event is stale
-pub is_stale : (m : MatchRecord) (expected : ℕ) (kind : Kind) → (expected ≡ m.number → ⊥) → refusal_of m expected kind ≡ Some (Stale m.number)
-unfolding refusal_of
-is_stale m expected kind not-that = rw (not_from_false (expected == m.number) (ne_eqb expected m.number not-that))
-
-pub legal_none : IsLegal []
-legal_none = may_none MayFollow
-
 pub legal_snoc : (h : List Entry) (e : Entry) → IsLegal h → MayFollow h e → IsLegal (h ++ e ∷ [])
 legal_snoc h e legal may = may_next MayFollow h e legal may
-
-pub legal_beginning : (h : List Entry) (n : ℕ) → IsLegal h → IsLegal (take n h)
-legal_beginning h n legal = may_begin MayFollow (take n h) (drop n h) (subst IsLegal (sym (take-append-drop n h)) legal)
 
 pub number_is : (h : List Entry) (g : ℕ) → (match_after h g).number ≡ length (entries_of g h)
 number_is h g = number_of_count (entries_of g h)
@@ -53,9 +40,6 @@ pub squeezed : (g x : ℕ) (h : List Entry) (a p b : ℕ) → IsLegal h → a �
     → x ≡ word_of (match_after (take p h) g)
 squeezed g x h a p b legal low high is_a is_b = search (arith, same_word, numbers_rise, number_is, same_number)
 
-pub board_at : (h : List Entry) (g : ℕ) → IsMatch g → slice_index (board_of h) (g - 1) ≡ word_of (match_after h g)
-board_at h g within = word_after h g within
-
 pub board_get : (h : List Entry) (k : ℕ) → k < 12 → get_or (board_of h) k 0 ≡ word_of (match_after h (k + 1))
 board_get h k l = let e : k ≡ k + 1 - 1 = omega arith in ap (λ (z : ℕ). get_or (board_of h) z 0) e ∙ word_after h (k + 1) (omega arith, omega arith)
 
@@ -65,10 +49,3 @@ board_next h e legal may = low.board_next h e may.game ∙ ap (λ (m : MatchReco
 -- the words of a board that are those of a history, one by one
 pub board_from : (h : List Entry) (words : List ℕ) → length words ≡ 12 → ((k : ℕ) → k < 12 → get_or words k 0 ≡ word_of (match_after h (k + 1))) → words ≡ board_of h
 board_from h words twelve each = ext_get_or 0 words (board_of h) (twelve ∙ sym (board_length h)) (λ k l. each k (omega arith) ∙ sym (board_get h k (omega arith)))
-
-pub board_none : replicate 12 (word_of scheduled) ≡ board_of []
-board_none = low.board_none
-
--- the version of the board is the length of the history
-pub version_is : (h : List Entry) → IsLegal h → version_of (board_of h) ≡ length h
-version_is h legal = (versions h legal).0

@@ -1,8 +1,9 @@
 -- What every step keeps.
-use Rattle.ucl_steps.proofs.Common.{◌≡◌, ◌≢◌, ℕ, zero, suc, List, ◌∷◌, ◌++◌, length, map, Option, Some, None, ◌⊎◌, inl, inr, refl, sym, ap, ◌∙◌, subst, arith, []}
-use Rattle.ucl_steps.proofs.Common.{slice_get, IsSome, option_map, none-some, same_Some, slice_get-map, false≢true, map-append, length-map, Entry, board_of, IsLegal}
-use Rattle.ucl_steps.proofs.Common.{IsPrefix, at_below, at_longer, at_end, at_either, begins_length, begins_same, Caller, Call, Step, Begin, End, CallRecord, Reply}
-use Rattle.ucl_steps.proofs.Common.{CallerState, Idle, Answered, Callers, MachineState, held_by, set_held, with_held, change_at, with_end, EntryHasOneCall}
+use Rattle.ucl_steps.proofs.Common.{◌≡◌, ◌≢◌, ℕ, zero, suc, List, ◌∷◌, ◌++◌, length, map, Option, Some, None, ◌⊎◌, inl, inr, refl, sym, ap, ◌∙◌, subst, arith}
+use Rattle.ucl_steps.proofs.Common.{[], slice_get, IsSome, option_map, none-some, same_Some, slice_get-map, false≢true, map-append, length-map, Entry, board_of}
+use Rattle.ucl_steps.proofs.Common.{IsLegal, IsPrefix, at_below, at_longer, at_end, at_either, begins_length, begins_same, Caller, Call, Step, Begin, End}
+use Rattle.ucl_steps.proofs.Common.{CallRecord, Reply, CallerState, Idle, Answered, Callers, MachineState, held_by, set_held, with_held, change_at, with_end}
+use Rattle.ucl_steps.proofs.Common.{EntryHasOneCall}
 use Rattle.ucl_steps.proofs.Lists.{get_some, get-change_at, change_at_here, change_at_else, map_unseen, map-change_at, same_caller, held_here, held_else}
 use Rattle.ucl_steps.proofs.Explanations.{IsExplained}
 use Rattle.ucl_steps.proofs.Turns.{Time, Turns, IsInner, turns_inner, turns_begin, turns_end, ended_at}

@@ -1,15 +1,15 @@
 -- Each step of the machine keeps what every step keeps.
-use Rattle.ucl_steps.proofs.Common.{◌≡◌, ℕ, suc, ◌+◌, ◌-◌, ◌<◌, ◌≤◌, ◌==◌, Bool, true, false, cond, List, ◌∷◌, ◌++◌, take, length, Option, Some, None, Err, inl, inr}
-use Rattle.ucl_steps.proofs.Common.{refl, sym, [], ap, ◌∙◌, subst, arith, le_refl, get_or, slice_get, slice_index, slice_set, option_map, none-some, same_Some}
-use Rattle.ucl_steps.proofs.Common.{slice_get-map, cond_some, cases_lt, false≢true, eqb-true, eqb-false, and_parts, leb-true, length_push, get_or_append_left}
-use Rattle.ucl_steps.proofs.Common.{get_or_push, length-take-le, take-append_seam, take-length, MatchRecord, EventCall, Refusal, Stale, refusal_of, after, word_of}
-use Rattle.ucl_steps.proofs.Common.{record_at, Entry, word_at, version_of, match_after, board_of, MayFollow, sequential_reply, attempted, reading_of, at_end}
-use Rattle.ucl_steps.proofs.Common.{same_number, may_attempt, begins_same, Caller, Reporter, Call, Event, Reading, Step, Begin, Look, Swap, First, Second, End}
-use Rattle.ucl_steps.proofs.Common.{CallRecord, Accepted, Refused, Copied, Holding, Collecting, Checking, GoesOn, Answers, by_rules, may_begin, after_begin}
-use Rattle.ucl_steps.proofs.Common.{after_step_holding, caller_of, CallerState, Idle, Wanting, Within, Answered, MachineState, held_by, with_held, with_reply}
-use Rattle.ucl_steps.proofs.Common.{after_outcome, stored, state_after_first, after_reply}
-use Rattle.ucl_steps.proofs.Histories.{number_expected, is_stale, legal_snoc, legal_beginning, read_back, number_next, squeezed, board_at, board_get, board_next}
-use Rattle.ucl_steps.proofs.Histories.{board_from, version_is}
+use Rattle.ucl_board.proofs.Repeats.{is_stale}
+use Rattle.ucl_steps.proofs.Common.{legal_take, versions, word_after, ◌≡◌, ℕ, suc, ◌+◌, ◌-◌, ◌<◌, ◌≤◌, ◌==◌, Bool, true, false, cond, List, ◌∷◌, ◌++◌, take}
+use Rattle.ucl_steps.proofs.Common.{length, Option, Some, None, Err, inl, inr, refl, sym, [], ap, ◌∙◌, subst, arith, le_refl, get_or, slice_get, slice_index}
+use Rattle.ucl_steps.proofs.Common.{slice_set, option_map, none-some, same_Some, slice_get-map, cond_some, cases_lt, false≢true, eqb-true, eqb-false, and_parts}
+use Rattle.ucl_steps.proofs.Common.{leb-true, length_push, get_or_append_left, get_or_push, length-take-le, take-append_seam, take-length, MatchRecord}
+use Rattle.ucl_steps.proofs.Common.{EventCall, Refusal, Stale, refusal_of, after, word_of, record_at, Entry, word_at, version_of, match_after, board_of}
+use Rattle.ucl_steps.proofs.Common.{MayFollow, sequential_reply, attempted, reading_of, at_end, same_number, may_attempt, begins_same, Caller, Reporter, Call}
+use Rattle.ucl_steps.proofs.Common.{Event, Reading, Step, Begin, Look, Swap, First, Second, End, CallRecord, Accepted, Refused, Copied, Holding, Collecting}
+use Rattle.ucl_steps.proofs.Common.{Checking, GoesOn, Answers, by_rules, may_begin, after_begin, after_step_holding, caller_of, CallerState, Idle, Wanting}
+use Rattle.ucl_steps.proofs.Common.{Within, Answered, MachineState, held_by, with_held, with_reply, after_outcome, stored, state_after_first, after_reply}
+use Rattle.ucl_steps.proofs.Histories.{number_expected, legal_snoc, read_back, number_next, squeezed, board_get, board_next, board_from}
 use Rattle.ucl_steps.proofs.Explanations.{IsExplained, IsSequential}
 use Rattle.ucl_steps.proofs.Turns.{IsInner}
 use Rattle.ucl_steps.proofs.CallFacts.{Asks, Offers, Loaded, AreAt, Checks, Sees, in_call}
@@ -33,7 +33,7 @@ module _ (steps : List Step) (w : MachineState) (kept : Keeps steps w) where
 
   -- a word that the board has now
   pub word_now : (g : ℕ) → (1 ≤ g) × (g ≤ 12) → word_at w.words g ≡ word_of (match_after w.history g)
-  word_now g within = ap (λ (z : List ℕ). slice_index z (g - 1)) kept.words ∙ board_at w.history g within
+  word_now g within = ap (λ (z : List ℕ). slice_index z (g - 1)) kept.words ∙ word_after w.history g within
 
   record_now : (g : ℕ) → (1 ≤ g) × (g ≤ 12) → record_at (word_at w.words g) ≡ match_after w.history g
   record_now g within = ap record_at (word_now g within) ∙ read_back w.history g kept.legal
@@ -78,7 +78,7 @@ module _ (steps : List Step) (w : MachineState) (kept : Keeps steps w) where
         let h = w.history in
         let g = e.game in
         let game = o.asks.game in
-        let then = read_back (take o.place h) g (legal_beginning h o.place kept.legal) in
+        let then = read_back (take o.place h) g (legal_take h o.place kept.legal) in
         let number = number_expected (record_at old) e.expected e.kind o.accepted in
         let other = eqb-false (word_at w.words g) old differs in
         let stale : e.expected ≡ (match_after h g).number → ⊥ = λ is. search (arith, then, number, other, take-length, same_number h o.place now g, word_now g game, o.found) in
@@ -140,8 +140,7 @@ module _ (steps : List Step) (w : MachineState) (kept : Keeps steps w) where
       search (arith, cases_lt i (length loaded), long, before i, get_or_append_left, le_refl now, word_at_place i, get_or_push)
 
   first_kept : (c : Caller) (k : ℕ) (loaded : List ℕ) (holds : held_by w.callers c ≡ Some (Within k (Collecting loaded))) (b : Bool)
-      → (length (loaded ++ slice_index w.words (length loaded) ∷ []) == 12) ≡ b
-      → Keeps (steps ++ First c ∷ []) (with_held
+      → (length (loaded ++ slice_index w.words (length loaded) ∷ []) == 12) ≡ b → Keeps (steps ++ First c ∷ []) (with_held
       (Within k (cond b (Checking (loaded ++ slice_index w.words (length loaded) ∷ []) 0 now) (Collecting (loaded ++ slice_index w.words (length loaded) ∷ [])))) c w)
   first_kept c k loaded holds b is =
       let m = kept.knows c (Within k (Collecting loaded)) k holds refl in
@@ -188,7 +187,7 @@ module _ (steps : List Step) (w : MachineState) (kept : Keeps steps w) where
       copied_version : version_of words ≡ point
       copied_version =
           let late = (kept.knows c (Within k (Checking words checked point)) k holds refl).sees.late in
-          ap version_of copied_board ∙ (version_is (take point w.history) (legal_beginning w.history point kept.legal) ∙ length-take-le point w.history late)
+          ap version_of copied_board ∙ ((versions (take point w.history) (legal_take w.history point kept.legal)).0 ∙ length-take-le point w.history late)
 
       copied : Keeps (steps ++ Second c ∷ []) (after_reply c k point (Copied (reading_of words)) w)
       copied =

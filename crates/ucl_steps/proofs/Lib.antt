@@ -12,10 +12,7 @@ pub mod KeptBySteps
 pub mod Runs
 pub mod Accesses
 pub mod Reachable
-pub mod Seats
 pub mod LogHistory
 pub mod LogTurns
-pub mod LogSeats
 pub mod LogFacts
-pub mod LogProgress
 pub mod LogRuns

@@ -1,7 +1,7 @@
 -- Elements of lists at a place, lists with one element changed, and what each caller holds when one of them takes a step.
-use Rattle.ucl_steps.proofs.Common.{◌≡◌, ℕ, zero, suc, ◌<◌, ◌≤◌, List, ◌∷◌, ◌++◌, take, drop, length, Option, Some, refl, sym, ap, ◌∙◌, arith, [], slice_get, IfSome}
-use Rattle.ucl_steps.proofs.Common.{take-append-drop, take-take, none-some, same_Some, ◌≢◌, map, ◌⊎◌, inl, inr, change_at, slice_set, cases_eq, Caller, CallerState}
-use Rattle.ucl_steps.proofs.Common.{Callers, held_by, set_held}
+use Rattle.ucl_steps.proofs.Common.{◌≡◌, ℕ, zero, suc, ◌<◌, ◌≤◌, List, ◌∷◌, ◌++◌, take, drop, length, Option, Some, refl, sym, ap, ◌∙◌, arith, [], slice_get}
+use Rattle.ucl_steps.proofs.Common.{IfSome, take-append-drop, take-take, none-some, same_Some, ◌≢◌, map, ◌⊎◌, inl, inr, change_at, slice_set, cases_eq, Caller}
+use Rattle.ucl_steps.proofs.Common.{CallerState, Callers, held_by, set_held}
 
 module _ {A : Type 0} where
   pub if_some : (o : Option A) (P : A → Type 0) → ((x : A) → o ≡ Some x → P x) → IfSome o P
@@ -39,11 +39,6 @@ module _ {X : Type 0} where
   change_at_else zero f (x ∷ xs) (suc i) y not e = e
   change_at_else (suc k) f (x ∷ xs) zero y not e = e
   change_at_else (suc k) f (x ∷ xs) (suc i) y not e = change_at_else k f xs i y (λ is. not (ap suc is)) e
-
-  pub length-change_at : (k : ℕ) (f : X → X) (xs : List X) → length (change_at k f xs) ≡ length xs
-  length-change_at k f [] = refl
-  length-change_at zero f (x ∷ xs) = refl
-  length-change_at (suc k) f (x ∷ xs) = ap suc (length-change_at k f xs)
 
 module _ {X Y : Type 0} where
   pub map-change_at : (g : X → Y) (k : ℕ) (f : X → X) (f' : Y → Y) → ((x : X) → g (f x) ≡ f' (g x)) → (xs : List X) → map g (change_at k f xs) ≡ change_at k f' (map g xs)

@@ -1,52 +1,35 @@
 -- The history of a log explains its calls: by induction over the log, with no machine.
-use Rattle.ucl_steps.proofs.Common.{◌≡◌, ◌≢◌, ◌⊎◌, inl, inr, ℕ, ◌+◌, ◌<◌, ◌≤◌, ◌==◌, Bool, true, false, cond, List, ◌∷◌, ◌++◌, length, map, take, Option, Some, None}
-use Rattle.ucl_steps.proofs.Common.{refl, sym, ap, ◌∙◌, subst, arith, [], le_refl, append-nil, length-append, map-append, eq-eqb, ne_eqb, eqb-true, eqb-false}
-use Rattle.ucl_steps.proofs.Common.{cases_eq, cases_lt, filter, filter-append, flat_map-append, get_or, get_or_append_left, get_or_push, length_push, slice_get}
-use Rattle.ucl_steps.proofs.Common.{slice_index, none-some, false≢true, take-append-le, take-length, take-append_seam, at_below, at_longer, at_end, at_either}
-use Rattle.ucl_steps.proofs.Common.{begins_length, take_beginning, at_beginning, IsPrefix, Entry, EventCall, Refusal, Stale, refusal_of, after, IsMatch, IsReporter}
-use Rattle.ucl_steps.proofs.Common.{word_of, record_at, match_after, board_of, entry_of, reading_of, version_of, IsLegal, MayFollow, attempted, may_attempt}
-use Rattle.ucl_steps.proofs.Common.{same_number, Event, Reading, Accepted, Refused, Copied, Pending, NoCall, Holding, Collecting, Checking, GoesOn, Answers}
-use Rattle.ucl_steps.proofs.Common.{by_rules, collected}
+use Rattle.ucl_board.proofs.Repeats.{is_stale}
+use Rattle.ucl_steps.proofs.Common.{legal_take, may_none, versions, ◌≡◌, ◌≢◌, ◌⊎◌, inl, inr, ℕ, ◌+◌, ◌<◌, ◌≤◌, ◌==◌, Bool, true, false, cond, List, ◌∷◌, ◌++◌}
+use Rattle.ucl_steps.proofs.Common.{length, take, Option, Some, None, refl, sym, ap, ◌∙◌, subst, arith, [], le_refl, append-nil, length-append, eqb-true}
+use Rattle.ucl_steps.proofs.Common.{eqb-false, cases_eq, cases_lt, get_or, get_or_append_left, get_or_push, length_push, slice_get, slice_index, none-some}
+use Rattle.ucl_steps.proofs.Common.{false≢true, take-append-le, take-length, take-append_seam, at_below, at_longer, at_end, at_either, begins_length}
+use Rattle.ucl_steps.proofs.Common.{take_beginning, at_beginning, IsPrefix, Entry, EventCall, Refusal, Stale, refusal_of, after, IsMatch, IsReporter, word_of}
+use Rattle.ucl_steps.proofs.Common.{record_at, match_after, board_of, entry_of, reading_of, version_of, IsLegal, MayFollow, attempted, may_attempt, same_number}
+use Rattle.ucl_steps.proofs.Common.{Event, Reading, Accepted, Refused, Copied, Pending, NoCall, Holding, Collecting, Checking, GoesOn, Answers, by_rules}
+use Rattle.ucl_steps.proofs.Common.{collected}
 use Rattle.std.proofs.lemmas.List.Sums.{fold-append}
-use Rattle.ucl_board.specs.Log.{entry_list}
 use Rattle.ucl_word.proofs.Sequences.{may_induction, may_begin, may_last}
 use Rattle.ucl_word.specs.declared.record.MatchRecord.{MatchRecord}
-use Rattle.ucl_steps.proofs.Histories.{number_expected, is_stale, legal_none, legal_snoc, legal_beginning, read_back, number_next, squeezed, board_from, version_is}
+use Rattle.ucl_steps.proofs.Histories.{number_expected, legal_snoc, read_back, number_next, squeezed, board_from}
 use Rattle.ucl_steps.proofs.CallFacts.{Loaded, AreAt}
-use Rattle.ucl_steps.specs.WordLog.{Enlisted, Enlists, First, IsWordLog, IsFoundThere, WordLog, SeatStep, Look, Match, MayComeNext, Second, Swap, WordStep}
-use Rattle.ucl_steps.specs.WordLog.{WordTarget, history_in, taken_at}
-use Rattle.ucl_steps.specs.ClientState.{FinishedCall, ClientState, FollowsProtocol, IsNextFor, IsNextOfProtocol, with_outcome, with_target, with_step, client_at}
-use Rattle.ucl_steps.specs.ClientState.{client_of, entry_by, first_place, next_game, new_client}
+use Rattle.ucl_board.specs.Log.{Enlisted, Enlists, First, IsLog, IsThere, Log, Logged, Look, Match, MayBeTaken, Second, Swap, Target, Whole, entry_list}
+use Rattle.ucl_board.specs.Log.{history_of, taken_by}
+use Rattle.ucl_board.proofs.Logs.{history_append, history_more, taken_own, taken_other}
+use Rattle.ucl_steps.specs.ClientState.{FinishedCall, ClientState, FollowsProtocol, IsNextFor, IsNextOfProtocol, with_outcome, with_target, with_step}
+use Rattle.ucl_steps.specs.ClientState.{client_at, client_of, entry_by, first_place, next_game, new_client}
 use Rattle.ucl_steps.specs.LogHistory.{GoesBefore, EntryHasOneAnswer, IsCall, IsExplained, MadeBy, MakesEntry, accepts, entries_before, sequential_answer}
 
 -- one step more
 
-pub history_append : (xs ys : WordLog) → history_in (xs ++ ys) ≡ history_in xs ++ history_in ys
-history_append xs ys = flat_map-append (λ (y : SeatStep). entry_list y.step.entry) xs ys
+pub client_own : (log : Log) (x : Logged) → client_at x.seat (log ++ x ∷ []) ≡ with_step (client_at x.seat log) x.step
+client_own log x = ap client_of (taken_own x.seat log x.step) ∙ fold-append with_step new_client (taken_by x.seat log) (x.step ∷ [])
 
-pub history_more : (log : WordLog) (x : SeatStep) → history_in (log ++ x ∷ []) ≡ history_in log ++ entry_list x.step.entry
-history_more log x = history_append log (x ∷ []) ∙ ap (λ (l : List Entry). history_in log ++ l) (append-nil (entry_list x.step.entry))
+pub client_other : (log : Log) (x : Logged) (seat : ℕ) → x.seat ≢ seat → client_at seat (log ++ x ∷ []) ≡ client_at seat log
+client_other log x seat not = ap client_of (taken_other seat log x not)
 
-pub taken_append : (seat : ℕ) (xs ys : WordLog) → taken_at seat (xs ++ ys) ≡ taken_at seat xs ++ taken_at seat ys
-taken_append seat xs ys = ap (map (λ (x : SeatStep). x.step)) (filter-append (λ (x : SeatStep). x.seat == seat) xs ys)
-    ∙ map-append (λ (x : SeatStep). x.step) (filter (λ (x : SeatStep). x.seat == seat) xs) (filter (λ (x : SeatStep). x.seat == seat) ys)
-
-pub one_taken : (seat : ℕ) (x : SeatStep) (b : Bool) → (x.seat == seat) ≡ b → taken_at seat (x ∷ []) ≡ map (λ (y : SeatStep). y.step) (cond b (x ∷ []) [])
-one_taken seat x b is = ap (λ (c : Bool). map (λ (y : SeatStep). y.step) (cond c (x ∷ []) [])) is
-
-pub client_own : (log : WordLog) (x : SeatStep) → client_at x.seat (log ++ x ∷ []) ≡ with_step (client_at x.seat log) x.step
-client_own log x =
-    ap client_of (taken_append x.seat log (x ∷ []) ∙ ap (λ (l : List WordStep). taken_at x.seat log ++ l) (one_taken x.seat x true (eq-eqb x.seat x.seat refl)))
-    ∙ fold-append with_step new_client (taken_at x.seat log) (x.step ∷ [])
-
-pub client_other : (log : WordLog) (x : SeatStep) (seat : ℕ) → x.seat ≢ seat → client_at seat (log ++ x ∷ []) ≡ client_at seat log
-client_other log x seat not =
-    ap client_of (taken_append seat log (x ∷ []) ∙ (ap (λ (l : List WordStep). taken_at seat log ++ l) (one_taken seat x false (ne_eqb x.seat seat not))
-    ∙ append-nil (taken_at seat log)))
-
-pub by_seat : (log : WordLog) (x : SeatStep) (P : ℕ → ClientState → Type 0) (d : ClientState) → with_step (client_at x.seat log) x.step ≡ d → P x.seat d
-    → ((seat : ℕ) → x.seat ≢ seat → P seat (client_at seat log))
-    → (seat : ℕ) → P seat (client_at seat (log ++ x ∷ []))
+pub by_seat : (log : Log) (x : Logged) (P : ℕ → ClientState → Type 0) (d : ClientState) → with_step (client_at x.seat log) x.step ≡ d → P x.seat d
+    → ((seat : ℕ) → x.seat ≢ seat → P seat (client_at seat log)) → (seat : ℕ) → P seat (client_at seat (log ++ x ∷ []))
 by_seat log x P d is own other seat = elim (cases_eq x.seat seat) [
   | inl same ↦ subst (λ (k : ℕ). P k (client_at k (log ++ x ∷ []))) same (subst (P x.seat) (sym (client_own log x ∙ is)) own)
   | inr not ↦ subst (P seat) (sym (client_other log x seat not)) (other seat not)
@@ -54,31 +37,28 @@ by_seat log x P d is own other seat = elim (cases_eq x.seat seat) [
 
 -- how many entries there were
 
-split_take : (n : ℕ) (log : WordLog) → take n log ++ Rattle.std.proofs.Common.drop n log ≡ log
-split_take n log = Rattle.std.proofs.lemmas.List.take-append-drop n log
-
-pub entries_low : (log : WordLog) (place : ℕ) → entries_before log place ≤ length (history_in log)
+pub entries_low : (log : Log) (place : ℕ) → entries_before log place ≤ length (history_of log)
 entries_low log place =
-    let e = ap (λ (l : WordLog). length (history_in l)) (sym (split_take place log))
+    let e = ap (λ (l : Log). length (history_of l)) (sym (Rattle.std.proofs.lemmas.List.take-append-drop place log))
     ∙ (ap length (history_append (take place log) (Rattle.std.proofs.Common.drop place log))
-    ∙ length-append (history_in (take place log)) (history_in (Rattle.std.proofs.Common.drop place log))) in
+    ∙ length-append (history_of (take place log)) (history_of (Rattle.std.proofs.Common.drop place log))) in
     omega arith
 
-entries_same : (log more : WordLog) (place : ℕ) → place ≤ length log → entries_before (log ++ more) place ≡ entries_before log place
-entries_same log more place le = ap (λ (l : WordLog). length (history_in l)) (take-append-le place log more le)
+entries_same : (log more : Log) (place : ℕ) → place ≤ length log → entries_before (log ++ more) place ≡ entries_before log place
+entries_same log more place le = ap (λ (l : Log). length (history_of l)) (take-append-le place log more le)
 
-entries_now : (log : WordLog) (x : SeatStep) → entries_before (log ++ x ∷ []) (length log) ≡ length (history_in log)
-entries_now log x = ap (λ (l : WordLog). length (history_in l)) (take-append_seam log (x ∷ []))
+entries_now : (log : Log) (x : Logged) → entries_before (log ++ x ∷ []) (length log) ≡ length (history_of log)
+entries_now log x = ap (λ (l : Log). length (history_of l)) (take-append_seam log (x ∷ []))
 
-entries_rise : (log : WordLog) (p q : ℕ) → p ≤ q → entries_before log p ≤ entries_before log q
+entries_rise : (log : Log) (p q : ℕ) → p ≤ q → entries_before log p ≤ entries_before log q
 entries_rise log p q le =
     let e : take p (take q log) ≡ take p log = Rattle.std.proofs.lemmas.List.take-take p q log le in
     let low = entries_low (take q log) p in
-    let same = ap (λ (l : WordLog). length (history_in l)) e in
+    let same = ap (λ (l : Log). length (history_of l)) e in
     omega arith
 
-entries_all : (log : WordLog) → entries_before log (length log) ≡ length (history_in log)
-entries_all log = ap (λ (l : WordLog). length (history_in l)) (take-length log)
+entries_all : (log : Log) → entries_before log (length log) ≡ length (history_of log)
+entries_all log = ap (λ (l : Log). length (history_of l)) (take-length log)
 
 -- what a pass knows of the call that is under way, by what it holds
 
@@ -99,11 +79,11 @@ pub record Checks (h : List Entry) (low : ℕ) (words : List ℕ) (checked point
   loaded : Loaded h words point
   same : AreAt h words checked point
 
-abbrev pub Sees : WordLog → ℕ → ℕ → Pending → Type 0
+abbrev pub Sees : Log → ℕ → ℕ → Pending → Type 0
 Sees log number first NoCall = Unit {0}
-Sees log number first (Holding e old new) = (first < length log) × Offers (history_in log) number e old new
-Sees log number first (Collecting words) = (first < length log) × (length words < 12) × Loaded (history_in log) words (length (history_in log))
-Sees log number first (Checking words checked point) = (first < length log) × Checks (history_in log) (entries_before log first) words checked point
+Sees log number first (Holding e old new) = (first < length log) × Offers (history_of log) number e old new
+Sees log number first (Collecting words) = (first < length log) × (length words < 12) × Loaded (history_of log) words (length (history_of log))
+Sees log number first (Checking words checked point) = (first < length log) × Checks (history_of log) (entries_before log first) words checked point
 
 module _ (h h' : List Entry) (b : IsPrefix h h') where
   moved_word : (words : List ℕ) (i k : ℕ) → k ≤ length h → get_or words i 0 ≡ word_of (match_after (take k h) (i + 1))
@@ -134,14 +114,11 @@ module _ (h h' : List Entry) (b : IsPrefix h h') where
         same = λ i few. moved_word words i point o.late (o.same i few);
       }
 
-module _ (log : WordLog) (x : SeatStep) where
+module _ (log : Log) (x : Logged) where
   abbrev h : List Entry
-  h = history_in log
+  h = history_of log
 
-  abbrev log' : WordLog
-  log' = log ++ x ∷ []
-
-  begins : IsPrefix (history_in log) (history_in (log ++ x ∷ []))
+  begins : IsPrefix (history_of log) (history_of (log ++ x ∷ []))
   begins = (entry_list x.step.entry, sym (history_more log x))
 
   longer : length (log ++ x ∷ []) ≡ length log + 1
@@ -151,23 +128,23 @@ module _ (log : WordLog) (x : SeatStep) where
   sees_later number first NoCall s = tt
   sees_later number first (Holding e old new) s = let l = longer in let low = s.0 in (
     omega arith,
-    offers_later (history_in log)
-        (history_in (log ++ x ∷ [])) begins number e old new s.1,
+    offers_later (history_of log)
+        (history_of (log ++ x ∷ [])) begins number e old new s.1,
   )
   sees_later number first (Collecting words) s =
       let l = longer in
       let low = s.0 in
-      let long = begins_length (history_in log) (history_in (log ++ x ∷ [])) begins in (
+      let long = begins_length (history_of log) (history_of (log ++ x ∷ [])) begins in (
         omega arith,
         s.1,
-        loaded_later (history_in log) (history_in (log ++ x ∷ [])) begins words (length (history_in log))
-            (length (history_in (log ++ x ∷ []))) (le_refl (length (history_in log))) long s.2,
+        loaded_later (history_of log) (history_of (log ++ x ∷ [])) begins words (length (history_of log))
+            (length (history_of (log ++ x ∷ []))) (le_refl (length (history_of log))) long s.2,
       )
   sees_later number first (Checking words checked point) s =
       let l = longer in
       let low = s.0 in (
         omega arith,
-        checks_later (history_in log) (history_in (log ++ x ∷ [])) begins (entries_before log first)
+        checks_later (history_of log) (history_of (log ++ x ∷ [])) begins (entries_before log first)
             (entries_before (log ++ x ∷ []) first) words checked point (entries_same log (x ∷ []) first (omega arith)) s.1,
       )
 
@@ -178,7 +155,7 @@ module _ (log : WordLog) (x : SeatStep) where
       record {
         event = m.event;
         entered = m.entered;
-        entry = at_beginning (history_in log) (history_in (log ++ x ∷ [])) c.point
+        entry = at_beginning (history_of log) (history_of (log ++ x ∷ [])) c.point
             (entry_of c.number m.event) begins m.entry;
         by_end = omega arith;
       }
@@ -197,29 +174,29 @@ module _ (log : WordLog) (x : SeatStep) where
         turn = (s.turn.0, omega arith);
         within = (omega arith, omega arith);
         answer = s.answer ∙ ap (λ (z : List Entry). sequential_answer z c.call)
-            (sym (take_beginning (history_in log) (history_in (log ++ x ∷ [])) c.point begins (omega arith)));
+            (sym (take_beginning (history_of log) (history_of (log ++ x ∷ [])) c.point begins (omega arith)));
         makes = λ made. makes_later c s.turn.1 (s.makes made);
       }
 
-pub record HoldsOf (log : WordLog) : Type 0 where
-  pub legal : IsLegal (history_in log)
+pub record HoldsOf (log : Log) : Type 0 where
+  pub legal : IsLegal (history_of log)
   pub explained : (seat k : ℕ) (c : FinishedCall) → IsCall log seat k c → IsExplained log c
   pub once : EntryHasOneAnswer log
   pub sees : (seat : ℕ) → Sees log (client_at seat log).number (client_at seat log).first (client_at seat log).held
 
 -- a call that is accepted has a point among the entries
-made_low : (log : WordLog) (c : FinishedCall) → MakesEntry log c → c.point < length (history_in log)
-made_low log c m = at_below (history_in log) c.point (entry_of c.number m.event) m.entry
+made_low : (log : Log) (c : FinishedCall) → MakesEntry log c → c.point < length (history_of log)
+made_low log c m = at_below (history_of log) c.point (entry_of c.number m.event) m.entry
 
-module _ (log : WordLog) (r : HoldsOf log) (x : SeatStep) where
+module _ (log : Log) (r : HoldsOf log) (x : Logged) where
   -- no call is finished
   stays : (d : ClientState) → with_step (client_at x.seat log) x.step ≡ d → d.calls ≡ (client_at x.seat log).calls → x.step.entry ≡ None
       → Sees (log ++ x ∷ []) d.number d.first d.held → HoldsOf (log ++ x ∷ [])
   stays d is same none seen =
       let calls : (seat : ℕ) → (client_at seat (log ++ x ∷ [])).calls ≡ (client_at seat log).calls = by_seat log x
       (λ seat y. y.calls ≡ (client_at seat log).calls) d is same (λ seat not. refl) in
-      let history : history_in (log ++ x ∷ []) ≡ history_in log = history_more log x ∙ (ap (λ (o : Option Entry). history_in log ++ entry_list o) none
-      ∙ append-nil (history_in log)) in
+      let history : history_of (log ++ x ∷ []) ≡ history_of log = history_more log x ∙ (ap (λ (o : Option Entry). history_of log ++ entry_list o) none
+      ∙ append-nil (history_of log)) in
       let back : (seat k : ℕ) (c : FinishedCall) → IsCall (log ++ x ∷ []) seat k c → IsCall log seat k c = λ seat k c at. ap
       (λ (l : List FinishedCall). slice_get l k) (sym (calls seat)) ∙ at in
       let on : (seat k : ℕ) (c : FinishedCall) → IsCall log seat k c → IsCall (log ++ x ∷ []) seat k c = λ seat k c at. ap
@@ -256,8 +233,8 @@ module _ (log : WordLog) (r : HoldsOf log) (x : SeatStep) where
         own at = elim (at_either (client_at x.seat log).calls c k b (ap (λ (l : List FinishedCall). slice_get l k) (sym calls_are)
             ∙ at)) [ inl t ↦ inl t.1 | inr t ↦ inr (refl, t.0, t.1) ]
 
-    answers : IsExplained (log ++ x ∷ []) c → IsLegal (history_in (log ++ x ∷ []))
-        → ((accepts c.reply ≡ false) × (x.step.entry ≡ None)) ⊎ ((accepts c.reply ≡ true) × (c.point ≡ length (history_in log)) ×
+    answers : IsExplained (log ++ x ∷ []) c → IsLegal (history_of (log ++ x ∷ []))
+        → ((accepts c.reply ≡ false) × (x.step.entry ≡ None)) ⊎ ((accepts c.reply ≡ true) × (c.point ≡ length (history_of log)) ×
         ((e : Entry) × (x.step.entry ≡ Some e))) → HoldsOf (log ++ x ∷ [])
     answers told legal which =
         record {
@@ -273,7 +250,7 @@ module _ (log : WordLog) (r : HoldsOf log) (x : SeatStep) where
         }
       where
         -- calls that made earlier entries
-        old_one : (place : ℕ) → place < length (history_in log) → ((accepts c.reply ≡ true) → c.point ≢ place)
+        old_one : (place : ℕ) → place < length (history_of log) → ((accepts c.reply ≡ true) → c.point ≢ place)
             → (seat : ℕ) × (k : ℕ) × MadeBy (log ++ x ∷ []) place seat k × ((other j : ℕ) → MadeBy (log ++ x ∷ []) place other j → (other ≡ seat) × (j ≡ k))
         old_one place low not =
             let t = r.once place low in (
@@ -286,15 +263,15 @@ module _ (log : WordLog) (r : HoldsOf log) (x : SeatStep) where
               ],
             )
 
-        one : ((accepts c.reply ≡ false) × (x.step.entry ≡ None)) ⊎ ((accepts c.reply ≡ true) × (c.point ≡ length (history_in log)) ×
+        one : ((accepts c.reply ≡ false) × (x.step.entry ≡ None)) ⊎ ((accepts c.reply ≡ true) × (c.point ≡ length (history_of log)) ×
             ((e : Entry) × (x.step.entry ≡ Some e))) → EntryHasOneAnswer (log ++ x ∷ [])
         one (inl t) place low =
-            let count = ap length (history_more log x ∙ (ap (λ (o : Option Entry). history_in log ++ entry_list o) t.1 ∙ append-nil (history_in log))) in
+            let count = ap length (history_more log x ∙ (ap (λ (o : Option Entry). history_of log ++ entry_list o) t.1 ∙ append-nil (history_of log))) in
             old_one place (omega arith) (λ made same. false≢true (sym t.0 ∙ made))
         one (inr t) place low =
-            let count = ap length (history_more log x ∙ ap (λ (o : Option Entry). history_in log ++ entry_list o) t.2.1) ∙ length_push (history_in log) t.2.0 in
+            let count = ap length (history_more log x ∙ ap (λ (o : Option Entry). history_of log ++ entry_list o) t.2.1) ∙ length_push (history_of log) t.2.0 in
             let point = t.1 in
-            elim (cases_eq place (length (history_in log))) [
+            elim (cases_eq place (length (history_of log))) [
               | inl last ↦ (
                 x.seat,
                 length (client_at x.seat log).calls,
@@ -325,12 +302,12 @@ pub enlist_none : (h : Pending) (number found : ℕ) → entry_by number h (Enli
 enlist_none h number found = search arith
 
 -- a step of one seat
-module _ (log : WordLog) (r : HoldsOf log) (seat place at : ℕ) (entry : Option Entry) (place_is : place ≡ length log)
-    (at_is : at ≡ length (history_in log)) where
+module _ (log : Log) (r : HoldsOf log) (seat place at : ℕ) (entry : Option Entry) (place_is : place ≡ length log)
+    (at_is : at ≡ length (history_of log)) where
   abbrev d : ClientState
   d = client_at seat log
 
-  abbrev x : WordTarget → SeatStep
+  abbrev x : Target → Logged
   x target = record { seat = seat; step = record { target = target; place = place; at = at; entry = entry } }
 
   abbrev d_at : Pending → ClientState
@@ -339,28 +316,28 @@ module _ (log : WordLog) (r : HoldsOf log) (seat place at : ℕ) (entry : Option
   sees_at : (h : Pending) → d.held ≡ h → Sees log d.number d.first h
   sees_at h is = subst (Sees log d.number d.first) is (r.sees seat)
 
-  stays_at : (target : WordTarget) (h then : Pending) (first : ℕ) → d.held ≡ h
+  stays_at : (target : Target) (h then : Pending) (first : ℕ) → d.held ≡ h
       → with_target target (x target).step (d_at h) ≡ record { number = d.number; calls = d.calls; held = then; first = first }
       → entry ≡ None → Sees (log ++ x target ∷ []) d.number first then → HoldsOf (log ++ x target ∷ [])
   stays_at target h then first is e none seen =
       stays log r (x target) (record { number = d.number; calls = d.calls; held = then; first = first })
       (ap (λ (y : Pending). with_target target (x target).step (d_at y)) is ∙ e) refl none seen
 
-  finish : (target : WordTarget) (h : Pending) (c : FinishedCall) (first : ℕ) → d.held ≡ h
+  finish : (target : Target) (h : Pending) (c : FinishedCall) (first : ℕ) → d.held ≡ h
       → with_target target (x target).step (d_at h) ≡ record { number = d.number; calls = d.calls ++ c ∷ []; held = NoCall; first = first }
-      → IsExplained (log ++ x target ∷ []) c → IsLegal (history_in (log ++ x target ∷ []))
-      → ((accepts c.reply ≡ false) × (entry ≡ None)) ⊎ ((accepts c.reply ≡ true) × (c.point ≡ length (history_in log)) × ((e : Entry) × (entry ≡ Some e)))
+      → IsExplained (log ++ x target ∷ []) c → IsLegal (history_of (log ++ x target ∷ []))
+      → ((accepts c.reply ≡ false) × (entry ≡ None)) ⊎ ((accepts c.reply ≡ true) × (c.point ≡ length (history_of log)) × ((e : Entry) × (entry ≡ Some e)))
       → HoldsOf (log ++ x target ∷ [])
   finish target h c first is e told legal which =
       answers log r (x target) c (record { number = d.number; calls = d.calls ++ c ∷ []; held = NoCall; first = first })
       (ap (λ (y : Pending). with_target target (x target).step (d_at y)) is ∙ e) refl refl told legal which
 
-  same_history : (target : WordTarget) → entry ≡ None → history_in (log ++ x target ∷ []) ≡ history_in log
-  same_history target none = history_more log (x target) ∙ (ap (λ (o : Option Entry). history_in log ++ entry_list o) none ∙ append-nil (history_in log))
+  same_history : (target : Target) → entry ≡ None → history_of (log ++ x target ∷ []) ≡ history_of log
+  same_history target none = history_more log (x target) ∙ (ap (λ (o : Option Entry). history_of log ++ entry_list o) none ∙ append-nil (history_of log))
 
-  told_at : (target : WordTarget) (c : FinishedCall) → c.first ≤ length log → c.last ≡ length log → entries_before log c.first ≤ c.point
-      → c.point ≤ length (history_in log)
-      → c.reply ≡ sequential_answer (take c.point (history_in log)) c.call → (accepts c.reply ≡ true → MakesEntry (log ++ x target ∷ []) c)
+  told_at : (target : Target) (c : FinishedCall) → c.first ≤ length log → c.last ≡ length log → entries_before log c.first ≤ c.point
+      → c.point ≤ length (history_of log)
+      → c.reply ≡ sequential_answer (take c.point (history_of log)) c.call → (accepts c.reply ≡ true → MakesEntry (log ++ x target ∷ []) c)
       → IsExplained (log ++ x target ∷ []) c
   told_at target c first last low high answer makes =
       let l = longer log (x target) in
@@ -370,12 +347,12 @@ module _ (log : WordLog) (r : HoldsOf log) (seat place at : ℕ) (entry : Option
         turn = (omega arith, omega arith);
         within = (omega arith, omega arith);
         answer = answer ∙ ap (λ (z : List Entry). sequential_answer z c.call)
-            (sym (take_beginning (history_in log) (history_in (log ++ x target ∷ [])) c.point (begins log (x target)) high));
+            (sym (take_beginning (history_of log) (history_of (log ++ x target ∷ [])) c.point (begins log (x target)) high));
         makes = makes;
       }
 
   -- a refusal now
-  refused : (target : WordTarget) (h : Pending) (e : EventCall) (refusal : Refusal) (first then : ℕ) → d.held ≡ h → first ≤ length log
+  refused : (target : Target) (h : Pending) (e : EventCall) (refusal : Refusal) (first then : ℕ) → d.held ≡ h → first ≤ length log
       → with_target target (x target).step (d_at h)
       ≡ record {
         number = d.number;
@@ -383,58 +360,56 @@ module _ (log : WordLog) (r : HoldsOf log) (seat place at : ℕ) (entry : Option
             ++ record { number = d.number; call = Event e; reply = Refused refusal; first = first; last = place; point = at } ∷ [];
         held = NoCall;
         first = then;
-      }
-      → entry ≡ None → refusal_of (match_after (history_in log) e.game) e.expected e.kind ≡ Some refusal → HoldsOf (log ++ x target ∷ [])
+      } → entry ≡ None → refusal_of (match_after (history_of log) e.game) e.expected e.kind ≡ Some refusal → HoldsOf (log ++ x target ∷ [])
   refused target h e refusal first then is low does none refuses =
       let c : FinishedCall = record { number = d.number; call = Event e; reply = Refused refusal; first = first; last = place; point = at } in
       let before = entries_low log first in
-      let whole : take at (history_in log) ≡ history_in log = ap (λ (k : ℕ). take k (history_in log)) at_is ∙ take-length (history_in log) in
-      let answer : c.reply ≡ sequential_answer (take at (history_in log)) (Event e) =
+      let whole : take at (history_of log) ≡ history_of log = ap (λ (k : ℕ). take k (history_of log)) at_is ∙ take-length (history_of log) in
+      let answer : c.reply ≡ sequential_answer (take at (history_of log)) (Event e) =
       sym (ap (λ (z : List Entry). sequential_answer z (Event e)) whole
       ∙ ap (λ (o : Option Refusal). Rattle.ucl_steps.specs.Protocol.report_reply
-      (Rattle.ucl_word.specs.Rules.answer (match_after (history_in log) e.game).number o)) refuses) in
+      (Rattle.ucl_word.specs.Rules.answer (match_after (history_of log) e.game).number o)) refuses) in
       finish target h c then is does (told_at target c low place_is (omega arith) (omega arith) answer (λ made. absurd (false≢true made)))
       (subst IsLegal (sym (same_history target none)) r.legal) (inl (refl, none))
 
-  record_now : (game found : ℕ) → found ≡ word_of (match_after (history_in log) game) → record_at found ≡ match_after (history_in log) game
-  record_now game found there = ap record_at there ∙ read_back (history_in log) game r.legal
+  record_now : (game found : ℕ) → found ≡ word_of (match_after (history_of log) game) → record_at found ≡ match_after (history_of log) game
+  record_now game found there = ap record_at there ∙ read_back (history_of log) game r.legal
 
   -- Look
   module _ (e : EventCall) (game found : ℕ) (nothing : d.held ≡ NoCall) (of : game ≡ e.game) (reporter : IsReporter d.number) (is_match : IsMatch game)
-      (there : found ≡ word_of (match_after (history_in log) game)) (none : entry ≡ None) where
-    found_there : found ≡ word_of (match_after (history_in log) e.game)
-    found_there = there ∙ ap (λ (g : ℕ). word_of (match_after (history_in log) g)) of
+      (there : found ≡ word_of (match_after (history_of log) game)) (none : entry ≡ None) where
+    found_there : found ≡ word_of (match_after (history_of log) e.game)
+    found_there = there ∙ ap (λ (g : ℕ). word_of (match_after (history_of log) g)) of
 
     look_by : (o : Option Refusal) → refusal_of (record_at found) e.expected e.kind ≡ o → HoldsOf (log ++ x (Match (Look e) game found) ∷ [])
-    look_by (Some refusal) is =
-        refused (Match (Look e) game found) NoCall e refusal place d.first nothing (omega arith)
+    look_by (Some refusal) is = refused (Match (Look e) game found) NoCall e refusal place d.first nothing (omega arith)
         (ap (λ (o : Option Refusal). with_outcome (by_rules d.number e found o) (x (Match (Look e) game found)).step (d_at NoCall)) is) none
         (ap (λ (m : MatchRecord). refusal_of m e.expected e.kind) (sym (record_now e.game found found_there)) ∙ is)
     look_by None is =
         let new = word_of (after (record_at found) d.number e.kind) in
         let y = x (Match (Look e) game found) in
         let l = longer log y in
-        let offers : Offers (history_in log) d.number e found new = record {
+        let offers : Offers (history_of log) d.number e found new = record {
           reporter = reporter;
           game = subst IsMatch of is_match;
-          place = length (history_in log);
-          within = le_refl (length (history_in log));
-          found = found_there ∙ ap (λ (z : List Entry). word_of (match_after z e.game)) (sym (take-length (history_in log)));
+          place = length (history_of log);
+          within = le_refl (length (history_of log));
+          found = found_there ∙ ap (λ (z : List Entry). word_of (match_after z e.game)) (sym (take-length (history_of log)));
           accepted = is;
           next = refl;
         } in
         stays_at (Match (Look e) game found) NoCall (Holding e found new) place nothing
         (ap (λ (o : Option Refusal). with_outcome (by_rules d.number e found o) (x (Match (Look e) game found)).step (d_at NoCall)) is) none
-        (omega arith, offers_later (history_in log) (history_in (log ++ y ∷ [])) (begins log y) d.number e found new offers)
+        (omega arith, offers_later (history_of log) (history_of (log ++ y ∷ [])) (begins log y) d.number e found new offers)
 
   -- Swap
   module _ (e : EventCall) (old new game found : ℕ) (holds : d.held ≡ Holding e old new) (of : game ≡ e.game)
-      (there : found ≡ word_of (match_after (history_in log) game)) where
-    offered : (d.first < length log) × Offers (history_in log) d.number e old new
+      (there : found ≡ word_of (match_after (history_of log) game)) where
+    offered : (d.first < length log) × Offers (history_of log) d.number e old new
     offered = sees_at (Holding e old new) holds
 
-    swap_found : found ≡ word_of (match_after (history_in log) e.game)
-    swap_found = there ∙ ap (λ (g : ℕ). word_of (match_after (history_in log) g)) of
+    swap_found : found ≡ word_of (match_after (history_of log) e.game)
+    swap_found = there ∙ ap (λ (g : ℕ). word_of (match_after (history_of log) g)) of
 
     abbrev swapped_by : Bool → ClientState
     swapped_by b = with_outcome (Answers (cond b (Accepted (record { number = (record_at new).number })) (Refused (Stale (record_at found).number))))
@@ -444,9 +419,9 @@ module _ (log : WordLog) (r : HoldsOf log) (seat place at : ℕ) (entry : Option
     swap_missed differs none =
         let o = offered.1 in
         let low = offered.0 in
-        let h = history_in log in
+        let h = history_of log in
         let g = e.game in
-        let then = read_back (take o.place h) g (legal_beginning h o.place r.legal) in
+        let then = read_back (take o.place h) g (legal_take h o.place r.legal) in
         let number = number_expected (record_at old) e.expected e.kind o.accepted in
         let other = eqb-false found old differs in
         let stale : e.expected ≡ (match_after h g).number → ⊥ = λ is. search (
@@ -471,7 +446,7 @@ module _ (log : WordLog) (r : HoldsOf log) (seat place at : ℕ) (entry : Option
     swap_won same is =
         let o = offered.1 in
         let first = offered.0 in
-        let h = history_in log in
+        let h = history_of log in
         let g = e.game in
         let y = x (Match Swap game found) in
         let made : Entry = entry_of d.number e in
@@ -492,9 +467,8 @@ module _ (log : WordLog) (r : HoldsOf log) (seat place at : ℕ) (entry : Option
         } in
         let before = entries_low log d.first in
         let whole : take at h ≡ h = ap (λ (k : ℕ). take k h) at_is ∙ take-length h in
-        let history : history_in (log ++ y ∷ []) ≡ h ++ made ∷ [] = history_more log y ∙ ap (λ (z : Option Entry). h ++ entry_list z) is in
-        let answer : c.reply ≡ sequential_answer (take at h) (Event e) =
-        ap (λ (k : ℕ). Accepted (record { number = k })) new_number
+        let history : history_of (log ++ y ∷ []) ≡ h ++ made ∷ [] = history_more log y ∙ ap (λ (z : Option Entry). h ++ entry_list z) is in
+        let answer : c.reply ≡ sequential_answer (take at h) (Event e) = ap (λ (k : ℕ). Accepted (record { number = k })) new_number
         ∙ sym (ap (λ (z : List Entry). sequential_answer z (Event e)) whole
         ∙ ap (λ (z : Option Refusal). Rattle.ucl_steps.specs.Protocol.report_reply (Rattle.ucl_word.specs.Rules.answer (match_after h g).number z)) accepted) in
         let all = entries_all (log ++ y ∷ []) in
@@ -512,51 +486,48 @@ module _ (log : WordLog) (r : HoldsOf log) (seat place at : ℕ) (entry : Option
 
   -- First
   module _ (h : Pending) (words : List ℕ) (first game found : ℕ) (holds : d.held ≡ h) (few : length words < 12)
-      (loads : Loaded (history_in log) words (length (history_in log))) (low : first ≤ length log)
-      (of : game ≡ length words + 1) (there : found ≡ word_of (match_after (history_in log) game)) (none : entry ≡ None)
+      (loads : Loaded (history_of log) words (length (history_of log))) (low : first ≤ length log)
+      (of : game ≡ length words + 1) (there : found ≡ word_of (match_after (history_of log) game)) (none : entry ≡ None)
       (does : with_target (Match First game found) (x (Match First game found)).step
       (d_at h) ≡ record { number = d.number; calls = d.calls; held = collected (words ++ found ∷ []) at; first = first }) where
-    all_loaded : Loaded (history_in log) (words ++ found ∷ []) (length (history_in log))
+    all_loaded : Loaded (history_of log) (words ++ found ∷ []) (length (history_of log))
     all_loaded i less =
         let long = length_push words found in
-        let here : found ≡ word_of (match_after (take (length (history_in log)) (history_in log)) (length words + 1)) =
-        there ∙ (ap (λ (g : ℕ). word_of (match_after (history_in log) g)) of ∙ ap (λ (z : List Entry). word_of (match_after z (length words + 1)))
-        (sym (take-length (history_in log)))) in
+        let here : found ≡ word_of (match_after (take (length (history_of log)) (history_of log)) (length words + 1)) =
+        there ∙ (ap (λ (g : ℕ). word_of (match_after (history_of log) g)) of ∙ ap (λ (z : List Entry). word_of (match_after z (length words + 1)))
+        (sym (take-length (history_of log)))) in
         elim (cases_lt i (length words)) [
           | inl l ↦ let t = loads i l in (t.0, t.1, get_or_append_left words (found ∷ []) 0 i l ∙ t.2)
           | inr l ↦
               let last : i ≡ length words = omega arith in (
-                length (history_in log),
-                le_refl (length (history_in log)),
+                length (history_of log),
+                le_refl (length (history_of log)),
                 subst (λ (k : ℕ). get_or (words ++ found ∷ []) k 0 ≡ word_of
-                    (match_after (take (length (history_in log)) (history_in log)) (k + 1))) (sym last)
+                    (match_after (take (length (history_of log)) (history_of log)) (k + 1))) (sym last)
                     (get_or_push words found 0 (length words) refl ∙ here),
               )
         ]
+
+    abbrev then_held : Bool → ClientState
+    then_held b = record { number = d.number; calls = d.calls; held = cond b (Checking (words ++ found ∷ []) 0 at) (Collecting (words ++ found ∷ [])); first = first }
 
     first_by : (b : Bool) → (length (words ++ found ∷ []) == 12) ≡ b → HoldsOf (log ++ x (Match First game found) ∷ [])
     first_by true is =
         let y = x (Match First game found) in
         let l = longer log y in
         let before = entries_low log first in
-        let checks : Checks (history_in log) (entries_before log first) (words ++ found ∷ []) 0 at = record {
+        let checks : Checks (history_of log) (entries_before log first) (words ++ found ∷ []) 0 at = record {
           twelve = eqb-true (length (words ++ found ∷ [])) 12 is;
           few = omega arith;
           early = omega arith;
           late = omega arith;
-          loaded = subst (Loaded (history_in log) (words ++ found ∷ [])) (sym at_is) all_loaded;
+          loaded = subst (Loaded (history_of log) (words ++ found ∷ [])) (sym at_is) all_loaded;
           same = λ i none. absurd (omega arith);
         } in
         stays_at (Match First game found) h (Checking (words ++ found ∷ []) 0 at) first holds
-        (does ∙ ap (λ (b : Bool). record {
-          number = d.number;
-          calls = d.calls;
-          held = cond b (Checking (words ++ found ∷ []) 0 at)
-              (Collecting (words ++ found ∷ []));
-          first = first;
-        }) is) none (
+        (does ∙ ap then_held is) none (
           omega arith,
-          checks_later (history_in log) (history_in (log ++ y ∷ [])) (begins log y) (entries_before log first)
+          checks_later (history_of log) (history_of (log ++ y ∷ [])) (begins log y) (entries_before log first)
               (entries_before (log ++ y ∷ []) first) (words ++ found ∷ []) 0 at (entries_same log (y ∷ []) first low) checks,
         )
     first_by false is =
@@ -564,26 +535,20 @@ module _ (log : WordLog) (r : HoldsOf log) (seat place at : ℕ) (entry : Option
         let l = longer log y in
         let long = length_push words found in
         let not = eqb-false (length (words ++ found ∷ [])) 12 is in
-        let later = begins_length (history_in log) (history_in (log ++ y ∷ [])) (begins log y) in
+        let later = begins_length (history_of log) (history_of (log ++ y ∷ [])) (begins log y) in
         stays_at (Match First game found) h (Collecting (words ++ found ∷ [])) first holds
-        (does ∙ ap (λ (b : Bool). record {
-          number = d.number;
-          calls = d.calls;
-          held = cond b (Checking (words ++ found ∷ []) 0 at)
-              (Collecting (words ++ found ∷ []));
-          first = first;
-        }) is) none (
+        (does ∙ ap then_held is) none (
           omega arith,
           omega (arith, not),
-          loaded_later (history_in log) (history_in (log ++ y ∷ [])) (begins log y) (words ++ found ∷ [])
-              (length (history_in log)) (length (history_in (log ++ y ∷ [])))
-              (le_refl (length (history_in log))) later all_loaded,
+          loaded_later (history_of log) (history_of (log ++ y ∷ [])) (begins log y) (words ++ found ∷ [])
+              (length (history_of log)) (length (history_of (log ++ y ∷ [])))
+              (le_refl (length (history_of log))) later all_loaded,
         )
 
   -- Second
   module _ (words : List ℕ) (checked point game found : ℕ) (holds : d.held ≡ Checking words checked point) (of : game ≡ checked + 1)
-      (there : found ≡ word_of (match_after (history_in log) game)) (none : entry ≡ None) where
-    abbrev mine : (d.first < length log) × Checks (history_in log) (entries_before log d.first) words checked point
+      (there : found ≡ word_of (match_after (history_of log) game)) (none : entry ≡ None) where
+    abbrev mine : (d.first < length log) × Checks (history_of log) (entries_before log d.first) words checked point
     mine = sees_at (Checking words checked point) holds
 
     abbrev compared_by : Bool → Bool → ClientState
@@ -591,7 +556,7 @@ module _ (log : WordLog) (r : HoldsOf log) (seat place at : ℕ) (entry : Option
         (GoesOn (Collecting [])))
         (x (Match Second game found)).step (d_at (Checking words checked point))
 
-    same_more : found ≡ slice_index words checked → AreAt (history_in log) words (checked + 1) point
+    same_more : found ≡ slice_index words checked → AreAt (history_of log) words (checked + 1) point
     same_more same i less =
         let o = mine.1 in
         elim (cases_lt i checked) [
@@ -599,11 +564,11 @@ module _ (log : WordLog) (r : HoldsOf log) (seat place at : ℕ) (entry : Option
           | inr l ↦
               let last : i ≡ checked = omega arith in
               let t = o.loaded i (let w = o.twelve in let few = o.few in omega arith) in
-              let here : get_or words i 0 ≡ word_of (match_after (take (length (history_in log)) (history_in log)) (i + 1)) =
+              let here : get_or words i 0 ≡ word_of (match_after (take (length (history_of log)) (history_of log)) (i + 1)) =
               ap (λ (k : ℕ). get_or words k 0) last
-              ∙ (sym same ∙ (there ∙ (ap (λ (g : ℕ). word_of (match_after (history_in log) g)) (of ∙ ap (λ (k : ℕ). k + 1) (sym last))
-              ∙ ap (λ (z : List Entry). word_of (match_after z (i + 1))) (sym (take-length (history_in log)))))) in
-              squeezed (i + 1) (get_or words i 0) (history_in log) t.0 point (length (history_in log)) r.legal t.1 o.late t.2 here
+              ∙ (sym same ∙ (there ∙ (ap (λ (g : ℕ). word_of (match_after (history_of log) g)) (of ∙ ap (λ (k : ℕ). k + 1) (sym last))
+              ∙ ap (λ (z : List Entry). word_of (match_after z (i + 1))) (sym (take-length (history_of log)))))) in
+              squeezed (i + 1) (get_or words i 0) (history_of log) t.0 point (length (history_of log)) r.legal t.1 o.late t.2 here
         ]
 
     second_by : (same last : Bool) → (found == slice_index words checked) ≡ same → (checked == 11) ≡ last → HoldsOf (log ++ x (Match Second game found) ∷ [])
@@ -616,42 +581,33 @@ module _ (log : WordLog) (r : HoldsOf log) (seat place at : ℕ) (entry : Option
         (omega arith, omega arith, λ i less. absurd (omega arith))
     second_by true false is is_last =
         let y = x (Match Second game found) in
-        let l = longer log y in
-        let low = mine.0 in
         let o = mine.1 in
         let few = o.few in
         let not = eqb-false checked 11 is_last in
-        let checks : Checks (history_in log) (entries_before log d.first) words (checked + 1) point =
-        record {
+        let checks : Checks (history_of log) (entries_before log d.first) words (checked + 1) point = record {
           twelve = o.twelve;
           few = omega (arith, not);
           early = o.early;
           late = o.late;
           loaded = o.loaded;
-          same = same_more
-              (eqb-true found (slice_index words checked) is);
+          same = same_more (eqb-true found (slice_index words checked) is);
         } in
         stays_at (Match Second game found) (Checking words checked point) (Checking words (checked + 1) point) d.first holds
-        (ap (λ (b : Bool). compared_by b (checked == 11)) is ∙ ap (compared_by true) is_last) none (
-          omega arith,
-          checks_later (history_in log) (history_in (log ++ y ∷ [])) (begins log y) (entries_before log d.first)
-              (entries_before (log ++ y ∷ []) d.first) words (checked + 1) point
-              (entries_same log (y ∷ []) d.first (omega arith)) checks,
-        )
+        (ap (λ (b : Bool). compared_by b (checked == 11)) is ∙ ap (compared_by true) is_last) none
+        (sees_later log y d.number d.first (Checking words (checked + 1) point) (mine.0, checks))
     second_by true true is is_last =
         let y = x (Match Second game found) in
         let low = mine.0 in
         let o = mine.1 in
-        let h = take point (history_in log) in
+        let h = take point (history_of log) in
         let early = o.early in
         let eleven = eqb-true checked 11 is_last in
         let each = same_more (eqb-true found (slice_index words checked) is) in
         let board : words ≡ board_of h = board_from h words o.twelve (λ i few. each i (omega arith)) in
-        let long : length h ≡ point = Rattle.std.proofs.lemmas.List.length-take-le point (history_in log) o.late in
-        let version : version_of words ≡ length h = ap version_of board ∙ version_is h (legal_beginning (history_in log) point r.legal) in
+        let long : length h ≡ point = Rattle.std.proofs.lemmas.List.length-take-le point (history_of log) o.late in
+        let version : version_of words ≡ length h = ap version_of board ∙ (versions h (legal_take (history_of log) point r.legal)).0 in
         let c : FinishedCall = record { number = d.number; call = Reading; reply = Copied (reading_of words); first = d.first; last = place; point = point } in
-        let answer : c.reply ≡ sequential_answer h Reading =
-        (λ i. Copied (record { board = board i; version = version i }))
+        let answer : c.reply ≡ sequential_answer h Reading = (λ i. Copied (record { board = board i; version = version i }))
         ∙ ap (λ (z : List Entry). Copied (record { board = board_of z; version = length h })) (sym (take-length h)) in
         finish (Match Second game found) (Checking words checked point) c d.first holds (ap (λ (b : Bool). compared_by b (checked == 11)) is
         ∙ ap (compared_by true) is_last)
@@ -662,20 +618,17 @@ module _ (log : WordLog) (r : HoldsOf log) (seat place at : ℕ) (entry : Option
   no_match : (game : ℕ) → IsMatch game → game ≡ 0 → ⊥
   no_match game is zero_is = let l = is.0 in omega arith
 
-  swap_by : (h : Pending) (game found : ℕ) → d.held ≡ h → IsMatch game → found ≡ word_of (match_after (history_in log) game) → game ≡ next_game Swap h
-      → entry ≡ entry_by d.number h (Match Swap game found)
-      → HoldsOf (log ++ x (Match Swap game found) ∷ [])
+  swap_by : (h : Pending) (game found : ℕ) → d.held ≡ h → IsMatch game → found ≡ word_of (match_after (history_of log) game) → game ≡ next_game Swap h
+      → entry ≡ entry_by d.number h (Match Swap game found) → HoldsOf (log ++ x (Match Swap game found) ∷ [])
   swap_by (Holding e old new) game found is m there next made = by_bool (found == old) refl
     where
       by_bool : (b : Bool) → (found == old) ≡ b → HoldsOf (log ++ x (Match Swap game found) ∷ [])
       by_bool true same = swap_won e old new game found is next there same (made ∙ ap (λ (b : Bool). cond b (Some (entry_of d.number e)) None) same)
       by_bool false differs = swap_missed e old new game found is next there differs
           (made ∙ ap (λ (b : Bool). cond b (Some (entry_of d.number e)) None) differs)
-  swap_by NoCall game found is m there next made = absurd (no_match game m next)
-  swap_by (Collecting words) game found is m there next made = absurd (no_match game m next)
-  swap_by (Checking words checked point) game found is m there next made = absurd (no_match game m next)
+  swap_by h game found is m there next made = absurd (no_match game m next)
 
-  first_held : (h : Pending) (game found : ℕ) → d.held ≡ h → IsMatch game → found ≡ word_of (match_after (history_in log) game) → game ≡ next_game First h
+  first_held : (h : Pending) (game found : ℕ) → d.held ≡ h → IsMatch game → found ≡ word_of (match_after (history_of log) game) → game ≡ next_game First h
       → entry ≡ None → HoldsOf (log ++ x (Match First game found) ∷ [])
   first_held NoCall game found is m there next none =
       first_by NoCall [] place game found is (omega arith) (λ i less. absurd (omega arith)) (omega arith) next there none refl (length (found ∷ []) == 12) refl
@@ -683,38 +636,29 @@ module _ (log : WordLog) (r : HoldsOf log) (seat place at : ℕ) (entry : Option
       let s = sees_at (Collecting words) is in
       let low = s.0 in
       first_by (Collecting words) words d.first game found is s.1 s.2 (omega arith) next there none refl (length (words ++ found ∷ []) == 12) refl
-  first_held (Holding e old new) game found is m there next none = absurd (no_match game m next)
-  first_held (Checking words checked point) game found is m there next none = absurd (no_match game m next)
+  first_held h game found is m there next none = absurd (no_match game m next)
 
-  second_held : (h : Pending) (game found : ℕ) → d.held ≡ h → IsMatch game → found ≡ word_of (match_after (history_in log) game) → game ≡ next_game Second h
+  second_held : (h : Pending) (game found : ℕ) → d.held ≡ h → IsMatch game → found ≡ word_of (match_after (history_of log) game) → game ≡ next_game Second h
       → entry ≡ None → HoldsOf (log ++ x (Match Second game found) ∷ [])
   second_held (Checking words checked point) game found is m there next none =
       second_by words checked point game found is next there none (found == slice_index words checked) (checked == 11) refl refl
-  second_held NoCall game found is m there next none = absurd (no_match game m next)
-  second_held (Holding e old new) game found is m there next none = absurd (no_match game m next)
-  second_held (Collecting words) game found is m there next none = absurd (no_match game m next)
+  second_held h game found is m there next none = absurd (no_match game m next)
 
   -- a step on no match word
-  same_client : (target : WordTarget) (h : Pending) → d.held ≡ h
+  same_client : (target : Target) (h : Pending) → d.held ≡ h
       → with_target target (x target).step (d_at h) ≡ record { number = d.number; calls = d.calls; held = h; first = first_place h d.first place }
-      → entry ≡ None
-      → HoldsOf (log ++ x target ∷ [])
-  same_client target NoCall is does none = stays_at target NoCall NoCall place is does none tt
-  same_client target (Holding e old new) is does none =
-      stays_at target (Holding e old new) (Holding e old new) d.first is does none (sees_later log (x target) d.number d.first (Holding e old new)
-      (sees_at (Holding e old new) is))
-  same_client target (Collecting words) is does none =
-      stays_at target (Collecting words) (Collecting words) d.first is does none (sees_later log (x target) d.number d.first (Collecting words)
-      (sees_at (Collecting words) is))
-  same_client target (Checking words checked point) is does none =
-      stays_at target (Checking words checked point) (Checking words checked point) d.first is does none
-      (sees_later log (x target) d.number d.first (Checking words checked point) (sees_at (Checking words checked point) is))
+      → entry ≡ None → HoldsOf (log ++ x target ∷ [])
+  same_client target h is does none = stays_at target h h (first_place h d.first place) is does none (seen h (sees_at h is))
+    where
+      seen : (h : Pending) → Sees log d.number d.first h → Sees (log ++ x target ∷ []) d.number (first_place h d.first place) h
+      seen NoCall s = tt
+      seen h s = sees_later log (x target) d.number d.first h s
 
   count_does : (h : Pending) (found : ℕ) → with_target (Enlisted found) (x (Enlisted found)).step
       (d_at h) ≡ record { number = d.number; calls = d.calls; held = h; first = first_place h d.first place }
   count_does h found = search arith
 
-  one_step : (target : WordTarget) → IsFoundThere log target → IsNextFor d target → entry ≡ entry_by d.number d.held target → HoldsOf (log ++ x target ∷ [])
+  one_step : (target : Target) → IsThere log target → IsNextFor d target → entry ≡ entry_by d.number d.held target → HoldsOf (log ++ x target ∷ [])
   one_step (Match (Look e) game found) there next is =
       look_by e game found next.0 next.1 next.2 there.0 there.1 (is ∙ look_none d.held d.number game found e)
       (refusal_of (record_at found) e.expected e.kind) refl
@@ -722,6 +666,7 @@ module _ (log : WordLog) (r : HoldsOf log) (seat place at : ℕ) (entry : Option
   one_step (Match First game found) there next is = first_held d.held game found refl there.0 there.1 next (is ∙ first_none d.held d.number game found)
   one_step (Match Second game found) there next is = second_held d.held game found refl there.0 there.1 next (is ∙ second_none d.held d.number game found)
   one_step (Enlisted found) there next is = same_client (Enlisted found) d.held refl (count_does d.held found) (is ∙ count_none d.held d.number found)
+  one_step (Whole shown) there next is = absurd next
   one_step (Enlists found) there next is =
       stays log r (x (Enlists found)) (record { number = found + 1; calls = d.calls; held = NoCall; first = d.first })
       (λ i. record { number = found + 1; calls = (client_at seat log).calls; held = next.0 i; first = (client_at seat log).first }) refl
@@ -730,10 +675,10 @@ module _ (log : WordLog) (r : HoldsOf log) (seat place at : ℕ) (entry : Option
 -- each log
 
 pub holds_none : HoldsOf []
-holds_none = record { legal = legal_none; explained = λ seat k c at. absurd (none-some c at); once = λ place low. absurd (omega arith); sees = λ seat. tt }
+holds_none = record { legal = may_none MayFollow; explained = λ seat k c at. absurd (none-some c at); once = λ place low. absurd (omega arith); sees = λ seat. tt }
 
-pub holds_all : (log : WordLog) → IsWordLog log → FollowsProtocol log → HoldsOf log
-holds_all log = may_induction MayComeNext (λ l. FollowsProtocol l → HoldsOf l) (λ f. holds_none)
+pub holds_all : (log : Log) → IsLog log → FollowsProtocol log → HoldsOf log
+holds_all log = may_induction MayBeTaken (λ l. FollowsProtocol l → HoldsOf l) (λ f. holds_none)
     (λ xs x before may was f.
     let p = may_last IsNextOfProtocol xs x f in
     one_step xs (was (may_begin IsNextOfProtocol xs
@@ -742,7 +687,7 @@ holds_all log = may_induction MayComeNext (λ l. FollowsProtocol l → HoldsOf l
 
 -- the order of time
 
-pub precedes : (log : WordLog) (a b : FinishedCall) → IsExplained log a → IsExplained log b → a.last < b.first → (m n : Bool) → accepts a.reply ≡ m
+pub precedes : (log : Log) (a b : FinishedCall) → IsExplained log a → IsExplained log b → a.last < b.first → (m n : Bool) → accepts a.reply ≡ m
     → accepts b.reply ≡ n → GoesBefore a b
 precedes log a b ea eb before true n is_a is_b =
     let by = (ea.makes is_a).by_end in

@@ -1,43 +1,42 @@
 -- A log is a run of the machine: the steps that a function makes of it are enabled, and lead to its history; a longer log is a longer run.
 use Rattle.ucl_steps.proofs.Common.{◌≡◌, ◌≢◌, inl, inr, ℕ, zero, suc, ◌+◌, ◌-◌, ◌<◌, ◌≤◌, ◌==◌, ◌&&◌, nat_le, Bool, true, false, cond, List, ◌∷◌, ◌++◌, length}
-use Rattle.ucl_steps.proofs.Common.{Option, Some, None, refl, sym, ap, ◌∙◌, subst, arith, [], append-nil, append_assoc, le-leb, same_Some, option_and_then}
-use Rattle.ucl_steps.proofs.Common.{option_and_then_some, slice_get, slice_index, All, All-cons, All-nil, All-head, All-tail, Entry, EventCall, IsMatch, IsReporter}
-use Rattle.ucl_steps.proofs.Common.{word_of, word_at, match_after, board_of, word_after, entry_of, Caller, Reporter, Reader, Call, Event, Reading, Step, Reply}
-use Rattle.ucl_steps.proofs.Common.{CallerState, Idle, Wanting, Within, Answered, MachineState, initial_state, held_by, with_held, held_at_begin, after_begin}
-use Rattle.ucl_steps.proofs.Common.{after_reply, after_end, after_outcome, stored, after_step_holding, after_step, after_steps, Pending, NoCall, Holding, Collecting}
-use Rattle.ucl_steps.proofs.Common.{Checking, Outcome, GoesOn, Answers, looked, swapped, loaded, compared, IsLinearizable, Refusal, refusal_of, record_at}
-use Rattle.ucl_steps.proofs.Common.{reading_of, by_rules, Copied}
+use Rattle.ucl_steps.proofs.Common.{get_or_append_left, get_or_push, length_push, Option, Some, None, refl, sym, ap, ◌∙◌, subst, arith, [], append-nil}
+use Rattle.ucl_steps.proofs.Common.{append_assoc, le-leb, same_Some, option_and_then, option_and_then_some, slice_get, slice_index, All, Entry, EventCall}
+use Rattle.ucl_steps.proofs.Common.{IsMatch, IsReporter, word_of, word_at, match_after, board_of, word_after, entry_of, Caller, Reporter, Reader, Call, Event}
+use Rattle.ucl_steps.proofs.Common.{Reading, Step, Reply, CallerState, Idle, Wanting, Within, Answered, MachineState, initial_state, held_by, with_held}
+use Rattle.ucl_steps.proofs.Common.{held_at_begin, after_begin, after_reply, after_end, after_outcome, stored, after_step_holding, after_step, after_steps}
+use Rattle.ucl_steps.proofs.Common.{Pending, NoCall, Holding, Collecting, Checking, Outcome, GoesOn, Answers, looked, swapped, loaded, compared, IsLinearizable}
+use Rattle.ucl_steps.proofs.Common.{Refusal, refusal_of, record_at, reading_of, by_rules, Copied}
 use Rattle.std.proofs.Common.{replicate}
-use Rattle.ucl_board.specs.Log.{entry_list}
 use Rattle.ucl_word.proofs.Sequences.{may_induction, may_begin, may_last}
 use Rattle.ucl_steps.specs.declared.step.Step.TheVariants as machine
 use Rattle.ucl_steps.specs.Machine as rules
 use Rattle.ucl_steps.proofs.Lists.{same_caller, held_here, held_else}
 use Rattle.ucl_steps.proofs.Runs.{linearizable_run, words_of_run}
-use Rattle.ucl_steps.proofs.LogHistory.{history_more, by_seat, look_none, first_none, second_none, count_none, enlist_none}
+use Rattle.ucl_steps.proofs.LogHistory.{by_seat, look_none, first_none, second_none, count_none, enlist_none}
 use Rattle.ucl_steps.proofs.LogTurns.{holding, collecting, checking}
-use Rattle.ucl_steps.proofs.LogFacts.{enlisted_more, logs_facts}
-use Rattle.ucl_steps.specs.WordLog.{Act, Look, Swap, First, Second, WordTarget, Match, Enlisted, Enlists, WordStep, SeatStep, WordLog, history_in, enlists}
-use Rattle.ucl_steps.specs.WordLog.{enlisted_by, IsFoundThere, MayComeNext, IsWordLog}
-use Rattle.ucl_steps.specs.ClientState.{ClientState, client_at, outcome, with_outcome, with_step, next_game, IsNextFor, entry_by, IsNextOfProtocol, FollowsProtocol}
-use Rattle.ucl_steps.specs.LogFacts.{LogFacts, number_at}
+use Rattle.ucl_board.proofs.Logs.{history_more, enlisted_more}
+use Rattle.ucl_steps.proofs.LogFacts.{logs_facts, numbers_low, numbers_apart}
+use Rattle.ucl_board.specs.Log.{AccessKind, Look, Swap, First, Second, Target, Match, Enlisted, Enlists, Taken, Logged, Log, history_of, enlists, enlisted_by}
+use Rattle.ucl_board.specs.Log.{IsThere, MayBeTaken, IsLog, Whole, LogFacts, entry_list}
+use Rattle.ucl_steps.specs.ClientState.{ClientState, client_at, outcome, with_outcome, with_step, next_game, IsNextFor, entry_by, IsNextOfProtocol}
+use Rattle.ucl_steps.specs.ClientState.{FollowsProtocol}
 use Rattle.ucl_steps.specs.LogRuns.{IsOf, caller_at, cast_for, ends_by, steps_on, steps_after, machine_steps, LongerLogsAreLongerRuns, caller_holding, IsHeldBy}
 use Rattle.ucl_steps.specs.LogRuns.{HoldsAs, LogsAreRuns}
 
 -- the steps of a log, one step more, and of a longer log
 
-steps_append : (before xs ys : WordLog) → steps_after before (xs ++ ys) ≡ steps_after before xs ++ steps_after (before ++ xs) ys
-steps_append before [] ys = ap (λ (l : WordLog). steps_after l ys) (sym (append-nil before))
+steps_append : (before xs ys : Log) → steps_after before (xs ++ ys) ≡ steps_after before xs ++ steps_after (before ++ xs) ys
+steps_append before [] ys = ap (λ (l : Log). steps_after l ys) (sym (append-nil before))
 steps_append before (x ∷ xs) ys =
     let own : List Step = steps_on x.seat (client_at x.seat before).number (client_at x.seat before).held x.step.target x.step.at in
     ap (λ (l : List Step). own ++ l) (steps_append (before ++ x ∷ []) xs ys)
     ∙ (sym (append_assoc own (steps_after (before ++ x ∷ []) xs) (steps_after ((before ++ x ∷ []) ++ xs) ys))
-    ∙ ap (λ (l : WordLog). (own ++ steps_after (before ++ x ∷ []) xs) ++ steps_after l ys) (append_assoc before (x ∷ []) xs))
+    ∙ ap (λ (l : Log). (own ++ steps_after (before ++ x ∷ []) xs) ++ steps_after l ys) (append_assoc before (x ∷ []) xs))
 
-steps_more : (log : WordLog) (x : SeatStep) → machine_steps (log ++ x ∷ []) ≡ machine_steps log ++ steps_on x.seat (client_at x.seat log).number
+steps_more : (log : Log) (x : Logged) → machine_steps (log ++ x ∷ []) ≡ machine_steps log ++ steps_on x.seat (client_at x.seat log).number
     (client_at x.seat log).held x.step.target x.step.at
-steps_more log x = steps_append [] log (x ∷ [])
-    ∙ ap (λ (l : List Step). machine_steps log ++ l)
+steps_more log x = steps_append [] log (x ∷ []) ∙ ap (λ (l : List Step). machine_steps log ++ l)
     (append-nil (steps_on x.seat (client_at x.seat log).number (client_at x.seat log).held x.step.target x.step.at))
 
 pub longer_logs : LongerLogsAreLongerRuns
@@ -69,8 +68,7 @@ record Leaves (c : Caller) (w : MachineState) (steps : List Step) (o : Outcome) 
 
 -- from the step on a match word on, where v is the board after it
 leaves_by : (c : Caller) (w v : MachineState) (s : Step) (k point : ℕ) (x : CallerState) (o : Outcome) → held_by w.callers c ≡ Some x → v.callers ≡ w.callers
-    → after_step w s ≡ Some (after_outcome c k point o v)
-    → Leaves c w (s ∷ ends_by o c) o v.history
+    → after_step w s ≡ Some (after_outcome c k point o v) → Leaves c w (s ∷ ends_by o c) o v.history
 leaves_by c w v s k point x (GoesOn held) holds same one =
     let here = ap (λ cs. held_by cs c) same ∙ holds in
     let last = with_held (Within k held) c v in
@@ -99,8 +97,7 @@ leaves_by c w v s k point x (Answers reply) holds same one =
 
 -- where a call begins
 leaves_begun : (c : Caller) (call : Call) (w : MachineState) (steps : List Step) (o : Outcome) (history : List Entry) → held_by w.callers c ≡ Some Idle
-    → rules.may_begin c call ≡ true
-    → Leaves c (after_begin c call w) steps o history → Leaves c w (machine.Begin c call ∷ steps) o history
+    → rules.may_begin c call ≡ true → Leaves c (after_begin c call w) steps o history → Leaves c w (machine.Begin c call ∷ steps) o history
 leaves_begun c call w steps o history idle may l =
     let v = after_begin c call w in
     let one : after_step w (machine.Begin c call) ≡ Some v =
@@ -133,7 +130,7 @@ module _ (w : MachineState) (words : w.words ≡ board_of w.history) (seat numbe
   abbrev reader : Caller
   reader = Reader (seat + 1)
 
-  abbrev Gives : Act → Pending → List Entry → Type 0
+  abbrev Gives : AccessKind → Pending → List Entry → Type 0
   Gives act h entries = Leaves (caller_at seat number act) w (steps_on seat number h (Match act game found) at)
       (outcome number h (Match act game found) at) (w.history ++ entries)
 
@@ -212,7 +209,7 @@ abbrev held_after : Outcome → Pending
 held_after (GoesOn held) = held
 held_after (Answers reply) = NoCall
 
-outcome_held : (o : Outcome) (y : WordStep) (d : ClientState) → ((with_outcome o y d).number ≡ d.number) × ((with_outcome o y d).held ≡ held_after o)
+outcome_held : (o : Outcome) (y : Taken) (d : ClientState) → ((with_outcome o y d).number ≡ d.number) × ((with_outcome o y d).held ≡ held_after o)
 outcome_held (GoesOn held) y d = (refl, refl)
 outcome_held (Answers reply) y d = (refl, refl)
 
@@ -228,22 +225,19 @@ holds_else seat number NoCall w w' same f = λ c of. same c of ∙ f c of
 holds_else seat number (Holding e old new) w w' same u = record {
   of = u.of;
   place = u.place;
-  holds = same _ u.of
-      ∙ u.holds;
+  holds = same _ u.of ∙ u.holds;
   others = λ c of not. same c of ∙ u.others c of not;
 }
 holds_else seat number (Collecting words) w w' same u = record {
   of = u.of;
   place = u.place;
   holds = same _ u.of ∙ u.holds;
-  others = λ c of not. same c of
-      ∙ u.others c of not;
+  others = λ c of not. same c of ∙ u.others c of not;
 }
 holds_else seat number (Checking words checked point) w w' same u = record {
   of = u.of;
   place = u.place;
-  holds = same _ u.of
-      ∙ u.holds;
+  holds = same _ u.of ∙ u.holds;
   others = λ c of not. same c of ∙ u.others c of not;
 }
 
@@ -289,14 +283,14 @@ apart_callers i j n m c d not numbers x8 x9 is = search arith
 not_reporter : (i j n : ℕ) (c : Caller) → i ≢ n → IsOf j n c → Reporter i ≢ c
 not_reporter i j n c not x5 is = search arith
 
-record Leads (readers : ℕ) (log : WordLog) : Type 0 where
+record Leads (readers : ℕ) (log : Log) : Type 0 where
   state : MachineState
   run : after_steps (machine_steps log) (initial_state (cast_for readers)) ≡ Some state
-  history_is : state.history ≡ history_in log
+  history_is : state.history ≡ history_of log
   each : (seat : ℕ) → seat < readers → HoldsAs state seat (client_at seat log).number (client_at seat log).held
   unnumbered : (n : ℕ) → enlisted_by log < n → n ≤ 255 → held_by state.callers (Reporter n) ≡ Some Idle
 
-module _ (readers : ℕ) (log : WordLog) (r : Leads readers log) (facts : LogFacts log) (x : SeatStep) where
+module _ (readers : ℕ) (log : Log) (r : Leads readers log) (facts : LogFacts log) (x : Logged) where
   abbrev d : ClientState
   d = client_at x.seat log
 
@@ -335,10 +329,10 @@ module _ (readers : ℕ) (log : WordLog) (r : Leads readers log) (facts : LogFac
         each = each_by l.last d.number (held_after o) (ap (λ (y : ClientState). y.number) does ∙ after.0) (ap (λ (y : ClientState). y.held) does ∙ after.1)
             (holds_after x.seat d.number c r.state own_steps o (r.state.history ++ entry_list x.step.entry) l of idle stays)
             (λ seat not below.
-            holds_else seat (number_at seat log) (client_at seat log).held r.state l.last
-            (λ e is. l.others e (apart_callers seat x.seat (number_at seat log) d.number c e (λ same. not (sym same)) (facts.apart seat x.seat) is of))
+            holds_else seat (client_at seat log).number (client_at seat log).held r.state l.last
+            (λ e is. l.others e (apart_callers seat x.seat (client_at seat log).number d.number c e (λ same. not (sym same)) (numbers_apart log facts seat x.seat) is of))
             (r.each seat below));
-        unnumbered = λ n above few. let low = facts.low x.seat in l.others (Reporter n) (not_reporter n x.seat d.number c (λ is. omega arith) of)
+        unnumbered = λ n above few. let low = numbers_low log facts x.seat in l.others (Reporter n) (not_reporter n x.seat d.number c (λ is. omega arith) of)
             ∙ r.unnumbered n (omega arith) few;
       }
 
@@ -348,7 +342,7 @@ module _ (readers : ℕ) (log : WordLog) (r : Leads readers log) (facts : LogFac
   leads_same number silent no_entry number_is held_is own more = record {
     state = r.state;
     run = run_on r.state (ap (λ (l : List Step). after_steps l r.state) silent);
-    history_is = r.history_is ∙ sym (history_more log x ∙ (ap (λ (o : Option Entry). history_in log ++ entry_list o) no_entry ∙ append-nil (history_in log)));
+    history_is = r.history_is ∙ sym (history_more log x ∙ (ap (λ (o : Option Entry). history_of log ++ entry_list o) no_entry ∙ append-nil (history_of log)));
     each = each_by r.state number d.held number_is held_is own (λ seat not below. r.each seat below);
     unnumbered = λ n above few. r.unnumbered n (omega arith) few;
   }
@@ -358,12 +352,12 @@ holds_numbered : (w : MachineState) (seat n : ℕ) → HoldsAs w seat 0 NoCall �
 holds_numbered w seat n idle free c (inl e) = idle c (inl e)
 holds_numbered w seat n idle free c (inr t) = ap (held_by w.callers) t.0 ∙ free
 
-abbrev placed : ℕ → WordTarget → ℕ → ℕ → Option Entry → SeatStep
+abbrev placed : ℕ → Target → ℕ → ℕ → Option Entry → Logged
 placed seat target place at entry = record { seat = seat; step = record { target = target; place = place; at = at; entry = entry } }
 
 -- each step of a log
-module _ (readers : ℕ) (log : WordLog) (r : Leads readers log) (facts : LogFacts log) (seat : ℕ) (seated : seat < readers) (place at : ℕ) (entry : Option Entry)
-    (now : at ≡ length (history_in log)) where
+module _ (readers : ℕ) (log : Log) (r : Leads readers log) (facts : LogFacts log) (seat : ℕ) (seated : seat < readers) (place at : ℕ) (entry : Option Entry)
+    (now : at ≡ length (history_of log)) where
   abbrev number : ℕ
   number = (client_at seat log).number
 
@@ -376,7 +370,7 @@ module _ (readers : ℕ) (log : WordLog) (r : Leads readers log) (facts : LogFac
   words : r.state.words ≡ board_of r.state.history
   words = words_of_run (cast_for readers) (machine_steps log) r.state r.run
 
-  module _ (act : Act) (game found : ℕ) (is : IsMatch game) (there : found ≡ word_of (match_after (history_in log) game)) where
+  module _ (act : AccessKind) (game found : ℕ) (is : IsMatch game) (there : found ≡ word_of (match_after (history_of log) game)) where
     there_now : found ≡ word_of (match_after r.state.history game)
     there_now = there ∙ ap (λ (h : List Entry). word_of (match_after h game)) (sym r.history_is)
 
@@ -389,8 +383,7 @@ module _ (readers : ℕ) (log : WordLog) (r : Leads readers log) (facts : LogFac
 
     -- what is held, and what came of the step
     turn : (h : Pending) → (client_at seat log).held ≡ h → IsOf seat number (caller_at seat number act) → (entries : List Entry) → entry_list entry ≡ entries
-        → Given h entries
-        → ((e : Caller) → IsOf seat number e → e ≢ caller_at seat number act → held_by r.state.callers e ≡ Some Idle)
+        → Given h entries → ((e : Caller) → IsOf seat number e → e ≢ caller_at seat number act → held_by r.state.callers e ≡ Some Idle)
         → Stays seat number (caller_at seat number act) (outcome number h (Match act game found) at)
         → Leads readers (log ++ placed seat (Match act game found) place at entry ∷ [])
     turn h is_held of entries made l idle stays =
@@ -402,9 +395,8 @@ module _ (readers : ℕ) (log : WordLog) (r : Leads readers log) (facts : LogFac
   holds_now : (h : Pending) → held ≡ h → HoldsAs r.state seat number h
   holds_now h is = subst (HoldsAs r.state seat number) is (r.each seat seated)
 
-  leads_look : (e : EventCall) (game found : ℕ) → IsMatch game → found ≡ word_of (match_after (history_in log) game) → held ≡ NoCall → game ≡ e.game
-      → IsReporter number → entry ≡ None
-      → Leads readers (log ++ placed seat (Match (Look e) game found) place at entry ∷ [])
+  leads_look : (e : EventCall) (game found : ℕ) → IsMatch game → found ≡ word_of (match_after (history_of log) game) → held ≡ NoCall → game ≡ e.game
+      → IsReporter number → entry ≡ None → Leads readers (log ++ placed seat (Match (Look e) game found) place at entry ∷ [])
   leads_look e game found is there nothing of reporter none =
       let idle = holds_now NoCall nothing in
       turn (Look e) game found is there NoCall nothing (inr (refl, reporter)) [] (ap entry_list none)
@@ -412,21 +404,17 @@ module _ (readers : ℕ) (log : WordLog) (r : Leads readers log) (facts : LogFac
       (idle (Reporter number) (inr (refl, reporter))))
       (λ c mine not. idle c mine) (look_stays seat number e found (refusal_of (record_at found) e.expected e.kind))
 
-  leads_swap : (h : Pending) → held ≡ h → (game found : ℕ) → IsMatch game → found ≡ word_of (match_after (history_in log) game) → game ≡ next_game Swap h
-      → entry ≡ entry_by number h (Match Swap game found)
-      → Leads readers (log ++ placed seat (Match Swap game found) place at entry ∷ [])
+  leads_swap : (h : Pending) → held ≡ h → (game found : ℕ) → IsMatch game → found ≡ word_of (match_after (history_of log) game) → game ≡ next_game Swap h
+      → entry ≡ entry_by number h (Match Swap game found) → Leads readers (log ++ placed seat (Match Swap game found) place at entry ∷ [])
   leads_swap (Holding e old new) is_held game found is there next made =
       let u = holds_now (Holding e old new) is_held in
       turn Swap game found is there (Holding e old new) is_held u.of (entry_list (cond (found == old) (Some (entry_of number e)) None)) (ap entry_list made)
       (swap_gives r.state words seat number game found at is (there_now Swap game found is there)
       (at_now Swap game found is there) e old new u.place next u.holds) u.others tt
-  leads_swap NoCall is_held game found is there next made = absurd (let low = is.0 in omega arith)
-  leads_swap (Collecting ws) is_held game found is there next made = absurd (let low = is.0 in omega arith)
-  leads_swap (Checking ws checked point) is_held game found is there next made = absurd (let low = is.0 in omega arith)
+  leads_swap h is_held game found is there next made = absurd (let low = is.0 in omega arith)
 
-  leads_first : (h : Pending) → held ≡ h → (game found : ℕ) → IsMatch game → found ≡ word_of (match_after (history_in log) game) → game ≡ next_game First h
-      → entry ≡ None
-      → Leads readers (log ++ placed seat (Match First game found) place at entry ∷ [])
+  leads_first : (h : Pending) → held ≡ h → (game found : ℕ) → IsMatch game → found ≡ word_of (match_after (history_of log) game) → game ≡ next_game First h
+      → entry ≡ None → Leads readers (log ++ placed seat (Match First game found) place at entry ∷ [])
   leads_first NoCall is_held game found is there next none =
       let idle = holds_now NoCall is_held in
       turn First game found is there NoCall is_held (inl refl) [] (ap entry_list none)
@@ -438,26 +426,22 @@ module _ (readers : ℕ) (log : WordLog) (r : Leads readers log) (facts : LogFac
       turn First game found is there (Collecting ws) is_held u.of [] (ap entry_list none)
       (first_gives r.state words seat number game found at is (there_now First game found is there) (at_now First game found is there) ws u.place next u.holds)
       u.others (first_stays seat number (ws ++ found ∷ []) at (length (ws ++ found ∷ []) == 12))
-  leads_first (Holding e old new) is_held game found is there next none = absurd (let low = is.0 in omega arith)
-  leads_first (Checking ws checked point) is_held game found is there next none = absurd (let low = is.0 in omega arith)
+  leads_first h is_held game found is there next none = absurd (let low = is.0 in omega arith)
 
-  leads_second : (h : Pending) → held ≡ h → (game found : ℕ) → IsMatch game → found ≡ word_of (match_after (history_in log) game) → game ≡ next_game Second h
-      → entry ≡ None
-      → Leads readers (log ++ placed seat (Match Second game found) place at entry ∷ [])
+  leads_second : (h : Pending) → held ≡ h → (game found : ℕ) → IsMatch game → found ≡ word_of (match_after (history_of log) game) → game ≡ next_game Second h
+      → entry ≡ None → Leads readers (log ++ placed seat (Match Second game found) place at entry ∷ [])
   leads_second (Checking ws checked point) is_held game found is there next none =
       let u = holds_now (Checking ws checked point) is_held in
       turn Second game found is there (Checking ws checked point) is_held u.of [] (ap entry_list none)
       (second_gives r.state words seat number game found at is (there_now Second game found is there)
       (at_now Second game found is there) ws checked point u.place next u.holds)
       u.others (second_stays seat number ws (checked + 1) point (Copied (reading_of ws)) (found == slice_index ws checked) (checked == 11))
-  leads_second NoCall is_held game found is there next none = absurd (let low = is.0 in omega arith)
-  leads_second (Holding e old new) is_held game found is there next none = absurd (let low = is.0 in omega arith)
-  leads_second (Collecting ws) is_held game found is there next none = absurd (let low = is.0 in omega arith)
+  leads_second h is_held game found is there next none = absurd (let low = is.0 in omega arith)
 
   count_does : (found : ℕ) (h : Pending) → outcome number h (Enlisted found) at ≡ GoesOn h
   count_does found h = search arith
 
-  leads_by : (target : WordTarget) → IsFoundThere log target → IsNextFor (client_at seat log) target → entry ≡ entry_by number held target
+  leads_by : (target : Target) → IsThere log target → IsNextFor (client_at seat log) target → entry ≡ entry_by number held target
       → Leads readers (log ++ placed seat target place at entry ∷ [])
   leads_by (Match (Look e) game found) there next is = leads_look e game found there.0 there.1 next.0 next.1 next.2 (is ∙ look_none held number game found e)
   leads_by (Match Swap game found) there next is = leads_swap held refl game found there.0 there.1 next is
@@ -470,6 +454,7 @@ module _ (readers : ℕ) (log : WordLog) (r : Leads readers log) (facts : LogFac
       let count = enlisted_more log x in
       leads_same readers log r facts x number refl (is ∙ count_none held number found) (ap (λ (y : ClientState). y.number) does)
       (ap (λ (y : ClientState). y.held) does) (r.each seat seated) (omega arith)
+  leads_by (Whole shown) there next is = absurd next
   leads_by (Enlists found) there next is =
       let x = placed seat (Enlists found) place at entry in
       let found_is = there.0 in
@@ -506,24 +491,18 @@ leads_none readers = record {
     at_start seat below c (inl e) = ap (held_by (initial_state (cast_for readers)).callers) e ∙ reader_idle seat below
     at_start seat below c (inr t) = absurd (let l = t.1.0 in omega arith)
 
-leads_all : (readers : ℕ) (log : WordLog) → IsWordLog log → FollowsProtocol log → All (λ (x : SeatStep). x.seat < readers) log → Leads readers log
+leads_all : (readers : ℕ) (log : Log) → IsLog log → FollowsProtocol log → All (λ (x : Logged). x.seat < readers) log → Leads readers log
 leads_all readers log =
-    may_induction MayComeNext (λ l. FollowsProtocol l → All (λ (x : SeatStep). x.seat < readers) l → Leads readers l) (λ f all. leads_none readers)
+    may_induction MayBeTaken (λ l. FollowsProtocol l → All (λ (x : Logged). x.seat < readers) l → Leads readers l) (λ f all. leads_none readers)
     (λ xs x before may was f all.
     let p = may_last IsNextOfProtocol xs x f in
     let follows = may_begin IsNextOfProtocol xs (x ∷ []) f in
-    leads_by readers xs (was follows (front xs x all)) (logs_facts xs before follows) x.seat
-    (last xs x all) x.step.place x.step.at x.step.entry may.place.1 x.step.target may.there p.next p.entry)
+    let long = length_push xs x in
+    leads_by readers xs (was follows (λ k d l. subst (λ (y : Logged). y.seat < readers) (get_or_append_left xs (x ∷ []) d k l) (all k d (omega arith))))
+    (logs_facts xs before follows) x.seat
+    (subst (λ (y : Logged). y.seat < readers) (get_or_push xs x x (length xs) refl) (all (length xs) x (omega arith)))
+    x.step.place x.step.at x.step.entry may.place.1 x.step.target may.there p.next p.entry)
     log
-  where
-    front : (xs : WordLog) (x : SeatStep) → All (λ (y : SeatStep). y.seat < readers) (xs ++ x ∷ []) → All (λ (y : SeatStep). y.seat < readers) xs
-    front [] x all = All-nil (λ (y : SeatStep). y.seat < readers)
-    front (z ∷ xs) x all = All-cons (λ (y : SeatStep). y.seat < readers) z xs (All-head (λ (y : SeatStep). y.seat < readers) z (xs ++ x ∷ []) all)
-        (front xs x (All-tail (λ (y : SeatStep). y.seat < readers) z (xs ++ x ∷ []) all))
-
-    last : (xs : WordLog) (x : SeatStep) → All (λ (y : SeatStep). y.seat < readers) (xs ++ x ∷ []) → x.seat < readers
-    last [] x all = All-head (λ (y : SeatStep). y.seat < readers) x [] all
-    last (z ∷ xs) x all = last xs x (All-tail (λ (y : SeatStep). y.seat < readers) z (xs ++ x ∷ []) all)
 
 pub logs_run : LogsAreRuns
 logs_run readers log is follows seated =

@@ -1,7 +1,7 @@
 -- The calls of one pass come one after another.
-use Rattle.ucl_steps.proofs.Common.{◌≡◌, ◌≢◌, inl, inr, ℕ, ◌+◌, ◌<◌, ◌≤◌, List, ◌∷◌, ◌++◌, length, Some, refl, sym, ap, ◌∙◌, subst, arith, [], slice_get, none-some}
-use Rattle.ucl_steps.proofs.Common.{at_either, length_push, Pending, NoCall, Holding, Collecting, Checking, Outcome, GoesOn, Answers, EventCall, take, Entry}
-use Rattle.ucl_steps.proofs.Common.{Refusal, snapshot_at, board_of, sequential_reply, take-length, Call, Copied}
+use Rattle.ucl_steps.proofs.Common.{◌≡◌, ◌≢◌, inl, inr, ℕ, ◌+◌, ◌<◌, ◌≤◌, List, ◌∷◌, ◌++◌, length, Some, refl, sym, ap, ◌∙◌, subst, arith, [], slice_get}
+use Rattle.ucl_steps.proofs.Common.{none-some, at_either, length_push, Pending, NoCall, Holding, Collecting, Checking, Outcome, GoesOn, Answers, EventCall}
+use Rattle.ucl_steps.proofs.Common.{take, Entry, Refusal, snapshot_at, board_of, sequential_reply, take-length, Call, Copied}
 use Rattle.std.specs.Prelude.{Result, Ok, Err}
 use Rattle.std.proofs.lemmas.List.{length-take-le}
 use Rattle.ucl_word.specs.declared.event.Accepted.{Accepted}
@@ -10,9 +10,9 @@ use Rattle.ucl_steps.specs.declared.step.Call.TheVariants as calls
 use Rattle.ucl_steps.specs.Protocol.{report_reply}
 use Rattle.ucl_word.proofs.Sequences.{may_induction, may_begin, may_last}
 use Rattle.ucl_steps.proofs.LogHistory.{by_seat, holds_all, precedes, entries_low}
-use Rattle.ucl_steps.specs.WordLog.{Enlisted, Enlists, IsWordLog, WordLog, Match, MayComeNext, WordStep, WordTarget, history_in}
-use Rattle.ucl_steps.specs.ClientState.{FinishedCall, ClientState, FollowsProtocol, IsNextFor, IsNextOfProtocol, with_outcome, with_target, with_step, call_answered}
-use Rattle.ucl_steps.specs.ClientState.{client_at, first_place, outcome}
+use Rattle.ucl_board.specs.Log.{Enlisted, Enlists, IsLog, Log, Match, MayBeTaken, Taken, Target, Whole, history_of}
+use Rattle.ucl_steps.specs.ClientState.{FinishedCall, ClientState, FollowsProtocol, IsNextFor, IsNextOfProtocol, with_outcome, with_target, with_step}
+use Rattle.ucl_steps.specs.ClientState.{call_answered, client_at, first_place, outcome}
 use Rattle.ucl_steps.specs.LogHistory.{LogsAreLinearizable, GoesBefore, IsExplained, accepts, sequential_answer}
 
 -- the finished calls in turn, and before the one under way
@@ -39,11 +39,9 @@ checking words checked point is = cc
 first_after : (n : ℕ) (d : ClientState) (h : Pending) → d.held ≡ h → InTurn n d → (k : ℕ) (a : FinishedCall) → slice_get d.calls k ≡ Some a
     → a.last < first_place h d.first n
 first_after n d NoCall is t k a at = t.past k a at
-first_after n d (Holding e old new) is t k a at = t.under k a at (λ none. holding e old new (sym is ∙ none))
-first_after n d (Collecting words) is t k a at = t.under k a at (λ none. collecting words (sym is ∙ none))
-first_after n d (Checking words checked point) is t k a at = t.under k a at (λ none. checking words checked point (sym is ∙ none))
+first_after n d h is t k a at = t.under k a at (λ none. cc)
 
-turns_outcome : (n : ℕ) (d : ClientState) (y : WordStep) (o : Outcome) → y.place ≡ n → InTurn n d → InTurn (n + 1) (with_outcome o y d)
+turns_outcome : (n : ℕ) (d : ClientState) (y : Taken) (o : Outcome) → y.place ≡ n → InTurn n d → InTurn (n + 1) (with_outcome o y d)
 turns_outcome n d y (GoesOn k) place t = record {
   past = λ k a at. let l = t.past k a at in omega arith;
   turns = t.turns;
@@ -68,13 +66,14 @@ turns_outcome n d y (Answers reply) place t =
       under = λ k a at not. absurd (not refl);
     }
 
-turns_step : (n : ℕ) (d : ClientState) (y : WordStep) (target : WordTarget) → y.place ≡ n → IsNextFor d target → InTurn n d → InTurn (n + 1) (with_target target y d)
+turns_step : (n : ℕ) (d : ClientState) (y : Taken) (target : Target) → y.place ≡ n → IsNextFor d target → InTurn n d → InTurn (n + 1) (with_target target y d)
 turns_step n d y (Enlists found) place next t = record { past = λ k a at. let l = t.past k a at in omega arith; turns = t.turns; under = t.under }
+turns_step n d y (Whole shown) place next t = absurd next
 turns_step n d y (Match kind game found) place next t = turns_outcome n d y (outcome d.number d.held (Match kind game found) y.at) place t
 turns_step n d y (Enlisted found) place next t = turns_outcome n d y (outcome d.number d.held (Enlisted found) y.at) place t
 
-all_turns : (log : WordLog) → IsWordLog log → FollowsProtocol log → (seat : ℕ) → InTurn (length log) (client_at seat log)
-all_turns log = may_induction MayComeNext (λ l. FollowsProtocol l → (seat : ℕ) → InTurn (length l) (client_at seat l))
+all_turns : (log : Log) → IsLog log → FollowsProtocol log → (seat : ℕ) → InTurn (length log) (client_at seat log)
+all_turns log = may_induction MayBeTaken (λ l. FollowsProtocol l → (seat : ℕ) → InTurn (length l) (client_at seat l))
     (λ f seat. record {
       past = λ k a at. absurd (none-some a at);
       turns = λ k l a b at bt less. absurd (none-some a at);
@@ -104,13 +103,13 @@ copied_by h (calls.Event e) read is = absurd (no_reading (sequential_reply h e) 
     no_reading (Ok a) same = cc
     no_reading (Err r) same = cc
 
-pub reading_is : (log : WordLog) (c : FinishedCall) (read : Reading) → IsExplained log c → c.reply ≡ Copied read
-    → (read ≡ snapshot_at (history_in log) c.point) × (read.version ≡ c.point) × (c.point ≤ length (history_in log))
+pub reading_is : (log : Log) (c : FinishedCall) (read : Reading) → IsExplained log c → c.reply ≡ Copied read
+    → (read ≡ snapshot_at (history_of log) c.point) × (read.version ≡ c.point) × (c.point ≤ length (history_of log))
 reading_is log c read s copied =
-    let h = take c.point (history_in log) in
+    let h = take c.point (history_of log) in
     let high = s.within.1 in
     let low = entries_low log c.last in
-    let long : length h ≡ c.point = length-take-le c.point (history_in log) (omega arith) in
+    let long : length h ≡ c.point = length-take-le c.point (history_of log) (omega arith) in
     let is : read ≡ snapshot_at h (length h) = copied_by h c.call read (sym copied ∙ s.answer) in
     let board : board_of (take (length h) h) ≡ board_of h = ap board_of (take-length h) in
     (is ∙ (λ i. record { board = board i; version = long i }), ap (λ (r : Reading). r.version) is ∙ long, omega arith)

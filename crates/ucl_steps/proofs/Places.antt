@@ -1,7 +1,7 @@
 -- Where calls begin and end in a list of steps, and in one step more.
-use Rattle.ucl_steps.proofs.Common.{◌≡◌, ℕ, zero, suc, ◌<◌, ◌≤◌, List, ◌∷◌, ◌++◌, take, length, Some, ◌⊎◌, inl, inr, refl, ap, arith, length-append, [], slice_get}
-use Rattle.ucl_steps.proofs.Common.{none-some, same_Some, cases_lt, take-append-le, take-append-drop, take-length, at_longer, at_below, at_end, at_either, get_back}
-use Rattle.ucl_steps.proofs.Common.{Caller, Call, Step, Begin, begun_in, BeginsAt, EndsAt}
+use Rattle.ucl_steps.proofs.Common.{◌≡◌, ℕ, zero, suc, ◌<◌, ◌≤◌, List, ◌∷◌, ◌++◌, take, length, Some, ◌⊎◌, inl, inr, refl, ap, arith, length-append, []}
+use Rattle.ucl_steps.proofs.Common.{slice_get, none-some, same_Some, cases_lt, take-append-le, take-append-drop, take-length, at_longer, at_below, at_end}
+use Rattle.ucl_steps.proofs.Common.{at_either, get_back, Caller, Call, Step, Begin, begun_in, BeginsAt, EndsAt}
 use Rattle.ucl_steps.proofs.Lists.{take_one, take_split}
 
 pub begun_in-append : (xs ys : List Step) → begun_in (xs ++ ys) ≡ begun_in xs ++ begun_in ys

@@ -1,18 +1,18 @@
 -- What is known of a state that steps lead to.
-use Rattle.ucl_steps.proofs.Common.{◌≡◌, ℕ, zero, suc, ◌+◌, ◌-◌, ◌<◌, ◌≤◌, Bool, true, List, ◌∷◌, ◌++◌, take, length, map, Option, Some, None, refl, sym, ap, ◌∙◌}
-use Rattle.ucl_steps.proofs.Common.{arith, [], get_or, set, length-take, eq-eqb, ne_eqb, slice_get, slice_index, replicate, option_map, option_and_then}
-use Rattle.ucl_steps.proofs.Common.{slice_get-map, slice_get-get_or, slice_get_past, option_and_then_some, false≢true, get_or_default, take_more_set, take_all}
-use Rattle.ucl_steps.proofs.Common.{length-take-le, map-set, length-set, EventCall, record_at, IsWord, IsMatch, AreWords, word_at, max_version, match_after}
-use Rattle.ucl_steps.proofs.Common.{board_of, reading_of, match_valid, versions, Cast, Caller, Reporter, Reader, Step, Swap, Second, Accepted, Copied, CallRecord}
-use Rattle.ucl_steps.proofs.Common.{Collecting, Checking, CallerState, Idle, Wanting, Within, Callers, MachineState, initial_state, held_by, with_held, after_reply}
-use Rattle.ucl_steps.proofs.Common.{stored, state_after_first, change_at, caller_of, after_step_holding, after_step, after_steps, Entry, holds_of, IsReachable}
-use Rattle.ucl_steps.proofs.Common.{Takes, at_below}
+use Rattle.ucl_board.proofs.Histories.{board_none}
+use Rattle.ucl_steps.proofs.Common.{legal_take, ◌≡◌, ℕ, zero, suc, ◌+◌, ◌-◌, ◌<◌, ◌≤◌, Bool, true, List, ◌∷◌, ◌++◌, take, length, map, Option, Some, None, refl}
+use Rattle.ucl_steps.proofs.Common.{sym, ap, ◌∙◌, arith, [], get_or, set, length-take, eq-eqb, ne_eqb, slice_get, slice_index, replicate, option_map}
+use Rattle.ucl_steps.proofs.Common.{option_and_then, slice_get-map, slice_get-get_or, slice_get_past, option_and_then_some, false≢true, get_or_default}
+use Rattle.ucl_steps.proofs.Common.{take_more_set, take_all, length-take-le, map-set, length-set, EventCall, record_at, IsWord, IsMatch, AreWords, word_at}
+use Rattle.ucl_steps.proofs.Common.{max_version, match_after, board_of, reading_of, match_valid, versions, Cast, Caller, Reporter, Reader, Step, Swap, Second}
+use Rattle.ucl_steps.proofs.Common.{Accepted, Copied, CallRecord, Collecting, Checking, CallerState, Idle, Wanting, Within, Callers, MachineState}
+use Rattle.ucl_steps.proofs.Common.{initial_state, held_by, with_held, after_reply, stored, state_after_first, change_at, caller_of, after_step_holding}
+use Rattle.ucl_steps.proofs.Common.{after_step, after_steps, Entry, holds_of, IsReachable, Takes, at_below}
 use Rattle.ucl_steps.specs.declared.machine.Pending.{Pending}
 use Rattle.ucl_steps.specs.declared.machine.Pending.TheVariants as has
 use Rattle.ucl_steps.proofs.Invariant.{Keeps}
 use Rattle.ucl_steps.proofs.CallFacts.{in_call}
 use Rattle.ucl_steps.proofs.KeptBySteps.{word_now}
-use Rattle.ucl_steps.proofs.Histories.{legal_beginning, board_none}
 use Rattle.ucl_steps.proofs.Runs.{kept_at_start, run_kept}
 
 pub reached_kept : (w : MachineState) (r : IsReachable w) → Keeps r.1 w
@@ -108,7 +108,7 @@ module _ (w : MachineState) (r : IsReachable w) (c : Caller) (o : Option Pending
       record {
         twelve = sees.twelve;
         each = λ i d below. let t = sees.loaded i below in
-            search (arith, match_valid (i + 1) (take t.0 w.history) (legal_beginning w.history t.0 kept.legal), legal_beginning w.history t.0 kept.legal, get_or_default ws i 0 d below);
+            search (arith, match_valid (i + 1) (take t.0 w.history) (legal_take w.history t.0 kept.legal), legal_take w.history t.0 kept.legal, get_or_default ws i 0 d below);
       }
 
   pub wanted_word : (k : ℕ) (e : EventCall) → o ≡ Some (has.Wanting k e) → IsWord (word_at w.words e.game)

@@ -1,12 +1,12 @@
 -- Every run keeps what every step keeps, and so its history explains its calls.
-use Rattle.ucl_steps.proofs.Common.{◌≡◌, ℕ, suc, ◌<◌, ◌≤◌, false, List, ◌∷◌, ◌++◌, map, Option, Some, ◌⊎◌, inl, inr, refl, sym, ap, ◌∙◌, subst, arith, append_assoc}
-use Rattle.ucl_steps.proofs.Common.{append-nil, get_or, [], ◌↔◌, All, slice_get, IfSome, IsSome, replicate, option_map, none-some, same_Some, slice_get-map}
-use Rattle.ucl_steps.proofs.Common.{slice_get-get_or, option_and_then_some, cases_lt, Entry, board_of, Cast, Caller, Call, Step, CallRecord, Reply, CallerState}
-use Rattle.ucl_steps.proofs.Common.{Idle, MachineState, initial_state, held_by, caller_of, after_step, after_steps, EndsAt, EndedBySteps, PointWithinCall}
-use Rattle.ucl_steps.proofs.Common.{AcceptedIsEntry, is_accepted, RefusedAtPoint, ReadingIsSnapshot, Precedes, caller_and_call, RealTimeOrder, version_read}
-use Rattle.ucl_steps.proofs.Common.{VersionsRise, IsLinearizable, RunsAreLinearizable, WordsAreOfTheHistory}
+use Rattle.ucl_board.proofs.Histories.{board_none}
+use Rattle.ucl_steps.proofs.Common.{MayFollow, may_none, ◌≡◌, ℕ, suc, ◌<◌, ◌≤◌, false, List, ◌∷◌, ◌++◌, map, Option, Some, ◌⊎◌, inl, inr, refl, sym, ap, ◌∙◌}
+use Rattle.ucl_steps.proofs.Common.{subst, arith, append_assoc, append-nil, get_or, [], ◌↔◌, All, slice_get, IfSome, IsSome, replicate, option_map, none-some}
+use Rattle.ucl_steps.proofs.Common.{same_Some, slice_get-map, slice_get-get_or, option_and_then_some, cases_lt, Entry, board_of, Cast, Caller, Call, Step}
+use Rattle.ucl_steps.proofs.Common.{CallRecord, Reply, CallerState, Idle, MachineState, initial_state, held_by, caller_of, after_step, after_steps, EndsAt}
+use Rattle.ucl_steps.proofs.Common.{EndedBySteps, PointWithinCall, AcceptedIsEntry, is_accepted, RefusedAtPoint, ReadingIsSnapshot, Precedes, caller_and_call}
+use Rattle.ucl_steps.proofs.Common.{RealTimeOrder, version_read, VersionsRise, IsLinearizable, RunsAreLinearizable, WordsAreOfTheHistory}
 use Rattle.ucl_steps.proofs.Lists.{if_some}
-use Rattle.ucl_steps.proofs.Histories.{legal_none, board_none}
 use Rattle.ucl_steps.specs.declared.trace.Trace.{Trace}
 use Rattle.ucl_steps.specs.Traces.{IsLeftBy}
 use Rattle.ucl_steps.proofs.Explanations.{IsExplained}
@@ -25,12 +25,11 @@ idle_at_start : (cast : Cast) (c : Caller) (x : CallerState) → held_by (initia
 idle_at_start cast c x e = search (arith, none-some, idle_all)
 
 pub kept_at_start : (cast : Cast) → Keeps [] (initial_state cast)
-kept_at_start cast = search (arith, legal_none, board_none, none-some, turns_none, in_call, idle_at_start)
+kept_at_start cast = search (arith, may_none MayFollow, board_none, none-some, turns_none, in_call, idle_at_start)
 
 pub run_kept : (steps done : List Step) (w w' : MachineState) → Keeps done w → after_steps steps w ≡ Some w' → Keeps (done ++ steps) w'
 run_kept [] done w w' kept e = subst (λ (z : List Step). Keeps z w') (sym (append-nil done)) (subst (Keeps done) (same_Some w w' e) kept)
-run_kept (s ∷ steps) done w w' kept e =
-    option_and_then_some (after_steps steps) (after_step w s) w' e (λ v is then.
+run_kept (s ∷ steps) done w w' kept e = option_and_then_some (after_steps steps) (after_step w s) w' e (λ v is then.
     subst (λ (z : List Step). Keeps z w') (append_assoc done (s ∷ []) steps)
     (run_kept steps (done ++ s ∷ []) v w' (step_kept done w kept s (held_by w.callers (caller_of s)) v refl is) then))
 

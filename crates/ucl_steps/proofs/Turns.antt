@@ -1,11 +1,11 @@
 -- The order of calls in time, kept by every step.
-use Rattle.ucl_steps.proofs.Common.{◌≡◌, ◌≢◌, ℕ, ◌<◌, ◌≤◌, List, ◌∷◌, ◌++◌, take, length, map, Option, Some, None, ◌⊎◌, inl, inr, refl, sym, ap, ◌∙◌, subst, arith}
-use Rattle.ucl_steps.proofs.Common.{append-nil, le_refl, [], slice_get, IfSome, IsSome, none-some, same_Some, slice_get-map, cases_order, false≢true, length-map}
-use Rattle.ucl_steps.proofs.Common.{map-append, at_below, at_longer, at_end, at_either, get_back, Caller, Call, Step, Begin, Look, Swap, First, Second, End}
-use Rattle.ucl_steps.proofs.Common.{option_map, change_at, begun_in, BeginsAt, EndsAt}
+use Rattle.ucl_steps.proofs.Common.{◌≡◌, ◌≢◌, ℕ, ◌<◌, ◌≤◌, List, ◌∷◌, ◌++◌, take, length, map, Option, Some, None, ◌⊎◌, inl, inr, refl, sym, ap, ◌∙◌, subst}
+use Rattle.ucl_steps.proofs.Common.{arith, append-nil, le_refl, [], slice_get, IfSome, IsSome, none-some, same_Some, slice_get-map, cases_order, false≢true}
+use Rattle.ucl_steps.proofs.Common.{length-map, map-append, at_below, at_longer, at_end, at_either, get_back, Caller, Call, Step, Begin, Look, Swap, First}
+use Rattle.ucl_steps.proofs.Common.{Second, End, option_map, change_at, begun_in, BeginsAt, EndsAt}
 use Rattle.ucl_steps.proofs.Lists.{get_some, get-change_at, map_unseen}
-use Rattle.ucl_steps.proofs.Places.{begun_in-append, begins_call, place_of, earlier_place, earlier_call, back_begins, back_ends, more_begins, more_ends, old_or_last}
-use Rattle.ucl_steps.proofs.Places.{number_at_end}
+use Rattle.ucl_steps.proofs.Places.{begun_in-append, begins_call, place_of, earlier_place, earlier_call, back_begins, back_ends, more_begins, more_ends}
+use Rattle.ucl_steps.proofs.Places.{old_or_last, number_at_end}
 
 -- when a call began and ended
 pub record Time : Type 0 where

@@ -9,7 +9,7 @@ use Rattle.ucl_steps.specs.declared.step.Call.{Call}
 use Rattle.ucl_steps.specs.declared.step.Call.TheVariants.{Event, Reading}
 use Rattle.ucl_steps.specs.declared.trace.Reply.{Reply}
 use Rattle.ucl_steps.specs.Protocol.{Pending, NoCall, Holding, Collecting, Checking, Outcome, GoesOn, Answers, looked, swapped, loaded, compared}
-use Rattle.ucl_steps.specs.WordLog.{Act, Look, Swap, First, Second, WordTarget, Match, Enlists, WordStep, SeatStep, WordLog, taken_at}
+use Rattle.ucl_board.specs.Log.{AccessKind, Look, Swap, First, Second, Target, Match, Enlists, Whole, Taken, Logged, Log, taken_by}
 
 -- a finished call: the number of the reporter, what it asked, its reply, the places in the log of its first step and of its last,
 -- and its point: it takes place after so many entries
@@ -33,13 +33,13 @@ abbrev pub new_client : ClientState
 new_client = record { number = 0; calls = []; held = NoCall; first = 0 }
 
 -- the call that a step is of
-abbrev pub call_asked : Pending → WordTarget → Call
+abbrev pub call_asked : Pending → Target → Call
 call_asked held (Match (Look e) game found) = Event e
 call_asked (Holding e old new) target = Event e
 call_asked held target = Reading
 
 -- what comes of a step on the match that is next, after so many entries; any other step leaves what is held
-abbrev pub outcome : ℕ → Pending → WordTarget → ℕ → Outcome
+abbrev pub outcome : ℕ → Pending → Target → ℕ → Outcome
 outcome number held (Match (Look e) game found) now = looked number e found
 outcome number (Holding e old new) (Match Swap game found) now = swapped old new found
 outcome number NoCall (Match First game found) now = loaded [] found now
@@ -57,7 +57,7 @@ point_of (Checking words checked point) now = point
 point_of held now = now
 
 -- the call that a step answers
-abbrev pub call_answered : Reply → WordStep → ClientState → FinishedCall
+abbrev pub call_answered : Reply → Taken → ClientState → FinishedCall
 call_answered reply x d = record {
   number = d.number;
   call = call_asked d.held x.target;
@@ -68,51 +68,52 @@ call_answered reply x d = record {
 }
 
 -- what a pass has done after a step, by what comes of it
-abbrev pub with_outcome : Outcome → WordStep → ClientState → ClientState
-with_outcome (GoesOn held) x d = record { number = d.number; calls = d.calls; held = held; first = first_place d.held d.first x.place }
-with_outcome (Answers reply) x d = record { number = d.number; calls = d.calls ++ call_answered reply x d ∷ []; held = NoCall; first = d.first }
+abbrev pub with_outcome : Outcome → Taken → ClientState → ClientState
+with_outcome (GoesOn h) x d = record d { held = h; first = first_place d.held d.first x.place }
+with_outcome (Answers reply) x d = record d { calls = d.calls ++ call_answered reply x d ∷ []; held = NoCall }
 
 -- an enlistment gives the pass its number
-abbrev pub with_target : WordTarget → WordStep → ClientState → ClientState
-with_target (Enlists found) x d = record { number = found + 1; calls = d.calls; held = d.held; first = d.first }
+abbrev pub with_target : Target → Taken → ClientState → ClientState
+with_target (Enlists found) x d = record d { number = found + 1 }
 with_target target x d = with_outcome (outcome d.number d.held target x.at) x d
 
-abbrev pub with_step : ClientState → WordStep → ClientState
+abbrev pub with_step : ClientState → Taken → ClientState
 with_step d x = with_target x.target x d
 
 -- what these steps make of a pass
-abbrev pub client_of : List WordStep → ClientState
+abbrev pub client_of : List Taken → ClientState
 client_of steps = fold with_step new_client steps
 
 -- what the steps of a seat in a log make of its pass
-abbrev pub client_at : ℕ → WordLog → ClientState
-client_at seat log = client_of (taken_at seat log)
+abbrev pub client_at : ℕ → Log → ClientState
+client_at seat log = client_of (taken_by seat log)
 
 -- the match of the next exchange or load, 0 if none comes next
-abbrev pub next_game : Act → Pending → ℕ
+abbrev pub next_game : AccessKind → Pending → ℕ
 next_game Swap (Holding e old new) = e.game
 next_game First NoCall = 1
 next_game First (Collecting words) = length words + 1
 next_game Second (Checking words checked point) = checked + 1
 next_game _ _ = 0
 
--- which step on which match comes next; only a reporter enters events
-abbrev pub IsNextFor : ClientState → WordTarget → Type 0
+-- which step on which match comes next; only a reporter enters events; and no step looks at the whole board
+abbrev pub IsNextFor : ClientState → Target → Type 0
 IsNextFor d (Match (Look e) game found) = (d.held ≡ NoCall) × (game ≡ e.game) × IsReporter d.number
-IsNextFor d (Match act game found) = game ≡ next_game act d.held
+IsNextFor d (Match kind game found) = game ≡ next_game kind d.held
 IsNextFor d (Enlists found) = (d.held ≡ NoCall) × (d.number ≡ 0)
+IsNextFor d (Whole shown) = ⊥
 IsNextFor d target = Unit {0}
 
 -- the entry that a step adds: an exchange that finds the word that was loaded
-abbrev pub entry_by : ℕ → Pending → WordTarget → Option Entry
+abbrev pub entry_by : ℕ → Pending → Target → Option Entry
 entry_by number (Holding e old new) (Match Swap game found) = if found == old then Some (entry_of number e) else None
 entry_by number held target = None
 
 -- a step that the protocol takes next
-pub record IsNextOfProtocol (log : WordLog) (x : SeatStep) : Type 0 where
+pub record IsNextOfProtocol (log : Log) (x : Logged) : Type 0 where
   pub next : IsNextFor (client_at x.seat log) x.step.target
   pub entry : x.step.entry ≡ entry_by (client_at x.seat log).number (client_at x.seat log).held x.step.target
 
 -- each step of each seat is the next one of the protocol
-abbrev pub FollowsProtocol : WordLog → Type 0
+abbrev pub FollowsProtocol : Log → Type 0
 FollowsProtocol log = EachMay IsNextOfProtocol log

@@ -5,8 +5,6 @@ pub mod Traces
 pub mod Theorems
 pub mod Running
 pub mod Protocol
-pub mod WordLog
 pub mod ClientState
 pub mod LogHistory
-pub mod LogFacts
 pub mod LogRuns

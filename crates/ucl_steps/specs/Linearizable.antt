@@ -1,5 +1,6 @@
 -- Linearizability (Herlihy and Wing) of a list of steps: one legal history explains every call.
-use Rattle.std.specs.Prelude.{◌≡◌, ◌≢◌, ◌↔◌, ℕ, ◌<◌, ◌≤◌, ◌⊎◌, Bool, true, false, List, [], ◌∷◌, All, length, take, map, Option, Some, None, Ok, Err, IsSome, IfSome}
+use Rattle.std.specs.Prelude.{◌≡◌, ◌≢◌, ◌↔◌, ℕ, ◌<◌, ◌≤◌, ◌⊎◌, Bool, true, false, List, [], ◌∷◌, All, length, take, map, Option, Some, None, Ok, Err, IsSome}
+use Rattle.std.specs.Prelude.{IfSome}
 use Rattle.std.specs.Prelude.{IsSomeAnd, slice_get}
 use Rattle.ucl_word.specs.declared.event.EventCall.{EventCall}
 use Rattle.ucl_word.specs.declared.event.Accepted as word

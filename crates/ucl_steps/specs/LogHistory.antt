@@ -9,11 +9,11 @@ use Rattle.ucl_steps.specs.declared.step.Call.TheVariants.{Event, Reading}
 use Rattle.ucl_steps.specs.declared.trace.Reply.{Reply}
 use Rattle.ucl_steps.specs.declared.trace.Reply.TheVariants.{Accepted, Copied}
 use Rattle.ucl_steps.specs.Protocol.{report_reply}
-use Rattle.ucl_steps.specs.WordLog.{WordLog, IsWordLog, history_in}
+use Rattle.ucl_board.specs.Log.{Log, IsLog, history_of}
 use Rattle.ucl_steps.specs.ClientState.{FinishedCall, client_at, FollowsProtocol}
 
 -- call k of the pass of a seat
-abbrev pub IsCall : WordLog → ℕ → ℕ → FinishedCall → Type 0
+abbrev pub IsCall : Log → ℕ → ℕ → FinishedCall → Type 0
 IsCall log seat k c = slice_get (client_at seat log).calls k ≡ Some c
 
 -- what the board of one thread answers after a history
@@ -26,21 +26,21 @@ accepts (Accepted accepted) = true
 accepts reply = false
 
 -- how many entries there were before the step at a place
-abbrev pub entries_before : WordLog → ℕ → ℕ
-entries_before log place = length (history_in (take place log))
+abbrev pub entries_before : Log → ℕ → ℕ
+entries_before log place = length (history_of (take place log))
 
 -- an accepted call made the entry at its point, by its last step
-pub record MakesEntry (log : WordLog) (c : FinishedCall) : Type 0 where
+pub record MakesEntry (log : Log) (c : FinishedCall) : Type 0 where
   pub event : EventCall
   pub entered : c.call ≡ Event event
-  pub entry : slice_get (history_in log) c.point ≡ Some (entry_of c.number event)
+  pub entry : slice_get (history_of log) c.point ≡ Some (entry_of c.number event)
   pub by_end : c.point < entries_before log (c.last + 1)
 
 -- a call has the answer of the board of one thread at its point, which is not before its first step and not after its last
-pub record IsExplained (log : WordLog) (c : FinishedCall) : Type 0 where
+pub record IsExplained (log : Log) (c : FinishedCall) : Type 0 where
   pub turn : (c.first ≤ c.last) × (c.last < length log)
   pub within : (entries_before log c.first ≤ c.point) × (c.point ≤ entries_before log c.last)
-  pub answer : c.reply ≡ sequential_answer (take c.point (history_in log)) c.call
+  pub answer : c.reply ≡ sequential_answer (take c.point (history_of log)) c.call
   pub makes : accepts c.reply ≡ true → MakesEntry log c
 
 -- one call comes before another: its point is earlier; at one point the accepted call is last, and the others go by their ends
@@ -48,25 +48,25 @@ abbrev pub GoesBefore : FinishedCall → FinishedCall → Type 0
 GoesBefore a b = (a.point < b.point) ⊎ ((a.point ≡ b.point) × (accepts a.reply ≡ false) × ((accepts b.reply ≡ true) ⊎ (a.last < b.last)))
 
 -- call k of a seat made the entry at this place
-abbrev pub MadeBy : WordLog → ℕ → ℕ → ℕ → Type 0
+abbrev pub MadeBy : Log → ℕ → ℕ → ℕ → Type 0
 MadeBy log place seat k = (c : FinishedCall) × IsCall log seat k c × (accepts c.reply ≡ true) × (c.point ≡ place)
 
 -- each entry is of exactly one call
-abbrev pub EntryHasOneAnswer : WordLog → Type 0
+abbrev pub EntryHasOneAnswer : Log → Type 0
 EntryHasOneAnswer log =
-    (place : ℕ) → place < length (history_in log)
+    (place : ℕ) → place < length (history_of log)
     → (seat : ℕ) × (k : ℕ) × MadeBy log place seat k × ((other j : ℕ) → MadeBy log place other j → (other ≡ seat) × (j ≡ k))
 
 -- of two readings of a pass the later has no lower version
-abbrev pub VersionsNeverFall : WordLog → Type 0
+abbrev pub VersionsNeverFall : Log → Type 0
 VersionsNeverFall log =
     (seat k l : ℕ) (a b : FinishedCall) (read again : reading.Reading) → IsCall log seat k a → IsCall log seat l b → k < l
     → a.reply ≡ Copied read → b.reply ≡ Copied again → read.version ≤ again.version
 
 -- one history of the board of one thread holds each finished call once, with the reply that it got, between its first step and
 -- its last; the calls of a pass come one after another, and a call that ended before another began comes before it
-pub record IsLinearizableLog (log : WordLog) : Type 0 where
-  pub legal : IsLegal (history_in log)
+pub record IsLinearizableLog (log : Log) : Type 0 where
+  pub legal : IsLegal (history_of log)
   pub explained : (seat k : ℕ) (c : FinishedCall) → IsCall log seat k c → IsExplained log c
   pub once : EntryHasOneAnswer log
   pub in_turn : (seat k l : ℕ) (a b : FinishedCall) → IsCall log seat k a → IsCall log seat l b → k < l → a.last < b.first
@@ -75,4 +75,4 @@ pub record IsLinearizableLog (log : WordLog) : Type 0 where
 
 -- so is each log that follows the protocol
 abbrev pub LogsAreLinearizable : Type 0
-LogsAreLinearizable = (log : WordLog) → IsWordLog log → FollowsProtocol log → IsLinearizableLog log
+LogsAreLinearizable = (log : Log) → IsLog log → FollowsProtocol log → IsLinearizableLog log

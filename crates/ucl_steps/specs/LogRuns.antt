@@ -12,7 +12,7 @@ use Rattle.ucl_steps.specs.declared.step.Step.TheVariants as machine
 use Rattle.ucl_steps.specs.Protocol.{Pending, NoCall, Holding, Outcome, GoesOn, Answers}
 use Rattle.ucl_steps.specs.Machine.{MachineState, Idle, Within, initial_state, held_by, after_steps}
 use Rattle.ucl_steps.specs.Linearizable.{IsLinearizable}
-use Rattle.ucl_steps.specs.WordLog.{Act, Look, Swap, First, Second, WordTarget, Match, SeatStep, WordLog, history_in, IsWordLog}
+use Rattle.ucl_board.specs.Log.{AccessKind, Look, Swap, First, Second, Target, Match, Logged, Log, history_of, IsLog}
 use Rattle.ucl_steps.specs.ClientState.{client_at, call_asked, outcome, FollowsProtocol}
 
 -- A pass is two callers of the machine: the reader of its seat, seats being counted from 0, by its readings, and the reporter of
@@ -20,7 +20,7 @@ use Rattle.ucl_steps.specs.ClientState.{client_at, call_asked, outcome, FollowsP
 abbrev pub IsOf : ℕ → ℕ → Caller → Type 0
 IsOf seat number c = (c ≡ Reader (seat + 1)) ⊎ ((c ≡ Reporter number) × IsReporter number)
 
-abbrev pub caller_at : ℕ → ℕ → Act → Caller
+abbrev pub caller_at : ℕ → ℕ → AccessKind → Caller
 caller_at seat number (Look e) = Reporter number
 caller_at seat number Swap = Reporter number
 caller_at seat number First = Reader (seat + 1)
@@ -30,14 +30,14 @@ caller_at seat number Second = Reader (seat + 1)
 abbrev pub cast_for : ℕ → Cast
 cast_for readers = record { reporters = 255; readers = readers }
 
--- the machine's steps for one of a pass: that of its act, with the beginning of the call just before it where it is the first of
+-- the machine's steps for one of a pass: that of its kind, with the beginning of the call just before it where it is the first of
 -- it, and the end just after it where it is the last
 
-abbrev pub act_step : Act → Caller → Step
-act_step (Look e) c = machine.Look c
-act_step Swap c = machine.Swap c
-act_step First c = machine.First c
-act_step Second c = machine.Second c
+abbrev pub step_by_kind : AccessKind → Caller → Step
+step_by_kind (Look e) c = machine.Look c
+step_by_kind Swap c = machine.Swap c
+step_by_kind First c = machine.First c
+step_by_kind Second c = machine.Second c
 
 abbrev pub begins_by : Pending → Caller → Call → List Step
 begins_by NoCall c call = machine.Begin c call ∷ []
@@ -47,26 +47,26 @@ abbrev pub ends_by : Outcome → Caller → List Step
 ends_by (Answers reply) c = machine.End c ∷ []
 ends_by (GoesOn held) c = []
 
-abbrev pub steps_by_act : Caller → Act → Pending → Call → Outcome → List Step
-steps_by_act c act held call o = begins_by held c call ++ act_step act c ∷ ends_by o c
+abbrev pub steps_by_kind : Caller → AccessKind → Pending → Call → Outcome → List Step
+steps_by_kind c kind held call o = begins_by held c call ++ step_by_kind kind c ∷ ends_by o c
 
-abbrev pub steps_on : ℕ → ℕ → Pending → WordTarget → ℕ → List Step
-steps_on seat number held (Match act game found) now =
-    steps_by_act (caller_at seat number act) act held (call_asked held (Match act game found)) (outcome number held (Match act game found) now)
+abbrev pub steps_on : ℕ → ℕ → Pending → Target → ℕ → List Step
+steps_on seat number held (Match kind game found) now =
+    steps_by_kind (caller_at seat number kind) kind held (call_asked held (Match kind game found)) (outcome number held (Match kind game found) now)
 steps_on seat number held target now = []
 
-abbrev pub steps_after : WordLog → WordLog → List Step
+abbrev pub steps_after : Log → Log → List Step
 steps_after before [] = []
 steps_after before (x ∷ log) =
     steps_on x.seat (client_at x.seat before).number (client_at x.seat before).held x.step.target x.step.at ++ steps_after (before ++ x ∷ []) log
 
 -- the steps of the machine that a log is
-abbrev pub machine_steps : WordLog → List Step
+abbrev pub machine_steps : Log → List Step
 machine_steps log = steps_after [] log
 
 -- a longer log is a longer run
 abbrev pub LongerLogsAreLongerRuns : Type 0
-LongerLogsAreLongerRuns = (log later : WordLog) → IsPrefix log later → IsPrefix (machine_steps log) (machine_steps later)
+LongerLogsAreLongerRuns = (log later : Log) → IsPrefix log later → IsPrefix (machine_steps log) (machine_steps later)
 
 -- the caller of the call that is under way
 abbrev pub caller_holding : ℕ → ℕ → Pending → Caller
@@ -86,14 +86,14 @@ HoldsAs state seat number held = IsHeldBy state seat number held
 
 -- where these steps lead: to the history of the log and the words of its board, with the callers of each pass holding what the
 -- pass holds; and all calls, those under way among them, are linearizable
-pub record LeadsToLog (readers : ℕ) (log : WordLog) : Type 0 where
+pub record LeadsToLog (readers : ℕ) (log : Log) : Type 0 where
   pub state : MachineState
   pub run : after_steps (machine_steps log) (initial_state (cast_for readers)) ≡ Some state
-  pub history_is : state.history ≡ history_in log
-  pub words_are : state.words ≡ board_of (history_in log)
+  pub history_is : state.history ≡ history_of log
+  pub words_are : state.words ≡ board_of (history_of log)
   pub each : (seat : ℕ) → seat < readers → HoldsAs state seat (client_at seat log).number (client_at seat log).held
-  pub linearizable : IsLinearizable (machine_steps log) (history_in log) state.calls
+  pub linearizable : IsLinearizable (machine_steps log) (history_of log) state.calls
 
 -- whatever the steps of a log are, and with as many readers as there are seats, or more
 abbrev pub LogsAreRuns : Type 0
-LogsAreRuns = (readers : ℕ) (log : WordLog) → IsWordLog log → FollowsProtocol log → All (λ (x : SeatStep). x.seat < readers) log → LeadsToLog readers log
+LogsAreRuns = (readers : ℕ) (log : Log) → IsLog log → FollowsProtocol log → All (λ (x : Logged). x.seat < readers) log → LeadsToLog readers log

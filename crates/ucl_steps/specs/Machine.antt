@@ -1,6 +1,7 @@
 -- The snapshot protocol as a machine: which step is enabled when, and what it does.
 -- What comes of a step on a match word is said by the protocol; here are the board, all callers, and their calls.
-use Rattle.std.specs.Prelude.{ℕ, zero, suc, ◌-◌, ◌==◌, ◌&&◌, nat_le, Bool, true, false, if◌then◌else◌, List, [], ◌∷◌, ◌++◌, length, replicate, Option, Some, None}
+use Rattle.std.specs.Prelude.{ℕ, zero, suc, ◌-◌, ◌==◌, ◌&&◌, nat_le, Bool, true, false, if◌then◌else◌, List, [], ◌∷◌, ◌++◌, length, replicate, Option, Some}
+use Rattle.std.specs.Prelude.{None}
 use Rattle.std.specs.Prelude.{IsSome, slice_get, slice_set, slice_index}
 use Rattle.std.specs.Option.{option_and_then}
 use Rattle.ucl_word.specs.declared.event.EventCall.{EventCall}

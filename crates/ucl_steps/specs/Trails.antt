@@ -30,13 +30,15 @@ Follows history low (m ∷ ms) high = (low ≤ m.at) × IsFoundIn history m × F
 -- one Look, on whose word the rules refuse: that refusal is the reply
 pub record LookRefused (call : EventCall) (refusal : Refusal) (ms : List Access) (now : ℕ) : Type 0 where
   pub looked : ℕ
-  pub accesses : ms ≡ access Look call.game looked now ∷ []
+  pub place : ℕ
+  pub accesses : ms ≡ access (Look call) call.game looked place now ∷ []
   pub answer : reply_of (record_at looked) call ≡ Err refusal
 
 -- a Look, on whose word the rules accept, and a Swap that stored nothing
 pub record StoredNothing (call : EventCall) (looked found : ℕ) (ms : List Access) (now : ℕ) : Type 0 where
   pub at : ℕ
-  pub accesses : ms ≡ access Look call.game looked at ∷ access Swap call.game found now ∷ []
+  pub places : ℕ × ℕ
+  pub accesses : ms ≡ access (Look call) call.game looked places.0 at ∷ access Swap call.game found places.1 now ∷ []
   pub may : IsOk (reply_of (record_at looked) call)
 
 -- a Swap that found another word than the Look: the reply is stale, with the number of the word that it found
@@ -53,7 +55,8 @@ pub record SwapWon (call : EventCall) (reply : Accepted) (ms : List Access) (now
   pub looked : ℕ
   pub at : ℕ
   pub before : ℕ
-  pub accesses : ms ≡ access Look call.game looked at ∷ access Swap call.game looked before ∷ []
+  pub places : ℕ × ℕ
+  pub accesses : ms ≡ access (Look call) call.game looked places.0 at ∷ access Swap call.game looked places.1 before ∷ []
   pub answer : reply_of (record_at looked) call ≡ Ok reply
   pub last : before + 1 ≡ now
 

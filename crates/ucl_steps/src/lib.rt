@@ -22,7 +22,7 @@ mod trace;
 pub use run::run_steps;
 pub use step::{Call, Caller, Cast, Step};
 pub use theorems::{
-    calls_finish, logs_are_linearizable, logs_are_runs, logs_have_facts, readings_are_snapshots,
+    logs_are_linearizable, logs_are_runs, logs_have_facts, readings_are_snapshots,
     reports_are_sequential, runs_are_linearizable, unclean_tries_are_few, unclean_tries_see_more,
     words_are_of_the_history,
 };

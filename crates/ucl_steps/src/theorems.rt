@@ -1,8 +1,9 @@
 //! What holds of every list of steps. The functions do nothing: each is there for its contract.
 
+ghost use Rattle.ucl_board.specs.Log.{Log, IsLog, IsLegalRule, LogFacts};
+ghost use Rattle.ucl_steps.specs.ClientState.{FollowsProtocol, IsNextOfProtocol};
 ghost use Rattle.ucl_steps.specs.Theorems.{RunsAreLinearizable, WordsAreOfTheHistory, UncleanTriesSeeMore, UncleanTriesAreFew, ReadingsAreSnapshots, ReportsAreSequential};
 ghost use Rattle.ucl_steps.specs.LogHistory.{LogsAreLinearizable};
-ghost use Rattle.ucl_steps.specs.LogFacts.{LogsHaveFacts, CallsFinish};
 ghost use Rattle.ucl_steps.specs.LogRuns.{LogsAreRuns, LongerLogsAreLongerRuns};
 
 /// Whatever steps the callers take, in whatever order, and wherever the list is cut: one legal history of the board of
@@ -55,14 +56,10 @@ pub fn logs_are_linearizable()
 {}
 
 /// The numbers that a log gave are those from 1 to the number of the enlisted, which is at most 255, each to one pass; and the entries of
-/// a number are those that its pass added.
+/// a number are those that its pass added. Each step of such a log is a legal one.
 pub fn logs_have_facts()
-    ensures { LogsHaveFacts }
-{}
-
-/// While passes take steps, calls finish: of further steps by which no call is finished each pass takes 35 on match words at most.
-pub fn calls_finish()
-    ensures { CallsFinish }
+    ensures facts { (log : Log) → IsLog log → FollowsProtocol log → LogFacts log }
+    ensures legal { IsLegalRule IsNextOfProtocol }
 {}
 
 /// Every log that follows the protocol is a run of the machine: each of its steps on a match word is one step of the machine, by a caller of

@@ -18,10 +18,10 @@ use Rattle.ucl_steps.specs.declared.trace.CallRecord.{CallRecord}
 use Rattle.ucl_steps.specs.declared.trace.Reply.TheVariants.{Copied}
 use Rattle.ucl_steps.specs.Machine.{MachineState, initial_state, after_steps}
 use Rattle.ucl_steps.specs.Linearizable.{IsDecided, IsLinearizable}
-use Rattle.ucl_steps.specs.WordLog.{SeatStep, WordLog, taken_at, history_in, IsWordLog}
+use Rattle.ucl_board.specs.Log.{Logged, Log, taken_by, history_of, IsLog}
 use Rattle.ucl_steps.specs.ClientState.{FinishedCall, client_at, FollowsProtocol}
 use Rattle.ucl_steps.specs.LogHistory.{IsCall, IsLinearizableLog}
-use Rattle.ucl_words.specs.declared.view.WordView.{WordView}
+use Rattle.ucl_live_board.specs.declared.view.View.{View}
 use Rattle.ucl_words.specs.LaterState.{LaterState}
 
 -- the board after the first k entries of a history, as a screen shows it: version k, and the clubs in the order of the
@@ -55,33 +55,33 @@ ScreenIsOfItsPoint history c =
     → screen_text profile reading.board roster group ≡ screen_at profile history c.point roster group
 
 -- a pass knows a beginning of the log, and the calls that it has finished are those that its own steps there make
-pub record IsOfLog (log : WordLog) (seat : ℕ) (v : WordView) : Type 0 where
+pub record IsOfLog (log : Log) (seat : ℕ) (v : View) : Type 0 where
   pub knows : IsPrefix v.log log
-  pub own : v.own ≡ taken_at seat log
+  pub own : v.own ≡ taken_by seat log
 
 -- a word board between two steps of any threads: there is one log of all steps, each the next one of the protocol, whose history
 -- has the words that are there. Each pass is of this log, no step is of a seat without a pass, and no two passes have one number.
 -- One history of the board of one thread holds each finished call of each pass once, with the reply that it got, between its
 -- first step and its last; and each screen is the text of the chosen order of the board that its reading copied
-pub record IsOneHistory (s : State Entry WordView) : Type 0 where
-  pub log : WordLog
-  pub is_log : IsWordLog log
+pub record IsOneHistory (s : State Entry View) : Type 0 where
+  pub log : Log
+  pub is_log : IsLog log
   pub protocol : FollowsProtocol log
-  pub words : board_of (history_in log) ≡ drop 1 s.words
-  pub each : (seat : ℕ) (v : WordView) → get_elem? s.views seat ≡ some v → IsOfLog log seat v
-  pub only : All (λ (x : SeatStep). x.seat < length s.views) log
+  pub words : board_of (history_of log) ≡ drop 1 s.words
+  pub each : (seat : ℕ) (v : View) → get_elem? s.views seat ≡ some v → IsOfLog log seat v
+  pub only : All (λ (x : Logged). x.seat < length s.views) log
   pub apart : (i j : ℕ)
       → 0 < (client_at i log).number → (client_at i log).number ≡ (client_at j log).number → i ≡ j
   pub linearizable : IsLinearizableLog log
   pub screens : (seat k : ℕ) (c : FinishedCall)
-      → IsCall log seat k c → ScreenIsOfItsPoint (history_in log) c
+      → IsCall log seat k c → ScreenIsOfItsPoint (history_of log) c
 
 -- so is each state that meets the invariant of the board
-abbrev pub BoardsHaveOneHistory : (State Entry WordView → Type 0) → Type 0
-BoardsHaveOneHistory rule = (s : State Entry WordView) → rule s → IsOneHistory s
+abbrev pub BoardsHaveOneHistory : (State Entry View → Type 0) → Type 0
+BoardsHaveOneHistory rule = (s : State Entry View) → rule s → IsOneHistory s
 
 -- and over time: the log of a later state begins with that of the earlier one, whichever steps of whichever passes came between,
 -- and whether these passes ever met; so no entry and no call ever moves
-pub record HistoriesGoOn (rule : State Entry WordView → Type 0) : Type 0 where
+pub record HistoriesGoOn (rule : State Entry View → Type 0) : Type 0 where
   pub boards : BoardsHaveOneHistory rule
-  pub later : (s t : State Entry WordView) (r : rule s) (q : rule t) → LaterState s t → IsPrefix (boards s r).log (boards t q).log
+  pub later : (s t : State Entry View) (r : rule s) (q : rule t) → LaterState s t → IsPrefix (boards s r).log (boards t q).log

@@ -4,7 +4,7 @@ ghost use Rattle.ucl_theorems.specs.Headline.{EveryRunHasOneHistory, BoardsHaveO
 
 use atomic_table::TableRule;
 use ucl_board::Entry;
-use ucl_words::WordView;
+use ucl_words::View;
 use ucl_words::rule::OneHistory;
 
 /// Between any two steps of any threads on a word board, for every state that meets the invariant of its table: there is one log of all steps,
@@ -13,14 +13,14 @@ use ucl_words::rule::OneHistory;
 /// step and its last; each reading is the board after a prefix of it, no versions of a pass fall, and the screen of each reading is the text of
 /// the chosen order of that board.
 pub fn boards_have_one_history()
-    ensures { BoardsHaveOneHistory (⟦<OneHistory as TableRule<Entry, WordView, ()>>⟧.holds tt) }
+    ensures { BoardsHaveOneHistory (⟦<OneHistory as TableRule<Entry, View, ()>>⟧.holds tt) }
 {}
 
 /// That history over time: where each pass that can take steps is still at its seat and knows all that it had known, as steps of any passes
 /// leave it (`steps_are_monotone` of `ucl_words`), the log of the later state begins with that of the earlier one. So the order of the calls of
 /// passes that never met is that of real time, and once it is there, it never changes.
 pub fn histories_go_on()
-    ensures { HistoriesGoOn (⟦<OneHistory as TableRule<Entry, WordView, ()>>⟧.holds tt) }
+    ensures { HistoriesGoOn (⟦<OneHistory as TableRule<Entry, View, ()>>⟧.holds tt) }
 {}
 
 /// For every list of steps of any reporters and readers, with calls cut anywhere and left unfinished: one history of the

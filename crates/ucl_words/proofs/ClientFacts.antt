@@ -1,52 +1,48 @@
 -- What the steps of a call leave as done and as held.
-use Rattle.ucl_words.proofs.Common.{◌≡◌, ◌≢◌, ◌⊎◌, inl, inr, ℕ, zero, suc, ◌+◌, ◌<◌, ◌≤◌, ◌==◌, Bool, true, cond, List, ◌∷◌, ◌++◌, take, length, set, Some, None}
-use Rattle.ucl_words.proofs.Common.{refl, sym, ap, ◌∙◌, subst, arith, [], eq-eqb, ne_eqb, slice_index, length-take-le, take-length, append-nil, EventCall, Refusal}
-use Rattle.ucl_words.proofs.Common.{Stale, refusal_of, after, record_at, word_of, reading_of, version_of, Call, Reply, Pending, NoCall, Holding, Collecting}
-use Rattle.ucl_words.proofs.Common.{Checking, Outcome, GoesOn, by_rules, collected, WordView, WordTarget, Act, ClientState, FinishedCall, client_of, client_at}
-use Rattle.ucl_words.proofs.Common.{outcome, with_outcome, call_answered, first_place, next_game, entry_by, known, versions_by, version_in, Steps, IsAnswered}
-use Rattle.ucl_words.proofs.Common.{CompletesCall, StaysIn, Finishes, MayCollect, IsBegun}
-use Rattle.ucl_board.specs.Log as plain
+use Rattle.ucl_words.proofs.Common.{◌≡◌, ◌≢◌, ◌⊎◌, inl, inr, ℕ, zero, suc, ◌+◌, ◌<◌, ◌≤◌, ◌==◌, Bool, true, cond, List, ◌∷◌, ◌++◌, take, length, set, Some}
+use Rattle.ucl_words.proofs.Common.{None, refl, sym, ap, ◌∙◌, subst, arith, [], eq-eqb, ne_eqb, slice_index, length-take-le, take-length, append-nil, EventCall}
+use Rattle.ucl_words.proofs.Common.{Refusal, Stale, refusal_of, after, record_at, word_of, reading_of, Call, Reply, Pending, NoCall, Holding, Collecting}
+use Rattle.ucl_words.proofs.Common.{Checking, Outcome, GoesOn, by_rules, collected, View, Target, AccessKind, ClientState, FinishedCall, client_of, client_at}
+use Rattle.ucl_words.proofs.Common.{outcome, with_outcome, call_answered, first_place, next_game, entry_by, version_in, Steps, IsAnswered, CompletesCall}
+use Rattle.ucl_words.proofs.Common.{StaysIn, Finishes, MayCollect, IsBegun, words_after, IsNextOfProtocol, history_of, number_of, versions_shown, DoneAsBefore}
 use Rattle.ucl_steps.specs.declared.step.Call.TheVariants as calls
 use Rattle.ucl_steps.specs.declared.trace.Reply.TheVariants as replies
 use Rattle.ucl_steps.specs.Protocol as protocol
 use Rattle.ucl_steps.specs.ClientState.{call_asked}
-use Rattle.ucl_steps.specs.WordLog.{Match, Look, Swap, First, Second}
+use Rattle.ucl_board.specs.Log.{Match, Look, Swap, First, Second, Enlisted, Enlists}
 use Rattle.ucl_steps.proofs.LogHistory.{look_none, first_none, second_none}
 use Rattle.ucl_steps.proofs.LogTurns.{collecting, checking}
-use Rattle.ucl_words.proofs.StepFacts.{LoadsMatch, Loads, ExchangeWon, ExchangeMissed, client_is, first_later, log_long, shows_answer, loads_match, exchange_won}
-use Rattle.ucl_words.proofs.StepFacts.{at_is}
+use Rattle.std.specs.List.{flat_map}
+use Rattle.std.proofs.lemmas.List.Concat.{flat_map-append}
+use Rattle.ucl_words.proofs.StepFacts.{LoadsMatch, ExchangeWon, ExchangeMissed, client_is, shown_of, loads_match, exchange_won, count_stays}
+use Rattle.ucl_steps.proofs.LogFacts.{legal_steps, client_number}
+use Rattle.ucl_live_board.proofs.StepFacts.{first_later, log_long, at_is}
 
 -- when a call began
 
 begun_place : (h : Pending) (known was place : ℕ) → known ≤ place → IsBegun h known was (first_place h was place)
-begun_place NoCall known was place le = le
-begun_place (Holding e old new) known was place le = refl
-begun_place (Collecting words) known was place le = refl
-begun_place (Checking words checked point) known was place le = refl
+begun_place h known was place le = search arith
 
 begun_on : (h : Pending) (known was first then : ℕ) → IsBegun h known was first → then ≡ first → IsBegun h known was then
 begun_on h known was first then begun same = subst (IsBegun h known was) (sym same) begun
 
 -- one step on a match word, by what comes of it
 
-module _ (seat game n : ℕ) (act : Act) (v w : WordView) (s : Steps seat (Match act game n) v w) where
-  abbrev target : WordTarget
-  target = Match act game n
+module _ (seat game n : ℕ) (kind : AccessKind) (v w : View) (s : Steps seat (Match kind game n) v w) where
+  abbrev target : Target
+  target = Match kind game n
 
   abbrev d : ClientState
   d = client_of v.own
 
-  module _ (o : Outcome) (comes : outcome (client_of v.own).number (client_of v.own).held (Match act game n) s.step.at ≡ o) where
+  module _ (o : Outcome) (comes : outcome (client_of v.own).number (client_of v.own).held (Match kind game n) s.step.at ≡ o) where
     pub done : client_of w.own ≡ with_outcome o s.step (client_of v.own)
     done = client_is seat target v w s ∙ ap (λ (z : Outcome). with_outcome z s.step (client_of v.own)) comes
 
   -- the call goes on
-  module _ (held : Pending) (comes : outcome (client_of v.own).number (client_of v.own).held (Match act game n) s.step.at ≡ GoesOn held) where
+  module _ (held : Pending) (comes : outcome (client_of v.own).number (client_of v.own).held (Match kind game n) s.step.at ≡ GoesOn held) where
     goes_calls : (client_of w.own).calls ≡ (client_of v.own).calls
     goes_calls = ap (λ (z : ClientState). z.calls) (done (GoesOn held) comes)
-
-    goes_shown : versions_by (client_of w.own) ≡ versions_by (client_of v.own)
-    goes_shown = ap versions_by (done (GoesOn held) comes)
 
     goes_first : (client_of w.own).first ≡ first_place (client_of v.own).held (client_of v.own).first s.step.place
     goes_first = ap (λ (z : ClientState). z.first) (done (GoesOn held) comes)
@@ -56,35 +52,43 @@ module _ (seat game n : ℕ) (act : Act) (v w : WordView) (s : Steps seat (Match
       calls = goes_calls;
       held_is = ap (λ (z : ClientState). z.held) (done (GoesOn held) comes);
       begun = begun_on (client_of v.own).held (length v.log) (client_of v.own).first _ (client_of w.own).first
-          (begun_place (client_of v.own).held (length v.log) (client_of v.own).first s.step.place (first_later seat target v w s)) goes_first;
+          (begun_place (client_of v.own).held (length v.log) (client_of v.own).first s.step.place (first_later words_after IsNextOfProtocol seat target v w s)) goes_first;
     }
 
   -- the call is answered
-  module _ (reply : Reply) (comes : outcome (client_of v.own).number (client_of v.own).held (Match act game n) s.step.at ≡ protocol.Answers reply) where
+  module _ (reply : Reply) (comes : outcome (client_of v.own).number (client_of v.own).held (Match kind game n) s.step.at ≡ protocol.Answers reply) where
     abbrev answer : FinishedCall
     answer = call_answered reply s.step (client_of v.own)
 
-    abbrev pub answered : (call : Call) → call_asked (client_of v.own).held (Match act game n) ≡ call → IsAnswered v call reply w
+    abbrev pub answered : (call : Call) → call_asked (client_of v.own).held (Match kind game n) ≡ call → IsAnswered v call reply w
     answered call asked = record {
       last = answer;
       calls = ap (λ (z : ClientState). z.calls) (done (protocol.Answers reply) comes);
       asked = (ap (call_asked (client_of v.own).held) s.of ∙ asked, refl, refl);
-      ended = log_long seat target v w s;
+      ended = log_long words_after IsNextOfProtocol seat target v w s;
       held = ap (λ (z : ClientState). z.held) (done (protocol.Answers reply) comes);
     }
 
-    pub answer_shown : versions_by (client_of w.own) ≡ versions_by (client_of v.own) ++ version_in reply
-    answer_shown = ap versions_by (done (protocol.Answers reply) comes) ∙ shows_answer (client_of v.own) s.step reply
+-- what a pass has shown, by the calls that it has finished
+
+pub done_shown : (v w : View) → (client_of w.own).calls ≡ (client_of v.own).calls → number_of w.own ≡ number_of v.own → versions_shown w.own ≡ versions_shown v.own
+done_shown v w calls same = λ i. flat_map (shown_of ((client_number w.own ∙ (same ∙ sym (client_number v.own))) i)) (calls i)
+
+pub answered_shown : (v w : View) (call : Call) (reply : Reply) → IsAnswered v call reply w → number_of w.own ≡ number_of v.own
+    → versions_shown w.own ≡ versions_shown v.own ++ version_in reply
+answered_shown v w call reply a same =
+    let d = client_of v.own in
+    (λ i. flat_map (shown_of ((client_number w.own ∙ (same ∙ sym (client_number v.own))) i)) (a.calls i))
+    ∙ (flat_map-append (shown_of d.number) d.calls (a.last ∷ []) ∙ ap (λ (l : List ℕ). versions_shown v.own ++ l)
+    (append-nil (shown_of d.number a.last) ∙ ((λ i. cond (a.asked.2 i == d.number) (version_in (a.asked.1 i)) [])
+    ∙ ap (λ (b : Bool). cond b (version_in reply) []) (eq-eqb d.number d.number refl))))
 
 -- steps of one call, one after another
 
 under_way : (h : Pending) (known was first : ℕ) → h ≢ NoCall → IsBegun h known was first → first ≡ was
-under_way NoCall known was first some begun = absurd (some refl)
-under_way (Holding e old new) known was first some begun = begun
-under_way (Collecting words) known was first some begun = begun
-under_way (Checking words checked point) known was first some begun = begun
+under_way h known was first any begun = search arith
 
-pub stays_on : (u v w : WordView) (h k : Pending) → h ≢ NoCall → StaysIn u h v → StaysIn v k w → StaysIn u k w
+pub stays_on : (u v w : View) (h k : Pending) → h ≢ NoCall → StaysIn u h v → StaysIn v k w → StaysIn u k w
 stays_on u v w h k some a b =
     let same = under_way (client_of v.own).held (length v.log) (client_of v.own).first (client_of w.own).first (λ none. some (sym a.held_is ∙ none)) b.begun in
     record {
@@ -95,7 +99,7 @@ stays_on u v w h k some a b =
     }
 
 -- a call that began after all that its pass had known, and that was answered
-pub stays_answered : (v u w : WordView) (held : Pending) (call : Call) (reply : Reply) → (client_of v.own).held ≡ NoCall → (client_of u.own).number ≡ (client_of v.own).number
+pub stays_answered : (v u w : View) (held : Pending) (call : Call) (reply : Reply) → (client_of v.own).held ≡ NoCall → number_of u.own ≡ number_of v.own
     → StaysIn v held u → Finishes u call reply w → CompletesCall v call reply w
 stays_answered v u w held call reply nothing number stays finishes =
     let a = finishes.answers in
@@ -105,7 +109,7 @@ stays_answered v u w held call reply nothing number stays finishes =
       answers = record {
         last = a.last;
         calls = a.calls ∙ ap (λ (l : List FinishedCall). l ++ a.last ∷ []) stays.calls;
-        asked = (a.asked.0, a.asked.1, a.asked.2 ∙ number);
+        asked = (a.asked.0, a.asked.1, a.asked.2 ∙ (client_number u.own ∙ (number ∙ sym (client_number v.own))));
         ended = a.ended;
         held = a.held;
       };
@@ -114,25 +118,22 @@ stays_answered v u w held call reply nothing number stays finishes =
 
 -- a report's load, where nothing was held
 
-module _ (seat n : ℕ) (e : EventCall) (v w : WordView) (s : Steps seat (Match (Look e) e.game n) v w) (nothing : (client_of v.own).held ≡ NoCall) where
+module _ (seat n : ℕ) (e : EventCall) (v w : View) (s : Steps seat (Match (Look e) e.game n) v w) (nothing : (client_of v.own).held ≡ NoCall) where
   look_adds : s.step.entry ≡ None
   look_adds = s.next.entry ∙ (ap (entry_by (client_at seat s.before).number (client_at seat s.before).held) s.of
       ∙ look_none (client_at seat s.before).held (client_at seat s.before).number e.game n e)
 
-  pub look_loads : versions_by (client_of w.own) ≡ versions_by (client_of v.own) → Loads plain.Look e.game (known v) n (known w)
-  look_loads shown = record { loads = loads_match seat e.game n (Look e) v w s look_adds; shown = shown }
+  pub look_loads : LoadsMatch (Look e) e.game v n w
+  look_loads = loads_match seat e.game n (Look e) v w s look_adds
 
   module _ (refusal : Refusal) (refused : refusal_of (record_at n) e.expected e.kind ≡ Some refusal) where
     look_comes : outcome (client_of v.own).number (client_of v.own).held (Match (Look e) e.game n) s.step.at ≡ protocol.Answers (replies.Refused refusal)
     look_comes = ap (by_rules (client_of v.own).number e n) refused
 
-    pub look_refused : Loads plain.Look e.game (known v) n (known w)
-    look_refused = look_loads (answer_shown seat e.game n (Look e) v w s (replies.Refused refusal) look_comes ∙ append-nil (versions_by (client_of v.own)))
-
     pub look_answers : CompletesCall v (calls.Event e) (replies.Refused refusal) w
     look_answers =
         let first = ap (λ (h : Pending). first_place h (client_of v.own).first s.step.place) nothing in
-        let low = first_later seat (Match (Look e) e.game n) v w s in
+        let low = first_later words_after IsNextOfProtocol seat (Match (Look e) e.game n) v w s in
         record { answers = answered seat e.game n (Look e) v w s (replies.Refused refusal) look_comes (calls.Event e) refl; since = omega arith }
 
   module _ (accepts : refusal_of (record_at n) e.expected e.kind ≡ None) where
@@ -143,12 +144,9 @@ module _ (seat n : ℕ) (e : EventCall) (v w : WordView) (s : Steps seat (Match 
     pub look_holds : StaysIn v (Holding e n (word_of (after (record_at n) (client_of v.own).number e.kind))) w
     look_holds = goes_on seat e.game n (Look e) v w s (Holding e n (word_of (after (record_at n) (client_of v.own).number e.kind))) look_goes
 
-    pub look_accepted : Loads plain.Look e.game (known v) n (known w)
-    look_accepted = look_loads (goes_shown seat e.game n (Look e) v w s (Holding e n (word_of (after (record_at n) (client_of v.own).number e.kind))) look_goes)
-
 -- the exchange
 
-module _ (seat game n old new : ℕ) (e : EventCall) (v w : WordView) (s : Steps seat (Match Swap game n) v w) (held : (client_of v.own).held ≡ Holding e old new) (of : game ≡ e.game) where
+module _ (seat game n old new : ℕ) (e : EventCall) (v w : View) (s : Steps seat (Match Swap game n) v w) (held : (client_of v.own).held ≡ Holding e old new) (of : game ≡ e.game) where
   abbrev pub reply_by : Bool → Reply
   reply_by b = cond b (replies.Accepted (record { number = (record_at new).number })) (replies.Refused (Stale (record_at n).number))
 
@@ -168,28 +166,16 @@ module _ (seat game n old new : ℕ) (e : EventCall) (v w : WordView) (s : Steps
       first = ap (λ (h : Pending). first_place h (client_of v.own).first s.step.place) held;
     }
 
-    swap_shown : versions_by (client_of w.own) ≡ versions_by (client_of v.own) ++ version_in (reply_by b)
-    swap_shown = answer_shown seat game n Swap v w s (reply_by b) comes_as
-
-  pub swap_missed : n ≢ old → ExchangeMissed e.game (known v) n (known w)
+  pub swap_missed : n ≢ old → ExchangeMissed e.game v n w
   swap_missed other =
       let none : s.step.entry ≡ None = s.next.entry ∙ ((λ i. entry_by (client_of (sym s.own i)).number (client_of (sym s.own i)).held (s.of i))
       ∙ (ap (λ (h : Pending). entry_by (client_of v.own).number h (Match Swap game n)) held
       ∙ ap (λ (b : Bool). cond b (Some (Rattle.ucl_board.specs.History.entry_of (client_of v.own).number e)) None) (ne_eqb n old other))) in
-      subst (λ (g : ℕ). ExchangeMissed g (known v) n (known w)) of
-      (record {
-        loads = loads_match seat game n Swap v w s none;
-        shown = swap_shown (n == old) refl
-            ∙ (ap (λ (b : Bool). versions_by (client_of v.own) ++ version_in (reply_by b)) (ne_eqb n old other)
-            ∙ append-nil (versions_by (client_of v.own)));
-      })
+      subst (λ (g : ℕ). ExchangeMissed g v n w) of (loads_match seat game n Swap v w s none)
 
-  pub swap_won : n ≡ old → ExchangeWon (Rattle.ucl_board.specs.History.entry_of (client_of v.own).number e) (known v) n (known w)
-  swap_won same =
-      let shown = swap_shown (n == old) refl
-      ∙ (ap (λ (b : Bool). versions_by (client_of v.own) ++ version_in (reply_by b)) (eq-eqb n old same) ∙ append-nil (versions_by (client_of v.own))) in
-      subst (λ (k : ℕ). ExchangeWon (Rattle.ucl_board.specs.History.entry_of (client_of v.own).number e) (known v) k (known w)) (sym same)
-      (exchange_won seat game old new e v w (subst (λ (k : ℕ). Steps seat (Match Swap game k) v w) same s) held of shown)
+  pub swap_won : n ≡ old → ExchangeWon (Rattle.ucl_board.specs.History.entry_of (number_of v.own) e) v n w
+  swap_won same = subst (λ (k : ℕ). ExchangeWon (Rattle.ucl_board.specs.History.entry_of (number_of v.own) e) v k w) (sym same)
+      (exchange_won seat game old new e v w (subst (λ (k : ℕ). Steps seat (Match Swap game k) v w) same s) held of)
 
 -- a first collect
 
@@ -199,10 +185,10 @@ take_set (x ∷ ws) zero n less = refl
 take_set (x ∷ ws) (suc i) n less = let e : suc i + 1 ≡ suc (i + 1) = omega arith in ap (λ (k : ℕ). take k (x ∷ set ws i n)) e ∙ ap (λ (l : List ℕ). x ∷ l) (take_set ws i n (omega arith))
 
 -- after so many loads
-abbrev pub Firsts : WordView → List ℕ → ℕ → WordView → Type 0
-Firsts v words i x = ((i ≡ 0) × (x ≡ v)) ⊎ ((0 < i) × StaysIn v (collected (take i words) (length (known x).seen)) x)
+abbrev pub Firsts : View → List ℕ → ℕ → View → Type 0
+Firsts v words i x = ((i ≡ 0) × (x ≡ v)) ⊎ ((0 < i) × StaysIn v (collected (take i words) (length (history_of x.log))) x)
 
-module _ (v x : WordView) (words : List ℕ) (i : ℕ) (less : i < 12) (long : length words ≡ 12) (may : MayCollect (client_of v.own).held) where
+module _ (v x : View) (words : List ℕ) (i : ℕ) (less : i < 12) (long : length words ≡ 12) (may : MayCollect (client_of v.own).held) where
   some_words : length (take i words) ≡ i
   some_words = length-take-le i words (omega arith)
 
@@ -212,23 +198,22 @@ module _ (v x : WordView) (words : List ℕ) (i : ℕ) (less : i < 12) (long : l
   first_begins : (h : Pending) → MayCollect h → 1 ≡ next_game First h
   first_begins NoCall m = refl
   first_begins (Collecting ws) m = ap (λ (l : List ℕ). length l + 1) (sym m)
-  first_begins (Holding e old new) m = absurd m
-  first_begins (Checking ws checked point) m = absurd m
+  first_begins h m = absurd m
 
   pub first_next : Firsts v words i x → i + 1 ≡ next_game First (client_of x.own).held
-  first_next (inl t) = ap (λ (k : ℕ). k + 1) t.0 ∙ (first_begins (client_of v.own).held may ∙ ap (λ (z : WordView). next_game First (client_of z.own).held) (sym t.1))
-  first_next (inr t) = ap (λ (k : ℕ). k + 1) (sym some_words) ∙ ap (next_game First) (sym (t.1.held_is ∙ collecting_still (length (known x).seen)))
+  first_next (inl t) = ap (λ (k : ℕ). k + 1) t.0 ∙ (first_begins (client_of v.own).held may ∙ ap (λ (z : View). next_game First (client_of z.own).held) (sym t.1))
+  first_next (inr t) = ap (λ (k : ℕ). k + 1) (sym some_words) ∙ ap (next_game First) (sym (t.1.held_is ∙ collecting_still (length (history_of x.log))))
 
-  module _ (seat n : ℕ) (w : WordView) (s : Steps seat (Match First (i + 1) n) x w) where
+  module _ (seat n : ℕ) (w : View) (s : Steps seat (Match First (i + 1) n) x w) where
     pub first_adds : s.step.entry ≡ None
     first_adds = s.next.entry ∙ (ap (entry_by (client_at seat s.before).number (client_at seat s.before).held) s.of
         ∙ first_none (client_at seat s.before).held (client_at seat s.before).number (i + 1) n)
 
-    now_is : s.step.at ≡ length (known w).seen
-    now_is = at_is seat (Match First (i + 1) n) x w s first_adds
+    now_is : s.step.at ≡ length (history_of w.log)
+    now_is = at_is words_after IsNextOfProtocol seat (Match First (i + 1) n) x w s legal_steps first_adds
 
     abbrev more : Pending
-    more = collected (take (i + 1) (set words i n)) (length (known w).seen)
+    more = collected (take (i + 1) (set words i n)) (length (history_of w.log))
 
     words_on : take i words ++ n ∷ [] ≡ take (i + 1) (set words i n)
     words_on = sym (take_set words i n (omega arith))
@@ -250,56 +235,53 @@ module _ (v x : WordView) (words : List ℕ) (i : ℕ) (less : i < 12) (long : l
     may_be : (h : Pending) → MayCollect h → (h ≡ NoCall) ⊎ (h ≡ Collecting [])
     may_be NoCall m = inl refl
     may_be (Collecting ws) m = inr (ap Collecting m)
-    may_be (Holding e old new) m = absurd m
-    may_be (Checking ws checked point) m = absurd m
+    may_be h m = absurd m
 
     comes : Firsts v words i x → outcome (client_of x.own).number (client_of x.own).held (Match First (i + 1) n) s.step.at ≡ GoesOn more
     comes (inl t) = first_comes (client_of x.own).held refl
         (inl (
-          subst (λ (z : WordView). ((client_of z.own).held ≡ NoCall) ⊎ ((client_of z.own).held ≡ Collecting [])) (sym t.1)
+          subst (λ (z : View). ((client_of z.own).held ≡ NoCall) ⊎ ((client_of z.own).held ≡ Collecting [])) (sym t.1)
               (may_be (client_of v.own).held may),
           t.0,
         ))
-    comes (inr t) = first_comes (client_of x.own).held refl (inr (t.1.held_is ∙ collecting_still (length (known x).seen)))
+    comes (inr t) = first_comes (client_of x.own).held refl (inr (t.1.held_is ∙ collecting_still (length (history_of x.log))))
 
-    pub first_shown : Firsts v words i x → (known w).shown ≡ (known x).shown
-    first_shown so_far = goes_shown seat (i + 1) n First x w s more (comes so_far)
-
-    pub first_loads : LoadsMatch plain.First (i + 1) (known x) n (known w)
+    pub first_loads : LoadsMatch First (i + 1) x n w
     first_loads = loads_match seat (i + 1) n First x w s first_adds
 
     pub first_on : Firsts v words i x → Firsts v (set words i n) (i + 1) w
     first_on so_far = inr (omega arith, by so_far)
       where
         by : Firsts v words i x → StaysIn v more w
-        by (inl t) = subst (λ (z : WordView). StaysIn z more w) t.1 (goes_on seat (i + 1) n First x w s more (comes so_far))
-        by (inr t) = stays_on v x w (collected (take i words) (length (known x).seen)) more
-            (λ none. collecting (take i words) (sym (collecting_still (length (known x).seen)) ∙ none)) t.1 (goes_on seat (i + 1) n First x w s more (comes so_far))
+        by (inl t) = subst (λ (z : View). StaysIn z more w) t.1 (goes_on seat (i + 1) n First x w s more (comes so_far))
+        by (inr t) = stays_on v x w (collected (take i words) (length (history_of x.log))) more
+            (λ none. collecting (take i words) (sym (collecting_still (length (history_of x.log))) ∙ none)) t.1 (goes_on seat (i + 1) n First x w s more (comes so_far))
 
-pub firsts_all : (v x : WordView) (words : List ℕ) (i : ℕ) → length words ≡ 12 → i ≡ 12 → Firsts v words i x → StaysIn v (Checking words 0 (length (known x).seen)) x
+pub firsts_all : (v x : View) (words : List ℕ) (i : ℕ) → length words ≡ 12 → i ≡ 12 → Firsts v words i x → StaysIn v (Checking words 0 (length (history_of x.log))) x
 firsts_all v x words i long all (inl t) = absurd (let e = t.0 in omega arith)
 firsts_all v x words i long all (inr t) =
     let whole : take i words ≡ words = ap (λ (k : ℕ). take k words) (all ∙ sym long) ∙ take-length words in
     subst (λ (h : Pending). StaysIn v h x)
-    (ap (λ (l : List ℕ). collected l (length (known x).seen)) whole ∙ ap (λ (b : Bool). cond b (Checking words 0 (length (known x).seen)) (Collecting words)) (eq-eqb (length words) 12 long)) t.1
+    (ap (λ (l : List ℕ). collected l (length (history_of x.log))) whole
+    ∙ ap (λ (b : Bool). cond b (Checking words 0 (length (history_of x.log))) (Collecting words)) (eq-eqb (length words) 12 long)) t.1
 
 -- a second collect
 
-pub record Seconds (v : WordView) (words : List ℕ) (point count : ℕ) (x : WordView) : Type 0 where
+pub record Seconds (v : View) (words : List ℕ) (point count : ℕ) (x : View) : Type 0 where
   pub calls : (client_of x.own).calls ≡ (client_of v.own).calls
   pub held : (client_of x.own).held ≡ Checking words count point
   pub first : (client_of x.own).first ≡ (client_of v.own).first
   pub number : (client_of x.own).number ≡ (client_of v.own).number
 
-pub seconds_none : (v : WordView) (words : List ℕ) (point : ℕ) → (client_of v.own).held ≡ Checking words 0 point → Seconds v words point 0 v
+pub seconds_none : (v : View) (words : List ℕ) (point : ℕ) → (client_of v.own).held ≡ Checking words 0 point → Seconds v words point 0 v
 seconds_none v words point is = record { calls = refl; held = is; first = refl; number = refl }
 
-module _ (v x w : WordView) (words : List ℕ) (point i seat n : ℕ) (so_far : Seconds v words point i x) (s : Steps seat (Match Second (i + 1) n) x w) where
+module _ (v x w : View) (words : List ℕ) (point i seat n : ℕ) (so_far : Seconds v words point i x) (s : Steps seat (Match Second (i + 1) n) x w) where
   pub second_adds : s.step.entry ≡ None
   second_adds = s.next.entry ∙ (ap (entry_by (client_at seat s.before).number (client_at seat s.before).held) s.of
       ∙ second_none (client_at seat s.before).held (client_at seat s.before).number (i + 1) n)
 
-  pub second_loads : LoadsMatch plain.Second (i + 1) (known x) n (known w)
+  pub second_loads : LoadsMatch Second (i + 1) x n w
   second_loads = loads_match seat (i + 1) n Second x w s second_adds
 
   abbrev compared_by : Bool → Bool → Outcome
@@ -327,9 +309,6 @@ module _ (v x w : WordView) (words : List ℕ) (point i seat n : ℕ) (so_far : 
         number = ap (λ (z : ClientState). z.number) (done seat (i + 1) n Second x w s (GoesOn (Checking words (i + 1) point)) on_comes) ∙ so_far.number;
       }
 
-      pub second_shown : (known w).shown ≡ (known x).shown
-      second_shown = goes_shown seat (i + 1) n Second x w s (Checking words (i + 1) point) on_comes
-
     module _ (eleven : i ≡ 11) where
       all_comes : outcome (client_of x.own).number (client_of x.own).held (Match Second (i + 1) n) s.step.at ≡ protocol.Answers (replies.Copied (reading_of words))
       all_comes = same_comes ∙ ap (compared_by true) (eq-eqb i 11 eleven)
@@ -349,9 +328,6 @@ module _ (v x w : WordView) (words : List ℕ) (point i seat n : ℕ) (so_far : 
             first = first_kept a.last.first refl;
           }
 
-      pub last_shown : (known w).shown ≡ (known x).shown ++ version_of words ∷ []
-      last_shown = answer_shown seat (i + 1) n Second x w s (replies.Copied (reading_of words)) all_comes
-
   module _ (other : n ≢ slice_index words i) where
     anew_comes : outcome (client_of x.own).number (client_of x.own).held (Match Second (i + 1) n) s.step.at ≡ GoesOn (Collecting [])
     anew_comes = second_comes ∙ ap (λ (b : Bool). compared_by b (i == 11)) (ne_eqb n (slice_index words i) other)
@@ -364,35 +340,29 @@ module _ (v x w : WordView) (words : List ℕ) (point i seat n : ℕ) (so_far : 
           (first_kept (client_of w.own).first (goes_first seat (i + 1) n Second x w s (Collecting []) anew_comes));
     }
 
-    pub other_shown : (known w).shown ≡ (known x).shown
-    other_shown = goes_shown seat (i + 1) n Second x w s (Collecting []) anew_comes
-
 -- tries of a reading
 
-abbrev pub Tries : WordView → WordView → Type 0
+abbrev pub Tries : View → View → Type 0
 Tries v x = (x ≡ v) ⊎ StaysIn v (Collecting []) x
 
-module _ (v x : WordView) (none : (client_of v.own).held ≡ NoCall) where
+module _ (v x : View) (none : (client_of v.own).held ≡ NoCall) where
   pub tries_may : Tries v x → MayCollect (client_of x.own).held
-  tries_may (inl same) = subst MayCollect (sym (ap (λ (z : WordView). (client_of z.own).held) same ∙ none)) tt
+  tries_may (inl same) = subst MayCollect (sym (ap (λ (z : View). (client_of z.own).held) same ∙ none)) tt
   tries_may (inr t) = subst MayCollect (sym t.held_is) refl
 
-  pub tries_on : (h : Pending) (u : WordView) → Tries v x → StaysIn x h u → StaysIn v h u
-  tries_on h u (inl same) stays = subst (λ (z : WordView). StaysIn z h u) same stays
+  pub tries_on : (h : Pending) (u : View) → Tries v x → StaysIn x h u → StaysIn v h u
+  tries_on h u (inl same) stays = subst (λ (z : View). StaysIn z h u) same stays
   tries_on h u (inr t) stays = stays_on v x u (Collecting []) h (collecting []) t stays
 
-pub tries_again : (v u w : WordView) (words : List ℕ) (point : ℕ) → StaysIn v (Checking words 0 point) u → StaysIn u (Collecting []) w → StaysIn v (Collecting []) w
+pub tries_again : (v u w : View) (words : List ℕ) (point : ℕ) → StaysIn v (Checking words 0 point) u → StaysIn u (Collecting []) w → StaysIn v (Collecting []) w
 tries_again v u w words point a b = stays_on v u w (Checking words 0 point) (Collecting []) (checking words 0 point) a b
 
 -- a step on the enlist word leaves what was done
-pub counted_does : (seat n : ℕ) (v w : WordView) → Steps seat (Rattle.ucl_steps.specs.WordLog.Enlisted n) v w → Rattle.ucl_words.specs.CompletedCalls.DoneAsBefore v w
+pub counted_does : (seat n : ℕ) (v w : View) → Steps seat (Enlisted n) v w → DoneAsBefore v w
 counted_does seat n v w s =
-    let is = client_is seat (Rattle.ucl_steps.specs.WordLog.Enlisted n) v w s ∙ ap (λ (o : Outcome). with_outcome o s.step (client_of v.own)) (stays (client_of v.own).held) in
+    let is = client_is seat (Enlisted n) v w s
+    ∙ ap (λ (o : Outcome). with_outcome o s.step (client_of v.own)) (count_stays (client_of v.own).number n s.step.at (client_of v.own).held) in
     record { calls = ap (λ (z : ClientState). z.calls) is; held = ap (λ (z : ClientState). z.held) is }
-  where
-    stays : (k : Pending) → outcome (client_of v.own).number k (Rattle.ucl_steps.specs.WordLog.Enlisted n) s.step.at ≡ GoesOn k
-    stays k = search arith
 
-pub enlisted_does : (seat n : ℕ) (v w : WordView) → Steps seat (Rattle.ucl_steps.specs.WordLog.Enlists n) v w → Rattle.ucl_words.specs.CompletedCalls.DoneAsBefore v w
-enlisted_does seat n v w s = let is = client_is seat (Rattle.ucl_steps.specs.WordLog.Enlists n) v w s in
-    record { calls = ap (λ (z : ClientState). z.calls) is; held = ap (λ (z : ClientState). z.held) is }
+pub enlisted_does : (seat n : ℕ) (v w : View) → Steps seat (Enlists n) v w → DoneAsBefore v w
+enlisted_does seat n v w s = let is = client_is seat (Enlists n) v w s in record { calls = ap (λ (z : ClientState). z.calls) is; held = ap (λ (z : ClientState). z.held) is }

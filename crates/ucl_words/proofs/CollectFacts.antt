@@ -1,10 +1,10 @@
 -- The clean double collect: loads of all words, twice, and anew where a word was another.
-use Rattle.ucl_words.proofs.Common.{◌≡◌, ◌≢◌, ℕ, ◌+◌, ◌<◌, ◌≤◌, List, ◌∷◌, ◌++◌, length, take, set, Option, Some, None, refl, sym, ap, ◌∙◌, subst, arith, le_refl}
-use Rattle.ucl_words.proofs.Common.{[], append_assoc, append-nil, length-append, get_or-set_same, slice_get, slice_index, take-append_seam, Entry, Reading, AreWords}
-use Rattle.ucl_words.proofs.Common.{max_version, version_of, board_of, reading_of, board_words, versions, AccessKind, Access, access, Follows, max_loads, IsCollect}
-use Rattle.ucl_words.proofs.Common.{IsUnclean, IsClean, accesses_of, ReadingAccesses, collect_none, collect_more, collect_set, unclean_try, clean_shows}
-use Rattle.ucl_words.proofs.Common.{reading_whole, Continues, SharedReading, View, pass_view_of, count_of, Walks, Collects, FindsAgain, FindsAnother, IsConsistent}
-use Rattle.ucl_words.proofs.Common.{ReadingSteps}
+use Rattle.ucl_words.proofs.Common.{◌≡◌, ◌≢◌, ℕ, ◌+◌, ◌<◌, ◌≤◌, List, ◌∷◌, ◌++◌, length, take, set, Option, Some, None, refl, sym, ap, ◌∙◌, subst, arith}
+use Rattle.ucl_words.proofs.Common.{le_refl, [], append_assoc, append-nil, length-append, get_or-set_same, slice_get, slice_index, take-append_seam, Entry}
+use Rattle.ucl_words.proofs.Common.{Reading, AreWords, max_version, version_of, board_of, reading_of, board_words, versions, AccessKind, Access, access}
+use Rattle.ucl_words.proofs.Common.{Follows, max_loads, IsCollect, IsUnclean, IsClean, accesses_of, ReadingAccesses, collect_none, collect_more, collect_set}
+use Rattle.ucl_words.proofs.Common.{unclean_try, clean_shows, reading_whole, Continues, SharedReading, View, pass_view_of, count_of, Walks, Collects}
+use Rattle.ucl_words.proofs.Common.{FindsAgain, FindsAnother, IsConsistent, ReadingSteps, history_of, versions_shown}
 use Rattle.std.specs.List.{AllByRecursion}
 use Rattle.std.proofs.lemmas.Option.{none-some}
 use Rattle.ucl_word.proofs.Sequences.{at_either}
@@ -19,27 +19,26 @@ pub record Collected (kind : AccessKind) (v : View) (words : List ℕ) (count : 
   pub walks : Walks v accesses w
   pub many : length accesses ≡ count
   pub words_are : IsCollect kind words accesses
-  pub last : (m : Access) → slice_get accesses 11 ≡ Some m → m.at ≡ length w.seen
-  pub shown : w.shown ≡ v.shown
+  pub last : (m : Access) → slice_get accesses 11 ≡ Some m → m.at ≡ length (history_of w.log)
 
 pub collected_none : (kind : AccessKind) (v : View) (words : List ℕ) → IsConsistent v → Collected kind v words 0 v
 collected_none kind v words consistent = record
-    { accesses = []; walks = walks_none v consistent; many = refl; words_are = collect_none kind words; last = λ m e. absurd (none-some m e); shown = refl }
+    { accesses = []; walks = walks_none v consistent; many = refl; words_are = collect_none kind words; last = λ m e. absurd (none-some m e) }
 
 -- one load more
 module _ (kind : AccessKind) (v x w : View) (words : List ℕ) (i n : ℕ) (below : i < 12) (was : Collected kind v words i x) (loads : LoadsMatch kind (i + 1) x n w) where
   abbrev new_access : Access
-  new_access = access kind (i + 1) n (length w.seen)
+  new_access = access kind (i + 1) n loads.place (length (history_of w.log))
 
   pub more_walks : Walks v (was.accesses ++ new_access ∷ []) w
   more_walks = walks_on v x w was.accesses (new_access ∷ []) was.walks (walks_load kind (i + 1) n x w was.walks.consistent loads)
 
-  more_last : (m : Access) → slice_get (was.accesses ++ new_access ∷ []) 11 ≡ Some m → m.at ≡ length w.seen
+  more_last : (m : Access) → slice_get (was.accesses ++ new_access ∷ []) 11 ≡ Some m → m.at ≡ length (history_of w.log)
   more_last m e = search (arith, at_either)
 
   -- the word of the match after the new load
-  pub collected_more : (now : List ℕ) → IsCollect kind now was.accesses → n ≡ slice_index now i → w.shown ≡ x.shown → Collected kind v now (i + 1) w
-  collected_more now again is silent =
+  pub collected_more : (now : List ℕ) → IsCollect kind now was.accesses → n ≡ slice_index now i → Collected kind v now (i + 1) w
+  collected_more now again is =
       let many = was.many in
       record {
         accesses = was.accesses ++ new_access ∷ [];
@@ -47,24 +46,23 @@ module _ (kind : AccessKind) (v x w : View) (words : List ℕ) (i n : ℕ) (belo
         many = omega (arith, length-append was.accesses (new_access ∷ []));
         words_are = collect_more kind now was.accesses new_access again (refl, ap (λ (k : ℕ). k + 1) (sym many)) (is ∙ ap (slice_index now) (sym many));
         last = more_last;
-        shown = silent ∙ was.shown;
       }
 
   -- which is put among the words
-  pub collected_set : length words ≡ 12 → w.shown ≡ x.shown → Collected kind v (set words i n) (i + 1) w
-  collected_set long silent =
-      collected_more (set words i n) (collect_set kind words was.accesses i n (omega arith) was.words_are) (sym (get_or-set_same words i n 0 (omega arith))) silent
+  pub collected_set : length words ≡ 12 → Collected kind v (set words i n) (i + 1) w
+  collected_set long =
+      collected_more (set words i n) (collect_set kind words was.accesses i n (omega arith) was.words_are) (sym (get_or-set_same words i n 0 (omega arith)))
 
   -- or is compared with them
-  pub collected_same : n ≡ slice_index words i → w.shown ≡ x.shown → Collected kind v words (i + 1) w
-  collected_same is silent = collected_more words was.words_are is silent
+  pub collected_same : n ≡ slice_index words i → Collected kind v words (i + 1) w
+  collected_same is = collected_more words was.words_are is
 
-  pub collected_other : n ≢ slice_index words i → kind ≡ Second → w.shown ≡ x.shown → FindsAnother v words w
-  collected_other other is silent = search (arith, more_walks)
+  pub collected_other : n ≢ slice_index words i → kind ≡ Second → FindsAnother v words w
+  collected_other other is = search (arith, more_walks)
 
   -- with the twelfth
-  pub finds_again : n ≡ slice_index words i → i ≡ 11 → kind ≡ Second → w.shown ≡ x.shown ++ version_of words ∷ [] → FindsAgain v words w
-  finds_again same eleven is shows =
+  pub finds_again : n ≡ slice_index words i → i ≡ 11 → kind ≡ Second → FindsAgain v words w
+  finds_again same eleven is =
       let many = was.many in
       record {
         accesses = was.accesses ++ new_access ∷ [];
@@ -72,7 +70,6 @@ module _ (kind : AccessKind) (v x w : View) (words : List ℕ) (i n : ℕ) (belo
         twelve = omega (arith, length-append was.accesses (new_access ∷ []));
         again = subst (λ (a : AccessKind). IsCollect a words (was.accesses ++ new_access ∷ [])) is
             (collect_more kind words was.accesses new_access was.words_are (refl, ap (λ (k : ℕ). k + 1) (sym many)) (same ∙ ap (slice_index words) (sym many)));
-        shown = shows ∙ ap (λ (l : List ℕ). l ++ version_of words ∷ []) was.shown;
       }
 
 -- tries, none of them clean
@@ -80,10 +77,9 @@ pub record Tried (v x : View) : Type 0 where
   pub tries : List (List Access)
   pub walks : Walks v (accesses_of tries) x
   pub unclean : AllByRecursion IsUnclean tries
-  pub shown : x.shown ≡ v.shown
 
 pub tried_none : (v : View) → IsConsistent v → Tried v v
-tried_none v consistent = record { tries = []; walks = walks_none v consistent; unclean = tt; shown = refl }
+tried_none v consistent = record { tries = []; walks = walks_none v consistent; unclean = tt }
 
 accesses_next : (tries : List (List Access)) (ms : List Access) → accesses_of (tries ++ ms ∷ []) ≡ accesses_of tries ++ ms
 accesses_next [] ms = append-nil ms
@@ -101,11 +97,11 @@ module _ (x u w : View) (words : List ℕ) (collects : Collects x words u) (anot
   is_unclean : IsUnclean (collects.accesses ++ another.accesses)
   is_unclean = search arith
 
-  pub tried_longer : (length x.seen < length w.seen) × (length w.seen ≤ max_version)
+  pub tried_longer : (length (history_of x.log) < length (history_of w.log)) × (length (history_of w.log) ≤ max_version)
   tried_longer = search (
     arith,
-    unclean_try w.seen (length x.seen) (length w.seen) (collects.accesses ++ another.accesses) both_walks.leaves.follows is_unclean,
-    versions w.seen both_walks.consistent.sound.legal,
+    unclean_try (history_of w.log) (length (history_of x.log)) (length (history_of w.log)) (collects.accesses ++ another.accesses) both_walks.leaves.follows is_unclean,
+    versions (history_of w.log) both_walks.consistent.sound.legal,
     is_unclean,
   )
 
@@ -114,7 +110,6 @@ module _ (x u w : View) (words : List ℕ) (collects : Collects x words u) (anot
     tries = tried.tries ++ (collects.accesses ++ another.accesses) ∷ [];
     walks = search (arith, accesses_next, walks_on, both_walks);
     unclean = unclean_next tried.tries (collects.accesses ++ another.accesses) tried.unclean is_unclean;
-    shown = another.shown ∙ (collects.shown ∙ tried.shown);
   }
 
 -- a reading, as a whole
@@ -138,7 +133,7 @@ from_first h low high (m ∷ ms) first f at = subst (λ (a : Access). Follows h 
 -- the clean try
 module _ (x u w : View) (words : List ℕ) (long : length words ≡ 12) (collects : Collects x words u) (again : FindsAgain u words w) where
   abbrev clean_reading : Reading
-  clean_reading = record { board = words; version = length u.seen }
+  clean_reading = record { board = words; version = length (history_of u.log) }
 
   clean_walks : Walks x (collects.accesses ++ again.accesses) w
   clean_walks = walks_on x u w collects.accesses again.accesses collects.walks again.walks
@@ -146,19 +141,19 @@ module _ (x u w : View) (words : List ℕ) (long : length words ≡ 12) (collect
   is_clean : IsClean clean_reading (collects.accesses ++ again.accesses)
   is_clean = search arith
 
-  front : take (length u.seen) w.seen ≡ u.seen
-  front = let p = again.walks.on.seen in ap (take (length u.seen)) (sym p.1) ∙ take-append_seam u.seen p.0
+  front : take (length (history_of u.log)) (history_of w.log) ≡ history_of u.log
+  front = let p = again.walks.on.seen in ap (take (length (history_of u.log))) (sym p.1) ∙ take-append_seam (history_of u.log) p.0
 
-  words_seen : words ≡ board_of u.seen
-  words_seen = (clean_shows w.seen (length x.seen) (length w.seen) clean_reading
+  words_seen : words ≡ board_of (history_of u.log)
+  words_seen = (clean_shows (history_of w.log) (length (history_of x.log)) (length (history_of w.log)) clean_reading
       (collects.accesses ++ again.accesses) clean_walks.consistent.sound.legal clean_walks.leaves.follows is_clean).board
       ∙ ap board_of front
 
   pub are_words : AreWords words
-  are_words = subst AreWords (sym words_seen) (board_words u.seen collects.walks.consistent.sound.legal)
+  are_words = subst AreWords (sym words_seen) (board_words (history_of u.log) collects.walks.consistent.sound.legal)
 
-  version_seen : version_of words ≡ length u.seen
-  version_seen = ap version_of words_seen ∙ (versions u.seen collects.walks.consistent.sound.legal).0
+  version_seen : version_of words ≡ length (history_of u.log)
+  version_seen = ap version_of words_seen ∙ (versions (history_of u.log) collects.walks.consistent.sound.legal).0
 
   module _ (v : View) (consistent : IsConsistent v) (tried : Tried v x) where
     abbrev all_accesses : List Access
@@ -171,15 +166,12 @@ module _ (x u w : View) (words : List ℕ) (long : length words ≡ 12) (collect
     unfolding is_clean
     reading_accesses = record { tries = tried.tries; last = collects.accesses ++ again.accesses; accesses = refl; unclean = tried.unclean; clean = is_clean }
 
-    whole : IsReadFrom w.seen (length v.seen) (length w.seen) clean_reading all_accesses reading_accesses
-    whole = reading_whole w.seen (length v.seen) (length w.seen) clean_reading all_accesses all_walks.consistent.sound.legal
-        (le_refl (length w.seen)) all_walks.leaves.follows reading_accesses
+    whole : IsReadFrom (history_of w.log) (length (history_of v.log)) (length (history_of w.log)) clean_reading all_accesses reading_accesses
+    whole = reading_whole (history_of w.log) (length (history_of v.log)) (length (history_of w.log)) clean_reading all_accesses all_walks.consistent.sound.legal
+        (le_refl (length (history_of w.log))) all_walks.leaves.follows reading_accesses
 
-    shown_clean : w.shown ≡ v.shown ++ length u.seen ∷ []
-    shown_clean = again.shown ∙ (λ i. (collects.shown ∙ tried.shown) i ++ version_seen i ∷ [])
-
-    reads_clean : Reads v clean_reading w
-    reads_clean =
+    reads_clean : versions_shown w.own ≡ versions_shown v.own ++ length (history_of u.log) ∷ [] → Reads v clean_reading w
+    reads_clean shown =
         let taken = all_walks.leaves.taken in
         let steps = whole.steps.0 in
         let bound = whole.bound.1 in
@@ -187,21 +179,22 @@ module _ (x u w : View) (words : List ℕ) (long : length words ≡ 12) (collect
         record {
           consistent = all_walks.consistent;
           always = walks_continue v w all_accesses all_walks;
-          shared = search (arith, whole, all_walks, shown_clean);
+          shared = search (arith, whole, all_walks, shown);
           steps = record {
             accesses = all_accesses;
             leaves = all_walks.leaves;
             collects = reading_accesses;
             few = omega arith;
             meanwhile = λ first at.
-                let later = from_first w.seen (length v.seen) (length w.seen) all_accesses first all_walks.leaves.follows at in
-                let tries = (reading_whole w.seen first.at (length w.seen) clean_reading all_accesses all_walks.consistent.sound.legal
-                (le_refl (length w.seen)) later reading_accesses).tries in
+                let later = from_first (history_of w.log) (length (history_of v.log)) (length (history_of w.log)) all_accesses first all_walks.leaves.follows at in
+                let tries = (reading_whole (history_of w.log) first.at (length (history_of w.log)) clean_reading all_accesses all_walks.consistent.sound.legal
+                (le_refl (length (history_of w.log))) later reading_accesses).tries in
                 omega arith;
           };
           least = omega arith;
           most = omega arith;
         }
 
-    pub reads : (reading : Reading) → reading ≡ reading_of words → Reads v reading w
-    reads reading is = search (arith, version_seen, reads_clean)
+    pub reads : (reading : Reading) → reading ≡ reading_of words → versions_shown w.own ≡ versions_shown v.own ++ version_of words ∷ [] → Reads v reading w
+    reads reading is shown = subst (λ (r : Reading). Reads v r w) ((λ i. record { board = words; version = sym version_seen i }) ∙ sym is)
+        (reads_clean (shown ∙ ap (λ (k : ℕ). versions_shown v.own ++ k ∷ []) version_seen))

@@ -1,24 +1,25 @@
 -- Each kind of atomic step on the table keeps the invariant, and tells its pass the log before it.
-use Rattle.ucl_words.proofs.Common.{◌≡◌, ◌≢◌, ℕ, ◌+◌, ◌-◌, ◌<◌, ◌≤◌, ◌==◌, Bool, cond, List, ◌∷◌, ◌++◌, length, set, get_or, Option, Some, None, refl, sym, ap, ◌∙◌}
-use Rattle.ucl_words.proofs.Common.{subst, arith, [], append-nil, set-get_or, eq-eqb, ne_eqb, IsSome, some, get_elem?, either, exchanged, at_last, at_longer}
-use Rattle.ucl_words.proofs.Common.{set_here, Me, step, keeps, stepped, carried_after, Valid, opening, Allows, Splits, Joins, Entry, EventCall, IsMatch, MatchRecord}
-use Rattle.ucl_words.proofs.Common.{word_of, record_at, match_after, board_of, entry_of, after, refusal_of, word_after, WordView, WordStep, step_by, WordTarget, Act}
-use Rattle.ucl_words.proofs.Common.{history_in, enlisted_by, enlists, IsFoundThere, MayComeNext, IsNextOfProtocol, IsNextFor, entry_by, ClientState, client_of}
-use Rattle.ucl_words.proofs.Common.{client_at, next_game, Pending, NoCall, Holding, TableInvariant, Occurs, OccurAfterSplit, words_after, stepped_to, Steps}
-use Rattle.ucl_words.proofs.Common.{LookStep, FirstStep, SecondStep, ExchangeStep, EnlistedStep, EnlistStep, new_pass, first_pass, left_pass, second_pass, note_pass}
-use Rattle.ucl_words.proofs.Common.{told_pass}
+use Rattle.ucl_words.proofs.Common.{◌≡◌, ◌≢◌, ℕ, ◌+◌, ◌-◌, ◌<◌, ◌≤◌, ◌==◌, Bool, cond, List, ◌∷◌, ◌++◌, length, set, get_or, Option, Some, None, refl, sym, ap}
+use Rattle.ucl_words.proofs.Common.{◌∙◌, subst, arith, [], set-get_or, eq-eqb, ne_eqb, IsSome, some, get_elem?, either, exchanged, at_last, at_longer, set_here}
+use Rattle.ucl_words.proofs.Common.{Me, step, keeps, stepped, carried_after, Valid, opening, Allows, Splits, Joins, Entry, EventCall, IsMatch, MatchRecord}
+use Rattle.ucl_words.proofs.Common.{word_of, record_at, match_after, board_of, entry_of, after, refusal_of, word_after, View, Taken, logged_by, Target}
+use Rattle.ucl_words.proofs.Common.{AccessKind, history_of, enlisted_by, enlists, IsThere, MayBeTaken, IsNextOfProtocol, IsNextFor, entry_by, ClientState}
+use Rattle.ucl_words.proofs.Common.{client_of, client_at, next_game, Pending, NoCall, Holding, TableInvariant, Occurs, OccurAfterSplit, words_after, stepped_to}
+use Rattle.ucl_words.proofs.Common.{Steps, LookStep, FirstStep, SecondStep, ExchangeStep, EnlistedStep, EnlistStep, new_pass, first_pass, left_pass}
+use Rattle.ucl_words.proofs.Common.{second_pass, note_pass, told_pass, State, number_of}
 use mathlib.Core.Option as core
 use Rattle.ucl_word.specs.Record.{IsReporter}
-use Rattle.ucl_board.specs.Log.{entry_list}
+use Rattle.ucl_board.specs.Log.{Match, Look, Swap, First, Second, Enlisted, Enlists}
 use Rattle.ucl_board.specs.History.{MayFollow, attempted}
 use Rattle.ucl_board.proofs.HistoryTheorems.{may_attempt}
 use Rattle.ucl_steps.proofs.Histories.{read_back, board_next}
-use Rattle.ucl_steps.proofs.Seats.{place_below}
-use Rattle.ucl_steps.specs.WordLog.{Match, Look, Swap, First, Second, Enlisted, Enlists}
-use Rattle.ucl_steps.proofs.LogHistory.{history_more, Sees, holds_all, look_none, first_none, second_none, count_none, enlist_none}
-use Rattle.ucl_steps.proofs.LogFacts.{enlisted_more}
-use Rattle.ucl_live_board.proofs.Halves.{acts_some}
-use Rattle.ucl_words.proofs.TableRule.{Position, rule_steps, seconds_keep, notes_keep, hears_keep, opens_keep}
+use Rattle.ucl_steps.proofs.LogHistory.{Sees, holds_all, look_none, first_none, second_none, count_none, enlist_none}
+use Rattle.ucl_steps.proofs.LogFacts.{client_number}
+use Rattle.ucl_live_board.proofs.InvariantIsKept.{place_below, step_keeps, step_tells, words_stay, words_entered, words_enlisted, seconds_keep, notes_keep}
+use Rattle.ucl_live_board.proofs.InvariantIsKept.{joins_keep, opens_keep}
+
+abbrev pub Position : Type 0
+Position = State Entry View
 
 get_match : (n : ℕ) (b : List ℕ) (game : ℕ) → 1 ≤ game → get_or (n ∷ b) game 0 ≡ get_or b (game - 1) 0
 get_match n b game low = search arith
@@ -27,92 +28,70 @@ set_match : (n : ℕ) (b : List ℕ) (game x : ℕ) → 1 ≤ game → set (n �
 set_match n b game x low = search arith
 
 -- a load, and no exchange
-abbrev pub IsLoad : Act → Type 0
+abbrev pub IsLoad : AccessKind → Type 0
 IsLoad Swap = ⊥
 IsLoad act = Unit {0}
 
-load_none : (act : Act) → IsLoad act → (h : Pending) (number game found : ℕ) → entry_by number h (Match act game found) ≡ None
+load_none : (act : AccessKind) → IsLoad act → (h : Pending) (number game found : ℕ) → entry_by number h (Match act game found) ≡ None
 load_none (Look e) is h number game found = look_none h number game found e
 load_none Swap is h number game found = absurd is
 load_none First is h number game found = first_none h number game found
 load_none Second is h number game found = second_none h number game found
 
--- after a step that keeps the invariant its pass occurs at its seat
-occurs_after : (s : Position) (i n seat : ℕ) (cs : List (ℕ × Entry)) (v w : WordView) → get_elem? s.views seat ≡ some v → TableInvariant (stepped s i n seat cs w keeps) → Occurs seat w
-occurs_after s i n seat cs v w here rule = record { state = stepped s i n seat cs w keeps; rule = rule; here = set_here s.views seat w (place_below s.views seat v here) }
-
 pub count_there : (s : Position) (r : TableInvariant s) → get_or s.words 0 0 ≡ enlisted_by r.log
 count_there s r = ap (λ (ws : List ℕ). get_or ws 0 0) r.words_are
 
-module _ (s : Position) (r : TableInvariant s) (seat : ℕ) (v : WordView) (here : get_elem? s.views seat ≡ some v) (acts : IsSome v.share) where
-  word_there : (game : ℕ) → IsMatch game → get_or s.words game 0 ≡ word_of (match_after (history_in r.log) game)
-  word_there game is = ap (λ (ws : List ℕ). get_or ws game 0) r.words_are ∙ (get_match (enlisted_by r.log) (board_of (history_in r.log)) game is.0 ∙ word_after (history_in r.log) game is)
+module _ (s : Position) (r : TableInvariant s) (seat : ℕ) (v : View) (here : get_elem? s.views seat ≡ some v) (acts : IsSome v.share) where
+  word_there : (game : ℕ) → IsMatch game → get_or s.words game 0 ≡ word_of (match_after (history_of r.log) game)
+  word_there game is = ap (λ (ws : List ℕ). get_or ws game 0) r.words_are ∙ (get_match (enlisted_by r.log) (board_of (history_of r.log)) game is.0 ∙ word_after (history_of r.log) game is)
 
   client_here : client_of v.own ≡ client_at seat r.log
   client_here = ap client_of (r.fits seat v here).own.1
 
   -- any step that the invariant lets come next
-  module _ (target : WordTarget) (entry : Option Entry) (there : IsFoundThere r.log target) (next : IsNextFor (client_of v.own) target)
+  module _ (target : Target) (entry : Option Entry) (there : IsThere r.log target) (next : IsNextFor (client_of v.own) target)
       (adds : entry ≡ entry_by (client_of v.own).number (client_of v.own).held target) where
-    abbrev x : WordStep
-    x = record { target = target; place = length r.log; at = length (history_in r.log); entry = entry }
+    abbrev x : Taken
+    x = record { target = target; place = length r.log; at = length (history_of r.log); entry = entry }
 
-    abbrev then : WordView
+    abbrev then : View
     then = stepped_to r.log seat x v
 
-    may_be : MayComeNext r.log (step_by seat x)
+    may_be : MayBeTaken r.log (logged_by seat x)
     may_be = record { place = (refl, refl); there = there }
 
-    is_next : IsNextOfProtocol r.log (step_by seat x)
+    is_next : IsNextOfProtocol r.log (logged_by seat x)
     is_next = record {
       next = subst (λ (d : ClientState). IsNextFor d target) client_here next;
       entry = adds ∙ ap (λ (d : ClientState). entry_by d.number d.held target) client_here;
     }
 
-    keeps_rule : (i n : ℕ) (cs : List (ℕ × Entry)) → set s.words i n ≡ words_after (history_in (r.log ++ step_by seat x ∷ [])) (enlisted_by (r.log ++ step_by seat x ∷ []))
+    keeps_rule : (i n : ℕ) (cs : List (ℕ × Entry)) → set s.words i n ≡ words_after (history_of (r.log ++ logged_by seat x ∷ [])) (enlisted_by (r.log ++ logged_by seat x ∷ []))
         → TableInvariant (stepped s i n seat cs then keeps)
-    keeps_rule i n cs are = rule_steps s r seat v here (set s.words i n) x (acts_some v.share acts) may_be is_next are
+    keeps_rule i n cs are = step_keeps words_after IsNextOfProtocol s.words s.views r seat v here (set s.words i n) x acts may_be is_next are
 
     tells : (i n : ℕ) (cs : List (ℕ × Entry)) → TableInvariant (stepped s i n seat cs then keeps) → (place : ℕ) → place ≡ seat → Steps place target v then
-    tells i n cs rule place is_seat = let f = r.fits seat v here in
-        subst (λ (k : ℕ). Steps k target v then) (sym is_seat)
-        (record {
-          before = r.log;
-          is_log = r.is_log;
-          protocol = r.protocol;
-          since = f.knows;
-          heard = f.told;
-          own = f.own.1;
-          step = x;
-          of = refl;
-          may = may_be;
-          next = is_next;
-          is = refl;
-          acts = acts;
-          occurs = occurs_after s i n seat cs v then here rule;
-        })
+    tells i n cs rule place is_seat = subst (λ (k : ℕ). Steps k target v then) (sym is_seat)
+        (step_tells words_after IsNextOfProtocol s.words s.views r seat v here (set s.words i n) x target refl acts may_be is_next rule)
 
     -- words that stay
     stays : (i : ℕ) (cs : List (ℕ × Entry)) → length (enlists target) ≡ 0 → entry ≡ None → TableInvariant (stepped s i (get_or s.words i 0) seat cs then keeps)
     stays i cs none no_entry =
-        let count : enlisted_by (r.log ++ step_by seat x ∷ []) ≡ enlisted_by r.log = let e = enlisted_more r.log (step_by seat x) in omega arith in
-        let history : history_in (r.log ++ step_by seat x ∷ []) ≡ history_in r.log =
-        history_more r.log (step_by seat x) ∙ (ap (λ (o : Option Entry). history_in r.log ++ entry_list o) no_entry ∙ append-nil (history_in r.log)) in
-        keeps_rule i (get_or s.words i 0) cs (set-get_or s.words i 0 ∙ (r.words_are ∙ (λ j. words_after (sym history j) (sym count j))))
+        keeps_rule i (get_or s.words i 0) cs (set-get_or s.words i 0 ∙ words_stay words_after IsNextOfProtocol s.words s.views r seat v here x no_entry none)
 
   -- a load of a match word, or an exchange of it that was missed
-  load_by : (act : Act) (game i : ℕ) (cs : List (ℕ × Entry)) (place : ℕ) → place ≡ seat → IsMatch game → IsNextFor (client_of v.own) (Match act game (get_or s.words game 0))
+  load_by : (act : AccessKind) (game i : ℕ) (cs : List (ℕ × Entry)) (place : ℕ) → place ≡ seat → IsMatch game → IsNextFor (client_of v.own) (Match act game (get_or s.words game 0))
       → entry_by (client_of v.own).number (client_of v.own).held (Match act game (get_or s.words game 0)) ≡ None
-      → (w : WordView) × TableInvariant (stepped s game (get_or s.words game 0) seat cs w keeps) × Steps place (Match act game (get_or s.words game 0)) v w
+      → (w : View) × TableInvariant (stepped s game (get_or s.words game 0) seat cs w keeps) × Steps place (Match act game (get_or s.words game 0)) v w
   load_by act game i cs place is_seat is next none =
       let target = Match act game (get_or s.words game 0) in
-      let there : IsFoundThere r.log target = (is, word_there game is) in
+      let there : IsThere r.log target = (is, word_there game is) in
       let rule = stays target None there next (sym none) game cs refl refl in
       (then target None there next (sym none), rule, tells target None there next (sym none) game (get_or s.words game 0) cs rule place is_seat)
 
   -- a load of the enlist word, or an exchange of it that was missed
   count_by : (cs : List (ℕ × Entry)) (place : ℕ) → place ≡ seat
-      → (w : WordView) × TableInvariant (stepped s 0 (get_or s.words 0 0) seat cs w keeps) × Steps place (Enlisted (get_or s.words 0 0)) v w
+      → (w : View) × TableInvariant (stepped s 0 (get_or s.words 0 0) seat cs w keeps) × Steps place (Enlisted (get_or s.words 0 0)) v w
   count_by cs place is_seat =
       let target = Enlisted (get_or s.words 0 0) in
       let adds = sym (count_none (client_of v.own).held (client_of v.own).number (get_or s.words 0 0)) in
@@ -120,7 +99,7 @@ module _ (s : Position) (r : TableInvariant s) (seat : ℕ) (v : WordView) (here
       let rule = stays target None there tt adds 0 cs refl refl in
       (then target None there tt adds, rule, tells target None there tt adds 0 (get_or s.words 0 0) cs rule place is_seat)
 
-pub loads : (slots seat game place : ℕ) (act : Act) (m : Me Entry WordView) → place ≡ seat → IsLoad act → IsSome m.0.share → IsMatch game →
+pub loads : (slots seat game place : ℕ) (act : AccessKind) (m : Me Entry View) → place ≡ seat → IsLoad act → IsSome m.0.share → IsMatch game →
     ((n : ℕ) → IsNextFor (client_of m.0.own) (Match act game n))
     → Allows TableInvariant slots seat m game (λ n. n) (λ n m'. Steps place (Match act game n) m.0 m'.0)
 loads slots seat game place act m is_seat load acts is next s r _ here _ =
@@ -128,41 +107,41 @@ loads slots seat game place act m is_seat load acts is next s r _ here _ =
     let t = load_by s r seat m.0 here acts act game game m.1 place is_seat is (next n) (load_none act load (client_of m.0.own).held (client_of m.0.own).number game n) in
     (t.0, keeps, tt, t.1, t.2)
 
-pub looks : (slots seat game place : ℕ) (m : Me Entry WordView) (e : EventCall) → place ≡ seat → IsSome m.0.share → IsMatch game → e.game ≡ game → IsReporter (client_of m.0.own).number
+pub looks : (slots seat game place : ℕ) (m : Me Entry View) (e : EventCall) → place ≡ seat → IsSome m.0.share → IsMatch game → e.game ≡ game → IsReporter (number_of m.0.own)
     → (client_of m.0.own).held ≡ NoCall → Allows TableInvariant slots seat m game (λ n. n) (LookStep place e (step slots game 0 0 core.none) m)
-looks slots seat game place m e is_seat acts is of reporter nothing = loads slots seat game place (Look e) m is_seat tt acts is (λ n. (nothing, sym of, reporter))
+looks slots seat game place m e is_seat acts is of reporter nothing =
+    loads slots seat game place (Look e) m is_seat tt acts is (λ n. (nothing, sym of, subst IsReporter (sym (client_number m.0.own)) reporter))
 
-pub firsts : (slots seat game : ℕ) (m : Me Entry WordView) → IsSome m.0.share → IsMatch game → game ≡ next_game First (client_of m.0.own).held
+pub firsts : (slots seat game : ℕ) (m : Me Entry View) → IsSome m.0.share → IsMatch game → game ≡ next_game First (client_of m.0.own).held
     → Allows TableInvariant slots seat m game (λ n. n) (FirstStep (step slots game 0 0 core.none) m)
 firsts slots seat game m acts is next s r hs here small =
     let t = loads slots seat game seat First m refl tt acts is (λ n. next) s r hs here small in
     (t.0, t.1, t.2, t.3, (seat, t.4))
 
-pub again : (slots seat game place : ℕ) (m : Me Entry WordView) → place ≡ seat → IsSome m.0.share → IsMatch game → game ≡ next_game Second (client_of m.0.own).held
+pub again : (slots seat game place : ℕ) (m : Me Entry View) → place ≡ seat → IsSome m.0.share → IsMatch game → game ≡ next_game Second (client_of m.0.own).held
     → Allows TableInvariant slots seat m game (λ n. n) (SecondStep place (step slots game 0 0 core.none) m)
 again slots seat game place m is_seat acts is next = loads slots seat game place Second m is_seat tt acts is (λ n. next)
 
-pub counts : (slots seat place : ℕ) (m : Me Entry WordView) → place ≡ seat → IsSome m.0.share →
+pub counts : (slots seat place : ℕ) (m : Me Entry View) → place ≡ seat → IsSome m.0.share →
     Allows TableInvariant slots seat m 0 (λ n. n) (EnlistedStep place (step slots 0 0 0 core.none) m)
 counts slots seat place m is_seat acts s r _ here _ = let t = count_by s r seat m.0 here acts m.1 place is_seat in (t.0, keeps, tt, t.1, (refl, t.2))
 
-pub enlisting : (slots seat place : ℕ) (m : Me Entry WordView) (old : ℕ) → place ≡ seat → IsSome m.0.share → (client_of m.0.own).number ≡ 0 → (client_of m.0.own).held ≡ NoCall → old < 255
+pub enlisting : (slots seat place : ℕ) (m : Me Entry View) (old : ℕ) → place ≡ seat → IsSome m.0.share → number_of m.0.own ≡ 0 → (client_of m.0.own).held ≡ NoCall → old < 255
     → Allows TableInvariant slots seat m 0 (λ n. either (n == old) (old + 1) n) (EnlistStep place (step slots 0 old (old + 1) core.none) m)
 enlisting slots seat place m old is_seat acts reader nothing room s r _ here _ =
     let n : ℕ = get_or s.words 0 0 in
     exchanged n old (old + 1)
-    (λ x. (w : WordView) × (a : Rattle.atomic_table.specs.Table.Act Entry) × Valid s.homes m.1 a × TableInvariant (stepped s 0 x seat m.1 w a)
+    (λ x. (w : View) × (a : Rattle.atomic_table.specs.Table.Act Entry) × Valid s.homes m.1 a × TableInvariant (stepped s 0 x seat m.1 w a)
     × EnlistStep place (step slots 0 old (old + 1) core.none) m n (w, carried_after m.1 a))
     (λ hit.
     let found = count_there s r in
-    let there : IsFoundThere r.log (Enlists n) = (found, omega arith) in
+    let there : IsThere r.log (Enlists n) = (found, omega arith) in
     let adds = sym (enlist_none (client_of m.0.own).held (client_of m.0.own).number n) in
-    let next : IsNextFor (client_of m.0.own) (Enlists n) = (nothing, reader) in
-    let x : WordStep = record { target = Enlists n; place = length r.log; at = length (history_in r.log); entry = None } in
-    let count : enlisted_by (r.log ++ step_by seat x ∷ []) ≡ old + 1 = let e = enlisted_more r.log (step_by seat x) in omega arith in
-    let history : history_in (r.log ++ step_by seat x ∷ []) ≡ history_in r.log = history_more r.log (step_by seat x) ∙ append-nil (history_in r.log) in
-    let are : set s.words 0 (old + 1) ≡ words_after (history_in (r.log ++ step_by seat x ∷ [])) (enlisted_by (r.log ++ step_by seat x ∷ [])) =
-    ap (λ (ws : List ℕ). set ws 0 (old + 1)) r.words_are ∙ (λ j. words_after (sym history j) (sym count j)) in
+    let next : IsNextFor (client_of m.0.own) (Enlists n) = (nothing, client_number m.0.own ∙ reader) in
+    let x : Taken = record { target = Enlists n; place = length r.log; at = length (history_of r.log); entry = None } in
+    let are : set s.words 0 (old + 1) ≡ words_after (history_of (r.log ++ logged_by seat x ∷ [])) (enlisted_by (r.log ++ logged_by seat x ∷ [])) =
+    ap (λ (ws : List ℕ). set ws 0 (old + 1)) r.words_are ∙ (ap (λ (k : ℕ). words_after (history_of r.log) (k + 1)) (sym hit ∙ found)
+    ∙ words_enlisted words_after IsNextOfProtocol s.words s.views r seat m.0 here x refl refl) in
     let rule = keeps_rule s r seat m.0 here acts (Enlists n) None there next adds 0 (old + 1) m.1 are in
     let said = tells s r seat m.0 here acts (Enlists n) None there next adds 0 (old + 1) m.1 rule place is_seat in (
       stepped_to r.log seat x m.0,
@@ -176,14 +155,14 @@ enlisting slots seat place m old is_seat acts reader nothing room s r _ here _ =
     (t.0, keeps, tt, t.1, (refl, subst (λ (b : Bool). Steps place (cond b (Enlists n) (Enlisted n)) m.0 t.0) (sym (ne_eqb n old miss)) t.2)))
 
 -- an exchange that adds an entry
-module _ (s : Position) (r : TableInvariant s) (seat : ℕ) (m : Me Entry WordView) (here : get_elem? s.views seat ≡ some m.0) (acts : IsSome m.0.share) (game old new : ℕ) (e : EventCall)
+module _ (s : Position) (r : TableInvariant s) (seat : ℕ) (m : Me Entry View) (here : get_elem? s.views seat ≡ some m.0) (acts : IsSome m.0.share) (game old new : ℕ) (e : EventCall)
     (holds : (client_of m.0.own).held ≡ Holding e old new) (of : game ≡ e.game) where
   abbrev number : ℕ
   number = (client_of m.0.own).number
 
   seen : Sees r.log (client_at seat r.log).number (client_at seat r.log).first (Holding e old new)
   seen = subst (Sees r.log (client_at seat r.log).number (client_at seat r.log).first) (ap (λ (d : ClientState). d.held) (sym (client_here s r seat m.0 here acts)) ∙ holds)
-      ((holds_all r.log r.is_log r.protocol).sees seat)
+      ((holds_all r.log r.is_log r.follows).sees seat)
 
   is_match : IsMatch game
   is_match = subst IsMatch (sym of) seen.1.game
@@ -206,15 +185,15 @@ module _ (s : Position) (r : TableInvariant s) (seat : ℕ) (m : Me Entry WordVi
   abbrev made : Entry
   made = entry_of (client_of m.0.own).number e
 
-  abbrev won_step : WordStep
-  won_step = record { target = Match Swap game (get_or s.words game 0); place = length r.log; at = length (history_in r.log); entry = Some (entry_of (client_of m.0.own).number e) }
+  abbrev won_step : Taken
+  won_step = record { target = Match Swap game (get_or s.words game 0); place = length r.log; at = length (history_of r.log); entry = Some (entry_of (client_of m.0.own).number e) }
 
   -- the words then
   won_words : found ≡ old
-      → set s.words game new ≡ words_after (history_in (r.log ++ step_by seat won_step ∷ [])) (enlisted_by (r.log ++ step_by seat won_step ∷ []))
+      → set s.words game new ≡ words_after (history_of (r.log ++ logged_by seat won_step ∷ [])) (enlisted_by (r.log ++ logged_by seat won_step ∷ []))
   won_words hit =
-      let h = history_in r.log in
-      let all = holds_all r.log r.is_log r.protocol in
+      let h = history_of r.log in
+      let all = holds_all r.log r.is_log r.follows in
       let o = seen.1 in
       let number_is : number ≡ (client_at seat r.log).number = ap (λ (d : ClientState). d.number) (client_here s r seat m.0 here acts) in
       let there : old ≡ word_of (match_after h e.game) = sym hit ∙ (word_there s r seat m.0 here acts game is_match ∙ ap (λ (g : ℕ). word_of (match_after h g)) of) in
@@ -222,26 +201,24 @@ module _ (s : Position) (r : TableInvariant s) (seat : ℕ) (m : Me Entry WordVi
       let accepted : refusal_of (match_after h e.game) e.expected e.kind ≡ None = ap (λ (k : MatchRecord). refusal_of k e.expected e.kind) (sym match_is) ∙ o.accepted in
       let may : MayFollow h made = may_attempt h (attempted number e) all.legal (subst IsReporter (sym number_is) o.reporter, o.game) accepted in
       let new_is : new ≡ word_of (after (match_after h e.game) number e.kind) = o.next ∙ (λ j. word_of (after (match_is j) (sym number_is j) e.kind)) in
-      let count : enlisted_by (r.log ++ step_by seat won_step ∷ []) ≡ enlisted_by r.log = let k = enlisted_more r.log (step_by seat won_step) in omega arith in
-      let history : history_in (r.log ++ step_by seat won_step ∷ []) ≡ h ++ made ∷ [] = history_more r.log (step_by seat won_step) in
       let board : set (board_of h) (game - 1) new ≡ board_of (h ++ made ∷ []) = (λ j. set (board_of h) (of j - 1) (new_is j)) ∙ sym (board_next h made all.legal may) in
       ap (λ (ws : List ℕ). set ws game new) r.words_are ∙ (set_match (enlisted_by r.log) (board_of h) game new is_match.0
-      ∙ ((λ j. sym count j ∷ board j) ∙ ap (λ (l : List Entry). enlisted_by (r.log ++ step_by seat won_step ∷ []) ∷ board_of l) (sym history)))
+      ∙ (ap (λ (l : List ℕ). enlisted_by r.log ∷ l) board ∙ words_entered words_after IsNextOfProtocol s.words s.views r seat m.0 here won_step made refl refl))
 
   won_by : found ≡ old → (place : ℕ) → place ≡ seat
       → TableInvariant (stepped s game new seat m.1 (stepped_to r.log seat won_step m.0) keeps) × Steps place (Match Swap game found) m.0 (stepped_to r.log seat won_step m.0)
   won_by hit place is_seat =
-      let there : IsFoundThere r.log (Match Swap game found) = (is_match, word_there s r seat m.0 here acts game is_match) in
+      let there : IsThere r.log (Match Swap game found) = (is_match, word_there s r seat m.0 here acts game is_match) in
       let rule = keeps_rule s r seat m.0 here acts (Match Swap game found) (Some made) there next (won_some hit) game new m.1 (won_words hit) in
       (rule, tells s r seat m.0 here acts (Match Swap game found) (Some made) there next (won_some hit) game new m.1 rule place is_seat)
 
-pub swaps : (slots seat place game : ℕ) (m : Me Entry WordView) (e : EventCall) (entry : Entry) (old new : ℕ) → place ≡ seat → IsSome m.0.share
+pub swaps : (slots seat place game : ℕ) (m : Me Entry View) (e : EventCall) (entry : Entry) (old new : ℕ) → place ≡ seat → IsSome m.0.share
     → (client_of m.0.own).held ≡ Holding e old new → game ≡ e.game
     → Allows TableInvariant slots seat m game (λ n. either (n == old) new n) (ExchangeStep place (step slots game old new (core.some entry)) m)
 swaps slots seat place game m e entry old new is_seat acts holds of s r _ here _ =
     let n : ℕ = get_or s.words game 0 in
     exchanged n old new
-    (λ x. (w : WordView) × (a : Rattle.atomic_table.specs.Table.Act Entry) × Valid s.homes m.1 a × TableInvariant (stepped s game x seat m.1 w a)
+    (λ x. (w : View) × (a : Rattle.atomic_table.specs.Table.Act Entry) × Valid s.homes m.1 a × TableInvariant (stepped s game x seat m.1 w a)
     × ExchangeStep place (step slots game old new (core.some entry)) m n (w, carried_after m.1 a))
     (λ hit. let t = won_by s r seat m here acts game old new e holds of hit place is_seat in (stepped_to r.log seat (won_step s r seat m here acts game old new e holds of) m.0, keeps, tt, t.0, t.1))
     (λ miss.
@@ -249,35 +226,34 @@ swaps slots seat place game m e entry old new is_seat acts holds of s r _ here _
     (missed_none s r seat m here acts game old new e holds of miss) in
     (t.0, keeps, tt, t.1, t.2))
 
-pub seconds : (seat : ℕ) (v : WordView) → Splits TableInvariant seat v (left_pass v) (second_pass v)
-seconds seat v s r here = seconds_keep s r seat v here
+pub seconds : (seat : ℕ) (v : View) → Splits TableInvariant seat v (left_pass v) (second_pass v)
+seconds seat v s r here = seconds_keep words_after IsNextOfProtocol s.words s.views r seat v here
 
--- a pass that another was split off still stands, beside that one
-pub split_occurs : (v : WordView) → OccurAfterSplit v (left_pass v) (second_pass v)
+-- a pass that another was split off still occurs, beside that one
+pub split_occurs : (v : View) → OccurAfterSplit v (left_pass v) (second_pass v)
 split_occurs v seat was =
-    let views = was.state.views in
-    let left = set views seat (left_pass v) in
-    let here = set_here views seat (left_pass v) (place_below views seat v was.here) in
+    let left = set was.views seat (left_pass v) in
+    let here = set_here was.views seat (left_pass v) (place_below was.views seat v was.here) in
     let below = place_below left seat (left_pass v) here in
     record {
-      state = record { words = was.state.words; homes = was.state.homes; views = left ++ second_pass v ∷ [] };
-      rule = seconds seat v was.state was.rule was.here;
+      words = was.words;
+      views = left ++ second_pass v ∷ [];
+      rule = seconds_keep words_after IsNextOfProtocol was.words was.views was.rule seat v was.here;
       here = at_longer left (second_pass v ∷ []) seat (left_pass v) here;
       other = length left;
       apart = λ e. omega arith;
       there = at_last left (second_pass v) (length left) refl;
     }
 
-pub notes : (seat : ℕ) (v : WordView) → Splits TableInvariant seat v v (note_pass v)
-notes seat v s r here = notes_keep s r seat v here
+pub notes : (seat : ℕ) (v : View) → Splits TableInvariant seat v v (note_pass v)
+notes seat v s r here = notes_keep words_after IsNextOfProtocol s.words s.views r seat v here
 
-pub joins : (seat : ℕ) (v : WordView) (other : ℕ) (a : WordView) → Joins TableInvariant seat v other (note_pass a) (told_pass v (note_pass a)) new_pass
-joins seat v other a s r here apart there =
-    hears_keep s r seat v here other (note_pass a) (sym (Rattle.ucl_steps.proofs.Seats.set_else s.views seat other (told_pass v (note_pass a)) apart) ∙ there) apart refl
+pub joins : (seat : ℕ) (v : View) (other : ℕ) (a : View) → Joins TableInvariant seat v other (note_pass a) (told_pass v (note_pass a)) new_pass
+joins seat v other a s r here apart there = joins_keep words_after IsNextOfProtocol s.words s.views r seat v here other (note_pass a) apart there refl
 
 -- a board may open with the words of no event and no reporter
 pub opens : (words : List ℕ) → words ≡ words_after [] 0 → TableInvariant (opening words [] first_pass)
-opens words are = opens_keep (opening words [] first_pass) refl are
+opens words are = opens_keep words_after IsNextOfProtocol words are
 
 pub opened_occurs : (words : List ℕ) → words ≡ words_after [] 0 → Occurs 0 first_pass
-opened_occurs words are = record { state = opening words [] first_pass; rule = opens words are; here = refl }
+opened_occurs words are = record { words = words; views = first_pass ∷ []; rule = opens words are; here = refl }

@@ -2,8 +2,7 @@
 -- The pass was v and is w.
 use Rattle.std.specs.Prelude.{◌≡◌, ℕ, ◌≤◌, List, [], ◌∷◌, ◌++◌, length, Some, None, slice_get}
 use Rattle.ucl_word.specs.declared.event.EventCall.{EventCall}
-use Rattle.ucl_board.specs.Words.{version_of}
-use Rattle.ucl_board.specs.Log.{First, Second, Access}
+use Rattle.ucl_board.specs.Log.{First, Second, Access, added_by, history_of, number_of}
 use Rattle.ucl_steps.specs.declared.step.Call.{Call}
 use Rattle.ucl_steps.specs.declared.trace.Reply.{Reply}
 use Rattle.ucl_steps.specs.Protocol.{Pending, NoCall, Holding, Collecting}
@@ -11,8 +10,7 @@ use Rattle.ucl_steps.specs.ClientState.{client_of}
 use Rattle.ucl_steps.specs.Trails.{IsCollect, IsBroken}
 use Rattle.ucl_live_board.specs.Passes.{SeesOn}
 use Rattle.ucl_live_board.specs.declared.view.View.{View}
-use Rattle.ucl_live_board.specs.Views.{pass_view_of}
-use Rattle.ucl_words.specs.declared.view.WordView.{WordView}
+use Rattle.ucl_words.specs.WordViews.{pass_view_of}
 use Rattle.ucl_words.specs.WordCalls.{IsConsistent, LeavesAccesses}
 use Rattle.ucl_words.specs.CompletedCalls.{IsAnswered}
 
@@ -26,8 +24,8 @@ pub record IsHoldingFor (held : Pending) (game loaded next : ℕ) : Type 0 where
 pub record Walks (v : View) (accesses : List Access) (w : View) : Type 0 where
   pub consistent : IsConsistent w
   pub on : SeesOn (pass_view_of v) (pass_view_of w)
-  pub mine : w.mine ≡ v.mine
-  pub number : w.number ≡ v.number
+  pub mine : added_by w.own ≡ added_by v.own
+  pub number : number_of w.own ≡ number_of v.own
   pub leaves : LeavesAccesses v accesses None w
 
 -- a first collect of these words: its last access is at the whole history
@@ -39,23 +37,20 @@ pub record IsFirstCollect (words : List ℕ) (accesses : List Access) (now : ℕ
 pub record Collects (v : View) (words : List ℕ) (w : View) : Type 0 where
   pub accesses : List Access
   pub walks : Walks v accesses w
-  pub collect : IsFirstCollect words accesses (length w.seen)
-  pub shown : w.shown ≡ v.shown
+  pub collect : IsFirstCollect words accesses (length (history_of w.log))
 
--- a second collect that found all words again: their version is shown
+-- a second collect that found all words again
 pub record FindsAgain (v : View) (words : List ℕ) (w : View) : Type 0 where
   pub accesses : List Access
   pub walks : Walks v accesses w
   pub twelve : length accesses ≡ 12
   pub again : IsCollect Second words accesses
-  pub shown : w.shown ≡ v.shown ++ version_of words ∷ []
 
 -- a second collect that found another word
 pub record FindsAnother (v : View) (words : List ℕ) (w : View) : Type 0 where
   pub accesses : List Access
   pub walks : Walks v accesses w
   pub broken : IsBroken words accesses
-  pub shown : w.shown ≡ v.shown
 
 -- what is held, and what is done, after each part
 
@@ -71,12 +66,12 @@ IsBegun NoCall known was first = known ≤ first
 IsBegun _ known was first = first ≡ was
 
 -- steps of one call, which goes on: no call is finished, and this is held
-pub record StaysIn (v : WordView) (held : Pending) (w : WordView) : Type 0 where
+pub record StaysIn (v : View) (held : Pending) (w : View) : Type 0 where
   pub calls : (client_of w.own).calls ≡ (client_of v.own).calls
   pub held_is : (client_of w.own).held ≡ held
   pub begun : IsBegun (client_of v.own).held (length v.log) (client_of v.own).first (client_of w.own).first
 
 -- the last steps of the call that was under way
-pub record Finishes (v : WordView) (call : Call) (reply : Reply) (w : WordView) : Type 0 where
+pub record Finishes (v : View) (call : Call) (reply : Reply) (w : View) : Type 0 where
   pub answers : IsAnswered v call reply w
   pub first : answers.last.first ≡ (client_of v.own).first

@@ -1,6 +1,5 @@
 -- What holds of all exchanges of match words, and of every running board.
-use Rattle.std.specs.Prelude.{◌≡◌, ◌<◌, ◌≤◌, ◌*◌, ◌++◌, ℕ, List, ◌∷◌, [], map, length}
-use Rattle.std.specs.List.{sum_by}
+use Rattle.std.specs.Prelude.{◌≡◌, ◌<◌, ℕ, List, length}
 use mathlib.Core.List.{IsPrefix}
 use mathlib.Core.Option.{some}
 use lib.ListN.{get_elem?}
@@ -9,16 +8,12 @@ use Rattle.ucl_word.specs.Counts.{GainsOne}
 use Rattle.ucl_board.specs.declared.entry.Entry.{Entry}
 use Rattle.ucl_board.specs.Words.{word_at}
 use Rattle.ucl_board.specs.History.{board_of, IsLegal}
-use Rattle.ucl_steps.specs.WordLog.{SeatStep, WordLog, taken_at, enlisted_by}
-use Rattle.ucl_steps.specs.ClientState.{client_of}
+use Rattle.ucl_board.specs.Log.{enlisted_by, number_of}
 use Rattle.ucl_steps.specs.LogHistory.{IsLinearizableLog}
-use Rattle.ucl_steps.specs.LogFacts.{matches_in, max_between}
 use Rattle.ucl_steps.specs.LogRuns.{LeadsToLog}
 use Rattle.ucl_live_board.specs.Numbers.{IsGivenAfter}
-use Rattle.ucl_live_board.specs.OneHistory.{BoardInvariant}
-use Rattle.ucl_words.specs.declared.view.WordView.{WordView}
-use Rattle.ucl_words.specs.TableInvariants.{TableInvariant, words_after}
-use Rattle.ucl_words.specs.WordViews.{known, first_pass}
+use Rattle.ucl_live_board.specs.declared.view.View.{View}
+use Rattle.ucl_words.specs.TableInvariants.{TableInvariant}
 use Rattle.ucl_words.specs.LaterState.{LaterState}
 
 -- the word that takes the place of another where an entry is added, whatever the history is
@@ -31,53 +26,23 @@ WordsTellTheEntry =
     (history : List Entry) (e f : Entry) (old new : ℕ) → IsLegal history → e.game ≡ f.game
     → word_at (board_of history) e.game ≡ old → IsNextWord e old new → IsNextWord f old new → e ≡ f
 
--- the invariant of every shared board, with the same history and as many enlisted reporters
-pub record IsSharedBoard (s : State Entry WordView) (r : TableInvariant s) : Type 0 where
-  pub rule : BoardInvariant words_after s.words (map known s.views)
-  pub enlisted : rule.enlisted ≡ enlisted_by r.log
-
--- whatever the steps of a board are, and between any two of them: it keeps the invariant of every shared board, all calls of all
--- passes are linearizable, and the log is a run of the machine, of which each step on a match word is one step
-pub record BoardIsLinearizable (s : State Entry WordView) (r : TableInvariant s) : Type 0 where
-  pub shared : IsSharedBoard s r
+-- whatever the steps of a board are, and between any two of them: all calls of all passes are linearizable, and the log is a run of
+-- the machine, of which each step on a match word is one step
+pub record BoardIsLinearizable (s : State Entry View) (r : TableInvariant s) : Type 0 where
   pub linearizable : IsLinearizableLog r.log
   pub run : LeadsToLog (length s.views) r.log
 
 abbrev pub BoardsAreLinearizable : Type 0
-BoardsAreLinearizable = (s : State Entry WordView) (r : TableInvariant s) → BoardIsLinearizable s r
+BoardsAreLinearizable = (s : State Entry View) (r : TableInvariant s) → BoardIsLinearizable s r
 
 -- the log of a later state goes on from that of the earlier one
 abbrev pub LaterBoardsExtend : Type 0
 LaterBoardsExtend =
-    (s t : State Entry WordView) (r : TableInvariant s) (q : TableInvariant t) → LaterState s t → IsPrefix r.log q.log
-
--- how many calls passes have finished
-abbrev pub calls_finished : List WordView → ℕ
-calls_finished views = sum_by (λ (v : WordView). length (client_of v.own).calls) views
-
--- each pass took few of the steps on match words, and so all passes did
-pub record PassStepsAreBounded (views : List WordView) (since : WordLog) : Type 0 where
-  pub each : (seat : ℕ) → matches_in (taken_at seat since) ≤ max_between
-  pub all : matches_in (map (λ (x : SeatStep). x.step) since) ≤ length views * max_between
-
--- while passes take steps, calls finish: between two moments at which as many calls were finished, passes took few steps
-abbrev pub SomeCallFinishes : Type 0
-SomeCallFinishes =
-    (s t : State Entry WordView) (r : TableInvariant s) (q : TableInvariant t) (since : WordLog) → q.log ≡ r.log ++ since
-    → calls_finished t.views ≡ calls_finished s.views → PassStepsAreBounded t.views since
+    (s t : State Entry View) (r : TableInvariant s) (q : TableInvariant t) → LaterState s t → IsPrefix r.log q.log
 
 -- the number that a reader was given is above all that had been given when it had none
 abbrev pub NumbersRiseInTime : Type 0
 NumbersRiseInTime =
-    (s t : State Entry WordView) (r : TableInvariant s) → TableInvariant t → LaterState s t
-    → (seat : ℕ) (v w : WordView) → get_elem? s.views seat ≡ some v → (known v).number ≡ 0 → get_elem? t.views seat ≡ some w → 0 < (known w).number
-    → IsGivenAfter (enlisted_by r.log) (map known s.views) (known w).number
-
--- what the invariant says of a board that was just opened, with one pass that knows nothing: whatever its words are, they are those of
--- no event and no reporter
-pub record OpensWithNothing (s : State Entry WordView) (r : TableInvariant s) : Type 0 where
-  pub words_are : s.words ≡ words_after [] 0
-  pub no_step : r.log ≡ []
-
-abbrev pub TablesOpenFresh : Type 0
-TablesOpenFresh = (s : State Entry WordView) (r : TableInvariant s) → s.views ≡ first_pass ∷ [] → OpensWithNothing s r
+    (s t : State Entry View) (r : TableInvariant s) → TableInvariant t → LaterState s t
+    → (seat : ℕ) (v w : View) → get_elem? s.views seat ≡ some v → number_of v.own ≡ 0 → get_elem? t.views seat ≡ some w → 0 < number_of w.own
+    → IsGivenAfter (enlisted_by r.log) s.views (number_of w.own)

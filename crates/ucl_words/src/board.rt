@@ -9,12 +9,13 @@ ghost use Rattle.ucl_words.specs.WordSteps.{Steps};
 ghost use Rattle.ucl_words.specs.CollectSteps.{Collects, FindsAgain, FindsAnother, IsHoldingFor, MayCollect, StaysIn, Finishes};
 ghost use Rattle.ucl_words.specs.WordCalls.{IsConsistent};
 ghost use Rattle.ucl_words.specs.WordRecords.{WordOpened, WordReported, WordRead, WordSplit, WordEnlisted, WordFull, WordMet};
-ghost use Rattle.ucl_words.specs.WordViews.{pass_of, known};
-ghost use Rattle.ucl_words.specs.Theorems.{TablesOpenFresh};
+ghost use Rattle.ucl_words.specs.WordViews.{pass_of};
+ghost use Rattle.ucl_live_board.specs.OneHistory.{BoardsOpenFresh};
 ghost use Rattle.ucl_word.specs.Record.{IsReporter};
 ghost use Rattle.ucl_steps.specs.Protocol.{NoCall, Collecting, Checking};
-ghost use Rattle.ucl_steps.specs.WordLog as logs;
-ghost use Rattle.ucl_steps.specs.ClientState.{client_of, next_game};
+ghost use Rattle.ucl_board.specs.Log as logs;
+ghost use Rattle.ucl_board.specs.Log.{history_of, number_of};
+ghost use Rattle.ucl_steps.specs.ClientState.{IsNextOfProtocol, client_of, next_game};
 ghost use Rattle.ucl_steps.specs.declared.step.Call.TheVariants as calls;
 ghost use Rattle.ucl_steps.specs.declared.trace.Reply.TheVariants as replies;
 
@@ -23,12 +24,11 @@ use crate::rule::{
     Asking, CountEnlisted, Enlist, First, Look, Note, OneHistory, Seat, Second, SecondPass, Swap,
     Table,
 };
-use crate::view::WordView;
 use atomic_table::TableRule;
 use std::alloc::Global;
 use std::marker::{Brand, Model};
 use ucl_board::{Board, Entry, Reading};
-use ucl_live_board::{MAX_REPORTERS, TooManyReporters};
+use ucl_live_board::{MAX_REPORTERS, TooManyReporters, View};
 use ucl_word::{Accepted, EventCall, OutOfMemory, Refusal, ReporterNo, next_word, number_of};
 
 /// Which word of the table is the number of enlisted reporters; words 1 to 12 are the matches.
@@ -77,8 +77,8 @@ impl WordBoard {
     pub fn open<R>(_rt: &R, alloc: Global) -> Result<(WordBoard, WordReaderPass), OutOfMemory>
         ensures own { IfOk result (λ opened. opened.1.board ≡ opened.0) }
         ensures opened { IfOk result (λ opened. WordOpened opened.1) }
-        ensures rule { TablesOpenFresh }
-        ensures tied { ImpliesInvariant (⟦<OneHistory as TableRule<Entry, WordView, ()>>⟧.holds tt) }
+        ensures rule { BoardsOpenFresh words_after IsNextOfProtocol }
+        ensures tied { ImpliesInvariant (⟦<OneHistory as TableRule<Entry, View, ()>>⟧.holds tt) }
     {
         let (table, seat) = Table::of_words(alloc, &fresh_words(), &())?;
         Ok((WordBoard { table }, WordReaderPass { seat }))
@@ -90,7 +90,7 @@ impl WordBoard {
         requires acts { IsSome seat.old.me.0.share }
         requires place { K.seat ≡ seat.old.id }
         requires call { K.call ≡ call.now }
-        requires me { IsReporter (client_of seat.old.me.0.own).number }
+        requires me { IsReporter (number_of seat.old.me.0.own) }
         requires next { (client_of seat.old.me.0.own).held ≡ NoCall }
         ensures own { seat.new.table_id ≡ seat.old.table_id }
         ensures seat { seat.new.id ≡ seat.old.id }
@@ -122,14 +122,14 @@ impl WordBoard {
     /// Loads words 1 to 12: the first collect.
     fn collect(&self, seat: &mut Seat) -> [u64; 12]
         requires table { seat.old.table_id ≡ self.now }
-        requires consistent { IsConsistent (known seat.old.me.0) }
+        requires consistent { IsConsistent seat.old.me.0 }
         requires next { MayCollect (client_of seat.old.me.0.own).held }
         ensures own { seat.new.table_id ≡ seat.old.table_id }
         ensures seat { seat.new.id ≡ seat.old.id }
         ensures long { length result ≡ 12 }
-        ensures collects { Collects (known seat.old.me.0) result (known seat.new.me.0) }
+        ensures collects { Collects seat.old.me.0 result seat.new.me.0 }
         ensures does { StaysIn seat.old.me.0
-            (Checking result 0 (length (known seat.new.me.0).seen)) seat.new.me.0 }
+            (Checking result 0 (length (history_of seat.new.me.0.log))) seat.new.me.0 }
     {
         let mut words = [0; 12];
         for i in 0..12 {
@@ -156,14 +156,14 @@ impl WordBoard {
     /// Loads words 1 to 12 again, up to the first that is another: the second collect.
     fn is_clean(&self, seat: &mut Seat, words: &[u64; 12]) -> bool
         requires table { seat.old.table_id ≡ self.now }
-        requires consistent { IsConsistent (known seat.old.me.0) }
+        requires consistent { IsConsistent seat.old.me.0 }
         requires next { (client_of seat.old.me.0.own).held
-            ≡ Checking words.now 0 (length (known seat.old.me.0).seen) }
+            ≡ Checking words.now 0 (length (history_of seat.old.me.0.log)) }
         ensures own { seat.new.table_id ≡ seat.old.table_id }
         ensures seat { seat.new.id ≡ seat.old.id }
         ensures compared { MatchBool result
-            (FindsAgain (known seat.old.me.0) words.now (known seat.new.me.0))
-            (FindsAnother (known seat.old.me.0) words.now (known seat.new.me.0)) }
+            (FindsAgain seat.old.me.0 words.now seat.new.me.0)
+            (FindsAnother seat.old.me.0 words.now seat.new.me.0) }
         ensures does { MatchBool result
             (Finishes seat.old.me.0 calls.Reading (replies.Copied (reading_of words.now))
             seat.new.me.0)
@@ -181,9 +181,9 @@ impl WordBoard {
     /// Reads by the clean double collect. Each try that is not clean has seen a longer history, so there are few.
     fn read_by(&self, seat: &mut Seat) -> Reading
         requires table { seat.old.table_id ≡ self.now }
-        requires consistent { IsConsistent (known seat.old.me.0) }
+        requires consistent { IsConsistent seat.old.me.0 }
         requires next { (client_of seat.old.me.0.own).held ≡ NoCall }
-        ensures consistent { IsConsistent (known seat.new.me.0) }
+        ensures consistent { IsConsistent seat.new.me.0 }
         ensures read { WordRead (pass_of seat.old.table_id seat.old.id seat.old.me.0) result
             (pass_of seat.new.table_id seat.new.id seat.new.me.0) }
     {
@@ -199,7 +199,7 @@ impl WordBoard {
     fn add_reporter<K: Asking>(&self, seat: &mut Seat, tried: u64) -> u64
         requires table { seat.old.table_id ≡ self.now }
         requires acts { IsSome seat.old.me.0.share }
-        requires reader { (client_of seat.old.me.0.own).number ≡ 0 }
+        requires reader { number_of seat.old.me.0.own ≡ 0 }
         requires place { K.seat ≡ seat.old.id }
         requires next { (client_of seat.old.me.0.own).held ≡ NoCall }
         requires room { tried < 255 }

@@ -18,12 +18,11 @@ mod live_words;
 mod passes;
 pub mod rule;
 mod theorems;
-mod view;
 
 pub use board::WordBoard;
 pub use passes::{WordReaderPass, WordReporterPass};
 pub use theorems::{
     boards_are_linearizable, each_step_is_logged, later_boards_extend, numbers_are_there,
-    numbers_rise_in_time, some_call_finishes, steps_are_monotone, words_tell_the_entry,
+    numbers_rise_in_time, steps_are_monotone, words_tell_the_entry,
 };
-pub use view::WordView;
+pub use ucl_live_board::View;

@@ -2,8 +2,7 @@
 
 ghost use Rattle.std.specs.Prelude.{◌≡◌, MatchResult};
 ghost use Rattle.ucl_live_board.specs.Passes.{reporter_figures};
-ghost use Rattle.ucl_live_board.specs.Views.{pass_view_of};
-ghost use Rattle.ucl_words.specs.WordViews.{known};
+ghost use Rattle.ucl_words.specs.WordViews.{pass_view_of};
 ghost use Rattle.ucl_words.specs.WordRecords.{WordReported, WordRead, WordSplit, WordEnlisted, WordFull, WordMet};
 
 use crate::board::WordBoard;
@@ -23,9 +22,9 @@ impl LiveBoard for WordBoard {
 
     ghost is_reporter = { λ board pass. pass.board ≡ board };
 
-    ghost reader = { λ pass. pass_view_of (known pass.pass) };
+    ghost reader = { λ pass. pass_view_of pass.pass };
 
-    ghost reporter = { λ pass. pass_view_of (known pass.pass) };
+    ghost reporter = { λ pass. pass_view_of pass.pass };
 
     fn report<R: Wait>(
         &self,
@@ -79,13 +78,13 @@ impl LiveBoard for WordBoard {
     }
 
     fn number_of(pass: &WordReporterPass) -> ReporterNo
-        ensures { result ≡ (reporter_figures (pass_view_of (known pass.now.pass))).number }
+        ensures { result ≡ (reporter_figures (pass_view_of pass.now.pass)).number }
     {
         pass.number
     }
 
     fn accepted_of(pass: &WordReporterPass) -> u16
-        ensures { result ≡ (reporter_figures (pass_view_of (known pass.now.pass))).accepted }
+        ensures { result ≡ (reporter_figures (pass_view_of pass.now.pass)).accepted }
     {
         pass.accepted
     }

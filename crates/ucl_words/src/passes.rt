@@ -1,10 +1,11 @@
 //! The passes of the word board.
 
 ghost use Rattle.std.specs.Prelude.{◌≡◌, length};
+ghost use Rattle.ucl_board.specs.Log.{added_by, number_of};
 ghost use Rattle.ucl_steps.specs.Protocol.{NoCall};
 ghost use Rattle.ucl_words.specs.WordCalls.{IsConsistent};
 ghost use Rattle.ucl_steps.specs.ClientState.{client_of};
-ghost use Rattle.ucl_words.specs.WordViews.{WordPass, pass_of, known};
+ghost use Rattle.ucl_words.specs.WordViews.{WordPass, pass_of};
 
 use crate::rule::Seat;
 use std::marker::Model;
@@ -21,8 +22,8 @@ impl Model for WordReaderPass {
 
     ghost view = { λ reader. pass_of reader.seat.table_id reader.seat.id reader.seat.me.0 };
 
-    ghost invariant = { λ reader. IsConsistent (known reader.seat.me.0)
-        × ((known reader.seat.me.0).number ≡ 0)
+    ghost invariant = { λ reader. IsConsistent reader.seat.me.0
+        × (number_of reader.seat.me.0.own ≡ 0)
         × ((client_of reader.seat.me.0.own).held ≡ NoCall) };
 }
 
@@ -48,9 +49,9 @@ impl Model for WordReporterPass {
 
     ghost view = { λ reporter. pass_of reporter.seat.table_id reporter.seat.id reporter.seat.me.0 };
 
-    ghost invariant = { λ reporter. IsConsistent (known reporter.seat.me.0)
-        × ((known reporter.seat.me.0).number ≡ reporter.number)
-        × (length (known reporter.seat.me.0).mine ≡ reporter.accepted)
+    ghost invariant = { λ reporter. IsConsistent reporter.seat.me.0
+        × (number_of reporter.seat.me.0.own ≡ reporter.number)
+        × (length (added_by reporter.seat.me.0.own) ≡ reporter.accepted)
         × ((client_of reporter.seat.me.0.own).held ≡ NoCall) };
 }
 

@@ -1,14 +1,14 @@
 //! What holds of all exchanges of match words, and of every running board. The functions do nothing: each is there for its contract.
 
-ghost use Rattle.ucl_words.specs.Theorems.{WordsTellTheEntry, BoardsAreLinearizable, LaterBoardsExtend, SomeCallFinishes, NumbersRiseInTime};
-ghost use Rattle.ucl_words.specs.LaterState.{PassExtends, StepIsMonotone, SplitIsMonotone, JoinIsMonotone, FindsEnlisted};
-ghost use Rattle.ucl_words.specs.declared.view.WordView.{WordView};
+ghost use Rattle.ucl_words.specs.Theorems.{WordsTellTheEntry, BoardsAreLinearizable, LaterBoardsExtend, NumbersRiseInTime};
+ghost use Rattle.ucl_words.specs.LaterState.{StepIsMonotone, SplitIsMonotone, JoinIsMonotone, LaterStatesCompose, FindsEnlisted};
+ghost use Rattle.ucl_live_board.specs.declared.view.View.{View};
 ghost use Rattle.ucl_words.specs.WordSteps.{LogsOneStep};
 
 use crate::rule::{Asking, CountEnlisted, Enlist, First, Look, Note, Second, SecondPass, Swap};
-use crate::view::WordView;
 use atomic_table::{Join, Play, Split};
 use ucl_board::Entry;
+use ucl_live_board::View;
 
 /// Which entry an exchange of a match word adds follows from the match, the word that it finds and the word that it puts there.
 pub fn words_tell_the_entry()
@@ -18,7 +18,7 @@ pub fn words_tell_the_entry()
 /// Between any two steps of any threads there is one log of all steps, each the next one of the protocol. Its history is legal and has the
 /// words that are there; what each pass has done is what its own steps make of it; and all reports and readings of all passes are
 /// linearizable in real time (Herlihy and Wing), also where two passes never met. The log is a run of the protocol's machine (`ucl_steps`), of
-/// which each step on a match word is one step; and the board keeps the invariant of every shared board.
+/// which each step on a match word is one step.
 pub fn boards_are_linearizable()
     ensures { BoardsAreLinearizable }
 {}
@@ -26,38 +26,35 @@ pub fn boards_are_linearizable()
 /// Each kind of step on the words of a board, whatever it finds, is one step in the log, of the pass that took it: so what a call's
 /// clause says of the steps of its pass counts all its loads and exchanges of these kinds, and there are no others.
 pub fn each_step_is_logged<K: Asking>()
-    ensures looks { LogsOneStep ⟦<Look<K> as Play<Entry, WordView>>⟧.then }
-    ensures first { LogsOneStep ⟦<First as Play<Entry, WordView>>⟧.then }
-    ensures second { LogsOneStep ⟦<Second<K> as Play<Entry, WordView>>⟧.then }
-    ensures swaps { LogsOneStep ⟦<Swap<K> as Play<Entry, WordView>>⟧.then }
-    ensures counts { LogsOneStep ⟦<CountEnlisted<K> as Play<Entry, WordView>>⟧.then }
-    ensures enlists { LogsOneStep ⟦<Enlist<K> as Play<Entry, WordView>>⟧.then }
+    ensures looks { LogsOneStep ⟦<Look<K> as Play<Entry, View>>⟧.then }
+    ensures first { LogsOneStep ⟦<First as Play<Entry, View>>⟧.then }
+    ensures second { LogsOneStep ⟦<Second<K> as Play<Entry, View>>⟧.then }
+    ensures swaps { LogsOneStep ⟦<Swap<K> as Play<Entry, View>>⟧.then }
+    ensures counts { LogsOneStep ⟦<CountEnlisted<K> as Play<Entry, View>>⟧.then }
+    ensures enlists { LogsOneStep ⟦<Enlist<K> as Play<Entry, View>>⟧.then }
 {}
 
-/// Each kind of step on the words of a board, whatever it finds, lets its pass go on: it knows what it had known of the log, and has done
-/// what it had done. A split, and a note that is taken in, lead to later states, as steps do: in the sense of the theorems below.
+/// After a step of any kind on the words of a board, whatever it finds and leaves, the state is a later one: its pass knows what it had
+/// known of the log, and can still take steps. So it is after a split, and after a note was split off or taken in; and what comes later
+/// than a later state is later too, after any number of steps of any passes.
 pub fn steps_are_monotone<K: Asking>()
-    ensures looks { StepIsMonotone ⟦<Look<K> as Play<Entry, WordView>>⟧.then }
-    ensures first { StepIsMonotone ⟦<First as Play<Entry, WordView>>⟧.then }
-    ensures second { StepIsMonotone ⟦<Second<K> as Play<Entry, WordView>>⟧.then }
-    ensures swaps { StepIsMonotone ⟦<Swap<K> as Play<Entry, WordView>>⟧.then }
-    ensures counts { StepIsMonotone ⟦<CountEnlisted<K> as Play<Entry, WordView>>⟧.then }
-    ensures enlists { StepIsMonotone ⟦<Enlist<K> as Play<Entry, WordView>>⟧.then }
-    ensures splits { SplitIsMonotone (⟦<SecondPass as Split<WordView>>⟧.left)
-        (⟦<SecondPass as Split<WordView>>⟧.right) }
-    ensures notes { (v : WordView) → PassExtends v (⟦<Note as Split<WordView>>⟧.left v) }
-    ensures hears { JoinIsMonotone (⟦<Note as Join<WordView>>⟧.both) ⟦<Note as Join<WordView>>⟧.spent }
+    ensures looks { StepIsMonotone ⟦<Look<K> as Play<Entry, View>>⟧.then }
+    ensures first { StepIsMonotone ⟦<First as Play<Entry, View>>⟧.then }
+    ensures second { StepIsMonotone ⟦<Second<K> as Play<Entry, View>>⟧.then }
+    ensures swaps { StepIsMonotone ⟦<Swap<K> as Play<Entry, View>>⟧.then }
+    ensures counts { StepIsMonotone ⟦<CountEnlisted<K> as Play<Entry, View>>⟧.then }
+    ensures enlists { StepIsMonotone ⟦<Enlist<K> as Play<Entry, View>>⟧.then }
+    ensures splits { SplitIsMonotone (⟦<SecondPass as Split<View>>⟧.left)
+        (⟦<SecondPass as Split<View>>⟧.right) }
+    ensures notes { SplitIsMonotone (⟦<Note as Split<View>>⟧.left)
+        (⟦<Note as Split<View>>⟧.right) }
+    ensures hears { JoinIsMonotone (⟦<Note as Join<View>>⟧.both) ⟦<Note as Join<View>>⟧.spent }
+    ensures compose { LaterStatesCompose }
 {}
 
 /// The log of a later state begins with that of the earlier one, whichever steps of whichever passes came between.
 pub fn later_boards_extend()
     ensures { LaterBoardsExtend }
-{}
-
-/// While passes take steps, calls finish: between two states of which the later one has as many finished calls, each pass has taken 35
-/// steps on match words at most, and all passes 35 times as many as there are. It says nothing of which pass finishes a call.
-pub fn some_call_finishes()
-    ensures { SomeCallFinishes }
 {}
 
 /// The number that a reader is given is above all that had been given at any earlier moment at which it had none: so of two enlistments
@@ -68,6 +65,6 @@ pub fn numbers_rise_in_time()
 
 /// What a step on the number of reporters says that it found is what was there: as many as were enlisted in the state that it was taken in.
 pub fn numbers_are_there<K: Asking>()
-    ensures counts { FindsEnlisted ⟦<CountEnlisted<K> as Play<Entry, WordView>>⟧.then }
-    ensures enlists { FindsEnlisted ⟦<Enlist<K> as Play<Entry, WordView>>⟧.then }
+    ensures counts { FindsEnlisted ⟦<CountEnlisted<K> as Play<Entry, View>>⟧.then }
+    ensures enlists { FindsEnlisted ⟦<Enlist<K> as Play<Entry, View>>⟧.then }
 {}

@@ -2,4 +2,4 @@ use Rattle.ucl_live_board.proofs.Alone.{whole_is_alone}
 use Rattle.ucl_live_board.proofs.theorems.whole_is_alone.Goals as goal
 
 pub returns : goal.returns
-returns c = whole_is_alone
+returns g c = whole_is_alone g.B.BoardRule.words_after g.B.BoardRule.may

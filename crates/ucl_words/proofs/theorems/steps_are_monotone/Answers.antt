@@ -1,16 +1,18 @@
 use Rattle.ucl_words.proofs.Common.{refl}
-use Rattle.ucl_words.proofs.BoardTheorems.{steps_on, goes_still, splits_on, hears_on}
+use Rattle.ucl_words.proofs.BoardTheorems.{steps_on, splits_on, left_acts, hears_on, compose}
+use Rattle.ucl_live_board.specs.Views.{left_pass, second_pass, note_pass}
 use Rattle.ucl_words.proofs.theorems.steps_are_monotone.Goals as goal
 
 pub returns : goal.returns
 returns g c = record {
-  looks = λ st m n m' s. steps_on _ _ m.0 m'.0 s;
-  first = λ st m n m' s. steps_on s.0 _ m.0 m'.0 s.1;
-  second = λ st m n m' s. steps_on _ _ m.0 m'.0 s;
-  swaps = λ st m n m' s. steps_on _ _ m.0 m'.0 s;
-  counts = λ st m n m' s. steps_on _ _ m.0 m'.0 s.1;
-  enlists = λ st m n m' s. steps_on _ _ m.0 m'.0 s.1;
-  splits = splits_on;
-  notes = λ v. goes_still v v refl refl;
+  looks = λ s seat st m n m' words here t. steps_on _ _ s seat m.0 m'.0 words here t;
+  first = λ s seat st m n m' words here t. steps_on t.0 _ s seat m.0 m'.0 words here t.1;
+  second = λ s seat st m n m' words here t. steps_on _ _ s seat m.0 m'.0 words here t;
+  swaps = λ s seat st m n m' words here t. steps_on _ _ s seat m.0 m'.0 words here t;
+  counts = λ s seat st m n m' words here t. steps_on _ _ s seat m.0 m'.0 words here t.1;
+  enlists = λ s seat st m n m' words here t. steps_on _ _ s seat m.0 m'.0 words here t.1;
+  splits = splits_on left_pass second_pass (λ v. refl) left_acts;
+  notes = splits_on (λ v. v) note_pass (λ v. refl) (λ v acts. acts);
   hears = hears_on;
+  compose = compose;
 }

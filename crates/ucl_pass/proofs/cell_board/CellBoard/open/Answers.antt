@@ -1,4 +1,4 @@
-use Rattle.ucl_pass.proofs.Common.{rules, List, ℕ, ◌∷◌, ◌++◌, ap, ◌∙◌, [], words_after}
+use Rattle.ucl_pass.proofs.Common.{rules, List, ℕ, ◌∷◌, ◌++◌, ap, ◌∙◌, [], words_after, IsLegalStep}
 use Rattle.ucl_live_board.proofs.LogFacts.{opens_fresh}
 use Rattle.ucl_pass.proofs.InvariantIsKept.{begins}
 use Rattle.ucl_pass.proofs.cell_board.CellBoard.open.Goals as goal
@@ -7,7 +7,7 @@ pub ruled-requires : goal.ruled-requires
 ruled-requires g c = (search rules, (search rules, begins _ (c.words_with.ensures ∙ ap (λ (b : List ℕ). b ++ 0 ∷ []) c.fresh.ensures)))
 
 pub returns-clause-rule : goal.returns-clause-rule
-returns-clause-rule g c = opens_fresh words_after
+returns-clause-rule g c = opens_fresh words_after IsLegalStep
 
 pub returns-in_err-cell-clause-rule : goal.returns-in_err-cell-clause-rule
-returns-in_err-cell-clause-rule g c = opens_fresh words_after
+returns-in_err-cell-clause-rule g c = opens_fresh words_after IsLegalStep

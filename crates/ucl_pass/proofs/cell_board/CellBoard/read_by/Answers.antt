@@ -7,7 +7,7 @@ pub load_as-words-requires : goal.load_as-words-requires
 load_as-words-requires g c = (search rules, (search rules, (search rules, reads _ _ c.requires.acts)))
 
 pub board_at-requires : goal.board_at-requires
-board_at-requires g c = are_words _ (cell_view c.args.seat.now) (cell_view c.load_as-words.new.pass) c.load_as-words.ensures.rule.seen_all c.load_as-words.ensures.rule.sees.goes
+board_at-requires g c = are_words _ _ (cell_view c.args.seat.now) (cell_view c.load_as-words.new.pass) _ _ c.load_as-words.ensures.rule
 
 pub returns : goal.returns
 returns g c = was_read (cell_view c.args.seat.now) (cell_view c.load_as-words.new.pass) _ c.of.result c.load_as-words.ensures.rule (c.of.ensures ∙ ap reading_of c.board_at.ensures) _ _

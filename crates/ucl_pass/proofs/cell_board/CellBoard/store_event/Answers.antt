@@ -1,12 +1,11 @@
-use Rattle.ucl_pass.proofs.Common.{rules, sym, ap, ◌∙◌, subst, cell_view, EventCall, IsMatch, IsNextBoard, MayStore, StoresEvent, entry_at}
+use Rattle.ucl_pass.proofs.Common.{rules, sym, subst, cell_view, EventCall, IsNextBoard, MayStore, StoresEvent, entry_at}
 use Rattle.ucl_pass.proofs.InvariantIsKept.{adds, add_says, Answers}
 use Rattle.ucl_pass.proofs.cell_board.CellBoard.store_event.Goals as goal
 
 pub compare_exchange_as-requires : goal.compare_exchange_as-requires
 compare_exchange_as-requires g c =
-    let game = subst IsMatch (c.get-number.ensures.value ∙ sym (ap (λ (e : EventCall). e.game) c.requires.asks)) c.get-number.ensures.within in
     let next = subst (λ (e : EventCall). IsNextBoard (entry_at (cell_view c.args.seat.now) e) c.args.current c.args.next) (sym c.requires.asks) c.requires.next in
-    (search rules, (search rules, (search rules, adds _ _ g.K.Asking.call c.args.current c.args.next c.requires.acts c.requires.me game next)))
+    (search rules, (search rules, (search rules, adds _ _ g.K.Asking.call c.args.current c.args.next c.requires.acts next)))
 
 pub returns-clause-stored : goal.returns-clause-stored
 returns-clause-stored g c =

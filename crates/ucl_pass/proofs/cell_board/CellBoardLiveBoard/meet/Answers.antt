@@ -1,4 +1,5 @@
-use Rattle.ucl_pass.proofs.Common.{rules, sym, ap, ◌∙◌, subst, cell_view, Merges, View, told_by, newcomer, CellInvariant, LooksOnly, arith, cell_pass_of}
+use Rattle.ucl_pass.proofs.Common.{rules, sym, ap, ◌∙◌, subst, cell_view, Merges, View, told_pass, new_pass, CellInvariant, LooksOnly, arith, cell_pass_of}
+use Rattle.ucl_pass.proofs.Common.{length}
 use Rattle.ucl_pass.proofs.InvariantIsKept.{notes, joins}
 use Rattle.ucl_pass.proofs.CallsBySteps.{was_met}
 use Rattle.ucl_pass.proofs.cell_board.CellBoardLiveBoard.meet.Goals as goal
@@ -11,10 +12,21 @@ join_pass-requires g c =
     let seat = c.second.inside.seat in
     let v = cell_view seat in
     let note = c.split_pass-note.result in
-    let joined =
-    subst (λ (n : View). Merges CellInvariant seat.id v note.id n (told_by v n) newcomer)
+    let joined = subst (λ (n : View). Merges CellInvariant seat.id v note.id n (told_pass v n) new_pass)
     (sym c.split_pass-note.ensures.given.1) (joins _ _ _ (cell_view c.first.inside.seat)) in
     (search rules, (search rules, (search rules, joined)))
+
+pub invariant_of-second : goal.invariant_of-second
+invariant_of-second g c =
+    let a = c.first.inside.seat in
+    let v = c.second.inside.seat in
+    let note = c.split_pass-note.ensures in
+    let told = c.join_pass.ensures in
+    let w = cell_view c.load.new.seat in
+    let looked = subst (λ (u : View). LooksOnly u c.load.result c.load.result w) (told.1 ∙ ap (told_pass (cell_view v)) note.given.1) c.load.ensures.looks in
+    let all = was_met (cell_pass_of a) (cell_pass_of c.split_pass-note.new.pass) (cell_pass_of v) (cell_pass_of c.load.new.seat) c.load.result
+    (λ i. record { board = note.kept.0.0 i; view = note.kept.1 i }) (c.load.ensures.own ∙ told.0.0) c.first.invariant.0 looked in
+    (all.says.always.sound, all.says.always.number ∙ c.second.invariant.1, ap length all.says.meeting.mine ∙ c.second.invariant.2)
 
 pub returns : goal.returns
 returns g c =
@@ -23,7 +35,7 @@ returns g c =
     let note = c.split_pass-note.ensures in
     let told = c.join_pass.ensures in
     let w = cell_view c.load.new.seat in
-    let looked = subst (λ (u : View). LooksOnly u c.load.result c.load.result w) (told.1 ∙ ap (told_by (cell_view v)) note.given.1) c.load.ensures.looks in
+    let looked = subst (λ (u : View). LooksOnly u c.load.result c.load.result w) (told.1 ∙ ap (told_pass (cell_view v)) note.given.1) c.load.ensures.looks in
     let all = was_met (cell_pass_of a) (cell_pass_of c.split_pass-note.new.pass) (cell_pass_of v) (cell_pass_of c.load.new.seat) c.load.result
     (λ i. record { board = note.kept.0.0 i; view = note.kept.1 i }) (c.load.ensures.own ∙ told.0.0) c.first.invariant.0 looked in
     search (arith, rules, all)

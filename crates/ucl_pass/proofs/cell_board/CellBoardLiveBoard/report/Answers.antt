@@ -1,11 +1,10 @@
-use Rattle.ucl_pass.proofs.Common.{ℕ, ◌+◌, ◌≤◌, rules, arith, refl, sym, ◌∙◌, subst, length-append, cell_view, entry_of, pass_view_of, max_version, IsNextBoard}
-use Rattle.ucl_pass.proofs.Common.{StoresEvent, Ok, room, CellReported, cell_pass_of}
+use Rattle.ucl_pass.proofs.Common.{ap, length, ℕ, ◌+◌, ◌≤◌, rules, arith, refl, sym, ◌∙◌, subst, length-append, cell_view, entry_of, cell_pass_view}
+use Rattle.ucl_pass.proofs.Common.{max_version, IsNextBoard, StoresEvent, Ok, room, CellReported, cell_pass_of}
 use Rattle.ucl_pass.proofs.CallsBySteps.{are_words, tried_more, tries_again, next_words, refused_report, accepted_report}
 use Rattle.ucl_pass.proofs.cell_board.CellBoardLiveBoard.report.Goals as goal
 
 pub board_at-board-requires : goal.board_at-board-requires
-board_at-board-requires g c = are_words c.load-words.result (cell_view c.retry.pass-inside.seat) (cell_view c.load-words.new.seat)
-    c.load-words.ensures.looks.seen_all c.load-words.ensures.looks.sees.goes
+board_at-board-requires g c = are_words _ _ (cell_view c.retry.pass-inside.seat) (cell_view c.load-words.new.seat) _ _ c.load-words.ensures.looks
 
 pub returns-in_err-accepted : goal.returns-in_err-accepted
 returns-in_err-accepted g c =
@@ -14,6 +13,17 @@ returns-in_err-accepted g c =
     c.retry.invariant.tried c.load-words.ensures.looks c.args.call.now c.in_err-accepted.field-0.0
     (λ h legal is. c.in_err-accepted.ensures.sequential h legal (is ∙ sym c.board_at-board.ensures)) in
     search (arith, rules, all)
+
+pub invariant_of-pass : goal.invariant_of-pass
+invariant_of-pass g c =
+    let all = refused_report _ _ (c.load-words.ensures.own ∙ c.retry.invariant.own)
+    (cell_view c.pass.inside.seat) (cell_view c.retry.pass-inside.seat) (cell_view c.load-words.new.seat) c.load-words.result
+    c.retry.invariant.tried c.load-words.ensures.looks c.args.call.now c.in_err-accepted.field-0.0
+    (λ h legal is. c.in_err-accepted.ensures.sequential h legal (is ∙ sym c.board_at-board.ensures)) in (
+      all.says.always.sound,
+      all.says.always.number ∙ (c.pass.invariant.1 ∙ sym c.retry.invariant.number),
+      ap length all.says.refused.mine ∙ (c.pass.invariant.2 ∙ sym c.retry.invariant.accepted),
+    )
 
 pub store_event-stored-requires-clause-next : goal.store_event-stored-requires-clause-next
 store_event-stored-requires-clause-next g c =
@@ -49,7 +59,7 @@ overflow_add-pass g c =
     c.store_event-stored.ensures.stored (sym c.is_ok.ensures.value ∙ c.if-is_ok.true)
     (λ h legal is. c.in_ok-accepted.ensures.sequential h legal (is ∙ sym c.board_at-board.ensures)) in
     let r : c.retry.pass-inside.accepted + 1 ≤ max_version =
-    room (pass_view_of v) (pass_view_of z) c.args.call.now (Ok c.in_ok-accepted.accepted) c.retry.pass-inside.accepted
+    room (cell_pass_view v) (cell_pass_view z) c.args.call.now (Ok c.in_ok-accepted.accepted) c.retry.pass-inside.accepted
     all.says.accepted refl all.says.always.sound (c.pass.invariant.2 ∙ sym c.retry.invariant.accepted) in
     omega arith
 

@@ -10,6 +10,5 @@ next_word-requires c =
     (wanted_word (state_of c.args.self.now) c.requires c.args.caller c.held-held.result c.held-held.ensures c.in-Some-Wanting.call c.in-Some-Wanting.event is)
 
 pub reply-requires-clause-call : goal.reply-requires-clause-call
-reply-requires-clause-call c =
-    call_below (state_of c.args.self.now) c.requires c.args.caller c.held-held.result c.held-held.ensures
+reply-requires-clause-call c = call_below (state_of c.args.self.now) c.requires c.args.caller c.held-held.result c.held-held.ensures
     (has.Wanting c.in-Some-Wanting.call c.in-Some-Wanting.event) c.in-Some-Wanting.call (search rules) refl

@@ -16,8 +16,7 @@ pub bounds-words-checked : goal.bounds-words-checked
 bounds-words-checked c = search (arith, rules, checked_few (state_of c.args.self.now) c.requires c.args.caller c.held-held.result c.held-held.ensures)
 
 pub reply-requires-clause-call : goal.reply-requires-clause-call
-reply-requires-clause-call c =
-    call_below (state_of c.args.self.now) c.requires c.args.caller c.held-held.result c.held-held.ensures
+reply-requires-clause-call c = call_below (state_of c.args.self.now) c.requires c.args.caller c.held-held.result c.held-held.ensures
     (has.Checking c.in-Some-Checking.call c.in-Some-Checking.words c.in-Some-Checking.checked c.in-Some-Checking.point) c.in-Some-Checking.call (search rules) refl
 
 pub overflow_add-next : goal.overflow_add-next

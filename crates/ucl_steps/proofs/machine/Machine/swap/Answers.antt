@@ -4,8 +4,7 @@ use Rattle.ucl_steps.proofs.Reachable.{call_below, won_step}
 use Rattle.ucl_steps.proofs.machine.Machine.swap.Goals as goal
 
 pub reply-requires-clause-call : goal.reply-requires-clause-call
-reply-requires-clause-call c =
-    call_below (state_of c.args.self.now) c.requires c.args.caller c.held-held.result c.held-held.ensures
+reply-requires-clause-call c = call_below (state_of c.args.self.now) c.requires c.args.caller c.held-held.result c.held-held.ensures
     (has.Holding c.in-Some-Holding.call c.in-Some-Holding.event c.in-Some-Holding.old c.in-Some-Holding.new) c.in-Some-Holding.call (search rules) refl
 
 pub reply-requires-else-self-at-clause-call : goal.reply-requires-else-self-at-clause-call

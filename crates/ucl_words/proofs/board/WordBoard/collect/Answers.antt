@@ -1,8 +1,8 @@
-use Rattle.ucl_words.proofs.Common.{◌+◌, ◌∙◌, arith, length-set, known}
+use Rattle.ucl_words.proofs.Common.{◌+◌, ◌∙◌, arith, length-set}
 use Rattle.ucl_board.specs.Log.{First}
 use Rattle.ucl_words.proofs.InvariantIsKept.{firsts}
 use Rattle.ucl_words.proofs.CollectFacts.{collected_none, collected_set}
-use Rattle.ucl_words.proofs.ClientFacts.{first_next, first_on, first_loads, first_shown, firsts_all}
+use Rattle.ucl_words.proofs.ClientFacts.{first_next, first_on, first_loads, firsts_all}
 use Rattle.ucl_words.proofs.board.WordBoard.collect.Goals as goal
 
 pub loop-i-init : goal.loop-i-init
@@ -26,12 +26,11 @@ loop-i-preserved c =
     let i = c.loop-i.i in
     let n = c.load.result in
     let loads = first_loads v x words i (omega arith) was.long c.requires.next step.0 n w step.1 in
-    let shown = first_shown v x words i (omega arith) was.long c.requires.next step.0 n w step.1 was.does in
     record {
       same = c.load.ensures.0 ∙ was.same;
       place = c.load.ensures.1 ∙ was.place;
       long = length-set words i n ∙ was.long;
-      collected = collected_set First (known v) (known x) (known w) words i n (omega arith) was.collected loads was.long shown;
+      collected = collected_set First v x w words i n (omega arith) was.collected loads was.long;
       does = first_on v x words i (omega arith) was.long c.requires.next step.0 n w step.1 was.does;
     }
 

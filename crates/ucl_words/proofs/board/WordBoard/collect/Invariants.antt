@@ -1,4 +1,4 @@
-use Rattle.ucl_words.proofs.Common.{◌≡◌, length, known}
+use Rattle.ucl_words.proofs.Common.{◌≡◌, length}
 use Rattle.ucl_board.specs.Log.{First}
 use Rattle.ucl_words.proofs.CollectFacts.{Collected}
 use Rattle.ucl_words.proofs.ClientFacts.{Firsts}
@@ -9,6 +9,6 @@ invariant-loop-i l = record {
   same : l.seat.table_id ≡ l.fn.seat.table_id;
   place : l.seat.id ≡ l.fn.seat.id;
   long : length l.words ≡ 12;
-  collected : Collected First (known l.fn.seat.me.0) l.words l.i (known l.seat.me.0);
+  collected : Collected First l.fn.seat.me.0 l.words l.i l.seat.me.0;
   does : Firsts l.fn.seat.me.0 l.words l.i l.seat.me.0;
 }

@@ -1,5 +1,5 @@
 use Rattle.ucl_words.proofs.Common.{ℕ, sym, ◌∙◌, subst, arith, Steps}
-use Rattle.ucl_steps.specs.WordLog.{Enlisted}
+use Rattle.ucl_board.specs.Log.{Enlisted}
 use Rattle.ucl_words.proofs.InvariantIsKept.{counts}
 use Rattle.ucl_words.proofs.board.WordBoard.count.Goals as goal
 

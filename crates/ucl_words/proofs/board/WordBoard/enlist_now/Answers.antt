@@ -1,4 +1,4 @@
-use Rattle.ucl_words.proofs.Common.{inl, inr, refl, sym, ap, ◌∙◌, arith, rules, length, Occurs, pass_of, known}
+use Rattle.ucl_words.proofs.Common.{inl, inr, refl, sym, ap, ◌∙◌, arith, rules, length, Occurs, pass_of}
 use Rattle.ucl_words.proofs.EnlistmentFacts.{missed_none, missed_higher, missed_more, won_consistent, won_number}
 use Rattle.ucl_words.proofs.StepFacts.{loads_enlisted, enlist_won}
 use Rattle.ucl_words.proofs.ClientFacts.{counted_does, enlisted_does}
@@ -10,7 +10,7 @@ tries-init c = record {
   same = refl;
   place = refl;
   bound = omega arith;
-  missed = missed_none (known c.pass.inside.seat.me.0) c.pass.invariant.0;
+  missed = missed_none c.pass.inside.seat.me.0 c.pass.invariant.0;
   does = record { calls = refl; held = refl };
   occurs = inl refl;
 }
@@ -25,11 +25,11 @@ invariant_of-result c =
     let was = c.tries.invariant in
     let step = c.add_reporter-found.ensures.won same in
     let won = enlist_won m.id n x m.me.0 step in
-    let v = known c.pass.inside.seat.me.0 in
-    let number = won_number v (known x) (known m.me.0) c.tries.known n was.missed (omega arith) same won in (
-      won_consistent v (known x) (known m.me.0) c.tries.known n was.missed (omega arith) same won,
+    let v = c.pass.inside.seat.me.0 in
+    let number = won_number v x m.me.0 c.tries.known n was.missed (omega arith) same won in (
+      won_consistent v x m.me.0 c.tries.known n was.missed (omega arith) same won,
       number ∙ sym c.in-Some.ensures.value,
-      ap length won.enlists.mine,
+      ap length won.gives.mine,
       (enlisted_does m.id n x m.me.0 step).held ∙ (was.does.held ∙ c.pass.invariant.2),
     )
 
@@ -47,7 +47,7 @@ returns-in-Some c =
     let done = enlisted_does m.id n x m.me.0 step in
     let all = was_enlisted (pass_of k.table_id k.id k.me.0) (pass_of m.table_id m.id m.me.0) (found.own ∙ was.same) (found.seat ∙ was.place)
     (record { calls = done.calls ∙ was.does.calls; held = done.held ∙ was.does.held })
-    step.occurs (known x) c.tries.known n was.missed (omega arith) same (enlist_won m.id n x m.me.0 step) in
+    step.occurs x c.tries.known n was.missed (omega arith) same (enlist_won m.id n x m.me.0 step) in
     search (arith, rules, all)
 
 pub tries-smaller : goal.tries-smaller
@@ -58,14 +58,14 @@ tries-smaller c =
     let x = c.tries.seat.me.0 in
     let missed = loads_enlisted m.id n x m.me.0 (c.add_reporter-found.ensures.missed other) in
     let less = c.tries-test.true in
-    let higher = (missed_higher (known c.pass.inside.seat.me.0) (known x) (known m.me.0) c.tries.known n c.tries.invariant.missed other missed).0 in
+    let higher = (missed_higher c.pass.inside.seat.me.0 x m.me.0 c.tries.known n c.tries.invariant.missed other missed).0 in
     omega arith
 
 pub tries-preserved : goal.tries-preserved
 tries-preserved c =
     let other = c.if-found-known.false in
     let less = c.tries-test.true in
-    let v = known c.pass.inside.seat.me.0 in
+    let v = c.pass.inside.seat.me.0 in
     let x = c.tries.seat.me.0 in
     let m = c.add_reporter-found.new.seat in
     let n = c.add_reporter-found.result in
@@ -76,8 +76,8 @@ tries-preserved c =
     record {
       same = c.add_reporter-found.ensures.own ∙ was.same;
       place = c.add_reporter-found.ensures.seat ∙ was.place;
-      bound = (missed_higher v (known x) (known m.me.0) c.tries.known n was.missed other missed).1;
-      missed = missed_more v (known x) (known m.me.0) c.tries.known n was.missed other missed (omega arith);
+      bound = (missed_higher v x m.me.0 c.tries.known n was.missed other missed).1;
+      missed = missed_more v x m.me.0 c.tries.known n was.missed other missed (omega arith);
       does = record { calls = done.calls ∙ was.does.calls; held = done.held ∙ was.does.held };
       occurs = inr step.occurs;
     }

@@ -1,4 +1,4 @@
-use Rattle.ucl_words.proofs.Common.{◌≡◌, ◌-◌, ◌≤◌, ◌⊎◌, Occurs, known, DoneAsBefore}
+use Rattle.ucl_words.proofs.Common.{◌≡◌, ◌-◌, ◌≤◌, ◌⊎◌, Occurs, DoneAsBefore}
 use Rattle.ucl_live_board.specs.Steps.{no_call}
 use Rattle.ucl_words.proofs.EnlistmentFacts.{Missed}
 use Rattle.ucl_words.proofs.board.WordBoard.enlist_now.Given as goal
@@ -8,7 +8,7 @@ invariant-tries l = record {
   same : l.seat.table_id ≡ l.initial.seat.table_id;
   place : l.seat.id ≡ l.initial.seat.id;
   bound : l.known ≤ 255;
-  missed : Missed (known l.initial.seat.me.0) (known l.seat.me.0) l.known;
+  missed : Missed l.initial.seat.me.0 l.seat.me.0 l.known;
   does : DoneAsBefore l.initial.seat.me.0 l.seat.me.0;
   occurs : (l.known ≡ 0) ⊎ Occurs l.seat.id l.seat.me.0;
 }

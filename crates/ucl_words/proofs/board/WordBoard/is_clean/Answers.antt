@@ -1,6 +1,6 @@
 use Rattle.std.proofs.Common.{arith, ap, sym, ◌∙◌}
 use Rattle.ucl_words.proofs.Common.{◌≡◌, next_game, slice_index}
-use Rattle.ucl_steps.specs.WordLog.{Second}
+use Rattle.ucl_board.specs.Log.{Second}
 use Rattle.ucl_words.proofs.CollectFacts.{collected_none}
 use Rattle.ucl_words.proofs.ClientFacts.{seconds_none}
 use Rattle.ucl_words.proofs.SecondCollect.{found_same, found_all, found_another}

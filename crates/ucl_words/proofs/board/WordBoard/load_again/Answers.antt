@@ -1,5 +1,5 @@
 use Rattle.ucl_words.proofs.Common.{ℕ, sym, ◌∙◌, subst, arith, Steps}
-use Rattle.ucl_steps.specs.WordLog.{Match, Second}
+use Rattle.ucl_board.specs.Log.{Match, Second}
 use Rattle.ucl_words.proofs.InvariantIsKept.{again}
 use Rattle.ucl_words.proofs.board.WordBoard.load_again.Goals as goal
 

@@ -1,5 +1,5 @@
 use Rattle.ucl_words.proofs.Common.{ℕ, ◌≤◌, ap, sym, ◌∙◌, subst, arith, EventCall, Steps}
-use Rattle.ucl_steps.specs.WordLog.{Match, Look}
+use Rattle.ucl_board.specs.Log.{Match, Look}
 use Rattle.ucl_words.proofs.InvariantIsKept.{looks}
 use Rattle.ucl_words.proofs.board.WordBoard.look.Goals as goal
 

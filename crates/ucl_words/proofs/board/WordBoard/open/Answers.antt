@@ -1,16 +1,16 @@
-use Rattle.ucl_words.proofs.Common.{rules, ℕ, sym, subst, Occurs}
+use Rattle.ucl_words.proofs.Common.{rules, ℕ, sym, subst, Occurs, words_after, IsNextOfProtocol}
 use Rattle.ucl_words.proofs.InvariantIsKept.{opens, opened_occurs}
-use Rattle.ucl_words.proofs.BoardTheorems.{opens_fresh}
+use Rattle.ucl_live_board.proofs.LogFacts.{opens_fresh}
 use Rattle.ucl_words.proofs.board.WordBoard.open.Goals as goal
 
 pub of_words-requires : goal.of_words-requires
 of_words-requires g c = opens _ c.fresh_words.ensures
 
 pub returns-clause-rule : goal.returns-clause-rule
-returns-clause-rule g c = opens_fresh
+returns-clause-rule g c = opens_fresh words_after IsNextOfProtocol
 
 pub returns-in_err-table-clause-rule : goal.returns-in_err-table-clause-rule
-returns-in_err-table-clause-rule g c = opens_fresh
+returns-in_err-table-clause-rule g c = opens_fresh words_after IsNextOfProtocol
 
 pub returns-clause-opened : goal.returns-clause-opened
 returns-clause-opened g c =

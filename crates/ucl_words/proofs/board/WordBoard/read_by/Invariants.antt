@@ -1,4 +1,4 @@
-use Rattle.ucl_words.proofs.Common.{◌≡◌, ◌-◌, length, max_tries, known}
+use Rattle.ucl_words.proofs.Common.{history_of, ◌≡◌, ◌-◌, length, max_tries}
 use Rattle.ucl_words.proofs.CollectFacts.{Tried}
 use Rattle.ucl_words.proofs.ClientFacts.{Tries}
 use Rattle.ucl_words.proofs.board.WordBoard.read_by.Given as goal
@@ -7,10 +7,10 @@ abbrev pub invariant-tries : goal.invariant-tries
 invariant-tries l = record {
   same : l.seat.table_id ≡ l.fn.seat.table_id;
   place : l.seat.id ≡ l.fn.seat.id;
-  tried : Tried (known l.fn.seat.me.0) (known l.seat.me.0);
+  tried : Tried l.fn.seat.me.0 l.seat.me.0;
   does : Tries l.fn.seat.me.0 l.seat.me.0;
 }
 
 -- each try that is not clean has seen a longer history, and no history is longer than this
 abbrev pub decreases-tries : goal.decreases-tries
-decreases-tries l = max_tries - length (known l.seat.me.0).seen
+decreases-tries l = max_tries - length (history_of l.seat.me.0.log)

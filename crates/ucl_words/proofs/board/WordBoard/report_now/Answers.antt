@@ -1,6 +1,6 @@
-use Rattle.ucl_words.proofs.Common.{◌≡◌, ℕ, ◌<◌, ◌≤◌, ◌+◌, sym, ap, ◌∙◌, subst, arith, rules, refl, length, length-append, Ok, Err, Stale, Entry, Steps, record_at}
-use Rattle.ucl_words.proofs.Common.{max_version, room, pass_view_of, pass_of, known, IsHoldingFor, client_of}
-use Rattle.ucl_steps.specs.WordLog.{Match, Swap}
+use Rattle.ucl_words.proofs.Common.{added_by, number_of, ◌≡◌, ℕ, ◌<◌, ◌≤◌, ◌+◌, sym, ap, ◌∙◌, subst, arith, rules, refl, length, length-append, Ok, Err, Stale}
+use Rattle.ucl_words.proofs.Common.{Entry, Steps, record_at, max_version, room, pass_view_of, pass_of, IsHoldingFor, client_of}
+use Rattle.ucl_board.specs.Log.{Match, Swap}
 use Rattle.ucl_words.proofs.StepFacts.{found_word}
 use Rattle.ucl_words.proofs.WholeReports.{Reported, refused_report, holding_for, accepted_report, missed_report, was_reported}
 use Rattle.ucl_words.proofs.board.WordBoard.report_now.Goals as goal
@@ -11,7 +11,7 @@ next_word-requires c = found_word _ _ _ _ _ _ c.look-loaded.ensures.looks
 -- the rules refuse
 refused : (c : goal.After-from_residual) → Reported c.pass.inside.seat.me.0 c.args.call.now (Err c.in_err-next.field-0.0) c.look-loaded.new.seat.me.0
 refused c =
-    let me : (0 < c.pass.inside.number) × (c.pass.inside.number ≤ 255) × ((known c.pass.inside.seat.me.0).number ≡ c.pass.inside.number) = search (arith, c.pass.ranges) in
+    let me : (0 < c.pass.inside.number) × (c.pass.inside.number ≤ 255) × (number_of c.pass.inside.seat.me.0.own ≡ c.pass.inside.number) = search (arith, c.pass.ranges) in
     let said = c.look-loaded.ensures in
     refused_report c.pass.inside.seat.me.0 c.look-loaded.new.seat.me.0 c.args.call.now c.pass.inside.number c.look-loaded.result c.look-loaded.new.seat.id said.game me
     c.pass.invariant.0 c.pass.invariant.3 said.looks c.in_err-next.field-0.0 c.in_err-next.ensures.refused
@@ -31,7 +31,7 @@ returns-in_err-next c =
 
 pub swap-found-requires-clause-next : goal.swap-found-requires-clause-next
 swap-found-requires-clause-next c =
-    let me : (0 < c.pass.inside.number) × (c.pass.inside.number ≤ 255) × ((known c.pass.inside.seat.me.0).number ≡ c.pass.inside.number) = search (arith, c.pass.ranges) in
+    let me : (0 < c.pass.inside.number) × (c.pass.inside.number ≤ 255) × (number_of c.pass.inside.seat.me.0.own ≡ c.pass.inside.number) = search (arith, c.pass.ranges) in
     let said = c.look-loaded.ensures in
     let next = c.in_ok-next.ensures in
     subst (λ (e : Entry). IsHoldingFor (client_of c.look-loaded.new.seat.me.0.own).held e.game c.look-loaded.result c.in_ok-next.next) (sym c.of-entry.ensures)
@@ -42,7 +42,7 @@ swap-found-requires-clause-next c =
 won : (c : goal.Then-found-loaded) (number : ℕ) → number ≡ (record_at c.in_ok-next.next).number
     → Reported c.pass.inside.seat.me.0 c.args.call.now (Ok (record { number = number })) c.swap-found.new.seat.me.0
 won c number is =
-    let me : (0 < c.pass.inside.number) × (c.pass.inside.number ≤ 255) × ((known c.pass.inside.seat.me.0).number ≡ c.pass.inside.number) = search (arith, c.pass.ranges) in
+    let me : (0 < c.pass.inside.number) × (c.pass.inside.number ≤ 255) × (number_of c.pass.inside.seat.me.0.own ≡ c.pass.inside.number) = search (arith, c.pass.ranges) in
     let said = c.look-loaded.ensures in
     let next = c.in_ok-next.ensures in
     let step = subst (λ (e : Entry). Steps c.swap-found.new.seat.id
@@ -55,13 +55,13 @@ pub overflow_add-pass : goal.overflow_add-pass
 overflow_add-pass c =
     let by = won c (record_at c.in_ok-next.next).number refl in
     let r : c.pass.inside.accepted + 1 ≤ max_version =
-    room (pass_view_of (known c.pass.inside.seat.me.0)) (pass_view_of (known c.swap-found.new.seat.me.0)) c.args.call.now (Ok _) c.pass.inside.accepted by.accepted refl
+    room (pass_view_of c.pass.inside.seat.me.0) (pass_view_of c.swap-found.new.seat.me.0) c.args.call.now (Ok _) c.pass.inside.accepted by.accepted refl
     by.always.sound c.pass.invariant.2 in
     omega arith
 
 won_as : (c : goal.After-number_of) → Reported c.pass.inside.seat.me.0 c.args.call.now (Ok (record { number = c.number_of.result })) c.swap-found.new.seat.me.0
 won_as c =
-    let me : (0 < c.pass.inside.number) × (c.pass.inside.number ≤ 255) × ((known c.pass.inside.seat.me.0).number ≡ c.pass.inside.number) = search (arith, c.pass.ranges) in
+    let me : (0 < c.pass.inside.number) × (c.pass.inside.number ≤ 255) × (number_of c.pass.inside.seat.me.0.own ≡ c.pass.inside.number) = search (arith, c.pass.ranges) in
     let said = c.look-loaded.ensures in
     let next = c.in_ok-next.ensures in
     let step = subst (λ (e : Entry). Steps c.swap-found.new.seat.id
@@ -75,7 +75,7 @@ invariant_of-pass-then-found-loaded c =
     let by = won_as c in (
       by.consistent,
       by.always.number ∙ c.pass.invariant.1,
-      ap length by.accepted.mine ∙ (length-append (known c.pass.inside.seat.me.0).mine _ ∙ ap (λ (n : ℕ). n + 1) c.pass.invariant.2),
+      ap length by.accepted.mine ∙ (length-append (added_by c.pass.inside.seat.me.0.own) _ ∙ ap (λ (n : ℕ). n + 1) c.pass.invariant.2),
       by.answers.answers.held,
     )
 
@@ -90,7 +90,7 @@ returns-then-found-loaded c =
 -- or missed
 missed : (c : goal.After-number_of-else-found-loaded) → Reported c.pass.inside.seat.me.0 c.args.call.now (Err (Stale c.number_of-else-found-loaded.result)) c.swap-found.new.seat.me.0
 missed c =
-    let me : (0 < c.pass.inside.number) × (c.pass.inside.number ≤ 255) × ((known c.pass.inside.seat.me.0).number ≡ c.pass.inside.number) = search (arith, c.pass.ranges) in
+    let me : (0 < c.pass.inside.number) × (c.pass.inside.number ≤ 255) × (number_of c.pass.inside.seat.me.0.own ≡ c.pass.inside.number) = search (arith, c.pass.ranges) in
     let said = c.look-loaded.ensures in
     let next = c.in_ok-next.ensures in
     let step = subst (λ (e : Entry). Steps c.swap-found.new.seat.id

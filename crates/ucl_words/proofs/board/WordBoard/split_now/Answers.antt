@@ -1,11 +1,11 @@
-use Rattle.ucl_words.proofs.Common.{arith, rules, ◌≡◌, ap, refl, sym, subst, NoCall, WordView, IsConsistent, known, client_of, pass_of}
+use Rattle.ucl_words.proofs.Common.{number_of, arith, rules, ◌≡◌, ap, refl, sym, subst, NoCall, View, IsConsistent, client_of, pass_of}
 use Rattle.ucl_words.proofs.InvariantIsKept.{seconds}
-use Rattle.ucl_words.proofs.EnlistmentFacts.{kept_consistent, second_consistent}
+use Rattle.ucl_words.proofs.EnlistmentFacts.{left_consistent, second_consistent}
 use Rattle.ucl_words.proofs.WholeCalls.{was_split}
 use Rattle.ucl_words.proofs.board.WordBoard.split_now.Goals as goal
 
-abbrev IsReader : WordView → Type 0
-IsReader v = IsConsistent (known v) × ((known v).number ≡ 0) × ((client_of v.own).held ≡ NoCall)
+abbrev IsReader : View → Type 0
+IsReader v = IsConsistent v × (number_of v.own ≡ 0) × ((client_of v.own).held ≡ NoCall)
 
 pub split_seat-seat-requires : goal.split_seat-seat-requires
 split_seat-seat-requires c = (search rules, omega (arith, c.self.invariant.0), seconds c.pass.inside.seat.id c.pass.inside.seat.me.0)
@@ -15,7 +15,7 @@ invariant_of-result c = subst IsReader (sym (ap (λ m. m.0) c.split_seat-seat.en
 
 pub invariant_of-pass : goal.invariant_of-pass
 invariant_of-pass c = subst IsReader (sym (ap (λ m. m.0) c.split_seat-seat.ensures.2))
-    (kept_consistent c.pass.inside.seat.me.0 c.pass.invariant.0, c.pass.invariant.1, c.pass.invariant.2)
+    (left_consistent c.pass.inside.seat.me.0 c.pass.invariant.0, c.pass.invariant.1, c.pass.invariant.2)
 
 pub returns : goal.returns
 returns c =

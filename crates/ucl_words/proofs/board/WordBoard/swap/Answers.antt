@@ -1,5 +1,5 @@
 use Rattle.ucl_words.proofs.Common.{ℕ, sym, ◌∙◌, subst, arith, Steps}
-use Rattle.ucl_steps.specs.WordLog.{Match, Swap}
+use Rattle.ucl_board.specs.Log.{Match, Swap}
 use Rattle.ucl_words.proofs.InvariantIsKept.{swaps}
 use Rattle.ucl_words.proofs.board.WordBoard.swap.Goals as goal
 

@@ -1,0 +1,235 @@
+-- What a step on a shared board says of what its pass knows, whatever the board's words and its rule are.
+use Rattle.ucl_live_board.proofs.Common.{◌≡◌, ℕ, ◌+◌, ◌≤◌, List, ◌∷◌, ◌++◌, length, Option, Some, None, refl, sym, ap, ◌∙◌, subst, arith, [], append-nil}
+use Rattle.ucl_live_board.proofs.Common.{length-append, All, IsSome, IsPrefix, begins_through, nil_from_length, Entry, IsLegal, followed_by, Target, Match}
+use Rattle.ucl_live_board.proofs.Common.{Enlisted, Enlists, Taken, step_taken, logged_by, Log, taken_by, entry_list, added_by, number_of, number_by, history_of}
+use Rattle.ucl_live_board.proofs.Common.{enlists, enlisted_by, IsThere, IsLog, IsLegalRule, View, whole, IsSound, entries_by, pass_view_by, Takes, BoardStep}
+use Rattle.ucl_live_board.proofs.Common.{not, ◌==◌}
+use Rattle.std.proofs.lemmas.List.Filters.{length-filter_both}
+use Rattle.ucl_word.specs.Counts.{EachMay}
+use Rattle.ucl_word.proofs.Sequences.{may_next, may_last}
+use Rattle.ucl_board.specs.Log.{Whole, MayBeTaken, MayEnlist, IsLegalStep, HasLegalSteps, LogFacts}
+use Rattle.ucl_board.proofs.Logs.{history_more, history_on, enlisted_more, enlisted_on, taken_own, added_more, number_more}
+use Rattle.ucl_board.proofs.LogFacts.{log_facts, legal_history}
+use Rattle.ucl_live_board.proofs.Lists.{none_by_zero}
+use Rattle.ucl_live_board.proofs.Alone.{whole_is_alone}
+
+-- what each step leaves: a legal history, a log in which all stands first that the pass had known or been told, and the share by
+-- which it acts; with the whole board it is alone
+pub record Goes (v w : View) : Type 0 where
+  pub legal : IsLegal (history_of w.log)
+  pub log : IsPrefix v.log w.log
+  pub seen : IsPrefix (history_of v.log) (history_of w.log)
+  pub heard : All (λ (l : Log). IsPrefix l w.log) v.told
+  pub told : w.told ≡ []
+  pub own : added_by w.own ≡ entries_by (number_of w.own) (history_of w.log)
+  pub few : enlisted_by w.log ≤ 255
+  pub listed : enlisted_by v.log ≤ enlisted_by w.log
+  pub share : w.share ≡ v.share
+  pub acts : IsSome w.share
+  pub alone : w.share ≡ whole → (history_of w.log ≡ added_by w.own) × (enlisted_by w.log ≤ number_of w.own) × (number_of w.own ≤ 1)
+
+pub sound : (shown : List Taken → List ℕ) (v w : View) → Goes v w → IsSound (pass_view_by shown w)
+sound shown v w goes = record {
+  legal = goes.legal;
+  own = goes.own;
+  few = goes.few;
+  acts = goes.acts;
+  alone = λ is. let a = goes.alone is in record { seen = a.0; listed = a.1; one = a.2 };
+}
+
+-- a step that added no entry and gave no number: what it looked at is there afterwards too
+pub record Sees (target : Target) (v w : View) : Type 0 where
+  pub goes : Goes v w
+  pub place : ℕ
+  pub takes : Takes v (step_taken target place (length (history_of w.log)) None ∷ []) w
+  pub there : IsThere w.log target
+  pub mine : added_by w.own ≡ added_by v.own
+  pub number : number_of w.own ≡ number_of v.own
+
+-- a step that added this entry: it is the last that the pass has seen, after this log
+pub record Adds (target : Target) (e : Entry) (v w : View) : Type 0 where
+  pub before : Log
+  pub last : history_of w.log ≡ followed_by (history_of before) e
+  pub since : IsPrefix (history_of v.log) (history_of before)
+  pub goes : Goes v w
+  pub there : IsThere before target
+  pub place : ℕ
+  pub takes : Takes v (step_taken target place (length (history_of before)) (Some e) ∷ []) w
+  pub mine : added_by w.own ≡ followed_by (added_by v.own) e
+  pub number : number_of w.own ≡ number_of v.own
+
+-- an enlistment, where so many were enlisted: the pass is a reporter's, with the number after it
+pub record GivesNumber (found : ℕ) (v w : View) : Type 0 where
+  pub goes : Goes v w
+  pub place : ℕ
+  pub takes : Takes v (step_taken (Enlists found) place (length (history_of w.log)) None ∷ []) w
+  pub above : enlisted_by v.log ≤ found
+  pub listed : enlisted_by w.log ≡ found + 1
+  pub number : number_of w.own ≡ found + 1
+  pub mine : added_by w.own ≡ []
+
+-- a beginning with as many entries of one reporter as there are entries after it is all
+all_seen : (n : ℕ) (h p : List Entry) → IsPrefix h p → entries_by n h ≡ p → h ≡ p
+all_seen n h p b is =
+    let d = length-filter_both (λ (e : Entry). e.reporter == n) (λ (e : Entry). not (e.reporter == n)) (λ _. refl) h in
+    let o = ap length is in
+    let l = ap length (sym b.1) ∙ length-append h b.0 in
+    sym (append-nil h) ∙ (ap (λ (x : List Entry). h ++ x) (sym (nil_from_length b.0 (omega arith))) ∙ b.1)
+
+keeps_number : (t : Target) (n : ℕ) → length (enlists t) ≡ 0 → number_by t n ≡ n
+keeps_number (Match kind game found) n none = refl
+keeps_number (Enlisted found) n none = refl
+keeps_number (Enlists found) n none = absurd (omega arith)
+keeps_number (Whole shown) n none = refl
+
+there_on : (a b : Log) (t : Target) → history_of a ≡ history_of b → enlisted_by a ≡ enlisted_by b → length (enlists t) ≡ 0 → IsThere a t → IsThere b t
+there_on a b (Match kind game found) history count none there =
+    subst (λ (h : List Entry). Rattle.ucl_board.specs.Fixtures.IsMatch game × (found ≡ Rattle.ucl_word.specs.Layout.word_of (Rattle.ucl_board.specs.History.match_after h game))) history there
+there_on a b (Enlisted found) history count none there = there ∙ count
+there_on a b (Enlists found) history count none there = absurd (omega arith)
+there_on a b (Whole shown) history count none there = tt
+
+module _ (words_after : List Entry → ℕ → List ℕ) (May : Log → Rattle.ucl_board.specs.Log.Logged → Type 0) (seat : ℕ) (target : Target) (v w : View)
+    (s : BoardStep words_after May seat target v w) where
+  pub log_is : w.log ≡ s.before ++ logged_by seat s.step ∷ []
+  log_is = ap (λ (z : View). z.log) s.is
+
+  pub own_is : w.own ≡ v.own ++ s.step ∷ []
+  own_is = ap (λ (z : View). z.own) s.is
+
+  before_on : IsPrefix s.before w.log
+  before_on = subst (IsPrefix s.before) (sym log_is) (logged_by seat s.step ∷ [], refl)
+
+  pub since : IsPrefix v.log w.log
+  since = begins_through v.log s.before w.log s.since before_on
+
+  pub takes : Takes v (s.step ∷ []) w
+  takes = record { own = own_is; copied = ap (λ (z : View). z.copied) s.is }
+
+  pub one_more : (x : Taken) × Takes v (x ∷ []) w
+  one_more = (s.step, takes)
+
+  pub log_long : length w.log ≡ s.step.place + 1
+  log_long = let place = s.may.place.0 in let l = ap length log_is ∙ length-append s.before (logged_by seat s.step ∷ []) in omega arith
+
+  pub first_later : length v.log ≤ s.step.place
+  first_later = let place = s.may.place.0 in let p = ap length (s.since).1 ∙ refl in let l = length-append v.log s.since.0 in omega arith
+
+  pub count_is : enlisted_by w.log ≡ enlisted_by s.before + length (enlists target)
+  count_is = ap enlisted_by log_is ∙ (enlisted_more s.before (logged_by seat s.step) ∙ ap (λ (t : Target). enlisted_by s.before + length (enlists t)) s.of)
+
+  number_is : number_of w.own ≡ number_by target (number_of v.own)
+  number_is = ap number_of own_is ∙ (number_more v.own s.step ∙ ap (λ (t : Target). number_by t (number_of v.own)) s.of)
+
+  pub history_is : history_of w.log ≡ history_of s.before ++ entry_list s.step.entry
+  history_is = ap history_of log_is ∙ history_more s.before (logged_by seat s.step)
+
+  pub there_before : IsThere s.before target
+  there_before = subst (IsThere s.before) s.of s.may.there
+
+  module _ (legal : IsLegalRule May) where
+    is_log : IsLog w.log
+    is_log = subst IsLog (sym log_is) (may_next MayBeTaken s.before (logged_by seat s.step) s.is_log s.may)
+
+    legal_steps : HasLegalSteps w.log
+    legal_steps = legal w.log is_log (subst (EachMay May) (sym log_is) (may_next May s.before (logged_by seat s.step) s.follows s.next))
+
+    facts : LogFacts w.log
+    facts = log_facts w.log is_log legal_steps
+
+    own_taken : w.own ≡ taken_by seat w.log
+    own_taken = own_is ∙ (ap (λ (l : List Taken). l ++ s.step ∷ []) s.own ∙ (sym (taken_own seat s.before s.step) ∙ ap (taken_by seat) (sym log_is)))
+
+    mine_is : added_by w.own ≡ entries_by (number_of w.own) (history_of w.log)
+    mine_is = ap added_by own_taken ∙ (facts.mine seat ∙ ap (λ (l : List Taken). entries_by (number_of l) (history_of w.log)) (sym own_taken))
+
+    -- alone with the whole board
+    alone : w.share ≡ whole → (history_of w.log ≡ added_by w.own) × (enlisted_by w.log ≤ number_of w.own) × (number_of w.own ≤ 1)
+    alone is =
+        let o = s.occurs in
+        let did = whole_is_alone words_after May legal o.words o.views o.rule seat w o.here is in
+        let knows = (o.rule.fits seat w o.here).knows in
+        let seen = all_seen (number_of w.own) (history_of w.log) (history_of o.rule.log) (history_on w.log o.rule.log knows) (sym mine_is ∙ did.mine) in
+        let listed = enlisted_on w.log o.rule.log knows in
+        let number = did.number in
+        let one = did.one in
+        (seen ∙ sym did.mine, omega arith, omega arith)
+
+    pub goes : Goes v w
+    goes = record {
+      legal = legal_history w.log legal_steps;
+      log = since;
+      seen = history_on v.log w.log since;
+      heard = λ k l at. begins_through _ s.before w.log (s.heard k l at) before_on;
+      told = ap (λ (z : View). z.told) s.is;
+      own = mine_is;
+      few = facts.few;
+      listed = enlisted_on v.log w.log since;
+      share = ap (λ (z : View). z.share) s.is;
+      acts = subst IsSome (sym (ap (λ (z : View). z.share) s.is)) s.acts;
+      alone = alone;
+    }
+
+    -- a step that added no entry
+    module _ (none : s.step.entry ≡ None) where
+      pub same_history : history_of w.log ≡ history_of s.before
+      same_history = history_is ∙ (ap (λ (o : Option Entry). history_of s.before ++ entry_list o) none ∙ append-nil (history_of s.before))
+
+      pub at_is : s.step.at ≡ length (history_of w.log)
+      at_is = s.may.place.1 ∙ ap length (sym same_history)
+
+      takes_none : Takes v (step_taken target s.step.place (length (history_of w.log)) None ∷ []) w
+      takes_none = subst (λ (t : Taken). Takes v (t ∷ []) w) (λ i. step_taken (s.of i) s.step.place (at_is i) (none i)) takes
+
+      mine_same : added_by w.own ≡ added_by v.own
+      mine_same = ap added_by own_is ∙ (added_more v.own s.step ∙ (ap (λ (o : Option Entry). added_by v.own ++ entry_list o) none ∙ append-nil (added_by v.own)))
+
+      pub sees : length (enlists target) ≡ 0 → Sees target v w
+      sees few = record {
+        goes = goes;
+        place = s.step.place;
+        takes = takes_none;
+        there = there_on s.before w.log target (sym same_history) (let c = count_is in omega arith) few there_before;
+        mine = mine_same;
+        number = number_is ∙ keeps_number target (number_of v.own) few;
+      }
+
+    -- a step that added one
+    pub adds : (e : Entry) → s.step.entry ≡ Some e → length (enlists target) ≡ 0 → Adds target e v w
+    adds e is few = record {
+      before = s.before;
+      last = history_is ∙ ap (λ (o : Option Entry). history_of s.before ++ entry_list o) is;
+      since = history_on v.log s.before s.since;
+      goes = goes;
+      there = there_before;
+      place = s.step.place;
+      takes = subst (λ (t : Taken). Takes v (t ∷ []) w) (λ i. step_taken (s.of i) s.step.place (s.may.place.1 i) (is i)) takes;
+      mine = ap added_by own_is ∙ (added_more v.own s.step ∙ ap (λ (o : Option Entry). added_by v.own ++ entry_list o) is);
+      number = number_is ∙ keeps_number target (number_of v.own) few;
+    }
+
+    enlists_legally : MayEnlist (number_of (taken_by seat s.before)) target s.step.entry
+    enlists_legally = subst (λ (t : Target). MayEnlist (number_of (taken_by seat s.before)) t s.step.entry) s.of
+        (may_last IsLegalStep s.before (logged_by seat s.step) (subst HasLegalSteps log_is legal_steps)).enlists
+
+-- an enlistment
+pub enlisted : (words_after : List Entry → ℕ → List ℕ) (May : Log → Rattle.ucl_board.specs.Log.Logged → Type 0) (seat found : ℕ) (v w : View)
+    (s : BoardStep words_after May seat (Enlists found) v w) → IsLegalRule May → GivesNumber found v w
+enlisted words_after May seat found v w s legal =
+    let may = enlists_legally words_after May seat (Enlists found) v w s legal in
+    let there = there_before words_after May seat (Enlists found) v w s in
+    let found_is = there.0 in
+    let count = count_is words_after May seat (Enlists found) v w s in
+    let low = enlisted_on v.log s.before s.since in
+    let steps = legal s.before s.is_log s.follows in
+    let none : added_by v.own ≡ [] = ap added_by s.own ∙ ((log_facts s.before s.is_log steps).mine seat
+    ∙ (ap (λ (k : ℕ). entries_by k (history_of s.before)) may.0 ∙ none_by_zero (history_of s.before) (legal_history s.before steps))) in
+    record {
+      goes = goes words_after May seat (Enlists found) v w s legal;
+      place = s.step.place;
+      takes = takes_none words_after May seat (Enlists found) v w s legal may.1;
+      above = omega arith;
+      listed = omega arith;
+      number = number_is words_after May seat (Enlists found) v w s;
+      mine = mine_same words_after May seat (Enlists found) v w s legal may.1 ∙ none;
+    }
