@@ -98,7 +98,7 @@ pub(crate) fn group_of(matches: &ArgMatches<'_>) -> Option<u8>
 
 /// Returns the order that was named.
 pub(crate) fn order_of(matches: &ArgMatches<'_>) -> Option<Profile> {
-    Profile::from_name(matches.get_str("order")?)
+    Profile::from_name(matches.get_str("order")?.as_bytes())
 }
 
 /// Returns the form that was named.

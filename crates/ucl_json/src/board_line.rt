@@ -44,7 +44,7 @@ fn group_in(value: &Value) -> Option<u8>
 fn order_in(value: &Value) -> Option<Profile>
     ensures { result ≡ parse_order (view value.now) }
 {
-    Profile::from_name(text_in(value, "order")?)
+    Profile::from_name(text_in(value, "order")?.as_bytes())
 }
 
 /// Returns an edition.

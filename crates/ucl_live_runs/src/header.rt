@@ -1,7 +1,6 @@
 //! The header of a board: its group, its order and its edition.
 
 ghost use Rattle.std.specs.Prelude.{◌≡◌, IfSome, ◌&&◌};
-ghost use Rattle.ucl_order.specs.Names.{profile_named};
 ghost use Rattle.ucl_screen.specs.Rows.{four_seen};
 ghost use Rattle.ucl_screen.specs.Screen.{IsGroup};
 ghost use Rattle.ucl_rows.specs.Rows.{Row, fields_seen};
@@ -14,26 +13,13 @@ use ucl_order::Profile;
 use ucl_rows::RowFields;
 use ucl_screen::{Four, expected_of_field, letter_in};
 
-/// Returns the order that a field names.
-fn order_in(text: &[u8]) -> Option<Profile>
-    ensures { result ≡ profile_named text.now }
-{
-    if text == Profile::Uefa.name().as_bytes() {
-        Some(Profile::Uefa)
-    } else if text == Profile::AwayInTie.name().as_bytes() {
-        Some(Profile::AwayInTie)
-    } else {
-        None
-    }
-}
-
 /// Returns the header that the fields of a row of a group name.
 fn header_by(four: &Four<'_>) -> Option<BoardHeader>
     ensures told { result ≡ header_by (four_seen four.now) }
     ensures letter { IfSome result (λ header. IsGroup header.group) }
 {
     let group = letter_in(four.second)?;
-    let profile = order_in(four.third)?;
+    let profile = Profile::from_name(four.third)?;
     // It has the size of the number that is expected of a match.
     let edition = expected_of_field(four.fourth)?;
     Some(BoardHeader {

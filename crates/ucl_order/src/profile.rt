@@ -42,13 +42,15 @@ impl Profile {
     }
 
     /// Returns the order with this name, if there is one.
-    pub fn from_name(name: &str) -> Option<Profile>
+    pub fn from_name(name: &[u8]) -> Option<Profile>
         ensures { result ≡ profile_named name.now }
     {
-        match name {
-            UEFA => Some(Profile::Uefa),
-            AWAY_IN_TIE => Some(Profile::AwayInTie),
-            _ => None,
+        if name == UEFA.as_bytes() {
+            Some(Profile::Uefa)
+        } else if name == AWAY_IN_TIE.as_bytes() {
+            Some(Profile::AwayInTie)
+        } else {
+            None
         }
     }
 }
