@@ -1,7 +1,7 @@
 -- Boards and rosters of inputs with no fault, and tables by coefficients.
 use Rattle.std.proofs.Common.{◌≡◌, ℕ, ◌+◌, ◌-◌, ◌==◌, Bool, true, false, List, [], ◌∷◌, length, map, get_or, Option, Some, None, refl, ap, subst, arith, All, inl}
 use Rattle.std.proofs.Common.{inr}
-use Rattle.std.specs.Prelude.{Result, Ok, Err}
+use Rattle.std.specs.Prelude.{Result, Ok, Err, option_map}
 use Rattle.std.proofs.lemmas.Bool.{cases_Bool}
 use Rattle.std.proofs.lemmas.Bool.Decides.{nat_tests}
 use Rattle.std.proofs.lemmas.List.Elements.{All-cons, All-from_get_or, All-nil}
@@ -11,12 +11,14 @@ use Rattle.ucl_board.specs.Words.{AreReadAs, AreWords, IsFirstBad}
 use Rattle.ucl_order.specs.declared.profile.Profile.{Profile}
 use Rattle.ucl_order.specs.Names.{profile_with}
 use Rattle.ucl_order.specs.Roster.{NamedClub, IsClub, IsRoster, bad_slot, bad_slot_from, coefficients_in, is_club}
+use Rattle.ucl_order.specs.Rows.{rows_of}
 use Rattle.ucl_order.proofs.Coefficients.{table-same}
+use Rattle.ucl_c.specs.declared.table.RowOfC.{RowOfC}
 use Rattle.ucl_screen.specs.WordsRead.{read_words}
 use Rattle.ucl_screen.proofs.ReadWords.{are-read, first-bad}
-use Rattle.ucl_c.specs.declared.fault.Fault.TheVariants.{BadWord, NotFour}
-use Rattle.ucl_c.specs.Faults.{club_with, fault_of_clubs, fault_of_words, fault_unless, first_fault, fault_of_slot}
-use Rattle.ucl_c.specs.Tables.{row_seen, table_by, table_shown}
+use Rattle.ucl_c.specs.declared.fault.Fault.TheVariants.{BadRoster, BadWord, NotFour}
+use Rattle.ucl_c.specs.Faults.{club_with, fault_of_clubs, fault_of_words, fault_unless, first_fault}
+use Rattle.ucl_c.specs.Tables.{row_seen, shown_with, table_shown}
 
 pub board-read : (words twelve board : List ℕ) → length words ≡ 12 → twelve ≡ words → AreReadAs twelve board → (read_words 1 words ≡ Ok board) × (fault_of_words words ≡ None)
 board-read words twelve board long same read =
@@ -44,7 +46,7 @@ all-good slot (club ∷ clubs) none = elim (cases_Bool (is_club club)) [
   | inr bad ↦ absurd (let e = rw bad at none in grind (arith, e))
 ]
 
-parts : (b : Bool) (slot : Option ℕ) → first_fault (fault_unless b NotFour ∷ fault_of_slot slot ∷ []) ≡ None → (b ≡ true) × (slot ≡ None)
+parts : (b : Bool) (slot : Option ℕ) → first_fault (fault_unless b NotFour ∷ option_map BadRoster slot ∷ []) ≡ None → (b ≡ true) × (slot ≡ None)
 parts true None e = (refl, refl)
 parts true (Some slot) e = absurd (grind (arith, e))
 parts false slot e = absurd (grind (arith, e))
@@ -60,11 +62,12 @@ coefficients-with [] = refl
 coefficients-with (coefficient ∷ coefficients) = ap (λ (later : List ℕ). coefficient ∷ later) (coefficients-with coefficients)
 
 -- the table goes by the coefficients of the clubs
+abbrev table_of : List NamedClub → Profile → List ℕ → List RowOfC
+table_of clubs profile board = map row_seen (rows_of profile board clubs)
+
 pub table-any : (code : ℕ) (words : List ℕ) (one other : List NamedClub) → coefficients_in one ≡ coefficients_in other → table_shown code words one ≡ table_shown code words other
 table-any code words one other same = by (profile_with code) (read_words 1 words)
   where
-    by : (profile : Option Profile) (read : Result (List ℕ) ℕ) → table_by profile read one ≡ table_by profile read other
+    by : (profile : Option Profile) (read : Result (List ℕ) ℕ) → shown_with profile read (table_of one) ≡ shown_with profile read (table_of other)
     by (Some profile) (Ok board) = ap (map row_seen) (table-same profile board one other same)
-    by (Some profile) (Err index) = refl
-    by None (Ok board) = refl
-    by None (Err index) = refl
+    by _ _ = refl

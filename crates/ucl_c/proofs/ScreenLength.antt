@@ -1,10 +1,10 @@
 -- How long a screen is at most.
-use Rattle.std.proofs.Common.{◌≡◌, ℕ, zero, suc, ◌+◌, ◌-◌, ◌*◌, ◌<◌, ◌≤◌, List, [], ◌∷◌, ◌++◌, length, replicate, codes, All, Bool, true, false, ◌&&◌, nat_le, arith}
+use Rattle.std.proofs.Common.{◌≡◌, ℕ, zero, suc, ◌+◌, ◌-◌, ◌*◌, ◌<◌, ◌≤◌, List, [], ◌∷◌, ◌++◌, length, replicate, All, Bool, true, false, ◌&&◌, nat_le, arith}
 use Rattle.std.proofs.Common.{length-append, ◌≢◌, ◌/◌, ◌%◌, ◌^◌, ◌==◌, pos, negsuc, ◌-ℤ◌, cond, ltb, refl, inl, inr, append-nil}
 use Rattle.std.specs.Prelude.{decimal, flat_map, nat_lt}
 use Rattle.std.specs.List.{sum_by, list_all}
 use Rattle.std.proofs.lemmas.Bool.Decides.{nat_tests}
-use Rattle.std.proofs.lemmas.List.Elements.{All-get_or, All-head, All-tail}
+use Rattle.std.proofs.lemmas.List.Elements.{All-cons, All-get_or, All-head, All-nil, All-tail}
 use Rattle.ucl_board.specs.Fixtures.{IsSlot}
 use Rattle.std.proofs.lemmas.List.{length-replicate}
 use Rattle.std.proofs.lemmas.List.Concat.{length-flat_map}
@@ -24,7 +24,7 @@ use Rattle.ucl_screen.specs.Screen.{columns, in_play, row_line, screen_text, IsG
 use Rattle.ucl_screen.proofs.Columns.{lines_wide}
 use Rattle.std.specs.Fmt.{char_count, digit_glyph, digits, digits_onto, padded_integral}
 use Rattle.std.proofs.Math.Nat.{pow-suc}
-use Rattle.std.proofs.lemmas.Bool.{cases_Bool}
+use Rattle.std.proofs.lemmas.Bool.{and_parts, cases_Bool}
 use Rattle.std.specs.Str.Parse.{AllDigits}
 use Rattle.json.specs.Print.{escape, escape_byte, escape_letter, quoted}
 use Rattle.serde_json.specs.Data.{Data, null, boolean, number, string, array, object, Items, no_items, item, Members, no_members, member}
@@ -53,9 +53,6 @@ in_play_low board twelve =
     let most = count_by-le-length (λ word. is_in_play (record_at word).state) board in
     omega arith
 
-seven : (a b c d e f g : List ℕ) → length (a ++ b ++ c ++ d ++ e ++ f ++ g) ≡ length a + length b + length c + length d + length e + length f + length g
-seven a b c d e f g = simp length-append
-
 five_digits : (n : ℕ) → n < 100000 → length (zeros_before 5 n) ≡ 5
 five_digits n low =
     let short = length-decimal-le 5 n (omega arith) (omega arith) (omega arith) in
@@ -64,40 +61,57 @@ five_digits n low =
 header_short : (group version playing : ℕ) → version < 100000 → playing < 100 → length (header group version playing) ≤ 26
 unfolding header
 header_short group version playing low few =
-    let sum = seven (codes "GROUP ") (group ∷ []) (codes " v") (zeros_before 5 version) (codes " IN PLAY ") (decimal playing) (codes "\n") in
-    let five = five_digits version low in
+    let five = simp length-append at (five_digits version low) in
     let two = length-decimal-le 2 playing (omega arith) (omega arith) (omega arith) in
-    omega arith
+    simp length-append (omega arith)
 
-pub both : (a b : Bool) → (a && b) ≡ true → (a ≡ true) × (b ≡ true)
-both true true h = (h, h)
-both true false h = absurd cc
-both false b h = absurd cc
+-- what a roster has in a slot
+record GoodClub (roster : List NamedClub) (slot : ℕ) : Type 0 where
+  short : length (name_of roster slot) ≤ 20
+  printed : list_all is_printed (name_of roster slot) ≡ true
+  low : coefficient_of roster slot ≤ 999999
 
-pub name_short : (roster : List NamedClub) (slot : ℕ) → IsRoster roster → IsSlot slot → length (name_of roster slot) ≤ 20
+good_club : (roster : List NamedClub) (slot : ℕ) → IsRoster roster → IsSlot slot → GoodClub roster slot
 unfolding is_club
-name_short roster slot is place =
+good_club roster slot is place =
     let four : length roster ≡ 4 = is.four in
     let name : List ℕ = name_of roster slot in
     let good : IsClub (club_in roster slot) = All-get_or IsClub roster (slot - 1) (record { name = []; coefficient = 0 }) (omega arith) is.each in
-    let named : is_name name ≡ true = (both (is_name name) (nat_le (club_in roster slot).coefficient 999999) good).0 in
-    let sized = (both (nat_le 1 (length name) && nat_le (length name) 20) (list_all is_printed name) named).0 in
-    let short : nat_le (length name) 20 ≡ true = (both (nat_le 1 (length name)) (nat_le (length name) 20) sized).1 in
-    grind (arith, nat_tests)
+    let parts = and_parts (is_name name) (nat_le (coefficient_of roster slot) 999999) good in
+    let named = and_parts (nat_le 1 (length name) && nat_le (length name) 20) (list_all is_printed name) parts.0 in
+    let few = (and_parts (nat_le 1 (length name)) (nat_le (length name) 20) named.0).1 in
+    let low = parts.1 in
+    record { short = grind (arith, nat_tests, few); printed = named.1; low = grind (arith, nat_tests, low) }
 
 row_short : (roster : List NamedClub) (row : Row) → IsRoster roster → IsWithinTable row → row.place ≤ 4 → length (row_line roster row) ≤ 54
 row_short roster row is within place =
-    let wide = lines_wide.places row (name_of roster row.slot) within place (name_short roster row.slot is within.slot) in
+    let wide = lines_wide.places row (name_of roster row.slot) within place (good_club roster row.slot is within.slot).short in
     omega arith
 
 module _ (profile : Profile) (board : List ℕ) (roster : List NamedClub) (words : AreWords board) (is : IsRoster roster) where
-  rows_short : All (λ row. length (row_line roster row) ≤ 54) (rows_of profile board roster)
+  abbrev row : ℕ → Row
+  row place = row_of profile board roster place
+
+  pub within : (place : ℕ) → 1 ≤ place → place ≤ 4 → IsWithinTable (row place)
+  within zero low high = absurd (omega arith)
+  within (suc zero) low high = rows_within profile board roster (words_valid board words) 0 (row 1) (omega arith)
+  within (suc (suc zero)) low high = rows_within profile board roster (words_valid board words) 1 (row 1) (omega arith)
+  within (suc (suc (suc zero))) low high = rows_within profile board roster (words_valid board words) 2 (row 1) (omega arith)
+  within (suc (suc (suc (suc zero)))) low high = rows_within profile board roster (words_valid board words) 3 (row 1) (omega arith)
+  within (suc (suc (suc (suc (suc n))))) low high = absurd (omega arith)
+
+  row_fits : (place : ℕ) → 1 ≤ place → place ≤ 4 → length (row_line roster (row place)) ≤ 54
   unfolding row_of
-  rows_short zero d h = row_short roster (row_of profile board roster 1) is (rows_within profile board roster (words_valid board words) zero d h) (omega arith)
-  rows_short (suc zero) d h = row_short roster (row_of profile board roster 2) is (rows_within profile board roster (words_valid board words) 1 d h) (omega arith)
-  rows_short (suc (suc zero)) d h = row_short roster (row_of profile board roster 3) is (rows_within profile board roster (words_valid board words) 2 d h) (omega arith)
-  rows_short (suc (suc (suc zero))) d h = row_short roster (row_of profile board roster 4) is (rows_within profile board roster (words_valid board words) 3 d h) (omega arith)
-  rows_short (suc (suc (suc (suc n)))) d h = absurd (omega arith)
+  row_fits place low high = row_short roster (row place) is (within place low high) high
+
+  abbrev Fits : Row → Type 0
+  Fits r = length (row_line roster r) ≤ 54
+
+  rows_short : All Fits (rows_of profile board roster)
+  rows_short =
+      All-cons Fits (row 1) (row 2 ∷ row 3 ∷ row 4 ∷ []) (row_fits 1 (omega arith) (omega arith))
+      (All-cons Fits (row 2) (row 3 ∷ row 4 ∷ []) (row_fits 2 (omega arith) (omega arith))
+      (All-cons Fits (row 3) (row 4 ∷ []) (row_fits 3 (omega arith) (omega arith)) (All-cons Fits (row 4) [] (row_fits 4 (omega arith) (omega arith)) (All-nil Fits))))
 
   pub screen_short : (group : ℕ) → length (screen_text profile board roster group) ≤ 296
   unfolding screen_text
@@ -193,7 +207,7 @@ printed_byte x h = elim (cases_Bool (nat_lt 0 (escape_letter x))) [
 printed_escape : (s : List ℕ) → list_all is_printed s ≡ true → length (escape s) ≤ 2 * length s
 printed_escape [] h = omega arith
 printed_escape (x ∷ s) h =
-    let parts = both (is_printed x) (list_all is_printed s) h in
+    let parts = and_parts (is_printed x) (list_all is_printed s) h in
     let whole = length-append (escape_byte x) (escape s) in
     let one = printed_byte x parts.0 in
     let rest = printed_escape s parts.1 in
@@ -207,23 +221,12 @@ printed_quoted s h =
 
 -- ---- digits
 
-not_equal : (x y : ℕ) → x ≢ y → (x == y) ≡ false
-not_equal x y h = grind (arith, nat_tests)
-
 pub plain_byte : (x : ℕ) → 48 ≤ x → x ≢ 92 → length (escape_byte x) ≡ 1
 unfolding escape_byte
 plain_byte x high other =
     let above : nat_lt x 32 ≡ false = grind (arith, nat_tests) in
-    rw (
-      not_equal x 34 (λ e. omega arith),
-      not_equal x 92 other,
-      not_equal x 8 (λ e. omega arith),
-      not_equal x 12 (λ e. omega arith),
-      not_equal x 10 (λ e. omega arith),
-      not_equal x 13 (λ e. omega arith),
-      not_equal x 9 (λ e. omega arith),
-      above,
-    ) refl
+    let not : (y : ℕ) → x ≢ y → (x == y) ≡ false = λ y h. grind (arith, nat_tests) in
+    rw (not 34 (λ e. omega arith), not 92 other, not 8 (λ e. omega arith), not 12 (λ e. omega arith), not 10 (λ e. omega arith), not 13 (λ e. omega arith), not 9 (λ e. omega arith), above) refl
 
 plain_escape : (s : List ℕ) → AllDigits 16 s → length (escape s) ≡ length s
 plain_escape [] h = refl
@@ -276,35 +279,17 @@ hex_quoted n small =
 
 -- ---- how long the line of a screen in JSON is at most
 
--- the club of a slot, as a roster takes it in
-club_good : (roster : List NamedClub) (slot : ℕ) → IsRoster roster → IsSlot slot → IsClub (club_in roster slot)
-club_good roster slot is place =
-    let four : length roster ≡ 4 = is.four in
-    All-get_or IsClub roster (slot - 1) (record { name = []; coefficient = 0 }) (omega arith) is.each
-
 name_quoted : (roster : List NamedClub) (slot : ℕ) → IsRoster roster → IsSlot slot → length (quoted (name_of roster slot)) ≤ 42
-unfolding is_club
 name_quoted roster slot is place =
-    let name : List ℕ = name_of roster slot in
-    let good : IsClub (club_in roster slot) = club_good roster slot is place in
-    let named : is_name name ≡ true = (both (is_name name) (nat_le (club_in roster slot).coefficient 999999) good).0 in
-    let printed = (both (nat_le 1 (length name) && nat_le (length name) 20) (list_all is_printed name) named).1 in
-    let long = printed_quoted name printed in
-    let few = name_short roster slot is place in
-    omega arith
-
-coefficient_low : (roster : List NamedClub) (slot : ℕ) → IsRoster roster → IsSlot slot → coefficient_of roster slot ≤ 999999
-unfolding is_club
-coefficient_low roster slot is place =
-    let good : IsClub (club_in roster slot) = club_good roster slot is place in
-    let low = (both (is_name (name_of roster slot)) (nat_le (coefficient_of roster slot) 999999) good).1 in
-    grind (arith, nat_tests, low)
+    let club = good_club roster slot is place in
+    let long = printed_quoted (name_of roster slot) club.printed in
+    let few = club.short in omega arith
 
 club_size : (roster : List NamedClub) (slot : ℕ) → IsRoster roster → IsSlot slot → size (club_value roster slot) ≤ 72
 unfolding escape_byte
 club_size roster slot is place =
     let name = name_quoted roster slot is place in
-    let low = coefficient_low roster slot is place in
+    let low = (good_club roster slot is place).low in
     let worth = length-decimal-le 6 (coefficient_of roster slot) (omega arith) (omega arith) (omega arith) in
     omega arith
 
@@ -363,23 +348,6 @@ group_quoted group is =
     let ends = length-append (escape (group ∷ [])) (34 ∷ []) in
     omega arith
 
-module _ (profile : Profile) (board : List ℕ) (roster : List NamedClub) (words : AreWords board) (is : IsRoster roster) where
-  first : size (place_value roster (row_of profile board roster 1)) ≤ 190
-  unfolding row_of
-  first = place_size roster (row_of profile board roster 1) is (rows_within profile board roster (words_valid board words) 0 (row_of profile board roster 1) (omega arith)) (omega arith)
-
-  second : size (place_value roster (row_of profile board roster 2)) ≤ 190
-  unfolding row_of
-  second = place_size roster (row_of profile board roster 2) is (rows_within profile board roster (words_valid board words) 1 (row_of profile board roster 2) (omega arith)) (omega arith)
-
-  third : size (place_value roster (row_of profile board roster 3)) ≤ 190
-  unfolding row_of
-  third = place_size roster (row_of profile board roster 3) is (rows_within profile board roster (words_valid board words) 2 (row_of profile board roster 3) (omega arith)) (omega arith)
-
-  fourth : size (place_value roster (row_of profile board roster 4)) ≤ 190
-  unfolding row_of
-  fourth = place_size roster (row_of profile board roster 4) is (rows_within profile board roster (words_valid board words) 3 (row_of profile board roster 4) (omega arith)) (omega arith)
-
 table_size : (roster : List NamedClub) (a b c d : Row) → size (place_value roster a) ≤ 190 → size (place_value roster b) ≤ 190 → size (place_value roster c) ≤ 190 → size (place_value roster d) ≤ 190
     → items_size false (place_items roster (a ∷ b ∷ c ∷ d ∷ [])) ≤ 764
 table_size roster a b c d one two three four = omega arith
@@ -394,7 +362,7 @@ clubs_size roster is =
 
 screen_size : (row : ℕ) (profile : Profile) (board : List ℕ) (roster : List NamedClub) (group : ℕ) → row < 2 ^ 64 → AreWords board → IsRoster roster → IsGroup group
     → size (screen_value row profile board roster group) ≤ 1422
-unfolding screen_value escape_byte
+unfolding screen_value escape_byte row_of
 screen_size row profile board roster group fits words is letter =
     let twelve : length board ≡ 12 = words.twelve in
     let clubs = clubs_size roster is in
@@ -403,8 +371,11 @@ screen_size row profile board roster group fits words is letter =
     let playing = length-decimal-le 2 (in_play board) (omega arith) (omega arith) (omega arith) in
     let ordered = order_quoted profile in
     let answered = length-decimal-le 20 row (omega arith) (omega arith) fits in
+    let placed : (k : ℕ) → 1 ≤ k → k ≤ 4 → (row_of profile board roster k).place ≤ 4 → size (place_value roster (row_of profile board roster k)) ≤ 190 =
+    λ k low high at. place_size roster (row_of profile board roster k) is (within profile board roster words is k low high) at in
     let table = table_size roster (row_of profile board roster 1) (row_of profile board roster 2) (row_of profile board roster 3) (row_of profile board roster 4)
-    (first profile board roster words is) (second profile board roster words is) (third profile board roster words is) (fourth profile board roster words is) in
+    (placed 1 (omega arith) (omega arith) (omega arith)) (placed 2 (omega arith) (omega arith) (omega arith))
+    (placed 3 (omega arith) (omega arith) (omega arith)) (placed 4 (omega arith) (omega arith) (omega arith)) in
     let low = version_low board twelve in
     let version = length-decimal-le 5 (version_of board) (omega arith) (omega arith) (omega arith) in
     let spelt = words_size board words in

@@ -1,6 +1,6 @@
 -- Which words are those of valid records, by what they hold.
-use Rattle.std.proofs.Common.{◌≡◌, ℕ, zero, suc, ◌<◌, ◌≤◌, ◌==◌, ◌&&◌, ◌||◌, ◌⊎◌, Bool, true, false, refl, sym, ap, ◌∙◌, inl, inr, arith}
-use Rattle.std.proofs.lemmas.Bool.{cases_Bool}
+use Rattle.std.proofs.Common.{◌≡◌, ℕ, zero, suc, ◌<◌, ◌≤◌, ◌==◌, ◌||◌, ◌⊎◌, Bool, true, false, refl, sym, ap, ◌∙◌, inl, inr, arith, eq-eqb, eqb-true}
+use Rattle.std.proofs.lemmas.Bool.{and_parts, cases_Bool}
 use Rattle.std.proofs.lemmas.Bool.Decides.{nat_tests}
 use Rattle.ucl_word.specs.Record.{is_valid, is_within_limits, scheduled, suits_state, IsValid}
 use Rattle.ucl_word.specs.Layout.{IsWord, layout, held_at, record_at, state_at, word_of, HoldsRecord}
@@ -60,33 +60,23 @@ word_begun word is =
     let holds = word_holds word is in
     told_by word (held_at word layout.state) refl holds (parts (record_at word) holds.valid).1
 
-same_test : (a b : ℕ) → a ≡ b → (a == b) ≡ true
-same_test a b e = grind (arith, nat_tests)
-
-test_same : (a b : ℕ) → (a == b) ≡ true → a ≡ b
-test_same a b e = grind (arith, nat_tests)
-
 -- the two tests that tell a word
 pub tests_word : (word : ℕ) (begun : Bool) → (begun ≡ true → HasBegun word) → (begun || (word == untouched)) ≡ true → IsWord word
 tests_word word true is t = begun_word word (is refl)
-tests_word word false is t = untouched_word word (test_same word untouched t)
+tests_word word false is t = untouched_word word (eqb-true word untouched t)
 
 pub word_tests : (word : ℕ) (begun : Bool) → (HasBegun word → begun ≡ true) → IsWord word → (begun || (word == untouched)) ≡ true
 word_tests word true is w = refl
-word_tests word false is w = elim (word_begun word w) [ inl b ↦ absurd (let e = is b in cc) | inr e ↦ same_test word untouched e ]
-
-both : (a b : Bool) → (a && b) ≡ true → (a ≡ true) × (b ≡ true)
-both true b h = (refl, h)
-both false b h = cc
+word_tests word false is w = elim (word_begun word w) [ inl b ↦ absurd (let e = is b in cc) | inr e ↦ eq-eqb word untouched e ]
 
 -- the test of the definitions
 pub word_is : (word : ℕ) → is_word word ≡ true → IsWord word
 word_is word h =
-    let p = both (is_valid (record_at word)) (word_of (record_at word) == word) h in
-    record { of = record_at word; valid = p.0; packed = test_same (word_of (record_at word)) word p.1 }
+    let p = and_parts (is_valid (record_at word)) (word_of (record_at word) == word) h in
+    record { of = record_at word; valid = p.0; packed = eqb-true (word_of (record_at word)) word p.1 }
 
 pub is_of_word : (word : ℕ) → IsWord word → is_word word ≡ true
-is_of_word word w = rw (word_valid word w, same_test (word_of (record_at word)) word (word_packed word w)) refl
+is_of_word word w = rw (word_valid word w, eq-eqb (word_of (record_at word)) word (word_packed word w)) refl
 
 pub same_as_test : (word : ℕ) (found : Bool) → (found ≡ true → IsWord word) → (IsWord word → found ≡ true) → found ≡ is_word word
 same_as_test word true a b = sym (is_of_word word (a refl))

@@ -1,13 +1,12 @@
--- Why a call is not done: which fault is told, and by what number.
-use Rattle.std.specs.Prelude.{ℕ, ◌==◌, ◌&&◌, nat_le, nat_lt, Bool, true, false, codes, List, [], ◌∷◌, length, map, Option, Some, None, unwrap_or, Result, Ok, Err}
+-- Why a call is not done: which fault it returns, and by what number.
+use Rattle.std.specs.Prelude.{ℕ, ◌==◌, ◌&&◌, nat_le, nat_lt, Bool, true, false, codes, List, [], ◌∷◌, length, map, Option, Some, None, option_map, unwrap_or, Result, Ok, Err}
+use Rattle.std.specs.Result.{result_err}
 use Rattle.ucl_word.specs.declared.event.Kind.{Kind}
 use Rattle.ucl_word.specs.Record.{is_reporter}
 use Rattle.ucl_word.specs.declared.record.MatchRecord.{MatchRecord}
-use Rattle.ucl_word.specs.declared.refusal.Refusal.{Refusal}
 use Rattle.ucl_word.specs.Layout.{record_at}
 use Rattle.ucl_word.specs.Names.{found_of, kind_with, refusal_code}
 use Rattle.ucl_word.specs.Rules.{refusal_of}
-use Rattle.ucl_order.specs.declared.profile.Profile.{Profile}
 use Rattle.ucl_order.specs.Names.{profile_with}
 use Rattle.ucl_order.specs.Roster.{NamedClub, bad_slot}
 use Rattle.ucl_screen.specs.declared.fault.InputFault.{InputFault}
@@ -71,51 +70,33 @@ abbrev pub fault_unless : Bool → Fault → Option Fault
 fault_unless true fault = None
 fault_unless false fault = Some fault
 
-abbrev pub fault_of_reporter : ℕ → Option Fault
-fault_of_reporter reporter = fault_unless (is_reporter reporter) NoReporter
-
-abbrev pub of_kind : Option Kind → Option Fault
-of_kind (Some kind) = None
-of_kind None = Some NoKind
+-- a number that stands for nothing
+abbrev pub fault_if_none : {A : Type 0} → Option A → Fault → Option Fault
+fault_if_none (Some x) fault = None
+fault_if_none None fault = Some fault
 
 abbrev pub fault_of_kind : ℕ → Option Fault
-fault_of_kind code = of_kind (kind_with code)
-
--- a word alone has to be of today's layout
-abbrev pub fault_of_word : ℕ → Option Fault
-fault_of_word word = fault_unless (is_word word) (BadWord 1)
-
-abbrev pub of_profile : Option Profile → Option Fault
-of_profile (Some profile) = None
-of_profile None = Some NoProfile
+fault_of_kind code = fault_if_none (kind_with code) NoKind
 
 abbrev pub fault_of_profile : ℕ → Option Fault
-fault_of_profile code = of_profile (profile_with code)
+fault_of_profile code = fault_if_none (profile_with code) NoProfile
 
 abbrev pub fault_of_group : ℕ → Option Fault
 fault_of_group letter = fault_unless (nat_le 65 letter && nat_le letter 72) NoGroup
-
-abbrev pub of_words : Result (List ℕ) ℕ → Option Fault
-of_words (Ok board) = None
-of_words (Err index) = Some (BadWord index)
 
 abbrev pub fault_of_twelve : ℕ → Option Fault
 fault_of_twelve count = fault_unless (count == 12) NotTwelve
 
 -- the words of a board: they are not twelve, or this is the first that is of neither layout
 abbrev pub fault_of_words : List ℕ → Option Fault
-fault_of_words words = first_fault (fault_of_twelve (length words) ∷ of_words (read_words 1 words) ∷ [])
-
-abbrev pub fault_of_slot : Option ℕ → Option Fault
-fault_of_slot (Some slot) = Some (BadRoster slot)
-fault_of_slot None = None
+fault_of_words words = first_fault (fault_of_twelve (length words) ∷ option_map BadWord (result_err (read_words 1 words)) ∷ [])
 
 abbrev pub fault_of_four : ℕ → Option Fault
 fault_of_four count = fault_unless (count == 4) NotFour
 
 -- not four clubs, or the least slot whose club no roster takes in
 abbrev pub fault_of_clubs : List NamedClub → Option Fault
-fault_of_clubs clubs = first_fault (fault_of_four (length clubs) ∷ fault_of_slot (bad_slot clubs) ∷ [])
+fault_of_clubs clubs = first_fault (fault_of_four (length clubs) ∷ option_map BadRoster (bad_slot clubs) ∷ [])
 
 -- a club of this coefficient, and of a name that any roster takes in
 abbrev pub club_with : ℕ → NamedClub
@@ -125,14 +106,7 @@ club_with coefficient = record { name = codes "-"; coefficient = coefficient }
 abbrev pub fault_of_coefficients : List ℕ → Option Fault
 fault_of_coefficients coefficients = fault_of_clubs (map club_with coefficients)
 
-abbrev pub fault_of_rows : ℕ → Option Fault
-fault_of_rows room = fault_unless (room == 4) NotFourRows
-
--- a text and a zero have no room
-abbrev pub fault_of_text : List ℕ → ℕ → Option Fault
-fault_of_text text room = fault_unless (nat_lt (length text) room) NoRoom
-
--- a fault of an input as a call tells it: bytes in memory are read without fail
+-- a fault of an input as a call returns it: bytes in memory are read without fail
 abbrev pub of_input : InputFault → Fault
 of_input (input.BadWordAt index) = BadWord index
 of_input (input.BadRow row) = BadRow row
@@ -140,13 +114,9 @@ of_input (input.BadRoster slot) = BadRoster slot
 of_input input.TooLong = TooLong
 of_input _ = OutOfMemory
 
-abbrev pub of_script : Result Script InputFault → Option Fault
-of_script (Ok script) = None
-of_script (Err fault) = Some (of_input fault)
-
 -- the first fault of the rows of a script, or too many bytes
 abbrev pub fault_of_script : List ℕ → Option Fault
-fault_of_script bytes = of_script (night_of bytes)
+fault_of_script bytes = option_map of_input (result_err (night_of bytes))
 
 -- as many replies as the script has events have no room
 abbrev pub of_events : Result Script InputFault → ℕ → Option Fault
@@ -158,16 +128,12 @@ fault_of_replies bytes room = of_events (night_of bytes) room
 
 -- The inputs of a call, in the order in which they are judged. --
 
--- of an event for a word: the reporter, the kind, the word
+-- of an event for a word: the reporter, the kind, and the word, which has to be of today's layout
 abbrev pub fault_of_entry : ℕ → ℕ → ℕ → Option Fault
-fault_of_entry word reporter code = first_fault (fault_of_reporter reporter ∷ fault_of_kind code ∷ fault_of_word word ∷ [])
-
-abbrev pub of_refusal : Option Refusal → Option Fault
-of_refusal (Some refusal) = Some (Refused refusal)
-of_refusal None = None
+fault_of_entry word reporter code = first_fault (fault_unless (is_reporter reporter) NoReporter ∷ fault_of_kind code ∷ fault_unless (is_word word) (BadWord 1) ∷ [])
 
 abbrev pub of_rules : Option Kind → MatchRecord → ℕ → Option Fault
-of_rules (Some kind) m expected = of_refusal (refusal_of m expected kind)
+of_rules (Some kind) m expected = option_map Refused (refusal_of m expected kind)
 of_rules None m expected = Some NoKind
 
 -- and the rules: the first that refuses the event
@@ -177,16 +143,16 @@ fault_of_next word reporter expected code = first_fault (fault_of_entry word rep
 -- of a table: the profile, the words, the coefficients, the room for rows
 abbrev pub fault_of_table : ℕ → List ℕ → List ℕ → ℕ → Option Fault
 fault_of_table profile words coefficients room =
-    first_fault (fault_of_profile profile ∷ fault_of_words words ∷ fault_of_coefficients coefficients ∷ fault_of_rows room ∷ [])
+    first_fault (fault_of_profile profile ∷ fault_of_words words ∷ fault_of_coefficients coefficients ∷ fault_unless (room == 4) NotFourRows ∷ [])
 
 -- of a screen, but for its room: the profile, the group, the words, the clubs
 abbrev pub fault_of_inputs : ℕ → ℕ → List ℕ → List NamedClub → Option Fault
 fault_of_inputs profile group words clubs =
     first_fault (fault_of_profile profile ∷ fault_of_group group ∷ fault_of_words words ∷ fault_of_clubs clubs ∷ [])
 
--- and the room for the text that is made of them
+-- and the room for the text that is made of them, and a zero
 abbrev pub fault_with_text : Option Fault → List ℕ → ℕ → Option Fault
-fault_with_text fault text room = first_fault (fault ∷ fault_of_text text room ∷ [])
+fault_with_text fault text room = first_fault (fault ∷ fault_unless (nat_lt (length text) room) NoRoom ∷ [])
 
 -- of a script that is played: the room for words and that for clubs, the bytes, the room for replies
 abbrev pub fault_of_play : List ℕ → ℕ → ℕ → ℕ → Option Fault

@@ -10,7 +10,7 @@ use Rattle.ucl_c.specs.declared.fault.Fault.{Fault}
 use Rattle.ucl_c.specs.declared.fault.Fault.TheVariants.{NoMatch}
 use Rattle.ucl_c.specs.Faults.{first_fault, fault_of_kind, fault_of_twelve, fault_unless}
 
--- no match has an event number over 4,095: a larger one is stale, and is told to the board as one of 16 bits that is stale too
+-- no match has an event number over 4,095: a larger one is stale, and the board is given one of 16 bits that is stale too
 abbrev pub expected_told : ℕ → ℕ
 expected_told expected = if nat_lt expected 65536 then expected else 65535
 
@@ -20,12 +20,9 @@ pub record IsCallOf (game expected code : ℕ) (call : EventCall) : Type 0 where
   pub game_is : call.game ≡ game
   pub expected_is : call.expected ≡ expected_told expected
 
-abbrev pub fault_of_match : ℕ → Option Fault
-fault_of_match game = fault_unless (nat_le 1 game && nat_le game 12) NoMatch
-
 -- of an event: the kind, the match
 abbrev pub fault_of_call : ℕ → ℕ → Option Fault
-fault_of_call game code = first_fault (fault_of_kind code ∷ fault_of_match game ∷ [])
+fault_of_call game code = first_fault (fault_of_kind code ∷ fault_unless (nat_le 1 game && nat_le game 12) NoMatch ∷ [])
 
 -- of a report: the event, the pass
 abbrev pub fault_of_event : AnyPass → ℕ → ℕ → Option Fault
@@ -39,12 +36,12 @@ abbrev pub status_of_reply : Result Accepted Refusal → ℕ
 status_of_reply (Ok accepted) = 0
 status_of_reply (Err refusal) = refusal_code refusal
 
--- the number that a reply tells, over what was there before: the match's event number after an accepted event, or that found by a stale one
+-- the number that is written for a reply, over what was there before: the match's event number after an accepted event, or that found by a stale one
 abbrev pub number_after : Result Accepted Refusal → ℕ → ℕ
 number_after (Ok accepted) before = accepted.number
 number_after (Err refusal) before = unwrap_or (found_of refusal) before
 
--- an event was entered or refused by the rules, and this is how that is told
+-- an event was entered or refused by the rules, and this is the status and the number of that
 pub record IsReply (game expected code : ℕ) (before after : AnyPass) (status old new : ℕ) : Type 0 where
   pub call : EventCall
   pub is_call : IsCallOf game expected code call

@@ -5,7 +5,7 @@ use Rattle.ucl_word.specs.declared.refusal.Refusal.{Refusal}
 use Rattle.ucl_word.specs.Names.{found_of, refusal_code}
 use Rattle.ucl_board.specs.declared.entry.Entry.{Entry}
 use Rattle.ucl_board.specs.History.{after_attempt, accepted_of, board_of, sequential_reply}
-use Rattle.ucl_order.specs.Roster.{NamedClub}
+use Rattle.ucl_order.specs.Roster.{NamedClub, club_in}
 use Rattle.ucl_screen.specs.declared.night.NightEvent.{NightEvent}
 use Rattle.ucl_screen.specs.Script.{Script, night_of}
 use Rattle.ucl_screen.specs.Events.{attempt_of}
@@ -13,7 +13,7 @@ use Rattle.ucl_c.specs.declared.script.ReplyOfC.{ReplyOfC}
 use Rattle.ucl_c.specs.declared.group.ClubOfC.{ClubOfC}
 
 -- the reply to an event in this row, of this match, where so many events were accepted before: an accepted one raises the version by one, and
--- a stale one tells the number found
+-- a stale one has the number found
 abbrev pub reply_by : ℕ → ℕ → ℕ → Result Accepted Refusal → ReplyOfC
 reply_by row game before (Ok accepted) = record { row = row; match_number = game; status = 0; event_number = accepted.number; version = before + 1 }
 reply_by row game before (Err refusal) = record { row = row; match_number = game; status = refusal_code refusal; event_number = unwrap_or (found_of refusal) 0; version = before }
@@ -39,6 +39,10 @@ words_after events = board_of (accepted_of (map attempt_of events))
 abbrev pub club_written : NamedClub → ClubOfC
 club_written club = record { name = club.name ++ replicate (20 - length club.name) 0; length = length club.name; coefficient = club.coefficient }
 
+-- the clubs of a roster, slot by slot
+abbrev pub clubs_written : List NamedClub → List ClubOfC
+clubs_written roster = map (λ slot. club_written (club_in roster slot)) (1 ∷ 2 ∷ 3 ∷ 4 ∷ [])
+
 -- these stand at the front of what was there before, and the rest is as it was
 pub record AreWritten (replies before after : List ReplyOfC) : Type 0 where
   pub front : take (length replies) after ≡ replies
@@ -48,7 +52,7 @@ pub record AreWritten (replies before after : List ReplyOfC) : Type 0 where
 pub record IsWholeScript (bytes : List ℕ) (clubs : List ClubOfC) (words : List ℕ) (before after : List ReplyOfC) : Type 0 where
   pub script : Script
   pub said : night_of bytes ≡ Ok script
-  pub clubs_are : clubs ≡ map club_written script.clubs
+  pub clubs_are : clubs ≡ clubs_written script.clubs
   pub words_are : words ≡ words_after script.events
   pub replies_are : AreWritten (replies_to script.events) before after
 

@@ -48,36 +48,29 @@ version_by (Err index) = 0
 abbrev pub version_told : List ℕ → ℕ
 version_told words = version_by (read_words 1 words)
 
-abbrev pub table_by : Option Profile → Result (List ℕ) ℕ → List NamedClub → List RowOfC
-table_by (Some profile) (Ok board) clubs = map row_seen (rows_of profile board clubs)
-table_by _ _ clubs = []
+-- the list that is made of an order and a board, and none of no order or no board
+abbrev pub shown_with : {X : Type 0} → Option Profile → Result (List ℕ) ℕ → (Profile → List ℕ → List X) → List X
+shown_with (Some profile) (Ok board) make = make profile board
+shown_with _ _ make = []
 
 -- the table of that board, in the order of the profile with this code
 abbrev pub table_shown : ℕ → List ℕ → List NamedClub → List RowOfC
-table_shown code words clubs = table_by (profile_with code) (read_words 1 words) clubs
-
-abbrev pub screen_by : Option Profile → ℕ → Result (List ℕ) ℕ → List NamedClub → List ℕ
-screen_by (Some profile) group (Ok board) clubs = screen_text profile board clubs group
-screen_by _ group _ clubs = []
+table_shown code words clubs = shown_with (profile_with code) (read_words 1 words) (λ profile board. map row_seen (rows_of profile board clubs))
 
 -- the screen of that board, for a group
 abbrev pub screen_shown : ℕ → ℕ → List ℕ → List NamedClub → List ℕ
-screen_shown code group words clubs = screen_by (profile_with code) group (read_words 1 words) clubs
-
-abbrev pub json_by : Option Profile → ℕ → ℕ → Result (List ℕ) ℕ → List NamedClub → List ℕ
-json_by (Some profile) row group (Ok board) clubs = json_line (screen_value row profile board clubs group)
-json_by _ row group _ clubs = []
+screen_shown code group words clubs = shown_with (profile_with code) (read_words 1 words) (λ profile board. screen_text profile board clubs group)
 
 -- the line in JSON of a screen under the row of this number: that of an evening, but for its edition and its matches
 abbrev pub json_shown : ℕ → ℕ → ℕ → List ℕ → List NamedClub → List ℕ
-json_shown row code group words clubs = json_by (profile_with code) row group (read_words 1 words) clubs
+json_shown row code group words clubs = shown_with (profile_with code) (read_words 1 words) (λ profile board. json_line (screen_value row profile board clubs group))
 
 -- the text and a zero stand at the front of what was there before, and the rest is as it was
 pub record IsWritten (text before after : List ℕ) : Type 0 where
   pub front : take (length text + 1) after ≡ text ++ 0 ∷ []
   pub beyond : drop (length text + 1) after ≡ drop (length text + 1) before
 
--- how a text is handed over: whole, where the room takes it and a zero; else nothing is written and the status is that of no room. Its length is told in both
+-- how a text is handed over: whole, where the room takes it and a zero; else nothing is written and the status is that of no room. Its length is written in both
 pub record HandsOver (text before after : List ℕ) (told status : ℕ) : Type 0 where
   pub told_length : told ≡ length text
   pub whole : length text < length before → (status ≡ 0) × IsWritten text before after

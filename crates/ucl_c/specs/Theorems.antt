@@ -15,7 +15,7 @@ use Rattle.ucl_c.specs.declared.fault.Fault.TheVariants.{BadRow, OutOfMemory}
 use Rattle.ucl_c.specs.Codes.{name_of_status}
 use Rattle.ucl_c.specs.Faults.{fault_code, of_input}
 
--- the words that calls judge are read as the board that the definitions of a board say, or their first bad word is told
+-- words are read as the board that the definitions of a board say, or as their first bad word
 pub record AreJudged (words : List ℕ) : Type 0 where
   pub read : (board : List ℕ) → AreReadAs words board → read_words 1 words ≡ Ok board
   pub refused : (index : ℕ) → IsFirstBad words index → read_words 1 words ≡ Err index
@@ -25,7 +25,7 @@ pub record WordsAreJudged : Type 0 where
   pub twelve : (words : List ℕ) → length words ≡ 12 → AreJudged words
   pub single : (word : ℕ) → (is_word word ≡ true) ↔ IsWord word
 
--- the command line writes this fault of an input by the number of the fault that calls tell
+-- the command line writes this fault of an input by the number of the fault that calls return
 pub record IsWrittenByNumber (fault : InputFault) : Type 0 where
   pub place : List ℕ
   pub written : input_fault_text fault ≡ codes "input refused " ++ decimal (fault_code (of_input fault)) ++ codes ": " ++ place
@@ -42,7 +42,7 @@ pub record IsAnsweredByName (row : ℕ) : Type 0 where
   pub named : name_of_status (fault_code (BadRow row)) ≡ Some name
   pub answered : (field text : List ℕ) → bad_row_value row field text ≡ bad_value row (fault_code (BadRow row)) name field text
 
--- the programs write each fault that calls tell too by its number
+-- the programs write each fault that calls return by its number
 pub record FaultsAreWrittenByNumber : Type 0 where
   pub inputs : (fault : InputFault) → IsWrittenAsTold fault
   pub rows : (row : ℕ) → IsAnsweredByName row

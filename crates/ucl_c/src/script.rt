@@ -1,6 +1,6 @@
 //! A script that is played: its clubs, what becomes of its events, and the words after them.
 
-ghost use Rattle.std.specs.Prelude.{◌≡◌, ◌≢◌, ◌≤◌, ◌⊎◌, List, [], ◌∷◌, length, map, Ok, Some, IfOk, IfErr};
+ghost use Rattle.std.specs.Prelude.{◌≡◌, ◌≢◌, ◌≤◌, ◌⊎◌, List, [], ◌∷◌, length, Ok, Some, IfOk, IfErr};
 ghost use Rattle.ucl_board.specs.Fixtures.{IsSlot};
 ghost use Rattle.ucl_board.specs.Words.{max_version};
 ghost use Rattle.ucl_board.specs.declared.entry.Entry.{Entry};
@@ -12,7 +12,7 @@ ghost use Rattle.ucl_screen.specs.Parsing.{night_seen};
 ghost use Rattle.ucl_screen.specs.Events.{IsBoardAfter, attempt_of};
 ghost use Rattle.ucl_c.specs.declared.fault.Fault.TheVariants.{OutOfMemory};
 ghost use Rattle.ucl_c.specs.Faults.{fault_of_four, fault_of_play, fault_of_script, fault_of_twelve, first_fault, place_with, status_with};
-ghost use Rattle.ucl_c.specs.Replies.{CountsEvents, IsWholeScript, club_written, replies_to, reply_after, words_after};
+ghost use Rattle.ucl_c.specs.Replies.{CountsEvents, IsWholeScript, club_written, clubs_written, replies_to, reply_after, words_after};
 
 use crate::fault::Fault;
 use crate::group::ClubOfC;
@@ -100,8 +100,7 @@ fn club_of(roster: &Roster, slot: u8) -> ClubOfC
 
 /// Returns the clubs of a roster.
 fn clubs_of(roster: &Roster) -> [ClubOfC; 4]
-    requires { length roster.now ≡ 4 }
-    ensures { result ≡ map club_written roster.now }
+    ensures { result ≡ clubs_written roster.now }
 {
     [
         club_of(roster, 1),
@@ -115,7 +114,6 @@ fn clubs_of(roster: &Roster) -> [ClubOfC; 4]
 fn script_of(alloc: Global, script: &[u8], clubs: usize, words: usize) -> Result<Night, Fault>
     ensures said { IfOk result (λ night. night_of script.now ≡ Ok (night_seen night)) }
     ensures room { IfOk result (λ _. (words ≡ 12) × (clubs ≡ 4)) }
-    ensures four { IfOk result (λ night. length night.roster ≡ 4) }
     ensures few { IfOk result (λ night. length night.events.items ≤ max_bytes) }
     ensures refused { IfErr result (λ fault. fault ≢ OutOfMemory →
         first_fault (fault_of_twelve words ∷ fault_of_four clubs ∷ fault_of_script script.now ∷ [])
