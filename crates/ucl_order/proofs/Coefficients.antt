@@ -1,7 +1,7 @@
 -- The table goes by the coefficients of the clubs.
 use Rattle.ucl_order.proofs.Common.{Bool, List, Match, NamedClub, Profile, Ranking, Row, [], all_clubs, ap, by_points, coefficient_of}
 use Rattle.ucl_order.proofs.Common.{flat_map, get_or, head_to_head, if◌then◌else◌, is_one_class, length, map, mark_by, mark_of, matches_of}
-use Rattle.ucl_order.proofs.Common.{order_of, overall, refl, results_of, row_of, row_with, settled_within, slice_index, split, started_of}
+use Rattle.ucl_order.proofs.Common.{order_of, overall, refl, row_of, row_with, settled_within, slice_index, split, started_of}
 use Rattle.ucl_order.proofs.Common.{suc, sym, zero, ℕ, ◌-◌, ◌∙◌, ◌∷◌, ◌≡◌}
 use Rattle.ucl_order.specs.Roster.{coefficients_in}
 use Rattle.std.proofs.Math.Path.{fun_ext}
@@ -43,7 +43,7 @@ module _ (one other : List NamedClub) (same : coefficients_in one ≡ coefficien
   row-same : (profile : Profile) (board : List ℕ) (place : ℕ) → row_of profile board one place ≡ row_of profile board other place
   unfolding row_of mark_of
   row-same profile board place =
-      ap (λ (order : List ℕ). let slot : ℕ = slice_index order (place - 1) in row_with place slot (mark_by (matches_of board) order slot) (results_of slot (started_of board)))
+      ap (λ (order : List ℕ). let slot : ℕ = slice_index order (place - 1) in row_with place slot (mark_by (matches_of board) order slot) (started_of board))
       (order-same profile board)
 
 pub table-same : TableGoesByCoefficients

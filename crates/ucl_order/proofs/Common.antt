@@ -20,7 +20,7 @@ pub use Rattle.std.specs.Prelude.{◌↔◌}
 pub use Rattle.ucl_board.proofs.Histories.{each_slot, number_listed}
 pub use Rattle.ucl_board.specs.Fixtures.{IsMatch, IsSlot, fixture_of, match_numbers}
 pub use Rattle.ucl_board.specs.Words.{game_at}
-pub use Rattle.ucl_order.specs.Counting.{FitsFields, IsWithin, point_bounds, with_match}
+pub use Rattle.ucl_order.specs.Counting.{FitsFields, IsWithin, point_bounds, row_by, with_match}
 pub use Rattle.ucl_order.specs.Keys.{overall_of, tie_number}
 unfoldable pub use Rattle.ucl_order.specs.Keys.{overall_key, slots_in, tie_key}
 pub use Rattle.ucl_order.specs.Marks.{mark_by, reach, sure_points}

@@ -5,7 +5,7 @@ use Rattle.ucl_order.proofs.Common.{Profile, Results, Some, [], all_clubs, among
 use Rattle.ucl_order.proofs.Common.{cond, count_by, count_by-le-length, discipline, each_slot, false, filter, filter-append, finished}
 use Rattle.ucl_order.proofs.Common.{get_or, get_or-set_other, goals_against, goals_for, has_finished, has_started, if◌then◌else◌, is_in}
 use Rattle.ucl_order.proofs.Common.{length, length_permutation, map, matches_of, nat_tests, not, order_of, played, point_bounds, points}
-use Rattle.ucl_order.proofs.Common.{reach, refl, row_of, row_with, rows_of, seen_by, seen_from_away, seen_from_home, set, slice_index}
+use Rattle.ucl_order.proofs.Common.{reach, refl, row_by, row_of, rows_of, seen_by, seen_from_away, seen_from_home, set, slice_index}
 use Rattle.ucl_order.proofs.Common.{started_of, sum_by-cons, sure_points, take, take_more, totals, true, unfinished, wins, ℕ, ◌&&◌, ◌*◌}
 use Rattle.ucl_order.proofs.Common.{◌++◌, ◌+◌, ◌-◌, ◌<◌, ◌==◌, ◌∷◌, ◌≡◌, ◌≢◌, ◌≤◌}
 use Rattle.ucl_order.specs.Matches.{disciplinary_points, is_won, is_drawn, is_lost}
@@ -164,12 +164,12 @@ module _ (board : List ℕ) (valid : All HasScore (matches_of board)) (club : �
 
 -- The rows of the table. --
 
-within_table : (place slot : ℕ) (mark : Mark) (r : Results) → IsSlot slot → FitsFields r → IsWithinTable (row_with place slot mark r)
+within_table : (place slot : ℕ) (mark : Mark) (r : Results) → IsSlot slot → FitsFields r → IsWithinTable (row_by place slot mark r)
 within_table place slot mark r is_slot f = search arith
 
 module _ (profile : Profile) (board : List ℕ) (roster : List NamedClub) (valid : All HasScore (matches_of board)) where
   row_within : (place : ℕ) → 1 ≤ place → place ≤ 4 → IsWithinTable (row_of profile board roster place)
-  unfolding row_of
+  unfolding row_of totals
   row_within place low high =
       let order : List ℕ = order_of profile (started_of board) roster in
       let long : length order ≡ 4 = length_permutation _ _ (IsPermutation-order profile board roster) in

@@ -1,6 +1,6 @@
 -- The rows, from what the calls answered.
 use Rattle.ucl_order.proofs.Common.{All, IsWithinTable, List, Mark, MarkIsCertain, Match, NamedClub, Profile, Row, [], arith, false, get_or}
-use Rattle.ucl_order.proofs.Common.{has_finished, length, list_all, map, mark_by, mark_of, matches_of, order_of, refl, results_of, row_of}
+use Rattle.ucl_order.proofs.Common.{has_finished, length, list_all, map, mark_by, mark_of, matches_of, order_of, refl, row_of}
 use Rattle.ucl_order.proofs.Common.{row_with, rows_of, slice_index, started, started_of, sym, ℕ, ◌-◌, ◌∙◌, ◌∷◌, ◌≡◌}
 use Rattle.ucl_order.specs.Marks.{early_mark}
 use Rattle.ucl_order.proofs.Completions.{plus_is_certain, minus_is_certain}
@@ -13,7 +13,7 @@ order_is profile board roster now order is_now is = rw (is, is_now)
 
 pub row_of_place : (profile : Profile) (board : List ℕ) (roster : List NamedClub) (place : ℕ) (ms given : List Match) (order : List ℕ) (r : Row)
     → ms ≡ matches_of board → given ≡ ms → order ≡ order_of profile (started_of board) roster → (let slot = slice_index order (place - 1) in
-    r ≡ row_with place slot (mark_by given order slot) (results_of slot (started given))) → r ≡ row_of profile board roster place
+    r ≡ row_with place slot (mark_by given order slot) (started given)) → r ≡ row_of profile board roster place
 unfolding row_of mark_of
 row_of_place profile board roster place ms given order r is_ms is_given is_order is = rw (is, is_given, is_ms, is_order)
 

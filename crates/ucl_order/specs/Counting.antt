@@ -4,6 +4,8 @@ use Rattle.ucl_order.specs.declared.game.Match.{Match}
 use Rattle.ucl_order.specs.declared.game.Appearance.{Appearance}
 use Rattle.ucl_order.specs.declared.results.Results.{Results}
 use Rattle.ucl_order.specs.Matches.{seen_by, is_won, is_drawn, is_lost, disciplinary_points}
+use Rattle.ucl_order.specs.declared.mark.Mark.{Mark}
+use Rattle.ucl_order.specs.declared.table.Row.{Row}
 use Rattle.ucl_order.specs.Results.{points_for, points_of_win}
 
 -- one match more is counted
@@ -27,6 +29,21 @@ worth a = points_for (if is_won a then 1 else 0) (if is_drawn a then 1 else 0)
 -- the points that the club is sure of from a match, and the most that it can give
 abbrev pub point_bounds : Bool → Appearance → ℕ × ℕ
 point_bounds over a = if over then (worth a, worth a) else (0, points_of_win)
+
+-- the row of a club at its place, by what it has done
+abbrev pub row_by : ℕ → ℕ → Mark → Results → Row
+row_by place slot mark r = record {
+  slot = slot;
+  place = place;
+  mark = mark;
+  played = r.played;
+  wins = r.wins;
+  draws = r.draws;
+  losses = r.losses;
+  goals_for = r.goals_for;
+  goals_against = r.goals_against;
+  points = points_for r.wins r.draws;
+}
 
 -- no more than a club can do in so many matches, whatever their records hold
 pub record IsWithin (matches : ℕ) (r : Results) : Type 0 where

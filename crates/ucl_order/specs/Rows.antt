@@ -1,30 +1,30 @@
 -- The rows of the table.
 use Rattle.std.specs.Prelude.{◌≡◌, ℕ, ◌-◌, ◌≤◌, List, [], ◌∷◌, map, slice_index}
 use Rattle.ucl_board.specs.Fixtures.{IsSlot}
-use Rattle.ucl_order.specs.declared.results.Results.{Results}
+use Rattle.ucl_order.specs.declared.game.Match.{Match}
 use Rattle.ucl_order.specs.declared.mark.Mark.{Mark}
 use Rattle.ucl_order.specs.declared.mark.Mark.TheVariants.{Plus, Minus}
 use Rattle.ucl_order.specs.declared.profile.Profile.{Profile}
 use Rattle.ucl_order.specs.declared.table.Row.{Row}
 use Rattle.ucl_order.specs.Roster.{NamedClub}
 use Rattle.ucl_order.specs.Matches.{started_of}
-use Rattle.ucl_order.specs.Results.{points_for, results_of}
+use Rattle.ucl_order.specs.Results.{played, wins, draws, losses, goals_for, goals_against, points}
 use Rattle.ucl_order.specs.Order.{order_of}
 use Rattle.ucl_order.specs.Marks.{IsCompletion, GoesThrough, mark_of}
 
--- what a club has done, at its place
-abbrev pub row_with : ℕ → ℕ → Mark → Results → Row
-row_with place slot mark r = record {
+-- what a club has done in some matches, at its place
+abbrev pub row_with : ℕ → ℕ → Mark → List Match → Row
+row_with place slot mark ms = record {
   slot = slot;
   place = place;
   mark = mark;
-  played = r.played;
-  wins = r.wins;
-  draws = r.draws;
-  losses = r.losses;
-  goals_for = r.goals_for;
-  goals_against = r.goals_against;
-  points = points_for r.wins r.draws;
+  played = played slot ms;
+  wins = wins slot ms;
+  draws = draws slot ms;
+  losses = losses slot ms;
+  goals_for = goals_for slot ms;
+  goals_against = goals_against slot ms;
+  points = points slot ms;
 }
 
 -- the club at a place of the order
@@ -35,7 +35,7 @@ club_at profile board roster place = slice_index (order_of profile (started_of b
 unfoldable pub row_of : Profile → List ℕ → List NamedClub → ℕ → Row
 row_of profile board roster place =
     let slot = club_at profile board roster place in
-    row_with place slot (mark_of profile board roster slot) (results_of slot (started_of board))
+    row_with place slot (mark_of profile board roster slot) (started_of board)
 
 -- the table of a board and a roster, by place, in the order of the profile
 abbrev pub rows_of : Profile → List ℕ → List NamedClub → List Row

@@ -3,10 +3,9 @@
 ghost use Rattle.std.specs.Prelude.{◌≡◌, ◌-◌, ◌≤◌, List, [], ◌∷◌, All, length, map, slice_index};
 ghost use Rattle.ucl_board.specs.Fixtures.{IsSlot};
 ghost use Rattle.ucl_order.specs.declared.game.Match.{Match};
-ghost use Rattle.ucl_order.specs.Counting.{FitsFields};
+ghost use Rattle.ucl_order.specs.Counting.{FitsFields, row_by};
 ghost use Rattle.ucl_order.specs.Marks.{mark_by};
 ghost use Rattle.ucl_order.specs.Matches.{started};
-ghost use Rattle.ucl_order.specs.Results.{results_of};
 ghost use Rattle.ucl_order.specs.Rounds.{results_of_clubs};
 ghost use Rattle.ucl_order.specs.Rows.{IsWithinTable, MarkIsCertain, row_with, rows_of};
 
@@ -47,7 +46,7 @@ pub struct Row {
 /// Returns the row of a club at its place, by what it has done.
 fn row_with(place: u8, slot: u8, mark: Mark, results: &Results) -> Row
     requires { FitsFields results.now }
-    ensures { result ≡ row_with place slot mark results.now }
+    ensures { result ≡ row_by place slot mark results.now }
 {
     Row {
         slot,
@@ -65,6 +64,7 @@ fn row_with(place: u8, slot: u8, mark: Mark, results: &Results) -> Row
 
 /// Returns the row at this place of the order. The marks are by place, and the results are those of all clubs in the matches in play and
 /// finished.
+#[tactic(auto, unfolding(crate::specs::Results::totals))]
 fn row_at(place: u8, order: &[u8; 4], marks: &[Mark; 4], results: &[Results; 4]) -> Row
     requires at_least { 1 ≤ place }
     requires at_most { place ≤ 4 }
@@ -73,7 +73,7 @@ fn row_at(place: u8, order: &[u8; 4], marks: &[Mark; 4], results: &[Results; 4])
     ensures { (matches : List Match) → marks.now ≡ map (mark_by matches order.now) order.now
         → results.now ≡ results_of_clubs (started matches) →
         let slot = slice_index order.now (place - 1) in result
-        ≡ row_with place slot (mark_by matches order.now slot) (results_of slot (started matches)) }
+        ≡ row_with place slot (mark_by matches order.now slot) (started matches) }
 {
     let index = usize::from(place - 1);
     let slot = order[index];
