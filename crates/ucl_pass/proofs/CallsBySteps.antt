@@ -5,7 +5,7 @@ use Rattle.ucl_pass.proofs.Common.{version_of, board_of, IsLegal, followed_by, e
 use Rattle.ucl_pass.proofs.Common.{begins_length, begins_through, View, IsSound, Continues, SharedReading, cell_pass_view, count_of, Takes, note_pass}
 use Rattle.ucl_pass.proofs.Common.{told_pass, words_after, IsNextBoard, CellStep, StoresReporter, LooksOnly, LooksAndShows, Exchanges, CellPass, CellReported}
 use Rattle.ucl_pass.proofs.Common.{CellRead, CellEnlisted, CellFull, CellMet, TableId, StoresEvent, takes_count, Stays, stays_none, stays_more, IsUpToDate}
-use Rattle.ucl_pass.proofs.Common.{versions_loaded, shown_with, IsLegalStep, history_of, number_of, enlisted_by}
+use Rattle.ucl_pass.proofs.Common.{versions_loaded, shown_after, IsLegalStep, history_of, number_of, enlisted_by}
 use Rattle.std.proofs.lemmas.List.Sums.{fold-append}
 use Rattle.ucl_board.specs.Log as logs
 use Rattle.ucl_board.specs.Log.{Enlists, Whole}
@@ -44,10 +44,10 @@ module _ (target : Target) (entry : Option Entry) (v w : View) (x y : List ℕ) 
   pub one_act : count_of w ≡ count_of v + 1
   one_act = takes_count v w (one_taken.0 ∷ []) one_taken.1
 
-  pub shown_then : versions_loaded w.own ≡ shown_with target s.steps.step.at (versions_loaded v.own)
+  pub shown_then : versions_loaded w.own ≡ shown_after target s.steps.step.at (versions_loaded v.own)
   shown_then = ap versions_loaded (facts.own_is words_after IsLegalStep s.seat target v w s.steps)
-      ∙ (fold-append (λ (shown : List ℕ) (t : Taken). shown_with t.target t.at shown) [] v.own (s.steps.step ∷ [])
-      ∙ ap (λ (t : Target). shown_with t s.steps.step.at (versions_loaded v.own)) s.steps.of)
+      ∙ (fold-append (λ (shown : List ℕ) (t : Taken). shown_after t.target t.at shown) [] v.own (s.steps.step ∷ [])
+      ∙ ap (λ (t : Target). shown_after t s.steps.step.at (versions_loaded v.own)) s.steps.of)
 
   pub sees : entry ≡ None → length (logs.enlists target) ≡ 0 → Sees target v w
   sees none few = facts.sees words_after IsLegalStep s.seat target v w s.steps (λ log is legal. legal) (s.entry_is ∙ none) few

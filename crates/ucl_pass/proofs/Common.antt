@@ -14,7 +14,7 @@ pub use Rattle.ucl_board.specs.Log.{IsLegalStep, Taken, Target, enlisted_by, his
 pub use Rattle.ucl_board.specs.Words.{AreWords, max_version, version_of}
 pub use Rattle.ucl_board.specs.declared.entry.Entry.{Entry}
 pub use Rattle.ucl_pass.specs.CellRecords.{CellEnlisted, CellFull, CellMet, CellPass, CellRead, CellReported, cell_pass_of}
-pub use Rattle.ucl_pass.specs.CellInvariants.{CellInvariant, IsUpToDate, cell_pass_view, shown_with, versions_loaded, words_after}
+pub use Rattle.ucl_pass.specs.CellInvariants.{CellInvariant, IsUpToDate, cell_pass_view, shown_after, versions_loaded, words_after}
 pub use Rattle.ucl_pass.specs.CellSteps.{CellStep, Exchanges, IsNextBoard, LooksAndShows, LooksOnly, MayStore, StoresEvent, StoresReporter, entry_at}
 pub use Rattle.ucl_pass.specs.CellSteps.{with_one_more}
 pub use Rattle.ucl_live_board.proofs.CallsBySteps.{Stays, room, sound_left, sound_second, stays_more, stays_none, takes_count}

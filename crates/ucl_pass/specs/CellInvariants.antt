@@ -22,13 +22,13 @@ abbrev pub ImpliesInvariant : (List ℕ → List View → Type 0) → Type 0
 ImpliesInvariant holds = (words : List ℕ) (views : List View) → holds words views → CellInvariant words views
 
 -- the versions of the loads that a pass has shown since it has its number, each of them the length of the history
-abbrev pub shown_with : Target → ℕ → List ℕ → List ℕ
-shown_with (Whole true) at shown = shown ++ at ∷ []
-shown_with (Enlists found) at shown = []
-shown_with target at shown = shown
+abbrev pub shown_after : Target → ℕ → List ℕ → List ℕ
+shown_after (Whole true) at shown = shown ++ at ∷ []
+shown_after (Enlists found) at shown = []
+shown_after target at shown = shown
 
 abbrev pub versions_loaded : List Taken → List ℕ
-versions_loaded steps = fold (λ (shown : List ℕ) (x : Taken). shown_with x.target x.at shown) [] steps
+versions_loaded steps = fold (λ (shown : List ℕ) (x : Taken). shown_after x.target x.at shown) [] steps
 
 abbrev pub cell_pass_view : View → PassView
 cell_pass_view v = pass_view_by versions_loaded v

@@ -69,7 +69,7 @@ pub fn put_line<W: Sink>(
     before: &str,
     number: &str,
     after: &str,
-) -> Result<usize, RunFault>
+) -> Result<(), RunFault>
     ensures all { OnOk result (Appends (W.taken sink.old) (W.taken sink.new)
         ((before.now ++ number.now) ++ (after.now ++ codes "\n"))) }
     ensures part { IfErr result (IsStopped 0 (W.failed sink.new)
@@ -78,5 +78,6 @@ pub fn put_line<W: Sink>(
     ensures sound { OnOk result (W.failed sink.new ≡ W.failed sink.old) }
 {
     let written = put_under(sink, 0, before, number)?;
-    put_under(sink, written, after, "\n")
+    put_under(sink, written, after, "\n")?;
+    Ok(())
 }
