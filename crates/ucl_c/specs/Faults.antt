@@ -140,21 +140,21 @@ of_rules None m expected = Some NoKind
 abbrev pub fault_of_next : ℕ → ℕ → ℕ → ℕ → Option Fault
 fault_of_next word reporter expected code = first_fault (fault_of_entry word reporter code ∷ of_rules (kind_with code) (record_at word) expected ∷ [])
 
--- of a table: the profile, the words, the coefficients, the room for rows
+-- the first fault of a call for a table: of the profile, the words, the coefficients, or the room, which is for four rows
 abbrev pub fault_of_table : ℕ → List ℕ → List ℕ → ℕ → Option Fault
 fault_of_table profile words coefficients room =
     first_fault (fault_of_profile profile ∷ fault_of_words words ∷ fault_of_coefficients coefficients ∷ fault_unless (room == 4) NotFourRows ∷ [])
 
--- of a screen, but for its room: the profile, the group, the words, the clubs
+-- the first fault of a call for a screen, but for its room: of the profile, the group, the words, or the clubs
 abbrev pub fault_of_inputs : ℕ → ℕ → List ℕ → List NamedClub → Option Fault
 fault_of_inputs profile group words clubs =
     first_fault (fault_of_profile profile ∷ fault_of_group group ∷ fault_of_words words ∷ fault_of_clubs clubs ∷ [])
 
--- and the room for the text that is made of them, and a zero
+-- that fault, or that the text and a zero do not fit the room
 abbrev pub fault_with_text : Option Fault → List ℕ → ℕ → Option Fault
 fault_with_text fault text room = first_fault (fault ∷ fault_unless (nat_lt (length text) room) NoRoom ∷ [])
 
--- of a script that is played: the room for words and that for clubs, the bytes, the room for replies
+-- the first fault of a call that plays a script: of the room for words, the room for clubs, the bytes, or the room for replies
 abbrev pub fault_of_play : List ℕ → ℕ → ℕ → ℕ → Option Fault
 fault_of_play bytes clubs words replies =
     first_fault (fault_of_twelve words ∷ fault_of_four clubs ∷ fault_of_script bytes ∷ fault_of_replies bytes replies ∷ [])

@@ -22,7 +22,7 @@ pub fn hand_over(text: &[u8], out: &mut [u8], length: &mut usize) -> u32
     0
 }
 
-/// Hands over a text that was made, or returns the number of the fault.
+/// Writes a text, a zero and the length of the text, and returns 0, or the status of the fault, whose place it writes to `at`.
 pub fn answer(made: Result<String, Fault>, out: &mut [u8], length: &mut usize, at: &mut u32) -> u32
     ensures handed { IfOk made (λ text.
         HandsOver (string_bytes text) out.old out.new length.new result × (at.new ≡ at.old)) }

@@ -84,7 +84,7 @@ pub record IsReadingOf (m : PassView) (reading : Reading) : Type 0 where
   pub high : reading.version ≤ length m.seen
   pub snapshot : reading ≡ snapshot_at m.seen reading.version
 
--- a pass that another was split off: it has the first half of its share, and is else as it was
+-- a pass from which another was split off: it has the first half of its share, and is otherwise as it was
 abbrev pub kept_pass : PassView → PassView
 kept_pass k = record k { share = first_half k.share }
 

@@ -12,7 +12,7 @@ use std::marker::PhantomData;
 pub use ucl_live_board::Asking;
 use ucl_live_board::{BoardRule, View};
 
-/// One log of all steps, whose history has the twelve match words and whose reporters are as many as the thirteenth.
+/// The invariant of the cell: one log of all steps, whose history gives the twelve match words, and its reporters the thirteenth.
 pub struct OneHistory;
 
 impl Protocol<[u64; 13], View> for OneHistory {

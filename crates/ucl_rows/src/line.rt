@@ -33,8 +33,8 @@ fn fits(line: &[u8]) -> bool
     }
 }
 
-/// Returns the fields of a line that has this number, where it is a row of four fields of which none is in quotes. The first line may begin with
-/// a byte order mark, and is not looked at.
+/// Returns the fields of a line that has this number, if it is a row of four fields and none is in quotes. The first line may begin with
+/// a byte order mark: for it the answer is `None`.
 #[tactic(auto, using(crate::proofs::RowEnds::said_plain))]
 pub fn plain_row(row: u64, line: &[u8]) -> Option<Four<'_>>
     ensures { IfSome result (λ four. said_on row line.now ≡ Row (four_seen four)) }

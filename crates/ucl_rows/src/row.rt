@@ -98,7 +98,7 @@ fn part(bytes: &[u8], start: u16, end: u16) -> &[u8]
     &bytes[usize::from(start)..usize::from(end)]
 }
 
-/// Where the field at a place begins, of fields that end at these.
+/// Returns where the field at an index begins, in fields joined without separators: where the one before it ends, or 0.
 fn start_of(ends: &[u16], index: usize) -> u16
     requires { index < length ends.now }
     ensures { result ≡ prev 0 ends.now index }

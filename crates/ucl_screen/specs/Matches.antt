@@ -21,7 +21,7 @@ sides_text home away = decimal home ++ codes "-" ++ decimal away
 unfoldable pub state_text : ℕ → MatchRecord → List ℕ
 state_text game m = codes "match " ++ right 2 (decimal game) ++ codes " v" ++ zeros_before 4 m.number ++ codes " " ++ left 9 (state_name m.state)
 
--- goals, standing yellows and expulsions of both sides
+-- the goals, the yellow cards that no second one turned into an expulsion, and the expulsions of a match, home side first
 unfoldable pub counts_text : MatchRecord → List ℕ
 counts_text m =
     right 2 (decimal m.home_goals) ++ codes "-" ++ decimal m.away_goals

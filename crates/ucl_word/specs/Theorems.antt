@@ -53,7 +53,7 @@ OneCaseHolds = (es : List MatchEntry) → IsLegalMatch es → (s : State) → Is
 abbrev pub CountsAreValid : Type 0
 CountsAreValid = (es : List MatchEntry) → IsLegalMatch es → IsValid (counted_match es)
 
--- no more goals are disallowed than scored, and no more yellows turned than shown: the differences of the count are exact
+-- no side has more disallowed goals than goals, nor more second yellows than yellows: the differences of the count are exact
 pub record IsBalanced (es : List MatchEntry) : Type 0 where
   pub goals : (side : Side) → count (is_disallow side) es ≤ count (is_goal side) es
   pub yellows : (side : Side) → count (is_second_yellow side) es ≤ count (is_yellow side) es

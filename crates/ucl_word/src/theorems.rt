@@ -48,7 +48,7 @@ pub fn counts_are_valid()
     ensures { CountsAreValid }
 {}
 
-/// In a legal list of entries no more goals are disallowed than scored, and no more yellows turned than shown.
+/// In a legal list of entries no side has more disallowed goals than goals, nor more second yellows than yellows.
 #[tactic(auto, using(crate::proofs::EntryCounts::legal_balanced))]
 pub fn counts_are_balanced()
     ensures { CountsAreBalanced }

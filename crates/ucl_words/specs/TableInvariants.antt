@@ -19,10 +19,10 @@ TableInvariant s = BoardInvariant words_after IsNextOfProtocol s.words s.views
 abbrev pub ImpliesInvariant : (State Entry View → Type 0) → Type 0
 ImpliesInvariant holds = (s : State Entry View) → holds s → TableInvariant s
 
--- a pass of the table occurs at its seat
+-- some state that satisfies the invariant has this pass at this seat
 abbrev pub Occurs : ℕ → View → Type 0
 Occurs seat v = OccursIn words_after IsNextOfProtocol seat v
 
--- wherever the pass v occurs, u and w may then occur together, u at the seat of v
+-- if some state has the pass v at a seat, some state has u at that seat and w at another
 abbrev pub OccurAfterSplit : View → View → View → Type 0
 OccurAfterSplit v u w = (seat : ℕ) → Occurs seat v → OccurTogether words_after IsNextOfProtocol seat u w
