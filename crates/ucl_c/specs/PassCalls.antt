@@ -14,7 +14,7 @@ use Rattle.ucl_c.specs.Faults.{first_fault, fault_of_kind, fault_of_twelve, faul
 abbrev pub expected_told : ℕ → ℕ
 expected_told expected = if nat_lt expected 65536 then expected else 65535
 
--- the event of these numbers
+-- the event that C means by a match, an expected event number and the code of a kind
 pub record IsCallOf (game expected code : ℕ) (call : EventCall) : Type 0 where
   pub kind : kind_with code ≡ Some call.kind
   pub game_is : call.game ≡ game

@@ -74,7 +74,7 @@ fn row_seen(row: &Row) -> RowOfC
     }
 }
 
-/// Returns the four rows of a table, if there is room for just four.
+/// Returns the four rows of the table of these words, or the fault of the profile, the words, the coefficients or the room.
 fn rows_of(
     words: &[u64],
     coefficients: &[u32],

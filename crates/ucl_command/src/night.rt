@@ -58,7 +58,7 @@ fn command<'a>(alloc: Global) -> Result<Command<'a>, AllocError> {
         .subcommand(night)
 }
 
-/// Returns the line that was named.
+/// Returns the subcommand that the arguments name, with its options, if all of them are in range.
 fn line_in(matches: &ArgMatches<'_>) -> Option<Line>
     ensures { IfSome result IsInRange }
 {

@@ -71,6 +71,7 @@ parse_header value = do
 
 -- ---- four clubs, by their slots
 
+-- reads a club from a value: its name, and a coefficient of at most 999,999; none if one is missing or wrong
 abbrev pub parse_club : Data → Option NamedClub
 parse_club value = do
   name ← text_at (codes "club") value

@@ -12,7 +12,7 @@ abbrev pub version_answered : Result Reading Strangers → ℕ
 version_answered (Ok reading) = reading.version
 version_answered (Err strangers) = strangers.version
 
--- how many events of both were accepted
+-- counts the accepted events of both passes together
 abbrev pub both_accepted : PassView → PassView → ℕ
 both_accepted a b = length a.mine + length b.mine
 

@@ -84,7 +84,7 @@ answers_by_history options header row clubs history (line ∷ lines) =
 abbrev pub ended : List ℕ → List ℕ
 ended bytes = bytes ++ 10 ∷ []
 
--- the text of a beginning that ends with a line is a beginning of the text, and the rest is that of a session from there on
+-- the answers to input that is cut after a line feed are those to its first part, and then those to the rest from the session reached
 abbrev pub BeginningsAreAnswered : Type 0
 BeginningsAreAnswered = (e : Session) (bytes more : List ℕ)
     → live_text e (ended bytes ++ more) ≡ live_text e (ended bytes) ++ live_text (after_lines e (lines_of (ended bytes))) more

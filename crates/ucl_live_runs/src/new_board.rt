@@ -60,7 +60,8 @@ impl OpenBoard {
         false
     }
 
-    /// Puts the fresh board in place of this one if a row begins it again, and returns whether it did.
+    /// Empties the board if the row begins a later edition, or puts a club while the edition has had no other rows; returns whether it did. A
+    /// later edition also replaces the header.
     pub(crate) fn begin_again(&mut self, heading: &mut HeaderState, said: &RowFields<'_>) -> bool
         ensures { BeginsAgain
             (again_on heading.old.header heading.old.is_new self.old.roster (fields_seen said.now))

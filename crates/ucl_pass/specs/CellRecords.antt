@@ -65,7 +65,7 @@ pub record CellFull (k m : CellPass) : Type 0 where
   pub acts : count_of k.view < count_of m.view
   pub up_to_date : IsUpToDate m.view
 
--- the pass met another, which was a and is b
+-- a pass, k before and m after, met another, a before and b after: it has seen all that either had, and the other is unchanged
 pub record CellMet (a b k m : CellPass) : Type 0 where
   pub own : (b.board ≡ a.board) × (m.board ≡ k.board)
   pub says : LiveMet (cell_pass_view a.view) (cell_pass_view b.view) (cell_pass_view k.view) (cell_pass_view m.view)

@@ -21,8 +21,8 @@ use ucl_board::{Board, Reading};
 use ucl_live_board::{LiveBoard, MAX_REPORTERS, TooManyReporters, View};
 use ucl_word::{Accepted, EventCall, OutOfMemory, Refusal, ReporterNo};
 
-/// A board in one sequence cell of thirteen words: the twelve matches, and the number of enlisted reporters. Contracts see which
-/// cell it is.
+/// A board of thirteen words that are read and written as a whole, by calls that may wait: the twelve matches, and the number of enlisted
+/// reporters. Contracts see which cell it is.
 #[derive(Drop)]
 pub struct CellBoard {
     cell: Cell,

@@ -99,7 +99,7 @@ pub record IsFieldBefore (text field rest : List ℕ) : Type 0 where
   pub begins : begins_row text ≡ true
   pub reads : (fields : Row) → next_record default_config st.StartField fields [] text ≡ next_record default_config st.StartField (fields ++ field ∷ []) [] rest
 
--- this field ends the row of a text, behind which there is no other
+-- a text is this field, the last of a row, and no further row follows it
 pub record EndsRow (text field : List ℕ) : Type 0 where
   pub state : State
   pub rest : List ℕ

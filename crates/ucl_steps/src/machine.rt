@@ -356,7 +356,7 @@ impl Machine {
         self.hold(caller, Pending::Answered { call });
     }
 
-    /// Returns the length of the history.
+    /// Returns the point in time that is now: the length of the history.
     fn now(&self) -> u16
         requires { IsReachable (state_of self.now) }
         ensures { result ≡ length (state_of self.now).history }
