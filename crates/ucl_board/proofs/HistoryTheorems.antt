@@ -1,34 +1,179 @@
--- The theorems of fixtures and histories.
-use Rattle.std.proofs.Common.{◌≡◌, ◌≢◌, ℕ, zero, suc, ◌+◌, ◌-◌, ◌*◌, ◌<◌, ◌≤◌, ◌==◌, List, [], ◌∷◌, ◌++◌, take, drop, set, length, refl, sym, ap, ◌∙◌, subst}
-use Rattle.std.proofs.Common.{arith, Option, Some, None, append-nil, length-append}
-use Rattle.std.specs.Prelude.{if◌then◌else◌}
-use Rattle.std.specs.List.{fold, All}
-use Rattle.std.specs.Result.{is_ok}
-use Rattle.std.proofs.lemmas.List.Elements.{All-head, All-tail}
-use Rattle.std.proofs.lemmas.List.{nil_from_length, take-append-drop}
+-- Histories: the entries of a match and the board after one entry more, the theorems, and prefixes of histories.
+use Rattle.std.proofs.Common.{◌≡◌, ◌≢◌, ℕ, ◌+◌, ◌-◌, ◌<◌, Bool, cond, ◌==◌, List, [], ◌∷◌, ◌++◌, length, map, filter, get_or, set}
+use Rattle.std.proofs.Common.{replicate, Option, Some, None, Ok, Err, refl, sym, ap, ◌∙◌, subst, arith, append-nil, eq-eqb, ne_eqb, ◌*◌}
+use Rattle.std.proofs.Common.{◌≤◌, take, drop, length-append, slice_get, append_assoc, true, true≢false}
+use Rattle.std.proofs.lemmas.List.{map-append, get_or-map, get_or-set_same, get_or-set_other, length-set, get_or_default, nil_from_length}
+use Rattle.std.proofs.lemmas.List.{take-append-drop, take-take, take-append-le}
+use Rattle.std.proofs.lemmas.List.Elements.{filter-append, All-head, All-tail}
+use Rattle.std.proofs.lemmas.Grind.{same_number_lists}
 use mathlib.Core.Logic.{dite}
 use native.Mathlib.Decide.{ℕ_discrete, dec_le}
 use Rattle.ucl_word.specs.declared.record.MatchRecord.{MatchRecord}
 use Rattle.ucl_word.specs.declared.event.Kind.{Kind}
+use Rattle.ucl_word.specs.declared.event.EventCall.{EventCall}
 use Rattle.ucl_word.specs.declared.refusal.Refusal.{Refusal}
-use Rattle.ucl_word.specs.Record.{max_number}
-use Rattle.ucl_word.specs.Rules.{refusal_of, answer, after}
+use Rattle.ucl_word.specs.Rules.{refusal_of, answer, reply_of, after}
+use Rattle.ucl_word.specs.Record.{scheduled, IsValid, max_number}
 use Rattle.ucl_word.specs.Layout.{word_of, record_at}
-use Rattle.ucl_word.specs.Counts.{MatchEntry, counted_match, IsAccepted}
-use Rattle.ucl_word.proofs.Sequences.{may_none, may_next, may_begin, may_last, may_induction}
-use Rattle.ucl_word.proofs.EntryCounts.{number_of_count, counted}
-use Rattle.ucl_word.proofs.AcceptedEvents.{Accepts, accepts, events_apart}
-use Rattle.ucl_word.proofs.ValidRecords.{number_valid}
-use Rattle.ucl_word.proofs.Words.{record_back, words_apart}
+use Rattle.ucl_word.specs.Counts.{MatchEntry, counted_match, IsAccepted, IsLegalMatch}
+use Rattle.ucl_word.proofs.Sequences.{may_none, may_next, may_last, may_induction, may_begin, at_longer}
+use Rattle.ucl_word.proofs.EntryCounts.{entered, legal_valid, number_of_count, counted}
+use Rattle.ucl_word.proofs.Words.{record_back, word_valid, words_apart}
 use Rattle.ucl_board.specs.declared.entry.Entry.{Entry}
-use Rattle.ucl_board.specs.Fixtures.{Fixture, at, fixture_of, IsMatch, IsSlot}
-use Rattle.ucl_board.specs.Words.{version_of, word_at}
-use Rattle.ucl_board.specs.History.{entries_of, match_after, board_of, MayFollow, IsLegal, followed_by, Attempt, IsAttempt, entry_of, after_attempt}
-use Rattle.ucl_board.specs.History.{board_after, accepted_of}
-use Rattle.ucl_board.specs.Theorems.{EachPairMeetsOnce, BeginningsAreLegal, BoardsAreCounted, VersionsAreLengths, SameNumberSameWord, SameWordSameEntries}
-use Rattle.ucl_board.specs.Theorems.{OneWordChanges, EntryIsKnown, AttemptsAreCounted}
-use Rattle.ucl_board.proofs.Histories.{each_match, each_slot, entries-append, entries_same, entries_else, legal_match, match_valid, board_words, word_after}
-use Rattle.ucl_board.proofs.Histories.{game_after, next_board}
+use Rattle.ucl_board.specs.Fixtures.{match_numbers, IsMatch, IsSlot, Fixture, at, fixture_of}
+use Rattle.ucl_board.specs.Words.{AreWords, word_at, game_at, AreReadable, AreReadAs, version_of}
+use Rattle.ucl_board.specs.History.{of_match, entries_of, match_after, board_of, MayFollow, IsLegal, followed_by, sequential_reply}
+use Rattle.ucl_board.specs.History.{Attempt, IsAttempt, entry_of, after_attempt, board_after, accepted_of}
+use Rattle.ucl_word.specs.Migration.{IsReadAs}
+use Rattle.ucl_word.proofs.FirstWords.{read_valid, read_kept, readable}
+use Rattle.std.specs.Prelude.{if◌then◌else◌}
+use Rattle.std.specs.List.{fold, All}
+use Rattle.std.specs.Result.{is_ok}
+use Rattle.std.proofs.lemmas.List.Sums.{sum_by-set, sum_by-le}
+use Rattle.ucl_word.proofs.AcceptedEvents.{Accepts, accepts, events_apart, expects_number}
+use Rattle.ucl_word.proofs.ValidRecords.{number_valid}
+use Rattle.ucl_board.specs.Theorems.{EachPairMeetsOnce, BeginningsAreLegal, VersionsAreLengths, SameNumberSameWord, SameWordSameEntries}
+use Rattle.ucl_board.specs.Theorems.{OneWordChanges, EntryIsKnown, AttemptsAreCounted, IsStaleAgain, AcceptedEventsGoStale}
+use Rattle.ucl_board.specs.Theorems.{RepeatsChangeNothing, BoardsGoOn}
+use Rattle.std.proofs.lemmas.Option.{slice_get-get_or}
+use Rattle.std.proofs.Math.Seq.{take-append-add}
+use mathlib.Core.List.{IsPrefix}
+use Rattle.ucl_word.specs.declared.refusal.Refusal.TheVariants.{Stale}
+
+pub entries-append : (g : ℕ) (h l : List Entry) → entries_of g (h ++ l) ≡ entries_of g h ++ entries_of g l
+entries-append g h l = ap (map of_match) (filter-append (λ e. e.game == g) h l) ∙ map-append of_match (filter (λ e. e.game == g) h) (filter (λ e. e.game == g) l)
+
+pub entries_same : (h : List Entry) (e : Entry) (g : ℕ) → e.game ≡ g → entries_of g (followed_by h e) ≡ entered (entries_of g h) e.reporter e.kind
+entries_same h e g is = entries-append g h (e ∷ []) ∙ ap (λ (b : Bool). entries_of g h ++ map of_match (cond b (e ∷ []) [])) (eq-eqb e.game g is)
+
+pub entries_else : (h : List Entry) (e : Entry) (g : ℕ) → e.game ≢ g → entries_of g (followed_by h e) ≡ entries_of g h
+entries_else h e g not = entries-append g h (e ∷ []) ∙ (ap (λ (b : Bool). entries_of g h ++ map of_match (cond b (e ∷ []) [])) (ne_eqb e.game g not) ∙ append-nil (entries_of g h))
+
+-- the entries of each match of a legal history are legal
+pub legal_match : (g : ℕ) (h : List Entry) → IsLegal h → IsLegalMatch (entries_of g h)
+legal_match g = may_induction MayFollow (λ h. IsLegalMatch (entries_of g h)) (may_none IsAccepted) (λ h e legal may was. dite (ℕ_discrete e.game g)
+    (λ is. rw (entries_same h e g is) (may_next IsAccepted (entries_of g h) (of_match e) was (subst (λ (g : ℕ). IsAccepted (entries_of g h) (of_match e)) is may.accepted)))
+    (λ not. rw (entries_else h e g not) was))
+
+pub match_valid : (g : ℕ) (h : List Entry) → IsLegal h → IsValid (match_after h g)
+match_valid g h legal = legal_valid (entries_of g h) (legal_match g h legal)
+
+pub or_else : (P : ℕ → Type 0) (k : ℕ) → P k → (n : ℕ) → (n ≢ k → P n) → P n
+or_else P k p n other = dite (ℕ_discrete n k) (λ is. subst P (sym is) p) other
+
+-- what holds of matches 1 to 12 holds of each match
+pub each_match : (P : ℕ → Type 0) → P 1 → P 2 → P 3 → P 4 → P 5 → P 6 → P 7 → P 8 → P 9 → P 10 → P 11 → P 12 → (n : ℕ) → IsMatch n → P n
+each_match P a b c d e f g h i j k l n is = or_else P 1 a n (λ not_1. or_else P 2 b n
+    (λ not_2. or_else P 3 c n (λ not_3. or_else P 4 d n
+    (λ not_4. or_else P 5 e n (λ not_5. or_else P 6 f n
+    (λ not_6. or_else P 7 g n (λ not_7. or_else P 8 h n
+    (λ not_8. or_else P 9 i n (λ not_9. or_else P 10 j n (λ not_10. or_else P 11 k n (λ not_11. or_else P 12 l n (λ not_12. absurd (omega arith)))))))))))))
+
+-- what holds of slots 1 to 4 holds of each slot
+pub each_slot : (P : ℕ → Type 0) → P 1 → P 2 → P 3 → P 4 → (n : ℕ) → IsSlot n → P n
+each_slot P a b c d n is = or_else P 1 a n (λ not_1. or_else P 2 b n (λ not_2. or_else P 3 c n (λ not_3. or_else P 4 d n (λ not_4. absurd (omega arith)))))
+
+pub number_listed : (g d : ℕ) → IsMatch g → get_or match_numbers (g - 1) d ≡ g
+number_listed g d is = each_match (λ g. get_or match_numbers (g - 1) d ≡ g) refl refl refl refl refl refl refl refl refl refl refl refl g is
+
+-- the board of no event
+pub board_none : replicate 12 (word_of scheduled) ≡ board_of []
+unfolding board_of counted_match
+board_none = refl
+
+pub board_length : (h : List Entry) → length (board_of h) ≡ 12
+unfolding board_of
+board_length h = refl
+
+word_listed : (h : List Entry) (k d : ℕ) → k < 12 → get_or (board_of h) k d ≡ word_of (match_after h (get_or match_numbers k 0))
+unfolding board_of
+word_listed h k d below = get_or-map (λ game. word_of (match_after h game)) match_numbers k 0 d below
+
+pub word_after : (h : List Entry) (g : ℕ) → IsMatch g → word_at (board_of h) g ≡ word_of (match_after h g)
+word_after h g is = word_listed h (g - 1) 0 (omega arith) ∙ ap (λ game. word_of (match_after h game)) (number_listed g 0 is)
+
+pub game_after : (h : List Entry) (g : ℕ) → IsLegal h → IsMatch g → game_at (board_of h) g ≡ match_after h g
+game_after h g legal is = ap record_at (word_after h g is) ∙ record_back (match_after h g) (match_valid g h legal)
+
+-- boards with the same word for each match are equal
+pub same_boards : (xs ys : List ℕ) → length xs ≡ 12 → length ys ≡ 12 → ((g : ℕ) → IsMatch g → word_at xs g ≡ word_at ys g) → xs ≡ ys
+same_boards xs ys a b each = same_number_lists xs ys (a ∙ sym b)
+    (λ k l. let e : k + 1 - 1 ≡ k = omega arith in subst (λ (k : ℕ). get_or xs k 0 ≡ get_or ys k 0) e (each (k + 1) (omega arith, omega arith)))
+
+pub board_next : (h : List Entry) (e : Entry) → IsMatch e.game → board_of (followed_by h e) ≡ set (board_of h) (e.game - 1) (word_of (match_after (followed_by h e) e.game))
+board_next h e game = let long = board_length h in
+    same_boards (board_of (followed_by h e)) (set (board_of h) (e.game - 1) (word_of (match_after (followed_by h e) e.game))) (board_length (followed_by h e))
+    (length-set (board_of h) (e.game - 1) _ ∙ board_length h)
+    (λ g is. dite (ℕ_discrete e.game g)
+    (λ same. subst (λ (g : ℕ). word_at (board_of (followed_by h e)) g ≡ word_at (set (board_of h) (e.game - 1) (word_of (match_after (followed_by h e) e.game))) g) same
+    (word_after (followed_by h e) e.game game ∙ sym (get_or-set_same (board_of h) (e.game - 1) _ 0 (omega arith))))
+    (λ not. word_after (followed_by h e) g is ∙ (ap (λ (es : List MatchEntry). word_of (counted_match es)) (entries_else h e g not)
+    ∙ (sym (word_after h g is) ∙ sym (get_or-set_other (board_of h) (e.game - 1) (g - 1) _ 0 (λ eq. not (omega arith)))))))
+
+-- the board and the history after an accepted event
+pub next_board : (h : List Entry) (words : List ℕ) (game reporter : ℕ) (kind : Kind) (m : MatchRecord) → IsLegal h → board_of h ≡ words → IsMatch game
+    → ((es : List MatchEntry) → IsLegalMatch es → counted_match es ≡ game_at words game → (m ≡ counted_match (entered es reporter kind)) × IsLegalMatch (entered es reporter kind))
+    → (set words (game - 1) (word_of m) ≡ board_of (followed_by h (record { game = game; reporter = reporter; kind = kind })))
+    × IsLegal (followed_by h (record { game = game; reporter = reporter; kind = kind }))
+next_board h words game reporter kind m legal is range counted =
+    let e : Entry = record { game = game; reporter = reporter; kind = kind } in
+    let was : match_after h game ≡ game_at words game = sym (game_after h game legal range) ∙ ap (λ (ws : List ℕ). game_at ws game) is in
+    let next = counted (entries_of game h) (legal_match game h legal) was in
+    let same : match_after (followed_by h e) game ≡ m = ap counted_match (entries_same h e game refl) ∙ sym next.0 in (
+      sym (board_next h e range ∙ ap (λ (m : MatchRecord). set (board_of h) (game - 1) (word_of m)) same ∙ ap (λ (ws : List ℕ). set ws (game - 1) (word_of m)) is),
+      may_next MayFollow h e legal (record { game = range; accepted = may_last IsAccepted (entries_of game h) (of_match e) next.1 }),
+    )
+
+pub board_words : (h : List Entry) → IsLegal h → AreWords (board_of h)
+board_words h legal = record {
+  twelve = board_length h;
+  each = λ k d below. let long = board_length h in let in_range : k < 12 = omega arith in
+      let at : get_or (board_of h) k d ≡ word_of (match_after h (get_or match_numbers k 0)) = word_listed h k d in_range in
+      rw at (record { of = match_after h (get_or match_numbers k 0); valid = match_valid (get_or match_numbers k 0) h legal; packed = refl });
+}
+
+-- the reply after a history, by the board
+pub reply_is : (h : List Entry) (words : List ℕ) (call : EventCall) → IsLegal h → board_of h ≡ words → IsMatch call.game → reply_of (game_at words call.game) call ≡ sequential_reply h call
+reply_is h words call legal is range =
+    let was : game_at words call.game ≡ match_after h call.game = ap (λ (ws : List ℕ). game_at ws call.game) (sym is) ∙ game_after h call.game legal range in
+    ap (λ (m : MatchRecord). reply_of m call) was
+
+pub accepted_reply : (m g : MatchRecord) (call : EventCall) (number : ℕ) → m ≡ g → refusal_of m call.expected call.kind ≡ None → number ≡ m.number + 1
+    → Ok (record { number = number }) ≡ reply_of g call
+accepted_reply m g call number same none is = subst (λ (g : MatchRecord). Ok (record { number = number }) ≡ reply_of g call) same (rw is (sym (ap (λ (o : Option Refusal). answer m.number o) none)))
+
+pub refused_reply : (m g : MatchRecord) (call : EventCall) (refusal : Refusal) → m ≡ g → refusal_of m call.expected call.kind ≡ Some refusal → Err refusal ≡ reply_of g call
+refused_reply m g call refusal same some = subst (λ (g : MatchRecord). Err refusal ≡ reply_of g call) same (sym (ap (λ (o : Option Refusal). answer m.number o) some))
+
+-- ---- the board that twelve words are read as
+
+-- one word more
+pub next_read : (words read : List ℕ) (i from at word : ℕ) → length read ≡ 12 → i < 12 → from ≡ i → at ≡ i
+    → ((k : ℕ) → k < i → IsReadAs (get_or words k 0) (get_or read k 0)) → IsReadAs (get_or words from 0) word
+    → (k : ℕ) → k < i + 1 → IsReadAs (get_or words k 0) (get_or (set read at word) k 0)
+next_read words read i from at word long few from_is at_is before now k below = rw at_is (dite (ℕ_discrete k i)
+    (λ is. rw (is, get_or-set_same read i word 0 (omega arith)) (subst (λ (n : ℕ). IsReadAs (get_or words n 0) word) from_is now))
+    (λ not. rw (get_or-set_other read i k word 0 not) (before k (omega arith))))
+
+module _ (words read : List ℕ) (long : length words ≡ 12) (read_long : length read ≡ 12) (each : (k : ℕ) → k < 12 → IsReadAs (get_or words k 0) (get_or read k 0)) where
+  pub are_read : AreReadAs words read
+  are_read = record { twelve = read_long; each = λ game is. each (game - 1) (omega arith) }
+
+  pub are_words : AreWords read
+  are_words = record {
+    twelve = read_long;
+    each = λ k d below. let in_range : k < 12 = omega arith in rw (get_or_default read k d 0 below) (read_valid (get_or words k 0) (get_or read k 0) (each k in_range));
+  }
+
+  pub are_readable : AreReadable words
+  are_readable = record {
+    twelve = long;
+    each = λ k d below. let in_range : k < 12 = omega arith in rw (get_or_default words k d 0 below) (readable (get_or words k 0) (get_or read k 0) (each k in_range));
+  }
+
+  pub are_kept : AreWords words → read ≡ words
+  are_kept is = same_boards read words read_long long (λ game within. let in_range : game - 1 < 12 = omega arith in let below : game - 1 < length words = omega arith in
+      read_kept (get_or words (game - 1) 0) (get_or read (game - 1) 0) (is.each (game - 1) 0 below) (each (game - 1) in_range))
 
 key : Fixture → ℕ
 key f = 10 * f.home + f.away
@@ -65,73 +210,39 @@ fixtures_meet home away h a not = let m = meet home h away a not in record {
 pub beginnings : BeginningsAreLegal
 beginnings = may_begin MayFollow
 
-pub boards : BoardsAreCounted
-boards h legal = (board_words h legal, λ game is. game_after h game legal is)
-
--- how many entries the matches from 1 to n have
-total : ℕ → List Entry → ℕ
-total zero h = 0
-total (suc n) h = length (entries_of (suc n) h) + total n h
-
 pub more : (h : List Entry) (e : Entry) (g : ℕ) → e.game ≡ g → length (entries_of g (followed_by h e)) ≡ length (entries_of g h) + 1
 more h e g is = ap length (entries_same h e g is) ∙ length-append (entries_of g h) _
 
-total_same : (n : ℕ) (h : List Entry) (e : Entry) → n < e.game → total n (followed_by h e) ≡ total n h
-unfolding total
-total_same zero h e l = refl
-total_same (suc n) h e l = let a = total_same n h e (omega arith) in let b = ap length (entries_else h e (suc n) (λ z. omega arith)) in omega arith
-
-total_more : (n : ℕ) (h : List Entry) (e : Entry) → 1 ≤ e.game → e.game ≤ n → total n (followed_by h e) ≡ total n h + 1
-unfolding total
-total_more zero h e low high = absurd (omega arith)
-total_more (suc n) h e low high = dite (ℕ_discrete e.game (suc n))
-    (λ is. let a = total_same n h e (omega arith) in let b = more h e (suc n) is in omega arith)
-    (λ not. let a = total_more n h e low (omega arith) in let b = ap length (entries_else h e (suc n) not) in omega arith)
-
-total_none : total 12 [] ≡ 0
-unfolding total
-total_none = refl
-
-total_length : (h : List Entry) → IsLegal h → total 12 h ≡ length h
-total_length = may_induction MayFollow (λ h. total 12 h ≡ length h) total_none (λ h e legal may was.
-    let a = total_more 12 h e may.game.0 may.game.1 in let b = length-append h (e ∷ []) in omega arith)
-
+-- the event number of a match on the board of a legal history
 number_shown : (h : List Entry) (g : ℕ) → IsLegal h → (record_at (word_of (match_after h g))).number ≡ length (entries_of g h)
 number_shown h g legal = ap (λ (m : MatchRecord). m.number) (record_back (match_after h g) (match_valid g h legal)) ∙ number_of_count (entries_of g h)
 
-number_bound : (h : List Entry) (g : ℕ) → IsLegal h → length (entries_of g h) ≤ max_number
-number_bound h g legal = let v = number_valid (match_after h g) (match_valid g h legal) in let n = number_of_count (entries_of g h) in omega arith
+version_none : version_of (board_of []) ≡ 0
+unfolding board_of counted_match word_of record_at
+version_none = refl
 
-version_total : (h : List Entry) → IsLegal h → version_of (board_of h) ≡ total 12 h
-unfolding board_of total
-version_total h legal =
-    let n1 = number_shown h 1 legal in
-    let n2 = number_shown h 2 legal in
-    let n3 = number_shown h 3 legal in
-    let n4 = number_shown h 4 legal in
-    let n5 = number_shown h 5 legal in
-    let n6 = number_shown h 6 legal in
-    let n7 = number_shown h 7 legal in
-    let n8 = number_shown h 8 legal in
-    let n9 = number_shown h 9 legal in
-    let n10 = number_shown h 10 legal in
-    let n11 = number_shown h 11 legal in
-    let n12 = number_shown h 12 legal in
-    omega arith
+version_more : (h : List Entry) (e : Entry) → IsLegal h → MayFollow h e → version_of (board_of (followed_by h e)) ≡ version_of (board_of h) + 1
+version_more h e legal may =
+    let long = board_length h in let game = may.game in
+    let sum = sum_by-set (λ word. (record_at word).number) (board_of h) (e.game - 1) (word_of (match_after (followed_by h e) e.game)) 0 (omega arith) in
+    let before = ap (λ (word : ℕ). (record_at word).number) (word_after h e.game game) ∙ number_shown h e.game legal in
+    let now = number_shown (followed_by h e) e.game (may_next MayFollow h e legal may) in
+    let one = more h e e.game refl in
+    ap version_of (board_next h e game) ∙ omega arith
 
-total_bound : (n : ℕ) (h : List Entry) → IsLegal h → total n h ≤ n * max_number
-unfolding total
-total_bound zero h legal = omega arith
-total_bound (suc n) h legal = let a = total_bound n h legal in let b = number_bound h (suc n) legal in omega arith
+version_length : (h : List Entry) → IsLegal h → version_of (board_of h) ≡ length h
+version_length = may_induction MayFollow (λ h. version_of (board_of h) ≡ length h) version_none
+    (λ h e legal may was. let more = version_more h e legal may in let long = length-append h (e ∷ []) in omega arith)
 
 pub versions : VersionsAreLengths
-versions h legal = let t = total_length h legal in let b = total_bound 12 h legal in (version_total h legal ∙ t, omega arith)
+versions h legal =
+    let is = version_length h legal in let long = board_length h in
+    let most = sum_by-le (λ word. (record_at word).number) max_number (board_of h)
+    (λ k d below. number_valid _ (word_valid _ ((board_words h legal).each k d below))) in
+    (is, omega arith)
 
 begin_of : (h : List Entry) (i j : ℕ) → i ≤ j → (rest : List Entry) × (take j h ≡ take i h ++ rest)
-begin_of h zero j le = (take j h, refl)
-begin_of h (suc i) zero le = absurd (omega arith)
-begin_of [] (suc i) (suc j) le = ([], refl)
-begin_of (x ∷ h) (suc i) (suc j) le = let t = begin_of h i j (omega arith) in (t.0, ap (λ (z : List Entry). x ∷ z) t.1)
+begin_of h i j le = (drop i (take j h), sym (take-append-drop i (take j h)) ∙ ap (λ (l : List Entry). l ++ drop i (take j h)) (take-take i j h le))
 
 same_later : (h : List Entry) (i j g : ℕ) → i ≤ j → length (entries_of g (take i h)) ≡ length (entries_of g (take j h)) → entries_of g (take i h) ≡ entries_of g (take j h)
 same_later h i j g le same =
@@ -182,42 +293,34 @@ may_attempt h a legal is none = record {
 }
 
 attempt_cases : (h : List Entry) (a : Attempt) (o : Option Refusal) → refusal_of (match_after h a.call.game) a.call.expected a.call.kind ≡ o → IsLegal h → IsAttempt a
-    → IsLegal (if is_ok (answer (match_after h a.call.game).number o) then followed_by h (entry_of a.reporter a.call) else h)
-attempt_cases h a None none legal is = may_next MayFollow h (entry_of a.reporter a.call) legal (may_attempt h a legal is none)
-attempt_cases h a (Some r) some legal is = legal
+    → ((if is_ok (answer (match_after h a.call.game).number o) then set (board_of h) (a.call.game - 1) (word_of (after (match_after h a.call.game) a.reporter a.call.kind)) else board_of h)
+    ≡ board_of (if is_ok (answer (match_after h a.call.game).number o) then followed_by h (entry_of a.reporter a.call) else h))
+    × IsLegal (if is_ok (answer (match_after h a.call.game).number o) then followed_by h (entry_of a.reporter a.call) else h)
+attempt_cases h a None none legal is =
+    next_board h (board_of h) a.call.game a.reporter a.call.kind (after (match_after h a.call.game) a.reporter a.call.kind) legal refl is.1
+    (λ es legal_es is_es. counted es (match_after h a.call.game) a.reporter a.call.expected a.call.kind legal_es (is_es ∙ game_after h a.call.game legal is.1) is.0 none)
+attempt_cases h a (Some r) some legal is = (refl, legal)
 
-pub attempt_legal : (h : List Entry) (a : Attempt) → IsLegal h → IsAttempt a → IsLegal (after_attempt h a)
-attempt_legal h a legal is = attempt_cases h a (refusal_of (match_after h a.call.game) a.call.expected a.call.kind) refl legal is
+attempt_made : (h : List Entry) (a : Attempt) → IsLegal h → IsAttempt a → (board_after (board_of h) a ≡ board_of (after_attempt h a)) × IsLegal (after_attempt h a)
+attempt_made h a legal is = rw (game_after h a.call.game legal is.1) (attempt_cases h a (refusal_of (match_after h a.call.game) a.call.expected a.call.kind) refl legal is)
 
 -- the board after an attempt is that of the history after it
-attempt_boards : (h : List Entry) (a : Attempt) (o : Option Refusal) → refusal_of (match_after h a.call.game) a.call.expected a.call.kind ≡ o → IsLegal h → IsAttempt a
-    → (if is_ok (answer (match_after h a.call.game).number o) then set (board_of h) (a.call.game - 1) (word_of (after (match_after h a.call.game) a.reporter a.call.kind)) else board_of h)
-    ≡ board_of (if is_ok (answer (match_after h a.call.game).number o) then followed_by h (entry_of a.reporter a.call) else h)
-attempt_boards h a None none legal is =
-    (next_board h (board_of h) a.call.game a.reporter a.call.kind (after (match_after h a.call.game) a.reporter a.call.kind) legal refl is.1
-    (λ es legal_es is_es. counted es (match_after h a.call.game) a.reporter a.call.expected a.call.kind legal_es (is_es ∙ game_after h a.call.game legal is.1) is.0 none)).0
-attempt_boards h a (Some r) some legal is = refl
-
 pub attempt_board : (h : List Entry) (a : Attempt) → IsLegal h → IsAttempt a → board_after (board_of h) a ≡ board_of (after_attempt h a)
-attempt_board h a legal is = rw (game_after h a.call.game legal is.1) (attempt_boards h a (refusal_of (match_after h a.call.game) a.call.expected a.call.kind) refl legal is)
+attempt_board h a legal is = (attempt_made h a legal is).0
 
 pub attempts_from : (h : List Entry) (attempts : List Attempt) → IsLegal h → All IsAttempt attempts
     → IsLegal (fold after_attempt h attempts) × (fold board_after (board_of h) attempts ≡ board_of (fold after_attempt h attempts))
 attempts_from h [] legal all = (legal, refl)
 attempts_from h (a ∷ attempts) legal all =
     let is = All-head IsAttempt a attempts all in
-    let rest = attempts_from (after_attempt h a) attempts (attempt_legal h a legal is) (All-tail IsAttempt a attempts all) in
-    (rest.0, ap (λ (ws : List ℕ). fold board_after ws attempts) (attempt_board h a legal is) ∙ rest.1)
+    let made = attempt_made h a legal is in
+    let rest = attempts_from (after_attempt h a) attempts made.1 (All-tail IsAttempt a attempts all) in
+    (rest.0, ap (λ (ws : List ℕ). fold board_after ws attempts) made.0 ∙ rest.1)
 
 pub attempts_counted : AttemptsAreCounted
 attempts_counted attempts all =
     let end = attempts_from [] attempts (may_none MayFollow) all in
     record { legal = end.0; board = end.1; version = ap version_of end.1 ∙ (versions (accepted_of attempts) end.0).0 }
-
-made_alike : (e f : Entry) → e.game ≡ f.game → e.reporter ≡ f.reporter → e.kind ≡ f.kind → e ≡ f
-made_alike e f game reporter kind = ap (λ (g : ℕ). record { game = g; reporter = e.reporter; kind = e.kind }) game
-    ∙ (ap (λ (r : ℕ). record { game = f.game; reporter = r; kind = e.kind }) reporter
-    ∙ ap (λ (k : Kind). record { game = f.game; reporter = f.reporter; kind = k }) kind)
 
 -- the record after one entry more
 entry_after : (h : List Entry) (e : Entry) → IsLegal (followed_by h e)
@@ -248,6 +351,97 @@ entry_known h k e f legal_e legal_f game was is =
     let accepts_f : Accepts (match_after h e.game) (length (entries_of e.game k)) f.kind = subst (λ (m : MatchRecord). Accepts m (length (entries_of e.game k)) f.kind) (sym m) at_f.0 in
     let after_f : match_after (followed_by k f) e.game ≡ after (match_after h e.game) f.reporter f.kind = at_f.1 ∙ ap (λ (m : MatchRecord). after m f.reporter f.kind) (sym m) in
     let apart = events_apart (match_after h e.game) e.reporter f.reporter (length (entries_of e.game h)) (length (entries_of e.game k)) e.kind f.kind at_e.0 accepts_f (sym at_e.1 ∙ (n ∙ after_f)) in
-    let reporter = apart.0 in
-    let kind = apart.1 in
-    made_alike e f game reporter kind
+    let reporter = apart.0 in let kind = apart.1 in
+    let same : record { game = e.game; reporter = e.reporter; kind = e.kind } ≡ record { game = f.game; reporter = f.reporter; kind = f.kind } = cc in same
+
+module _ {X : Type 0} where
+  pub begins_none : (h : List X) → IsPrefix [] h
+  begins_none h = (h, refl)
+
+  pub begins_same : (h : List X) → IsPrefix h h
+  begins_same h = ([], append-nil h)
+
+  pub begins_more : (s h : List X) (e : X) → IsPrefix s h → IsPrefix s (h ++ e ∷ [])
+  begins_more s h e p = (p.0 ++ e ∷ [], sym (append_assoc s p.0 (e ∷ [])) ∙ ap (λ l. l ++ e ∷ []) p.1)
+
+  pub begins_through : (a b c : List X) → IsPrefix a b → IsPrefix b c → IsPrefix a c
+  begins_through a b c p q = (p.0 ++ q.0, sym (append_assoc a p.0 q.0) ∙ (ap (λ l. l ++ q.0) p.1 ∙ q.1))
+
+  pub begins_length : (s h : List X) → IsPrefix s h → length s ≤ length h
+  begins_length s h p = let l = ap length (sym p.1) ∙ length-append s p.0 in omega arith
+
+  pub begins_take : (s h : List X) (v : ℕ) → IsPrefix s h → length s ≤ v → IsPrefix s (take v h)
+  begins_take s h v p le = let is : length s + (v - length s) ≡ v = omega arith in
+      (take (v - length s) p.0, sym (take-append-add s p.0 (v - length s)) ∙ (ap (λ (n : ℕ). take n (s ++ p.0)) is ∙ ap (take v) p.1))
+
+  -- within the beginning, the lists agree
+  pub take_beginning : (s h : List X) (k : ℕ) → IsPrefix s h → k ≤ length s → take k h ≡ take k s
+  take_beginning s h k p le = ap (take k) (sym p.1) ∙ take-append-le k s p.0 le
+
+  pub at_beginning : (s h : List X) (k : ℕ) (e : X) → IsPrefix s h → slice_get s k ≡ Some e → slice_get h k ≡ Some e
+  at_beginning s h k e p at = ap (λ (z : List X). slice_get z k) (sym p.1) ∙ at_longer s p.0 k e at
+
+  pub get_back : (xs ys : List X) (k : ℕ) (x : X) → k < length xs → slice_get (xs ++ ys) k ≡ Some x → slice_get xs k ≡ Some x
+  get_back xs ys k x l e = let at = at_longer xs ys k (get_or xs k x) (slice_get-get_or xs k x l) in let is = slice_get-get_or xs k x l in cc
+
+  pub at_within : (s h : List X) (k : ℕ) (e : X) → IsPrefix s h → k < length s → slice_get h k ≡ Some e → slice_get s k ≡ Some e
+  at_within s h k e p le at = get_back s p.0 k e le (ap (λ (z : List X). slice_get z k) p.1 ∙ at)
+
+-- ---- accepted events that are entered again, and boards that go on from a history
+
+begins_attempt : (h : List Entry) (a : Attempt) (o : Option Refusal) → refusal_of (match_after h a.call.game) a.call.expected a.call.kind ≡ o → IsPrefix h (after_attempt h a)
+begins_attempt h a None none = rw none (begins_more h h (entry_of a.reporter a.call) (begins_same h))
+begins_attempt h a (Some r) some = rw some (begins_same h)
+
+begins_all : (h : List Entry) (attempts : List Attempt) → IsPrefix h (fold after_attempt h attempts)
+begins_all h [] = begins_same h
+begins_all h (a ∷ attempts) =
+    begins_through h (after_attempt h a) _ (begins_attempt h a (refusal_of (match_after h a.call.game) a.call.expected a.call.kind) refl) (begins_all (after_attempt h a) attempts)
+
+entries_grow : (game : ℕ) (h : List Entry) (attempts : List Attempt) → length (entries_of game h) ≤ length (entries_of game (fold after_attempt h attempts))
+entries_grow game h attempts = let p = begins_all h attempts in
+    begins_length _ _ (entries_of game p.0, sym (entries-append game h p.0) ∙ ap (entries_of game) p.1)
+
+-- an attempt that is not refused has no refusal
+pub no_refusal : (number : ℕ) (o : Option Refusal) → is_ok (answer number o) ≡ true → o ≡ None
+no_refusal number None ok = refl
+no_refusal number (Some r) ok = absurd (true≢false (sym ok))
+
+-- an accepted event names the number of its match
+pub number_expected : (h : List Entry) (a : Attempt) → refusal_of (match_after h a.call.game) a.call.expected a.call.kind ≡ None → a.call.expected ≡ length (entries_of a.call.game h)
+number_expected h a none = let is = accepts (match_after h a.call.game) a.call.expected a.call.kind none in
+    expects_number _ _ _ is ∙ number_of_count (entries_of a.call.game h)
+
+-- an event that names another number is stale
+pub is_stale : (m : MatchRecord) (expected : ℕ) (kind : Kind) → expected ≢ m.number → refusal_of m expected kind ≡ Some (Stale m.number)
+unfolding refusal_of
+is_stale m expected kind not = rw (ne_eqb expected m.number not) refl
+
+-- an event that names a number below that of its match is refused as stale, and nothing is changed
+stale_again : (h : List Entry) (a : Attempt) → IsLegal h → IsAttempt a → a.call.expected ≢ length (entries_of a.call.game h) → IsStaleAgain h a
+stale_again h a legal is not =
+    let stale = is_stale (match_after h a.call.game) a.call.expected a.call.kind (λ e. not (e ∙ number_of_count (entries_of a.call.game h))) in
+    let same : after_attempt h a ≡ h = rw stale refl in
+    record { refused = rw stale refl; history_is = same; board_is = attempt_board h a legal is ∙ ap board_of same }
+
+pub go_stale : AcceptedEventsGoStale
+go_stale h a attempts legal all ok =
+    let is = All-head IsAttempt a attempts all in
+    let none = no_refusal (match_after h a.call.game).number (refusal_of (match_after h a.call.game) a.call.expected a.call.kind) ok in
+    let named = number_expected h a none in
+    let next : after_attempt h a ≡ followed_by h (entry_of a.reporter a.call) = rw none refl in
+    let longer = entries_grow a.call.game (after_attempt h a) attempts in
+    let one = ap (λ (l : List Entry). length (entries_of a.call.game l)) next ∙ more h (entry_of a.reporter a.call) a.call.game refl in
+    stale_again (fold after_attempt h (a ∷ attempts)) a (attempts_from h (a ∷ attempts) legal all).0 is (λ e. absurd (omega arith))
+
+pub repeats : RepeatsChangeNothing
+repeats h a between rest legal all ok =
+    let stale = go_stale h a between legal all ok in
+    let board = (attempts_from h (a ∷ between) legal all).1 in (
+      ap (λ (l : List Entry). fold after_attempt l rest) stale.history_is,
+      ap (λ (ws : List ℕ). fold board_after (board_after ws a) rest) board
+          ∙ (ap (λ (ws : List ℕ). fold board_after ws rest) stale.board_is ∙ ap (λ (ws : List ℕ). fold board_after ws rest) (sym board)),
+    )
+
+pub go_on : BoardsGoOn
+go_on h attempts legal all = let end = attempts_from h attempts legal all in record { begins = begins_all h attempts; legal = end.0; board = end.1 }

@@ -1,4 +1,7 @@
--- The log of a board that threads share: all steps that passes took on its words, oldest first.
+-- The log of a board that threads share: all atomic steps of passes on its words, oldest first. A match word is a match in 64 bits.
+-- A pass is a thread's permission to use the board; its seat is a number that tells it from other passes. To enlist a reader's pass is to
+-- make it a reporter's, with a reporter's number. The history has the accepted events, its entries, oldest first. A report loads a match
+-- word, then compares and exchanges it; a reading loads all twelve (its first collect), then loads them again (its second).
 use Rattle.std.specs.Prelude.{◌≡◌, ℕ, ◌+◌, ◌==◌, ◌<◌, ◌≤◌, Bool, List, [], ◌∷◌, All, map, filter, length, Option, Some, None}
 use Rattle.std.specs.List.{flat_map, fold}
 use Rattle.ucl_word.specs.declared.event.EventCall.{EventCall}
@@ -8,16 +11,15 @@ use Rattle.ucl_board.specs.declared.entry.Entry.{Entry}
 use Rattle.ucl_board.specs.Fixtures.{IsMatch}
 use Rattle.ucl_board.specs.History.{MayFollow, match_after}
 
--- what a step on a match word is: the load and the exchange of a report, of which the load says for which event it is, and the
--- loads of a reading's first and second collect
+-- the kinds of steps on a match word: Look, the load by which a report of `call` begins; Swap, the compare and exchange of a report; First
+-- and Second, a load of the first and of the second collect of a reading
 pub data AccessKind : Type 0 where
   Look : (call : EventCall) → AccessKind
   Swap : AccessKind
   First : AccessKind
   Second : AccessKind
 
--- a step on a match word: what it was, of which match, the word that it found, its place in the log, and the length of the history
--- just before it
+-- a step on a match word: its kind, the match, the word that it found, its place in the log, and the length of the history before it
 pub record Access : Type 0 where
   pub kind : AccessKind
   pub game : ℕ
@@ -25,125 +27,133 @@ pub record Access : Type 0 where
   pub place : ℕ
   pub at : ℕ
 
+-- the access of this kind to this match, with the word found, the place in the log and the length of the history before it
 abbrev pub access : AccessKind → ℕ → ℕ → ℕ → ℕ → Access
 access kind game found place at = record { kind = kind; game = game; found = found; place = place; at = at }
 
--- what a step looked at: the word of one match, by an access that found this word; the number of enlisted reporters, which it found
--- to be so many, and, at an enlistment, took to be one more; or the whole board at once, as a reading that was shown or not
+-- the target of a step, and what the step found: Match, the word of one match; Enlisted, how many reporters are enlisted; Enlists, the
+-- same, which the step raised by one; Whole, all words in one step, on a board that has such steps; `shown` if a reading returned them
 pub data Target : Type 0 where
   Match : (kind : AccessKind) (game found : ℕ) → Target
   Enlisted : (found : ℕ) → Target
   Enlists : (found : ℕ) → Target
   Whole : (shown : Bool) → Target
 
--- a step: what it looked at, its place in the log, the length of the history just before it, and the entry that it added
+-- a step: its target, its place in the log, the length of the history just before it, and the entry that it added, if it added one
 pub record Taken : Type 0 where
   pub target : Target
   pub place : ℕ
   pub at : ℕ
   pub entry : Option Entry
 
+-- the step on this target, with its place in the log, the length of the history before it, and the entry that it added
 abbrev pub step_taken : Target → ℕ → ℕ → Option Entry → Taken
 step_taken target place at entry = record { target = target; place = place; at = at; entry = entry }
 
--- a step in the log: the seat of the pass that took it, and the step
+-- a step in the log, with the seat of the pass that took it
 pub record Logged : Type 0 where
   pub seat : ℕ
   pub step : Taken
 
+-- this step as an item of the log, with the seat of the pass that took it
 abbrev pub logged_by : ℕ → Taken → Logged
 logged_by seat step = record { seat = seat; step = step }
 
--- the steps of all passes
+-- the log: the steps of all passes, oldest first
 abbrev pub Log : Type 0
 Log = List Logged
 
--- the steps of one seat
+-- the steps of a log that the pass with this seat took
 abbrev pub taken_by : ℕ → Log → List Taken
-taken_by seat log = map (λ x. x.step) (filter (λ x. x.seat == seat) log)
+taken_by seat log = map (λ logged. logged.step) (filter (λ logged. logged.seat == seat) log)
 
--- the entry of a step, where it added one
+-- a list of the entry that a step added, empty if it added none
 abbrev pub entry_list : Option Entry → List Entry
 entry_list None = []
-entry_list (Some e) = e ∷ []
+entry_list (Some entry) = entry ∷ []
 
--- the entries that steps added
+-- the entries that these steps added, oldest first
 abbrev pub added_by : List Taken → List Entry
-added_by steps = flat_map (λ x. entry_list x.entry) steps
+added_by steps = flat_map (λ step. entry_list step.entry) steps
 
--- the history is the entries of the log
+-- the history of a log: the entries that its steps added, oldest first
 abbrev pub history_of : Log → List Entry
-history_of log = flat_map (λ x. entry_list x.step.entry) log
+history_of log = flat_map (λ logged. entry_list logged.step.entry) log
 
--- how many reporters are enlisted after the steps of a log
+-- a list of the number of the reporter that a step on this target enlisted, empty if it enlisted none
 abbrev pub enlists : Target → List ℕ
 enlists (Enlists found) = (found + 1) ∷ []
 enlists _ = []
 
+-- how many reporters the steps of a log enlisted
 abbrev pub enlisted_by : Log → ℕ
-enlisted_by log = length (flat_map (λ x. enlists x.step.target) log)
+enlisted_by log = length (flat_map (λ logged. enlists logged.step.target) log)
 
--- the number that these steps gave their pass, 0 for a reader
+-- the reporter's number of a pass after a step on this target: if the step enlists, one more than it found, else `number`, as before
 abbrev pub number_by : Target → ℕ → ℕ
 number_by (Enlists found) number = found + 1
 number_by target number = number
 
+-- the reporter's number of the pass that took these steps, 0 if it is a reader's pass
 abbrev pub number_of : List Taken → ℕ
-number_of steps = fold (λ (number : ℕ) (x : Taken). number_by x.target number) 0 steps
+number_of steps = fold (λ (number : ℕ) (step : Taken). number_by step.target number) 0 steps
 
--- the access of a step on a match word
+-- a list of the access that a step on this target was, with its place in the log and the history's length; empty if on no match word
 abbrev pub access_list : Target → ℕ → ℕ → List Access
 access_list (Match kind game found) place at = access kind game found place at ∷ []
 access_list _ place at = []
 
--- the accesses of steps on match words
+-- the accesses among these steps, which are the steps on one match word
 abbrev pub accesses_in : List Taken → List Access
-accesses_in steps = flat_map (λ x. access_list x.target x.place x.at) steps
+accesses_in steps = flat_map (λ step. access_list step.target step.place step.at) steps
 
--- what was found is what is there: the word of the match after the history, or as many reporters as were enlisted
+-- a step on this target after this log found what was there: the match's word, or how many are enlisted (fewer than 255 if it enlists one)
 abbrev pub IsThere : Log → Target → Type 0
-IsThere log (Match kind game n) = IsMatch game × (n ≡ word_of (match_after (history_of log) game))
+IsThere log (Match kind game found) = IsMatch game × (found ≡ word_of (match_after (history_of log) game))
 IsThere log (Enlisted found) = found ≡ enlisted_by log
 IsThere log (Enlists found) = (found ≡ enlisted_by log) × (found < 255)
 IsThere log (Whole shown) = Unit {0}
 
--- a step that may come next: it is after all steps before it, and found what they left
-pub record MayBeTaken (log : Log) (x : Logged) : Type 0 where
-  pub place : (x.step.place ≡ length log) × (x.step.at ≡ length (history_of log))
-  pub there : IsThere log x.step.target
+-- a step that may come next in a log: it names its place and the history's length rightly, and found what the steps before it left
+pub record MayBeTaken (log : Log) (logged : Logged) : Type 0 where
+  pub place : (logged.step.place ≡ length log) × (logged.step.at ≡ length (history_of log))
+  pub there : IsThere log logged.step.target
 
--- each step comes after the whole log of the steps before it
+-- a possible log: each step may come next after the steps before it
 abbrev pub IsLog : Log → Type 0
 IsLog log = EachMay MayBeTaken log
 
--- the entry of a step may follow the history, and has the number of its pass
+-- the entry that a step adds, if any, may come next in the history, and has `number`, the reporter's number of the pass that took the step
 abbrev pub MayAdd : List Entry → ℕ → Option Entry → Type 0
 MayAdd history number None = Unit {0}
-MayAdd history number (Some e) = MayFollow history e × (e.reporter ≡ number)
+MayAdd history number (Some entry) = MayFollow history entry × (entry.reporter ≡ number)
 
--- a number is given to a pass that has none, by a step that adds no entry
+-- if a step on this target enlists, its pass had no reporter's number yet (`number` is 0), and the step added no entry
 abbrev pub MayEnlist : ℕ → Target → Option Entry → Type 0
 MayEnlist number (Enlists found) entry = (number ≡ 0) × (entry ≡ None)
 MayEnlist number target entry = Unit {0}
 
--- a step by which the history stays legal and each pass has the entries of its own number
-pub record IsLegalStep (log : Log) (x : Logged) : Type 0 where
-  pub adds : MayAdd (history_of log) (number_of (taken_by x.seat log)) x.step.entry
-  pub enlists : MayEnlist (number_of (taken_by x.seat log)) x.step.target x.step.entry
+-- a step that keeps the history of a log legal, adds only an entry with the number of its own pass, and enlists only a pass with no number
+pub record IsLegalStep (log : Log) (logged : Logged) : Type 0 where
+  pub adds : MayAdd (history_of log) (number_of (taken_by logged.seat log)) logged.step.entry
+  pub enlists : MayEnlist (number_of (taken_by logged.seat log)) logged.step.target logged.step.entry
 
+-- a log in which each step is legal after the steps before it: it keeps the history legal and adds only entries of its own pass
 abbrev pub HasLegalSteps : Log → Type 0
 HasLegalSteps log = EachMay IsLegalStep log
 
--- the steps of all logs that follow this rule are such
+-- `May`, a rule on which steps may follow a log, is legal: each possible log all of whose steps it allows has only legal steps
 abbrev pub IsLegalRule : (Log → Logged → Type 0) → Type 0
 IsLegalRule May = (log : Log) → IsLog log → EachMay May log → HasLegalSteps log
 
--- the numbers of reporters are those from 1 to the number of the enlisted, which is at most 255, each of one seat; each entry has
--- one of them; and the entries that the steps of a seat added are those of its number
+-- in a log at most 255 reporters are enlisted (few); their numbers are from 1 to how many they are (low), no two seats have one number
+-- (apart), and some seat has each (given); each entry has one of these numbers (ranked); and the entries that a seat's steps added are all
+-- those with its number (mine)
 pub record LogFacts (log : Log) : Type 0 where
   pub few : enlisted_by log ≤ 255
   pub low : (seat : ℕ) → number_of (taken_by seat log) ≤ enlisted_by log
-  pub apart : (i j : ℕ) → 0 < number_of (taken_by i log) → number_of (taken_by i log) ≡ number_of (taken_by j log) → i ≡ j
-  pub given : (n : ℕ) → 1 ≤ n → n ≤ enlisted_by log → (seat : ℕ) × (number_of (taken_by seat log) ≡ n)
-  pub ranked : All (λ (e : Entry). (0 < e.reporter) × (e.reporter ≤ enlisted_by log)) (history_of log)
-  pub mine : (seat : ℕ) → added_by (taken_by seat log) ≡ filter (λ e. e.reporter == number_of (taken_by seat log)) (history_of log)
+  pub apart : (seat other : ℕ) → 0 < number_of (taken_by seat log) → number_of (taken_by seat log) ≡ number_of (taken_by other log)
+      → seat ≡ other
+  pub given : (number : ℕ) → 1 ≤ number → number ≤ enlisted_by log → (seat : ℕ) × (number_of (taken_by seat log) ≡ number)
+  pub ranked : All (λ (entry : Entry). (0 < entry.reporter) × (entry.reporter ≤ enlisted_by log)) (history_of log)
+  pub mine : (seat : ℕ) → added_by (taken_by seat log) ≡ filter (λ entry. entry.reporter == number_of (taken_by seat log)) (history_of log)

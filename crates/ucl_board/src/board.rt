@@ -1,11 +1,14 @@
-//! The board as one thread sees it: twelve words, and the calls on them. The rules by which an event changes a word are in `ucl_word`.
+//! The board of one thread: twelve words, and the calls on them. The rules by which an event changes a word are in `ucl_word`. A *word* is
+//! a match packed into 64 bits; a *layout* says where its fields stand, and words of the first layout are read too. The *event number* of a
+//! match is how many events it accepted; the sum of these is the board's *version*. A record of a match is *valid* if a match can have it.
 
 ghost use Rattle.std.specs.Prelude.{◌≡◌, ℕ, ◌+◌, ◌-◌, ◌≤◌, List, [], ◌↔◌, Ok, IsOk, IfOk, IfErr};
 ghost use Rattle.ucl_word.specs.Record.{IsValid};
+ghost use Rattle.ucl_word.specs.Counts.{GainsOne};
 ghost use Rattle.ucl_word.specs.Rules.{reply_of};
 ghost use Rattle.ucl_board.specs.declared.entry.Entry.{Entry};
 ghost use Rattle.ucl_board.specs.Words.{AreWords, AreReadable, AreReadAs, IsFirstBad, game_at, max_version, version_of};
-ghost use Rattle.ucl_board.specs.History.{GainsEntry, IsLegal, board_of, board_after, sequential_reply, attempted, entry_of};
+ghost use Rattle.ucl_board.specs.History.{IsLegal, board_of, board_after, sequential_reply, attempted, entry_of};
 
 use std::marker::Model;
 use thiserror::Error;
@@ -14,11 +17,11 @@ use ucl_word::{
     pack, record_of,
 };
 
-/// 10: the first of twelve words that is the packing of no valid record, in neither layout.
+/// Refusal 10: one of twelve words is the packing of no valid record, neither in the first layout nor in the present one.
 #[derive(Clone, Copy, Debug, PartialEq, Eq, Error)]
 #[error("bad word 10: word {index}")]
 pub struct BadWordAt {
-    /// Which word, 1 to 12.
+    /// The place of the first such word, 1 to 12, which is the number of its match.
     pub index: u8,
 }
 
@@ -35,6 +38,7 @@ pub struct BadWordAt {
 /// ```
 #[derive(Clone, Copy, Debug, PartialEq, Eq)]
 pub struct Board {
+    /// The words of matches 1 to 12, each the packing of a valid record.
     words: [u64; 12],
 }
 
@@ -62,12 +66,12 @@ impl Board {
         }
     }
 
-    /// Reads the board of these words for matches 1 to 12, each by [`migrate`]: words of the first layout, of the one that
-    /// [`words`](Board::words) gives, or of both. From a board's own `words` it reads that board.
+    /// Creates the board of these words for matches 1 to 12, each in the first layout or in the present one, to which [`migrate`] converts
+    /// it. From the words that [`words`](Board::words) returns it creates the same board.
     ///
     /// # Errors
     ///
-    /// [`BadWordAt`] with the least index of a word that is of neither layout.
+    /// [`BadWordAt`] with the place of the first word that is the packing of no valid record in either layout.
     pub fn of_words(words: &[u64; 12]) -> Result<Board, BadWordAt>
         ensures board { IfOk result (λ b. AreReadAs words.now b) }
         ensures again { AreWords words.now → result ≡ Ok words.now }
@@ -84,8 +88,8 @@ impl Board {
         Ok(Board { words: read })
     }
 
-    /// Creates the board of these words for matches 1 to 12, each of which has to be the packing of a valid record. It does not test them
-    /// again, as [`of_words`](Board::of_words) does.
+    /// Creates the board of these words for matches 1 to 12, each of which has to be the packing of a valid record in the present
+    /// layout. It does not test them, as [`of_words`](Board::of_words) does.
     pub fn of_packed(words: &[u64; 12]) -> Board
         requires { AreWords words.now }
         ensures { result ≡ words.now }
@@ -112,9 +116,9 @@ impl Board {
         record_of(self.words[usize::from(game.get() - 1)])
     }
 
-    /// Returns the sum of the event numbers of the matches, at most twelve times the greatest number.
+    /// Returns the version of the board: the sum of the event numbers of its matches, at most 49,140.
     ///
-    /// On a board that came from [`fresh`](Board::fresh) by events it is how many were accepted.
+    /// If the board came from [`fresh`](Board::fresh) by events, this is how many of them were accepted.
     pub fn version(&self) -> u16
         ensures sum { result ≡ version_of self.now }
         ensures bound { result ≤ max_version }
@@ -128,12 +132,12 @@ impl Board {
 
     /// Enters an event in its match by the rules of events, and leaves the other eleven matches as they were.
     ///
-    /// Over counting: if the board is that of a legal history, the reply is the sequential one after this history,
-    /// and an accepted event leaves the board of the history with its entry, which is legal.
+    /// By counting: if the board is that of a legal history, which is a list of events each accepted after those before it, the reply is
+    /// counted from this history; after an accepted event the board is that of the history with the event at its end, which is legal.
     ///
     /// # Errors
     ///
-    /// The first rule that refuses the event. A refusal changes nothing.
+    /// The [`Refusal`] by the first rule that holds. A refusal changes nothing.
     pub fn report(&mut self, reporter: ReporterNo, call: &EventCall) -> Result<Accepted, Refusal>
         ensures reply { result ≡ reply_of (game_at self.old call.now.game) call.now }
         ensures unchanged { IfErr result (λ r. self.new ≡ self.old) }
@@ -141,7 +145,7 @@ impl Board {
         ensures sequential { (history : List Entry) → IsLegal history → board_of history ≡ self.old
             → result ≡ sequential_reply history call.now }
         ensures counted { IfOk result
-            (λ _. GainsEntry self.old (entry_of reporter call.now) self.new) }
+            (λ _. GainsOne IsLegal board_of (entry_of reporter call.now) self.old self.new) }
     {
         let at = usize::from(call.game.get() - 1);
         match next_word(self.words[at], reporter, call.expected, call.kind) {

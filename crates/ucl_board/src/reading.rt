@@ -1,11 +1,12 @@
-//! Readings of a board.
+//! `Reading`, a copy of a board with its version. The *version* of a board is the sum of the event numbers of its twelve matches, and an
+//! event number is how many events a match accepted.
 
 ghost use Rattle.std.specs.Prelude.{◌≡◌};
 ghost use Rattle.ucl_board.specs.History.{reading_of};
 
 use crate::board::Board;
 
-/// A copy of a board, and how many events it had taken in.
+/// A copy of a board with its version, which is how many events the board had accepted.
 ///
 /// # Examples
 ///
@@ -14,14 +15,14 @@ use crate::board::Board;
 /// ```
 #[derive(Clone, Copy, Debug, PartialEq, Eq)]
 pub struct Reading {
-    /// The board.
+    /// The copy of the board.
     pub board: Board,
-    /// In what a board that threads share answers, the version of `board`: the sum of its twelve event numbers.
+    /// The version of `board`, if the reading was made by [`of`](Reading::of) or by a board that threads share.
     pub version: u16,
 }
 
 impl Reading {
-    /// Copies a board, with its version.
+    /// Copies a board, and adds its version.
     pub fn of(board: &Board) -> Reading
         ensures { result ≡ reading_of board.now }
     {

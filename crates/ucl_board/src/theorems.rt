@@ -1,54 +1,58 @@
-//! Theorems on all fixtures and histories. The functions do nothing: each is there for its contract.
+//! Theorems on all fixtures and histories. The functions do nothing: each is there for its contract. A *history* is a list of accepted
+//! events, its *entries*; it is *legal* if each is accepted after those before it. A match's *event number* is how many events it accepted,
+//! its *word* is its record packed into 64 bits, and a board has twelve; the board's *version* is the sum of their event numbers. An event
+//! is refused as *stale* if it expects another event number than its match has.
 
 ghost use Rattle.ucl_board.specs.Theorems.{EachPairMeetsOnce, BeginningsAreLegal, BoardsAreCounted, VersionsAreLengths, SameNumberSameWord, SameWordSameEntries, OneWordChanges, EntryIsKnown, AttemptsAreCounted, AcceptedEventsGoStale, RepeatsChangeNothing, BoardsGoOn};
 
-/// Each club meets each other club once at home.
+/// Each club of a group plays each other club exactly once at home.
 #[tactic(auto, using(crate::proofs::HistoryTheorems::fixtures_meet))]
 pub fn each_pair_meets_once()
     ensures { EachPairMeetsOnce }
 {}
 
-/// A prefix of a legal history is legal.
+/// Each prefix of a legal history is legal.
 #[tactic(auto, using(crate::proofs::HistoryTheorems::beginnings))]
 pub fn beginnings_are_legal()
     ensures { BeginningsAreLegal }
 {}
 
-/// The board of a legal history has the records that are counted, as words of valid records.
+/// The words of the board after a legal history are those of valid records, and hold for each match the record counted from its entries.
+#[tactic(auto, using(crate::proofs::HistoryTheorems::board_words, crate::proofs::HistoryTheorems::game_after))]
 pub fn boards_are_counted()
     ensures { BoardsAreCounted }
 {}
 
-/// The version of the board of a legal history is its length, at most the greatest version.
+/// The version of the board after a legal history is the length of the history, which is at most 49,140.
 pub fn versions_are_lengths()
     ensures { VersionsAreLengths }
 {}
 
-/// A match that has the same number at two places of a history has the same word there.
+/// A match that has the same event number at two points of one history has the same entries and the same word at both.
 #[tactic(auto, using(crate::proofs::HistoryTheorems::same_number))]
 pub fn same_number_same_word()
     ensures { SameNumberSameWord }
 {}
 
-/// A match that has the same word at two places of a legal history has the same entries there.
+/// A match that has the same word at two points of one legal history has the same entries at both.
 #[tactic(auto, using(crate::proofs::HistoryTheorems::same_word))]
 pub fn same_word_same_entries()
     ensures { SameWordSameEntries }
 {}
 
-/// One entry more changes the word of its match, and no other.
+/// An entry at the end of a legal history changes the word of its match, and no other.
 pub fn one_word_changes()
     ensures { OneWordChanges }
 {}
 
-/// Which entry was added to a history follows from its match and the match's word before and after.
+/// The match of the last entry of a legal history, and the word of this match before and after it, determine the entry.
 #[tactic(auto, using(crate::proofs::HistoryTheorems::entry_known))]
 pub fn added_entry_is_known()
     ensures { EntryIsKnown }
 {}
 
-/// Whatever is attempted from the fresh board on, one attempt after the other: the accepted entries are a legal history,
-/// the board is the count over them, and its version is their number.
+/// Whatever events are entered from the fresh board on, one after the other, the accepted ones are a legal history, the board is counted
+/// from them, and its version is how many they are.
 pub fn attempts_are_counted()
     ensures { AttemptsAreCounted }
 {}
@@ -58,13 +62,13 @@ pub fn accepted_events_go_stale()
     ensures { AcceptedEventsGoStale }
 {}
 
-/// Events of which an accepted one is entered again, at any later place, leave the board that they leave without it. Used once for each
-/// event that comes twice, it says the same of any number of them.
+/// An accepted event that is entered again, at any later place, leaves the board that the other events leave without it. Applied once
+/// for each repeated event, the theorem covers any number of them.
 pub fn repeated_events_change_nothing()
     ensures { RepeatsChangeNothing }
 {}
 
-/// A board that goes on from a legal history has a legal history that begins with it, and its board.
+/// Whatever events are entered after a legal history, the history then begins with it and is legal, and its board is the one they leave.
 pub fn boards_go_on()
     ensures { BoardsGoOn }
 {}

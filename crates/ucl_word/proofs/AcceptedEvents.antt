@@ -40,6 +40,9 @@ accepts m expected kind h =
     let j = skip _ _ _ i.1 in
     record { current = a.0; unfinished = b.0; finished = c.0; started = d.0; not_started = e.0; room = f.0; goal = g.0; caution = i.0; limit = j.0 }
 
+pub expects_number : (m : MatchRecord) (expected : ℕ) (kind : Kind) → Accepts m expected kind → expected ≡ m.number
+expects_number m expected kind a = let is = a.current in grind (arith, nat_tests)
+
 pub begun : (s : State) → (is_finished s && true) ≡ false → (is_scheduled s && true) ≡ false → s ≡ InPlay
 begun s f h = search arith
 

@@ -1,81 +1,51 @@
 -- What each change of a word does to its record, and that the next word is that of the record after the event.
-use Rattle.ucl_word.proofs.Common.{Away, Disallow, Err, Finished, FullTime, Goal, Home, InPlay, IsReporter, IsValid, IsWord, KickOff, Kind}
+use Rattle.ucl_word.proofs.Common.{Disallow, Err, Finished, FullTime, Goal, InPlay, IsReporter, IsValid, IsWord, KickOff, Kind}
 use Rattle.ucl_word.proofs.Common.{MatchRecord, None, Ok, Red, Refusal, Reopen, Result, Scheduled, SecondYellow, Side, Yellow, after, ap}
 use Rattle.ucl_word.proofs.Common.{arith, bits_at, changed_by, false, layout, nat_le, nat_tests, record_at, refl, refusal_of, state_code}
-use Rattle.ucl_word.proofs.Common.{sym, true, word_of, ℕ, ◌*◌, ◌+◌, ◌-◌, ◌<◌, ◌==◌, ◌^◌, ◌∙◌, ◌≡◌, ◌≤◌}
+use Rattle.ucl_word.proofs.Common.{true, word_of, ℕ, ◌*◌, ◌+◌, ◌-◌, ◌<◌, ◌==◌, ◌^◌, ◌≡◌, ◌≤◌}
 use Rattle.ucl_word.specs.Rules.{goals, yellows, expulsions}
-use Rattle.ucl_word.specs.declared.refusal.Refusal.TheVariants.{NoGoal, NoCaution}
+use Rattle.ucl_word.specs.declared.refusal.Refusal.TheVariants.{NoGoal, NoCaution, LimitReached}
 use Rattle.ucl_word.specs.Changes.{goals_field, yellows_field, expulsions_field, Raises, Lowers, Changes}
-use Rattle.ucl_word.proofs.ValidRecords.{parts, whole}
-use Rattle.ucl_word.proofs.Words.{word_high, word_valid, word_packed, record_back}
+use Rattle.ucl_word.proofs.Words.{word_high, word_valid, word_packed}
 use Rattle.ucl_word.proofs.AcceptedEvents.{accepts, after_valid}
 
 pub word_below : (word : ℕ) → IsWord word → word < 2 ^ 62
 word_below word is = let high = word_high word is in omega arith
 
 -- the fields of a side
-goals_held : (side : Side) (word : ℕ) → goals side (record_at word) ≡ bits_at word (goals_field side).low layout.home_goals.width
+held : (side : Side) (word : ℕ) → (goals side (record_at word) ≡ bits_at word (goals_field side).low layout.home_goals.width)
+    × (yellows side (record_at word) ≡ bits_at word (yellows_field side).low layout.home_yellows.width)
+    × (expulsions side (record_at word) ≡ bits_at word (expulsions_field side).low layout.home_expulsions.width)
 unfolding record_at
-goals_held side word = search arith
-
-yellows_held : (side : Side) (word : ℕ) → yellows side (record_at word) ≡ bits_at word (yellows_field side).low layout.home_yellows.width
-unfolding record_at
-yellows_held side word = search arith
-
-expulsions_held : (side : Side) (word : ℕ) → expulsions side (record_at word) ≡ bits_at word (expulsions_field side).low layout.home_expulsions.width
-unfolding record_at
-expulsions_held side word = search arith
+held side word = (search arith, search arith, search arith)
 
 -- each kind's change of the record, as a sum
-goal_added : (side : Side) (m : MatchRecord) → word_of (changed_by (Goal side) m) ≡ word_of m + 2 ^ (goals_field side).low
+added : (side : Side) (m : MatchRecord) → (word_of (changed_by (Goal side) m) ≡ word_of m + 2 ^ (goals_field side).low)
+    × (word_of (changed_by (Yellow side) m) ≡ word_of m + 2 ^ (yellows_field side).low)
+    × (word_of (changed_by (Red side) m) ≡ word_of m + 2 ^ (expulsions_field side).low)
 unfolding word_of
-goal_added side m = search arith
+added side m = (search arith, search arith, search arith)
 
 goal_taken : (side : Side) (m : MatchRecord) → 0 < goals side m → word_of (changed_by (Disallow side) m) + 2 ^ (goals_field side).low ≡ word_of m
 unfolding word_of
 goal_taken side m some = search arith
 
-yellow_added : (side : Side) (m : MatchRecord) → word_of (changed_by (Yellow side) m) ≡ word_of m + 2 ^ (yellows_field side).low
+moved_on : (m : MatchRecord) → (m.state ≡ Scheduled → word_of (changed_by KickOff m) ≡ word_of m + 2 ^ layout.state.low)
+    × (m.state ≡ InPlay → word_of (changed_by FullTime m) ≡ word_of m + 2 ^ layout.state.low)
 unfolding word_of
-yellow_added side m = search arith
-
-red_added : (side : Side) (m : MatchRecord) → word_of (changed_by (Red side) m) ≡ word_of m + 2 ^ (expulsions_field side).low
-unfolding word_of
-red_added side m = search arith
-
-kicked_off : (m : MatchRecord) → m.state ≡ Scheduled → word_of (changed_by KickOff m) ≡ word_of m + 2 ^ layout.state.low
-unfolding word_of
-kicked_off m state = let code : state_code m.state ≡ 0 = ap state_code state in omega arith
-
-ended : (m : MatchRecord) → m.state ≡ InPlay → word_of (changed_by FullTime m) ≡ word_of m + 2 ^ layout.state.low
-unfolding word_of
-ended m state = let code : state_code m.state ≡ 1 = ap state_code state in omega arith
+moved_on m = (
+  λ state. let code : state_code m.state ≡ 0 = ap state_code state in omega arith,
+  λ state. let code : state_code m.state ≡ 1 = ap state_code state in omega arith,
+)
 
 reopened : (m : MatchRecord) → m.state ≡ Finished → word_of (changed_by Reopen m) + 2 ^ layout.state.low ≡ word_of m
 unfolding word_of
 reopened m state = let code : state_code m.state ≡ 2 = ap state_code state in omega arith
 
--- the record with one yellow less of a side
-without_yellow : Side → MatchRecord → MatchRecord
-without_yellow Home m = record m { home_yellows = m.home_yellows - 1 }
-without_yellow Away m = record m { away_yellows = m.away_yellows - 1 }
-
-yellow_taken : (side : Side) (m : MatchRecord) → 0 < yellows side m → word_of (without_yellow side m) + 2 ^ (yellows_field side).low ≡ word_of m
-unfolding word_of without_yellow
-yellow_taken side m some = search arith
-
-yellow_turned : (side : Side) (m : MatchRecord) → word_of (changed_by (SecondYellow side) m) ≡ word_of (without_yellow side m) + 2 ^ (expulsions_field side).low
-unfolding word_of without_yellow
-yellow_turned side m = search arith
-
-fewer_valid : (side : Side) (m : MatchRecord) → m.state ≡ InPlay → IsValid m → IsValid (without_yellow side m)
-unfolding without_yellow
-fewer_valid Home m e v = let p = parts m v in let w = p.0 in whole (without_yellow Home m) (grind (arith, nat_tests)) (rw e (rw e at p.1))
-fewer_valid Away m e v = let p = parts m v in let w = p.0 in whole (without_yellow Away m) (grind (arith, nat_tests)) (rw e (rw e at p.1))
-
-fewer_expulsions : (side : Side) (m : MatchRecord) → expulsions side (without_yellow side m) ≡ expulsions side m
-unfolding without_yellow
-fewer_expulsions side m = search arith
+yellow_turned : (side : Side) (m : MatchRecord) → 0 < yellows side m
+    → word_of (changed_by (SecondYellow side) m) + 2 ^ (yellows_field side).low ≡ word_of m + 2 ^ (expulsions_field side).low
+unfolding word_of
+yellow_turned side m some = search arith
 
 -- tests on what a field holds
 under_limit : (most n : ℕ) → n < most → nat_le most n ≡ false
@@ -126,10 +96,10 @@ module _ (word : ℕ) (is : IsWord word) where
     by_difference is_next sum = let a = again in omega arith
 
   pub kick_off_changes : m.state ≡ Scheduled → Changes word KickOff (Ok (word + 2 ^ layout.state.low))
-  kick_off_changes state = (refl, by_sum (2 ^ layout.state.low) _ (changed_by KickOff m) refl (kicked_off m state))
+  kick_off_changes state = (refl, by_sum (2 ^ layout.state.low) _ (changed_by KickOff m) refl ((moved_on m).0 state))
 
   pub full_time_changes : m.state ≡ InPlay → Changes word FullTime (Ok (word + 2 ^ layout.state.low))
-  full_time_changes state = (refl, by_sum (2 ^ layout.state.low) _ (changed_by FullTime m) refl (ended m state))
+  full_time_changes state = (refl, by_sum (2 ^ layout.state.low) _ (changed_by FullTime m) refl ((moved_on m).1 state))
 
   pub reopen_below : m.state ≡ Finished → 2 ^ layout.state.low ≤ word
   reopen_below state = let a = again in let r = reopened m state in omega arith
@@ -138,47 +108,42 @@ module _ (word : ℕ) (is : IsWord word) where
   reopen_changes state = let below = reopen_below state in (refl, by_difference (2 ^ layout.state.low) _ (changed_by Reopen m) (omega arith) (reopened m state))
 
   pub goal_changes : (side : Side) (result : Result ℕ Refusal) → Raises word (goals_field side).low layout.home_goals.width 63 result → Changes word (Goal side) result
-  goal_changes side (Ok next) r = (rw (goals_held side word, under_limit _ _ r.0) refl, by_sum _ next _ r.1 (goal_added side m))
-  goal_changes side (Err refusal) r = rw (goals_held side word, at_limit _ _ r.0, r.1) refl
+  goal_changes side (Ok next) r = (rw ((held side word).0, under_limit _ _ r.0) refl, by_sum _ next _ r.1 (added side m).0)
+  goal_changes side (Err refusal) r = rw ((held side word).0, at_limit _ _ r.0, r.1) refl
 
   pub disallow_changes : (side : Side) (result : Result ℕ Refusal) → Lowers word (goals_field side).low layout.home_goals.width NoGoal result → Changes word (Disallow side) result
   disallow_changes side (Ok next) l =
-      let some : 0 < goals side m = rw (goals_held side word) l.0 in
+      let some : 0 < goals side m = rw (held side word).0 l.0 in
       (rw (is_some _ some) refl, by_difference _ next _ l.1 (goal_taken side m some))
-  disallow_changes side (Err refusal) l = rw (goals_held side word, is_none _ l.0, l.1) refl
+  disallow_changes side (Err refusal) l = rw ((held side word).0, is_none _ l.0, l.1) refl
 
   pub yellow_changes : (side : Side) (result : Result ℕ Refusal) → Raises word (yellows_field side).low layout.home_yellows.width 63 result → Changes word (Yellow side) result
-  yellow_changes side (Ok next) r = (rw (yellows_held side word, under_limit _ _ r.0) refl, by_sum _ next _ r.1 (yellow_added side m))
-  yellow_changes side (Err refusal) r = rw (yellows_held side word, at_limit _ _ r.0, r.1) refl
+  yellow_changes side (Ok next) r = (rw ((held side word).1, under_limit _ _ r.0) refl, by_sum _ next _ r.1 (added side m).1)
+  yellow_changes side (Err refusal) r = rw ((held side word).1, at_limit _ _ r.0, r.1) refl
 
   pub red_changes : (side : Side) (result : Result ℕ Refusal) → Raises word (expulsions_field side).low layout.home_expulsions.width 31 result → Changes word (Red side) result
-  red_changes side (Ok next) r = (rw (expulsions_held side word, under_limit _ _ r.0) refl, by_sum _ next _ r.1 (red_added side m))
-  red_changes side (Err refusal) r = rw (expulsions_held side word, at_limit _ _ r.0, r.1) refl
+  red_changes side (Ok next) r = (rw ((held side word).2, under_limit _ _ r.0) refl, by_sum _ next _ r.1 (added side m).2)
+  red_changes side (Err refusal) r = rw ((held side word).2, at_limit _ _ r.0, r.1) refl
 
   -- no second yellow where none stands
   pub no_caution : (side : Side) (refusal : Refusal) → bits_at word (yellows_field side).low layout.home_yellows.width ≡ 0 → refusal ≡ NoCaution → Changes word (SecondYellow side) (Err refusal)
-  no_caution side refusal none missing = rw (yellows_held side word, is_none _ none, missing) refl
+  no_caution side refusal none missing = rw ((held side word).1, is_none _ none, missing) refl
 
-  -- the word with one yellow less is that of a valid record, whose expulsions are those of the match
-  module _ (side : Side) (fewer : ℕ) (state : m.state ≡ InPlay) (some : 0 < bits_at word (yellows_field side).low layout.home_yellows.width)
-      (is_fewer : fewer + 2 ^ (yellows_field side).low ≡ word) where
+  module _ (side : Side) (some : 0 < bits_at word (yellows_field side).low layout.home_yellows.width) where
     cautioned : 0 < yellows side m
-    cautioned = rw (yellows_held side word) some
+    cautioned = rw (held side word).1 some
 
-    fewer_packed : fewer ≡ word_of (without_yellow side m)
-    fewer_packed = by_difference _ fewer (without_yellow side m) is_fewer (yellow_taken side m cautioned)
+    pub no_expulsion : (refusal : Refusal) → (31 ≤ bits_at word (expulsions_field side).low layout.home_expulsions.width) × (refusal ≡ LimitReached)
+        → Changes word (SecondYellow side) (Err refusal)
+    no_expulsion refusal r = rw (is_some _ cautioned, (held side word).2, at_limit _ _ r.0, r.1) refl
 
-    fewer_expelled : bits_at fewer (expulsions_field side).low layout.home_expulsions.width ≡ expulsions side m
-    fewer_expelled =
-        sym (expulsions_held side fewer)
-        ∙ (ap (λ (x : ℕ). expulsions side (record_at x)) fewer_packed
-        ∙ (ap (expulsions side) (record_back (without_yellow side m) (fewer_valid side m state (word_valid word is)))
-        ∙ fewer_expulsions side m))
-
-    pub second_yellow_changes : (result : Result ℕ Refusal) → Raises fewer (expulsions_field side).low layout.home_expulsions.width 31 result → Changes word (SecondYellow side) result
-    second_yellow_changes (Ok next) r =
-        (rw (is_some _ cautioned, ← fewer_expelled, under_limit _ _ r.0) refl, r.1 ∙ (ap (λ (x : ℕ). x + 2 ^ (expulsions_field side).low) fewer_packed ∙ sym (yellow_turned side m)))
-    second_yellow_changes (Err refusal) r = rw (is_some _ cautioned, ← fewer_expelled, at_limit _ _ r.0, r.1) refl
+    pub second_yellow_changes : (fewer more : ℕ) → fewer + 2 ^ (yellows_field side).low ≡ word
+        → (bits_at word (expulsions_field side).low layout.home_expulsions.width < 31) × (more ≡ word + 2 ^ (expulsions_field side).low)
+        → Changes word (SecondYellow side) (Ok (fewer + (more - word)))
+    second_yellow_changes fewer more less r = (
+      rw (is_some _ cautioned, (held side word).2, under_limit _ _ r.0) refl,
+      let a = again in let sum = yellow_turned side m cautioned in let one = r.1 in omega arith,
+    )
 
   -- the word after an accepted event, as a sum, and its bounds
   pub entered : (kind : Kind) (reporter expected changed before : ℕ) → IsReporter reporter → refusal_of m expected kind ≡ None → changed ≡ word_of (changed_by kind m)

@@ -7,7 +7,7 @@ use Rattle.std.specs.Prelude.{IfOk, is_ok}
 use Rattle.ucl_word.specs.Migration.{moved_up, max_number_in_play_of_first_layout, first_word_of, IsFirstValid, IsFirstWord, IsReadable}
 use Rattle.ucl_word.specs.Migration.{IsMoved, IsReadAs}
 use Rattle.ucl_word.specs.Theorems.{LayoutsDiffer, WordsAreReadOneWay}
-use Rattle.ucl_word.proofs.Words.{Tells, tells, record_told, told_back, word_high}
+use Rattle.ucl_word.proofs.Words.{Tells, bounds, record_told, told_back, word_high}
 
 most_numbers : (s : State) (n : ℕ) → n ≤ max_number_in_play_of_first_layout s → n < 2 ^ first_layout.number.width
 most_numbers s n h = search arith
@@ -15,7 +15,7 @@ most_numbers s n h = search arith
 module _ (m : MatchRecord) (is : IsFirstValid m) where
   pub first_told : Tells first_layout.number.width 0 (first_word_of m) m
   unfolding first_word_of
-  first_told = tells first_layout.number.width 0 (first_word_of m) m is.valid (most_numbers m.state m.number is.number) (omega arith)
+  first_told = let n = most_numbers m.state m.number is.number in let b = bounds m is.valid in search arith
 
   pub first_back : record_told first_layout.number.width (first_word_of m) ≡ m
   first_back = told_back first_layout.number.width 0 (first_word_of m) m first_told

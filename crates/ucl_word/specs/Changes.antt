@@ -1,4 +1,6 @@
--- The rules in two parts, as the next word is made: in which state an event of a kind is entered, and what its change is refused for.
+-- The nine rules by which a match refuses an event, in two parts: six on its event number and state, and three on the change that is made.
+-- The last three refuse to disallow a goal that is not there, a second yellow with no yellow before it, and what passes a limit.
+-- A word is a match packed into 64 bits. A field of it is named by its lowest bit and its width, which is how many bits it has.
 use Rattle.std.specs.Prelude.{◌≡◌, ℕ, ◌+◌, ◌^◌, ◌<◌, ◌≤◌, [], ◌∷◌, Option, Some, None, Result, MatchResult}
 use Rattle.ucl_word.specs.declared.record.MatchRecord.{MatchRecord}
 use Rattle.ucl_word.specs.declared.record.State.{State}
@@ -12,45 +14,49 @@ use Rattle.ucl_word.specs.declared.refusal.Refusal.TheVariants.{NoGoal, NoCautio
 use Rattle.ucl_word.specs.Layout.{Field, layout, bits_at, word_of, record_at}
 use Rattle.ucl_word.specs.Rules.{lacks_goal, lacks_caution, passes_limit, first_of, changed_by}
 
--- the state of a match in which an event of this kind is entered
+-- the state that a match must have to accept an event of this kind
 abbrev pub state_for : Kind → State
 state_for KickOff = Scheduled
 state_for Reopen = Finished
 state_for _ = InPlay
 
--- why what the kind changes is refused, if it is; the rules on number and state come before
+-- the refusal of an event of this kind by the first of the last three rules that holds, or none if none of them holds
 abbrev pub change_refusal : MatchRecord → Kind → Option Refusal
-change_refusal m kind = first_of (
-    (lacks_goal m kind, NoGoal)
-    ∷ (lacks_caution m kind, NoCaution)
-    ∷ (passes_limit m kind, LimitReached)
+change_refusal game kind = first_of (
+    (lacks_goal game kind, NoGoal)
+    ∷ (lacks_caution game kind, NoCaution)
+    ∷ (passes_limit game kind, LimitReached)
     ∷ [])
 
+-- the field of a word that holds the goals of a side
 abbrev pub goals_field : Side → Field
 goals_field Home = layout.home_goals
 goals_field Away = layout.away_goals
 
+-- the field of a word that holds the yellow cards of a side that led to no expulsion
 abbrev pub yellows_field : Side → Field
 yellows_field Home = layout.home_yellows
 yellows_field Away = layout.away_yellows
 
+-- the field of a word that holds the expulsions of a side
 abbrev pub expulsions_field : Side → Field
 expulsions_field Home = layout.home_expulsions
 expulsions_field Away = layout.away_expulsions
 
--- the word with one more in a field, or the limit is reached
+-- the result is `word` with one more in its field from bit `low` on, `width` bits wide, or `LimitReached` if that field is `most` or more
 abbrev pub Raises : ℕ → ℕ → ℕ → ℕ → Result ℕ Refusal → Type 0
 Raises word low width most result = MatchResult result
     (λ next. (bits_at word low width < most) × (next ≡ word + 2 ^ low))
     (λ refusal. (most ≤ bits_at word low width) × (refusal ≡ LimitReached))
 
--- the word with one less in a field, or none is there
+-- the result is `word` with one less in its field from bit `low` on, `width` bits wide, or the refusal `missing` if that field is 0
 abbrev pub Lowers : ℕ → ℕ → ℕ → Refusal → Result ℕ Refusal → Type 0
 Lowers word low width missing result = MatchResult result
     (λ next. (0 < bits_at word low width) × (next + 2 ^ low ≡ word))
     (λ refusal. (bits_at word low width ≡ 0) × (refusal ≡ missing))
 
--- the word with what the kind changes, or the rule that refuses the change
+-- the result is `word` with the change that an event of this kind makes, the event number and reporter left as they are; or, if one of the
+-- last three rules refuses the event, the refusal by the first that does
 abbrev pub Changes : ℕ → Kind → Result ℕ Refusal → Type 0
 Changes word kind result = MatchResult result
     (λ next. (change_refusal (record_at word) kind ≡ None) × (next ≡ word_of (changed_by kind (record_at word))))

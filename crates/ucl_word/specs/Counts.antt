@@ -1,4 +1,5 @@
--- A match after a list of its events, by counting; which lists are legal.
+-- The record of a match after a list of its entries, by counting, and which lists of entries are legal.
+-- An entry is an event that was accepted. A list of entries is legal if each of them is accepted after those before it.
 use Rattle.std.specs.Prelude.{◌≡◌, ℕ, List, [], ◌∷◌, ◌++◌, take, Some, slice_get, ◌+◌, ◌-◌, ◌==◌, Bool, true, false, if◌then◌else◌, length, None, count_by}
 use Rattle.ucl_word.specs.declared.record.MatchRecord.{MatchRecord}
 use Rattle.ucl_word.specs.declared.record.State.{State}
@@ -6,88 +7,81 @@ use Rattle.ucl_word.specs.declared.record.State.TheVariants.{Scheduled, InPlay, 
 use Rattle.ucl_word.specs.declared.event.Side.{Side}
 use Rattle.ucl_word.specs.declared.event.Side.TheVariants.{Home, Away}
 use Rattle.ucl_word.specs.declared.event.Kind.{Kind}
-use Rattle.ucl_word.specs.declared.event.Kind.TheVariants.{Goal, Disallow, Yellow, SecondYellow, Red}
+use Rattle.ucl_word.specs.declared.event.Kind.TheVariants.{KickOff, Goal, Disallow, Yellow, SecondYellow, Red, FullTime, Reopen}
 use Rattle.ucl_word.specs.Record.{IsReporter}
-use Rattle.ucl_word.specs.Rules.{is_kick_off, is_full_time, is_reopen, refusal_of}
+use Rattle.ucl_word.specs.Rules.{refusal_of}
 
-pub record EachMay {X : Type 0} (May : List X → X → Type 0) (xs : List X) : Type 0 where
-  pub at : (k : ℕ) (x : X) → slice_get xs k ≡ Some x → May (take k xs) x
+-- each element of the list may follow the list of those before it; the relation `May before element` says that it may
+pub record EachMay {X : Type 0} (May : List X → X → Type 0) (list : List X) : Type 0 where
+  pub at : (place : ℕ) (element : X) → slice_get list place ≡ Some element → May (take place list) element
 
--- where this view of a legal list is as before, the view of the list with one element more, which is legal, is as after
+-- for each legal list that the function `view` maps to `before`: with `element` at its end it is legal too, and is mapped to `after`
 abbrev pub GainsOne : {X Y : Type 0} → (List X → Type 0) → (List X → Y) → X → Y → Y → Type 0
-GainsOne {X} IsLegal view x before after = (xs : List X) → IsLegal xs → view xs ≡ before
-    → (after ≡ view (xs ++ x ∷ [])) × IsLegal (xs ++ x ∷ [])
+GainsOne {X} IsLegal view element before after = (list : List X) → IsLegal list → view list ≡ before
+    → (after ≡ view (list ++ element ∷ [])) × IsLegal (list ++ element ∷ [])
 
--- ---- a match after a list of its events, by counting; which lists are legal
-
--- an event of one match that was accepted: who entered it, and its kind
+-- an entry of one match, which is an accepted event: the number of the reporter who entered it, and its kind
 pub record MatchEntry : Type 0 where
   pub reporter : ℕ
   pub kind : Kind
 
+-- whether two sides are the same
 abbrev pub is_side : Side → Side → Bool
 is_side Home Home = true
-is_side Home Away = false
-is_side Away Home = false
 is_side Away Away = true
+is_side _ _ = false
 
-abbrev pub is_goal : Side → Kind → Bool
-is_goal side (Goal s) = is_side side s
-is_goal side _ = false
+-- whether two kinds of events are the same, and for the same side
+abbrev pub is_kind : Kind → Kind → Bool
+is_kind KickOff KickOff = true
+is_kind (Goal side) (Goal other) = is_side side other
+is_kind (Disallow side) (Disallow other) = is_side side other
+is_kind (Yellow side) (Yellow other) = is_side side other
+is_kind (SecondYellow side) (SecondYellow other) = is_side side other
+is_kind (Red side) (Red other) = is_side side other
+is_kind FullTime FullTime = true
+is_kind Reopen Reopen = true
+is_kind _ _ = false
 
-abbrev pub is_disallow : Side → Kind → Bool
-is_disallow side (Disallow s) = is_side side s
-is_disallow side _ = false
+-- how many of these entries are events of this kind
+abbrev pub count : Kind → List MatchEntry → ℕ
+count kind entries = count_by (λ entry. is_kind kind entry.kind) entries
 
-abbrev pub is_yellow : Side → Kind → Bool
-is_yellow side (Yellow s) = is_side side s
-is_yellow side _ = false
-
-abbrev pub is_second_yellow : Side → Kind → Bool
-is_second_yellow side (SecondYellow s) = is_side side s
-is_second_yellow side _ = false
-
-abbrev pub is_red : Side → Kind → Bool
-is_red side (Red s) = is_side side s
-is_red side _ = false
-
--- how many entries are of such a kind
-abbrev pub count : (Kind → Bool) → List MatchEntry → ℕ
-count is_such es = count_by (λ e. is_such e.kind) es
-
--- with a kick-off, in play where full times and reopenings are equally many: else a full time is not reopened
+-- the state of a match after these entries: scheduled without a kick-off; else in play if as many reopenings as full times; else finished
 abbrev pub state_of : List MatchEntry → State
-state_of es = if count is_kick_off es == 0 then Scheduled else (if count is_full_time es == count is_reopen es then InPlay else Finished)
+state_of entries =
+    if count KickOff entries == 0 then Scheduled else (if count FullTime entries == count Reopen entries then InPlay else Finished)
 
--- who entered the last one, 0 if there is none
+-- the number of the reporter of the last entry, 0 if there is no entry
 abbrev pub last_reporter : List MatchEntry → ℕ
 last_reporter [] = 0
-last_reporter (e ∷ []) = e.reporter
-last_reporter (e ∷ f ∷ es) = last_reporter (f ∷ es)
+last_reporter (entry ∷ []) = entry.reporter
+last_reporter (entry ∷ next ∷ entries) = last_reporter (next ∷ entries)
 
--- the match after these entries
+-- the record of a match after these entries, each number counted: its yellows are those that no second yellow turned into an expulsion
 unfoldable pub counted_match : List MatchEntry → MatchRecord
-counted_match es = record {
-  number = length es;
-  state = state_of es;
-  home_goals = count (is_goal Home) es - count (is_disallow Home) es;
-  away_goals = count (is_goal Away) es - count (is_disallow Away) es;
-  home_yellows = count (is_yellow Home) es - count (is_second_yellow Home) es;
-  away_yellows = count (is_yellow Away) es - count (is_second_yellow Away) es;
-  home_expulsions = count (is_red Home) es + count (is_second_yellow Home) es;
-  away_expulsions = count (is_red Away) es + count (is_second_yellow Away) es;
-  reporter = last_reporter es;
+counted_match entries = record {
+  number = length entries;
+  state = state_of entries;
+  home_goals = count (Goal Home) entries - count (Disallow Home) entries;
+  away_goals = count (Goal Away) entries - count (Disallow Away) entries;
+  home_yellows = count (Yellow Home) entries - count (SecondYellow Home) entries;
+  away_yellows = count (Yellow Away) entries - count (SecondYellow Away) entries;
+  home_expulsions = count (Red Home) entries + count (SecondYellow Home) entries;
+  away_expulsions = count (Red Away) entries + count (SecondYellow Away) entries;
+  reporter = last_reporter entries;
 }
 
--- an entry that is accepted next: of a reporter who has a number, at the number of the match
-pub record IsAccepted (es : List MatchEntry) (e : MatchEntry) : Type 0 where
-  pub reporter : IsReporter e.reporter
-  pub accepted : refusal_of (counted_match es) (length es) e.kind ≡ None
+-- `entry` may come next after `entries`: its reporter's number is 1 to 255, and the match as counted from `entries` accepts its event, if
+-- that expects as event number how many entries there are
+pub record IsAccepted (entries : List MatchEntry) (entry : MatchEntry) : Type 0 where
+  pub reporter : IsReporter entry.reporter
+  pub accepted : refusal_of (counted_match entries) (length entries) entry.kind ≡ None
 
--- each entry is accepted after the entries before it
+-- a legal list of entries of one match: each is accepted after the entries before it
 abbrev pub IsLegalMatch : List MatchEntry → Type 0
-IsLegalMatch es = EachMay IsAccepted es
+IsLegalMatch entries = EachMay IsAccepted entries
 
--- where a record is the match after a legal list of entries, the next is the match after the list with this entry, which is legal
+-- each legal list of entries from which `before` is counted stays legal with this reporter's event at its end, and `next` is then its count
 abbrev pub CountsOneMore : MatchRecord → ℕ → Kind → MatchRecord → Type 0
-CountsOneMore m reporter kind next = GainsOne IsLegalMatch counted_match (record { reporter = reporter; kind = kind }) m next
+CountsOneMore before reporter kind next = GainsOne IsLegalMatch counted_match (record { reporter = reporter; kind = kind }) before next

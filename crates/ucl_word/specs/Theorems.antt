@@ -1,62 +1,67 @@
--- What holds of all records, words and lists of entries.
+-- Theorems on all records, words and lists of entries.
+-- A word is a match packed into 64 bits; a layout says where its fields stand. A record of a match is valid if a match can have it.
+-- An entry is an accepted event; a list of them is legal if each is accepted after those before it.
 use Rattle.std.specs.Prelude.{◌≡◌, ◌↔◌, ℕ, ◌+◌, ◌≤◌, List, None}
 use Rattle.ucl_word.specs.declared.record.MatchRecord.{MatchRecord}
 use Rattle.ucl_word.specs.declared.record.State.{State}
 use Rattle.ucl_word.specs.declared.record.State.TheVariants.{Scheduled, InPlay, Finished}
 use Rattle.ucl_word.specs.declared.event.Side.{Side}
-use Rattle.ucl_word.specs.declared.event.Kind.TheVariants.{FullTime, Reopen}
+use Rattle.ucl_word.specs.declared.event.Kind.TheVariants.{KickOff, Goal, Disallow, Yellow, SecondYellow, FullTime, Reopen}
 use Rattle.ucl_word.specs.Record.{IsReporter, IsValid}
 use Rattle.ucl_word.specs.Layout.{word_of, record_at, IsWord}
 use Rattle.ucl_word.specs.Migration.{IsFirstWord, IsReadAs}
-use Rattle.ucl_word.specs.Rules.{is_kick_off, is_full_time, is_reopen, refusal_of, after}
-use Rattle.ucl_word.specs.Counts.{MatchEntry, count, is_goal, is_disallow, is_yellow, is_second_yellow, counted_match, IsLegalMatch}
+use Rattle.ucl_word.specs.Rules.{refusal_of, after}
+use Rattle.ucl_word.specs.Counts.{MatchEntry, count, counted_match, IsLegalMatch}
 
--- two valid records with one word are one record
+-- two valid records that pack to the same word are the same record
 abbrev pub WordsDiffer : Type 0
-WordsDiffer = (m n : MatchRecord) → IsValid m → IsValid n → word_of m ≡ word_of n → m ≡ n
+WordsDiffer = (game other : MatchRecord) → IsValid game → IsValid other → word_of game ≡ word_of other → game ≡ other
 
--- a valid record is read back from its word
+-- unpacking the word of a valid record gives this record
 abbrev pub WordsAreRead : Type 0
-WordsAreRead = (m : MatchRecord) → IsValid m → record_at (word_of m) ≡ m
+WordsAreRead = (game : MatchRecord) → IsValid game → record_at (word_of game) ≡ game
 
--- no word is of a valid record in both layouts
+-- no word is the packing of a valid record in both the first and the present layout
 abbrev pub LayoutsDiffer : Type 0
 LayoutsDiffer = (word : ℕ) → IsWord word → IsFirstWord word → ⊥
 
--- a word is read as exactly one word, which is of a valid record
+-- a word of the first or present layout is read as only one word of the present layout, and that is the word of a valid record
 abbrev pub WordsAreReadOneWay : Type 0
-WordsAreReadOneWay = (word a b : ℕ) → IsReadAs word a → IsReadAs word b → IsWord a × (a ≡ b)
+WordsAreReadOneWay = (word new other : ℕ) → IsReadAs word new → IsReadAs word other → IsWord new × (new ≡ other)
 
--- a match in play can be ended, whatever its number
+-- a match in play accepts full time, whatever its event number, which is how many events it accepted
 abbrev pub CanBeEnded : Type 0
-CanBeEnded = (m : MatchRecord) → IsValid m → m.state ≡ InPlay → refusal_of m m.number FullTime ≡ None
+CanBeEnded = (game : MatchRecord) → IsValid game → game.state ≡ InPlay → refusal_of game game.number FullTime ≡ None
 
--- a match that was reopened can be ended next: one that has no number left for that is not reopened
+-- a match that has just been reopened accepts full time; one that has accepted 4094 events or more is not reopened
 abbrev pub ReopenedCanBeEnded : Type 0
-ReopenedCanBeEnded = (m : MatchRecord) (reporter : ℕ) → IsValid m → IsReporter reporter → refusal_of m m.number Reopen ≡ None
-    → IsValid (after m reporter Reopen) × (refusal_of (after m reporter Reopen) (m.number + 1) FullTime ≡ None)
+ReopenedCanBeEnded = (game : MatchRecord) (reporter : ℕ) → IsValid game → IsReporter reporter → refusal_of game game.number Reopen ≡ None
+    → IsValid (after game reporter Reopen) × (refusal_of (after game reporter Reopen) (game.number + 1) FullTime ≡ None)
 
--- the cases of a match by its kick-offs, full times and reopenings: none of all, as many full times as reopenings, and one full time more
+-- how often a match in a state was kicked off, ended and reopened: never; or once, and ended as often as reopened, or once more
 abbrev pub CaseOf : State → ℕ → ℕ → ℕ → Type 0
 CaseOf Scheduled kick_offs full_times reopenings = (kick_offs ≡ 0) × (full_times ≡ 0) × (reopenings ≡ 0)
 CaseOf InPlay kick_offs full_times reopenings = (kick_offs ≡ 1) × (full_times ≡ reopenings)
 CaseOf Finished kick_offs full_times reopenings = (kick_offs ≡ 1) × (full_times ≡ reopenings + 1)
 
+-- these entries have as many kick-offs, full times and reopenings as a match in this state has
 abbrev pub IsCase : State → List MatchEntry → Type 0
-IsCase state es = CaseOf state (count is_kick_off es) (count is_full_time es) (count is_reopen es)
+IsCase state entries = CaseOf state (count KickOff entries) (count FullTime entries) (count Reopen entries)
 
--- in a legal list of entries exactly one case holds, that of the match's state
+-- a legal list of entries has as many kick-offs, full times and reopenings as go with the state of its match, and with no other state
 abbrev pub OneCaseHolds : Type 0
-OneCaseHolds = (es : List MatchEntry) → IsLegalMatch es → (s : State) → IsCase s es ↔ (s ≡ (counted_match es).state)
+OneCaseHolds = (entries : List MatchEntry) → IsLegalMatch entries → (state : State)
+    → IsCase state entries ↔ (state ≡ (counted_match entries).state)
 
--- the count of a legal list of entries is a valid record
+-- the record that is counted from a legal list of entries is valid
 abbrev pub CountsAreValid : Type 0
-CountsAreValid = (es : List MatchEntry) → IsLegalMatch es → IsValid (counted_match es)
+CountsAreValid = (entries : List MatchEntry) → IsLegalMatch entries → IsValid (counted_match entries)
 
--- no side has more disallowed goals than goals, nor more second yellows than yellows: the differences of the count are exact
-pub record IsBalanced (es : List MatchEntry) : Type 0 where
-  pub goals : (side : Side) → count (is_disallow side) es ≤ count (is_goal side) es
-  pub yellows : (side : Side) → count (is_second_yellow side) es ≤ count (is_yellow side) es
+-- no side has more disallowed goals than goals, nor more second yellows than yellows: so goals and yellows, as differences, are exact
+pub record IsBalanced (entries : List MatchEntry) : Type 0 where
+  pub goals : (side : Side) → count (Disallow side) entries ≤ count (Goal side) entries
+  pub yellows : (side : Side) → count (SecondYellow side) entries ≤ count (Yellow side) entries
 
+-- no legal list of entries has more disallowed goals than goals or more second yellows than yellows, for either side
 abbrev pub CountsAreBalanced : Type 0
-CountsAreBalanced = (es : List MatchEntry) → IsLegalMatch es → IsBalanced es
+CountsAreBalanced = (entries : List MatchEntry) → IsLegalMatch entries → IsBalanced entries

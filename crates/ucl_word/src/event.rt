@@ -1,12 +1,13 @@
-//! What reporters enter: the kinds of events, an event for one match, and the reply to one that was entered. Refusals are in
-//! `refusal`, and what an event changes is in `rules`.
+//! What reporters enter: the kinds of events, an event for one match, and the reply to an accepted one. A kind has a *name*, as in an event
+//! file, and a *code*, 0 to 12, as in a call from C. The *event number* of a match is how many events it accepted. An event expects one,
+//! and is *stale*, and refused, if its match has another. Refusals are in `refusal`, and what an event changes is in `rules`.
 
 ghost use Rattle.std.specs.Prelude.{◌≡◌};
 ghost use Rattle.ucl_word.specs.Names.{kind_name, kind_named, kind_with};
 
 use crate::match_no::MatchNo;
 
-/// A side of a match.
+/// The home or the visiting side of a match, for which a goal or a card counts.
 #[derive(Clone, Copy, Debug, PartialEq, Eq)]
 pub enum Side {
     /// The club that plays at home.
@@ -15,7 +16,7 @@ pub enum Side {
     Away,
 }
 
-/// What happened in a match, as an event reports it.
+/// The kind of an event: what happened in a match, and for which side, as a reporter enters it.
 ///
 /// # Examples
 ///
@@ -33,7 +34,7 @@ pub enum Kind {
     Disallow(Side),
     /// A player of a side is cautioned.
     Yellow(Side),
-    /// A cautioned player of a side is cautioned again and sent off: one standing yellow becomes an expulsion.
+    /// A cautioned player of a side is cautioned again and sent off: one yellow of the side becomes an expulsion.
     SecondYellow(Side),
     /// A player of a side is sent off at once.
     Red(Side),
@@ -43,7 +44,7 @@ pub enum Kind {
     Reopen,
 }
 
-/// The kinds of events, by their codes.
+/// The kinds of events, each at the index that is its code, 0 to 12.
 // A table, so that a kind that can't be foreseen costs no jump.
 static KINDS: [Kind; 13] = [
     Kind::KickOff,
@@ -62,7 +63,7 @@ static KINDS: [Kind; 13] = [
 ];
 
 impl Kind {
-    /// Returns the name by which a row asks for an event of this kind.
+    /// Returns the name of this kind of event in an event file, such as `goal-home`.
     pub fn name(self) -> &'static str
         ensures { result.now ≡ kind_name self }
     {
@@ -83,7 +84,7 @@ impl Kind {
         }
     }
 
-    /// Returns the kind with this code, if there is one.
+    /// Returns the kind of event with this code, or `None` if the code is over 12.
     #[inline]
     pub fn from_code(code: u32) -> Option<Kind>
         ensures { result ≡ kind_with code }
@@ -91,7 +92,7 @@ impl Kind {
         KINDS.get(code as usize).copied()
     }
 
-    /// Returns the kind with this name, if there is one.
+    /// Returns the kind of event with this name, such as `goal-home`, or `None` if no kind has it.
     #[tactic(auto, unfolding(crate::specs::Names::kind_named))]
     pub fn from_name(name: &[u8]) -> Option<Kind>
         ensures { result ≡ kind_named name.now }
@@ -128,7 +129,7 @@ impl Kind {
     }
 }
 
-/// An event for one match, with the event number that its reporter last saw there.
+/// An event that a reporter enters for one match, with the event number that the reporter last saw this match have.
 ///
 /// # Examples
 ///
@@ -139,15 +140,15 @@ impl Kind {
 pub struct EventCall {
     /// The match, 1 to 12.
     pub game: MatchNo,
-    /// The event number that the reporter last saw for the match. With any other number the event is stale.
+    /// The event number of the match that the reporter last saw. If the match has another one, the event is refused as stale.
     pub expected: u16,
     /// What has happened.
     pub kind: Kind,
 }
 
-/// The reply to an event that was entered.
+/// The reply to an event that was accepted: the event number that its match has now.
 #[derive(Clone, Copy, Debug, PartialEq, Eq)]
 pub struct Accepted {
-    /// The match's event number after the event, 1 to `MAX_NUMBER`.
+    /// The match's event number after the event, 1 to 4095.
     pub number: u16,
 }

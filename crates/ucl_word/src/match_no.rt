@@ -1,4 +1,4 @@
-//! Numbers of matches.
+//! `MatchNo`, the number of one of the twelve matches of a group.
 
 ghost use Rattle.std.specs.Prelude.{◌≡◌, ℕ, ◌≤◌, ◌↔◌, IsSome, IfSome};
 
@@ -28,7 +28,7 @@ impl Model for MatchNo {
 }
 
 impl MatchNo {
-    /// Creates the number of a match, if `number` is 1 to 12.
+    /// Creates the number of a match, or answers `None` if `number` is not 1 to 12.
     pub fn new(number: u8) -> Option<MatchNo>
         ensures exists { IsSome result ↔ ((1 ≤ number) × (number ≤ 12)) }
         ensures value { IfSome result (λ m. m ≡ number) }
@@ -40,7 +40,7 @@ impl MatchNo {
         }
     }
 
-    /// Returns the number, 1 to 12.
+    /// Returns the number of the match, 1 to 12.
     pub fn get(self) -> u8
         ensures value { result ≡ self }
         ensures within { (1 ≤ result) × (result ≤ 12) }

@@ -1,4 +1,6 @@
-//! Words of the first layout, in which boards were written down before. Words of this layout are in `word`.
+//! Words of the first layout, in which older boards were saved, and how they become words of the present one. A *word* is a match packed
+//! into 64 bits, and a *layout* says where its fields stand. Above its fields a word of the present layout has a *mark*, the number 2, and
+//! one of the first only zeros. The *event number* of a match is how many events it accepted; a record is *valid* if a match can have it.
 
 ghost use Rattle.std.specs.Prelude.{◌≡◌, ◌≤◌, ◌↔◌, IsTrue, Ok, IfOk, IfErr};
 ghost use Rattle.ucl_word.specs.declared.record.MatchRecord.{MatchRecord};
@@ -9,17 +11,17 @@ use crate::record::{MatchRecord, State};
 use crate::refusal::BadWord;
 use crate::word::{LAYOUT_TAG, LAYOUT_TAG_LOW, NUMBER_WIDTH, field, pack, put_at, unpack};
 
-/// How many bits the event number had in the first layout. The fields above it stood lower by as many bits as it has more now, and had
-/// as many bits as now.
+/// How many bits the event number had in the first layout. The fields above it stood two bits lower than now, and had as many bits.
 const FIRST_NUMBER_WIDTH: u32 = 10;
 
-/// The bits from here on were zero in the first layout.
+/// The lowest bit of those that no field used in the first layout. They were zero.
 const FIRST_FIELDS_END: u32 = 54;
 
-/// The greatest event number in the first layout.
+/// The greatest event number that the first layout had room for.
 const MAX_NUMBER: u16 = 1023;
 
-/// Returns whether the first layout had room for the event number, and in play for that of full time too.
+/// Returns whether the first layout had room for the event number of this match: whether it is at most 1023, or at most 1022 in play, so
+/// that full time has a number left.
 fn has_room(game: &MatchRecord) -> bool
     ensures { IsTrue result ↔ game.now.number ≤ max_number_in_play_of_first_layout game.now.state }
 {
@@ -29,14 +31,14 @@ fn has_room(game: &MatchRecord) -> bool
     }
 }
 
-/// Returns whether the bits above the fields are zero: the first layout had no mark.
+/// Returns whether the bits of a word above the fields of the first layout are zero, as in each word of that layout, which had no mark.
 fn has_no_layout_tag(word: u64) -> bool
     ensures { IsTrue result ↔ HasLayoutTag first_layout word }
 {
     word >> FIRST_FIELDS_END == 0
 }
 
-/// Moves the fields of a word to their places in this layout, and adds its mark.
+/// Returns a word of the first layout with its fields moved to their places in the present layout, and with the mark of that one added.
 fn moved(word: u64) -> u64
     requires { HasLayoutTag first_layout word }
     ensures { result ≡ moved_up word }
@@ -46,17 +48,15 @@ fn moved(word: u64) -> u64
     put_at(LAYOUT_TAG, LAYOUT_TAG_LOW, fields)
 }
 
-/// Unpacks a word of the first layout.
+/// Unpacks a word of the first layout into the record of its match.
 ///
 /// # Errors
 ///
-/// [`BadWord`] if no record that was valid in the first layout packed to the word.
+/// [`BadWord`] if, in the first layout, the word is the packing of no record that was valid there.
 fn unpack_first(word: u64) -> Result<MatchRecord, BadWord>
     ensures valid { IfOk result IsFirstValid }
     ensures packed { IfOk result (λ m. first_word_of m ≡ word) }
     ensures refused { IfErr result (λ _. IsFirstWord word → ⊥) }
-    ensures read_back { (m : MatchRecord) → IsFirstValid m → first_word_of m ≡ word
-        → result ≡ Ok m }
 {
     if !has_no_layout_tag(word) {
         return Err(BadWord);
@@ -71,13 +71,13 @@ fn unpack_first(word: u64) -> Result<MatchRecord, BadWord>
     }
 }
 
-/// Converts a word of either layout to a word of this one.
+/// Converts a word of the first or of the present layout to the word of the same record in the present layout.
 ///
-/// A word that [`unpack`] reads is answered as it is, and a word of the first layout as the word of the same record. No word is of both.
+/// A word of the present layout, which is one that [`unpack`] reads, is returned as it is. No word is of both layouts.
 ///
 /// # Errors
 ///
-/// [`BadWord`] if the word is of neither layout.
+/// [`BadWord`] if no valid record packs to the word in either layout.
 pub fn migrate(word: u64) -> Result<u64, BadWord>
     ensures kept { IsWord word → result ≡ Ok word }
     ensures moved { (m : MatchRecord) → IsFirstValid m → first_word_of m ≡ word

@@ -1,24 +1,26 @@
-//! The record of one match: its numbers, and which of them a match can have. How it is packed is in `word`.
+//! The record of one match: its state and numbers, and which of them a match can have. How it is packed is in `word`. The *event number*
+//! of a match is how many events it accepted. A *standing yellow* is a yellow card that no second yellow turned into an expulsion. A
+//! *reporter*, who enters events, has a number from 1 to 255.
 
 ghost use Rattle.std.specs.Prelude.{◌≡◌};
 ghost use Rattle.ucl_word.specs.Record.{is_valid, is_within_limits, suits_state};
 
-/// The most goals of a side.
+/// The most goals that a side can have in a match.
 pub(crate) const MAX_GOALS: u8 = 63;
 
-/// The most standing yellows of a side.
+/// The most standing yellows that a side can have in a match.
 pub(crate) const MAX_YELLOWS: u8 = 63;
 
-/// The most expulsions of a side.
+/// The most expulsions that a side can have in a match.
 pub(crate) const MAX_EXPULSIONS: u8 = 31;
 
-/// The greatest event number of all.
+/// The greatest event number that a match can have.
 const MAX_NUMBER: u16 = 4095;
 
-/// The greatest event number of a match in play. From it on, only full time is accepted, which has one number left.
+/// The greatest event number of a match in play. A match that has it accepts only full time, for which one number is left.
 pub(crate) const MAX_NUMBER_IN_PLAY: u16 = MAX_NUMBER - 1;
 
-/// Whether a match has begun or ended.
+/// The state of a match: before kick-off, in play, or over.
 #[derive(Clone, Copy, Debug, Default, PartialEq, Eq)]
 pub enum State {
     /// The match has not kicked off.
@@ -30,8 +32,8 @@ pub enum State {
     Finished,
 }
 
-/// What is known of one match. Any field can hold any value of its type; [`is_valid`](MatchRecord::is_valid) says which records a match
-/// can have. The default is the record of a match that has not kicked off.
+/// The record of one match: all that is known of it. Any field can hold any value of its type; [`is_valid`](MatchRecord::is_valid)
+/// says which records a match can have. The default is the record of a match that has not kicked off.
 ///
 /// # Examples
 ///
@@ -43,31 +45,31 @@ pub enum State {
 /// ```
 #[derive(Clone, Copy, Debug, Default, PartialEq, Eq)]
 pub struct MatchRecord {
-    /// How many events were accepted: 0 before kick-off, 1 to `MAX_NUMBER_IN_PLAY` in play, 2 to `MAX_NUMBER` at the end.
+    /// How many events were accepted: 0 before kick-off, 1 to 4094 in play, 2 to 4095 at the end.
     pub number: u16,
-    /// Whether the match has begun or ended.
+    /// The state of the match: scheduled, in play or finished.
     pub state: State,
-    /// Goals of the home side that count, at most 63.
+    /// Goals of the home side that were not disallowed, at most 63.
     pub home_goals: u8,
-    /// Goals of the visiting side that count, at most 63.
+    /// Goals of the visiting side that were not disallowed, at most 63.
     pub away_goals: u8,
-    /// Yellow cards of the home side that no second yellow has turned into an expulsion, at most 63.
+    /// Standing yellows of the home side, at most 63.
     pub home_yellows: u8,
-    /// The same of the visiting side.
+    /// Standing yellows of the visiting side, at most 63.
     pub away_yellows: u8,
     /// Expulsions of the home side, for a red card or a second yellow, at most 31.
     pub home_expulsions: u8,
-    /// The same of the visiting side.
+    /// Expulsions of the visiting side, for a red card or a second yellow, at most 31.
     pub away_expulsions: u8,
     /// Who entered the last accepted event, 1 to 255; 0 before kick-off.
     pub reporter: u8,
 }
 
 impl MatchRecord {
-    /// Returns whether a match can have this record.
+    /// Returns whether the record is valid, which means that a match can have it.
     ///
-    /// Goals and yellows of a side are at most 63 and expulsions at most 31, and the record is scheduled with every number 0, or in play with
-    /// an event number from 1 to `MAX_NUMBER_IN_PLAY` and a reporter, or finished with an event number from 2 to `MAX_NUMBER` and a reporter.
+    /// Goals and standing yellows of a side are at most 63 and expulsions at most 31. The record is scheduled with every number 0, or in
+    /// play with an event number from 1 to 4094 and a reporter, or finished with an event number from 2 to 4095 and a reporter.
     #[tactic(auto, unfolding(crate::specs::Record::is_valid))]
     pub fn is_valid(&self) -> bool
         ensures { result ≡ is_valid self.now }
@@ -75,7 +77,7 @@ impl MatchRecord {
         self.is_within_limits() && self.suits_state()
     }
 
-    /// Returns whether goals, yellows and expulsions are within their limits.
+    /// Returns whether each side has at most 63 goals, 63 standing yellows and 31 expulsions.
     fn is_within_limits(&self) -> bool
         ensures { result ≡ is_within_limits self.now }
     {
@@ -87,7 +89,8 @@ impl MatchRecord {
             && self.away_expulsions <= MAX_EXPULSIONS
     }
 
-    /// Returns whether the numbers are those that a match in this state can have.
+    /// Returns whether the numbers of the record suit its state: all are 0 if it is scheduled; else it has a reporter, and an event number
+    /// from 1 to 4094 in play or from 2 to 4095 if finished.
     fn suits_state(&self) -> bool
         ensures { result ≡ suits_state self.now.state self.now }
     {

@@ -1,4 +1,6 @@
-//! Why events, words and calls are refused, with the numbers and the names of refusals.
+//! Why events, words and calls are refused. Each refusal has a number, with which its comment begins, and a name. A *word* is a match
+//! packed into 64 bits. The *event number* of a match is how many events it accepted. An event expects one; if the match has another,
+//! the number *found*, the event is *stale*.
 
 ghost use Rattle.std.specs.Prelude.{◌≡◌, ◌≤◌, Some, length};
 ghost use Rattle.ucl_word.specs.Names.{found_of, refusal_code, refusal_name, refusal_text, refusal_with};
@@ -7,10 +9,10 @@ use std::alloc::{AllocError, AllocFailed};
 use std::{error, fmt};
 use thiserror::Error;
 
-/// Why an event is not entered. The conditions are tried in this order, and the first that holds is the answer.
+/// Why an event is refused. The conditions are tried in this order, and the first that holds is the answer.
 #[derive(Clone, Copy, Debug, PartialEq, Eq)]
 pub enum Refusal {
-    /// 1: the expected number is not the match's event number, which is `found`.
+    /// 1: the reporter expected another event number of the match than the one it has, which is `found`.
     Stale { found: u16 },
     /// 2: the match is finished, and the event is no reopening.
     Finished,
@@ -20,18 +22,18 @@ pub enum Refusal {
     NotStarted,
     /// 4: the match is in play, and the event is a kick-off.
     AlreadyStarted,
-    /// 5: the match's number is `MAX_NUMBER_IN_PLAY` or more, and the event is not full time.
+    /// 5: the match's event number is 4094 or more, and the event is not full time.
     NumberFull,
     /// 6: a goal is disallowed for a side that has none.
     NoGoal,
-    /// 7: a second yellow for a side without a standing yellow.
+    /// 7: a second yellow for a side all of whose yellow cards have already led to expulsions, or that has none.
     NoCaution,
     /// 8: the goals or yellows of a side would pass 63, or its expulsions 31.
     LimitReached,
 }
 
 impl Refusal {
-    /// Returns the number of the refusal, 1 to 9.
+    /// Returns the number that stands for this refusal of an event, 1 to 9.
     pub fn code(self) -> u8
         ensures { result ≡ refusal_code self }
     {
@@ -48,7 +50,7 @@ impl Refusal {
         }
     }
 
-    /// Returns the name of the refusal.
+    /// Returns the name of this refusal of an event, such as `no-goal`, at most 15 bytes.
     pub fn name(self) -> &'static str
         ensures value { result.now ≡ refusal_name self }
         ensures short { length result.now ≤ 15 }
@@ -66,7 +68,7 @@ impl Refusal {
         }
     }
 
-    /// Returns the event number that was found, if the event is stale.
+    /// Returns the event number that the match was found to have if this is the refusal of a stale event, else `None`.
     pub fn found(self) -> Option<u16>
         ensures { result ≡ found_of self }
     {
@@ -76,7 +78,7 @@ impl Refusal {
         }
     }
 
-    /// Returns the refusal with this number, if there is one. A stale event has found the number `found`.
+    /// Returns the refusal whose number is `code`, or `None` if there is none. If it is the refusal of a stale event, it holds `found`.
     pub fn from_code(code: u32, found: u16) -> Option<Refusal>
         ensures { result ≡ refusal_with code found }
     {
@@ -95,10 +97,10 @@ impl Refusal {
     }
 }
 
-/// The number of the refusal and its name, and of a stale event the number found, as in `1 stale 6`.
 impl fmt::Display for Refusal {
     ghost output = { λ refusal. Some (refusal_text refusal) };
 
+    /// Writes the number of the refusal and its name, and for a stale event the event number that was found, as in `1 stale 6`.
     fn fmt<W: fmt::Write>(&self, f: &mut fmt::Formatter<W>) -> fmt::Result {
         let code = self.code();
         let name = self.name();
@@ -111,23 +113,25 @@ impl fmt::Display for Refusal {
 
 impl error::Error for Refusal {}
 
-/// 10: a word that is the packing of no valid record.
+/// 10: a word of 64 bits that is the packing of no record that a match can have.
 #[derive(Clone, Copy, Debug, PartialEq, Eq, Error)]
 #[error("bad word 10")]
 pub struct BadWord;
 
-/// 23: memory was asked for, and there was none. All crates of the board answer it, and only if an allocation was refused.
+/// 23: out of memory. Calls that allocate answer it, and only if an allocation was refused.
 #[derive(Clone, Copy, Debug, PartialEq, Eq, Error)]
 #[error("out of memory 23")]
 pub struct OutOfMemory;
 
 impl From<AllocError> for OutOfMemory {
+    /// Answers a refused allocation as out of memory.
     fn from(_error: AllocError) -> OutOfMemory {
         OutOfMemory
     }
 }
 
 impl<T: Drop> From<AllocFailed<T>> for OutOfMemory {
+    /// Answers a refused allocation as out of memory, and drops the value that could not be stored.
     fn from(_error: AllocFailed<T>) -> OutOfMemory {
         OutOfMemory
     }

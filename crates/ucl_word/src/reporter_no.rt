@@ -1,4 +1,4 @@
-//! Numbers of reporters.
+//! `ReporterNo`, the number of a reporter, who enters events. A board has up to 255 of them.
 
 ghost use Rattle.std.specs.Prelude.{◌≡◌, ℕ, ◌≤◌, ◌↔◌, IsSome, IfSome};
 
@@ -28,7 +28,7 @@ impl Model for ReporterNo {
 }
 
 impl ReporterNo {
-    /// Creates the number of a reporter, if `number` is 1 to 255.
+    /// Creates the number of a reporter, 1 to 255, or answers `None` if `number` is 0.
     pub fn new(number: u8) -> Option<ReporterNo>
         ensures exists { IsSome result ↔ ((1 ≤ number) × (number ≤ 255)) }
         ensures value { IfSome result (λ r. r ≡ number) }
@@ -40,7 +40,7 @@ impl ReporterNo {
         }
     }
 
-    /// Returns the number, 1 to 255.
+    /// Returns the number of the reporter, 1 to 255.
     pub fn get(self) -> u8
         ensures value { result ≡ self }
         ensures within { (1 ≤ result) × (result ≤ 255) }

@@ -1,4 +1,7 @@
-//! The rules of events: which are refused, and what an accepted one changes in the word of its match.
+//! The rules of events: which are refused, and what an accepted one changes in the word of its match. The *rules* are the nine conditions
+//! of `Refusal`, tried in order: the first that holds refuses the event. A *word* is a match packed into 64 bits, with a field for each of
+//! its numbers; a field is named by its *lowest bit* and how many bits it has. A record of a match is *valid* if a match can have it. The
+//! *event number* of a match is how many events it accepted; an event is refused as stale if it expects another.
 
 ghost use Rattle.std.specs.Prelude.{◌≡◌, ◌<◌, ◌^◌, IfOk, IfErr, Some, None, MatchResult};
 ghost use Rattle.ucl_word.specs.Record.{IsValid};
@@ -19,10 +22,10 @@ use crate::word::{
     YELLOWS_WIDTH, field, number_of, pack, record_of, state_in,
 };
 
-/// One more in the state: from scheduled to in play, and from in play to finished.
+/// The number that is added to a word to move its match to the next state, from scheduled to in play or from in play to finished.
 const NEXT_STATE: u64 = 1 << STATE_LOW;
 
-/// Returns the state that a match must have for an event of this kind.
+/// Returns the state that a match must have to accept an event of this kind.
 fn state_for(kind: Kind) -> State
     ensures { result ≡ state_for kind }
 {
@@ -33,7 +36,7 @@ fn state_for(kind: Kind) -> State
     }
 }
 
-/// Returns the lowest bit of the side's goals.
+/// Returns the lowest bit, counted from 0, of the field with the goals of this side in a word.
 fn goals_low(side: Side) -> u32
     ensures { result ≡ (goals_field side).low }
 {
@@ -43,7 +46,7 @@ fn goals_low(side: Side) -> u32
     }
 }
 
-/// Returns the lowest bit of the side's standing yellows.
+/// Returns the lowest bit, counted from 0, of the field with this side's yellow cards that led to no expulsion in a word.
 fn yellows_low(side: Side) -> u32
     ensures { result ≡ (yellows_field side).low }
 {
@@ -53,7 +56,7 @@ fn yellows_low(side: Side) -> u32
     }
 }
 
-/// Returns the lowest bit of the side's expulsions.
+/// Returns the lowest bit, counted from 0, of the field with the expulsions of this side in a word.
 fn expelled_low(side: Side) -> u32
     ensures { result ≡ (expulsions_field side).low }
 {
@@ -63,12 +66,13 @@ fn expelled_low(side: Side) -> u32
     }
 }
 
-/// Tries the rules on the event number and the state, which are the first six.
+// Measured: put into its caller from the first, it makes a report on a shared board faster by a twentieth.
+/// Tries the first six of the nine rules, those on the event number and state of the match. `expected` is the event number that the event
+/// expects. On `Ok` the match has the state that the kind needs, and only the other three rules can still refuse the event.
 ///
 /// # Errors
 ///
-/// The first of these rules that refuses the event.
-// Measured: put into its caller from the first, it makes a report on a shared board faster by a twentieth.
+/// The refusal by the first of these six rules that holds.
 #[inline(always)]
 #[tactic(auto, unfolding(crate::specs::Rules::refusal_of))]
 fn in_turn(word: u64, expected: u16, kind: Kind) -> Result<(), Refusal>
@@ -96,7 +100,7 @@ fn in_turn(word: u64, expected: u16, kind: Kind) -> Result<(), Refusal>
     Ok(())
 }
 
-/// Adds one to a field of a word.
+/// Returns `word` with one more in its field from bit `low` on, `width` bits wide.
 ///
 /// # Errors
 ///
@@ -114,11 +118,11 @@ fn raised(word: u64, low: u32, width: u32, most: u8) -> Result<u64, Refusal>
     }
 }
 
-/// Takes one from a field of a word.
+/// Returns `word` with one less in its field from bit `low` on, `width` bits wide.
 ///
 /// # Errors
 ///
-/// `missing` if the field holds 0.
+/// The refusal `missing`, which the caller passes in, if the field holds 0.
 fn lowered(word: u64, low: u32, width: u32, missing: Refusal) -> Result<u64, Refusal>
     requires low { low < 64 }
     requires width { width < 64 }
@@ -131,12 +135,13 @@ fn lowered(word: u64, low: u32, width: u32, missing: Refusal) -> Result<u64, Ref
     }
 }
 
-/// Changes what the kind of an event names in a word.
+// As calls of their own, this and `next_word` would hand the word back through memory, which a report on a shared board would wait for.
+/// Returns `word` with the change that an event of this kind makes in the state, goals, yellow cards or expulsions. The event number and
+/// the reporter stay. The match has to have the state that this kind of event needs.
 ///
 /// # Errors
 ///
-/// The first of the last three rules that refuses the change.
-// As calls of their own, this and `next_word` would hand the word back through memory, which a report on a shared board would wait for.
+/// The refusal by the first of the last three rules that holds: no goal to disallow, no yellow card for a second one, a limit reached.
 #[inline(always)]
 fn changed(word: u64, kind: Kind) -> Result<u64, Refusal>
     requires word { IsWord word }
@@ -152,19 +157,20 @@ fn changed(word: u64, kind: Kind) -> Result<u64, Refusal>
         Kind::Yellow(side) => raised(word, yellows_low(side), YELLOWS_WIDTH, MAX_YELLOWS),
         Kind::SecondYellow(side) => {
             let fewer = lowered(word, yellows_low(side), YELLOWS_WIDTH, Refusal::NoCaution)?;
-            raised(fewer, expelled_low(side), EXPULSIONS_WIDTH, MAX_EXPULSIONS)
+            let more = raised(word, expelled_low(side), EXPULSIONS_WIDTH, MAX_EXPULSIONS)?;
+            Ok(fewer + (more - word))
         }
         Kind::Red(side) => raised(word, expelled_low(side), EXPULSIONS_WIDTH, MAX_EXPULSIONS),
     }
 }
 
-/// Enters an event of this reporter in the word of a match, and returns the next word.
+/// Enters an event of this reporter, who expects the event number `expected`, in the word of a match, and returns the next word.
 ///
-/// `word` has to be that of a valid record, and so is the next. What [`apply`] says of records, this says of the records of both words.
+/// `word` has to be the packing of a valid record. The next word is the packing of the record that [`apply`] returns for that record.
 ///
 /// # Errors
 ///
-/// The first rule that refuses the event.
+/// The refusal by the first of the nine rules that holds.
 #[inline(always)]
 pub fn next_word(word: u64, reporter: ReporterNo, expected: u16, kind: Kind) -> Result<u64, Refusal>
     requires { IsWord word }
@@ -183,15 +189,15 @@ pub fn next_word(word: u64, reporter: ReporterNo, expected: u16, kind: Kind) -> 
     Ok(changed + 1 - before + now)
 }
 
-/// Enters an event of this reporter in the record of a match, and returns the next record.
+/// Enters an event of this reporter, who expects the event number `expected`, in the record of a match, and returns the next record.
 ///
 /// `before` has to be a valid record. An accepted event raises the event number by one, sets the reporter, and
-/// changes what its kind names; the record is valid again. Over counting: if `before` is the count of a legal list of
-/// the match's entries, the new record is the count of that list with this entry.
+/// changes what its kind names; the record is valid again. By counting: if `before` is the record that is counted from a list of events,
+/// each accepted after those before it, the next record is the one that is counted from this list with the event at its end.
 ///
 /// # Errors
 ///
-/// The first rule that refuses the event.
+/// The refusal by the first of the nine rules that holds.
 pub fn apply(
     before: &MatchRecord,
     reporter: ReporterNo,

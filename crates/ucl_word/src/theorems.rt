@@ -1,48 +1,50 @@
-//! Theorems on all records, words and lists of entries. The functions do nothing: each is there for its contract.
+//! Theorems on all records, words and lists of entries. The functions do nothing: each is there for its contract. A *word* is a match
+//! packed into 64 bits; a *layout* says where its fields stand, and there are the first and the present one. A record of a match is *valid*
+//! if a match can have it. An *entry* is an accepted event; a list of entries is *legal* if each is accepted after those before it.
 
 ghost use Rattle.ucl_word.specs.Theorems.{WordsDiffer, WordsAreRead, LayoutsDiffer, WordsAreReadOneWay, CanBeEnded, ReopenedCanBeEnded, OneCaseHolds, CountsAreValid, CountsAreBalanced};
 
-/// Two valid records with one word are one record.
+/// Two valid records that pack to the same word are the same record.
 #[tactic(auto, using(crate::proofs::Words::words_apart))]
 pub fn words_differ()
     ensures { WordsDiffer }
 {}
 
-/// A valid record is read back from its word.
+/// Unpacking the word of a valid record gives this record.
 #[tactic(auto, using(crate::proofs::Words::record_back))]
 pub fn words_are_read()
     ensures { WordsAreRead }
 {}
 
-/// No word is of a valid record in both layouts.
+/// No word is the packing of a valid record in both the first and the present layout.
 pub fn layouts_differ()
     ensures { LayoutsDiffer }
 {}
 
-/// A word of either layout is read as exactly one word, that of a valid record.
+/// A word of the first or of the present layout is read as exactly one word of the present layout, and that is the word of a valid record.
 pub fn words_are_read_one_way()
     ensures { WordsAreReadOneWay }
 {}
 
-/// A match in play accepts full time at its number.
+/// A match in play accepts full time, whatever its event number, which is how many events it accepted.
 #[tactic(auto, using(crate::proofs::AcceptedEvents::full_time))]
 pub fn a_match_in_play_can_be_ended()
     ensures { CanBeEnded }
 {}
 
-/// A match that was reopened accepts full time next.
+/// A match that has just been reopened accepts full time; one that has accepted 4094 events or more can't be reopened.
 pub fn a_reopened_match_can_be_ended()
     ensures { ReopenedCanBeEnded }
 {}
 
-/// In a legal list of entries exactly one of these holds, as the match's state says: there is no kick-off, full time or reopening; or
-/// there is one kick-off, and as many full times as reopenings; or one kick-off, and one full time more than reopenings.
+/// A match is scheduled if its legal list of entries has no kick-off, full time or reopening; in play if it has one kick-off and as many
+/// full times as reopenings; finished if it has one kick-off and one full time more than reopenings. No other case occurs.
 #[tactic(auto, using(crate::proofs::EntryCounts::one_case))]
 pub fn one_case_holds()
     ensures { OneCaseHolds }
 {}
 
-/// The count of a legal list of entries is a valid record.
+/// The record that is counted from a legal list of entries of a match is valid.
 #[tactic(auto, using(crate::proofs::EntryCounts::legal_valid))]
 pub fn counts_are_valid()
     ensures { CountsAreValid }

@@ -1,5 +1,6 @@
-//! A match as one word of 64 bits: where its fields stand, and how a record is packed and unpacked. What an event changes in a
-//! word is in `rules`.
+//! A match as one word of 64 bits: where its fields stand, and how a record is packed and unpacked. What an event changes in a word is in
+//! `rules`. Bits are counted from 0. The *event number* of a match is how many events it accepted; a record is *valid* if a match can have
+//! it. Above its fields a word has the *mark*, a number that tells words of this *layout*, as the fields stand now, from older words.
 
 ghost use Rattle.std.specs.Prelude.{◌≡◌, ◌*◌, ◌+◌, ◌^◌, ◌<◌, ◌≤◌, ◌/◌, ◌↔◌, IsTrue, Ok, IfOk, IfErr};
 ghost use Rattle.ucl_word.specs.declared.record.MatchRecord.{MatchRecord};
@@ -9,43 +10,58 @@ ghost use Rattle.ucl_word.specs.Layout.{layout, word_of, record_at, state_code, 
 use crate::record::{MatchRecord, State};
 use crate::refusal::BadWord;
 
-// The lowest bit of each field, and how many bits it has. The event number is the lowest field.
+/// How many bits of a word the event number has. It is the lowest field, from bit 0 on.
 pub(crate) const NUMBER_WIDTH: u32 = 12;
 
+/// The lowest bit of the field with the state of the match.
 pub(crate) const STATE_LOW: u32 = 12;
 
+/// How many bits the state of the match has.
 const STATE_WIDTH: u32 = 2;
 
+/// The lowest bit of the goals of the home side.
 pub(crate) const HOME_GOALS_LOW: u32 = 14;
 
+/// The lowest bit of the goals of the visiting side.
 pub(crate) const AWAY_GOALS_LOW: u32 = 20;
 
+/// How many bits the goals of a side have.
 pub(crate) const GOALS_WIDTH: u32 = 6;
 
+/// The lowest bit of the home side's yellow cards that led to no expulsion.
 pub(crate) const HOME_YELLOWS_LOW: u32 = 26;
 
+/// The lowest bit of the visiting side's yellow cards that led to no expulsion.
 pub(crate) const AWAY_YELLOWS_LOW: u32 = 32;
 
+/// How many bits the yellow cards of a side have.
 pub(crate) const YELLOWS_WIDTH: u32 = 6;
 
+/// The lowest bit of the expulsions of the home side.
 pub(crate) const HOME_EXPULSIONS_LOW: u32 = 38;
 
+/// The lowest bit of the expulsions of the visiting side.
 pub(crate) const AWAY_EXPULSIONS_LOW: u32 = 43;
 
+/// How many bits the expulsions of a side have.
 pub(crate) const EXPULSIONS_WIDTH: u32 = 5;
 
+/// The lowest bit of the field with the number of the reporter who entered the last event.
 pub(crate) const REPORTER_LOW: u32 = 48;
 
+/// How many bits the number of the reporter who entered the last event has.
 pub(crate) const REPORTER_WIDTH: u32 = 8;
 
-/// The bits from here on hold the mark of the layout and nothing else.
+/// The first bit above all fields. From it on a word holds the mark of the layout and nothing else.
 const FIELDS_END: u32 = 56;
 
+/// The lowest bit of the mark of the layout.
 pub(crate) const LAYOUT_TAG_LOW: u32 = 60;
 
+/// The mark of the layout: the number that a word holds from bit `LAYOUT_TAG_LOW` on.
 pub(crate) const LAYOUT_TAG: u64 = 2;
 
-/// Returns the code of a state in a word.
+/// Returns the number that stands for a state in a word.
 fn code_of(state: State) -> u64
     ensures { result ≡ state_code state }
 {
@@ -56,7 +72,7 @@ fn code_of(state: State) -> u64
     }
 }
 
-/// Puts `value` above the lowest `low` bits of a word, which `below` fills.
+/// Returns `value` moved up by `low` bits, with `below` in the bits under it.
 pub(crate) fn put_at(value: u64, low: u32, below: u64) -> u64
     requires low { low < 64 }
     requires below { below < 2 ^ low }
@@ -69,7 +85,7 @@ pub(crate) fn put_at(value: u64, low: u32, below: u64) -> u64
 /// Packs a valid record into its word: the sum of its fields and the mark of the layout, each times two to the power of its lowest bit.
 ///
 /// From the lowest bits on these are the event number, the state (0 scheduled, 1 in play, 2 finished), the goals of the
-/// home and the visiting side, their standing yellows, their expulsions, the reporter, and the mark, where the
+/// home and the visiting side, their yellow cards that led to no expulsion, their expulsions, the reporter, and the mark, where the
 /// constants of this module have them. Distinct valid records have distinct words.
 #[tactic(auto, using(crate::proofs::ValidRecords::limits))]
 pub fn pack(game: &MatchRecord) -> u64
@@ -88,7 +104,7 @@ pub fn pack(game: &MatchRecord) -> u64
     put_at(LAYOUT_TAG, LAYOUT_TAG_LOW, word)
 }
 
-/// Returns the bits of the word from `low` on, as many as `width`.
+/// Returns the number in the field of a word from bit `low` on, `width` bits wide.
 pub(crate) fn field(word: u64, low: u32, width: u32) -> u64
     requires low { low < 64 }
     requires width { width < 64 }
@@ -108,7 +124,7 @@ pub fn number_of(word: u64) -> u16
     field(word, 0, NUMBER_WIDTH) as u16
 }
 
-/// Returns the state in a word; 3 counts as finished.
+/// Returns the state of the match in a word. The number 3, which stands for no state, is read as finished.
 #[tactic(auto, unfolding(crate::specs::Layout::record_at))]
 pub(crate) fn state_in(word: u64) -> State
     ensures { result ≡ (record_at word).state }
@@ -120,14 +136,14 @@ pub(crate) fn state_in(word: u64) -> State
     }
 }
 
-/// Returns whether the bits above the fields are the mark of the layout.
+/// Returns whether the bits of a word above its fields hold the mark of the layout and nothing else.
 fn has_layout_tag(word: u64) -> bool
     ensures { IsTrue result ↔ HasLayoutTag layout word }
 {
     word >> FIELDS_END == LAYOUT_TAG << (LAYOUT_TAG_LOW - FIELDS_END)
 }
 
-/// Reads the fields of a word, whatever they hold.
+/// Returns the record with the numbers that the fields of a word hold, whether or not it is valid.
 fn fields_of(word: u64) -> MatchRecord
     ensures { result ≡ record_at word }
 {
@@ -144,7 +160,7 @@ fn fields_of(word: u64) -> MatchRecord
     }
 }
 
-/// Returns whether a word is that of a valid record. `fields` is what its fields hold.
+/// Returns whether a word is the packing of a valid record. `fields` has to be the record with the numbers that the word's fields hold.
 fn is_packed(word: u64, fields: &MatchRecord) -> bool
     requires { fields.now ≡ record_at word }
     ensures { IsTrue result ↔ HoldsRecord word }
@@ -152,7 +168,7 @@ fn is_packed(word: u64, fields: &MatchRecord) -> bool
     has_layout_tag(word) && field(word, STATE_LOW, STATE_WIDTH) < 3 && fields.is_valid()
 }
 
-/// Unpacks the valid record of a word.
+/// Unpacks a word to the valid record that packs to it.
 ///
 /// # Errors
 ///
@@ -173,7 +189,7 @@ pub fn unpack(word: u64) -> Result<MatchRecord, BadWord>
     }
 }
 
-/// Unpacks the record of a word that a valid record has. It does not test the word again, as [`unpack`] does.
+/// Unpacks a word that has to be the packing of a valid record. It does not test that, as [`unpack`] does.
 pub fn record_of(word: u64) -> MatchRecord
     requires { IsWord word }
     ensures value { result ≡ record_at word }

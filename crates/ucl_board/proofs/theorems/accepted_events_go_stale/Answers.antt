@@ -1,4 +1,4 @@
-use Rattle.ucl_board.proofs.Repeats.{go_stale}
+use Rattle.ucl_board.proofs.HistoryTheorems.{go_stale}
 use Rattle.ucl_board.proofs.theorems.accepted_events_go_stale.Goals as goal
 
 pub returns : goal.returns

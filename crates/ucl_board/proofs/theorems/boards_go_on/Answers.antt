@@ -1,4 +1,4 @@
-use Rattle.ucl_board.proofs.Repeats.{go_on}
+use Rattle.ucl_board.proofs.HistoryTheorems.{go_on}
 use Rattle.ucl_board.proofs.theorems.boards_go_on.Goals as goal
 
 pub returns : goal.returns

@@ -1,8 +1,15 @@
-use Rattle.ucl_word.proofs.Common.{sym, ◌∙◌}
-use Rattle.ucl_word.proofs.FirstWords.{layouts_apart, read_word}
+use Rattle.ucl_word.proofs.Common.{Ok, ap, sym, word_of, ◌∙◌}
+use Rattle.ucl_word.proofs.FirstWords.{first_apart, layouts_apart, read_word}
 use Rattle.ucl_word.proofs.migration.migrate.Goals as goal
 
 pub returns-then-is_ok-clause-moved : goal.returns-then-is_ok-clause-moved
 returns-then-is_ok-clause-moved c m valid is =
     absurd (layouts_apart c.args.word (read_word c.unpack.result c.args.word c.unpack.ensures.valid c.unpack.ensures.packed (sym c.is_ok.ensures.value ∙ c.if-is_ok.true))
     (record { of = m; valid = valid; packed = is }))
+
+pub returns-in-Ok-clause-moved : goal.returns-in-Ok-clause-moved
+returns-in-Ok-clause-moved c m valid is =
+    ap Ok (c.pack.ensures ∙ ap word_of (first_apart c.in-Ok.game m c.in-Ok.ensures.valid valid (c.in-Ok.ensures.packed ∙ sym is)))
+
+pub returns-in-Err-clause-moved : goal.returns-in-Err-clause-moved
+returns-in-Err-clause-moved c m valid is = absurd (c.in-Err.ensures.refused (record { of = m; valid = valid; packed = is }))

@@ -8,27 +8,14 @@ ok_same is = cc
 pub returns-then-not-has_no_layout_tag-clause-refused : goal.returns-then-not-has_no_layout_tag-clause-refused
 returns-then-not-has_no_layout_tag-clause-refused c is = let yes = c.has_no_layout_tag.ensures.1 (first_high c.args.word is) in let no = c.if-not-has_no_layout_tag.true in cc
 
-pub returns-then-not-has_no_layout_tag-clause-read_back : goal.returns-then-not-has_no_layout_tag-clause-read_back
-returns-then-not-has_no_layout_tag-clause-read_back c m valid is = absurd (returns-then-not-has_no_layout_tag-clause-refused c (record { of = m; valid = valid; packed = is }))
-
 pub returns-in_default-clause-refused : goal.returns-in_default-clause-refused
 returns-in_default-clause-refused c is = c.in_default.ensures.refused (rw c.moved.ensures (moves_to_word c.args.word is))
 
-pub returns-in_default-clause-read_back : goal.returns-in_default-clause-read_back
-returns-in_default-clause-read_back c m valid is = absurd (returns-in_default-clause-refused c (record { of = m; valid = valid; packed = is }))
-
 pub returns-then-has_room-clause-packed : goal.returns-then-has_room-clause-packed
 returns-then-has_room-clause-packed c = moved_from c.args.word c.in-Ok.game (c.has_room.ensures.0 c.if-has_room.true) (c.in-Ok.ensures.packed ∙ c.moved.ensures)
-
-pub returns-then-has_room-clause-read_back : goal.returns-then-has_room-clause-read_back
-returns-then-has_room-clause-read_back c m valid is =
-    c.in-Ok.ensures.read_back m valid.valid (word_moves c.args.word (record { of = m; valid = valid; packed = is }) ∙ sym c.moved.ensures)
 
 pub returns-else-has_room-clause-refused : goal.returns-else-has_room-clause-refused
 returns-else-has_room-clause-refused c is =
     let same = c.in-Ok.ensures.read_back is.of is.valid.valid (word_moves c.args.word is ∙ sym c.moved.ensures) in
     let yes = c.has_room.ensures.1 (rw (ok_same same) is.valid.number) in
     let no = c.if-has_room.false in cc
-
-pub returns-else-has_room-clause-read_back : goal.returns-else-has_room-clause-read_back
-returns-else-has_room-clause-read_back c m valid is = absurd (returns-else-has_room-clause-refused c (record { of = m; valid = valid; packed = is }))

@@ -1,6 +1,6 @@
 use Rattle.ucl_word.proofs.Common.{Err, arith, rules, ◌≡◌}
 use Rattle.ucl_word.proofs.ChangedWords.{word_below, kick_off_changes, full_time_changes, reopen_below, reopen_changes, goal_changes}
-use Rattle.ucl_word.proofs.ChangedWords.{disallow_changes, yellow_changes, no_caution, second_yellow_changes, red_changes}
+use Rattle.ucl_word.proofs.ChangedWords.{disallow_changes, yellow_changes, no_caution, no_expulsion, second_yellow_changes, red_changes}
 use Rattle.ucl_word.proofs.rules.changed.Goals as goal
 
 pub overflow_add-result : goal.overflow_add-result
@@ -19,7 +19,7 @@ pub raised-requires-in-Yellow-clause-word : goal.raised-requires-in-Yellow-claus
 raised-requires-in-Yellow-clause-word c = let below = word_below c.args.word c.requires.word in omega arith
 
 pub raised-requires-in-SecondYellow-clause-word : goal.raised-requires-in-SecondYellow-clause-word
-raised-requires-in-SecondYellow-clause-word c = let below = word_below c.args.word c.requires.word in let fewer = c.in_ok-fewer-in-SecondYellow.ensures in omega arith
+raised-requires-in-SecondYellow-clause-word c = let below = word_below c.args.word c.requires.word in omega arith
 
 pub raised-requires-in-Red-clause-word : goal.raised-requires-in-Red-clause-word
 raised-requires-in-Red-clause-word c = let below = word_below c.args.word c.requires.word in omega arith
@@ -52,8 +52,17 @@ returns-in_err-fewer-in-SecondYellow c =
     rw (is, c.in-SecondYellow.is) (no_caution c.args.word c.requires.word c.in-SecondYellow.side refusal
     (rw (← c.yellows_low-in-SecondYellow.ensures) c.in_err-fewer-in-SecondYellow.ensures.0) c.in_err-fewer-in-SecondYellow.ensures.1)
 
-pub returns-in_ok-fewer-in-SecondYellow : goal.returns-in_ok-fewer-in-SecondYellow
-returns-in_ok-fewer-in-SecondYellow c =
-    rw c.in-SecondYellow.is (second_yellow_changes c.args.word c.requires.word c.in-SecondYellow.side c.in_ok-fewer-in-SecondYellow.fewer (rw c.in-SecondYellow.is at c.requires.state)
-    (rw (← c.yellows_low-in-SecondYellow.ensures) c.in_ok-fewer-in-SecondYellow.ensures.0) (rw (← c.yellows_low-in-SecondYellow.ensures) c.in_ok-fewer-in-SecondYellow.ensures.1)
-    c.raised-in-SecondYellow.result (rw (← c.expelled_low.ensures) c.raised-in-SecondYellow.ensures))
+pub returns-in_err-more-in-SecondYellow : goal.returns-in_err-more-in-SecondYellow
+returns-in_err-more-in-SecondYellow c =
+    let refusal = c.in_err-more-in-SecondYellow.field-0.0 in
+    let is : c.from_residual-in_err-more-in-SecondYellow.result ≡ Err refusal = search rules in
+    let some = c.in_ok-fewer-in-SecondYellow.ensures.0 in
+    rw (is, c.in-SecondYellow.is) (no_expulsion c.args.word c.requires.word c.in-SecondYellow.side (rw (← c.yellows_low-in-SecondYellow.ensures) some) refusal
+    (rw (← c.expelled_low.ensures) c.in_err-more-in-SecondYellow.ensures))
+
+pub returns-in_ok-more-in-SecondYellow : goal.returns-in_ok-more-in-SecondYellow
+returns-in_ok-more-in-SecondYellow c =
+    let less = c.in_ok-fewer-in-SecondYellow.ensures in
+    rw c.in-SecondYellow.is (second_yellow_changes c.args.word c.requires.word c.in-SecondYellow.side (rw (← c.yellows_low-in-SecondYellow.ensures) less.0)
+    c.in_ok-fewer-in-SecondYellow.fewer c.in_ok-more-in-SecondYellow.more (rw (← c.yellows_low-in-SecondYellow.ensures) less.1)
+    (rw (← c.expelled_low.ensures) c.in_ok-more-in-SecondYellow.ensures))

@@ -4,7 +4,7 @@ use Rattle.ucl_word.specs.Layout.{word_of}
 use Rattle.ucl_word.proofs.Sequences.{may_none}
 use Rattle.ucl_word.proofs.ValidRecords.{default_is, scheduled_valid}
 use Rattle.ucl_board.specs.History.{MayFollow}
-use Rattle.ucl_board.proofs.Histories.{board_none, board_words}
+use Rattle.ucl_board.proofs.HistoryTheorems.{board_none, board_words}
 use Rattle.ucl_board.proofs.board.Board.fresh.Goals as goal
 use Rattle.ucl_board.proofs.board.Board.fresh.Goals.{After-pack-scheduled}
 

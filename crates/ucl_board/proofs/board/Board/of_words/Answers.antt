@@ -1,6 +1,6 @@
 use Rattle.std.proofs.Common.{refl, ap, ◌∙◌, arith, Ok}
 use Rattle.std.proofs.lemmas.List.{length-set}
-use Rattle.ucl_board.proofs.Histories.{next_read, are_read, are_words, are_readable, are_kept}
+use Rattle.ucl_board.proofs.HistoryTheorems.{next_read, are_read, are_words, are_readable, are_kept}
 use Rattle.ucl_board.proofs.board.Board.of_words.Goals as goal
 
 pub loop-i-preserved : goal.loop-i-preserved
