@@ -1,16 +1,13 @@
 -- What the clubs of a roster are known to be.
-use Rattle.ucl_order.proofs.Common.{IsClub, IsRoster, List, NamedClub, None, [], and_parts, arith, is_club, length, map, member_seen}
-use Rattle.ucl_order.proofs.Common.{members_seen, nat_le, nat_tests, slice_index_or, subst, true, ℕ, ◌<◌, ◌∷◌, ◌≡◌, ◌≤◌}
-use Rattle.ucl_order.specs.Roster.{club_lent, is_name, bad_slot, bad_slot_from}
-use Rattle.std.proofs.lemmas.List.{get_or-map, length-map}
-use Rattle.std.proofs.lemmas.List.Elements.{All-get_or}
-use Rattle.ucl_order.specs.declared.roster.Member.{Member}
-use Rattle.ucl_order.specs.declared.roster.LentClub.{LentClub}
+use Rattle.ucl_order.proofs.Common.{All-get_or, IsClub, IsRoster, LentClub, List, Member, NamedClub, None, [], and_parts, arith, bad_slot}
+use Rattle.ucl_order.proofs.Common.{bad_slot_from, club_lent, is_club, is_name, length, length-map, map, member_seen, members_seen, nat_le}
+use Rattle.ucl_order.proofs.Common.{nat_tests, slice_index_or, subst, true, ℕ, ◌<◌, ◌∷◌, ◌≡◌, ◌≤◌}
+use Rattle.std.proofs.lemmas.List.{get_or-map}
 use Rattle.ucl_order.proofs.Slots.{by_four}
 
 -- the club of each place is good
-pub member-good : (members : List Member) (i : ℕ) (m : Member) → IsRoster (members_seen members) → i < 4 → IsClub (member_seen (slice_index_or members i m))
-member-good members i m roster within =
+pub member_good : (members : List Member) (i : ℕ) (m : Member) → IsRoster (members_seen members) → i < 4 → IsClub (member_seen (slice_index_or members i m))
+member_good members i m roster within =
     let same = get_or-map member_seen members i m (member_seen m) in
     let four = roster.four in
     let inside : i < length members = omega (arith, length-map members member_seen) in
@@ -18,16 +15,16 @@ member-good members i m roster within =
     subst IsClub (same inside) (All-get_or IsClub (members_seen members) i (member_seen m) inside_too roster.each)
 
 -- its name is good
-pub name-good : (members : List Member) (i : ℕ) (m : Member) → IsRoster (members_seen members) → i < 4 → is_name (slice_index_or members i m).name.items ≡ true
+pub name_good : (members : List Member) (i : ℕ) (m : Member) → IsRoster (members_seen members) → i < 4 → is_name (slice_index_or members i m).name.items ≡ true
 unfolding is_club
-name-good members i m roster within = (and_parts _ _ (member-good members i m roster within)).0
+name_good members i m roster within = (and_parts _ _ (member_good members i m roster within)).0
 
 -- its coefficient is at most 999,999
-pub coefficient-good : (members : List Member) (i : ℕ) (m : Member) → IsRoster (members_seen members) → i < 4 → (slice_index_or members i m).coefficient ≤ 999999
+pub coefficient_good : (members : List Member) (i : ℕ) (m : Member) → IsRoster (members_seen members) → i < 4 → (slice_index_or members i m).coefficient ≤ 999999
 unfolding is_club
-coefficient-good members i m roster within =
+coefficient_good members i m roster within =
     let h : nat_le (slice_index_or members i m).coefficient 999999 ≡ true =
-    (and_parts (is_name (slice_index_or members i m).name.items) _ (member-good members i m roster within)).1 in
+    (and_parts (is_name (slice_index_or members i m).name.items) _ (member_good members i m roster within)).1 in
     grind (arith, nat_tests)
 
 -- an array of four, place by place

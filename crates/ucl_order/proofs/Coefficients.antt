@@ -1,12 +1,9 @@
 -- The table goes by the coefficients of the clubs.
-use Rattle.ucl_order.proofs.Common.{Bool, List, Match, NamedClub, Profile, Ranking, Row, [], all_clubs, ap, by_points, coefficient_of}
-use Rattle.ucl_order.proofs.Common.{flat_map, get_or, head_to_head, if◌then◌else◌, is_one_class, length, map, mark_by, mark_of, matches_of}
-use Rattle.ucl_order.proofs.Common.{order_of, overall, refl, row_of, row_with, settled_within, slice_index, split, started_of}
-use Rattle.ucl_order.proofs.Common.{suc, sym, zero, ℕ, ◌-◌, ◌∙◌, ◌∷◌, ◌≡◌}
-use Rattle.ucl_order.specs.Roster.{coefficients_in}
-use Rattle.std.proofs.Math.Path.{fun_ext}
+use Rattle.ucl_order.proofs.Common.{Bool, List, Match, NamedClub, Profile, Ranking, Row, TableGoesByCoefficients, [], all_clubs, ap}
+use Rattle.ucl_order.proofs.Common.{by_points, coefficient_of, coefficients_in, flat_map, fun_ext, get_or, head_to_head, if◌then◌else◌}
+use Rattle.ucl_order.proofs.Common.{is_one_class, length, map, mark_by, mark_of, matches_of, order_of, overall, refl, row_of, row_with}
+use Rattle.ucl_order.proofs.Common.{settled_within, slice_index, split, started_of, suc, sym, zero, ℕ, ◌-◌, ◌∙◌, ◌∷◌, ◌≡◌}
 use Rattle.std.proofs.Math.ListN.{get_or-map}
-use Rattle.ucl_order.specs.Theorems.{TableGoesByCoefficients}
 
 coefficient-is : (clubs : List NamedClub) (slot : ℕ) → coefficient_of clubs slot ≡ get_or (coefficients_in clubs) (slot - 1) 0
 coefficient-is clubs slot = sym (get_or-map (λ (club : NamedClub). club.coefficient) clubs (slot - 1) (record { name = []; coefficient = 0 }))
@@ -22,8 +19,8 @@ module _ (one other : List NamedClub) (same : coefficients_in one ≡ coefficien
   coefficient-same : (slot : ℕ) → coefficient_of one slot ≡ coefficient_of other slot
   coefficient-same slot = coefficient-is one slot ∙ (ap (λ (cs : List ℕ). get_or cs (slot - 1) 0) same ∙ sym (coefficient-is other slot))
 
-  overall-same : (ms : List Match) → overall ms one ≡ overall ms other
-  overall-same ms = fun_ext (λ a. fun_ext (λ b. rw (coefficient-same a, coefficient-same b)))
+  overall_same : (ms : List Match) → overall ms one ≡ overall ms other
+  overall_same ms = fun_ext (λ a. fun_ext (λ b. rw (coefficient-same a, coefficient-same b)))
 
   settled-same : (profile : Profile) (most : ℕ) (ms : List Match) (tied : List ℕ) → settled_within profile most ms one tied ≡ settled_within profile most ms other tied
   settled-same profile most ms [] = refl
@@ -32,7 +29,7 @@ module _ (one other : List NamedClub) (same : coefficients_in one ≡ coefficien
   settled-same profile (suc most) ms (a ∷ b ∷ clubs) =
       let tied : List ℕ = a ∷ b ∷ clubs in
       either (is_one_class (head_to_head profile ms tied) tied) (overall ms one) (overall ms other) (settled_within profile most ms one) (settled_within profile most ms other)
-      tied (split (head_to_head profile ms tied) tied) (overall-same ms) (fun_ext (settled-same profile most ms))
+      tied (split (head_to_head profile ms tied) tied) (overall_same ms) (fun_ext (settled-same profile most ms))
 
   order-same : (profile : Profile) (board : List ℕ) → order_of profile (started_of board) one ≡ order_of profile (started_of board) other
   unfolding order_of

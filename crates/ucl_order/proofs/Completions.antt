@@ -1,23 +1,72 @@
--- What a group can still become: points only rise, and never above what the club can reach.
-use Rattle.ucl_order.proofs.Common.{All, All-head, All-tail, Appearance, Bool, Contains, Contains-permutation, IsMatch, IsSlot, List, Match}
-use Rattle.ucl_order.proofs.Common.{NamedClub, None, Profile, Some, [], all_clubs, and_parts, ap, arith, cases_Bool, count_by, eq-eqb}
-use Rattle.ucl_order.proofs.Common.{eqb-true, false, finished, fixture_of, game_at, get_or, has_finished, if◌then◌else◌, inl, inr, is_in}
-use Rattle.ucl_order.proofs.Common.{length, length_permutation, list_all, map, mark_of, match_at, match_numbers, matches_of, nat_le, nat_lt}
-use Rattle.ucl_order.proofs.Common.{nat_tests, not, order_of, played, points, reach, refl, seen_by, started, started_of, sure_points, sym}
-use Rattle.ucl_order.proofs.Common.{take, true, unfinished, ℕ, ◌&&◌, ◌*◌, ◌+◌, ◌==◌, ◌∷◌, ◌≡◌, ◌≤◌, ◌⊎◌}
-use Rattle.std.proofs.lemmas.List.Sorted.{sum_by-IsPermutation}
-use Rattle.std.proofs.lemmas.Bool.{leb-true}
-use Rattle.ucl_order.specs.Marks.{IsCompletion, GoesThrough, rivals, out_of_reach}
-use Rattle.std.proofs.lemmas.Map.Views.{Contains-from_any}
-use Rattle.std.proofs.lemmas.List.Folds.{list_any_at}
-use Rattle.ucl_word.specs.declared.record.State.{State}
-use Rattle.ucl_word.specs.declared.record.State.TheVariants.{Finished}
-use Rattle.ucl_word.specs.Rules.{is_finished}
-use Rattle.ucl_order.specs.declared.mark.Mark.TheVariants.{Plus, Minus, Blank}
-use Rattle.ucl_order.proofs.Classes.{IsPermutation-order, count-le}
+-- The order goes by points first, so points say who stands in the first two.
+use Rattle.ucl_order.proofs.Common.{All, All-head, All-tail, AllPairs, Appearance, Blank, Bool, Contains, Contains-from_any}
+use Rattle.ucl_order.proofs.Common.{Contains-permutation, Finished, GoesThrough, IsCompletion, IsMatch, IsSlot, IsWithinTable, List, Mark}
+use Rattle.ucl_order.proofs.Common.{MarkIsCertain, Match, Minus, NamedClub, None, Plus, Profile, Row, Some, StandsAbove, State, []}
+use Rattle.ucl_order.proofs.Common.{all_clubs, and_parts, ap, arith, cases_Bool, count_by, early_mark, eq-eqb, eqb-true, false}
+use Rattle.ucl_order.proofs.Common.{false_from_ne_true, finished, fixture_of, game_at, get_or, has_finished, higher_in_tie, if◌then◌else◌}
+use Rattle.ucl_order.proofs.Common.{inl, inr, is_finished, is_in, leb-true, length, length_permutation, list_all, list_any_at, map, mark_by}
+use Rattle.ucl_order.proofs.Common.{mark_of, match_at, match_numbers, matches_of, nat_le, nat_lt, nat_tests, not, order_of, out_of_reach}
+use Rattle.ucl_order.proofs.Common.{played, points, points_higher, reach, refl, rivals, row_of, row_with, rows_of, seen_by, slice_index}
+use Rattle.ucl_order.proofs.Common.{started, started_of, sum_by-IsPermutation, sure_points, sym, take, true, unfinished, ℕ, ◌&&◌, ◌*◌, ◌+◌}
+use Rattle.ucl_order.proofs.Common.{◌-◌, ◌==◌, ◌∙◌, ◌∷◌, ◌≡◌, ◌≤◌, ◌⊎◌}
+use Rattle.ucl_order.proofs.Classes.{order_permutes, count-le}
+use Rattle.ucl_order.proofs.TieBreaks.{order-pairs}
+use Rattle.ucl_order.proofs.Slots.{by_four, a_club, are_matches, all-four}
 use Rattle.ucl_order.proofs.Limits.{plays, gains, gains-le, played-cons, points-cons}
-use Rattle.ucl_order.proofs.Slots.{a_club, are_matches}
-use Rattle.ucl_order.proofs.Places.{order_falls, reaches, passes, in_first_two, not_in_first_two}
+
+-- no later club has more
+abbrev pub Falls : (ℕ → ℕ) → List ℕ → Type 0
+Falls key xs = AllPairs (λ x y. key y ≤ key x) xs
+
+points_fall : (profile : Profile) (ms : List Match) (roster : List NamedClub) (a b : ℕ) → StandsAbove profile ms roster a b → points b ms ≤ points a ms
+points_fall profile ms roster a b (points_higher h) = grind (arith, nat_tests)
+points_fall profile ms roster a b (higher_in_tie e h) = grind (arith, nat_tests)
+
+pub order_falls : (profile : Profile) (ms : List Match) (roster : List NamedClub) → Falls (λ c. points c ms) (order_of profile ms roster)
+order_falls profile ms roster i j d h l = points_fall profile ms roster _ _ (order-pairs profile ms roster i j d h l)
+
+-- Which clubs stand in the first two of four, of which none has more than the one before it. --
+
+module _ (key : ℕ → ℕ) (club : ℕ) where
+  unfoldable pub reaches : ℕ → Bool
+  reaches other = not (other == club) && nat_le (key club) (key other)
+
+  unfoldable pub passes : ℕ → Bool
+  passes other = not (other == club) && nat_lt (key club) (key other)
+
+  two_reach : (a b c d : ℕ) → key c ≤ key a → key c ≤ key b → key d ≤ key a → key d ≤ key b → is_in (a ∷ b ∷ c ∷ d ∷ []) club ≡ true
+      → count_by reaches (a ∷ b ∷ c ∷ d ∷ []) ≤ 1 → is_in (a ∷ b ∷ []) club ≡ true
+  unfolding reaches
+  two_reach a b c d h i j k member few = grind (arith, nat_tests)
+
+  first_two : (a b c d : ℕ) → Falls key (a ∷ b ∷ c ∷ d ∷ []) → is_in (a ∷ b ∷ c ∷ d ∷ []) club ≡ true
+      → count_by reaches (a ∷ b ∷ c ∷ d ∷ []) ≤ 1 → is_in (take 2 (a ∷ b ∷ c ∷ d ∷ [])) club ≡ true
+  first_two a b c d down member few =
+      two_reach a b c d (down 0 2 0 (omega arith) (omega arith)) (down 1 2 0 (omega arith) (omega arith)) (down 0 3 0 (omega arith) (omega arith))
+      (down 1 3 0 (omega arith) (omega arith)) member few
+
+  pub in_first_two : (o : List ℕ) → length o ≡ 4 → Falls key o → is_in o club ≡ true → count_by reaches o ≤ 1 → is_in (take 2 o) club ≡ true
+  in_first_two o long down member few =
+      by_four (λ o. Falls key o → is_in o club ≡ true → count_by reaches o ≤ 1 → is_in (take 2 o) club ≡ true)
+      first_two o long down member few
+
+  one_passes : (a b c d : ℕ) → key b ≤ key a → key c ≤ key a → key d ≤ key a → key c ≤ key b → key d ≤ key b → is_in (a ∷ b ∷ []) club ≡ true
+      → count_by passes (a ∷ b ∷ c ∷ d ∷ []) ≤ 1
+  unfolding passes
+  one_passes a b c d h i j k l member = grind (arith, nat_tests)
+
+  few_pass : (a b c d : ℕ) → Falls key (a ∷ b ∷ c ∷ d ∷ []) → is_in (take 2 (a ∷ b ∷ c ∷ d ∷ [])) club ≡ true → count_by passes (a ∷ b ∷ c ∷ d ∷ []) ≤ 1
+  few_pass a b c d down member =
+      one_passes a b c d (down 0 1 0 (omega arith) (omega arith)) (down 0 2 0 (omega arith) (omega arith)) (down 0 3 0 (omega arith) (omega arith))
+      (down 1 2 0 (omega arith) (omega arith)) (down 1 3 0 (omega arith) (omega arith)) member
+
+  pub not_in_first_two : (o : List ℕ) → length o ≡ 4 → Falls key o → 2 ≤ count_by passes o → is_in (take 2 o) club ≡ false
+  not_in_first_two o long down many =
+      false_from_ne_true _ (λ member.
+      let few : count_by passes o ≤ 1 = by_four (λ o. Falls key o → is_in (take 2 o) club ≡ true → count_by passes o ≤ 1) few_pass o long down member in
+      omega arith)
+
+-- ---- what a group can still become: points only rise, and never above what the club can reach
 
 is_done : (s : State) → is_finished s ≡ true → s ≡ Finished
 is_done s h = search arith
@@ -128,7 +177,7 @@ module _ (profile : Profile) (board later : List ℕ) (done : IsCompletion board
 
   member : (club : ℕ) → IsSlot club → is_in (order_of profile (started_of later) roster) club ≡ true
   member club slot =
-      let found = Contains-permutation all_clubs (order_of profile (started_of later) roster) club (IsPermutation-order profile later roster) (a_club club slot) in
+      let found = Contains-permutation all_clubs (order_of profile (started_of later) roster) club (order_permutes profile (started_of later) roster) (a_club club slot) in
       list_any_at (λ c. c == club) (order_of profile (started_of later) roster) found.0 club found.1 (eq-eqb _ _ found.2)
 
   through : (club : ℕ) → IsSlot club → rivals (matches_of board) club ≤ 1 → is_in (take 2 (order_of profile (started_of later) roster)) club ≡ true
@@ -141,9 +190,9 @@ module _ (profile : Profile) (board later : List ℕ) (done : IsCompletion board
       (λ k d h. reach_weaker (key club) (key (get_or all_clubs k d)) (sure_points (matches_of board) club)
       (reach (matches_of board) (get_or all_clubs k d)) (not (get_or all_clubs k d == club)) (low club) (high (get_or all_clubs k d))) in
       let same : count_by (reaches key club) (order_of profile (started_of later) roster) ≡ count_by (reaches key club) all_clubs =
-      sum_by-IsPermutation _ _ _ (IsPermutation-order profile later roster) in
-      let long : length (order_of profile (started_of later) roster) ≡ 4 = length_permutation _ _ (IsPermutation-order profile later roster) in
-      in_first_two key club (order_of profile (started_of later) roster) long (order_falls profile later roster)
+      sum_by-IsPermutation _ _ _ (order_permutes profile (started_of later) roster) in
+      let long : length (order_of profile (started_of later) roster) ≡ 4 = length_permutation _ _ (order_permutes profile (started_of later) roster) in
+      in_first_two key club (order_of profile (started_of later) roster) long (order_falls profile (started_of later) roster)
       (member club slot) (omega arith)
 
   out : (club : ℕ) → 2 ≤ out_of_reach (matches_of board) club → is_in (take 2 (order_of profile (started_of later) roster)) club ≡ false
@@ -156,8 +205,9 @@ module _ (profile : Profile) (board later : List ℕ) (done : IsCompletion board
       (λ k d h. pass_stronger (key club) (key (get_or all_clubs k d)) (reach (matches_of board) club)
       (sure_points (matches_of board) (get_or all_clubs k d)) (not (get_or all_clubs k d == club)) (high club) (low (get_or all_clubs k d))) in
       let same : count_by (passes key club) (order_of profile (started_of later) roster) ≡ count_by (passes key club) all_clubs =
-      sum_by-IsPermutation _ _ _ (IsPermutation-order profile later roster) in
-      not_in_first_two key club (order_of profile (started_of later) roster) (order_falls profile later roster) (omega arith)
+      sum_by-IsPermutation _ _ _ (order_permutes profile (started_of later) roster) in
+      let long : length (order_of profile (started_of later) roster) ≡ 4 = length_permutation _ _ (order_permutes profile (started_of later) roster) in
+      not_in_first_two key club (order_of profile (started_of later) roster) long (order_falls profile (started_of later) roster) (omega arith)
 
   -- a club marked Plus goes through
   pub plus_is_certain : (club : ℕ) → IsSlot club → mark_of profile board roster club ≡ Plus → GoesThrough profile later roster club
@@ -179,3 +229,48 @@ module _ (profile : Profile) (board later : List ℕ) (done : IsCompletion board
         | inl (all, now) ↦ rw (same_order profile board later roster (unchanged board later done all)) now
         | inr many ↦ out club (leb-true _ _ many)
       ])
+
+-- ---- the rows, from what the calls answered
+
+pub order_is : (profile : Profile) (board : List ℕ) (roster : List NamedClub) (now : List Match) (order : List ℕ)
+    → now ≡ started_of board → order ≡ order_of profile now roster → order ≡ order_of profile (started_of board) roster
+unfolding order_of
+order_is profile board roster now order is_now is = rw (is, is_now)
+
+pub row_of_place : (profile : Profile) (board : List ℕ) (roster : List NamedClub) (place : ℕ) (ms given : List Match) (order : List ℕ) (r : Row)
+    → ms ≡ matches_of board → given ≡ ms → order ≡ order_of profile (started_of board) roster → (let slot = slice_index order (place - 1) in
+    r ≡ row_with place slot (mark_by given order slot) (started given)) → r ≡ row_of profile board roster place
+unfolding row_of mark_of
+row_of_place profile board roster place ms given order r is_ms is_given is_order is = rw (is, is_given, is_ms, is_order)
+
+pub four_rows : {a b c d a' b' c' d' : Row} → a ≡ a' → b ≡ b' → c ≡ c' → d ≡ d' → ◌≡◌ {A = List Row} (a ∷ b ∷ c ∷ d ∷ []) (a' ∷ b' ∷ c' ∷ d' ∷ [])
+four_rows p q r s = cc
+
+-- the mark of each row is that of its club, and so is what it says
+module _ (profile : Profile) (board : List ℕ) (roster : List NamedClub) where
+  marked : (place : ℕ) → (row_of profile board roster place).mark ≡ mark_of profile board roster (row_of profile board roster place).slot
+  unfolding row_of
+  marked place = refl
+
+  abbrev HasMark : Row → Type 0
+  HasMark row = row.mark ≡ mark_of profile board roster row.slot
+
+  all_marked : All HasMark (rows_of profile board roster)
+  all_marked = all-four HasMark _ _ _ _ (marked 1) (marked 2) (marked 3) (marked 4)
+
+  certain : (row : Row) → IsWithinTable row → HasMark row → MarkIsCertain profile board roster row
+  certain row within is = record {
+    plus = λ mark later done. plus_is_certain profile board later done roster row.slot within.slot (sym is ∙ mark);
+    minus = λ mark later done. minus_is_certain profile board later done roster row.slot (sym is ∙ mark);
+  }
+
+  pub all_certain : All IsWithinTable (rows_of profile board roster) → All (MarkIsCertain profile board roster) (rows_of profile board roster)
+  all_certain within i d below = certain (get_or (rows_of profile board roster) i d) (within i d below) (all_marked i d below)
+
+-- ---- the marks, from what the calls answered
+
+pub early_marks : (ms : List Match) (order : List ℕ) (a b c d : Mark) → length order ≡ 4 → list_all has_finished ms ≡ false →
+    a ≡ early_mark ms (get_or order 0 0) → b ≡ early_mark ms (get_or order 1 0) → c ≡ early_mark ms (get_or order 2 0) → d ≡ early_mark ms (get_or order 3 0) →
+    ◌≡◌ {A = List Mark} (a ∷ b ∷ c ∷ d ∷ []) (map (mark_by ms order) order)
+early_marks ms (w ∷ x ∷ y ∷ z ∷ []) a b c d long some is_a is_b is_c is_d = rw (some, is_a, is_b, is_c, is_d)
+early_marks ms order a b c d long some is_a is_b is_c is_d = absurd (omega arith)

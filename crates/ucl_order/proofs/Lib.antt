@@ -1,17 +1,11 @@
 pub mod Common
 pub mod Slots
 pub mod Clubs
-pub mod OneMatchMore
 pub mod Classes
-pub mod Places
 pub mod Limits
-pub mod TableRows
-pub mod DescendingOrder
 pub mod TieBreaks
 pub mod Completions
-pub mod KeyFacts
 pub mod KeysFit
 pub mod Rounds
 pub mod LevelMatches
-pub mod SortedClubs
 pub mod Coefficients

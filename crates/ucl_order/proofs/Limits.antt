@@ -1,23 +1,16 @@
 -- What a club of a group can do at most.
-use Rattle.ucl_order.proofs.Common.{All, All-cons, All-filter, All-head, All-nil, All-permutation, All-set, All-tail, Appearance, Bool}
-use Rattle.ucl_order.proofs.Common.{FitsFields, HasScore, IsPairing, IsSlot, IsWithinTable, List, Mark, Match, NamedClub, None, Option}
-use Rattle.ucl_order.proofs.Common.{Profile, Results, Some, [], all_clubs, among, appearances, append-nil, arith, away_goals, away_wins}
-use Rattle.ucl_order.proofs.Common.{cond, count_by, count_by-le-length, discipline, each_slot, false, filter, filter-append, finished}
-use Rattle.ucl_order.proofs.Common.{get_or, get_or-set_other, goals_against, goals_for, has_finished, has_started, if◌then◌else◌, is_in}
-use Rattle.ucl_order.proofs.Common.{length, length_permutation, map, matches_of, nat_tests, not, order_of, played, point_bounds, points}
-use Rattle.ucl_order.proofs.Common.{reach, refl, row_by, row_of, rows_of, seen_by, seen_from_away, seen_from_home, set, slice_index}
-use Rattle.ucl_order.proofs.Common.{started_of, sum_by-cons, sure_points, take, take_more, totals, true, unfinished, wins, ℕ, ◌&&◌, ◌*◌}
-use Rattle.ucl_order.proofs.Common.{◌++◌, ◌+◌, ◌-◌, ◌<◌, ◌==◌, ◌∷◌, ◌≡◌, ◌≢◌, ◌≤◌}
-use Rattle.ucl_order.specs.Matches.{disciplinary_points, is_won, is_drawn, is_lost}
-use Rattle.ucl_order.specs.Results.{away_matches, draws, losses}
-use Rattle.ucl_order.proofs.KeyFacts.{FitsKeys}
-use Rattle.ucl_order.specs.Counting.{worth}
-use Rattle.std.specs.List.{cons_option}
-use Rattle.std.proofs.lemmas.List.Sums.{sum_by-le}
-use Rattle.ucl_order.specs.Marks.{matches_left}
-use Rattle.ucl_order.proofs.Classes.{IsPermutation-order}
-use Rattle.ucl_order.proofs.Slots.{all-four, slots}
-use Rattle.ucl_order.proofs.OneMatchMore.{lists_more}
+use Rattle.ucl_order.proofs.Common.{not, All, All-cons, All-filter, All-head, All-map, All-nil, All-permutation, All-tail, Appearance}
+use Rattle.ucl_order.proofs.Common.{AreOfGroup, Bool, FitsFields, HasScore, IsPairing, IsSlot, IsWithinTable, List, Mark, Match, NamedClub}
+use Rattle.ucl_order.proofs.Common.{None, Option, Profile, Results, Some, [], all_clubs, among, appearances, arith, away_goals}
+use Rattle.ucl_order.proofs.Common.{away_matches, away_wins, cond, cons_option, count_by, count_by-le-length, disciplinary_points}
+use Rattle.ucl_order.proofs.Common.{discipline, draws, each_slot, false, filter, get_or, goals_against, goals_for, has_started}
+use Rattle.ucl_order.proofs.Common.{if◌then◌else◌, is_drawn, is_in, is_lost, is_won, length, length-filter, length_permutation, losses}
+use Rattle.ucl_order.proofs.Common.{matches_of, nat_tests, order_of, played, points, refl, results_of, results_of_clubs, row_by, row_of}
+use Rattle.ucl_order.proofs.Common.{rows_of, seen_by, slice_index, started_of, sum_by-cons, sum_by-le, tied_results, tied_with, totals}
+use Rattle.ucl_order.proofs.Common.{true, wins, ℕ, ◌&&◌, ◌*◌, ◌+◌, ◌-◌, ◌==◌, ◌∷◌, ◌≡◌, ◌≤◌}
+use Rattle.ucl_order.proofs.KeysFit.{FitsKeys}
+use Rattle.ucl_order.proofs.Classes.{order_permutes}
+use Rattle.ucl_order.proofs.Slots.{all-four, pairings, slots}
 
 -- One match more in front. --
 
@@ -28,7 +21,7 @@ plays (Some a) = 1
 
 unfoldable pub gains : Option Appearance → ℕ
 gains None = 0
-gains (Some a) = worth a
+gains (Some a) = 3 * cond (is_won a) 1 0 + cond (is_drawn a) 1 0
 
 played_one : (o : Option Appearance) (games : List Appearance) → length (cons_option o games) ≡ plays o + length games
 unfolding plays
@@ -70,6 +63,12 @@ filter-less f part more p (m ∷ ms) = search (arith, filter-less f part more p 
 pub played-filter : (p : Match → Bool) (club : ℕ) (ms : List Match) → played club (filter p ms) ≤ played club ms
 played-filter p club ms = filter-less (played club) (λ m. plays (seen_by club m)) (played-cons club) p ms
 
+-- some of the matches, and the others, are all
+pub played-parts : (p : Match → Bool) (club : ℕ) (ms : List Match) → played club (filter p ms) + played club (filter (λ m. not (p m)) ms) ≡ played club ms
+played-parts p club [] = refl
+played-parts p club (m ∷ ms) =
+    search (arith, played-parts p club ms, played-cons club m ms, played-cons club m (filter p ms), played-cons club m (filter (λ m. not (p m)) ms))
+
 -- each club has six matches
 pub six : (board : List ℕ) (club : ℕ) → IsSlot club → played club (matches_of board) ≡ 6
 unfolding matches_of
@@ -100,9 +99,6 @@ pub all_few : (club : ℕ) (ms : List Match) → All HasScore ms → All AreFew 
 all_few club [] h = All-nil AreFew
 all_few club (m ∷ ms) h =
     few_one (seen_by club m) (appearances club ms) (λ a e. seen_few club m a (All-head HasScore m ms h) e) (all_few club ms (All-tail HasScore m ms h))
-
-pub at_most_six : (board : List ℕ) (club : ℕ) → IsSlot club → played club (started_of board) ≤ 6
-at_most_six board club slot = omega (arith, played-filter has_started club (matches_of board), six board club slot)
 
 -- Away matches. --
 
@@ -148,19 +144,48 @@ fits club ms valid most away =
     let three_each : points club ms ≤ 3 * played club ms = points-le club ms in
     search arith
 
-module _ (board : List ℕ) (valid : All HasScore (matches_of board)) (club : ℕ) (slot : IsSlot club) where
-  pub fits_all : FitsKeys (started_of board) club
-  fits_all =
-      fits club (started_of board) (All-filter has_started HasScore (matches_of board) valid) (at_most_six board club slot)
-      (omega (arith, three board club slot, visits-filter has_started club (matches_of board)))
+-- Matches of a group. --
 
-  pub fits_among : (clubs : List ℕ) → FitsKeys (among clubs (started_of board)) club
-  fits_among clubs =
+pub group_of_board : (board : List ℕ) → All HasScore (matches_of board) → AreOfGroup (matches_of board)
+unfolding matches_of
+group_of_board board valid = record {
+  few = omega arith;
+  pairings = pairings board;
+  scores = valid;
+  six = λ club slot. omega (arith, six board club slot);
+  three_away = λ club slot. omega (arith, three board club slot);
+}
+
+-- some of them
+pub group_filter : (p : Match → Bool) (ms : List Match) → AreOfGroup ms → AreOfGroup (filter p ms)
+group_filter p ms group = record {
+  few = omega (arith, group.few, length-filter p ms, count_by-le-length p ms);
+  pairings = All-filter p IsPairing ms group.pairings;
+  scores = All-filter p HasScore ms group.scores;
+  six = λ club slot. omega (arith, group.six club slot, played-filter p club ms);
+  three_away = λ club slot. omega (arith, group.three_away club slot, visits-filter p club ms);
+}
+
+-- what each club has done in them fits the fields of the keys, also among its tied clubs
+module _ (ms : List Match) (group : AreOfGroup ms) where
+  pub fits_group : (club : ℕ) → IsSlot club → FitsKeys ms club
+  fits_group club slot = fits club ms group.scores (group.six club slot) (group.three_away club slot)
+
+  pub fits_among : (clubs : List ℕ) (club : ℕ) → IsSlot club → FitsKeys (among clubs ms) club
+  fits_among clubs club slot =
       let both : Match → Bool = λ m. is_in clubs m.home && is_in clubs m.away in
-      let ms : List Match = started_of board in
-      fits club (among clubs ms) (All-filter both HasScore ms (All-filter has_started HasScore (matches_of board) valid))
-      (omega (arith, at_most_six board club slot, played-filter both club ms))
-      (omega (arith, three board club slot, visits-filter has_started club (matches_of board), visits-filter both club ms))
+      let few = group_filter both ms group in
+      fits club (among clubs ms) few.scores (few.six club slot) (few.three_away club slot)
+
+  pub results_fit : All FitsFields (results_of_clubs ms)
+  results_fit = All-map FitsFields (λ c. results_of c ms) all_clubs (λ k d h. fits_group _ (slots k d h))
+
+  pub tied_fit : (keys : List ℕ) → All FitsFields (tied_results ms keys)
+  tied_fit keys = All-map FitsFields (λ c. results_of c (among (tied_with keys c) ms)) all_clubs (λ k d h. fits_among _ _ (slots k d h))
+
+-- those of a board that are in play or finished
+pub group_started : (board : List ℕ) → All HasScore (matches_of board) → AreOfGroup (started_of board)
+group_started board valid = group_filter has_started (matches_of board) (group_of_board board valid)
 
 -- The rows of the table. --
 
@@ -172,94 +197,10 @@ module _ (profile : Profile) (board : List ℕ) (roster : List NamedClub) (valid
   unfolding row_of totals
   row_within place low high =
       let order : List ℕ = order_of profile (started_of board) roster in
-      let long : length order ≡ 4 = length_permutation _ _ (IsPermutation-order profile board roster) in
-      let slot : IsSlot (slice_index order (place - 1)) = All-permutation IsSlot all_clubs order (IsPermutation-order profile board roster) slots (place - 1) 0 (omega arith) in
-      within_table place (slice_index order (place - 1)) _ _ slot (fits_all board valid (slice_index order (place - 1)) slot)
+      let long : length order ≡ 4 = length_permutation _ _ (order_permutes profile (started_of board) roster) in
+      let slot : IsSlot (slice_index order (place - 1)) = All-permutation IsSlot all_clubs order (order_permutes profile (started_of board) roster) slots (place - 1) 0 (omega arith) in
+      within_table place (slice_index order (place - 1)) _ _ slot (fits_group (started_of board) (group_started board valid) (slice_index order (place - 1)) slot)
 
   pub rows_within : All IsWithinTable (rows_of profile board roster)
   rows_within = all-four IsWithinTable _ _ _ _ (row_within 1 (omega arith) (omega arith)) (row_within 2 (omega arith) (omega arith))
       (row_within 3 (omega arith) (omega arith)) (row_within 4 (omega arith) (omega arith))
-
--- ---- what the clubs can still become, gathered in one pass over the matches
-
-points-push : (club : ℕ) (ms : List Match) (m : Match) → points club (ms ++ m ∷ []) ≡ points club ms + gains (seen_by club m)
-points-push club [] m = omega (arith, points-cons club m [])
-points-push club (x ∷ ms) m = omega (arith, points-cons club x (ms ++ m ∷ []), points-cons club x ms, points-push club ms m)
-
-played-push : (club : ℕ) (ms : List Match) (m : Match) → played club (ms ++ m ∷ []) ≡ played club ms + plays (seen_by club m)
-played-push club [] m = omega (arith, played-cons club m [])
-played-push club (x ∷ ms) m = omega (arith, played-cons club x (ms ++ m ∷ []), played-cons club x ms, played-push club ms m)
-
-module _ (ms : List Match) (m : Match) (club : ℕ) where
-  sure-push : sure_points (ms ++ m ∷ []) club ≡ sure_points ms club + cond (has_finished m) (gains (seen_by club m)) 0
-  sure-push = rw (filter-append has_finished ms (m ∷ []))
-      (elim (has_finished m) as (λ v. points club (finished ms ++ cond v (m ∷ []) []) ≡ points club (finished ms) + cond v (gains (seen_by club m)) 0) [
-        | true ↦ points-push club (finished ms) m
-        | false ↦ rw (append-nil (finished ms)) (omega arith)
-      ])
-
-  left-push : matches_left (ms ++ m ∷ []) club ≡ matches_left ms club + cond (has_finished m) 0 (plays (seen_by club m))
-  left-push = rw (filter-append (λ x. not (has_finished x)) ms (m ∷ []))
-      (elim (has_finished m) as (λ v. played club (unfinished ms ++ cond (not v) (m ∷ []) []) ≡ played club (unfinished ms) + cond v 0 (plays (seen_by club m))) [
-        | true ↦ rw (append-nil (unfinished ms)) (omega arith)
-        | false ↦ played-push club (unfinished ms) m
-      ])
-
--- what a match is sure to give a club, and the most that it can give it
-unfoldable sure_by : Bool → Option Appearance → ℕ
-sure_by over None = 0
-sure_by over (Some a) = (point_bounds over a).0
-
-unfoldable most_by : Bool → Option Appearance → ℕ
-most_by over None = 0
-most_by over (Some a) = (point_bounds over a).1
-
-sure_is : (over : Bool) (o : Option Appearance) → sure_by over o ≡ cond over (gains o) 0
-unfolding sure_by gains
-sure_is over o = search arith
-
-most_is : (over : Bool) (o : Option Appearance) → most_by over o ≡ cond over (gains o) 0 + 3 * cond over 0 (plays o)
-unfolding most_by gains plays
-most_is over o = search arith
-
--- The pass over the matches: one match more. --
-
-module _ (ms : List Match) (i : ℕ) (d : Match) (h : i < length ms) (pair : IsPairing (get_or ms i d)) where
-  abbrev game : Match
-  game = get_or ms i d
-
-  numbers_more : (v : Option Appearance → ℕ) (value : List Match → ℕ → ℕ) (e f : ℕ) (before after : List ℕ) (p q x y : ℕ)
-      → v None ≡ 0 → ((c : ℕ) → value (take i ms) c + v (seen_by c game) ≡ value (take i ms ++ game ∷ []) c) →
-      before ≡ map (value (take i ms)) all_clubs → p ≡ game.home - 1 → x ≡ v (Some (seen_from_home game)) → q ≡ game.away - 1 → y ≡ v (Some (seen_from_away game)) →
-      after ≡ set (set before p (get_or before p e + x)) q (get_or (set before p (get_or before p e + x)) q f + y) → after ≡ map (value (take (i + 1) ms)) all_clubs
-  numbers_more v value e f before after p q x y none next is at_p is_x at_q is_y is_after =
-      lists_more ℕ (λ n o. n + v o) (λ n. omega (arith, none)) (value (take i ms)) (value (take (i + 1) ms)) game e f before after p q
-      (get_or before p e + x) (get_or (set before p (get_or before p e + x)) q f + y) pair
-      (λ c. rw (take_more ms i d h) (next c)) is at_p (rw is_x) at_q (rw is_y) is_after
-
-  pub sure_more : (e f : ℕ) (before after : List ℕ) (p q x y : ℕ) (over : Bool) → has_finished game ≡ over → before ≡ map (sure_points (take i ms)) all_clubs
-      → p ≡ game.home - 1 → x ≡ (point_bounds over (seen_from_home game)).0 → q ≡ game.away - 1 → y ≡ (point_bounds over (seen_from_away game)).0 →
-      after ≡ set (set before p (get_or before p e + x)) q (get_or (set before p (get_or before p e + x)) q f + y) → after ≡ map (sure_points (take (i + 1) ms)) all_clubs
-  unfolding sure_by
-  sure_more e f before after p q x y over is =
-      numbers_more (sure_by over) sure_points e f before after p q x y refl
-      (λ club. let next = rw is at (sure-push (take i ms) game club) in let by = sure_is over (seen_by club game) in omega arith)
-
-  pub reach_more : (e f : ℕ) (before after : List ℕ) (p q x y : ℕ) (over : Bool) → has_finished game ≡ over → before ≡ map (reach (take i ms)) all_clubs
-      → p ≡ game.home - 1 → x ≡ (point_bounds over (seen_from_home game)).1 → q ≡ game.away - 1 → y ≡ (point_bounds over (seen_from_away game)).1 →
-      after ≡ set (set before p (get_or before p e + x)) q (get_or (set before p (get_or before p e + x)) q f + y) → after ≡ map (reach (take (i + 1) ms)) all_clubs
-  unfolding most_by
-  reach_more e f before after p q x y over is =
-      numbers_more (most_by over) reach e f before after p q x y refl
-      (λ club. let sure = rw is at (sure-push (take i ms) game club) in let left = rw is at (left-push (take i ms) game club) in
-      let by = most_is over (seen_by club game) in omega arith)
-
--- no number rises by more than three
-pub three_more : (n e f : ℕ) (before : List ℕ) (p q x y : ℕ) → q ≢ p → p < length before → q < length before → x ≤ 3 → y ≤ 3 → All (λ k. k ≤ 3 * n) before →
-    All (λ k. k ≤ 3 * (n + 1)) (set (set before p (get_or before p e + x)) q (get_or (set before p (get_or before p e + x)) q f + y))
-three_more n e f before p q x y apart at_p at_q few_x few_y all =
-    let P : ℕ → Type 0 = λ k. k ≤ 3 * (n + 1) in
-    let first : get_or before p e ≤ 3 * n = all p e at_p in
-    let second : get_or before q f ≤ 3 * n = all q f at_q in
-    let same : get_or (set before p (get_or before p e + x)) q f ≡ get_or before q f = get_or-set_other before p q (get_or before p e + x) f apart in
-    All-set P (set before p (get_or before p e + x)) q _ (omega arith) (All-set P before p _ (omega arith) (λ k d h. let low : get_or before k d ≤ 3 * n = all k d h in omega arith))

@@ -1,4 +1,6 @@
--- The matches of a board with their scores, each with the clubs that play it.
+-- The matches of a board with their scores.
+-- A board is the list of twelve words that pack its match records, a club is named by its slot, 1 to 4, and an appearance is a match from
+-- the side of one of its clubs. Which two clubs play the match with a number, 1 to 12, is fixed for every group.
 use Rattle.std.specs.Prelude.{◌≢◌, ◌≤◌, ℕ, not, Bool, List, map, filter, ◌+◌, ◌*◌, ◌==◌, nat_lt, true, false, if◌then◌else◌, Option, Some, None}
 use Rattle.ucl_word.specs.declared.record.MatchRecord.{MatchRecord}
 use Rattle.ucl_word.specs.Rules.{is_scheduled, is_finished}
@@ -8,86 +10,99 @@ use Rattle.ucl_order.specs.declared.game.Match.{Match}
 use Rattle.ucl_order.specs.declared.game.Score.{Score}
 use Rattle.ucl_order.specs.declared.game.Appearance.{Appearance}
 
--- what the table goes by of a record: neither who entered the last event nor how many there were
+-- the part of a match record that a table needs, without the event number and the reporter of the last event
 abbrev pub score_of : MatchRecord → Score
-score_of m = record {
-  state = m.state;
-  home_goals = m.home_goals;
-  away_goals = m.away_goals;
-  home_yellows = m.home_yellows;
-  away_yellows = m.away_yellows;
-  home_expulsions = m.home_expulsions;
-  away_expulsions = m.away_expulsions;
+score_of game = record {
+  state = game.state;
+  home_goals = game.home_goals;
+  away_goals = game.away_goals;
+  home_yellows = game.home_yellows;
+  away_yellows = game.away_yellows;
+  home_expulsions = game.home_expulsions;
+  away_expulsions = game.away_expulsions;
 }
 
--- a score that a match can have
-pub record IsScore (s : Score) : Type 0 where
-  pub home_goals : s.home_goals ≤ 63
-  pub away_goals : s.away_goals ≤ 63
-  pub home_yellows : s.home_yellows ≤ 63
-  pub away_yellows : s.away_yellows ≤ 63
-  pub home_expulsions : s.home_expulsions ≤ 31
-  pub away_expulsions : s.away_expulsions ≤ 31
+-- no number of the score is above the limit of a valid match record: 63 goals, 63 yellow cards and 31 expulsions a side
+pub record IsScore (score : Score) : Type 0 where
+  pub home_goals : score.home_goals ≤ 63
+  pub away_goals : score.away_goals ≤ 63
+  pub home_yellows : score.home_yellows ≤ 63
+  pub away_yellows : score.away_yellows ≤ 63
+  pub home_expulsions : score.home_expulsions ≤ 31
+  pub away_expulsions : score.away_expulsions ≤ 31
 
+-- the match has a score within the limits of a valid match record
 abbrev pub HasScore : Match → Type 0
-HasScore m = IsScore m.score
+HasScore game = IsScore game.score
 
--- the match with this number: who plays, and its score
+-- the match of a board with this number, 1 to 12: the slots of the home club and the visiting club, and the score
 abbrev pub match_at : List ℕ → ℕ → Match
-match_at board game = record { home = (fixture_of game).home; away = (fixture_of game).away; score = score_of (game_at board game) }
+match_at board number = record { home = (fixture_of number).home; away = (fixture_of number).away; score = score_of (game_at board number) }
 
--- the twelve matches of the board
+-- the twelve matches of a board, by their numbers
 unfoldable pub matches_of : List ℕ → List Match
 matches_of board = map (match_at board) match_numbers
 
+-- the match is in play or finished
 abbrev pub has_started : Match → Bool
-has_started m = not (is_scheduled m.score.state)
+has_started game = not (is_scheduled game.score.state)
 
+-- the match is finished
 abbrev pub has_finished : Match → Bool
-has_finished m = is_finished m.score.state
+has_finished game = is_finished game.score.state
 
--- two different clubs of the group play
+-- the match is finished or, unless only finished matches count, in play
+abbrev pub counts : Bool → Match → Bool
+counts finished_only game = if finished_only then has_finished game else has_started game
+
+-- two different clubs of the group play the match
 abbrev pub IsPairing : Match → Type 0
-IsPairing m = IsSlot m.home × IsSlot m.away × (m.home ≢ m.away)
+IsPairing game = IsSlot game.home × IsSlot game.away × (game.home ≢ game.away)
 
--- those in play and those that are finished
+-- those of the matches that are in play or finished
 abbrev pub started : List Match → List Match
-started ms = filter has_started ms
+started matches = filter has_started matches
 
--- those of a board
+-- the matches of a board that are in play or finished
 abbrev pub started_of : List ℕ → List Match
 started_of board = started (matches_of board)
 
+-- those of the matches that are finished
 abbrev pub finished : List Match → List Match
-finished ms = filter has_finished ms
+finished matches = filter has_finished matches
 
--- those that are still to be played, or to be played to their end
+-- those of the matches that are scheduled or in play
 abbrev pub unfinished : List Match → List Match
-unfinished ms = filter (λ m. not (has_finished m)) ms
+unfinished matches = filter (λ game. not (has_finished game)) matches
 
--- ---- one match as one of its clubs sees it
-
+-- the match from the side of the home club
 abbrev pub seen_from_home : Match → Appearance
-seen_from_home m = record { is_away = false; scored = m.score.home_goals; conceded = m.score.away_goals; yellows = m.score.home_yellows; expulsions = m.score.home_expulsions }
+seen_from_home game = record { is_away = false; scored = game.score.home_goals; conceded = game.score.away_goals; yellows = game.score.home_yellows; expulsions = game.score.home_expulsions }
 
+-- the match from the side of the visiting club
 abbrev pub seen_from_away : Match → Appearance
-seen_from_away m = record { is_away = true; scored = m.score.away_goals; conceded = m.score.home_goals; yellows = m.score.away_yellows; expulsions = m.score.away_expulsions }
+seen_from_away game = record { is_away = true; scored = game.score.away_goals; conceded = game.score.home_goals; yellows = game.score.away_yellows; expulsions = game.score.away_expulsions }
 
+-- the match from the side of a club; None if the club does not play it
 abbrev pub seen_by : ℕ → Match → Option Appearance
-seen_by club m =
-    if m.home == club then Some (seen_from_home m)
-    else (if m.away == club then Some (seen_from_away m)
+seen_by club game =
+    if game.home == club then Some (seen_from_home game)
+    else (if game.away == club then Some (seen_from_away game)
     else None)
 
+-- the club scored more goals than its opponent
 abbrev pub is_won : Appearance → Bool
-is_won a = nat_lt a.conceded a.scored
+is_won game = nat_lt game.conceded game.scored
 
+-- the club scored as many goals as its opponent
 abbrev pub is_drawn : Appearance → Bool
-is_drawn a = a.scored == a.conceded
+is_drawn game = game.scored == game.conceded
 
+-- the club scored fewer goals than its opponent
 abbrev pub is_lost : Appearance → Bool
-is_lost a = nat_lt a.scored a.conceded
+is_lost game = nat_lt game.scored game.conceded
 
--- one for a yellow card that stands, three for an expulsion
+-- what a match adds to the club's disciplinary total: 1 for each yellow card that no second one turned into an expulsion,
+-- 3 for each expulsion
 abbrev pub disciplinary_points : Appearance → ℕ
-disciplinary_points a = a.yellows + 3 * a.expulsions
+disciplinary_points game = game.yellows + 3 * game.expulsions

@@ -1,10 +1,13 @@
-//! The matches of a group with their scores, and how each of its clubs sees one. What a club has done in several is in `results`.
+//! The matches of a group with their scores. An appearance is a match from the side of one of its clubs, named by its slot, 1 to 4. A key
+//! is a number of a club in the order: clubs with the same key are tied so far.
 
-ghost use Rattle.std.specs.Prelude.{◌≡◌, ◌≤◌, [], All, length};
+ghost use Rattle.std.specs.Prelude.{◌≡◌, ℕ, ◌≤◌, []};
 ghost use Rattle.ucl_word.specs.Record.{IsValid};
-ghost use Rattle.ucl_order.specs.Counting.{point_bounds, worth};
-ghost use Rattle.ucl_order.specs.Rounds.{AreStarted, is_level};
-ghost use Rattle.ucl_order.specs.Matches.{HasScore, IsPairing, IsScore, has_finished, has_started, matches_of, score_of, started, is_drawn, is_lost, is_won, disciplinary_points, seen_from_away, seen_from_home};
+ghost use Rattle.ucl_board.specs.Fixtures.{IsSlot};
+ghost use Rattle.ucl_order.specs.Counting.{AreOfGroup};
+ghost use Rattle.ucl_order.specs.Results.{played};
+ghost use Rattle.ucl_order.specs.Rounds.{is_level};
+ghost use Rattle.ucl_order.specs.Matches.{IsPairing, IsScore, has_finished, has_started, matches_of, score_of, is_drawn, is_lost, is_won, counts, disciplinary_points, seen_from_away, seen_from_home};
 
 use arrayvec::ArrayVec;
 use ucl_board::{Board, away_of, home_of};
@@ -13,7 +16,7 @@ use ucl_word::{MatchNo, MatchRecord, State};
 /// The points for a win.
 pub(crate) const WIN: u8 = 3;
 
-/// What the table goes by of the record of a match: whether it has begun or ended, the goals and the cards.
+/// The part of a match record that a table needs: the state, the goals and the cards.
 #[derive(Clone, Copy, Debug, Default, PartialEq, Eq)]
 pub(crate) struct Score {
     pub(crate) state: State,
@@ -33,7 +36,7 @@ pub(crate) struct Match {
     pub(crate) score: Score,
 }
 
-/// A match as one of its clubs sees it.
+/// A match from the side of one of its clubs.
 #[derive(Clone, Copy, Debug, PartialEq, Eq)]
 pub(crate) struct Appearance {
     /// Whether the club is the visitor.
@@ -42,14 +45,15 @@ pub(crate) struct Appearance {
     pub(crate) scored: u8,
     /// Goals of its opponent.
     pub(crate) conceded: u8,
-    /// Yellow cards of the club that stand.
+    /// Yellow cards of the club that no second one turned into an expulsion.
     pub(crate) yellows: u8,
     /// Expulsions of the club.
     pub(crate) expulsions: u8,
 }
 
 impl Score {
-    /// Takes the score from a record.
+    /// Returns the part of a match record that a table needs: state, goals and cards.
+    #[tactic(auto, using(crate::proofs::KeysFit::score_is))]
     fn of(game: MatchRecord) -> Score
         requires { IsValid game }
         ensures value { result ≡ score_of game }
@@ -68,7 +72,7 @@ impl Score {
 }
 
 impl Match {
-    /// Returns the match as the home club sees it.
+    /// Returns the match from the side of the home club.
     pub(crate) fn seen_from_home(&self) -> Appearance
         ensures { result ≡ seen_from_home self.now }
     {
@@ -82,7 +86,7 @@ impl Match {
         }
     }
 
-    /// Returns the match as the visiting club sees it.
+    /// Returns the match from the side of the visiting club.
     pub(crate) fn seen_from_away(&self) -> Appearance
         ensures { result ≡ seen_from_away self.now }
     {
@@ -106,8 +110,8 @@ impl Match {
         }
     }
 
-    /// Returns whether the match is in play or finished, and its two clubs have the same key.
-    pub(crate) fn is_level(&self, keys: &[u64; 4]) -> bool
+    /// Returns whether the match is in play or finished, and its two clubs have the same key. Place i of `keys` is the key of slot i + 1.
+    pub(crate) fn is_level(&self, keys: &[u128; 4]) -> bool
         requires { IsPairing self.now }
         ensures { result ≡ is_level keys.now self.now }
     {
@@ -123,6 +127,17 @@ impl Match {
             State::Finished => true,
         }
     }
+
+    /// Returns whether the match is finished or, unless only finished matches count, in play.
+    pub(crate) fn counts(&self, finished_only: bool) -> bool
+        ensures { result ≡ counts finished_only self.now }
+    {
+        if finished_only {
+            self.has_finished()
+        } else {
+            self.has_started()
+        }
+    }
 }
 
 impl Appearance {
@@ -133,7 +148,7 @@ impl Appearance {
         self.conceded < self.scored
     }
 
-    /// Returns whether both scored the same.
+    /// Returns whether the club and its opponent scored the same.
     pub(crate) fn is_drawn(&self) -> bool
         ensures { result ≡ is_drawn self.now }
     {
@@ -147,25 +162,8 @@ impl Appearance {
         self.scored < self.conceded
     }
 
-    /// Returns the points of the club: three for a win, one for a draw.
-    fn points(&self) -> u8
-        ensures value { result ≡ worth self.now }
-        ensures few { result ≤ 3 }
-    {
-        WIN * u8::from(self.is_won()) + u8::from(self.is_drawn())
-    }
-
-    /// Returns the points that the club is sure of from the match, and the most that it can give: what a match that is over gave, and else no
-    /// point and those of a win.
-    pub(crate) fn point_bounds(&self, is_over: bool) -> (u8, u8)
-        ensures value { result ≡ point_bounds is_over self.now }
-        ensures few { (result.0 ≤ 3) × (result.1 ≤ 3) }
-    {
-        let points = self.points();
-        if is_over { (points, points) } else { (0, WIN) }
-    }
-
-    /// Returns what the match adds to the disciplinary total of the club: 1 for each yellow card that stands, 3 for each expulsion.
+    /// Returns what the match adds to the disciplinary total of the club: 1 for each yellow card that no second one turned into an
+    /// expulsion, 3 for each expulsion.
     pub(crate) fn disciplinary_points(&self) -> u16
         ensures value { result ≡ disciplinary_points self.now }
         ensures few { result ≤ 1020 }
@@ -174,15 +172,13 @@ impl Appearance {
     }
 }
 
-/// Puts the twelve matches of the board into an empty list. The list is filled in place, since a copy of what was just written would wait
-/// for it.
+/// Puts the twelve matches of the board into an empty list. The list is filled in place, which is
+/// faster than to return it.
 pub(crate) fn fill_matches(board: &Board, matches: &mut ArrayVec<Match, 12>)
     requires { matches.old.items ≡ [] }
     ensures value { matches.new.items ≡ matches_of board.now }
-    ensures twelve { length matches.new.items ≡ 12 }
-    ensures scores { All HasScore matches.new.items }
-    ensures pairings { All IsPairing matches.new.items }
-    ensures started { AreStarted (started matches.new.items) }
+    ensures group { AreOfGroup matches.new.items }
+    ensures six { (club : ℕ) → IsSlot club → played club matches.new.items ≡ 6 }
 {
     for number in 1..13 {
         if let Some(game) = MatchNo::new(number) {

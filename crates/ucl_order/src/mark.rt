@@ -1,13 +1,20 @@
-//! Marks: which clubs are sure of a place among the first two, or sure of none, by finished matches alone.
+//! Marks: which clubs are sure of a place among the first two, or sure of none, by finished matches only. A club is named by its slot, 1 to 4.
+//! A club can reach its points from finished matches and three for each match that it has left.
 
-ghost use Rattle.std.specs.Prelude.{◌≡◌, ◌≤◌, All, List, length, map};
+ghost use Rattle.std.specs.Prelude.{◌≡◌, ℕ, All, List, map};
 ghost use Rattle.std.specs.List.{list_all};
 ghost use Rattle.ucl_board.specs.Fixtures.{IsSlot};
 ghost use Rattle.ucl_order.specs.declared.game.Match.{Match};
-ghost use Rattle.ucl_order.specs.Matches.{IsPairing, has_finished};
+ghost use Rattle.ucl_order.specs.Counting.{AreOfGroup};
+ghost use Rattle.ucl_order.specs.Matches.{has_finished};
+ghost use Rattle.ucl_order.specs.Results.{played};
 ghost use Rattle.ucl_order.specs.Marks.{early_mark, out_of_reach, final_mark, is_out_of_reach, is_rival, mark_by, reach, rivals, sure_points, ArePointBounds};
 
-use crate::game::Match;
+use crate::game::{Match, WIN};
+use crate::results::Results;
+
+/// How many matches each club of a group plays.
+const MATCHES: u8 = 6;
 
 /// Whether a club is sure of its place among the first two of its group, who go through to the round of 16.
 #[derive(Clone, Copy, Debug, PartialEq, Eq)]
@@ -16,40 +23,41 @@ pub enum Mark {
     Plus,
     /// However the group ends, the club is not among the first two.
     Minus,
-    /// Points do not settle it.
+    /// Neither is certain by points yet.
     Blank,
 }
 
-/// What the clubs can still become, by slot.
+/// Bounds of the clubs' points at the end of the group, by slot.
 #[derive(Clone, Copy, Debug, PartialEq, Eq)]
 struct PointBounds {
-    /// The points from finished matches.
+    /// The points from finished matches, the least that the club can have.
     sure: [u8; 4],
-    /// The points if each match that is left were won.
+    /// The points if the club won each match that is not finished, the most that it can have.
     reach: [u8; 4],
 }
 
 impl PointBounds {
-    /// Returns what the clubs can still become after these matches.
+    /// Returns the bounds of the clubs' points after these matches. Each club plays six of them, and all but its finished ones are left.
+    #[tactic(auto, unfolding(crate::specs::Results::totals))]
     fn of(matches: &[Match]) -> PointBounds
-        requires short { length matches.now ≤ 12 }
-        requires pairings { All IsPairing matches.now }
+        requires group { AreOfGroup matches.now }
+        requires six { (club : ℕ) → IsSlot club → played club matches.now ≡ 6 }
         ensures { ArePointBounds matches.now result }
     {
-        let mut sure = [0; 4];
-        let mut reach = [0; 4];
-        for game in matches {
-            let home = usize::from(game.home - 1);
-            let away = usize::from(game.away - 1);
-            let is_over = game.has_finished();
-            let (home_sure, home_most) = game.seen_from_home().point_bounds(is_over);
-            let (away_sure, away_most) = game.seen_from_away().point_bounds(is_over);
-            sure[home] += home_sure;
-            sure[away] += away_sure;
-            reach[home] += home_most;
-            reach[away] += away_most;
+        let finished = Results::of_finished(matches);
+        let first = finished[0].points();
+        let second = finished[1].points();
+        let third = finished[2].points();
+        let fourth = finished[3].points();
+        PointBounds {
+            sure: [first, second, third, fourth],
+            reach: [
+                first + WIN * (MATCHES - finished[0].played),
+                second + WIN * (MATCHES - finished[1].played),
+                third + WIN * (MATCHES - finished[2].played),
+                fourth + WIN * (MATCHES - finished[3].played),
+            ],
         }
-        PointBounds { sure, reach }
     }
 
     /// Returns the points of the club from finished matches.
@@ -61,7 +69,7 @@ impl PointBounds {
         self.sure[usize::from(club - 1)]
     }
 
-    /// Returns the points of the club if it wins each match that it has left.
+    /// Returns the points of the club if it won each match that is not finished.
     fn reach(&self, club: u8) -> u8
         requires { IsSlot club }
         ensures { (matches : List Match) → ArePointBounds matches self.now
@@ -70,7 +78,7 @@ impl PointBounds {
         self.reach[usize::from(club - 1)]
     }
 
-    /// Returns whether the other club can reach the club's points.
+    /// Returns whether the other club can still have as many points as the club has from finished matches.
     fn is_rival(&self, club: u8, other: u8) -> bool
         requires club { IsSlot club }
         requires other { IsSlot other }
@@ -80,7 +88,7 @@ impl PointBounds {
         other != club && self.sure_points(club) <= self.reach(other)
     }
 
-    /// Returns whether the other club has more points than the club can reach.
+    /// Returns whether the other club has more points from finished matches than the club can reach.
     fn is_out_of_reach(&self, club: u8, other: u8) -> bool
         requires club { IsSlot club }
         requires other { IsSlot other }
@@ -90,7 +98,7 @@ impl PointBounds {
         other != club && self.reach(club) < self.sure_points(other)
     }
 
-    /// Counts the other clubs that can reach the club's points.
+    /// Counts the other clubs that can still have as many points as the club has from finished matches.
     fn rivals(&self, club: u8) -> u8
         requires { IsSlot club }
         ensures { (matches : List Match) → ArePointBounds matches self.now
@@ -102,7 +110,7 @@ impl PointBounds {
             + u8::from(self.is_rival(club, 4))
     }
 
-    /// Counts the other clubs that have more points than the club can reach.
+    /// Counts the other clubs that have more points from finished matches than the club can reach.
     fn out_of_reach(&self, club: u8) -> u8
         requires { IsSlot club }
         ensures { (matches : List Match) → ArePointBounds matches self.now
@@ -114,7 +122,8 @@ impl PointBounds {
             + u8::from(self.is_out_of_reach(club, 4))
     }
 
-    /// Returns the mark while a match is left: by points.
+    /// Returns the mark of a club while some match is not finished: plus if at most one other club can still have as many points as it has,
+    /// else minus if at least two have more than it can reach, else blank.
     fn early_mark(&self, club: u8) -> Mark
         requires { IsSlot club }
         ensures { (matches : List Match) → ArePointBounds matches self.now
@@ -130,14 +139,14 @@ impl PointBounds {
     }
 }
 
-/// Returns whether the group has ended.
+/// Returns whether all matches are finished.
 fn are_all_finished(matches: &[Match]) -> bool
     ensures { result ≡ list_all has_finished matches.now }
 {
     matches.iter().all(|game| game.has_finished())
 }
 
-/// Returns the mark when all matches are finished: by the order.
+/// Returns the mark of a club when all matches are finished: plus if it is among the first two. `order` has the slots by place.
 fn final_mark(order: &[u8; 4], club: u8) -> Mark
     ensures { result ≡ final_mark order.now club }
 {
@@ -148,11 +157,11 @@ fn final_mark(order: &[u8; 4], club: u8) -> Mark
     }
 }
 
-/// Returns the marks of the clubs, by place of this order, by these matches.
-#[tactic(auto, using(crate::proofs::TableRows::early_marks))]
+/// Returns the marks of the clubs, by place: the final ones if all matches are finished, else those by points. `order` has the slots by place.
+#[tactic(auto, using(crate::proofs::Completions::early_marks))]
 pub(crate) fn marks_of(matches: &[Match], order: &[u8; 4]) -> [Mark; 4]
-    requires short { length matches.now ≤ 12 }
-    requires pairings { All IsPairing matches.now }
+    requires group { AreOfGroup matches.now }
+    requires six { (club : ℕ) → IsSlot club → played club matches.now ≡ 6 }
     requires slots { All IsSlot order.now }
     ensures { result ≡ map (mark_by matches.now order.now) order.now }
 {

@@ -1,11 +1,12 @@
-//! What a club has done in several matches: wins, goals, cards and points. How clubs are compared by it is in `keys`.
+//! What a club has done in several matches: wins, goals, cards and points. An appearance is a match from the side of one club, and a club
+//! is named by its slot, 1 to 4.
 
-ghost use Rattle.std.specs.Prelude.{◌≡◌, ℕ, ◌≤◌, ◌+◌, ◌*◌, ◌++◌, ◌∷◌, [], All, List, length};
+ghost use Rattle.std.specs.Prelude.{◌≡◌, ℕ, ◌≤◌, ◌+◌, ◌++◌, ◌∷◌, [], All, List, filter};
 ghost use Rattle.ucl_order.specs.declared.game.Match.{Match};
-ghost use Rattle.ucl_order.specs.Matches.{IsPairing, started};
+ghost use Rattle.ucl_order.specs.Matches.{IsPairing, counts, finished, started};
 ghost use Rattle.ucl_order.specs.Results.{points_for};
-ghost use Rattle.ucl_order.specs.Counting.{FitsFields, IsWithin, with_match};
-ghost use Rattle.ucl_order.specs.Rounds.{AreStarted, results_of_clubs, tied_results};
+ghost use Rattle.ucl_order.specs.Counting.{AreOfGroup, FitsFields, IsWithin, with_match};
+ghost use Rattle.ucl_order.specs.Rounds.{results_of_clubs, tied_results};
 
 use crate::game::{Appearance, Match, WIN};
 
@@ -20,12 +21,12 @@ pub(crate) struct Results {
     pub(crate) goals_against: u16,
     pub(crate) away_goals: u16,
     pub(crate) away_wins: u8,
-    /// The disciplinary total.
+    /// The disciplinary total: 1 for each yellow card that no second one turned into an expulsion, 3 for each expulsion.
     pub(crate) discipline: u16,
 }
 
 impl Results {
-    /// What a club has done in no match.
+    /// The results of a club in no match: each number is 0.
     const NONE: Results = Results {
         played: 0,
         wins: 0,
@@ -38,7 +39,7 @@ impl Results {
         discipline: 0,
     };
 
-    /// Counts one match more.
+    /// Adds one match, given from the side of the club, to its results in at most eleven.
     fn add(&mut self, game: &Appearance)
         requires { IsWithin 11 self.old }
         ensures value { self.new ≡ with_match self.old game.now }
@@ -57,8 +58,8 @@ impl Results {
         }
     }
 
-    /// Counts one match more for its two clubs.
-    fn add_match(results: &mut [Results; 4], game: &Match)
+    /// Adds one match to the results of the two clubs that play it. Place i of `results` is that of slot i + 1.
+    fn add_to_clubs(results: &mut [Results; 4], game: &Match)
         requires pairing { IsPairing game.now }
         requires few { All (IsWithin 11) results.old }
         ensures value { (matches : List Match) → results.old ≡ results_of_clubs matches
@@ -70,33 +71,53 @@ impl Results {
         results[usize::from(game.away - 1)].add(&game.seen_from_away());
     }
 
-    /// Returns what each club has done in the matches in play and finished among the clubs that have its key: those whose two clubs have the
-    /// same key.
-    pub(crate) fn of_level(keys: &[u64; 4], matches: &[Match]) -> [Results; 4]
-        requires short { length matches.now ≤ 12 }
-        requires pairings { All IsPairing matches.now }
-        requires started { AreStarted (started matches.now) }
+    /// Returns what each club has done in the matches in play and finished whose two clubs have the same key: those among the clubs that
+    /// are tied with it.
+    pub(crate) fn of_level(keys: &[u128; 4], matches: &[Match]) -> [Results; 4]
+        requires { AreOfGroup matches.now }
         ensures value { result ≡ tied_results (started matches.now) keys.now }
         ensures fits { All FitsFields result }
     {
         let mut results = [Results::NONE; 4];
         for game in matches {
             if game.is_level(keys) {
-                Results::add_match(&mut results, game);
+                Results::add_to_clubs(&mut results, game);
             }
         }
         results
     }
 
-    /// Returns what each club has done in the matches in play and finished: before the first criterion all four are level.
+    /// Returns what each club has done, by slot, in the finished matches and, unless `finished_only`, in those in play.
+    fn of_counted(matches: &[Match], finished_only: bool) -> [Results; 4]
+        requires { AreOfGroup matches.now }
+        ensures value { result ≡ results_of_clubs (filter (counts finished_only) matches.now) }
+        ensures fits { All FitsFields result }
+    {
+        let mut results = [Results::NONE; 4];
+        for game in matches {
+            if game.counts(finished_only) {
+                Results::add_to_clubs(&mut results, game);
+            }
+        }
+        results
+    }
+
+    /// Returns what each club has done, by slot, in the matches in play and finished.
     pub(crate) fn of_clubs(matches: &[Match]) -> [Results; 4]
-        requires short { length matches.now ≤ 12 }
-        requires pairings { All IsPairing matches.now }
-        requires started { AreStarted (started matches.now) }
+        requires { AreOfGroup matches.now }
         ensures value { result ≡ results_of_clubs (started matches.now) }
         ensures fits { All FitsFields result }
     {
-        Results::of_level(&[0; 4], matches)
+        Results::of_counted(matches, false)
+    }
+
+    /// Returns what each club has done, by slot, in the finished matches.
+    pub(crate) fn of_finished(matches: &[Match]) -> [Results; 4]
+        requires { AreOfGroup matches.now }
+        ensures value { result ≡ results_of_clubs (finished matches.now) }
+        ensures fits { All FitsFields result }
+    {
+        Results::of_counted(matches, true)
     }
 
     /// Returns the points: three for a win, one for a draw.

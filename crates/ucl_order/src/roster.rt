@@ -1,4 +1,6 @@
-//! The clubs of a group, by their slots: which clubs a roster takes in, and what it says of each.
+//! Rosters: the four clubs of a group, in slots 1 to 4. A roster takes a club in if the name is 1 to 20 bytes of printed ASCII, 0x20 to
+//! 0x7e, and the coefficient, which is UEFA's rating of the club in whole thousandths, is at most 999,999. A lent name is borrowed, and a
+//! member is a club as a roster keeps it, with a copy of the name.
 
 ghost use Rattle.std.specs.Prelude.{◌≡◌, ◌-◌, ◌≤◌, None, Some, true, false, IfOk, IfErr, OnOk, length, map, set};
 ghost use Rattle.std.specs.List.{list_all};
@@ -9,7 +11,7 @@ use arrayvec::ArrayVec;
 use std::marker::Model;
 use thiserror::Error;
 
-/// The most bytes that a club's name has.
+/// The most bytes that the name of a club in a roster has.
 const MAX_NAME_BYTES: usize = 20;
 
 /// The first byte of printed ASCII, a space.
@@ -18,10 +20,10 @@ const FIRST_PRINTED: u8 = 0x20;
 /// The last byte of printed ASCII.
 const LAST_PRINTED: u8 = 0x7e;
 
-/// The greatest coefficient of a club.
+/// The greatest coefficient of a club in a roster.
 const MAX_COEFFICIENT: u32 = 999_999;
 
-/// A club to put in a roster. Either field can have any value; [`Roster::new`] says which a roster takes.
+/// A club to put in a roster, with a name of its own. Either field can have any value; [`Roster::new`] refuses what no roster takes.
 #[derive(Debug, Drop)]
 pub struct Club {
     /// The name: 1 to 20 bytes of printed ASCII, 0x20 to 0x7e.
@@ -30,7 +32,7 @@ pub struct Club {
     pub coefficient: u32,
 }
 
-/// A club to put in a roster, with a name that is lent. Either field can have any value; [`Roster::of_lent`] says which a roster takes.
+/// A club to put in a roster, with a borrowed name. Either field can have any value; [`Roster::of_lent`] refuses what no roster takes.
 #[derive(Clone, Copy)]
 pub struct LentClub<'a> {
     /// The name: 1 to 20 bytes of printed ASCII, 0x20 to 0x7e.
@@ -39,7 +41,7 @@ pub struct LentClub<'a> {
     pub coefficient: u32,
 }
 
-/// 21: a club that no roster takes in. Its name is not 1 to 20 bytes of printed ASCII, or its coefficient is over 999,999.
+/// Error 21: a club that no roster takes in. Its name is not 1 to 20 bytes of printed ASCII, or its coefficient is over 999,999.
 #[derive(Clone, Copy, Debug, PartialEq, Eq, Error)]
 #[error("bad roster 21: slot {slot}")]
 pub struct BadRoster {
@@ -47,14 +49,14 @@ pub struct BadRoster {
     pub slot: u8,
 }
 
-/// A club of a roster, with its name in the value itself.
+/// A club as a roster keeps it: with a copy of its name in the value itself, so it takes no memory of the heap.
 #[derive(Debug, Drop)]
 struct Member {
     name: ArrayVec<u8, MAX_NAME_BYTES>,
     coefficient: u32,
 }
 
-/// The four clubs of a group, by slots 1 to 4. Contracts see the list of their names and coefficients.
+/// The four clubs of a group, in slots 1 to 4. In contracts a roster is the list of their names and coefficients, by slot.
 ///
 /// # Examples
 ///
@@ -79,7 +81,7 @@ impl Model for Roster {
     ghost invariant = { λ r. IsRoster (members_seen r.members) };
 }
 
-/// Returns whether each byte is one of printed ASCII.
+/// Returns whether each byte of a name is printed ASCII, 0x20 to 0x7e.
 fn is_printed(name: &[u8]) -> bool
     ensures { result ≡ list_all is_printed name.now }
 {
@@ -87,7 +89,7 @@ fn is_printed(name: &[u8]) -> bool
         .all(|b| FIRST_PRINTED <= *b && *b <= LAST_PRINTED)
 }
 
-/// Returns whether a name has 1 to 20 bytes of printed ASCII.
+/// Returns whether a name has 1 to 20 bytes, all of printed ASCII, 0x20 to 0x7e.
 fn is_name(name: &[u8]) -> bool
     ensures { result ≡ is_name name.now }
 {
@@ -97,11 +99,11 @@ fn is_name(name: &[u8]) -> bool
     is_printed(name)
 }
 
-/// Copies a club of this name and coefficient for this slot.
+/// Creates a member, a club as a roster keeps it, from a name, which is copied, and a coefficient. The slot serves only the error.
 ///
 /// # Errors
 ///
-/// [`BadRoster`] with the slot, if no roster takes the club in.
+/// [`BadRoster`] with the slot, if the name is not 1 to 20 bytes of printed ASCII or the coefficient is over 999,999.
 #[tactic(auto, unfolding(crate::specs::Roster::is_club))]
 fn member_with(slot: u8, name: &[u8], coefficient: u32) -> Result<Member, BadRoster>
     ensures taken { IfOk result (λ m. IsClub (named name.now coefficient)
@@ -124,7 +126,7 @@ fn member_with(slot: u8, name: &[u8], coefficient: u32) -> Result<Member, BadRos
     })
 }
 
-/// Copies the club for this slot, as [`member_with`] does.
+/// Creates the member of a roster for a club that owns its name. [`BadRoster`] with the slot, if no roster takes the club in.
 fn member_of(slot: u8, club: &Club) -> Result<Member, BadRoster>
     ensures taken { IfOk result (λ m. IsClub (club_seen club.now)
         × (member_seen m ≡ club_seen club.now)) }
@@ -134,7 +136,7 @@ fn member_of(slot: u8, club: &Club) -> Result<Member, BadRoster>
     member_with(slot, &club.name, club.coefficient)
 }
 
-/// Copies the lent club for this slot, as [`member_with`] does.
+/// Creates the member of a roster for a club with a borrowed name. [`BadRoster`] with the slot, if no roster takes the club in.
 fn member_lent(slot: u8, club: &LentClub<'_>) -> Result<Member, BadRoster>
     ensures taken { IfOk result (λ m. IsClub (club_lent club.now)
         × (member_seen m ≡ club_lent club.now)) }
@@ -167,11 +169,11 @@ impl Roster {
         Ok(Roster { members })
     }
 
-    /// Creates the roster of four clubs whose names are lent, the first of which is in slot 1. It takes no memory: the names are copied.
+    /// Creates the roster of four clubs with borrowed names, the first of which is in slot 1. It takes no memory: the names are copied.
     ///
     /// # Errors
     ///
-    /// Those of [`new`](Roster::new), with the same slot.
+    /// [`BadRoster`] with the least slot of a club whose name is not 1 to 20 bytes of printed ASCII, or whose coefficient is over 999,999.
     #[tactic(auto, unfolding(crate::specs::Roster::bad_slot_from))]
     pub fn of_lent(clubs: &[LentClub<'_>; 4]) -> Result<Roster, BadRoster>
         ensures taken { IfOk result (λ roster. (roster ≡ map club_lent clubs.now)
@@ -189,11 +191,11 @@ impl Roster {
         })
     }
 
-    /// Puts a club, whose name is lent, in a slot from 1 to 4. It takes no memory: the name is copied.
+    /// Puts a club, with a borrowed name, in a slot from 1 to 4 in place of the club there. It takes no memory: the name is copied.
     ///
     /// # Errors
     ///
-    /// [`BadRoster`] with the slot, if [`new`](Roster::new) refuses such a club. The roster stays as it was.
+    /// [`BadRoster`] with the slot, if no roster takes the club in, as for [`new`](Roster::new). Then the roster stays as it was.
     pub fn put(&mut self, slot: u8, club: &LentClub<'_>) -> Result<(), BadRoster>
         requires { IsSlot slot }
         ensures taken { OnOk result ((self.new ≡ set self.old (slot - 1) (club_lent club.now))
@@ -206,6 +208,7 @@ impl Roster {
     }
 
     /// Returns the name of the club in a slot from 1 to 4: 1 to 20 bytes of printed ASCII.
+    #[tactic(auto, using(crate::proofs::Clubs::name_good))]
     pub fn name(&self, slot: u8) -> &[u8]
         requires { IsSlot slot }
         ensures value { result.now ≡ name_of self.now slot }
@@ -215,7 +218,8 @@ impl Roster {
         self.members[usize::from(slot - 1)].name.as_slice()
     }
 
-    /// Returns the coefficient of the club in a slot from 1 to 4, at most 999,999.
+    /// Returns the coefficient of the club in a slot from 1 to 4, which is at most 999,999.
+    #[tactic(auto, using(crate::proofs::Clubs::coefficient_good))]
     pub fn coefficient(&self, slot: u8) -> u32
         requires { IsSlot slot }
         ensures value { result ≡ coefficient_of self.now slot }

@@ -1,4 +1,5 @@
-//! The table of a group: a row for each place, made from results, order and marks.
+//! The table of a group: a row for each place, made from the clubs' results (their numbers in some matches), order and marks. A club is
+//! named by its slot, 1 to 4, and an order is the clubs' slots by place. A mark says whether a club is sure to be among the first two.
 
 ghost use Rattle.std.specs.Prelude.{◌≡◌, ◌-◌, ◌≤◌, List, [], ◌∷◌, All, length, map, slice_index};
 ghost use Rattle.ucl_board.specs.Fixtures.{IsSlot};
@@ -25,9 +26,9 @@ pub struct Row {
     pub slot: u8,
     /// The place, 1 to 4.
     pub place: u8,
-    /// Whether the club is sure of a place among the first two. Only finished matches count.
+    /// Whether the club is sure to be among the first two, sure not to be, or neither. Only finished matches count.
     pub mark: Mark,
-    /// Matches, 0 to 6.
+    /// Matches in play or finished, 0 to 6.
     pub played: u8,
     /// Matches won, 0 to 6.
     pub wins: u8,
@@ -43,7 +44,7 @@ pub struct Row {
     pub points: u8,
 }
 
-/// Returns the row of a club at its place, by what it has done.
+/// Returns the row of the club in a slot, with its place, its mark and the numbers of its results.
 fn row_with(place: u8, slot: u8, mark: Mark, results: &Results) -> Row
     requires { FitsFields results.now }
     ensures { result ≡ row_by place slot mark results.now }
@@ -62,8 +63,7 @@ fn row_with(place: u8, slot: u8, mark: Mark, results: &Results) -> Row
     }
 }
 
-/// Returns the row at this place of the order. The marks are by place, and the results are those of all clubs in the matches in play and
-/// finished.
+/// Returns the row at this place of the order, 1 to 4. Marks are by place; results are by slot, and count matches in play and finished.
 #[tactic(auto, unfolding(crate::specs::Results::totals))]
 fn row_at(place: u8, order: &[u8; 4], marks: &[Mark; 4], results: &[Results; 4]) -> Row
     requires at_least { 1 ≤ place }
@@ -87,12 +87,12 @@ fn row_at(place: u8, order: &[u8; 4], marks: &[Mark; 4], results: &[Results; 4])
 /// (b) goal difference and (c) goals scored in the matches among them; (d) the same again among each smaller class that stays level;
 /// then, over all matches, (e) goal difference, (f) goals scored, (g) away goals, (h) wins, (i) away wins, (j) the lower
 /// disciplinary total and (k) the higher coefficient; and at last by slot. With `AwayInTie` away goals in the matches among the clubs
-/// come after (c), also where (d) applies them again.
+/// come after (c), also when (d) applies them again.
 ///
 /// Marks go by finished matches. When all twelve are finished, the first two clubs have `Plus` and the others `Minus`. Before, a club
-/// can reach its points and three more for each match that it has left: `Plus` where at most one other club can reach the club's
-/// points, `Minus` where at least two others have more points than the club can reach, else `Blank`. What `Plus` and `Minus` say then
-/// holds in every completion ([`plus_is_certain`], [`minus_is_certain`]).
+/// can reach its points and three more for each match that it has left: `Plus` if at most one other club can reach the club's
+/// points, `Minus` if at least two others have more points than the club can reach, else `Blank`. A club with `Plus` is among the first
+/// two, and one with `Minus` is not, however the group ends ([`plus_is_certain`], [`minus_is_certain`]).
 pub fn standings(board: &Board, roster: &Roster, profile: Profile) -> [Row; 4]
     ensures rows { result ≡ rows_of profile board.now roster.now }
     ensures four { length result ≡ 4 }

@@ -1,20 +1,9 @@
 -- How wide the lines are.
-use Rattle.ucl_screen.proofs.Common.{Bool, List, [], and_parts, append_assoc, arith, cond, false, length, length-append, nat_le, nat_tests}
-use Rattle.ucl_screen.proofs.Common.{refl, replicate, true, ℕ, ◌++◌, ◌+◌, ◌-◌, ◌<◌, ◌^◌, ◌∷◌, ◌≡◌, ◌≤◌}
-use Rattle.std.proofs.Common.{codes}
-use Rattle.std.specs.Prelude.{decimal}
-use Rattle.std.proofs.lemmas.List.{length-replicate}
-use Rattle.std.proofs.lemmas.Fmt.{length-decimal-le}
-use Rattle.ucl_order.specs.declared.mark.Mark.{Mark}
-use Rattle.ucl_order.specs.declared.table.Row.{Row}
-use Rattle.ucl_order.specs.Rows.{IsWithinTable}
-use Rattle.ucl_screen.specs.Lines.{left, right, difference_text, mark_text, place_line}
-use Rattle.ucl_screen.specs.Theorems.{LinesHave53Columns}
-use Rattle.std.specs.List.{list_all}
-use Rattle.std.specs.Str.{IsAscii, IsUtf8}
-use Rattle.std.proofs.lemmas.Str.{IsUtf8-from_ascii}
-use Rattle.std.proofs.lemmas.Str.Ascii.{IsAscii-nil, IsAscii-cons}
-use Rattle.ucl_order.specs.Roster.{is_printed, is_name}
+use Rattle.ucl_screen.proofs.Common.{Bool, IsAscii, IsAscii-cons, IsAscii-nil, IsUtf8, IsUtf8-from_ascii, IsWithinTable, LinesHave53Columns}
+use Rattle.ucl_screen.proofs.Common.{List, Mark, Row, [], and_parts, ap, append-nil, arith, codes, cond, decimal, difference_text, false}
+use Rattle.ucl_screen.proofs.Common.{is_name, is_printed, left, length, length-append, length-decimal-le, length-replicate, list_all}
+use Rattle.ucl_screen.proofs.Common.{mark_text, nat_le, nat_tests, number, place_line, refl, replicate, right, sym, true, ℕ, ◌++◌, ◌+◌, ◌-◌}
+use Rattle.ucl_screen.proofs.Common.{◌<◌, ◌^◌, ◌∙◌, ◌∷◌, ◌≡◌, ◌≤◌}
 
 wide_left : (width : ℕ) (text : List ℕ) → length text ≤ width → length (left width text) ≡ width
 wide_left width text fits = omega (arith, length-append text (replicate (width - length text) 32), length-replicate {A = ℕ} (width - length text) 32)
@@ -62,22 +51,6 @@ wide_line row name w place fits =
 pub lines_wide : LinesHave53Columns
 lines_wide = record { names = refl; places = wide_line }
 
--- ---- a text that is written piece by piece
-
-pieces : (o a b c d e f g h i j k l : List ℕ)
-    → o ++ a ++ b ++ c ++ d ++ e ++ f ++ g ++ h ++ i ++ j ++ k ++ l ≡ o ++ (a ++ b ++ c ++ d ++ e ++ f ++ g ++ h ++ i ++ j ++ k ++ l)
-pieces o a b c d e f g h i j k l = simp append_assoc
-
--- the line of a place, after what was there
-pub line_written : (row : Row) (name o p q r s t u v w x y z after : List ℕ)
-    → p ≡ o ++ right 1 (decimal row.place) → q ≡ p ++ mark_text row.mark → r ≡ q ++ left 20 name
-    → s ≡ r ++ right 3 (decimal row.played) → t ≡ s ++ right 3 (decimal row.wins) → u ≡ t ++ right 3 (decimal row.draws) → v ≡ u ++ right 3 (decimal row.losses)
-    → w ≡ v ++ right 4 (decimal row.goals_for) → x ≡ w ++ right 4 (decimal row.goals_against) → y ≡ x ++ right 5 (difference_text row.goals_for row.goals_against)
-    → z ≡ y ++ right 4 (decimal row.points) → after ≡ z ++ codes "\n" → after ≡ o ++ place_line row name
-unfolding place_line
-line_written row name o p q r s t u v w x y z after p' q' r' s' t' u' v' w' x' y' z' after' =
-    rw (after', z', y', x', w', v', u', t', s', r', q', p') (pieces o _ _ _ _ _ _ _ _ _ _ _ _)
-
 -- ---- names are text
 
 below : (b : ℕ) → is_printed b ≡ true → b < 128
@@ -89,3 +62,16 @@ printed_ascii (b ∷ bs) h = let e = and_parts (is_printed b) (list_all is_print
 
 pub name_text : (name : List ℕ) → is_name name ≡ true → IsUtf8 name
 name_text name h = IsUtf8-from_ascii name (printed_ascii name (and_parts _ _ h).1)
+
+-- ---- the line of a fault, by its parts
+
+-- a line of one part, and of two
+pub one_part : (before : List ℕ) → before ++ [] ++ [] ≡ before
+one_part before = append-nil (before ++ []) ∙ append-nil before
+
+pub two_parts : (before number : List ℕ) → before ++ number ++ [] ≡ before ++ number
+two_parts before number = append-nil (before ++ number)
+
+-- a line with no number between its parts
+pub no_number : (before after : List ℕ) → before ++ after ≡ before ++ [] ++ after
+no_number before after = ap (λ bytes. bytes ++ after) (sym (append-nil before))

@@ -1,21 +1,66 @@
 -- The words and lemmas from elsewhere that the proofs of this crate share.
+pub use Rattle.csv.proofs.ReadFacts.{rows-end, rows-more}
+pub use Rattle.csv.specs.Machine.{Read, ends_at_end, field_after, fields_after, is_end, step}
+unfoldable pub use Rattle.csv.specs.Machine.{next_record}
+pub use Rattle.csv.specs.Reading.{ReadRecord, default_config, has_failed, is_bom, took_first}
+unfoldable pub use Rattle.csv.specs.Reading.{Reached, records_from, strip_bom}
 pub use Rattle.csv.specs.Records.{fields_of}
-pub use Rattle.std.proofs.Common.{Bool, List, None, Ok, Option, Some, [], add-one, ap, append-nil, append_assoc, arith, cond, drop}
-pub use Rattle.std.proofs.Common.{drop-cons, false, get_or, inl, inr, length, length-append, refl, replicate, rules, string_bytes, suc, sym}
-pub use Rattle.std.proofs.Common.{take, true, true≢false, zero, ℕ, ◌&&◌, ◌*◌, ◌++◌, ◌+◌, ◌-◌, ◌<◌, ◌==◌, ◌^◌, ◌∙◌, ◌∷◌, ◌≡◌, ◌≤◌, ◌⊎◌}
-pub use Rattle.std.proofs.lemmas.Bool.{and_parts, cases_Bool}
+unfoldable pub use Rattle.csv.specs.Records.{field_at}
+pub use Rattle.csv.specs.declared.parser.Action.{Action}
+pub use Rattle.csv.specs.declared.parser.State.{State}
+pub use Rattle.csv.specs.declared.reader.Reader.{Reader}
+pub use Rattle.std.proofs.Common.{Bool, List, None, Ok, Option, Some, [], add-one, ap, append-nil, append_assoc, arith, codes, cond, drop}
+pub use Rattle.std.proofs.Common.{drop-cons, eq-eqb, eqb-true, false, get_or, if◌then◌else◌, inl, inr, length, length-append, map, refl}
+pub use Rattle.std.proofs.Common.{replicate, rules, string_bytes, subst, suc, sym, take, true, true≢false, zero, ℕ, ◌&&◌, ◌*◌, ◌++◌, ◌+◌}
+pub use Rattle.std.proofs.Common.{◌-◌, ◌<◌, ◌==◌, ◌^◌, ◌∙◌, ◌∷◌, ◌≡◌, ◌≤◌, ◌⊎◌}
+pub use Rattle.std.proofs.Math.Nat.{pow-le-pow_right, pow-suc}
+pub use Rattle.std.proofs.lemmas.Bool.{and_parts, cases_Bool, false_from_ne_true}
 pub use Rattle.std.proofs.lemmas.Bool.Decides.{nat_tests}
-pub use Rattle.std.proofs.lemmas.Grind.{common_steps}
-pub use Rattle.std.specs.Prelude.{Err, Result, flat_map, nat_le}
+pub use Rattle.std.proofs.lemmas.Fmt.{length-decimal-le}
+pub use Rattle.std.proofs.lemmas.Grind.{common_steps, flat_map-append, take-set_at}
+pub use Rattle.std.proofs.lemmas.List.{length-replicate, length-set, take_all, take_more}
+pub use Rattle.std.proofs.lemmas.Result.{err_from_is_err_and}
+pub use Rattle.std.proofs.lemmas.Str.{IsUtf8-from_ascii}
+pub use Rattle.std.proofs.lemmas.Str.Ascii.{IsAscii-cons, IsAscii-nil}
+pub use Rattle.std.specs.Borrow.{Bor}
+pub use Rattle.std.specs.Io.KnownBytes.{Consumes}
+pub use Rattle.std.specs.List.{fold, list_all, slice_index_or}
+pub use Rattle.std.specs.Prelude.{Err, IfErr, IfSome, Result, decimal, flat_map, nat_le}
+pub use Rattle.std.specs.Result.{is_ok}
+pub use Rattle.std.specs.Str.{IsAscii, IsUtf8}
+pub use Rattle.ucl_board.proofs.HistoryTheorems.{each_match}
+pub use Rattle.ucl_board.proofs.HistoryTheorems.{versions}
 pub use Rattle.ucl_board.specs.Fixtures.{match_numbers}
-pub use Rattle.ucl_board.specs.Words.{AreReadAs, IsFirstBad}
-pub use Rattle.ucl_screen.specs.Events.{event_of}
-unfoldable pub use Rattle.ucl_screen.specs.Matches.{match_line}
+pub use Rattle.ucl_board.specs.History.{after_attempt}
+pub use Rattle.ucl_board.specs.Words.{AreReadAs, IsFirstBad, max_version}
+pub use Rattle.ucl_board.specs.declared.entry.Entry.{Entry}
+pub use Rattle.ucl_order.specs.Roster.{is_name, is_printed}
+pub use Rattle.ucl_order.specs.Rows.{IsWithinTable}
+pub use Rattle.ucl_order.specs.declared.mark.Mark.{Mark}
+pub use Rattle.ucl_order.specs.declared.table.Row.{Row}
+pub use Rattle.ucl_screen.specs.Events.{IsBoardAfter, attempt_of, event_of}
+pub use Rattle.ucl_screen.specs.Input.{CallsRead, Reads, whole_input}
+pub use Rattle.ucl_screen.specs.Lines.{difference_text, left, mark_text, right}
+unfoldable pub use Rattle.ucl_screen.specs.Lines.{place_line}
+unfoldable pub use Rattle.ucl_screen.specs.Matches.{match_line, matches_text}
+pub use Rattle.ucl_screen.specs.Numbers.{hex_digit, hex_word, is_digit, number}
 unfoldable pub use Rattle.ucl_screen.specs.Numbers.{digits_after, hex_after}
-pub use Rattle.ucl_screen.specs.Parsing.{MeansNight, MeansSheet, night_seen, sheet_seen}
-pub use Rattle.ucl_screen.specs.Rows.{Fields, IsReading, rows_left, rows_of}
+pub use Rattle.ucl_screen.specs.Parsing.{AnswersAsSaid, MeansNight, MeansSheet, Refuses, night_seen, sheet_seen}
+pub use Rattle.ucl_screen.specs.Rows.{Fields, FourFields, IsReading, bytes_left, four_of, rows_left, rows_of}
 unfoldable pub use Rattle.ucl_screen.specs.Rows.{rows_from}
-pub use Rattle.ucl_screen.specs.Script.{said_by, word_of_row, ◌>>=◌}
+pub use Rattle.ucl_screen.specs.Screen.{IsGroup, in_play, letter_in, row_line}
+pub use Rattle.ucl_screen.specs.Script.{IsFaultOfScript, WrittenSheet, night_of_rows, said_by, sheet_of, sheet_of_rows, word_of_row, ◌>>=◌}
 unfoldable pub use Rattle.ucl_screen.specs.Script.{events_from, words_from}
+pub use Rattle.ucl_screen.specs.Theorems.{LinesHave53Columns}
+pub use Rattle.ucl_screen.specs.WordsRead.{before_words, is_first_word, is_word}
+unfoldable pub use Rattle.ucl_screen.specs.WordsRead.{first_record_at, read_word, read_words}
 pub use Rattle.ucl_screen.specs.declared.fault.InputFault.{InputFault}
+pub use Rattle.ucl_screen.specs.declared.fault.InputFault.TheVariants.{BadRow}
+pub use Rattle.ucl_screen.specs.declared.night.Night.{Night}
 pub use Rattle.ucl_screen.specs.declared.night.NightEvent.{NightEvent}
+pub use Rattle.ucl_screen.specs.declared.sheet.Sheet.{Sheet}
+pub use Rattle.ucl_word.proofs.FirstWords.{first_back, layouts_apart}
+pub use Rattle.ucl_word.proofs.Words.{record_told, word_packed, word_valid}
+pub use Rattle.ucl_word.specs.Layout.{IsWord, first_layout, record_at, word_of}
+pub use Rattle.ucl_word.specs.Migration.{IsFirstWord, IsReadAs, IsReadable, first_word_of, max_number_in_play_of_first_layout}
+pub use Rattle.ucl_word.specs.Record.{is_valid}

@@ -1,9 +1,7 @@
 -- Numbers read one digit at a time.
 use Rattle.ucl_screen.proofs.Common.{Bool, List, None, Some, [], add-one, arith, common_steps, digits_after, drop, drop-cons, false, get_or}
-use Rattle.ucl_screen.proofs.Common.{hex_after, inl, inr, length, nat_tests, refl, true, zero, ℕ, ◌*◌, ◌+◌, ◌-◌, ◌<◌, ◌==◌, ◌^◌, ◌≡◌, ◌≤◌}
-use Rattle.ucl_screen.proofs.Common.{◌⊎◌}
-use Rattle.ucl_screen.specs.Numbers.{is_digit, number, hex_digit, hex_word}
-use Rattle.std.proofs.Math.Nat.{pow-suc, pow-le-pow_right}
+use Rattle.ucl_screen.proofs.Common.{hex_after, hex_digit, hex_word, inl, inr, is_digit, length, nat_tests, number, pow-le-pow_right}
+use Rattle.ucl_screen.proofs.Common.{pow-suc, refl, true, zero, ℕ, ◌*◌, ◌+◌, ◌-◌, ◌<◌, ◌==◌, ◌^◌, ◌≡◌, ◌≤◌, ◌⊎◌}
 
 pub number-is : (most : ℕ) (text : List ℕ) → 1 ≤ length text → length text ≤ most → number most text ≡ digits_after 0 text
 number-is most text a b = grind (arith, nat_tests)

@@ -1,16 +1,8 @@
 -- Events that are entered in turn.
-use Rattle.ucl_screen.proofs.Common.{List, NightEvent, [], add-one, ap, append-nil, arith, common_steps, drop, drop-cons, flat_map, get_or}
-use Rattle.ucl_screen.proofs.Common.{length, match_numbers, refl, suc, sym, take, ℕ, ◌++◌, ◌+◌, ◌-◌, ◌<◌, ◌∙◌, ◌∷◌, ◌≡◌, ◌≤◌}
-use Rattle.std.proofs.Common.{map}
-use Rattle.std.proofs.lemmas.Grind.{flat_map-append}
-use Rattle.std.specs.List.{fold}
-use Rattle.ucl_board.specs.declared.entry.Entry.{Entry}
-use Rattle.ucl_board.specs.History.{after_attempt}
-use Rattle.ucl_board.specs.Words.{max_version}
-use Rattle.ucl_board.proofs.HistoryTheorems.{versions}
-use Rattle.ucl_screen.specs.Events.{IsBoardAfter, attempt_of}
-use Rattle.std.proofs.lemmas.List.{take_more}
-use Rattle.ucl_board.proofs.Histories.{each_match}
+use Rattle.ucl_screen.proofs.Common.{Entry, IsBoardAfter, List, NightEvent, [], add-one, after_attempt, ap, append-nil, arith, attempt_of}
+use Rattle.ucl_screen.proofs.Common.{common_steps, drop, drop-cons, each_match, flat_map, flat_map-append, fold, get_or, length, map}
+use Rattle.ucl_screen.proofs.Common.{match_numbers, max_version, refl, suc, sym, take, take_more, versions, ℕ, ◌++◌, ◌+◌, ◌-◌, ◌<◌, ◌∙◌}
+use Rattle.ucl_screen.proofs.Common.{◌∷◌, ◌≡◌, ◌≤◌}
 
 pub past : {X : Type 0} (i : ℕ) (xs : List X) → length xs ≤ i → drop i xs ≡ []
 past i xs h = grind (arith, common_steps)

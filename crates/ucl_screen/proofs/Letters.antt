@@ -1,9 +1,7 @@
 -- Letters of groups.
-use Rattle.ucl_screen.proofs.Common.{Bool, List, None, Some, [], and_parts, arith, cond, false, length, nat_le, refl, true, ℕ, ◌&&◌, ◌<◌}
-use Rattle.ucl_screen.proofs.Common.{◌∷◌, ◌≡◌, ◌≤◌}
+use Rattle.ucl_screen.proofs.Common.{Bool, IsGroup, List, None, Some, [], and_parts, arith, cond, false, length, letter_in, nat_le, refl}
+use Rattle.ucl_screen.proofs.Common.{slice_index_or, true, ℕ, ◌&&◌, ◌<◌, ◌∷◌, ◌≡◌, ◌≤◌}
 use Rattle.std.proofs.Common.{le-leb, leb-true}
-use Rattle.std.specs.List.{slice_index_or}
-use Rattle.ucl_screen.specs.Screen.{IsGroup, letter_in}
 
 pub is_letter : (text : List ℕ) → 1 ≤ length text → length text < 2 → IsGroup (slice_index_or text 0 0) → Some (slice_index_or text 0 0) ≡ letter_in text
 is_letter (x ∷ []) some one group = rw (le-leb 65 x group.0, le-leb x 72 group.1) refl

@@ -4,6 +4,5 @@ pub mod Digits
 pub mod RowFaults
 pub mod Columns
 pub mod ReadWords
-pub mod FaultLines
 pub mod EventsInTurn
 pub mod Letters

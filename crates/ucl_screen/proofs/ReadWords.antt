@@ -1,15 +1,11 @@
 -- What twelve words are read as.
-use Rattle.ucl_screen.proofs.Common.{AreReadAs, Err, IsFirstBad, List, None, Ok, Option, Result, Some, [], and_parts, ap, arith, false}
-use Rattle.ucl_screen.proofs.Common.{get_or, inl, inr, length, nat_le, refl, suc, sym, true, zero, ℕ, ◌&&◌, ◌+◌, ◌-◌, ◌<◌, ◌==◌, ◌∙◌, ◌∷◌}
-use Rattle.ucl_screen.proofs.Common.{◌≡◌}
-use Rattle.std.proofs.Common.{eq-eqb, eqb-true}
-use Rattle.std.proofs.lemmas.Bool.{false_from_ne_true, le-leb, leb-true}
-use Rattle.ucl_word.specs.Record.{is_valid}
-use Rattle.ucl_word.specs.Layout.{IsWord, first_layout, record_at, word_of}
-use Rattle.ucl_word.specs.Migration.{IsFirstWord, IsReadAs, IsReadable, first_word_of, max_number_in_play_of_first_layout}
-use Rattle.ucl_word.proofs.Words.{record_told, word_packed, word_valid}
-use Rattle.ucl_word.proofs.FirstWords.{first_back, layouts_apart}
-use Rattle.ucl_screen.specs.WordsRead.{before_words, first_record_at, is_first_word, is_word, read_word, read_words}
+use Rattle.ucl_screen.proofs.Common.{AreReadAs, Err, IsFirstBad, IsFirstWord, IsReadAs, IsReadable, IsWord, List, None, Ok, Option, Result}
+use Rattle.ucl_screen.proofs.Common.{Some, [], and_parts, ap, arith, before_words, eq-eqb, eqb-true, false, false_from_ne_true, first_back}
+use Rattle.ucl_screen.proofs.Common.{first_layout, first_record_at, first_word_of, get_or, inl, inr, is_first_word, is_valid, is_word}
+use Rattle.ucl_screen.proofs.Common.{layouts_apart, length, max_number_in_play_of_first_layout, nat_le, number, read_word, read_words}
+use Rattle.ucl_screen.proofs.Common.{record_at, record_told, refl, suc, sym, true, word_of, word_packed, word_valid, zero, ℕ, ◌&&◌, ◌+◌}
+use Rattle.ucl_screen.proofs.Common.{◌-◌, ◌<◌, ◌==◌, ◌∙◌, ◌∷◌, ◌≡◌}
+use Rattle.std.proofs.lemmas.Bool.{le-leb, leb-true}
 
 -- what a word is read as
 

@@ -1,20 +1,12 @@
 -- The records of a text, one after the other.
-use Rattle.ucl_screen.proofs.Common.{Bool, Err, Fields, InputFault, IsReading, List, NightEvent, None, Ok, Option, Result, Some, []}
-use Rattle.ucl_screen.proofs.Common.{add-one, ap, append_assoc, arith, cases_Bool, event_of, events_from, false, inl, inr, length, refl}
-use Rattle.ucl_screen.proofs.Common.{rows_from, rows_left, rows_of, said_by, suc, true, word_of_row, words_from, zero, ℕ, ◌++◌, ◌+◌, ◌-◌}
-use Rattle.ucl_screen.proofs.Common.{◌<◌, ◌>>=◌, ◌∙◌, ◌∷◌, ◌≡◌, ◌≤◌, ◌⊎◌}
-use Rattle.std.proofs.Common.{if◌then◌else◌}
-use Rattle.ucl_screen.specs.Rows.{bytes_left, FourFields, four_of}
-use Rattle.csv.specs.Machine.{Read, next_record, ends_at_end, step, is_end, fields_after, field_after}
-use Rattle.std.specs.Borrow.{Bor}
-use Rattle.csv.proofs.ReadFacts.{rows-end, rows-more}
-use Rattle.csv.specs.Reading.{default_config, records_from, strip_bom, is_bom, Reached, ReadRecord, took_first, has_failed}
-use Rattle.csv.specs.declared.reader.Reader.{Reader}
-use Rattle.csv.specs.declared.parser.State.{State}
-use Rattle.csv.specs.declared.parser.Action.{Action}
-use Rattle.csv.specs.Records.{field_at}
+use Rattle.ucl_screen.proofs.Common.{Action, BadRow, Bool, Bor, Err, Fields, FourFields, InputFault, IsReading, List, NightEvent, None, Ok}
+use Rattle.ucl_screen.proofs.Common.{Option, Reached, Read, ReadRecord, Reader, Result, Some, State, [], add-one, ap, append_assoc, arith}
+use Rattle.ucl_screen.proofs.Common.{bytes_left, cases_Bool, default_config, ends_at_end, event_of, events_from, false, field_after}
+use Rattle.ucl_screen.proofs.Common.{field_at, fields_after, four_of, has_failed, if◌then◌else◌, inl, inr, is_bom, is_end, length}
+use Rattle.ucl_screen.proofs.Common.{next_record, records_from, refl, rows-end, rows-more, rows_from, rows_left, rows_of, said_by, step}
+use Rattle.ucl_screen.proofs.Common.{strip_bom, suc, took_first, true, word_of_row, words_from, zero, ℕ, ◌++◌, ◌+◌, ◌-◌, ◌<◌, ◌>>=◌, ◌∙◌}
+use Rattle.ucl_screen.proofs.Common.{◌∷◌, ◌≡◌, ◌≤◌, ◌⊎◌}
 use Rattle.std.proofs.lemmas.List.{append-nil}
-use Rattle.ucl_screen.specs.declared.fault.InputFault.TheVariants.{BadRow}
 use Rattle.csv.specs.declared.parser.State.TheVariants as st
 use Rattle.csv.specs.declared.parser.Action.TheVariants as act
 
@@ -111,8 +103,8 @@ unfolding strip_bom
 short-strip (a ∷ b ∷ c ∷ rest) = elim (cases_Bool (is_bom a b c)) [ inl y ↦ rw y (omega arith) | inr n ↦ rw n (omega arith) ]
 short-strip xs = omega arith
 
-pub few-rows : (xs : List ℕ) → length (rows_of xs) ≤ length xs
-few-rows xs = let a = few (length (strip_bom xs) + 1) st.StartRecord (strip_bom xs) refl in let b = short-strip xs in omega arith
+pub few_rows : (xs : List ℕ) → length (rows_of xs) ≤ length xs
+few_rows xs = let a = few (length (strip_bom xs) + 1) st.StartRecord (strip_bom xs) refl in let b = short-strip xs in omega arith
 
 -- what one read of a reader between two records does
 abbrev Source : Type 0

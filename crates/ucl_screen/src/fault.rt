@@ -1,4 +1,5 @@
-//! Why an input is refused, or was not read.
+//! Faults of an input: why it is refused, or was not read. An input is a script, which is four rows of clubs and a row for each event, or a
+//! sheet, which is four rows of clubs and twelve rows of match words. A source is where its bytes are read from.
 
 ghost use Rattle.std.specs.Prelude.{◌≡◌, Some};
 ghost use Rattle.ucl_screen.specs.declared.fault.InputFault.TheVariants.{OutOfMemory};
@@ -8,25 +9,25 @@ use crate::FaultLine;
 use std::alloc::{AllocError, AllocFailed};
 use std::{error, fmt};
 
-/// Why an input is refused, or was not read. The text of a fault is the line that the program writes.
+/// Why an input is refused, or was not read. The text of a fault is the line that the program writes, with the number given here.
 #[derive(Clone, Copy, Debug, PartialEq, Eq)]
 pub enum InputFault {
-    /// 10: a word row holds the word of no valid record. `index` is the least match with such a word, 1 to 12.
+    /// 10: a row of a sheet holds a word that packs no valid match record. `index` is the least match with such a word, 1 to 12.
     BadWordAt { index: u8 },
-    /// 20: the first row, counted from 1, that is missing or is not as its place demands.
+    /// 20: a row is missing or has not the form that its place in the input demands. `row` is the first such row, counted from 1.
     BadRow { row: u32 },
-    /// 21: a club that no roster takes in. `slot` is the least slot with such a club, 1 to 4.
+    /// 21: a club's name is not 1 to 20 bytes of printed ASCII, or its coefficient is over 999,999. `slot` is the least such slot, 1 to 4.
     BadRoster { slot: u8 },
-    /// 22: the source failed, after it had given this many bytes.
+    /// 22: the source failed, after it had given `bytes` bytes.
     ReadFailed { bytes: usize },
-    /// 23: memory was asked for, and there was none.
+    /// 23: an allocation was refused.
     OutOfMemory,
     /// 24: the input has more than 4,194,304 bytes.
     TooLong,
 }
 
 impl InputFault {
-    /// Returns the line that the program prints, without its line feed.
+    /// Returns the line that the program prints of this fault, without its line feed.
     pub fn line(&self) -> FaultLine
         ensures { line_text result ≡ input_fault_text self.now }
     {
@@ -50,6 +51,7 @@ impl InputFault {
 impl fmt::Display for InputFault {
     ghost output = { λ fault. Some (input_fault_text fault) };
 
+    /// Writes the line that the program prints of the fault, without its line feed.
     fn fmt<W: fmt::Write>(&self, f: &mut fmt::Formatter<W>) -> fmt::Result {
         let line = self.line();
         write!(f, "{line}")
@@ -61,6 +63,7 @@ impl error::Error for InputFault {}
 impl From<AllocError> for InputFault {
     ghost from_gives = { λ _ fault. fault ≡ OutOfMemory };
 
+    /// Returns `OutOfMemory`.
     fn from(_error: AllocError) -> InputFault {
         InputFault::OutOfMemory
     }
@@ -69,6 +72,7 @@ impl From<AllocError> for InputFault {
 impl<T: Drop> From<AllocFailed<T>> for InputFault {
     ghost from_gives = { λ _ fault. fault ≡ OutOfMemory };
 
+    /// Returns `OutOfMemory`.
     fn from(_error: AllocFailed<T>) -> InputFault {
         InputFault::OutOfMemory
     }

@@ -1,4 +1,5 @@
-//! The line that a program prints of a fault, in parts, so that it takes no memory.
+//! The line that a program prints of a fault: why an input is refused, was not read, or a run failed. It is kept as a text, a number if
+//! there is one, and a text after it, so that it takes no memory.
 
 ghost use Rattle.std.specs.Prelude.{◌≡◌, ◌++◌, Some, codes, decimal};
 ghost use Rattle.ucl_screen.specs.Texts.{line_text};
@@ -17,8 +18,8 @@ pub struct FaultLine {
 }
 
 impl FaultLine {
-    /// Creates a line with no number.
-    #[tactic(auto, using(crate::proofs::FaultLines::one_part))]
+    /// Creates the line that is just this text, with no number.
+    #[tactic(auto, using(crate::proofs::Columns::one_part))]
     pub fn plain(before: &'static str) -> FaultLine
         ensures { line_text result ≡ before.now }
     {
@@ -29,8 +30,8 @@ impl FaultLine {
         }
     }
 
-    /// Creates a line that ends with a number.
-    #[tactic(auto, using(crate::proofs::FaultLines::two_parts))]
+    /// Creates the line that is this text and then a number.
+    #[tactic(auto, using(crate::proofs::Columns::two_parts))]
     pub fn ending(before: &'static str, number: usize) -> FaultLine
         ensures { line_text result ≡ before.now ++ decimal number }
     {
@@ -41,7 +42,7 @@ impl FaultLine {
         }
     }
 
-    /// Creates a line that ends with so many bytes.
+    /// Creates the line that is this text, then a number of bytes, then ` bytes`.
     pub fn after_bytes(before: &'static str, bytes: usize) -> FaultLine
         ensures { line_text result ≡ before.now ++ decimal bytes ++ codes " bytes" }
     {
@@ -56,7 +57,8 @@ impl FaultLine {
 impl fmt::Display for FaultLine {
     ghost output = { λ line. Some (line_text line) };
 
-    #[tactic(auto, using(crate::proofs::FaultLines::no_number))]
+    /// Writes the text, the number if there is one, and the text after it.
+    #[tactic(auto, using(crate::proofs::Columns::no_number))]
     fn fmt<W: fmt::Write>(&self, f: &mut fmt::Formatter<W>) -> fmt::Result {
         let FaultLine {
             before,

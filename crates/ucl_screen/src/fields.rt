@@ -1,4 +1,5 @@
-//! Single fields of a row, parsed. Whole rows are in `reading`.
+//! Single fields of a row, the bytes between two commas, parsed; `None` if they are not of the form that is said. An expected event number
+//! is that of the last event of the match that the reporter saw. An event word is the name of a kind of event, such as `goal-home`.
 
 ghost use Rattle.std.specs.Prelude.{◌≡◌, ◌<◌, ◌≤◌, IfSome};
 ghost use Rattle.ucl_screen.specs.Events.{call_in, expected_in, match_in, reporter_in};
@@ -6,7 +7,7 @@ ghost use Rattle.ucl_screen.specs.Numbers.{number, hex_digit, hex_word};
 
 use ucl_word::{EventCall, Kind, MatchNo, ReporterNo};
 
-/// Parses a number of decimal digits, at least one and at most so many.
+/// Parses a number of decimal digits, at least one and at most `most`; `None` if the text is anything else.
 pub(crate) fn number(text: &[u8], most: usize) -> Option<u32>
     requires { most ≤ 9 }
     ensures { result ≡ number most text.now }
@@ -24,28 +25,28 @@ pub(crate) fn number(text: &[u8], most: usize) -> Option<u32>
     Some(n)
 }
 
-/// Parses the number of a reporter.
+/// Parses the number of a reporter, 1 to 255 in 1 to 3 digits; `None` if the text is anything else.
 pub fn reporter_of_field(text: &[u8]) -> Option<ReporterNo>
     ensures { result ≡ reporter_in text.now }
 {
     ReporterNo::new(u8::try_from(number(text, 3)?).ok()?)
 }
 
-/// Parses the number of a match.
+/// Parses the number of a match, 1 to 12 in 1 or 2 digits; `None` if the text is anything else.
 pub fn match_of_field(text: &[u8]) -> Option<MatchNo>
     ensures { result ≡ match_in text.now }
 {
     MatchNo::new(u8::try_from(number(text, 2)?).ok()?)
 }
 
-/// Parses an expected event number.
+/// Parses an expected event number, 0 to 65,535 in 1 to 5 digits; `None` if the text is anything else.
 pub fn expected_of_field(text: &[u8]) -> Option<u16>
     ensures { result ≡ expected_in text.now }
 {
     u16::try_from(number(text, 5)?).ok()
 }
 
-/// Parses the event of a match from three fields: the match, the expected number and the event word.
+/// Parses an event call from three fields: the match, the expected event number and the event word; `None` if one of them is bad.
 pub fn call_of_fields(game: &[u8], expected: &[u8], kind: &[u8]) -> Option<EventCall>
     ensures { result ≡ call_in game.now expected.now kind.now }
 {
@@ -59,7 +60,7 @@ pub fn call_of_fields(game: &[u8], expected: &[u8], kind: &[u8]) -> Option<Event
     })
 }
 
-/// Returns the value of a hexadecimal digit.
+/// Returns the value of a hexadecimal digit of either case, 0 to 15; `None` if the byte is no such digit.
 fn hex_digit(b: u8) -> Option<u8>
     ensures value { result ≡ hex_digit b }
     ensures small { IfSome result (λ digit. digit < 16) }
@@ -72,7 +73,7 @@ fn hex_digit(b: u8) -> Option<u8>
     }
 }
 
-/// Parses a word of 16 hexadecimal digits, of either case.
+/// Parses a word of 64 bits from 16 hexadecimal digits of either case; `None` if the text is anything else.
 pub fn hex_word(text: &[u8]) -> Option<u64>
     ensures { result ≡ hex_word text.now }
 {

@@ -1,4 +1,5 @@
-//! The matches of a board, as text.
+//! The matches of a board, as text, a line each. A function that writes appends to `out`, and fails only if an allocation is refused. A
+//! standing yellow is a yellow card that no second one turned into an expulsion.
 
 ghost use Rattle.std.specs.Prelude.{◌≡◌, ◌++◌, IfOk, OnOk, string_bytes};
 ghost use Rattle.ucl_screen.specs.Matches.{clubs_text, counts_text, match_line, matches_text, sides_text, state_name, state_text};
@@ -10,7 +11,7 @@ use ucl_board::{Board, away_of, home_of};
 use ucl_order::Roster;
 use ucl_word::{MatchNo, MatchRecord, OutOfMemory, State};
 
-/// Returns the name of a state.
+/// Returns the name of the state of a match, as its line shows it.
 pub fn state_name(state: State) -> &'static str
     ensures { result.now ≡ state_name state }
 {
@@ -21,7 +22,7 @@ pub fn state_name(state: State) -> &'static str
     }
 }
 
-/// Writes a number of the home side and one of the visiting side.
+/// Writes the number of the home side, a hyphen, and the number of the visiting side: standing yellows or expulsions.
 fn push_sides(out: &mut String, home: u8, away: u8) -> Result<(), AllocError>
     ensures { OnOk result (string_bytes out.new ≡ string_bytes out.old ++ sides_text home away) }
 {
@@ -30,7 +31,8 @@ fn push_sides(out: &mut String, home: u8, away: u8) -> Result<(), AllocError>
     push_number(out, u16::from(away))
 }
 
-/// Writes the number of a match, that of its last event, and its state.
+/// Writes the first part of the line of a match: its number, the number of its last event, and its state.
+#[tactic(auto, unfolding(crate::specs::Matches::state_text))]
 fn push_state(out: &mut String, game: u8, m: &MatchRecord) -> Result<(), AllocError>
     ensures { OnOk result (string_bytes out.new ≡ string_bytes out.old ++ state_text game m.now) }
 {
@@ -43,7 +45,8 @@ fn push_state(out: &mut String, game: u8, m: &MatchRecord) -> Result<(), AllocEr
     Ok(())
 }
 
-/// Writes the goals, standing yellows and expulsions of a match.
+/// Writes the second part of the line of a match: goals, standing yellows and expulsions, each of the home side and the visiting side.
+#[tactic(auto, unfolding(crate::specs::Matches::counts_text))]
 fn push_counts(out: &mut String, m: &MatchRecord) -> Result<(), AllocError>
     ensures { OnOk result (string_bytes out.new ≡ string_bytes out.old ++ counts_text m.now) }
 {
@@ -57,7 +60,8 @@ fn push_counts(out: &mut String, m: &MatchRecord) -> Result<(), AllocError>
     Ok(())
 }
 
-/// Writes who entered the last event of a match, and its clubs.
+/// Writes the last part of the line of a match: the reporter of its last event, 0 if there is none, and the names of its clubs.
+#[tactic(auto, unfolding(crate::specs::Matches::clubs_text))]
 fn push_clubs(out: &mut String, m: &MatchRecord, home: &str, away: &str) -> Result<(), AllocError>
     ensures { OnOk result (string_bytes out.new ≡ string_bytes out.old
         ++ clubs_text m.now home.now away.now) }
@@ -71,7 +75,8 @@ fn push_clubs(out: &mut String, m: &MatchRecord, home: &str, away: &str) -> Resu
     Ok(())
 }
 
-/// Writes the line of a match.
+/// Writes the line of the match with this number, and a line feed, with the names of its clubs from the roster.
+#[tactic(auto, unfolding(crate::specs::Matches::match_line))]
 fn push_match(
     out: &mut String,
     board: &Board,
@@ -93,8 +98,8 @@ fn push_match(
     Ok(())
 }
 
-/// Formats the twelve matches of a board, a line each: its number, event number, state, goals, standing yellows and expulsions, who entered
-/// its last event, and its clubs.
+/// Formats the twelve matches of a board, a line each: its number, that of its last event, state, goals, standing yellows, expulsions, the
+/// reporter of its last event, and its clubs.
 ///
 /// # Errors
 ///

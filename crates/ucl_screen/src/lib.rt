@@ -1,4 +1,5 @@
-//! The screen of a board, and the inputs of the programs: scripts and sheets. Lines of a live input, and answers to them, are in `ucl_rows`.
+//! The screen of a board, and the inputs of the programs: scripts and sheets. Lines of a live input, and answers to them, are in
+//! `ucl_rows`.
 //!
 //! # Examples
 //!

@@ -1,4 +1,5 @@
-//! Single lines of the screen. The whole screen is in `text`.
+//! Single lines of the screen; the whole screen is in `text`. A function that writes appends to `out`, and fails only if an allocation is
+//! refused. A column is one byte. A mark says whether a club is sure to be among the first two, or sure not to be.
 
 ghost use Rattle.std.specs.Prelude.{◌≡◌, ◌++◌, ◌≤◌, replicate, OnOk, string_bytes, decimal};
 ghost use Rattle.ucl_screen.specs.Lines.{header, place_line, mark_text, left, right, zeros_before, difference_text};
@@ -7,7 +8,7 @@ use itoa::Buffer;
 use std::alloc::AllocError;
 use ucl_order::{Mark, Row};
 
-/// Writes a character of ASCII so many times.
+/// Writes a character of ASCII, `fill`, `times` times.
 fn push_times(out: &mut String, fill: char, times: usize) -> Result<(), AllocError>
     requires { fill ≤ 127 }
     ensures { OnOk result (string_bytes out.new ≡ string_bytes out.old ++ replicate times fill) }
@@ -18,7 +19,7 @@ fn push_times(out: &mut String, fill: char, times: usize) -> Result<(), AllocErr
     Ok(())
 }
 
-/// Writes a text at the left of so many columns.
+/// Writes a text and then spaces up to `width` columns; a longer text is written whole.
 pub(crate) fn push_left(out: &mut String, width: usize, text: &str) -> Result<(), AllocError>
     ensures { OnOk result (string_bytes out.new ≡ string_bytes out.old ++ left width text.now) }
 {
@@ -26,14 +27,14 @@ pub(crate) fn push_left(out: &mut String, width: usize, text: &str) -> Result<()
     push_times(out, ' ', width.saturating_sub(text.len()))
 }
 
-/// Writes a number.
+/// Writes a number in decimal digits.
 pub(crate) fn push_number(out: &mut String, number: u16) -> Result<(), AllocError>
     ensures { OnOk result (string_bytes out.new ≡ string_bytes out.old ++ decimal number) }
 {
     out.push_str(Buffer::new().format(number))
 }
 
-/// Writes a number at the right of so many columns.
+/// Writes a number in decimal digits with spaces before it up to `width` columns; a longer one is written whole.
 pub(crate) fn push_right(out: &mut String, width: usize, number: u16) -> Result<(), AllocError>
     ensures { OnOk result (string_bytes out.new ≡ string_bytes out.old
         ++ right width (decimal number)) }
@@ -44,7 +45,7 @@ pub(crate) fn push_right(out: &mut String, width: usize, number: u16) -> Result<
     out.push_str(digits)
 }
 
-/// Writes a number in so many digits, with leading zeros.
+/// Writes a number in decimal digits with zeros before it up to `width` digits; a longer one is written whole.
 pub(crate) fn push_zeros_before(
     out: &mut String,
     width: usize,
@@ -59,7 +60,7 @@ pub(crate) fn push_zeros_before(
     out.push_str(digits)
 }
 
-/// Writes the difference of two numbers with its sign, at the right of five columns.
+/// Writes the difference of goals scored and conceded with its sign, `+` if it is 0, at the right of five columns.
 fn push_difference(out: &mut String, scored: u16, conceded: u16) -> Result<(), AllocError>
     ensures { OnOk result (string_bytes out.new ≡ string_bytes out.old
         ++ right 5 (difference_text scored conceded)) }
@@ -75,7 +76,8 @@ fn push_difference(out: &mut String, scored: u16, conceded: u16) -> Result<(), A
     out.push_str(digits)
 }
 
-/// Writes the header line of a group, whose letter is of ASCII.
+/// Writes the first line of the screen: the letter of the group, the version (how many events were accepted), and the matches in play.
+#[tactic(auto, unfolding(crate::specs::Lines::header))]
 pub fn push_header(out: &mut String, group: u8, version: u16, in_play: u8) -> Result<(), AllocError>
     requires { group ≤ 127 }
     ensures { OnOk result (string_bytes out.new ≡ string_bytes out.old
@@ -91,7 +93,7 @@ pub fn push_header(out: &mut String, group: u8, version: u16, in_play: u8) -> Re
     Ok(())
 }
 
-/// Returns what is written between the place and the name.
+/// Returns the text of a mark: `+`, `-` or a space, between two spaces. It stands between the place and the name.
 fn sign_of(mark: Mark) -> &'static str
     ensures { result.now ≡ mark_text mark }
 {
@@ -102,7 +104,8 @@ fn sign_of(mark: Mark) -> &'static str
     }
 }
 
-/// Writes the line of a place, whose club has this name.
+/// Writes the line of one place of the table: the place, the mark, the club's name, and the numbers of the row.
+#[tactic(auto, unfolding(crate::specs::Lines::place_line))]
 pub fn push_row(out: &mut String, row: &Row, name: &str) -> Result<(), AllocError>
     ensures { OnOk result (string_bytes out.new ≡ string_bytes out.old
         ++ place_line row.now name.now) }

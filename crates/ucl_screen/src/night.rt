@@ -1,4 +1,5 @@
-//! The script of a night, as a value. How it is read is in `reading`.
+//! A script as a value: the four clubs of a group, and the events that reporters enter. How it is read is in `reading`. A night is a run of
+//! a script. An expected event number is that of the last event of the match that the reporter saw.
 
 use ucl_order::Roster;
 use ucl_word::{EventCall, ReporterNo};
@@ -6,9 +7,9 @@ use ucl_word::{EventCall, ReporterNo};
 /// An event of a script, with the reporter who enters it.
 #[derive(Clone, Copy, Debug, PartialEq, Eq)]
 pub struct NightEvent {
-    /// Who enters the event, 1 to 255.
+    /// The number of the reporter who enters the event, 1 to 255.
     pub reporter: ReporterNo,
-    /// The match, the expected event number and what has happened.
+    /// The match, the expected event number and the kind of event.
     pub call: EventCall,
 }
 

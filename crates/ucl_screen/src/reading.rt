@@ -1,4 +1,7 @@
-//! Scripts and sheets, read from a source. What single fields say is in `fields`.
+//! Scripts and sheets, read from a source of bytes. A script is four rows of clubs and a row for each event that a reporter enters; a sheet
+//! is four rows of clubs and twelve rows of match words, each a match record packed into 64 bits. A row is a record of the crate `csv`. In
+//! contracts `gives` says that the result is the defined one unless memory ran out, and `kinds` which faults there can be: `BadRow`,
+//! `BadRoster`, `TooLong` and `OutOfMemory`.
 
 ghost use Rattle.std.specs.Prelude.{◌≡◌, ◌+◌, ◌≤◌, length, Some, option_map, IfErr, IfOk, OnOk};
 ghost use Rattle.csv.specs.Records.{fields_of};
@@ -21,10 +24,10 @@ use ucl_board::Board;
 use ucl_io::Source;
 use ucl_order::{Club, LentClub, Roster};
 
-/// The row of the first event of a script: rows 1 to 4 are its clubs.
+/// The number of the first row of a script that is an event: rows 1 to 4 are clubs.
 pub const FIRST_EVENT_ROW: u8 = 5;
 
-/// Parses the club of a row of this number, with a name that is lent.
+/// Parses a club, whose name stays borrowed, from the four fields of row `row`, 1 to 4: `club`, the row, name, coefficient; else `None`.
 pub fn lent_club<'f>(row: u8, fields: &Four<'f>) -> Option<LentClub<'f>>
     requires { row ≤ 9 }
     ensures { option_map club_lent result ≡ club_of row (four_seen fields.now) }
@@ -38,7 +41,7 @@ pub fn lent_club<'f>(row: u8, fields: &Four<'f>) -> Option<LentClub<'f>>
     })
 }
 
-/// Parses the club of a row of this number.
+/// Parses a club from the four fields of row `row`, 1 to 4, and copies its name; `None` if they are no club. It fails only without memory.
 pub fn club_of_fields(alloc: Global, row: u8, fields: &Four<'_>) -> Result<Option<Club>, AllocError>
     requires { row ≤ 9 }
     ensures { IfOk result (λ club. option_map club_seen club ≡ club_of row (four_seen fields.now)) }
@@ -52,7 +55,7 @@ pub fn club_of_fields(alloc: Global, row: u8, fields: &Four<'_>) -> Result<Optio
     }))
 }
 
-/// Parses the club of the next row, which has this number.
+/// Reads the next row, which has this number, 1 to 4, and parses its club. `BadRow` with the number, if the row is missing or is no club.
 #[tactic(auto, unfolding(crate::specs::Script::club_at))]
 fn club_at(alloc: Global, number: u8, rows: &mut Reader<&[u8]>) -> Result<Club, InputFault>
     requires digit { number ≤ 9 }
@@ -61,6 +64,7 @@ fn club_at(alloc: Global, number: u8, rows: &mut Reader<&[u8]>) -> Result<Club, 
     ensures shorter { OnOk result (length (rows_left rows.new) ≤ length (rows_left rows.old)) }
     ensures gives { AnswersAsSaid (λ club. (club_seen club, rows_left rows.new)) result
         (club_at number (rows_left rows.old)) }
+    ensures kinds { IfErr result IsFaultOfScript }
 {
     let bad = InputFault::BadRow {
         row: u32::from(number),
@@ -78,7 +82,8 @@ fn club_at(alloc: Global, number: u8, rows: &mut Reader<&[u8]>) -> Result<Club, 
     }
 }
 
-/// Parses the roster of the next rows, which are rows 1 to 4.
+/// Reads the next four rows, which are rows 1 to 4, and makes the roster of their clubs. `BadRow` if one is missing or is no club,
+/// `BadRoster` if a name or a coefficient is out of range.
 #[tactic(auto, unfolding(crate::specs::Script::roster_at))]
 fn roster_at(alloc: Global, rows: &mut Reader<&[u8]>) -> Result<Roster, InputFault>
     requires { IsReading rows.old }
@@ -86,6 +91,7 @@ fn roster_at(alloc: Global, rows: &mut Reader<&[u8]>) -> Result<Roster, InputFau
     ensures shorter { OnOk result (length (rows_left rows.new) ≤ length (rows_left rows.old)) }
     ensures gives { AnswersAsSaid (λ roster. (roster, rows_left rows.new)) result
         (roster_at (rows_left rows.old)) }
+    ensures kinds { IfErr result IsFaultOfScript }
 {
     let first = club_at(alloc, 1, rows)?;
     let second = club_at(alloc, 2, rows)?;
@@ -97,7 +103,7 @@ fn roster_at(alloc: Global, rows: &mut Reader<&[u8]>) -> Result<Roster, InputFau
     }
 }
 
-/// Parses the event of four fields.
+/// Parses an event from four fields: reporter, match, expected event number and event word, such as `goal-home`; `None` if one is bad.
 pub fn event_of_fields(fields: &Four<'_>) -> Option<NightEvent>
     ensures { result ≡ event_of (four_seen fields.now) }
 {
@@ -106,19 +112,20 @@ pub fn event_of_fields(fields: &Four<'_>) -> Option<NightEvent>
     Some(NightEvent { reporter, call })
 }
 
-/// Parses the event of a row.
+/// Parses the event of a row of a script; `None` if the row has not four fields or they are no event.
 fn event_of(row: &ByteRecord) -> Option<NightEvent>
     ensures { result ≡ said_by event_of (fields_of row.now) }
 {
     event_of_fields(&four_fields(row)?)
 }
 
-/// Parses the events of the rows that are left.
+/// Reads the rows that are left, which are those of a script from row 5 on, and parses their events. `BadRow` with the first that is none.
 fn events_at(alloc: Global, rows: &mut Reader<&[u8]>) -> Result<Vec<NightEvent>, InputFault>
     requires reading { IsReading rows.old }
     requires few { length (rows_left rows.old) ≤ max_bytes }
     ensures gives { AnswersAsSaid (λ v. v.items) result
         (events_from first_event_row (rows_left rows.old)) }
+    ensures kinds { IfErr result IsFaultOfScript }
     ensures few { IfOk result (λ v. length v.items ≤ max_bytes) }
 {
     let mut row = ByteRecord::new(alloc);
@@ -134,11 +141,12 @@ fn events_at(alloc: Global, rows: &mut Reader<&[u8]>) -> Result<Vec<NightEvent>,
     Ok(events)
 }
 
-/// Parses the script of a text.
+/// Parses a script: clubs in rows 1 to 4, and then a row for each event. An error is the first fault of a row or a club, or `OutOfMemory`.
 #[tactic(auto, unfolding(crate::specs::Script::night_of_rows))]
 fn night_of(alloc: Global, text: &[u8]) -> Result<Night, InputFault>
     requires { length text.now ≤ max_bytes }
     ensures gives { AnswersAsSaid night_seen result (night_of_rows (rows_of text.now)) }
+    ensures kinds { IfErr result IsFaultOfScript }
     ensures few { IfOk result (λ night. length night.events.items ≤ max_bytes) }
 {
     let mut rows = open(alloc, text);
@@ -147,11 +155,11 @@ fn night_of(alloc: Global, text: &[u8]) -> Result<Night, InputFault>
     Ok(Night { roster, events })
 }
 
-/// Reads a script that lies in memory: what it means, or its first fault, is what [`read_night`] answers of the same bytes of a source.
+/// Parses a script that lies in memory. The script, or its first fault, is what [`read_night`] returns of a source of the same bytes.
 ///
 /// # Errors
 ///
-/// Those of [`read_night`], but for `ReadFailed`. `OutOfMemory` can come in place of any answer.
+/// The first fault: `TooLong`, `BadRow` with a row that is missing or bad, or `BadRoster`. `OutOfMemory` can come in place of any answer.
 pub fn night_of_bytes(alloc: Global, bytes: &[u8]) -> Result<Night, InputFault>
     ensures gives { AnswersAsSaid night_seen result (night_of bytes.now) }
     ensures kinds { IfErr result IsFaultOfScript }
@@ -163,9 +171,9 @@ pub fn night_of_bytes(alloc: Global, bytes: &[u8]) -> Result<Night, InputFault>
     night_of(alloc, bytes)
 }
 
-/// Reads a script from a source to its end.
+/// Reads a script from a source to its end: four rows of clubs, and a row for each event.
 ///
-/// The input is read whole before it is looked at. The source is called at most 4,194,306 times, at most once for each byte and once more.
+/// The input is read whole before it is parsed. The source is called at most 4,194,306 times, at most once for each byte and once more.
 ///
 /// Rows are the records that the crate `csv` reads in its default dialect, with no heading and with records of any
 /// length; each has to have four fields. Rows 1 to 4 are `club`, the row's number as one digit, the name, and the
@@ -188,7 +196,7 @@ pub fn read_night<S: Source>(alloc: Global, source: &mut S) -> Result<Night, Inp
     night_of(alloc, &bytes)
 }
 
-/// Parses the word of four fields, in the row of this match.
+/// Parses a match word from four fields: `word`, this match, 16 hexadecimal digits, and an empty field; `None` if they are anything else.
 fn word_of_fields(game: u8, fields: &Four<'_>) -> Option<u64>
     ensures { result ≡ word_of_row game (four_seen fields.now) }
 {
@@ -201,17 +209,19 @@ fn word_of_fields(game: u8, fields: &Four<'_>) -> Option<u64>
     hex_word(fields.third)
 }
 
-/// Parses the word of the row of this match.
+/// Parses the match word of a row, which is that of this match, 1 to 12; `None` if the row has not four fields or they are not of the form.
 fn word_of_row(game: u8, row: &ByteRecord) -> Option<u64>
     ensures { result ≡ said_by (word_of_row game) (fields_of row.now) }
 {
     word_of_fields(game, &four_fields(row)?)
 }
 
-/// Parses the words of the rows that are left, which are rows 5 to 16.
+/// Reads the rows that are left, which are rows 5 to 16, and parses the match words of matches 1 to 12. `BadRow` with the first row that is
+/// missing or bad, or 17 if there is a row more.
 fn words_at(alloc: Global, rows: &mut Reader<&[u8]>) -> Result<[u64; 12], InputFault>
     requires { IsReading rows.old }
-    ensures { AnswersAsSaid (λ words. words) result (words_from 12 1 (rows_left rows.old)) }
+    ensures gives { AnswersAsSaid (λ words. words) result (words_from 12 1 (rows_left rows.old)) }
+    ensures kinds { IfErr result IsFaultOfScript }
 {
     let mut row = ByteRecord::new(alloc);
     let mut words = [0; 12];
@@ -233,11 +243,12 @@ fn words_at(alloc: Global, rows: &mut Reader<&[u8]>) -> Result<[u64; 12], InputF
     Ok(words)
 }
 
-/// Parses the roster and the words of a text.
+/// Parses the clubs, in rows 1 to 4, and the match words, in rows 5 to 16, of a sheet. An error is the first fault, or `OutOfMemory`.
 #[tactic(auto, unfolding(crate::specs::Script::sheet_of_rows))]
 fn roster_and_words(alloc: Global, text: &[u8]) -> Result<(Roster, [u64; 12]), InputFault>
-    ensures { AnswersAsSaid (λ p. record { clubs = p.0; words = p.1 }) result
+    ensures gives { AnswersAsSaid (λ p. record { clubs = p.0; words = p.1 }) result
         (sheet_of_rows (rows_of text.now)) }
+    ensures kinds { IfErr result IsFaultOfScript }
 {
     let mut rows = open(alloc, text);
     let roster = roster_at(alloc, &mut rows)?;
@@ -245,16 +256,17 @@ fn roster_and_words(alloc: Global, text: &[u8]) -> Result<(Roster, [u64; 12]), I
     Ok((roster, words))
 }
 
-/// Reads a sheet from a source to its end.
+/// Reads a sheet from a source to its end: four rows of clubs, and twelve rows of match words.
 ///
-/// The input is read whole and taken apart into rows as by [`read_night`], and rows 1 to 4 are the same. The rows of the
+/// The input is read whole and taken apart into rows as by [`read_night`], and rows 1 to 4 are clubs as in a script. The rows of the
 /// twelve matches follow, row m + 4 for match m: `word`, the match in 1 or 2 digits, its word in 16 hexadecimal digits
 /// of either case, and an empty field. Once all rows are good, the words are read by [`Board::of_words`], so words of the first layout are
 /// taken too.
 ///
 /// # Errors
 ///
-/// Those of [`read_night`]. A row 17 is `BadRow`. `BadWordAt` has the least match whose word is of neither layout, once all rows are good.
+/// `ReadFailed`, `TooLong`, `BadRow` and `BadRoster` as for [`read_night`]; a row 17 is `BadRow`. `BadWordAt`, once all rows are good, has
+/// the least match whose word is of neither layout, as old boards or new ones have it.
 /// `OutOfMemory` can come in place of any answer. A fault leaves nothing but a source that has given bytes.
 pub fn read_words<S: Source>(alloc: Global, source: &mut S) -> Result<Sheet, InputFault>
     ensures reads { Reads MeansSheet sheet_seen (S.left source.old) (S.left source.new)

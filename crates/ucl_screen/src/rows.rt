@@ -1,4 +1,5 @@
-//! The rows of an input, one after the other, by `csv`.
+//! The rows of an input, which are the records that the crate `csv` reads of it, one after the other. A row has fields, which are bytes.
+//! In contracts `rows_left` is the list of the rows that a reader has not read yet.
 
 ghost use Rattle.std.specs.Prelude.{◌≡◌, ◌≤◌, length, option_map, IfOk, true};
 ghost use Rattle.csv.specs.Records.{fields_of};
@@ -7,7 +8,7 @@ ghost use Rattle.ucl_screen.specs.Rows.{IsReading, rows_of, rows_left, ReadsRow,
 use csv::{ByteRecord, Reader, ReaderBuilder};
 use std::alloc::{AllocError, Global};
 
-/// The four fields of a row.
+/// The four fields of a row, borrowed from it.
 #[derive(Clone, Copy)]
 pub struct Four<'a> {
     /// The first field.
@@ -20,7 +21,8 @@ pub struct Four<'a> {
     pub fourth: &'a [u8],
 }
 
-/// Opens a reader of the rows of a text, none of which is a heading.
+/// Creates a reader of the rows of a text. The first row is no heading, and rows may have any number of fields.
+#[tactic(auto, using(crate::proofs::RowFacts::few_rows), unfolding(crate::specs::Rows::rows_from))]
 pub(crate) fn open(alloc: Global, text: &[u8]) -> Reader<&[u8]>
     ensures reading { IsReading result }
     ensures rows { rows_left result ≡ rows_of text.now }
@@ -32,7 +34,7 @@ pub(crate) fn open(alloc: Global, text: &[u8]) -> Reader<&[u8]>
         .from_reader(alloc, text)
 }
 
-/// Reads the next row, if there is one. A reader of bytes in memory fails only if memory runs out.
+/// Reads the next row into `row` and returns true, or returns false if there is none. It fails only if an allocation is refused.
 pub(crate) fn next_row(rows: &mut Reader<&[u8]>, row: &mut ByteRecord) -> Result<bool, AllocError>
     requires { IsReading rows.old }
     ensures reading { IfOk result (λ found. found ≡ true → IsReading rows.new) }
@@ -45,7 +47,7 @@ pub(crate) fn next_row(rows: &mut Reader<&[u8]>, row: &mut ByteRecord) -> Result
     Ok(found)
 }
 
-/// Returns the fields of a row, if it has just four.
+/// Returns the four fields of a row, or `None` if it has more or fewer.
 #[tactic(auto, using(crate::proofs::RowFacts::four_by))]
 pub(crate) fn four_fields(row: &ByteRecord) -> Option<Four<'_>>
     ensures { option_map four_seen result ≡ four_of (fields_of row.now) }

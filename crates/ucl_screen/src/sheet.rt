@@ -1,9 +1,10 @@
-//! The sheet of a board, as a value. How it is read is in `reading`.
+//! A sheet as a value: a saved board, with the four clubs of its group. A match word packs the record of a match into 64 bits, and twelve
+//! are a board. How a sheet is read is in `reading`.
 
 use ucl_board::Board;
 use ucl_order::Roster;
 
-/// The clubs and the words of a board, as they were written down.
+/// The clubs and the board of a group, read from rows: four of clubs and twelve of match words.
 #[derive(Debug, Drop)]
 pub struct Sheet {
     /// The clubs of rows 1 to 4.

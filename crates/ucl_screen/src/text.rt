@@ -1,4 +1,5 @@
-//! The screen of a board.
+//! The screen of a board: the table of a group as text. A function that writes appends to `out`; it fails only if an allocation is refused.
+//! A profile says by what clubs that are level on points are compared in the matches among them.
 
 ghost use Rattle.std.specs.Prelude.{◌≡◌, ◌↔◌, ◌++◌, IsTrue, IfOk, IfSome, OnOk, true, All, flat_map, string_bytes};
 ghost use Rattle.ucl_order.specs.Roster.{is_name};
@@ -12,7 +13,7 @@ use ucl_board::Board;
 use ucl_order::{Profile, Roster, Row, standings};
 use ucl_word::{OutOfMemory, State, record_of};
 
-/// The names of the columns, 53 bytes and a line feed.
+/// The second line of the screen: the names of the columns, 53 bytes and a line feed.
 const COLUMNS: &str = "    Club                  P  W  D  L  GF  GA   GD Pts\n";
 
 /// Returns whether a byte is the letter of a group: `A` to `H`, in upper case.
@@ -22,7 +23,8 @@ pub fn is_group(letter: u8) -> bool
     b'A' <= letter && letter <= b'H'
 }
 
-/// Parses the letter of a group: one byte, `A` to `H`.
+/// Parses the letter of a group: one byte, `A` to `H`; `None` if the text is anything else.
+#[tactic(auto, using(crate::proofs::Letters::is_letter, crate::proofs::Letters::no_letter, crate::proofs::Letters::many_letters, crate::proofs::Letters::other_letter))]
 pub fn letter_in(text: &[u8]) -> Option<u8>
     ensures told { result ≡ letter_in text.now }
     ensures letter { IfSome result IsGroup }
@@ -33,7 +35,7 @@ pub fn letter_in(text: &[u8]) -> Option<u8>
     }
 }
 
-/// Counts the matches in play.
+/// Counts the matches of the board that are in play.
 pub fn matches_in_play(board: &Board) -> u8
     ensures { result ≡ in_play board.now }
 {
@@ -47,7 +49,8 @@ pub fn matches_in_play(board: &Board) -> u8
     count
 }
 
-/// Returns the name of a club as text.
+/// Returns the name of a club, 1 to 20 bytes of printed ASCII, as text.
+#[tactic(auto, using(crate::proofs::Columns::name_text))]
 pub fn text_of(name: &[u8]) -> &str
     requires { is_name name.now ≡ true }
     ensures { result.now ≡ name.now }
@@ -58,7 +61,7 @@ pub fn text_of(name: &[u8]) -> &str
     }
 }
 
-/// Writes a line for each row of the table.
+/// Writes a line for each row of the table, with the name of its club from the roster.
 fn push_rows(out: &mut String, rows: &[Row], roster: &Roster) -> Result<(), AllocError>
     requires { All IsWithinTable rows.now }
     ensures { OnOk result (string_bytes out.new ≡ string_bytes out.old
@@ -70,12 +73,13 @@ fn push_rows(out: &mut String, rows: &[Row], roster: &Roster) -> Result<(), Allo
     Ok(())
 }
 
-/// Formats the screen of a group: a header, the names of the columns, and a line for each place of the table, in the order
-/// of the profile. `group` has to be the letter of a group.
+/// Formats the screen of a group, six lines: its letter, the board's version and how many matches are in play; the names of the columns;
+/// and a line for each place of the table, with the clubs ordered under the profile. `group` has to be a letter from `A` to `H`.
 ///
 /// # Errors
 ///
 /// [`OutOfMemory`] if an allocation was refused.
+#[tactic(auto, unfolding(crate::specs::Screen::screen_text))]
 pub fn screen(
     alloc: Global,
     board: &Board,

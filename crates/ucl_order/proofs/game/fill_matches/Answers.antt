@@ -1,6 +1,6 @@
-use Rattle.ucl_order.proofs.Common.{HasScore, ap, arith, rules, score_of, started, ◌∙◌, ◌≡◌}
-use Rattle.std.proofs.lemmas.List.Elements.{All-push}
-use Rattle.ucl_order.proofs.OneMatchMore.{match_is, matches_more, matches_all}
+use Rattle.ucl_order.proofs.Common.{All-push, AreOfGroup, HasScore, ap, arith, rules, score_of, subst, sym, ◌∙◌, ◌≡◌}
+use Rattle.ucl_order.proofs.Limits.{group_of_board, six}
+use Rattle.ucl_order.proofs.LevelMatches.{match_is, matches_more, matches_all}
 use Rattle.ucl_order.proofs.game.fill_matches.Goals.{in-Some, in_default}
 use Rattle.ucl_order.proofs.game.fill_matches.Goals as goal
 
@@ -22,7 +22,10 @@ returns-clause-value c =
     let last : c.loop-number.number ≡ 13 = omega arith in
     matches_all c.args.board.now c.loop-number.number c.loop-number.matches.items last c.loop-number.invariant.so_far
 
-pub returns-clause-started : goal.returns-clause-started
-returns-clause-started c =
+pub returns-clause-group : goal.returns-clause-group
+returns-clause-group c =
     let value = returns-clause-value c in
-    record { board = c.args.board.now; valid = rw value at c.loop-number.invariant.valid; are = ap started value }
+    subst AreOfGroup (sym value) (group_of_board c.args.board.now (rw value at c.loop-number.invariant.valid))
+
+pub returns-clause-six : goal.returns-clause-six
+returns-clause-six c club slot = rw (returns-clause-value c) (six c.args.board.now club slot)

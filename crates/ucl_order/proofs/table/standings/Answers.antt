@@ -1,8 +1,7 @@
-use Rattle.ucl_order.proofs.Common.{All, HasScore, IsWithinTable, List, MarkIsCertain, Match, Row, ap, map, mark_by, matches_of, order_of}
-use Rattle.ucl_order.proofs.Common.{refl, results_of_clubs, rows_of, started, started_of, subst, ℕ, ◌∙◌, ◌≡◌}
-use Rattle.std.proofs.lemmas.List.Elements.{All-same}
+use Rattle.ucl_order.proofs.Common.{All, All-same, HasScore, IsWithinTable, List, MarkIsCertain, Match, Row, ap, map, mark_by, matches_of}
+use Rattle.ucl_order.proofs.Common.{order_of, refl, results_of_clubs, rows_of, started, started_of, subst, ℕ, ◌∙◌, ◌≡◌}
 use Rattle.ucl_order.proofs.Limits.{rows_within}
-use Rattle.ucl_order.proofs.TableRows.{all_certain, four_rows, order_is, row_of_place}
+use Rattle.ucl_order.proofs.Completions.{all_certain, four_rows, order_is, row_of_place}
 use Rattle.ucl_order.proofs.table.standings.Goals as goal
 
 pub returns-clause-rows : goal.returns-clause-rows
@@ -21,12 +20,12 @@ returns-clause-rows c =
 pub returns-clause-within : goal.returns-clause-within
 returns-clause-within c =
     let valid : All HasScore (matches_of c.args.board.now) =
-    subst (All HasScore) c.fill_matches.ensures.value c.fill_matches.ensures.scores in
+    subst (All HasScore) c.fill_matches.ensures.value c.fill_matches.ensures.group.scores in
     All-same IsWithinTable _ (rows_of c.args.profile c.args.board.now c.args.roster.now) (returns-clause-rows c) (rows_within c.args.profile c.args.board.now c.args.roster.now valid)
 
 pub returns-clause-certain : goal.returns-clause-certain
 returns-clause-certain c =
     let valid : All HasScore (matches_of c.args.board.now) =
-    subst (All HasScore) c.fill_matches.ensures.value c.fill_matches.ensures.scores in
+    subst (All HasScore) c.fill_matches.ensures.value c.fill_matches.ensures.group.scores in
     All-same (MarkIsCertain c.args.profile c.args.board.now c.args.roster.now) _ (rows_of c.args.profile c.args.board.now c.args.roster.now) (returns-clause-rows c)
     (all_certain c.args.profile c.args.board.now c.args.roster.now (rows_within c.args.profile c.args.board.now c.args.roster.now valid))

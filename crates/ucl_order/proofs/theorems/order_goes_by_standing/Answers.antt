@@ -1,5 +1,5 @@
-use Rattle.ucl_order.proofs.TieBreaks.{by-standing}
+use Rattle.ucl_order.proofs.TieBreaks.{by_standing}
 use Rattle.ucl_order.proofs.theorems.order_goes_by_standing.Goals as goal
 
 pub returns : goal.returns
-returns c = by-standing
+returns c = by_standing

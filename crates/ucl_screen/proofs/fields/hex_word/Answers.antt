@@ -1,4 +1,4 @@
-use Rattle.ucl_screen.proofs.Common.{arith, sym, ◌*◌, ◌+◌, ◌<◌, ◌∙◌}
+use Rattle.ucl_screen.proofs.Common.{arith, if◌then◌else◌, sym, ◌*◌, ◌+◌, ◌<◌, ◌∙◌}
 use Rattle.ucl_screen.proofs.Digits.{word-is, more-hex, no-hex, no-more-hex, one-more-hex, hex-fits}
 use Rattle.ucl_screen.proofs.fields.hex_word.Goals as goal
 

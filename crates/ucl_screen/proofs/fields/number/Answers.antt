@@ -1,4 +1,4 @@
-use Rattle.ucl_screen.proofs.Common.{arith, get_or, inl, inr, sym, ◌-◌, ◌∙◌, ◌≤◌}
+use Rattle.ucl_screen.proofs.Common.{arith, get_or, if◌then◌else◌, inl, inr, sym, ◌-◌, ◌∙◌, ◌≤◌}
 use Rattle.ucl_screen.proofs.Digits.{number-is, more-digits, no-digit, no-more, nonempty, one-more-digit}
 use Rattle.ucl_screen.proofs.fields.number.Goals.{then-b-lt48-via-then-b-lt48, then-b-lt48-via-else-b-lt48+then-b-gt57}
 use Rattle.ucl_screen.proofs.fields.number.Goals as goal

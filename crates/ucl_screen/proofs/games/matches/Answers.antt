@@ -1,5 +1,4 @@
-use Rattle.ucl_screen.proofs.Common.{arith, match_line, rules, string_bytes, ◌≡◌}
-use Rattle.ucl_screen.specs.Matches.{matches_text}
+use Rattle.ucl_screen.proofs.Common.{arith, match_line, matches_text, rules, string_bytes, ◌≡◌}
 use Rattle.ucl_screen.proofs.EventsInTurn.{line_more, lines_all}
 use Rattle.ucl_screen.proofs.games.matches.Goals.{in-Some+in_ok-push_match, in_default}
 use Rattle.ucl_screen.proofs.games.matches.Goals as goal

@@ -1,5 +1,5 @@
-use Rattle.ucl_screen.proofs.Common.{[], ap, arith, fields_of, length, length-append, rows_left, rules, sym, true, ◌∙◌, ◌∷◌, ◌≡◌}
-use Rattle.std.specs.Result.{is_ok}
+use Rattle.ucl_screen.proofs.Common.{[], ap, arith, fields_of, if◌then◌else◌, is_ok, length, length-append, rows_left, rules, sym, true}
+use Rattle.ucl_screen.proofs.Common.{◌∙◌, ◌∷◌, ◌≡◌}
 use Rattle.ucl_screen.proofs.RowFacts.{goes-on, stops, is-done}
 use Rattle.ucl_screen.proofs.reading.events_at.Goals as goal
 

@@ -1,5 +1,4 @@
-use Rattle.ucl_screen.proofs.Common.{take, ◌≡◌, ◌≤◌}
-use Rattle.ucl_screen.specs.Screen.{in_play}
+use Rattle.ucl_screen.proofs.Common.{in_play, take, ◌≡◌, ◌≤◌}
 use Rattle.ucl_screen.proofs.text.matches_in_play.Given as goal
 
 abbrev pub invariant-loop-word : goal.invariant-loop-word

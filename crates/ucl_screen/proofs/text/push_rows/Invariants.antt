@@ -1,5 +1,4 @@
-use Rattle.ucl_screen.proofs.Common.{flat_map, string_bytes, take, ◌++◌, ◌≡◌}
-use Rattle.ucl_screen.specs.Screen.{row_line}
+use Rattle.ucl_screen.proofs.Common.{flat_map, row_line, string_bytes, take, ◌++◌, ◌≡◌}
 use Rattle.ucl_screen.proofs.text.push_rows.Given as goal
 
 abbrev pub invariant-loop-row : goal.invariant-loop-row

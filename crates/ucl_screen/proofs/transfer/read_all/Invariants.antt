@@ -1,5 +1,4 @@
-use Rattle.ucl_screen.proofs.Common.{length, ◌+◌, ◌-◌, ◌≤◌}
-use Rattle.std.specs.Io.KnownBytes.{Consumes}
+use Rattle.ucl_screen.proofs.Common.{Consumes, length, ◌+◌, ◌-◌, ◌≤◌}
 use Rattle.ucl_screen.proofs.transfer.read_all.Given as goal
 
 abbrev pub invariant-pieces : goal.invariant-pieces

@@ -1,8 +1,8 @@
-use Rattle.ucl_order.proofs.Common.{All, IsWithin, level_matches, results_of_clubs, take, ◌≡◌}
+use Rattle.ucl_order.proofs.Common.{All, IsWithin, filter, is_level, results_of_clubs, take, ◌≡◌}
 use Rattle.ucl_order.proofs.results.Results.of_level.Given as goal
 
 abbrev pub invariant-loop-game : goal.invariant-loop-game
 invariant-loop-game l = record {
-  are : l.results ≡ results_of_clubs (level_matches l.keys (take l.game-index l.matches));
+  are : l.results ≡ results_of_clubs (filter (is_level l.keys) (take l.game-index l.matches));
   within : All (IsWithin l.game-index) l.results;
 }

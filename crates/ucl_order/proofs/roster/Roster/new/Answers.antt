@@ -1,5 +1,4 @@
-use Rattle.ucl_order.proofs.Common.{arith, length, ◌≡◌}
-use Rattle.ucl_order.specs.Roster.{club_seen}
+use Rattle.ucl_order.proofs.Common.{arith, club_seen, length, ◌≡◌}
 use Rattle.ucl_order.proofs.Clubs.{IsTaken, four-places, four-taken}
 use Rattle.ucl_order.proofs.roster.Roster.new.Goals as goal
 

@@ -1,5 +1,4 @@
-use Rattle.ucl_order.proofs.Common.{All-set, IsClub, IsRoster, member_seen, members_seen, subst, sym, ◌∙◌}
-use Rattle.std.proofs.lemmas.List.{length-set, map-set}
+use Rattle.ucl_order.proofs.Common.{All-set, IsClub, IsRoster, length-set, map-set, member_seen, members_seen, subst, sym, ◌∙◌}
 use Rattle.ucl_order.proofs.roster.Roster.put.Goals as goal
 
 pub invariant_of-self : goal.invariant_of-self
