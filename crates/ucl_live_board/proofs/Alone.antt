@@ -1,11 +1,11 @@
 -- Whose steps the log of a board has: of passes that have a share; all of them, of a pass that has the whole.
 use Rattle.ucl_live_board.proofs.Common.{◌≡◌, ◌≢◌, ℕ, zero, suc, ◌<◌, ◌≤◌, List, ◌∷◌, ◌++◌, length, map, refl, sym, ap, ◌∙◌, subst, arith, eq-eqb, ne_eqb, []}
-use Rattle.ucl_live_board.proofs.Common.{All, IsSome, Some, None, dite, some, get_elem?, ℕ_discrete, Entry, Taken, Logged, logged_by, Log, taken_by, entry_list}
+use Rattle.ucl_live_board.proofs.Common.{All, IsSome, None, dite, some, get_elem?, ℕ_discrete, Entry, Taken, Logged, logged_by, Log, taken_by, entry_list}
 use Rattle.ucl_live_board.proofs.Common.{added_by, number_of, history_of, enlisted_by, IsLegalRule, View, Share, whole, Overlap, BoardInvariant, DidAllAlone}
 use Rattle.ucl_live_board.proofs.Common.{WholeIsAlone}
 use Rattle.ucl_board.specs.Log.{LogFacts}
 use Rattle.ucl_board.proofs.Logs.{taken_none, below_more}
-use Rattle.ucl_board.proofs.LogFacts.{log_facts}
+use Rattle.ucl_board.proofs.Logs.{log_facts}
 use Rattle.ucl_live_board.proofs.Halves.{in_whole}
 
 -- the first step of a log
@@ -40,8 +40,7 @@ pub none_beyond : (n j : ℕ) (log : Log) → n ≤ j → All (λ (x : Logged). 
 none_beyond n j log le all = taken_none j log (below_more n j log le all)
 
 pub some_acts : (s : Share) → s ≢ None → IsSome s
-some_acts None not = absurd (not refl)
-some_acts (Some path) not = refl
+some_acts s not = search arith
 
 -- the history of the steps of one seat
 history_by : (seat : ℕ) (steps : List Taken) → history_of (map (logged_by seat) steps) ≡ added_by steps

@@ -1,9 +1,9 @@
 -- What a call leaves after its steps, on any shared board.
-use Rattle.ucl_live_board.proofs.Common.{◌≡◌, ℕ, ◌+◌, ◌≤◌, List, ◌∷◌, ◌++◌, length, refl, sym, ap, ◌∙◌, arith, le_refl, true≢false, true, false, length-append}
+use Rattle.ucl_live_board.proofs.Common.{◌≡◌, ℕ, ◌+◌, ◌≤◌, List, ◌∷◌, ◌++◌, length, refl, sym, ap, ◌∙◌, arith, le_refl, true≢false, true, length-append}
 use Rattle.ucl_live_board.proofs.Common.{append-nil, append_assoc, [], Result, Ok, Err, is_ok, IfOk, max_version, Target, Taken, added_by, number_of}
-use Rattle.ucl_live_board.proofs.Common.{history_of, enlisted_by, begins_same, IsPrefix, begins_through, View, PassView, IsSound, AcceptedReport, pass_view_by}
-use Rattle.ucl_live_board.proofs.Common.{count_of, Takes, left_pass, second_pass, IsOnEnlisted, EnlistSteps, Entry, SeesOn, Continues, Meeting, All-head}
-use Rattle.ucl_live_board.proofs.Common.{All-tail, note_pass, told_pass}
+use Rattle.ucl_live_board.proofs.Common.{history_of, enlisted_by, begins_same, IsPrefix, begins_through, View, PassView, IsSound, AcceptedReport}
+use Rattle.ucl_live_board.proofs.Common.{pass_view_by, count_of, Takes, left_pass, second_pass, IsOnEnlisted, EnlistSteps, Entry, SeesOn, Continues, Meeting}
+use Rattle.ucl_live_board.proofs.Common.{All-head, All-tail, note_pass, told_pass}
 use Rattle.std.specs.List.{AllByRecursion}
 use Rattle.ucl_word.specs.declared.event.EventCall.{EventCall}
 use Rattle.ucl_word.specs.declared.event.Accepted.{Accepted}
@@ -37,13 +37,7 @@ pub stays_none : (v : View) → Stays v v
 stays_none v = record { seen = begins_same (history_of v.log); listed = le_refl (enlisted_by v.log); share = refl; mine = refl; number = refl }
 
 pub stays_more : (v w u : View) (target : Target) → Stays v w → Sees target w u → Stays v u
-stays_more v w u target t sees = let a = t.listed in let b = sees.goes.listed in record {
-  seen = begins_through (history_of v.log) (history_of w.log) (history_of u.log) t.seen sees.goes.seen;
-  listed = omega arith;
-  share = sees.goes.share ∙ t.share;
-  mine = sees.mine ∙ t.mine;
-  number = sees.number ∙ t.number;
-}
+stays_more v w u target t sees = search (arith, begins_through)
 
 -- what contracts see of it: after steps of which the last was this, that gave the pass a number, or that came after a note was taken in
 
@@ -55,30 +49,10 @@ module _ (shown : List Taken → List ℕ) where
   stays_continue v w u t goes = record { sound = sound shown w u goes; on = stays_on v u t; number = t.number }
 
   pub adds_continue : (v w u : View) (target : Target) (e : Entry) → Stays v w → Adds target e w u → Continues (pass_view_by shown v) (pass_view_by shown u)
-  adds_continue v w u target e t adds = let a = t.listed in let b = adds.goes.listed in record {
-    sound = sound shown w u adds.goes;
-    on = record {
-      seen = begins_through (history_of v.log) (history_of w.log) (history_of u.log) t.seen adds.goes.seen;
-      listed = omega arith;
-      share = adds.goes.share ∙ t.share;
-    };
-    number = adds.number ∙ t.number;
-  }
+  adds_continue v w u target e t adds = search (arith, sound, begins_through)
 
   pub enlists : (v w u : View) (found : ℕ) → Stays v w → GivesNumber found w u → shown u.own ≡ [] → Enlistment (pass_view_by shown v) (pass_view_by shown u)
-  enlists v w u found t gives none = let a = t.listed in let b = gives.above in let c = gives.listed in record {
-    sound = sound shown w u gives.goes;
-    on = record {
-      seen = begins_through (history_of v.log) (history_of w.log) (history_of u.log) t.seen gives.goes.seen;
-      listed = omega arith;
-      share = gives.goes.share ∙ t.share;
-    };
-    number = gives.number ∙ sym c;
-    above = omega arith;
-    fresh = sym gives.goes.own ∙ gives.mine;
-    mine = gives.mine;
-    shown = none;
-  }
+  enlists v w u found t gives none = search (arith, sound, begins_through)
 
   module _ (a v w : View) (target : Target) (sees : Sees target (told_pass v (note_pass a)) w) where
     first : IsPrefix v.log w.log
@@ -103,16 +77,10 @@ pub one_more : (v w u : View) (x : Taken) → EnlistSteps v w → IsOnEnlisted x
 one_more v w u x s on t = record { steps = s.steps ++ x ∷ []; takes = takes_on v w u s.steps (x ∷ []) s.takes t; on_enlisted = all_more IsOnEnlisted s.steps x s.on_enlisted on }
 
 pub sound_second : (shown : List Taken → List ℕ) (v : View) → IsSound (pass_view_by shown v) → IsSound (pass_view_by shown (second_pass v))
-sound_second shown v s = record {
-  legal = s.legal;
-  own = sym (none_by_zero (history_of v.log) s.legal);
-  few = s.few;
-  acts = half_acts true v.share s.acts;
-  alone = λ is. absurd (half_not_whole true v.share is);
-}
+sound_second shown v s = search (arith, none_by_zero, half_acts, half_not_whole)
 
 pub sound_left : (shown : List Taken → List ℕ) (v : View) → IsSound (pass_view_by shown v) → IsSound (pass_view_by shown (left_pass v))
-sound_left shown v s = record { legal = s.legal; own = s.own; few = s.few; acts = half_acts false v.share s.acts; alone = λ is. absurd (half_not_whole false v.share is) }
+sound_left shown v s = search (arith, half_acts, half_not_whole)
 
 -- the count of accepted events has room for one more
 pub room : (k m : PassView) (call : EventCall) (r : Result Accepted Refusal) (n : ℕ) → IfOk r (λ reply. AcceptedReport k call reply m) → is_ok r ≡ true → IsSound m → length k.mine ≡ n

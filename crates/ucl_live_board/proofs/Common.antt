@@ -7,7 +7,7 @@ pub use Rattle.std.proofs.lemmas.Bool.{eqb-true, ltb-true}
 pub use Rattle.std.proofs.lemmas.List.{nil_from_length}
 pub use Rattle.std.proofs.lemmas.List.Elements.{All-append, All-cons, All-head, All-nil, All-tail, filter-append}
 pub use Rattle.std.specs.Prelude.{All, Err, IfOk, IsSome, Option, IsTrue, None, Ok, Result, Some, filter, is_ok, not, ◌&&◌}
-pub use Rattle.ucl_board.proofs.Repeats.{begins_length, begins_more, begins_none, begins_same, begins_take, begins_through}
+pub use Rattle.ucl_board.proofs.HistoryTheorems.{begins_length, begins_more, begins_none, begins_same, begins_take, begins_through}
 pub use Rattle.ucl_board.specs.History.{IsLegal, MayFollow, followed_by}
 pub use Rattle.ucl_board.specs.Log.{Enlisted, Enlists, IsLegalRule, IsLog, IsThere, Log, Logged, Match, MayBeTaken, Taken, Target, added_by, enlisted_by}
 pub use Rattle.ucl_board.specs.Log.{enlists, entry_list, history_of, logged_by, number_by, number_of, step_taken, taken_by}

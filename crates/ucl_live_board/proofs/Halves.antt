@@ -1,7 +1,7 @@
 -- What a split does to a share: its halves overlap with nothing that it did not overlap with, and not with one another.
 use Rattle.ucl_live_board.proofs.Common.{◌≡◌, ◌⊎◌, inl, inr, ⊎_elim, Bool, true, false, List, ◌∷◌, ◌++◌, refl, sym, ap, ◌∙◌, subst, true≢false, append-nil}
-use Rattle.ucl_live_board.proofs.Common.{append_assoc, length, length-append, arith, [], Some, None, IsSome, IsPrefix, begins_none, begins_more, begins_through}
-use Rattle.ucl_live_board.proofs.Common.{Share, whole, half_of, first_half, second_half, Overlap}
+use Rattle.ucl_live_board.proofs.Common.{append_assoc, length, length-append, arith, [], Some, None, IsSome, IsPrefix, begins_none, begins_more}
+use Rattle.ucl_live_board.proofs.Common.{begins_through, Share, whole, half_of, first_half, second_half, Overlap}
 
 pub overlap_swap : (s t : Share) → Overlap s t → Overlap t s
 overlap_swap s t o = search arith

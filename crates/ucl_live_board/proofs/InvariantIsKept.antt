@@ -13,15 +13,12 @@ use Rattle.ucl_live_board.proofs.Halves.{overlap_swap, half_overlaps, halves_apa
 -- views by their places
 
 pub place_below : {X : Type 0} (xs : List X) (at : ℕ) (x : X) → get_elem? xs at ≡ some x → at < length xs
-place_below [] at x e = absurd (some-ne-none x (sym e))
-place_below (y ∷ xs) zero x e = omega arith
 place_below (y ∷ xs) (suc at) x e = let r = place_below xs at x e in omega arith
+place_below xs at x e = search (arith, some-ne-none)
 
 at_last : (views : List View) (w u : View) (j : ℕ) → get_elem? (views ++ w ∷ []) j ≡ some u → (get_elem? views j ≡ some u) ⊎ ((j ≡ length views) × (w ≡ u))
-at_last [] w u zero e = inr (refl, some-injective w u e)
-at_last [] w u (suc j) e = absurd (some-ne-none u (sym e))
-at_last (x ∷ views) w u zero e = inl e
-at_last (x ∷ views) w u (suc j) e = elim (at_last views w u j e) [ inl was ↦ inl was | inr t ↦ inr (ap suc t.0, t.1) ]
+at_last (x ∷ views) w u (suc j) e = search (arith, at_last views w u j)
+at_last views w u j e = search (arith, some-injective, some-ne-none)
 
 -- no two passes have a part of the board in common
 

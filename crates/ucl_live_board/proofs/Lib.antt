@@ -2,7 +2,6 @@ pub mod Common
 pub mod Lists
 pub mod Halves
 pub mod Alone
-pub mod SettledPasses
 pub mod InvariantIsKept
 pub mod StepFacts
 pub mod CallsBySteps

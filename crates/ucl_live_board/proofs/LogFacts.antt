@@ -5,7 +5,7 @@ use Rattle.ucl_live_board.proofs.Common.{ℕ_discrete, set_here, set_else, Entry
 use Rattle.ucl_live_board.proofs.Common.{IsLog, IsLegalRule, View, Overlap, first_pass, BoardInvariant, BoardsOpenFresh, StepsComeLast, LastStepsSeeAll}
 use Rattle.ucl_live_board.proofs.Common.{NumbersAreApart, IsHeld, Covers, HoldersDidAll}
 use Rattle.ucl_board.proofs.Logs.{taken_append, log_begins, knows_all}
-use Rattle.ucl_board.proofs.LogFacts.{legal_history, log_facts}
+use Rattle.ucl_board.proofs.Logs.{legal_history, log_facts}
 use Rattle.ucl_live_board.proofs.Halves.{in_whole, on_a_side}
 use Rattle.ucl_live_board.proofs.Alone.{taken_else, some_here, only_own, view_at, none_beyond, number_some, seat_there}
 use Rattle.ucl_live_board.proofs.InvariantIsKept.{place_below}

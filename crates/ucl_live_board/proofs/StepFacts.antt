@@ -1,15 +1,15 @@
 -- What a step on a shared board says of what its pass knows, whatever the board's words and its rule are.
 use Rattle.ucl_live_board.proofs.Common.{◌≡◌, ℕ, ◌+◌, ◌≤◌, List, ◌∷◌, ◌++◌, length, Option, Some, None, refl, sym, ap, ◌∙◌, subst, arith, [], append-nil}
-use Rattle.ucl_live_board.proofs.Common.{length-append, All, IsSome, IsPrefix, begins_through, nil_from_length, Entry, IsLegal, followed_by, Target, Match}
-use Rattle.ucl_live_board.proofs.Common.{Enlisted, Enlists, Taken, step_taken, logged_by, Log, taken_by, entry_list, added_by, number_of, number_by, history_of}
-use Rattle.ucl_live_board.proofs.Common.{enlists, enlisted_by, IsThere, IsLog, IsLegalRule, View, whole, IsSound, entries_by, pass_view_by, Takes, BoardStep}
-use Rattle.ucl_live_board.proofs.Common.{not, ◌==◌}
+use Rattle.ucl_live_board.proofs.Common.{length-append, All, IsSome, IsPrefix, begins_through, nil_from_length, Entry, IsLegal, followed_by, Target, Enlists}
+use Rattle.ucl_live_board.proofs.Common.{Taken, step_taken, logged_by, Log, taken_by, entry_list, added_by, number_of, number_by, history_of, enlists}
+use Rattle.ucl_live_board.proofs.Common.{enlisted_by, IsThere, IsLog, IsLegalRule, View, whole, IsSound, entries_by, pass_view_by, Takes, BoardStep, not}
+use Rattle.ucl_live_board.proofs.Common.{◌==◌}
 use Rattle.std.proofs.lemmas.List.Filters.{length-filter_both}
 use Rattle.ucl_word.specs.Counts.{EachMay}
 use Rattle.ucl_word.proofs.Sequences.{may_next, may_last}
 use Rattle.ucl_board.specs.Log.{Whole, MayBeTaken, MayEnlist, IsLegalStep, HasLegalSteps, LogFacts}
 use Rattle.ucl_board.proofs.Logs.{history_more, history_on, enlisted_more, enlisted_on, taken_own, added_more, number_more}
-use Rattle.ucl_board.proofs.LogFacts.{log_facts, legal_history}
+use Rattle.ucl_board.proofs.Logs.{log_facts, legal_history}
 use Rattle.ucl_live_board.proofs.Lists.{none_by_zero}
 use Rattle.ucl_live_board.proofs.Alone.{whole_is_alone}
 
@@ -29,13 +29,7 @@ pub record Goes (v w : View) : Type 0 where
   pub alone : w.share ≡ whole → (history_of w.log ≡ added_by w.own) × (enlisted_by w.log ≤ number_of w.own) × (number_of w.own ≤ 1)
 
 pub sound : (shown : List Taken → List ℕ) (v w : View) → Goes v w → IsSound (pass_view_by shown w)
-sound shown v w goes = record {
-  legal = goes.legal;
-  own = goes.own;
-  few = goes.few;
-  acts = goes.acts;
-  alone = λ is. let a = goes.alone is in record { seen = a.0; listed = a.1; one = a.2 };
-}
+sound shown v w goes = search arith
 
 -- a step that added no entry and gave no number: what it looked at is there afterwards too
 pub record Sees (target : Target) (v w : View) : Type 0 where
@@ -77,17 +71,10 @@ all_seen n h p b is =
     sym (append-nil h) ∙ (ap (λ (x : List Entry). h ++ x) (sym (nil_from_length b.0 (omega arith))) ∙ b.1)
 
 keeps_number : (t : Target) (n : ℕ) → length (enlists t) ≡ 0 → number_by t n ≡ n
-keeps_number (Match kind game found) n none = refl
-keeps_number (Enlisted found) n none = refl
-keeps_number (Enlists found) n none = absurd (omega arith)
-keeps_number (Whole shown) n none = refl
+keeps_number t n none = search arith
 
 there_on : (a b : Log) (t : Target) → history_of a ≡ history_of b → enlisted_by a ≡ enlisted_by b → length (enlists t) ≡ 0 → IsThere a t → IsThere b t
-there_on a b (Match kind game found) history count none there =
-    subst (λ (h : List Entry). Rattle.ucl_board.specs.Fixtures.IsMatch game × (found ≡ Rattle.ucl_word.specs.Layout.word_of (Rattle.ucl_board.specs.History.match_after h game))) history there
-there_on a b (Enlisted found) history count none there = there ∙ count
-there_on a b (Enlists found) history count none there = absurd (omega arith)
-there_on a b (Whole shown) history count none there = tt
+there_on a b t history count none there = search arith
 
 module _ (words_after : List Entry → ℕ → List ℕ) (May : Log → Rattle.ucl_board.specs.Log.Logged → Type 0) (seat : ℕ) (target : Target) (v w : View)
     (s : BoardStep words_after May seat target v w) where

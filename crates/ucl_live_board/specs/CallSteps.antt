@@ -1,5 +1,6 @@
--- Which steps a call on any shared board takes.
--- The pass was v and is w.
+-- Which steps a call on any shared board takes. The log is the list of all steps of all passes, threads' permissions on the board. A view
+-- is what contracts see of a pass: the prefix of the log that it knows, its own steps, and a copy of those of the passes that it was split
+-- off from. To enlist a pass is to make it a reporter's, with a number. `v` is the view before the call, and `w` after it.
 use Rattle.std.specs.Prelude.{◌≡◌, ◌⊎◌, ℕ, List, [], ◌∷◌, ◌++◌, length, Option, Some, None, Result, Ok, Err}
 use Rattle.std.specs.List.{AllByRecursion}
 use Rattle.ucl_word.specs.declared.event.EventCall.{EventCall}
@@ -11,43 +12,44 @@ use Rattle.ucl_board.specs.Log.{Access, Match, Enlisted, Enlists, Taken, step_ta
 use Rattle.ucl_live_board.specs.declared.view.View.{View}
 use Rattle.ucl_live_board.specs.Views.{Takes}
 
--- the steps of accesses, of which the last may have added an entry
+-- the steps that these accesses (steps on match words) are: the last added this entry to the history, if it is one, the others none
 abbrev pub steps_with : Option Entry → List Access → List Taken
 steps_with entry [] = []
-steps_with entry (m ∷ []) = step_taken (Match m.kind m.game m.found) m.place m.at entry ∷ []
-steps_with entry (m ∷ n ∷ ms) = step_taken (Match m.kind m.game m.found) m.place m.at None ∷ steps_with entry (n ∷ ms)
+steps_with entry (a ∷ []) = step_taken (Match a.kind a.game a.found) a.place a.at entry ∷ []
+steps_with entry (a ∷ b ∷ more) = step_taken (Match a.kind a.game a.found) a.place a.at None ∷ steps_with entry (b ∷ more)
 
--- the entry of an accepted event
+-- the entry that an event with this reply made in the history, for the reporter with this number; None if it was refused
 abbrev pub entry_made : ℕ → EventCall → Result Accepted Refusal → Option Entry
 entry_made number call (Ok reply) = Some (entry_of number call)
 entry_made number call (Err refusal) = None
 
--- a step on the number of enlisted reporters, which found so many: a load, or an exchange, won or missed
+-- a step is on the number of enlisted reporters, by a load or a compare and exchange, found so many, and added no entry
 abbrev pub FoundEnlisted : ℕ → Taken → Type 0
-FoundEnlisted found x = ((x.target ≡ Enlisted found) ⊎ (x.target ≡ Enlists found)) × (x.entry ≡ None)
+FoundEnlisted found step = ((step.target ≡ Enlisted found) ⊎ (step.target ≡ Enlists found)) × (step.entry ≡ None)
 
+-- a step is on the number of enlisted reporters
 abbrev pub IsOnEnlisted : Taken → Type 0
-IsOnEnlisted x = (found : ℕ) × FoundEnlisted found x
+IsOnEnlisted step = (found : ℕ) × FoundEnlisted found step
 
--- one such step
+-- the pass took one step, on the number of enlisted reporters, and found so many
 pub record CountsReporters (found : ℕ) (v w : View) : Type 0 where
   pub step : Taken
   pub takes : Takes v (step ∷ []) w
   pub found_is : FoundEnlisted found step
 
--- an enlistment or a meeting takes steps on the number of enlisted reporters alone
+-- the pass took steps only on the number of enlisted reporters, as it does when it is enlisted, or told what another has seen
 pub record EnlistSteps (v w : View) : Type 0 where
   pub steps : List Taken
   pub takes : Takes v steps w
   pub on_enlisted : AllByRecursion IsOnEnlisted steps
 
--- a meeting takes one, and the pass then knows how many it found
+-- told at a meeting what another pass has seen, the pass took one step: it loaded how many reporters are enlisted, and then knows it
 pub record MeetingSteps (v w : View) : Type 0 where
   pub found : ℕ
   pub place : ℕ
   pub takes : Takes v (step_taken (Enlisted found) place (length (history_of w.log)) None ∷ []) w
   pub listed : enlisted_by w.log ≡ found
 
--- a second pass has a copy of the steps, and has taken none
+-- the pass with view w, split off from the one with view v, has a copy of all steps of that, and has taken none of its own
 abbrev pub HasCopyOf : View → View → Type 0
 HasCopyOf w v = (w.copied ≡ v.copied ++ v.own) × (w.own ≡ [])

@@ -1,5 +1,6 @@
--- What each call on any shared board says of its passes, in one record.
--- The pass was k and is m.
+-- What each call on any shared board says of its passes, in one record for each call. A pass is a thread's permission on the board, and
+-- contracts know a PassView of it: the history (list of accepted events) that it has seen and more. `old` is that of the pass before the
+-- call, and `new` after it; `Continues` says what holds of a pass after each call.
 use Rattle.std.specs.Prelude.{◌≡◌, Result, IfOk, IfErr}
 use Rattle.ucl_word.specs.declared.event.EventCall.{EventCall}
 use Rattle.ucl_word.specs.declared.event.Accepted.{Accepted}
@@ -7,31 +8,31 @@ use Rattle.ucl_word.specs.declared.refusal.Refusal.{Refusal}
 use Rattle.ucl_board.specs.declared.reading.Reading.{Reading}
 use Rattle.ucl_live_board.specs.Passes.{PassView, IsSound, Continues, AcceptedReport, RefusedReport, SharedReading, FullBoard, Meeting, kept_pass, split_pass}
 
--- an event was entered or refused
-pub record LiveReported (k : PassView) (call : EventCall) (reply : Result Accepted Refusal) (m : PassView) : Type 0 where
-  pub always : Continues k m
-  pub accepted : IfOk reply (λ a. AcceptedReport k call a m)
-  pub refused : IfErr reply (λ r. RefusedReport k call r m)
+-- what `report` says of the pass that made the report, by its reply: the event was accepted, or refused with this refusal
+pub record LiveReported (old : PassView) (call : EventCall) (reply : Result Accepted Refusal) (new : PassView) : Type 0 where
+  pub always : Continues old new
+  pub accepted : IfOk reply (λ accepted. AcceptedReport old call accepted new)
+  pub refused : IfErr reply (λ refusal. RefusedReport old call refusal new)
 
--- the board was read
-pub record LiveRead (k : PassView) (read : Reading) (m : PassView) : Type 0 where
-  pub always : Continues k m
-  pub reading : SharedReading k read m
+-- what `read` and `read_own` say of the pass that read the board, and of this reading: it is a snapshot of what the pass has then seen
+pub record LiveRead (old : PassView) (read : Reading) (new : PassView) : Type 0 where
+  pub always : Continues old new
+  pub reading : SharedReading old read new
 
--- a second pass n was split off
-pub record LiveSplit (k m n : PassView) : Type 0 where
-  pub sound : IsSound k
-  pub kept : m ≡ kept_pass k
-  pub given : n ≡ split_pass k
+-- what `split` says: a second pass was split off the pass `old`, which is then `new`; each has half of its share (part of the board)
+pub record LiveSplit (old new second : PassView) : Type 0 where
+  pub sound : IsSound old
+  pub kept : new ≡ kept_pass old
+  pub given : second ≡ split_pass old
 
--- a pass that was to be enlisted found that as many reporters are enlisted as there are numbers
-pub record LiveFull (k m : PassView) : Type 0 where
-  pub always : Continues k m
-  pub full : FullBoard k m
+-- what `enlist` says if all 255 numbers of reporters are given: the reader's pass was not made a reporter's, and came back as `new`
+pub record LiveFull (old new : PassView) : Type 0 where
+  pub always : Continues old new
+  pub full : FullBoard old new
 
--- the pass met another, which was a and is b
-pub record LiveMet (a b k m : PassView) : Type 0 where
-  pub sound : IsSound a
-  pub always : Continues k m
-  pub unchanged : b ≡ a
-  pub meeting : Meeting a k m
+-- what `meet` says: the pass `old` was told all that another had seen, and is then `new`; the other is unchanged, from `first` to `then`
+pub record LiveMet (first then old new : PassView) : Type 0 where
+  pub sound : IsSound first
+  pub always : Continues old new
+  pub unchanged : then ≡ first
+  pub meeting : Meeting first old new

@@ -1,11 +1,13 @@
--- Numbers of reporters in the order of time.
+-- Numbers of reporters in the order of time: one that is given later is greater. Each pass, a thread's permission on a shared board, has a
+-- seat in the list of all passes; its view is what contracts see of it. To enlist a pass is to give it a reporter's number.
 use Rattle.std.specs.Prelude.{◌≡◌, ℕ, ◌<◌, List}
 use mathlib.Core.Option.{some}
 use lib.ListN.{get_elem?}
 use Rattle.ucl_board.specs.Log.{number_of}
 use Rattle.ucl_live_board.specs.declared.view.View.{View}
 
--- a number that was given after a moment at which so many were enlisted, and the passes knew this: it is above all their numbers
+-- the number was given to a reporter after a moment at which `enlisted` reporters had one and the passes had these views: it is above that
+-- count, and above the number of each pass then
 pub record IsGivenAfter (enlisted : ℕ) (views : List View) (number : ℕ) : Type 0 where
   pub above : enlisted < number
-  pub others : (seat : ℕ) (v : View) → get_elem? views seat ≡ some v → number_of v.own < number
+  pub others : (seat : ℕ) (view : View) → get_elem? views seat ≡ some view → number_of view.own < number

@@ -1,4 +1,7 @@
--- The invariant of every shared board: what holds of its words and passes between any two steps.
+-- The invariant of every shared board: what holds of its words and passes between any two steps. The log is the list of all steps so far,
+-- and the history that of their entries (accepted events). Each pass, a thread's permission, has a seat, its place in the list of passes;
+-- its view is what contracts see of it; its share is its part of the board; it is enlisted if it has a reporter's number. `words_after`
+-- says what a board's words are, after a history and so many enlistments, and `May` which step may come next.
 use Rattle.std.specs.Prelude.{◌≡◌, ◌⊎◌, ℕ, zero, suc, ◌<◌, ◌≤◌, Bool, true, false, List, [], ◌∷◌, ◌++◌, map, All, length, slice_set, Some, None, IsTrue}
 use mathlib.Core.List.{IsPrefix}
 use mathlib.Core.Option.{some}
@@ -11,50 +14,50 @@ use Rattle.ucl_live_board.specs.declared.view.View.{View}
 use Rattle.ucl_live_board.specs.Shares.{whole, Overlap}
 use Rattle.ucl_live_board.specs.Views.{first_pass}
 
--- what the pass of a seat knows are beginnings of the log, the last of which has all its own steps; without a share it took none
-pub record ViewInvariant (log : Log) (seat : ℕ) (v : View) : Type 0 where
-  pub knows : IsPrefix v.log log
-  pub told : All (λ (l : Log). IsPrefix l log) v.told
-  pub own : (v.own ≡ taken_by seat v.log) × (v.own ≡ taken_by seat log)
-  pub idle : v.share ≡ None → v.own ≡ []
+-- the view of a seat's pass fits the log: what it knows, and what it was told at a meeting with another, are prefixes of the log; its own
+-- steps are those that the log has of its seat, all of which it knows; and without a share it took none
+pub record ViewInvariant (log : Log) (seat : ℕ) (view : View) : Type 0 where
+  pub knows : IsPrefix view.log log
+  pub told : All (λ (heard : Log). IsPrefix heard log) view.told
+  pub own : (view.own ≡ taken_by seat view.log) × (view.own ≡ taken_by seat log)
+  pub idle : view.share ≡ None → view.own ≡ []
 
--- there is one log of all steps, each of which the board's rule lets come next, and which has the words that are there; all passes
--- fit it, no other seat took a step, and what one pass has of the board is no other's
+-- the invariant of a board with these words and views: there is one log of all steps, each of which May lets come next; the words are those
+-- after its history; all views fit it; only seats in the list took steps; and no two passes have shares that overlap
 pub record BoardInvariant (words_after : List Entry → ℕ → List ℕ) (May : Log → Logged → Type 0) (words : List ℕ) (views : List View) : Type 0 where
   pub log : Log
   pub is_log : IsLog log
   pub follows : EachMay May log
   pub words_are : words ≡ words_after (history_of log) (enlisted_by log)
-  pub seated : All (λ (x : Logged). x.seat < length views) log
-  pub fits : (seat : ℕ) (v : View) → get_elem? views seat ≡ some v → ViewInvariant log seat v
+  pub seated : All (λ (logged : Logged). logged.seat < length views) log
+  pub fits : (seat : ℕ) (view : View) → get_elem? views seat ≡ some view → ViewInvariant log seat view
   pub shared : (i j : ℕ) (v w : View) → get_elem? views i ≡ some v → get_elem? views j ≡ some w → Overlap v.share w.share → i ≡ j
 
--- a board that was just opened, with one pass that knows nothing, has no step; whatever its words are, they are those of no event
--- and no reporter
+-- the log of a board that was just opened, with one pass that knows nothing, is empty, and its words are those of no event and no reporter
 abbrev pub BoardsOpenFresh : (List Entry → ℕ → List ℕ) → (Log → Logged → Type 0) → Type 0
 BoardsOpenFresh words_after May =
     (words : List ℕ) (r : BoardInvariant words_after May words (first_pass ∷ [])) → (words ≡ words_after [] 0) × (r.log ≡ [])
 
--- whatever a step of a pass is, what it adds to the pass's own steps is the end of the log: one invariant holds before it, with the
--- view v of the pass, and after it, with w
+-- if the invariant holds before and after a pass took steps, which led its view from v to w, these steps stand at the end of the log
 abbrev pub StepsComeLast : (List Entry → ℕ → List ℕ) → (Log → Logged → Type 0) → Type 0
 StepsComeLast words_after May =
     (before after : List ℕ) (views : List View) (r : BoardInvariant words_after May before views)
     (seat : ℕ) (v w : View) (steps : List Taken) → get_elem? views seat ≡ some v
     → (s : BoardInvariant words_after May after (slice_set views seat w)) → w.own ≡ v.own ++ steps → s.log ≡ r.log ++ map (logged_by seat) steps
 
--- the pass that took the last step knows the whole log
+-- if the invariant holds, the pass that took the last step of the log knows the whole log
 abbrev pub LastStepsSeeAll : (List Entry → ℕ → List ℕ) → (Log → Logged → Type 0) → Type 0
 LastStepsSeeAll words_after May =
     (words : List ℕ) (views : List View) (r : BoardInvariant words_after May words views)
     (before : Log) (seat : ℕ) (x : Taken) (v : View) → r.log ≡ before ++ logged_by seat x ∷ [] → get_elem? views seat ≡ some v → v.log ≡ r.log
 
--- the history is legal, and the numbers and the entries of passes are those that the log gives them
+-- if the invariant holds, the history is legal, and each reporter's pass has a number of its own and just the entries with it (LogFacts)
 abbrev pub NumbersAreApart : (List Entry → ℕ → List ℕ) → (Log → Logged → Type 0) → Type 0
 NumbersAreApart words_after May =
     (words : List ℕ) (views : List View) (r : BoardInvariant words_after May words views) → IsLegal (history_of r.log) × LogFacts r.log
 
--- one of the seats that are held has the share at the end of this path
+-- at a seat of the set `held` there is a pass whose share has this path: a share is written as the path to it, which half of the board,
+-- which half of that, and so on
 pub record IsHeld (views : List View) (held : ℕ → Bool) (path : List Bool) : Type 0 where
   pub seat : ℕ
   pub view : View
@@ -62,27 +65,28 @@ pub record IsHeld (views : List View) (held : ℕ → Bool) (path : List Bool) :
   pub there : get_elem? views seat ≡ some view
   pub share : view.share ≡ Some path
 
--- the shares of the seats that are held make up that share, by so many halvings at most
+-- the shares of the seats in the set `held` together are the share with this path, cut in halves at most so many times over
 abbrev pub Covers : List View → (ℕ → Bool) → ℕ → List Bool → Type 0
 Covers views held zero path = IsHeld views held path
 Covers views held (suc n) path = IsHeld views held path ⊎ (Covers views held n (path ++ false ∷ []) × Covers views held n (path ++ true ∷ []))
 
--- each step is by a seat that is held, and each number is that of one
+-- each step of the log is by a seat in the set `held`, and each reporter's number that was given is that of a pass at such a seat
 pub record DidAll (log : Log) (views : List View) (held : ℕ → Bool) : Type 0 where
   pub steps : All (λ (x : Logged). IsTrue (held x.seat)) log
   pub numbers : (n : ℕ) → 1 ≤ n → n ≤ enlisted_by log → (seat : ℕ) × (v : View) × IsTrue (held seat) × (get_elem? views seat ≡ some v) × (number_of v.own ≡ n)
 
--- seats whose shares make up the whole did all that was done
+-- if the shares at the seats in the set `held` are the whole board, their passes took all steps and have all numbers of reporters
 abbrev pub HoldersDidAll : (List Entry → ℕ → List ℕ) → (Log → Logged → Type 0) → Type 0
 HoldersDidAll words_after May =
     (words : List ℕ) (views : List View) (r : BoardInvariant words_after May words views) (held : ℕ → Bool) (halvings : ℕ) → Covers views held halvings [] → DidAll r.log views held
 
--- a pass that has the whole board entered all that was entered, and none but it was enlisted
-pub record DidAllAlone (log : Log) (v : View) : Type 0 where
-  pub mine : added_by v.own ≡ history_of log
-  pub number : number_of v.own ≡ enlisted_by log
+-- the pass with this view entered all entries of the log, and no other pass was enlisted
+pub record DidAllAlone (log : Log) (view : View) : Type 0 where
+  pub mine : added_by view.own ≡ history_of log
+  pub number : number_of view.own ≡ enlisted_by log
   pub one : enlisted_by log ≤ 1
 
+-- if the share of a pass is the whole board, it entered all entries of the log, and no other pass was enlisted
 abbrev pub WholeIsAlone : (List Entry → ℕ → List ℕ) → (Log → Logged → Type 0) → Type 0
 WholeIsAlone words_after May =
     (words : List ℕ) (views : List View) (r : BoardInvariant words_after May words views) (seat : ℕ) (v : View) → get_elem? views seat ≡ some v → v.share ≡ whole → DidAllAlone r.log v

@@ -1,5 +1,7 @@
--- What contracts know of a pass, and what each call on a shared board says of it.
--- Every shared board, settling and the night cite these.
+-- What contracts know of a pass, a thread's permission on a shared board, and what each call says of it. What a pass has seen is a history,
+-- a list of entries (accepted events); `mine` are its own. A share is a part of the board, without which a pass takes no step; a split
+-- halves it. To enlist a reader's pass is to make it a reporter's, with a number from 1. A version says how many entries a reading shows.
+-- `old` is what is known of a pass before a call, and `new` after it.
 use Rattle.std.specs.Prelude.{◌≡◌, ℕ, ◌==◌, ◌<◌, ◌≤◌, List, [], ◌∷◌, ◌++◌, length, filter, IsSome, Ok, Err}
 use mathlib.Core.List.{IsPrefix}
 use Rattle.ucl_word.specs.declared.event.EventCall.{EventCall}
@@ -10,8 +12,8 @@ use Rattle.ucl_board.specs.declared.reading.Reading.{Reading}
 use Rattle.ucl_board.specs.History.{IsLegal, followed_by, entry_of, sequential_reply, snapshot_at}
 use Rattle.ucl_live_board.specs.Shares.{Share, whole, first_half, second_half}
 
--- what is known of a pass: the history that it has seen, its own entries in it, its number (0 for a reader), how many reporters it
--- has seen enlisted, the versions that its readings answered, and its share of the board
+-- what contracts know of a pass: the history that it has seen, its own entries there, its number (0 for a reader), how many reporters it
+-- has seen enlisted (given a number), the versions of its readings, oldest first, and its share of the board
 pub record PassView : Type 0 where
   pub seen : List Entry
   pub mine : List Entry
@@ -20,104 +22,108 @@ pub record PassView : Type 0 where
   pub shown : List ℕ
   pub share : Share
 
--- the entries of one reporter
+-- the entries of the reporter with this number in a history
 abbrev pub entries_by : ℕ → List Entry → List Entry
-entries_by number history = filter (λ e. e.reporter == number) history
+entries_by number history = filter (λ entry. entry.reporter == number) history
 
--- a pass is alone on its board: all that was entered is its own, and none but it was enlisted
-pub record IsAlone (k : PassView) : Type 0 where
-  pub seen : k.seen ≡ k.mine
-  pub listed : k.listed ≤ k.number
-  pub one : k.number ≤ 1
+-- a pass is alone on its board: all entries that it has seen are its own, and it has seen no other pass enlisted
+pub record IsAlone (pass : PassView) : Type 0 where
+  pub seen : pass.seen ≡ pass.mine
+  pub listed : pass.listed ≤ pass.number
+  pub one : pass.number ≤ 1
 
--- what holds of a pass between calls: it acts by a share, and with the whole board it is alone on it
-pub record IsSound (k : PassView) : Type 0 where
-  pub legal : IsLegal k.seen
-  pub own : k.mine ≡ entries_by k.number k.seen
-  pub few : k.listed ≤ 255
-  pub acts : IsSome k.share
-  pub alone : k.share ≡ whole → IsAlone k
+-- what holds of a pass between calls: it has seen a legal history and knows its own entries there, it has a share, and with the whole board
+-- it is alone on it
+pub record IsSound (pass : PassView) : Type 0 where
+  pub legal : IsLegal pass.seen
+  pub own : pass.mine ≡ entries_by pass.number pass.seen
+  pub few : pass.listed ≤ 255
+  pub acts : IsSome pass.share
+  pub alone : pass.share ≡ whole → IsAlone pass
 
--- no call takes back what a pass has seen, nor takes a part of its share
-pub record SeesOn (k m : PassView) : Type 0 where
-  pub seen : IsPrefix k.seen m.seen
-  pub listed : k.listed ≤ m.listed
-  pub share : m.share ≡ k.share
+-- after a call a pass still has seen all that it had seen before, and perhaps more, and it has the same share
+pub record SeesOn (old new : PassView) : Type 0 where
+  pub seen : IsPrefix old.seen new.seen
+  pub listed : old.listed ≤ new.listed
+  pub share : new.share ≡ old.share
 
--- what always holds of a pass before and after a call
-pub record Continues (k m : PassView) : Type 0 where
-  pub sound : IsSound m
-  pub on : SeesOn k m
-  pub number : m.number ≡ k.number
+-- what holds of a pass after each call that borrows it, but a split: it is sound, has seen no less, and keeps its share and number
+pub record Continues (old new : PassView) : Type 0 where
+  pub sound : IsSound new
+  pub on : SeesOn old new
+  pub number : new.number ≡ old.number
 
--- the pass of a board that was just opened has the whole board
+-- what is known of the pass of a board that was just opened: it has seen nothing, and has the whole board
 abbrev pub opening_pass : PassView
 opening_pass = record { seen = []; mine = []; number = 0; listed = 0; shown = []; share = whole }
 
--- an accepted event: its entry is the last that was seen, and it was accepted after the entries before, those that had been seen among them
-pub record AcceptedReport (k : PassView) (call : EventCall) (reply : Accepted) (m : PassView) : Type 0 where
+-- an event was accepted: its entry is the last that the pass has then seen; the rules accept it after the entries before, which begin with
+-- all that the pass had seen
+pub record AcceptedReport (old : PassView) (call : EventCall) (reply : Accepted) (new : PassView) : Type 0 where
   pub before : List Entry
-  pub last : m.seen ≡ followed_by before (entry_of k.number call)
-  pub since : IsPrefix k.seen before
+  pub last : new.seen ≡ followed_by before (entry_of old.number call)
+  pub since : IsPrefix old.seen before
   pub answer : sequential_reply before call ≡ Ok reply
-  pub mine : m.mine ≡ followed_by k.mine (entry_of k.number call)
-  pub shown : m.shown ≡ k.shown
+  pub mine : new.mine ≡ followed_by old.mine (entry_of old.number call)
+  pub shown : new.shown ≡ old.shown
 
--- a refused event: the refusal is the reply after all that was seen
-pub record RefusedReport (k : PassView) (call : EventCall) (refusal : Refusal) (m : PassView) : Type 0 where
-  pub answer : sequential_reply m.seen call ≡ Err refusal
-  pub mine : m.mine ≡ k.mine
-  pub shown : m.shown ≡ k.shown
+-- an event was refused: the refusal is the reply of the board of one thread after all that the pass has then seen
+pub record RefusedReport (old : PassView) (call : EventCall) (refusal : Refusal) (new : PassView) : Type 0 where
+  pub answer : sequential_reply new.seen call ≡ Err refusal
+  pub mine : new.mine ≡ old.mine
+  pub shown : new.shown ≡ old.shown
 
--- a reading: the snapshot of the first entries, no fewer than had been seen before
-pub record SharedReading (k : PassView) (reading : Reading) (m : PassView) : Type 0 where
-  pub low : length k.seen ≤ reading.version
-  pub high : reading.version ≤ length m.seen
-  pub snapshot : reading ≡ snapshot_at m.seen reading.version
-  pub mine : m.mine ≡ k.mine
-  pub shown : m.shown ≡ k.shown ++ reading.version ∷ []
+-- the board was read: the reading is the board after the first entries of what is then seen, as many as its version says and no fewer than
+-- had been seen; its version is added to those that the pass has read
+pub record SharedReading (old : PassView) (reading : Reading) (new : PassView) : Type 0 where
+  pub low : length old.seen ≤ reading.version
+  pub high : reading.version ≤ length new.seen
+  pub snapshot : reading ≡ snapshot_at new.seen reading.version
+  pub mine : new.mine ≡ old.mine
+  pub shown : new.shown ≡ old.shown ++ reading.version ∷ []
 
--- a reading is the last of a pass, and the board after so many first entries of what that has seen
-pub record IsReadingOf (m : PassView) (reading : Reading) : Type 0 where
+-- a reading is the last one of a pass: the board after the first entries of what the pass has seen, as many as its version says
+pub record IsReadingOf (pass : PassView) (reading : Reading) : Type 0 where
   pub before : List ℕ
-  pub last : m.shown ≡ before ++ reading.version ∷ []
-  pub high : reading.version ≤ length m.seen
-  pub snapshot : reading ≡ snapshot_at m.seen reading.version
+  pub last : pass.shown ≡ before ++ reading.version ∷ []
+  pub high : reading.version ≤ length pass.seen
+  pub snapshot : reading ≡ snapshot_at pass.seen reading.version
 
--- a pass from which another was split off: it has the first half of its share, and is otherwise as it was
+-- what is known of a pass after another was split off it: it has the first half of its share, and is otherwise as it was
 abbrev pub kept_pass : PassView → PassView
-kept_pass k = record k { share = first_half k.share }
+kept_pass old = record old { share = first_half old.share }
 
--- the pass that was split off: it has seen as much, has shown nothing, and has the second half
+-- what is known of a pass that was split off another: it has seen as much, has read nothing, and has the second half of the share
 abbrev pub split_pass : PassView → PassView
-split_pass k = record { seen = k.seen; mine = []; number = 0; listed = k.listed; shown = []; share = second_half k.share }
+split_pass old = record { seen = old.seen; mine = []; number = 0; listed = old.listed; shown = []; share = second_half old.share }
 
--- a reader's pass became a reporter's, under a new number that no entry has
-pub record Enlistment (k m : PassView) : Type 0 where
-  pub sound : IsSound m
-  pub on : SeesOn k m
-  pub number : m.number ≡ m.listed
-  pub above : k.listed < m.listed
-  pub fresh : entries_by m.number m.seen ≡ []
-  pub mine : m.mine ≡ []
-  pub shown : m.shown ≡ []
+-- a reader's pass was enlisted: it has a new number, above all that it had seen given, and has seen no entry with it
+pub record Enlistment (old new : PassView) : Type 0 where
+  pub sound : IsSound new
+  pub on : SeesOn old new
+  pub number : new.number ≡ new.listed
+  pub above : old.listed < new.listed
+  pub fresh : entries_by new.number new.seen ≡ []
+  pub mine : new.mine ≡ []
+  pub shown : new.shown ≡ []
 
--- the pass that came back, since as many reporters are enlisted as there are numbers
-pub record FullBoard (k m : PassView) : Type 0 where
-  pub listed : m.listed ≡ 255
-  pub mine : m.mine ≡ k.mine
-  pub shown : m.shown ≡ k.shown
+-- an enlistment was refused, since all 255 numbers are given: the reader's pass came back, with what it had entered and read
+pub record FullBoard (old new : PassView) : Type 0 where
+  pub listed : new.listed ≡ 255
+  pub mine : new.mine ≡ old.mine
+  pub shown : new.shown ≡ old.shown
 
--- a meeting: the second pass, k before and m after, has seen all that the first had seen
-pub record Meeting (first k m : PassView) : Type 0 where
-  pub met : IsPrefix first.seen m.seen
-  pub mine : m.mine ≡ k.mine
-  pub shown : m.shown ≡ k.shown
+-- a pass was told what a first one had seen: it has then seen all of that, and has entered and read nothing more
+pub record Meeting (first old new : PassView) : Type 0 where
+  pub met : IsPrefix first.seen new.seen
+  pub mine : new.mine ≡ old.mine
+  pub shown : new.shown ≡ old.shown
 
--- a reporter's figures: its number, and how many of its events were accepted
+-- what a reporter's pass keeps as numbers: its own number, and how many of its events were accepted
 pub record Figures : Type 0 where
   pub number : ℕ
   pub accepted : ℕ
 
+-- the number of a reporter's pass and how many of its events were accepted, by what contracts know of the pass
 abbrev pub reporter_figures : PassView → Figures
-reporter_figures k = record { number = k.number; accepted = length k.mine }
+reporter_figures pass = record { number = pass.number; accepted = length pass.mine }

@@ -1,4 +1,6 @@
--- A pass as it is in a state that its board can be in.
+-- Which views of passes can occur: a view is what contracts see of a pass, a thread's permission on a shared board, and a seat its place in
+-- the list of all passes. The board's invariant (BoardInvariant) holds between any two steps, of its words and of the views of all passes;
+-- `words_after` says what the words are after a history, and `May` which step may come next.
 use Rattle.std.specs.Prelude.{◌≡◌, ◌≢◌, ℕ, List}
 use mathlib.Core.Option.{some}
 use lib.ListN.{get_elem?}
@@ -7,14 +9,14 @@ use Rattle.ucl_board.specs.Log.{Logged, Log}
 use Rattle.ucl_live_board.specs.declared.view.View.{View}
 use Rattle.ucl_live_board.specs.OneHistory.{BoardInvariant}
 
--- a pass occurs at its seat: there are words and passes that meet the invariant of its board, in which it knows and has done just this
-pub record OccursIn (words_after : List Entry → ℕ → List ℕ) (May : Log → Logged → Type 0) (seat : ℕ) (v : View) : Type 0 where
+-- a view occurs at a seat: there are words and views of all passes that meet the invariant of the board, with this view at this seat
+pub record OccursIn (words_after : List Entry → ℕ → List ℕ) (May : Log → Logged → Type 0) (seat : ℕ) (view : View) : Type 0 where
   pub words : List ℕ
   pub views : List View
   pub rule : BoardInvariant words_after May words views
-  pub here : get_elem? views seat ≡ some v
+  pub here : get_elem? views seat ≡ some view
 
--- two passes occur in one such state, the first at this seat and the second at another
+-- two views occur together: there are words and views of all passes that meet the invariant, with v at this seat and w at another
 pub record OccurTogether (words_after : List Entry → ℕ → List ℕ) (May : Log → Logged → Type 0) (seat : ℕ) (v w : View) : Type 0 where
   pub words : List ℕ
   pub views : List View

@@ -1,5 +1,6 @@
--- What a step on a shared board tells its pass.
--- The pass was v and is w.
+-- What a step on a shared board tells its pass, a thread's permission there. The log is the list of all steps of all passes, and a seat the
+-- place of a pass in the list of passes. `v` is the view of the pass (what contracts see of it) before the step, and `w` after it.
+-- `words_after` says what a board's words are after a history, and `May` which step may come after a log.
 use Rattle.std.specs.Prelude.{◌≡◌, ℕ, List, [], ◌∷◌, ◌++◌, All, IsSome}
 use mathlib.Core.List.{IsPrefix}
 use Rattle.ucl_word.specs.declared.event.EventCall.{EventCall}
@@ -10,18 +11,19 @@ use Rattle.ucl_board.specs.Log.{Target, Taken, Logged, Log, logged_by, taken_by,
 use Rattle.ucl_live_board.specs.declared.view.View.{View}
 use Rattle.ucl_live_board.specs.PossibleViews.{OccursIn}
 
--- the pass of a seat after a step, which came after this log
+-- the view of a seat's pass after a step, which came after this log: the pass then knows the whole log
 abbrev pub stepped_to : Log → ℕ → Taken → View → View
-stepped_to before seat x v = record { log = before ++ logged_by seat x ∷ []; told = []; own = v.own ++ x ∷ []; share = v.share; copied = v.copied }
+stepped_to before seat step v =
+    record { log = before ++ logged_by seat step ∷ []; told = []; own = v.own ++ step ∷ []; share = v.share; copied = v.copied }
 
--- a step on this target: it came after this log, all of which the pass then knows, and in which stands what it had known or been
--- told; the pass acts by its share, and then occurs at its seat
+-- the pass of a seat took one step, which looked at this target: the step came after a log in which all stands that the pass had known or
+-- been told, as May lets it; the pass has a share, its part of the board; and its view can occur at its seat (OccursIn)
 pub record BoardStep (words_after : List Entry → ℕ → List ℕ) (May : Log → Logged → Type 0) (seat : ℕ) (target : Target) (v w : View) : Type 0 where
   pub before : Log
   pub is_log : IsLog before
   pub follows : EachMay May before
   pub since : IsPrefix v.log before
-  pub heard : All (λ (l : Log). IsPrefix l before) v.told
+  pub heard : All (λ (heard : Log). IsPrefix heard before) v.told
   pub own : v.own ≡ taken_by seat before
   pub step : Taken
   pub of : step.target ≡ target
@@ -31,6 +33,6 @@ pub record BoardStep (words_after : List Entry → ℕ → List ℕ) (May : Log 
   pub acts : IsSome v.share
   pub occurs : OccursIn words_after May seat w
 
--- a call for steps that are no report's
+-- a stand-in for an event, for a step that belongs to no report
 abbrev pub no_call : EventCall
 no_call = record { game = 0; expected = 0; kind = KickOff }

@@ -1,11 +1,13 @@
--- What contracts read off the view of a pass; the views of new passes and of notes.
+-- Views of passes. A pass is a thread's permission on a shared board; its view is what it knows and has done: a prefix of the log of all
+-- steps, its own steps, and a copy of those of the passes that it was split off from. A note is a pass that only carries what another knows
+-- to a meeting, at which a second pass takes that in. A share is a pass's part of the board.
 use Rattle.std.specs.Prelude.{◌≡◌, ℕ, List, [], ◌∷◌, ◌++◌, None, length, nat_lt, if◌then◌else◌}
 use Rattle.ucl_board.specs.Log.{Access, Taken, Log, added_by, number_of, history_of, enlisted_by, accesses_in}
 use Rattle.ucl_live_board.specs.declared.view.View.{View}
 use Rattle.ucl_live_board.specs.Shares.{whole, first_half, second_half}
 use Rattle.ucl_live_board.specs.Passes.{PassView}
 
--- what is known of a pass of a board whose readings are shown by these steps
+-- what contracts know of a pass with this view, on a board where `shown_by` works out the versions of a pass's readings from its steps
 abbrev pub pass_view_by : (List Taken → List ℕ) → View → PassView
 pass_view_by shown_by v = record {
   seen = history_of v.log;
@@ -16,47 +18,48 @@ pass_view_by shown_by v = record {
   share = v.share;
 }
 
--- the steps that a pass comes from, and its own
+-- the steps of the passes that a pass was split off from, and its own
 abbrev pub steps_of : View → List Taken
 steps_of v = v.copied ++ v.own
 
--- how many these are
+-- how many steps the view of a pass has, those of the passes that it was split off from among them
 abbrev pub count_of : View → ℕ
 count_of v = length (steps_of v)
 
--- the accesses of those on match words
+-- the trail of a pass: its steps on match words, oldest first
 abbrev pub trail_of : View → List Access
 trail_of v = accesses_in (steps_of v)
 
--- between v and w a pass took just these steps
+-- a pass took just these steps, from the view v to the view w
 pub record Takes (v : View) (steps : List Taken) (w : View) : Type 0 where
   pub own : w.own ≡ v.own ++ steps
   pub copied : w.copied ≡ v.copied
 
--- a pass that knows nothing and has no share: what is left of a note that was taken in
+-- the view of a pass that knows nothing and has no share, as a note is after a meeting
 abbrev pub new_pass : View
 new_pass = record { log = []; told = []; own = []; share = None; copied = [] }
 
--- the pass of a board that was just opened knows nothing, and has the whole board
+-- the view of the pass of a board that was just opened: it knows nothing, and has the whole board
 abbrev pub first_pass : View
 first_pass = record new_pass { share = whole }
 
--- a pass that another was split off keeps the first half of its share
+-- the view of a pass after another was split off it: it keeps the first half of its share
 abbrev pub left_pass : View → View
 left_pass v = record v { share = first_half v.share }
 
--- a second reader's pass that is split off: it knows as much, has a copy of the steps, has taken none, and has the second half of
--- the share
+-- the view of a pass that is split off another: it knows as much, has a copy of its steps, took none, and has the second half of its share
 abbrev pub second_pass : View → View
 second_pass v = record { log = v.log; told = []; own = []; share = second_half v.share; copied = steps_of v }
 
--- a note of what a pass knows, and of nothing else: it has no share
+-- the view of a note of what a pass knows: it has no share
 abbrev pub note_pass : View → View
 note_pass v = record { log = v.log; told = []; own = []; share = None; copied = [] }
 
+-- the longer one of two logs
 abbrev pub longer_log : Log → Log → Log
-longer_log xs ys = if nat_lt (length xs) (length ys) then ys else xs
+longer_log one other = if nat_lt (length one) (length other) then other else one
 
--- a pass that took in a note: it knows the longer of both logs, and keeps both until its next step
+-- the view of a pass that took in a note at a meeting: it knows the longer one of its log and the note's, and until its next step it keeps
+-- both as what it was told
 abbrev pub told_pass : View → View → View
 told_pass v note = record v { log = longer_log v.log note.log; told = v.log ∷ note.log ∷ v.told }

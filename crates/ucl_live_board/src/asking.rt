@@ -1,14 +1,16 @@
-//! What the call that takes a step picks for the kind of the step.
+//! The ghost arguments of a step on the words of a shared board: a call picks them at each step, and the program that runs has none.
 
 use std::marker::Brand;
 
-/// The event that a report enters, and the seat of the pass that takes a step. Each call of a board picks them, in proofs alone.
+/// The ghost arguments of a step of a pass, a thread's permission on the board: the event that it is for, and the seat of the pass.
 pub trait Asking {
     ghost use Rattle.std.specs.Prelude.{ℕ};
     ghost use Rattle.ucl_word.specs.declared.event.EventCall.{EventCall};
 
+    // The event that the call enters, if it is a report; else a stand-in.
     ghost call: { EventCall };
 
+    // The seat of the pass: its place in the list of the board's passes.
     ghost seat: { ℕ };
 }
 

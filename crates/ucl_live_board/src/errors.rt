@@ -1,13 +1,15 @@
-//! Why a shared board refuses a call.
+//! Why a shared board refuses a call. A pass is a thread's permission on the board, a reader's or a reporter's. To settle is to read the
+//! board and learn whether all its entries, the accepted events, are of two reporters.
 
 use thiserror::Error;
 
-/// 30: as many reporters are enlisted as there are numbers, 255. The pass that was to be enlisted comes back, and reads on.
+/// 30: a reader's pass could not become a reporter's, since all 255 numbers are given. The pass comes back, and reads on.
 #[derive(Drop, Error)]
 #[error("board refused 30")]
 pub struct TooManyReporters<P>(pub P);
 
-/// 31: the reading has an entry of a third reporter, or the two passes have one number. Both passes stay usable.
+/// 31: two reporters could not settle, since the reading has an entry of a third reporter or their passes have one number. Both passes
+/// stay usable.
 #[derive(Clone, Copy, Debug, PartialEq, Eq, Error)]
 #[error("board refused 31: version {version}")]
 pub struct Strangers {

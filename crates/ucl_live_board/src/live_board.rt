@@ -1,4 +1,5 @@
-//! What every shared board is.
+//! What every board is that threads share. A thread holds a pass, its permission on the board; to enlist a reader's pass is to make it a
+//! reporter's, under a number of its own. What a pass has seen is a prefix of the board's history, the list of accepted events.
 
 ghost use Rattle.std.specs.Prelude.{◌≡◌, MatchResult};
 ghost use Rattle.ucl_live_board.specs.LiveRecords.{LiveReported, LiveRead, LiveSplit, LiveFull, LiveMet};
@@ -9,33 +10,38 @@ use std::sync::Wait;
 use ucl_board::Reading;
 use ucl_word::{Accepted, EventCall, Refusal, ReporterNo};
 
-/// How many reporters a board can have: as many as there are numbers of a `ReporterNo`.
+/// The greatest number of reporters that a board can have: there are as many values of `ReporterNo`.
 pub const MAX_REPORTERS: u64 = 255;
 
 /// A board that threads share. Each thread holds a pass, and what a call answers is said of what its pass has seen: a prefix
 /// of one history of accepted events, the same for all passes (Herlihy and Wing, Linearizability).
 ///
-/// A condition of every call is that its passes are of this board: they came, by `split` or `enlist`, from the pass that its
-/// `open` gave. The calls that take `rt` may wait, and what they promise holds where they return.
+/// A condition of every call is that its passes are of this board: they came, by `split` or `enlist`, from the pass that its `open` gave.
+/// The calls that take `rt` may wait, and what they promise holds if they return.
 pub trait LiveBoard: Sync {
-    /// What a reader holds: it reads, and can be split or enlisted.
+    /// The pass of a reader: it reads, and can be split or enlisted.
     type ReaderPass: Send + Drop;
 
-    /// What a reporter holds: it enters events under its own number, and reads.
+    /// The pass of a reporter: it enters events under its own number, and reads.
     type ReporterPass: Send + Drop;
 
-    // The pass is one of this board.
+    // A reader's pass is one of this board.
     ghost is_reader: { Self → Self.ReaderPass → Type 0 };
 
+    // A reporter's pass is one of this board.
     ghost is_reporter: { Self → Self.ReporterPass → Type 0 };
 
-    // What is known of a pass.
+    // What contracts know of a reader's pass.
     ghost reader: { Self.ReaderPass → PassView };
 
+    // What contracts know of a reporter's pass.
     ghost reporter: { Self.ReporterPass → PassView };
 
-    /// Enters an event under the number of the pass. An accepted event is the last that the pass has seen; a refusal is the reply
-    /// of a board of one thread after all that the pass has then seen, enters nothing, and may leave the pass having seen more.
+    /// Enters an event under the number of the pass. An accepted event is the last that the pass has then seen.
+    ///
+    /// # Errors
+    ///
+    /// Returns the refusal of a board of one thread after all that the pass has then seen. Nothing is entered, and the pass may have seen more.
     ///
     /// ```rust
     /// let (board, pass) = CellBoard::open(&rt, rt.alloc())?;
@@ -58,7 +64,7 @@ pub trait LiveBoard: Sync {
         ensures own { is_reporter self.now pass.new }
         ensures says { LiveReported (reporter pass.old) call.now result (reporter pass.new) };
 
-    /// Reads the board after a prefix of the history that has all that the pass had seen, and its version.
+    /// Reads the board after a prefix of the history, no shorter than what the pass had seen, with the prefix's length as its version.
     ///
     /// ```rust
     /// let (board, mut reader) = CellBoard::open(&rt, rt.alloc())?;
@@ -71,7 +77,7 @@ pub trait LiveBoard: Sync {
         ensures own { is_reader self.now pass.new }
         ensures says { LiveRead (reader pass.old) result (reader pass.new) };
 
-    /// Does the same for a reporter.
+    /// Reads the board by a reporter's pass: after a prefix of the history, no shorter than the pass had seen, whose length is the version.
     ///
     /// ```rust
     /// let (board, pass) = CellBoard::open(&rt, rt.alloc())?;
@@ -90,7 +96,7 @@ pub trait LiveBoard: Sync {
         ensures own { is_reporter self.now pass.new }
         ensures says { LiveRead (reporter pass.old) result (reporter pass.new) };
 
-    /// Splits off a second pass, which has seen as much as the lent one, for another thread.
+    /// Splits a second pass off a reader's, for another thread. The second is a reader's too, and has seen as much as the first.
     ///
     /// ```rust
     /// let (board, mut reader) = CellBoard::open(&rt, rt.alloc())?;
@@ -103,8 +109,11 @@ pub trait LiveBoard: Sync {
         ensures own { is_reader self.now pass.new × is_reader self.now result }
         ensures says { LiveSplit (reader pass.old) (reader pass.new) (reader result) };
 
-    /// Makes a reader a reporter, under a number of its own. Where 255 are enlisted the answer is 30 with the pass, which may have
-    /// seen more.
+    /// Enlists: makes a reader's pass a reporter's, under a number that no other pass has.
+    ///
+    /// # Errors
+    ///
+    /// Returns `TooManyReporters` with the pass if 255 reporters are enlisted. The pass may have seen more.
     ///
     /// ```rust
     /// let (board, pass) = CellBoard::open(&rt, rt.alloc())?;
@@ -126,7 +135,7 @@ pub trait LiveBoard: Sync {
             (λ enlisted. Enlistment (reader pass) (reporter enlisted))
             (λ full. LiveFull (reader pass) (reader full.0)) };
 
-    /// Tells the second pass all that the first has seen: afterwards it has seen all that either had seen. The first is as it was.
+    /// Tells the second pass all that the first has seen: it has then seen all that either had seen. The first is as it was.
     ///
     /// ```rust
     /// let (board, mut pass) = CellBoard::open(&rt, rt.alloc())?;
@@ -142,7 +151,7 @@ pub trait LiveBoard: Sync {
         ensures says { LiveMet (reporter first.old) (reporter first.new) (reporter second.old)
             (reporter second.new) };
 
-    /// Returns the number of a reporter's pass.
+    /// Returns the number of a reporter's pass, 1 to 255, under which it enters events.
     ///
     /// ```rust
     /// let (board, mut pass) = CellBoard::open(&rt, rt.alloc())?;

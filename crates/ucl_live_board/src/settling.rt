@@ -1,4 +1,4 @@
-//! Two reporters who make sure that they are alone.
+//! Settling: two reporters make sure that no third one has entered an event. A pass is a thread's permission on a shared board.
 
 ghost use Rattle.ucl_live_board.specs.Settling.{LiveSettled};
 
@@ -7,10 +7,14 @@ use crate::live_board::LiveBoard;
 use std::sync::Wait;
 use ucl_board::Reading;
 
-/// Lets the two meet, and the second read. The reading is answered if the two numbers differ and its version is the sum of both
-/// accepted counts: then each of its entries is one of theirs. Else the answer is 31 with the version that was read. Nothing is
-/// entered, and both passes stay usable: the first is as it was, and the second may have seen more and has shown this one version
-/// more.
+/// Tells the second of two reporters' passes what the first has seen, reads by it, and returns the reading if all its entries are theirs.
+///
+/// Nothing is entered. The first pass is as it was; the second may have seen more, and has read once more.
+///
+/// # Errors
+///
+/// Returns `Strangers` with the version that was read if that is not the sum of the two counts of accepted events, or if the passes have one
+/// number. Both passes stay usable.
 ///
 /// ```rust
 /// let (board, mut pass) = CellBoard::open(&rt, rt.alloc())?;

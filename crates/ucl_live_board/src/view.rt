@@ -1,4 +1,5 @@
-//! What a pass of a shared board knows, and what it has done.
+//! What a pass, a thread's permission on a shared board, knows and has done. The log is the list of all steps that passes took, and the
+//! history that of the entries, the accepted events, that they added.
 
 ghost use Rattle.std.specs.Prelude.{List};
 ghost use Rattle.std.specs.Borrow.{ftrue};
@@ -7,18 +8,18 @@ ghost use Rattle.ucl_live_board.specs.Shares.{Share};
 
 use std::marker::Model;
 
-/// What contracts see of a pass of a shared board. It is there for proofs alone: no value of it is ever made. All else that they say of a
-/// pass is a function of these: what it has seen is the history of the log that it knows, and what it has done follows from its own steps.
+/// What contracts see of a pass of a shared board. It is there for proofs alone: no value of it is ever made. What a pass has seen is the
+/// history of the log that it knows, and what it has done follows from its own steps.
 pub struct View {
-    // The beginning of the log that it knows.
+    // The prefix of the log that the pass knows.
     pub ghost log: { Log },
-    // The logs of both sides of a meeting, until its next step.
+    // After a meeting, until the pass's next step, the prefixes of the log that both passes knew.
     pub ghost told: { List Log },
-    // Its own steps.
+    // The steps that the pass took itself, oldest first.
     pub ghost own: { List Taken },
-    // Its share of the board, without which it takes no step.
+    // The pass's share: its part of the board, without which it takes no step.
     pub ghost share: { Share },
-    // The steps of the passes that it comes from, before it was split off.
+    // The steps that the passes from which it was split off had taken by then.
     pub ghost copied: { List Taken },
 }
 

@@ -1,5 +1,5 @@
 -- Accesses along a history, and what clean and unclean tries show.
-use Rattle.ucl_board.proofs.Repeats.{is_stale}
+use Rattle.ucl_board.proofs.HistoryTheorems.{is_stale}
 use Rattle.ucl_steps.proofs.Common.{legal_take, ◌≡◌, ℕ, suc, ◌+◌, ◌-◌, ◌*◌, ◌<◌, ◌≤◌, List, ◌∷◌, ◌++◌, take, length, Option, Some, None, Ok, Err, inl, inr}
 use Rattle.ucl_steps.proofs.Common.{refl, sym, ap, ◌∙◌, subst, arith, [], length-append, le_refl, get_or, get_or-set_other, slice_get, slice_index, slice_set}
 use Rattle.ucl_steps.proofs.Common.{IsOk, AllByRecursion, none-some, same_Some, false≢true, take-length, IsPrefix, MatchRecord, Refusal, answer, reply_of}
@@ -7,8 +7,7 @@ use Rattle.ucl_steps.proofs.Common.{word_of, record_at, at_below, at_end, at_eit
 use Rattle.ucl_steps.proofs.Common.{take_beginning, AccessKind, Access, access, Does, IsFoundIn, Follows, IsCollect, IsUnclean, IsClean, accesses_of}
 use Rattle.ucl_steps.proofs.Common.{UncleanTriesSeeMore, UncleanTriesAreFew, ReadingsAreSnapshots, ReportsAreSequential}
 use Rattle.ucl_board.specs.declared.reading.Reading.{Reading}
-use Rattle.ucl_steps.proofs.Lists.{get_some}
-use Rattle.ucl_steps.proofs.Histories.{number_expected, read_back, squeezed, board_from}
+use Rattle.ucl_steps.proofs.Histories.{get_some, number_expected, read_back, squeezed, board_from}
 use Rattle.ucl_board.specs.Log.{Look, Swap}
 
 -- accesses along a history

@@ -1,7 +1,7 @@
 -- The words and lemmas from elsewhere that the proofs of this crate share.
-pub use Rattle.std.proofs.Common.{Bool, Err, List, None, Ok, Option, Some, [], add-one, ap, append-nil, append_assoc, arith, cond, drop, eq-eqb, false, get_or}
-pub use Rattle.std.proofs.Common.{get_or-set_other, inl, inr, le_refl, length, length-append, length-take, map, nat_le, ne_eqb, refl, rules, set, subst, suc}
-pub use Rattle.std.proofs.Common.{sym, take, true, zero, ℕ, ◌&&◌, ◌*◌, ◌++◌, ◌+◌, ◌-◌, ◌<◌, ◌==◌, ◌∙◌, ◌∷◌, ◌≡◌, ◌≢◌, ◌≤◌, ◌⊎◌}
+pub use Rattle.std.proofs.Common.{Bool, Err, List, None, Ok, Option, Some, [], add-one, ap, append-nil, append_assoc, arith, cond, drop, eq-eqb, false}
+pub use Rattle.std.proofs.Common.{get_or, get_or-set_other, inl, inr, le_refl, length, length-append, length-take, map, nat_le, ne_eqb, refl, rules, set}
+pub use Rattle.std.proofs.Common.{subst, suc, sym, take, true, zero, ℕ, ◌&&◌, ◌*◌, ◌++◌, ◌+◌, ◌-◌, ◌<◌, ◌==◌, ◌∙◌, ◌∷◌, ◌≡◌, ◌≢◌, ◌≤◌, ◌⊎◌}
 pub use Rattle.std.proofs.Math.Seq.{take-append_seam, take-length}
 pub use Rattle.std.proofs.lemmas.Bool.{and_parts, cases_eq, cases_lt, cases_order, eqb-false, eqb-true, false≢true, le-leb, leb-true, not-false}
 pub use Rattle.std.proofs.lemmas.List.{ext_get_or, get_or_append_left, get_or_default, get_or_push, length-map, length-set, length-take-le, length_push}
@@ -11,8 +11,8 @@ pub use Rattle.std.proofs.lemmas.Option.{cond_some, none-some, option_and_then_s
 pub use Rattle.std.specs.List.{AllByRecursion}
 pub use Rattle.std.specs.Option.{option_and_then, option_map}
 pub use Rattle.std.specs.Prelude.{All, IfSome, IsOk, IsSome, IsSomeAnd, replicate, slice_get, slice_index, slice_set, ◌↔◌}
-pub use Rattle.ucl_board.proofs.Repeats.{at_beginning, begins_length, begins_same, get_back, take_beginning}
-pub use Rattle.ucl_board.proofs.Histories.{board_length, entries-append, entries_same, legal_match, match_valid, word_after}
+pub use Rattle.ucl_board.proofs.HistoryTheorems.{at_beginning, begins_length, begins_same, get_back, take_beginning}
+pub use Rattle.ucl_board.proofs.HistoryTheorems.{board_length, entries-append, entries_same, legal_match, match_valid, word_after}
 pub use Rattle.ucl_board.proofs.HistoryTheorems.{legal_take, may_attempt, same_number, same_word, versions}
 pub use Rattle.ucl_board.specs.Fixtures.{IsMatch}
 pub use Rattle.ucl_board.specs.History.{IsLegal, MayFollow, attempted, board_of, entries_of, entry_of, match_after, reading_of, sequential_reply, snapshot_at}
@@ -24,10 +24,10 @@ pub use Rattle.ucl_steps.specs.Theorems.{WordsAreOfTheHistory}
 pub use Rattle.ucl_steps.specs.Linearizable.{AcceptedIsEntry, BeginsAt, EndedBySteps, EndsAt, EntryHasOneCall, IsDecided, IsEntry, IsLinearizable, IsRefused}
 pub use Rattle.ucl_steps.specs.Linearizable.{Makes, PointWithinCall, Precedes, ReadingIsSnapshot, RealTimeOrder, RefusedAtPoint, VersionsRise, begun_in}
 pub use Rattle.ucl_steps.specs.Linearizable.{caller_and_call, is_accepted, version_read}
-pub use Rattle.ucl_steps.specs.Machine.{Answered, Callers, CallerState, Idle, MachineState, Wanting, Within, after_begin, after_end, after_outcome, after_reply}
-pub use Rattle.ucl_steps.specs.Machine.{after_step, after_step_holding, after_steps, caller_of, change_at, held_at_begin, held_by, initial_state, may_begin}
-pub use Rattle.ucl_steps.specs.Machine.{set_held, state_after_first, stored, with_end, with_held, with_reply}
-pub use Rattle.ucl_steps.specs.Protocol.{Answers, Checking, Collecting, GoesOn, Pending, Holding, NoCall, Outcome, by_rules, collected, compared, loaded}
+pub use Rattle.ucl_steps.specs.Machine.{Answered, Callers, CallerState, Idle, MachineState, Wanting, Within, after_begin, after_end, after_outcome}
+pub use Rattle.ucl_steps.specs.Machine.{after_reply, after_step, after_step_holding, after_steps, caller_of, change_at, held_at_begin, held_by, initial_state}
+pub use Rattle.ucl_steps.specs.Machine.{may_begin, set_held, state_after_first, stored, with_end, with_held, with_reply}
+pub use Rattle.ucl_steps.specs.Protocol.{Answers, Checking, Collecting, GoesOn, Pending, Holding, NoCall, Outcome, by_rules, compared, loaded}
 pub use Rattle.ucl_steps.specs.Protocol.{looked, swapped}
 pub use Rattle.ucl_steps.specs.Running.{IsReachable, Takes, holds_of, state_of}
 pub use Rattle.ucl_steps.specs.Trails.{Does, Follows, IsClean, IsCollect, IsFoundIn, IsUnclean, accesses_of}

@@ -1,7 +1,7 @@
 -- What is known of a state that steps lead to.
-use Rattle.ucl_board.proofs.Histories.{board_none}
-use Rattle.ucl_steps.proofs.Common.{legal_take, ◌≡◌, ℕ, zero, suc, ◌+◌, ◌-◌, ◌<◌, ◌≤◌, Bool, true, List, ◌∷◌, ◌++◌, take, length, map, Option, Some, None, refl}
-use Rattle.ucl_steps.proofs.Common.{sym, ap, ◌∙◌, arith, [], get_or, set, length-take, eq-eqb, ne_eqb, slice_get, slice_index, replicate, option_map}
+use Rattle.ucl_board.proofs.HistoryTheorems.{board_none}
+use Rattle.ucl_steps.proofs.Common.{legal_take, ◌≡◌, ℕ, zero, suc, ◌+◌, ◌-◌, ◌<◌, ◌≤◌, Bool, true, List, ◌∷◌, ◌++◌, take, length, map, Option, Some, None}
+use Rattle.ucl_steps.proofs.Common.{refl, sym, ap, ◌∙◌, arith, [], get_or, set, length-take, eq-eqb, ne_eqb, slice_get, slice_index, replicate, option_map}
 use Rattle.ucl_steps.proofs.Common.{option_and_then, slice_get-map, slice_get-get_or, slice_get_past, option_and_then_some, false≢true, get_or_default}
 use Rattle.ucl_steps.proofs.Common.{take_more_set, take_all, length-take-le, map-set, length-set, EventCall, record_at, IsWord, IsMatch, AreWords, word_at}
 use Rattle.ucl_steps.proofs.Common.{max_version, match_after, board_of, reading_of, match_valid, versions, Cast, Caller, Reporter, Reader, Step, Swap, Second}
@@ -10,10 +10,8 @@ use Rattle.ucl_steps.proofs.Common.{initial_state, held_by, with_held, after_rep
 use Rattle.ucl_steps.proofs.Common.{after_step, after_steps, Entry, holds_of, IsReachable, Takes, at_below}
 use Rattle.ucl_steps.specs.declared.machine.Pending.{Pending}
 use Rattle.ucl_steps.specs.declared.machine.Pending.TheVariants as has
-use Rattle.ucl_steps.proofs.Invariant.{Keeps}
-use Rattle.ucl_steps.proofs.CallFacts.{in_call}
-use Rattle.ucl_steps.proofs.KeptBySteps.{word_now}
-use Rattle.ucl_steps.proofs.Runs.{kept_at_start, run_kept}
+use Rattle.ucl_steps.proofs.Runs.{Keeps, word_now, kept_at_start, run_kept}
+use Rattle.ucl_steps.proofs.Calls.{in_call}
 
 pub reached_kept : (w : MachineState) (r : IsReachable w) → Keeps r.1 w
 reached_kept w r = run_kept r.1 [] (initial_state r.0) w (kept_at_start r.0) r.2

@@ -1,4 +1,7 @@
--- The protocol as seen from one pass: what its own steps make of it.
+-- The protocol as seen from one pass, a thread's permission on a shared board. The log lists all steps that passes took on the board's
+-- words; a pass's seat is its index from 0, and enlisting makes it a reporter's, with a number from 1. A step's target is what it looked
+-- at: a match word (Look, Swap: a report's load and exchange; First, Second: loads of a reading's two collects), the number of enlisted
+-- reporters, or the whole board. The history is the list of accepted events, the entries; `now` is its length just before a step.
 use Rattle.std.specs.Prelude.{◌≡◌, ℕ, ◌+◌, ◌==◌, if◌then◌else◌, List, [], ◌∷◌, ◌++◌, length, Option, Some, None}
 use Rattle.std.specs.List.{fold}
 use Rattle.ucl_word.specs.Record.{IsReporter}
@@ -11,8 +14,8 @@ use Rattle.ucl_steps.specs.declared.trace.Reply.{Reply}
 use Rattle.ucl_steps.specs.Protocol.{Pending, NoCall, Holding, Collecting, Checking, Outcome, GoesOn, Answers, looked, swapped, loaded, compared}
 use Rattle.ucl_board.specs.Log.{AccessKind, Look, Swap, First, Second, Target, Match, Enlists, Whole, Taken, Logged, Log, taken_by}
 
--- a finished call: the number of the reporter, what it asked, its reply, the places in the log of its first step and of its last,
--- and its point: it takes place after so many entries
+-- a finished call of a pass: the number of the pass (0 for a reader), the call and its reply, the places in the log of the call's first
+-- step and of its last, and its linearization point: it takes effect after the first `point` entries of the history
 pub record FinishedCall : Type 0 where
   pub number : ℕ
   pub call : Call
@@ -21,99 +24,106 @@ pub record FinishedCall : Type 0 where
   pub last : ℕ
   pub point : ℕ
 
--- what a pass has done: its number, 0 for a reader; its finished calls, the first of them first; what it holds; and the place of
--- the first step of its last call
+-- what a pass has done: its number (0 for a reader), its finished calls, oldest first, what it holds of the call under way (NoCall if there
+-- is none), and the place in the log of the first step of its latest call
 pub record ClientState : Type 0 where
   pub number : ℕ
   pub calls : List FinishedCall
   pub held : Pending
   pub first : ℕ
 
+-- the state of a pass that has taken no step: a reader's, without a call
 abbrev pub new_client : ClientState
 new_client = record { number = 0; calls = []; held = NoCall; first = 0 }
 
--- the call that a step is of
+-- the call of a step on this target, by what its pass held before: the entering of an event for a Look or a Swap, else a reading
 abbrev pub call_asked : Pending → Target → Call
-call_asked held (Match (Look e) game found) = Event e
-call_asked (Holding e old new) target = Event e
+call_asked held (Match (Look event) game found) = Event event
+call_asked (Holding event old new) target = Event event
 call_asked held target = Reading
 
--- what comes of a step on the match that is next, after so many entries; any other step leaves what is held
+-- what a step on this target brings, by its pass's number, what the pass held before, and `now`: the pass holds this and its call goes on
+-- (GoesOn), or the call has this reply (Answers); a step that the protocol does not allow there leaves what is held
 abbrev pub outcome : ℕ → Pending → Target → ℕ → Outcome
-outcome number held (Match (Look e) game found) now = looked number e found
-outcome number (Holding e old new) (Match Swap game found) now = swapped old new found
+outcome number held (Match (Look event) game found) now = looked number event found
+outcome number (Holding event old new) (Match Swap game found) now = swapped old new found
 outcome number NoCall (Match First game found) now = loaded [] found now
 outcome number (Collecting words) (Match First game found) now = loaded words found now
 outcome number (Checking words checked point) (Match Second game found) now = compared words checked point found
 outcome number held target now = GoesOn held
 
+-- the place in the log of the first step of the call to which the step at `place` belongs: `place` itself if the pass held no call before
+-- it, else `first`, the place of the first step of the pass's latest call
 abbrev pub first_place : Pending → ℕ → ℕ → ℕ
 first_place NoCall first place = place
 first_place held first place = first
 
--- a report takes place at its last step, a reading at the last of its first collect
+-- the linearization point of a call that gets its reply by a step before which the history had `now` entries, by what its pass held then: a
+-- report takes effect at this step, a reading at the last load of its first collect
 abbrev pub point_of : Pending → ℕ → ℕ
 point_of (Checking words checked point) now = point
 point_of held now = now
 
--- the call that a step answers
+-- the finished call that a pass in this state has after a step that brings this reply
 abbrev pub call_answered : Reply → Taken → ClientState → FinishedCall
-call_answered reply x d = record {
-  number = d.number;
-  call = call_asked d.held x.target;
+call_answered reply step client = record {
+  number = client.number;
+  call = call_asked client.held step.target;
   reply = reply;
-  first = first_place d.held d.first x.place;
-  last = x.place;
-  point = point_of d.held x.at;
+  first = first_place client.held client.first step.place;
+  last = step.place;
+  point = point_of client.held step.at;
 }
 
--- what a pass has done after a step, by what comes of it
+-- the state of a pass after a step with this outcome, by its state `old` before: its call goes on, or is added to the finished calls
 abbrev pub with_outcome : Outcome → Taken → ClientState → ClientState
-with_outcome (GoesOn h) x d = record d { held = h; first = first_place d.held d.first x.place }
-with_outcome (Answers reply) x d = record d { calls = d.calls ++ call_answered reply x d ∷ []; held = NoCall }
+with_outcome (GoesOn held) step old = record old { held = held; first = first_place old.held old.first step.place }
+with_outcome (Answers reply) step old = record old { calls = old.calls ++ call_answered reply step old ∷ []; held = NoCall }
 
--- an enlistment gives the pass its number
+-- the state of a pass after a step on this target: an enlistment gives it the number after those found; else by the protocol's outcome
 abbrev pub with_target : Target → Taken → ClientState → ClientState
-with_target (Enlists found) x d = record d { number = found + 1 }
-with_target target x d = with_outcome (outcome d.number d.held target x.at) x d
+with_target (Enlists found) step old = record old { number = found + 1 }
+with_target target step old = with_outcome (outcome old.number old.held target step.at) step old
 
+-- the state of a pass after a step, by its state `old` before
 abbrev pub with_step : ClientState → Taken → ClientState
-with_step d x = with_target x.target x d
+with_step old step = with_target step.target step old
 
--- what these steps make of a pass
+-- the state of a pass that took these steps, oldest first
 abbrev pub client_of : List Taken → ClientState
 client_of steps = fold with_step new_client steps
 
--- what the steps of a seat in a log make of its pass
+-- the state of the pass of this seat after all steps of the log
 abbrev pub client_at : ℕ → Log → ClientState
 client_at seat log = client_of (taken_by seat log)
 
--- the match of the next exchange or load, 0 if none comes next
+-- for a step of this kind, the match that is next for a pass that holds this; 0 if no such step is next, and for a Look
 abbrev pub next_game : AccessKind → Pending → ℕ
-next_game Swap (Holding e old new) = e.game
+next_game Swap (Holding event old new) = event.game
 next_game First NoCall = 1
 next_game First (Collecting words) = length words + 1
 next_game Second (Checking words checked point) = checked + 1
 next_game _ _ = 0
 
--- which step on which match comes next; only a reporter enters events; and no step looks at the whole board
+-- a pass in this state may take a step on this target next: only a reporter enters events, matches come in the order of the protocol, only
+-- a reader without a call is enlisted, no step looks at the whole board, and the number of enlisted reporters may always be loaded
 abbrev pub IsNextFor : ClientState → Target → Type 0
-IsNextFor d (Match (Look e) game found) = (d.held ≡ NoCall) × (game ≡ e.game) × IsReporter d.number
-IsNextFor d (Match kind game found) = game ≡ next_game kind d.held
-IsNextFor d (Enlists found) = (d.held ≡ NoCall) × (d.number ≡ 0)
-IsNextFor d (Whole shown) = ⊥
-IsNextFor d target = Unit {0}
+IsNextFor client (Match (Look event) game found) = (client.held ≡ NoCall) × (game ≡ event.game) × IsReporter client.number
+IsNextFor client (Match kind game found) = game ≡ next_game kind client.held
+IsNextFor client (Enlists found) = (client.held ≡ NoCall) × (client.number ≡ 0)
+IsNextFor client (Whole shown) = ⊥
+IsNextFor client target = Unit {0}
 
--- the entry that a step adds: an exchange that finds the word that was loaded
+-- the entry that a step on this target adds, by its pass's number and what that held: only a Swap that finds the loaded word adds one
 abbrev pub entry_by : ℕ → Pending → Target → Option Entry
-entry_by number (Holding e old new) (Match Swap game found) = if found == old then Some (entry_of number e) else None
+entry_by number (Holding event old new) (Match Swap game found) = if found == old then Some (entry_of number event) else None
 entry_by number held target = None
 
--- a step that the protocol takes next
-pub record IsNextOfProtocol (log : Log) (x : Logged) : Type 0 where
-  pub next : IsNextFor (client_at x.seat log) x.step.target
-  pub entry : x.step.entry ≡ entry_by (client_at x.seat log).number (client_at x.seat log).held x.step.target
+-- the protocol lets a step come next after a log: the pass of its seat may take it then, and it adds the entry that it should, or none
+pub record IsNextOfProtocol (log : Log) (logged : Logged) : Type 0 where
+  pub next : IsNextFor (client_at logged.seat log) logged.step.target
+  pub entry : logged.step.entry ≡ entry_by (client_at logged.seat log).number (client_at logged.seat log).held logged.step.target
 
--- each step of each seat is the next one of the protocol
+-- a log follows the protocol: the protocol lets each of its steps come next after the steps before it
 abbrev pub FollowsProtocol : Log → Type 0
 FollowsProtocol log = EachMay IsNextOfProtocol log

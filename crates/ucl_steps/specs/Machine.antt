@@ -1,5 +1,7 @@
--- The snapshot protocol as a machine: which step is enabled when, and what it does.
--- What comes of a step on a match word is said by the protocol; here are the board, all callers, and their calls.
+-- The snapshot protocol as a state machine: which step is enabled when, and what it does. Callers are numbered reporters and readers; their
+-- cast says how many there are. A report loads its match's word (Look), then exchanges it (Swap); a reading loads all twelve words (First),
+-- then again (Second). The history is the list of entries, the accepted events; a call's linearization point is a length of it.
+-- Protocol.antt says what comes of a step on a match word; here are the board, the callers, the calls.
 use Rattle.std.specs.Prelude.{ℕ, zero, suc, ◌-◌, ◌==◌, ◌&&◌, nat_le, Bool, true, false, if◌then◌else◌, List, [], ◌∷◌, ◌++◌, length, replicate, Option, Some}
 use Rattle.std.specs.Prelude.{None}
 use Rattle.std.specs.Prelude.{IsSome, slice_get, slice_set, slice_index}
@@ -21,15 +23,15 @@ use Rattle.ucl_steps.specs.declared.trace.Reply.{Reply}
 use Rattle.ucl_steps.specs.declared.trace.CallRecord.{CallRecord}
 use Rattle.ucl_steps.specs.Protocol.{Pending, Holding, Collecting, Checking, Outcome, GoesOn, Answers, looked, swapped, loaded, compared}
 
--- What a caller holds between two of its steps; `call` is the place of its call among the calls.
--- Idle: no call. Wanting: an event to enter. Within: what the protocol holds in the call. Answered: a call that has its reply.
+-- What a caller of the machine holds between two of its steps; `call` is the place of its call in the list of all calls. Idle: no call.
+-- Wanting: an event to enter. Within: what a call under way keeps (Protocol.antt). Answered: a call that has its reply and has not ended.
 pub data CallerState : Type 0 where
   Idle : CallerState
-  Wanting : (call : ℕ) (e : EventCall) → CallerState
+  Wanting : (call : ℕ) (event : EventCall) → CallerState
   Within : (call : ℕ) (held : Pending) → CallerState
   Answered : (call : ℕ) → CallerState
 
--- what each reporter and each reader holds, the first of them first
+-- what each reporter and each reader holds, in the order of their numbers
 pub record Callers : Type 0 where
   pub reporters : List CallerState
   pub readers : List CallerState
@@ -42,7 +44,7 @@ pub record MachineState : Type 0 where
   pub calls : List CallRecord
   pub callers : Callers
 
--- twelve scheduled matches, no entry, no call, and idle callers
+-- the machine before any step, with the callers of this cast: twelve scheduled matches, no entry, no call, and idle callers
 abbrev pub initial_state : Cast → MachineState
 initial_state cast = record {
   words = replicate 12 (word_of scheduled);
@@ -51,114 +53,124 @@ initial_state cast = record {
   callers = record { reporters = replicate cast.reporters Idle; readers = replicate cast.readers Idle };
 }
 
--- what the caller holds, None for a caller outside the cast; callers are numbered from 1
+-- what a caller holds, None for a caller outside the cast; callers are numbered from 1
 abbrev pub held_by : Callers → Caller → Option CallerState
 held_by callers (Reporter zero) = None
 held_by callers (Reporter (suc k)) = slice_get callers.reporters k
 held_by callers (Reader zero) = None
 held_by callers (Reader (suc k)) = slice_get callers.readers k
 
+-- what all callers hold after this one has been set to hold this; what the others hold stays
 abbrev pub set_held : CallerState → Caller → Callers → Callers
-set_held holds (Reporter n) callers = record callers { reporters = slice_set callers.reporters (n - 1) holds }
-set_held holds (Reader n) callers = record callers { readers = slice_set callers.readers (n - 1) holds }
+set_held holds (Reporter number) callers = record callers { reporters = slice_set callers.reporters (number - 1) holds }
+set_held holds (Reader number) callers = record callers { readers = slice_set callers.readers (number - 1) holds }
 
--- the state in which the caller holds this, and all else is the same
+-- the state after this caller has been set to hold this; all else stays
 abbrev pub with_held : CallerState → Caller → MachineState → MachineState
-with_held holds c state = record state { callers = set_held holds c state.callers }
+with_held holds caller state = record state { callers = set_held holds caller state.callers }
 
--- the list with its element at k changed
+-- the list with its element at place k changed by f, if it has one
 abbrev pub change_at : {X : Type 0} → ℕ → (X → X) → List X → List X
 change_at k f [] = []
 change_at zero f (x ∷ xs) = f x ∷ xs
 change_at (suc k) f (x ∷ xs) = x ∷ change_at k f xs
 
--- the call with its reply and its linearization point
+-- the record of a call, with this reply and this linearization point set
 abbrev pub with_reply : ℕ → Reply → CallRecord → CallRecord
-with_reply point reply c = record c { point = Some point; reply = Some reply }
+with_reply point reply call = record call { point = Some point; reply = Some reply }
 
--- the call with its end
+-- the record of a call, with its end set to this length of the history
 abbrev pub with_end : ℕ → CallRecord → CallRecord
-with_end ended c = record c { ended = Some ended }
+with_end ended call = record call { ended = Some ended }
 
--- Begin: a call is added, with the length of the history as its beginning. Only a reporter enters events.
--- The types of a match's and a reporter's number keep them in range; the machine, which sees them as numbers, asks it here.
+-- whether this caller may begin this call: a reporter may enter events and read, a reader may only read. The types of the program keep the
+-- numbers of matches and reporters in range; here they are plain numbers, and so their range is a part of the condition
 abbrev pub may_begin : Caller → Call → Bool
-may_begin (Reporter r) (Event e) = nat_le 1 e.game && (nat_le e.game 12 && nat_le r 255)
-may_begin (Reader n) (Event e) = false
-may_begin c Reading = true
+may_begin (Reporter number) (Event event) = nat_le 1 event.game && (nat_le event.game 12 && nat_le number 255)
+may_begin (Reader number) (Event event) = false
+may_begin caller Reading = true
 
+-- what a caller holds that has just begun a call, which stands at this place among the calls
 abbrev pub held_at_begin : Call → ℕ → CallerState
-held_at_begin (Event e) call = Wanting call e
-held_at_begin Reading call = Within call (Collecting [])
+held_at_begin (Event event) place = Wanting place event
+held_at_begin Reading place = Within place (Collecting [])
 
--- the record of a call that has just begun
+-- the record of a call that has just begun, when the history had so many entries
 abbrev pub begun_call : Caller → Call → ℕ → CallRecord
-begun_call c call begun = record { caller = c; call = call; begun = begun; point = None; reply = None; ended = None }
+begun_call caller call begun = record { caller = caller; call = call; begun = begun; point = None; reply = None; ended = None }
 
+-- the state after this caller began this call: the call is added to the list of calls, and its caller holds it
 abbrev pub after_begin : Caller → Call → MachineState → MachineState
-after_begin c call state = with_held (held_at_begin call (length state.calls)) c
-    (record state { calls = state.calls ++ begun_call c call (length state.history) ∷ [] })
+after_begin caller call state = with_held (held_at_begin call (length state.calls)) caller
+    (record state { calls = state.calls ++ begun_call caller call (length state.history) ∷ [] })
 
--- the call has its reply, with this linearization point
+-- the state after a step in which this caller's call, at place `call` among the calls, has got its reply, with this linearization point
 abbrev pub after_reply : Caller → ℕ → ℕ → Reply → MachineState → MachineState
-after_reply c call point reply state = with_held (Answered call) c (record state { calls = change_at call (with_reply point reply) state.calls })
+after_reply caller call point reply state = with_held (Answered call) caller (record state { calls = change_at call (with_reply point reply) state.calls })
 
--- what comes of a step: the caller holds this in its call, or the call has its reply, with this linearization point
+-- the state after a step with this outcome in call `call`: its caller holds something new, or the call has its reply, with this point
 abbrev pub after_outcome : Caller → ℕ → ℕ → Outcome → MachineState → MachineState
-after_outcome c call point (GoesOn held) state = with_held (Within call held) c state
-after_outcome c call point (Answers reply) state = after_reply c call point reply state
+after_outcome caller call point (GoesOn held) state = with_held (Within call held) caller state
+after_outcome caller call point (Answers reply) state = after_reply caller call point reply state
 
--- a swap that is won: the new word takes the place of the one that was loaded, and the entry is added
+-- the state after a Swap that found the loaded word: the new word takes its place, and the entry of reporter `number` is added
 abbrev pub stored : ℕ → EventCall → ℕ → MachineState → MachineState
-stored r e new state = record state { words = slice_set state.words (e.game - 1) new; history = followed_by state.history (entry_of r e) }
+stored number event new state =
+    record state { words = slice_set state.words (event.game - 1) new; history = followed_by state.history (entry_of number event) }
 
--- The four steps on match words. The point of a report is the length of the history before its last step;
--- that of a reading, the length at the last load of its first collect.
+-- the state after a Look (a report's load) by reporter `number` in call `call`; a refusal gets the length of the history as its point
 abbrev pub state_after_look : ℕ → ℕ → EventCall → MachineState → MachineState
-state_after_look r call e state = after_outcome (Reporter r) call (length state.history) (looked r e (word_at state.words e.game)) state
+state_after_look number call event state =
+    after_outcome (Reporter number) call (length state.history) (looked number event (word_at state.words event.game)) state
 
+-- the state after a Swap of `old` for `new` by reporter `number` in call `call`; the length of the history becomes the call's point
 abbrev pub state_after_swap : ℕ → ℕ → EventCall → ℕ → ℕ → MachineState → MachineState
-state_after_swap r call e old new state = let found = word_at state.words e.game in
-    after_outcome (Reporter r) call (length state.history) (swapped old new found) (if found == old then stored r e new state else state)
+state_after_swap number call event old new state = let found = word_at state.words event.game in
+    after_outcome (Reporter number) call (length state.history) (swapped old new found) (if found == old then stored number event new state else state)
 
+-- the state after a First, which loads the next word of a reading's first collect, in call `call` of this caller, after these words
 abbrev pub state_after_first : Caller → ℕ → List ℕ → MachineState → MachineState
-state_after_first c call words state = let now = length state.history in
-    after_outcome c call now (loaded words (slice_index state.words (length words)) now) state
+state_after_first caller call words state = let now = length state.history in
+    after_outcome caller call now (loaded words (slice_index state.words (length words)) now) state
 
+-- the state after a Second, the next load of a reading's second collect, after `checked` equal words; `point` was set at the first's end
 abbrev pub state_after_second : Caller → ℕ → List ℕ → ℕ → ℕ → MachineState → MachineState
-state_after_second c call words checked point state =
-    after_outcome c call point (compared words checked point (slice_index state.words checked)) state
+state_after_second caller call words checked point state =
+    after_outcome caller call point (compared words checked point (slice_index state.words checked)) state
 
--- End: the length of the history is the call's end.
+-- the state after this caller ended its call, at place `call` among the calls: the caller is idle, and the call's record has its end
 abbrev pub after_end : Caller → ℕ → MachineState → MachineState
-after_end c call state = with_held Idle c (record state { calls = change_at call (with_end (length state.history)) state.calls })
+after_end caller call state = with_held Idle caller (record state { calls = change_at call (with_end (length state.history)) state.calls })
 
--- the state after a step, by what its caller holds; None where the step is not enabled
+-- the state after a step whose caller holds this; None if the step is not enabled: the caller holds something else, or may not take it
 abbrev pub after_step_holding : Step → Option CallerState → MachineState → Option MachineState
-after_step_holding (Begin c call) (Some Idle) state = if may_begin c call then Some (after_begin c call state) else None
-after_step_holding (Look (Reporter r)) (Some (Wanting call e)) state = Some (state_after_look r call e state)
-after_step_holding (Swap (Reporter r)) (Some (Within call (Holding e old new))) state = Some (state_after_swap r call e old new state)
-after_step_holding (First c) (Some (Within call (Collecting words))) state = Some (state_after_first c call words state)
-after_step_holding (Second c) (Some (Within call (Checking words checked point))) state = Some (state_after_second c call words checked point state)
-after_step_holding (End c) (Some (Answered call)) state = Some (after_end c call state)
+after_step_holding (Begin caller call) (Some Idle) state = if may_begin caller call then Some (after_begin caller call state) else None
+after_step_holding (Look (Reporter number)) (Some (Wanting call event)) state = Some (state_after_look number call event state)
+after_step_holding (Swap (Reporter number)) (Some (Within call (Holding event old new))) state = Some (state_after_swap number call event old new state)
+after_step_holding (First caller) (Some (Within call (Collecting words))) state = Some (state_after_first caller call words state)
+after_step_holding (Second caller) (Some (Within call (Checking words checked point))) state =
+    Some (state_after_second caller call words checked point state)
+after_step_holding (End caller) (Some (Answered call)) state = Some (after_end caller call state)
 after_step_holding _ _ state = None
 
+-- the caller that takes a step
 abbrev pub caller_of : Step → Caller
-caller_of (Begin c call) = c
-caller_of (Look c) = c
-caller_of (Swap c) = c
-caller_of (First c) = c
-caller_of (Second c) = c
-caller_of (End c) = c
+caller_of (Begin caller call) = caller
+caller_of (Look caller) = caller
+caller_of (Swap caller) = caller
+caller_of (First caller) = caller
+caller_of (Second caller) = caller
+caller_of (End caller) = caller
 
--- the state after a step, None where the step is not enabled
+-- the state after a step, None if the step is not enabled
 abbrev pub after_step : MachineState → Step → Option MachineState
 after_step state step = after_step_holding step (held_by state.callers (caller_of step)) state
 
+-- a step is enabled in this state: it may be taken there
 abbrev pub IsEnabled : MachineState → Step → Type 0
 IsEnabled state step = IsSome (after_step state step)
 
--- the state after the steps, None where one of them is not enabled
+-- the state after a list of steps, None if one of them is not enabled
 abbrev pub after_steps : List Step → MachineState → Option MachineState
 after_steps [] state = Some state
 after_steps (step ∷ steps) state = option_and_then (after_steps steps) (after_step state step)

@@ -1,6 +1,6 @@
--- The protocol: what a caller holds between two steps on match words, and what comes of each step.
--- That is one function of what was held and of the word that the step finds. The machine takes these steps for all its callers,
--- and a pass of a board for its own calls.
+-- The snapshot protocol: what a caller holds between two steps on match words (the 64-bit words of the matches), and what comes of each
+-- step. A report loads its match's word (Look), then exchanges it for the next one (Swap). A reading loads the twelve words (First), loads
+-- them again (Second), and begins anew at the first that differs. `found` is the word that a step finds.
 use Rattle.std.specs.Prelude.{ℕ, ◌+◌, ◌==◌, if◌then◌else◌, List, [], ◌∷◌, ◌++◌, length, Option, Some, None, Result, Ok, Err, slice_index}
 use Rattle.ucl_word.specs.declared.event.EventCall.{EventCall}
 use Rattle.ucl_word.specs.declared.event.Accepted as event
@@ -16,60 +16,60 @@ use Rattle.ucl_steps.specs.declared.step.Call.TheVariants.{Event, Reading}
 use Rattle.ucl_steps.specs.declared.trace.Reply.{Reply}
 use Rattle.ucl_steps.specs.declared.trace.Reply.TheVariants.{Accepted, Refused, Copied}
 
--- Nothing: no call is under way. Holding: the word that a report loaded, and the one that is to take its place.
--- Collecting: the words of the first collect so far. Checking: all twelve, how many of them the second collect
--- has found again, and how many entries there were at the last load of the first.
+-- What a caller holds between two steps on match words. NoCall: nothing, since no call is under way. Holding: the event of a report, the
+-- word that it loaded, and the one that is to take its place. Collecting: the words that a reading's first collect has loaded so far.
+-- Checking: all twelve, how many the second collect has found again, and how many entries there were at the twelfth load of the first.
 pub data Pending : Type 0 where
   NoCall : Pending
   Holding : (e : EventCall) (old new : ℕ) → Pending
   Collecting : (words : List ℕ) → Pending
   Checking : (words : List ℕ) (checked point : ℕ) → Pending
 
--- the answer of a report, as a reply
+-- the reply to a report: accepted or refused, as the rules answer its event
 abbrev pub report_reply : Result event.Accepted Refusal → Reply
 report_reply (Ok accepted) = Accepted accepted
 report_reply (Err refusal) = Refused refusal
 
--- what comes of a step: the call goes on, and this is held; or the call has its reply
+-- what comes of a step: the call goes on and its caller holds this, or the call has this reply
 pub data Outcome : Type 0 where
   GoesOn : (held : Pending) → Outcome
   Answers : (reply : Reply) → Outcome
 
--- Look: where the rules refuse the event, the refusal is the reply; else the word is held, and the one that is
--- to take its place.
+-- what comes of a Look of the reporter with this number, by whether the rules refuse the event: a refusal is the reply; else the caller
+-- holds the word found and the one that is to take its place
 abbrev pub by_rules : ℕ → EventCall → ℕ → Option Refusal → Outcome
-by_rules number e found (Some refusal) = Answers (Refused refusal)
-by_rules number e found None = GoesOn (Holding e found (word_of (after (record_at found) number e.kind)))
+by_rules number event found (Some refusal) = Answers (Refused refusal)
+by_rules number event found None = GoesOn (Holding event found (word_of (after (record_at found) number event.kind)))
 
+-- what comes of a Look, the load of a report, by the reporter with this number, if it finds this word: a refusal, or what is to be swapped
 abbrev pub looked : ℕ → EventCall → ℕ → Outcome
-looked number e found = by_rules number e found (refusal_of (record_at found) e.expected e.kind)
+looked number event found = by_rules number event found (refusal_of (record_at found) event.expected event.kind)
 
--- Swap, one compare and exchange: where the word that was loaded is still there, the new one takes its place, and
--- the event is accepted, with the number of the new word; else it is stale, with the number of the word that is there.
+-- what comes of a Swap, the compare and exchange of a report: if it finds the old word, which the Look loaded, the event is accepted with
+-- the number of the new word; else the event is stale, with the number of the word found
 abbrev pub swapped : ℕ → ℕ → ℕ → Outcome
 swapped old new found = Answers (if found == old
     then Accepted (record { number = (record_at new).number })
     else Refused (Stale (record_at found).number))
 
--- First: one word more of the first collect; with the twelfth, how many entries there are is noted, and the
--- second collect begins.
+-- what a reading holds that has loaded these words in its first collect: after the twelfth the second collect begins, and the number
+-- of entries at that load, `now`, is kept as the reading's linearization point
 abbrev pub collected : List ℕ → ℕ → Pending
 collected words now = if length words == 12 then Checking words 0 now else Collecting words
 
+-- what comes of a First, which loads the next word of a reading's first collect after these; the history has `now` entries then
 abbrev pub loaded : List ℕ → ℕ → ℕ → Outcome
 loaded words found now = GoesOn (collected (words ++ found ∷ []) now)
 
--- Second: where the word is that of the first collect, the next one is to be compared, and with the twelfth the
--- words are the reply, with their version; else the reading begins anew.
+-- what comes of a Second, a load of a reading's second collect, after `checked` equal words: if it finds the word of the first collect,
+-- the next word comes, and after the twelfth the words are the reply, with their version; else the reading begins anew
 abbrev pub compared : List ℕ → ℕ → ℕ → ℕ → Outcome
 compared words checked point found =
     if found == slice_index words checked
-    then (if checked == 11
-    then Answers (Copied (reading_of words))
-    else GoesOn (Checking words (checked + 1) point))
+    then (if checked == 11 then Answers (Copied (reading_of words)) else GoesOn (Checking words (checked + 1) point))
     else GoesOn (Collecting [])
 
--- only a reporter enters events, of matches that there are
+-- a pass with this number (0 for a reader) may make this call: a reporter may enter events of matches 1 to 12, and every pass may read
 abbrev pub MayAsk : ℕ → Call → Type 0
-MayAsk number (Event e) = IsReporter number × IsMatch e.game
+MayAsk number (Event event) = IsReporter number × IsMatch event.game
 MayAsk number Reading = Unit {0}

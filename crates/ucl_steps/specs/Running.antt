@@ -1,4 +1,5 @@
--- What the program's machine stands for.
+-- How a value of the program's struct `Machine` stands for a state of the machine as defined in Machine.antt: the snapshot protocol, with a
+-- cast of reporters and readers as callers. What a caller holds is what it keeps of its call between two steps.
 use Rattle.std.specs.Prelude.{◌≡◌, Bool, List, map, take, Some, None, MatchBool}
 use Rattle.ucl_steps.specs.declared.step.Cast.{Cast}
 use Rattle.ucl_steps.specs.declared.step.Step.{Step}
@@ -8,26 +9,28 @@ use Rattle.ucl_steps.specs.declared.machine.Machine.{Machine}
 use Rattle.ucl_steps.specs.Protocol.{Holding, Collecting, Checking}
 use Rattle.ucl_steps.specs.Machine.{CallerState, Idle, Wanting, Within, Answered, MachineState, initial_state, after_step, after_steps}
 
+-- what a caller holds, from the program's value for it; of that value's twelve words in a first collect only the first `loaded` count
 abbrev pub holds_of : Pending → CallerState
 holds_of has.Idle = Idle
-holds_of (has.Wanting call e) = Wanting call e
-holds_of (has.Holding call e old new) = Within call (Holding e old new)
+holds_of (has.Wanting call event) = Wanting call event
+holds_of (has.Holding call event old new) = Within call (Holding event old new)
 holds_of (has.Collecting call words loaded) = Within call (Collecting (take loaded words))
 holds_of (has.Checking call words checked point) = Within call (Checking words checked point)
 holds_of (has.Answered call) = Answered call
 
+-- the state, as the machine is defined, that a value of the program's struct `Machine` stands for
 abbrev pub state_of : Machine → MachineState
-state_of m = record {
-  words = m.words;
-  history = m.history.items;
-  calls = m.calls.items;
-  callers = record { reporters = map holds_of m.reporters.items; readers = map holds_of m.readers.items };
+state_of machine = record {
+  words = machine.words;
+  history = machine.history.items;
+  calls = machine.calls.items;
+  callers = record { reporters = map holds_of machine.reporters.items; readers = map holds_of machine.readers.items };
 }
 
--- some steps of some cast lead to this state
+-- from the start, with some cast, some list of enabled steps leads to this state
 abbrev pub IsReachable : MachineState → Type 0
 IsReachable state = (cast : Cast) × (steps : List Step) × (after_steps steps (initial_state cast) ≡ Some state)
 
--- the step was taken from the old state to the new one, or it is not enabled
+-- if `taken` is true, the step leads from the state `old` to the state `new`; if it is false, the step is not enabled in `old`
 abbrev pub Takes : MachineState → Step → Bool → MachineState → Type 0
 Takes old step taken new = MatchBool taken (after_step old step ≡ Some new) (after_step old step ≡ None)

@@ -1,4 +1,7 @@
--- What holds of every run of the machine.
+-- Theorems of every run of the machine (the snapshot protocol), and of the accesses of a call: its loads and exchanges of match words. A
+-- reading tries to load all words twice; if it finds another word the second time, the try was unclean, and the next begins. The history is
+-- the list of entries, the accepted events; accesses follow it if each found the word that its match had then. `low` and `high` are lengths
+-- of the history before a call and after it, and `at` is that at an access.
 use Rattle.std.specs.Prelude.{◌≡◌, ℕ, ◌+◌, ◌*◌, ◌<◌, ◌≤◌, List, length, take, Some, Result, slice_get}
 use Rattle.std.specs.List.{AllByRecursion}
 use Rattle.ucl_word.specs.declared.event.EventCall.{EventCall}
@@ -14,23 +17,24 @@ use Rattle.ucl_steps.specs.Linearizable.{IsLinearizable}
 use Rattle.ucl_board.specs.Log.{Access}
 use Rattle.ucl_steps.specs.Trails.{Follows, ReportAccesses, decided_at, max_tries, max_loads, IsUnclean, accesses_of, ReadingAccesses}
 
--- for every list of steps of any reporters and readers, cut anywhere, its history explains every call
+-- every list of enabled steps of any reporters and readers, cut off anywhere, is linearizable: its history explains its calls
 abbrev pub RunsAreLinearizable : Type 0
 RunsAreLinearizable = (cast : Cast) (steps : List Step) (state : MachineState) → after_steps steps (initial_state cast) ≡ Some state → IsLinearizable steps state.history state.calls
 
--- the match words are those of the board of the history
+-- after every list of enabled steps the match words are those of the board of the history
 abbrev pub WordsAreOfTheHistory : Type 0
 WordsAreOfTheHistory = (cast : Cast) (steps : List Step) (state : MachineState) → after_steps steps (initial_state cast) ≡ Some state → state.words ≡ board_of state.history
 
--- the last Second of an unclean try is at a longer history than the First of its match
+-- the last access of an unclean try, which found another word, comes when the history is longer than at the first load of that match
 abbrev pub UncleanTriesSeeMore : Type 0
 UncleanTriesSeeMore = (history : List Entry) (low high : ℕ) (ms : List Access) → Follows history low ms high → (try : IsUnclean ms) (first : Access) → slice_get try.firsts (length try.broken.equal) ≡ Some first → first.at < try.broken.last.at
 
--- so there are no more unclean tries than entries came
+-- if the accesses of unclean tries follow a history, there are no more tries than entries that came from `low` to `high`
 abbrev pub UncleanTriesAreFew : Type 0
 UncleanTriesAreFew = (history : List Entry) (low high : ℕ) (tries : List (List Access)) → Follows history low (accesses_of tries) high → AllByRecursion IsUnclean tries → low + length tries ≤ high
 
--- the reading is the board of the first entries, as many as its version says, and was had by few steps
+-- a reading with these accesses is the board after the first entries of the history, as many as its version says, which is from `low` to
+-- `high`; it had no more unclean tries than entries came meanwhile, at least 24 loads, at most 24 for each try, and no more than max_loads
 pub record IsReadFrom (history : List Entry) (low high : ℕ) (reading : Reading) (ms : List Access) (accesses : ReadingAccesses reading ms) : Type 0 where
   pub snapshot : reading ≡ snapshot_at history reading.version
   pub within : (low ≤ reading.version) × (reading.version ≤ high)
@@ -38,11 +42,11 @@ pub record IsReadFrom (history : List Entry) (low high : ℕ) (reading : Reading
   pub steps : (24 ≤ length ms) × (length ms ≤ 24 * (length accesses.tries + 1))
   pub bound : (length accesses.tries < max_tries) × (length ms ≤ max_loads)
 
--- what the accesses of a reading show
+-- each reading whose accesses follow a legal history is the board after the first entries of it, within the bounds that IsReadFrom says
 abbrev pub ReadingsAreSnapshots : Type 0
 ReadingsAreSnapshots = (history : List Entry) (low high : ℕ) (reading : Reading) (ms : List Access) → IsLegal history → high ≤ length history → Follows history low ms high → (accesses : ReadingAccesses reading ms) → IsReadFrom history low high reading ms accesses
 
--- the reply that the accesses of a report show is that of the board of one thread
+-- if a report's accesses follow a legal history, its reply is that of the board of one thread after the entries when it was decided
 abbrev pub ReportsAreSequential : Type 0
 ReportsAreSequential = (history : List Entry) (low high now : ℕ) (call : EventCall) (reply : Result Accepted Refusal) (ms : List Access) → IsLegal history → Follows history low ms high → ReportAccesses call reply ms now
     → sequential_reply (take (decided_at reply now) history) call ≡ reply

@@ -1,4 +1,7 @@
--- What a pass remembers of its steps on match words, and which accesses each call leaves.
+-- The trail of a pass, a thread's permission on a shared board: its accesses, the loads and exchanges of match words, oldest first; and
+-- which accesses each call leaves in it. A report loads its match's word (Look) and exchanges it (Swap). A reading tries to load all twelve
+-- words twice (First, then Second). An access has the word that it found, its place among all steps on the board, and `at`, the length of
+-- the history just before it; the history is the list of entries, the accepted events.
 use Rattle.std.specs.Prelude.{◌≡◌, ◌≢◌, ℕ, ◌+◌, ◌-◌, ◌*◌, ◌<◌, ◌≤◌, ◌⊎◌, List, [], ◌∷◌, ◌++◌, take, length, Some, Result, Ok, Err, IsOk, slice_get, slice_index}
 use Rattle.std.specs.List.{AllByRecursion}
 use Rattle.ucl_word.specs.declared.event.EventCall.{EventCall}
@@ -13,35 +16,35 @@ use Rattle.ucl_board.specs.Words.{max_version}
 use Rattle.ucl_board.specs.History.{match_after}
 use Rattle.ucl_board.specs.Log.{AccessKind, Look, Swap, First, Second, Access, access}
 
+-- an access is of this kind, on the word of this match
 abbrev pub Does : AccessKind → ℕ → Access → Type 0
-Does kind game m = (m.kind ≡ kind) × (m.game ≡ game)
+Does kind game step = (step.kind ≡ kind) × (step.game ≡ game)
 
--- the word that the step found is that of its match after the first entries of the history, as many as there were
+-- the word that an access found is that of its match after the entries that the history had then
 abbrev pub IsFoundIn : List Entry → Access → Type 0
-IsFoundIn history m = m.found ≡ word_of (match_after (take m.at history) m.game)
+IsFoundIn history step = step.found ≡ word_of (match_after (take step.at history) step.game)
 
--- along the accesses the places never fall, from the first bound to the second, and each word is that of its match at its place
+-- accesses follow a history from length low of it to length high: the lengths `at` never fall, and each found the word that was there
 abbrev pub Follows : List Entry → ℕ → List Access → ℕ → Type 0
 Follows history low [] high = low ≤ high
-Follows history low (m ∷ ms) high = (low ≤ m.at) × IsFoundIn history m × Follows history m.at ms high
+Follows history low (step ∷ steps) high = (low ≤ step.at) × IsFoundIn history step × Follows history step.at steps high
 
--- a report's accesses, `now` entries having been seen after it
-
--- one Look, on whose word the rules refuse: that refusal is the reply
+-- the accesses of a report that was refused at its Look: this alone, which found a word on which the rules refuse the event with this
+-- refusal, when there were `now` entries
 pub record LookRefused (call : EventCall) (refusal : Refusal) (ms : List Access) (now : ℕ) : Type 0 where
   pub looked : ℕ
   pub place : ℕ
   pub accesses : ms ≡ access (Look call) call.game looked place now ∷ []
   pub answer : reply_of (record_at looked) call ≡ Err refusal
 
--- a Look, on whose word the rules accept, and a Swap that stored nothing
+-- a report's Look, on whose word `looked` the rules accept the event, and its Swap, which found `found` at `now` entries and stored nothing
 pub record StoredNothing (call : EventCall) (looked found : ℕ) (ms : List Access) (now : ℕ) : Type 0 where
   pub at : ℕ
   pub places : ℕ × ℕ
   pub accesses : ms ≡ access (Look call) call.game looked places.0 at ∷ access Swap call.game found places.1 now ∷ []
   pub may : IsOk (reply_of (record_at looked) call)
 
--- a Swap that found another word than the Look: the reply is stale, with the number of the word that it found
+-- a report whose Swap found another word than its Look: it is refused as stale, with the number of the word that the Swap found
 pub record SwapMissed (call : EventCall) (refusal : Refusal) (ms : List Access) (now : ℕ) : Type 0 where
   pub looked : ℕ
   pub found : ℕ
@@ -49,8 +52,7 @@ pub record SwapMissed (call : EventCall) (refusal : Refusal) (ms : List Access) 
   pub other : found ≢ looked
   pub answer : refusal ≡ Stale (record_at found).number
 
--- a Look, on whose word the rules accept, and a Swap that found the same word: the event is accepted, and its
--- entry is the last that was seen
+-- a report whose Swap found the word of its Look: its event, which the rules accept there, is accepted, and its entry is the last of `now`
 pub record SwapWon (call : EventCall) (reply : Accepted) (ms : List Access) (now : ℕ) : Type 0 where
   pub looked : ℕ
   pub at : ℕ
@@ -60,31 +62,29 @@ pub record SwapWon (call : EventCall) (reply : Accepted) (ms : List Access) (now
   pub answer : reply_of (record_at looked) call ≡ Ok reply
   pub last : before + 1 ≡ now
 
+-- a report with this reply left these accesses (its Swap won, its Look was refused, or its Swap missed), and there are `now` entries then
 abbrev pub ReportAccesses : EventCall → Result Accepted Refusal → List Access → ℕ → Type 0
 ReportAccesses call (Ok reply) ms now = SwapWon call reply ms now
 ReportAccesses call (Err refusal) ms now = LookRefused call refusal ms now ⊎ SwapMissed call refusal ms now
 
--- how many entries there were when the reply was decided: an accepted event's own entry came then
+-- how many entries there were when the reply to a report was decided, by how many its pass had then seen: an accepted event adds one
 abbrev pub decided_at : Result Accepted Refusal → ℕ → ℕ
 decided_at (Ok reply) now = now - 1
 decided_at (Err refusal) now = now
 
--- a reading's accesses
-
--- the most tries of a reading: each that is not clean has seen a longer history, and no history is longer than the
--- greatest version
+-- the most tries of a reading: each but the last sees the history grow, and no history is longer than the greatest version
 abbrev pub max_tries : ℕ
 max_tries = max_version + 1
 
--- the most loads of a reading: 24 of each try
+-- the most loads of a reading: 24 for each try
 abbrev pub max_loads : ℕ
 max_loads = 24 * max_tries
 
--- the matches 1, 2 and so on, with these words, by accesses of one kind
+-- the accesses are a collect, or the beginning of one: all of this kind, to matches 1, 2 and so on, where they found these words in turn
 abbrev pub IsCollect : AccessKind → List ℕ → List Access → Type 0
-IsCollect kind words ms = (k : ℕ) (m : Access) → slice_get ms k ≡ Some m → Does kind (k + 1) m × (m.found ≡ slice_index words k)
+IsCollect kind words steps = (k : ℕ) (step : Access) → slice_get steps k ≡ Some step → Does kind (k + 1) step × (step.found ≡ slice_index words k)
 
--- Seconds that found the words again, and one that did not
+-- the accesses of a second collect that broke off: Seconds that found the first collect's words again, and a last one that did not
 pub record IsBroken (words : List ℕ) (ms : List Access) : Type 0 where
   pub equal : List Access
   pub last : Access
@@ -94,7 +94,7 @@ pub record IsBroken (words : List ℕ) (ms : List Access) : Type 0 where
   pub kind : Does Second (length equal + 1) last
   pub differs : last.found ≢ slice_index words (length equal)
 
--- a try whose last Second differs from its First, and all before were equal
+-- the accesses of an unclean try of a reading: twelve Firsts, and Seconds of which the last alone found another word
 pub record IsUnclean (ms : List Access) : Type 0 where
   pub words : List ℕ
   pub firsts : List Access
@@ -104,8 +104,8 @@ pub record IsUnclean (ms : List Access) : Type 0 where
   pub collected : IsCollect First words firsts
   pub broken : IsBroken words seconds
 
--- a try with twelve equal Seconds: the board is that of the words of its Firsts, and the version is the place of
--- the twelfth First
+-- the accesses of the clean try of a reading: twelve Firsts, and twelve Seconds that found the same words. The board is these words, and
+-- the version is the length of the history at the twelfth First
 pub record IsClean (reading : Reading) (ms : List Access) : Type 0 where
   pub firsts : List Access
   pub seconds : List Access
@@ -115,12 +115,12 @@ pub record IsClean (reading : Reading) (ms : List Access) : Type 0 where
   pub again : IsCollect Second reading.board seconds
   pub version : (m : Access) → slice_get firsts 11 ≡ Some m → m.at ≡ reading.version
 
--- the accesses of tries, one try after the other
+-- the accesses of several tries, one try after the other
 abbrev pub accesses_of : List (List Access) → List Access
 accesses_of [] = []
-accesses_of (ms ∷ tries) = ms ++ accesses_of tries
+accesses_of (try ∷ tries) = try ++ accesses_of tries
 
--- tries, of which only the last is clean
+-- a reading left these accesses: those of its tries, one after the other, of which only the last is clean
 pub record ReadingAccesses (reading : Reading) (ms : List Access) : Type 0 where
   pub tries : List (List Access)
   pub last : List Access

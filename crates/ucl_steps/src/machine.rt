@@ -1,4 +1,7 @@
-//! The machine: a board of twelve words, and callers that take one step at a time.
+//! The machine, the snapshot protocol: a board of twelve match words, each a match packed into a `u64`, and callers (a cast of reporters
+//! and readers) that take one step at a time. A report loads its match's word and exchanges it. A reading loads all words twice: its first
+//! collect, and a second one that is to find the same words. The history is the list of accepted events; places in time are lengths of it.
+//! A step is enabled if it may be taken.
 
 ghost use Rattle.std.specs.Prelude.{◌≡◌, ◌<◌, [], length, IfOk, IsSome};
 ghost use Rattle.std.specs.Option.{option_map};
@@ -14,44 +17,44 @@ use std::alloc::{AllocError, Global};
 use ucl_board::{Board, Entry, Reading};
 use ucl_word::{Accepted, EventCall, Refusal, next_word, number_of};
 
-/// What a caller holds between two of its steps. `call` is the place of its call among the calls.
+/// What a caller holds between two of its steps. `call` is the place of its call in the machine's list of calls.
 #[derive(Clone, Copy)]
 enum Pending {
-    /// No call.
+    /// The caller has no call.
     Idle,
-    /// An event to enter.
+    /// The caller has begun a report of this event.
     Wanting {
         call: usize,
         event: EventCall,
     },
-    /// The word that it loaded for an event, and the one that is to take its place.
+    /// A report has loaded the word `old` of its match, and `new` is to take its place.
     Holding {
         call: usize,
         event: EventCall,
         old: u64,
         new: u64,
     },
-    /// The first words of a first collect.
+    /// A reading has loaded the first `loaded` words of its first collect.
     Collecting {
         call: usize,
         words: [u64; 12],
         loaded: usize,
     },
-    /// A first collect with the length of the history at its last load, and how many of its words were found again.
+    /// A reading has loaded all twelve words, the last when the history had `point` entries, and has found `checked` of them again.
     Checking {
         call: usize,
         words: [u64; 12],
         checked: usize,
         point: u16,
     },
-    /// A call that has its reply.
+    /// The call has its reply, and has not ended.
     Answered {
         call: usize,
     },
 }
 
 impl Pending {
-    /// Returns what the caller of a reading holds that has loaded no word.
+    /// Returns what a caller holds whose reading, the call at place `call` in the list of calls, has loaded no word yet.
     fn collecting(call: usize) -> Pending
         ensures { holds_of result ≡ Within call (Collecting []) }
     {
@@ -63,7 +66,8 @@ impl Pending {
     }
 }
 
-/// The match words, the history, the calls, and what each caller holds.
+/// The machine between two steps: the match words, the history, the calls, and what each reporter and each reader holds, in the order of
+/// their numbers.
 #[derive(Drop)]
 pub(crate) struct Machine {
     words: [u64; 12],
@@ -74,7 +78,7 @@ pub(crate) struct Machine {
 }
 
 impl Machine {
-    /// Creates the fresh board, with idle callers.
+    /// Creates the machine before any step, with a fresh board and the idle callers of the cast, or returns an error if out of memory.
     pub(crate) fn new(alloc: Global, cast: &Cast) -> Result<Machine, AllocError>
         ensures { IfOk result (λ machine. state_of machine ≡ initial_state cast.now) }
     {
@@ -89,7 +93,7 @@ impl Machine {
         })
     }
 
-    /// Returns what the steps have left.
+    /// Returns what a run leaves: the machine's history, its list of calls, and the match words after the last step.
     pub(crate) fn into_trace(self) -> Trace
         ensures { IsLeftBy (state_of self) result }
     {
@@ -107,7 +111,7 @@ impl Machine {
         }
     }
 
-    /// Takes the step, or answers false if it is not enabled.
+    /// Takes the step and returns true, or changes nothing and returns false if it is not enabled. Returns an error if out of memory.
     pub(crate) fn take(&mut self, step: &Step) -> Result<bool, AllocError>
         requires { IsReachable (state_of self.old) }
         ensures { IfOk result
@@ -123,7 +127,8 @@ impl Machine {
         }
     }
 
-    /// Begins a call of an idle caller.
+    /// Takes the step `Begin`: an idle caller begins a call, if it may. Returns false if the step is not enabled, and an error if out of
+    /// memory.
     fn begin(&mut self, caller: Caller, call: Call) -> Result<bool, AllocError>
         requires { IsReachable (state_of self.old) }
         ensures { IfOk result
@@ -157,7 +162,8 @@ impl Machine {
         Ok(true)
     }
 
-    /// Loads the word of a reporter's match. The rules refuse the event, or say which word is to come next.
+    /// Takes the step `Look`: a reporter loads the word of its match, and the rules refuse the event or say which word is to come next.
+    /// Returns false if the step is not enabled.
     fn look(&mut self, caller: Caller) -> bool
         requires { IsReachable (state_of self.old) }
         ensures { Takes (state_of self.old) (Look caller) result (state_of self.new) }
@@ -185,7 +191,8 @@ impl Machine {
         true
     }
 
-    /// Exchanges the word that a reporter loaded for the next one, if the word is still there.
+    /// Takes the step `Swap`: exchanges the word that a reporter loaded for the next one, if the word is still there, and refuses the event
+    /// as stale if it is not. Returns false if the step is not enabled, and an error if out of memory.
     fn swap(&mut self, caller: Caller) -> Result<bool, AllocError>
         requires { IsReachable (state_of self.old) }
         ensures { IfOk result
@@ -221,8 +228,8 @@ impl Machine {
         Ok(true)
     }
 
-    /// Loads the next word of a reading's first collect. The last of these loads is its linearization point, if the
-    /// second collect finds the same words.
+    /// Takes the step `First`: loads the next word of a reading's first collect. The twelfth load is the reading's linearization point, if
+    /// the second collect finds the same words. Returns false if the step is not enabled.
     fn first(&mut self, caller: Caller) -> bool
         requires { IsReachable (state_of self.old) }
         ensures { Takes (state_of self.old) (First caller) result (state_of self.new) }
@@ -258,8 +265,8 @@ impl Machine {
         true
     }
 
-    /// Loads the next word of a reading's second collect: it begins anew where the word differs from the first
-    /// collect, and has its reply where all twelve are the same.
+    /// Takes the step `Second`: loads the next word of a reading's second collect. The reading begins anew if the word differs from that of
+    /// the first collect, and has its reply once all twelve are the same. Returns false if the step is not enabled.
     fn second(&mut self, caller: Caller) -> bool
         requires { IsReachable (state_of self.old) }
         ensures { Takes (state_of self.old) (Second caller) result (state_of self.new) }
@@ -293,7 +300,7 @@ impl Machine {
         true
     }
 
-    /// Ends the call of a caller that has its reply.
+    /// Takes the step `End`: ends the call of a caller that has its reply. Returns false if the step is not enabled.
     fn end(&mut self, caller: Caller) -> bool
         requires { IsReachable (state_of self.old) }
         ensures { Takes (state_of self.old) (End caller) result (state_of self.new) }
@@ -309,7 +316,7 @@ impl Machine {
         true
     }
 
-    /// Returns what the caller holds, if there is such a caller.
+    /// Returns what a caller holds between two of its steps, or `None` if the cast has no such caller.
     fn held(&self, caller: &Caller) -> Option<Pending>
         ensures { option_map holds_of result ≡ held_by (state_of self.now).callers caller.now }
     {
@@ -332,7 +339,7 @@ impl Machine {
         }
     }
 
-    /// Sets what the caller holds.
+    /// Sets what a caller of the cast holds between two of its steps.
     fn hold(&mut self, caller: Caller, next: Pending)
         requires { IsSome (held_by (state_of self.old).callers caller) }
         ensures { state_of self.new ≡ with_held (holds_of next) caller (state_of self.old) }
@@ -343,7 +350,7 @@ impl Machine {
         }
     }
 
-    /// Sets the reply of a call, at this point of the history.
+    /// Sets the reply and the linearization point of the call at place `call`, and marks its caller as answered.
     fn reply(&mut self, caller: Caller, call: usize, point: u16, reply: Reply)
         requires held { IsSome (held_by (state_of self.old).callers caller) }
         requires call { call < length (state_of self.old).calls }
@@ -356,7 +363,7 @@ impl Machine {
         self.hold(caller, Pending::Answered { call });
     }
 
-    /// Returns the point in time that is now: the length of the history.
+    /// Returns the length of the history, which is the present place in time.
     fn now(&self) -> u16
         requires { IsReachable (state_of self.now) }
         ensures { result ≡ length (state_of self.now).history }

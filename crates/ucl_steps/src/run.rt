@@ -1,4 +1,5 @@
-//! The run of a list of steps.
+//! The call that runs a list of steps on the machine, the snapshot protocol: reporters and readers, as many as a cast says, take one step
+//! at a time. The history is the list of accepted events, and a step is enabled if its caller may take it then.
 
 ghost use Rattle.std.specs.Prelude.{◌≡◌, ℕ, IfOk, Err};
 ghost use Rattle.ucl_board.specs.History.{board_of};
@@ -11,10 +12,13 @@ use crate::step::{Cast, Step};
 use crate::trace::{StepFault, Trace};
 use std::alloc::Global;
 
-/// Takes the steps one after another, from the fresh board and idle callers, and answers the trace that they leave.
+/// Takes the steps one after another, from a fresh board and idle callers, and returns the trace that they leave: the history, the calls
+/// and the match words.
 ///
-/// Where a step is not enabled, the answer is `NotEnabled` with the first such step. If an allocation was refused, it
-/// is `OutOfMemory`, which may come in place of either. An error leaves nothing.
+/// # Errors
+///
+/// Returns `NotEnabled` with the place of the first step that is not enabled, and `OutOfMemory` if an allocation was refused, which may
+/// come in place of a trace or of `NotEnabled`.
 pub fn run_steps(alloc: Global, cast: &Cast, steps: &[Step]) -> Result<Trace, StepFault>
     ensures trace { IfOk result (IsTraceOf cast.now steps.now) }
     ensures not_enabled { (at : ℕ) → result ≡ Err (NotEnabled at)

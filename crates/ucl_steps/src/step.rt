@@ -1,8 +1,9 @@
-//! Who takes part, and the steps that each can take.
+//! Who takes part in a run of the machine, which is the snapshot protocol of the shared board, and the steps that each can take. A match
+//! word is a match packed into a `u64`; a reading collects, that is loads, the twelve match words twice.
 
 use ucl_word::{EventCall, ReporterNo};
 
-/// Who takes part: reporters 1 to `reporters`, and readers 1 to `readers`.
+/// The callers of a run: reporters 1 to `reporters`, and readers 1 to `readers`.
 #[derive(Clone, Copy, Debug, PartialEq, Eq)]
 pub struct Cast {
     /// How many reporters there are, 0 to 255.
@@ -11,7 +12,7 @@ pub struct Cast {
     pub readers: u16,
 }
 
-/// Who takes a step. A caller that the cast does not have can take none.
+/// Who takes a step of a run. A caller that the run's `Cast` does not have can take none.
 #[derive(Clone, Copy, Debug, PartialEq, Eq)]
 pub enum Caller {
     /// The reporter with this number. Reporters enter events, and read.
@@ -20,31 +21,28 @@ pub enum Caller {
     Reader(u16),
 }
 
-/// What a call asks.
+/// What a caller asks of the board.
 #[derive(Clone, Copy, Debug, PartialEq, Eq)]
 pub enum Call {
-    /// To enter an event. Only a reporter may.
+    /// To enter this event. Only a reporter may ask it.
     Event(EventCall),
-    /// To read the board.
+    /// To read the board. Reporters and readers may ask it.
     Reading,
 }
 
-/// A step of a caller. `Look`, `Swap`, `First` and `Second` are atomic steps on one match word; `Begin` and `End` touch
-/// none.
+/// A step of a caller. `Look`, `Swap`, `First` and `Second` are atomic steps on one match word; `Begin` and `End` touch none.
 #[derive(Clone, Copy, Debug, PartialEq, Eq)]
 pub enum Step {
     /// An idle caller begins a call.
     Begin(Caller, Call),
-    /// A reporter that wants to enter an event loads the word of its match. Where the rules refuse the event, that is
-    /// the reply.
+    /// A reporter that wants to enter an event loads the word of its match. If the rules refuse the event, that is the reply.
     Look(Caller),
-    /// A reporter that has looked exchanges the word that it loaded for the next one, if the word is still there. If it
-    /// is not, the reply is that the event is stale.
+    /// A reporter that has looked exchanges the word that it loaded for the next one, if the word is still there. If it is not, the reply
+    /// is that the event is stale.
     Swap(Caller),
     /// A reading loads the next word of its first collect, from match 1 to match 12.
     First(Caller),
-    /// A reading loads the next word of its second collect. Where the word differs from that of the first collect, the
-    /// reading begins anew.
+    /// A reading loads the next word of its second collect. If the word differs from that of the first collect, the reading begins anew.
     Second(Caller),
     /// A caller that has its reply ends its call.
     End(Caller),

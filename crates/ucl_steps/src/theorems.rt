@@ -1,4 +1,6 @@
-//! What holds of every list of steps. The functions do nothing: each is there for its contract.
+//! Theorems of every list of steps of the machine, the snapshot protocol, and of every log: the list of all steps that passes, the
+//! permissions of threads, took on a shared board. A log follows the protocol if each pass makes its reports and readings by the protocol's
+//! steps. The history is the list of entries, the accepted events. The functions do nothing: each is there for its contract.
 
 ghost use Rattle.ucl_board.specs.Log.{Log, IsLog, IsLegalRule, LogFacts};
 ghost use Rattle.ucl_steps.specs.ClientState.{FollowsProtocol, IsNextOfProtocol};
@@ -6,65 +8,65 @@ ghost use Rattle.ucl_steps.specs.Theorems.{RunsAreLinearizable, WordsAreOfTheHis
 ghost use Rattle.ucl_steps.specs.LogHistory.{LogsAreLinearizable};
 ghost use Rattle.ucl_steps.specs.LogRuns.{LogsAreRuns, LongerLogsAreLongerRuns};
 
-/// Whatever steps the callers take, in whatever order, and wherever the list is cut: one legal history of the board of
-/// one thread holds each finished call once, with the reply that it got, between its invocation and its response; each
-/// reading is the board after a prefix of that history, and the versions that one caller reads never fall
-/// (linearizability: Herlihy and Wing).
+/// States that every list of enabled steps of the machine, in any order and cut anywhere, is linearizable (Herlihy and Wing): one legal
+/// history of the board of one thread holds each finished call once, with the reply that it got, between its invocation and its response.
+/// Each reading is the board after a prefix of that history, and the versions that one caller reads never fall.
 pub fn runs_are_linearizable()
     ensures { RunsAreLinearizable }
 {}
 
-/// After every list of steps the match words are those of the board of the history.
+/// States that after every list of enabled steps the match words are those of the board of the history.
 #[tactic(auto, using(crate::proofs::Runs::words_of_run))]
 pub fn words_are_of_the_history()
     ensures { WordsAreOfTheHistory }
 {}
 
-/// Where the second collect of a reading finds another word, the history has grown since the first collect loaded that
-/// match.
+/// States that, if the second collect of a reading finds another word, the history has grown since its first collect loaded that match.
 #[tactic(auto, using(crate::proofs::Accesses::broken_later))]
 pub fn unclean_tries_see_more()
     ensures { UncleanTriesSeeMore }
 {}
 
-/// A reading begins anew no more often than entries come meanwhile.
+/// States that a reading begins anew no more often than entries come meanwhile.
 #[tactic(auto, using(crate::proofs::Accesses::tries_few))]
 pub fn unclean_tries_are_few()
     ensures { UncleanTriesAreFew }
 {}
 
-/// A reading answers the board after the first entries of the history, as many as its version says: those that there were
-/// when the first collect of its last try loaded the twelfth word. It takes at least 24 steps, at most 24 more for each time
-/// that it begins anew, and never more than 24 for each of the greatest number of tries.
+/// States that a reading is the board after the first entries of the history, as many as its version says: those that there were when the
+/// first collect of its last try loaded the twelfth word. It takes at least 24 steps, at most 24 more for each time that it begins anew,
+/// and never more than 24 times `max_tries`, which is one more than the greatest version that any board can have.
 pub fn readings_are_snapshots()
     ensures { ReadingsAreSnapshots }
 {}
 
-/// What a report answers by its one or two steps is the reply of the board of one thread, to the entries that there were
-/// at its last step.
+/// States that the reply to a report, which takes one or two steps, is that of the board of one thread after the entries that there were
+/// just before its last step.
 #[tactic(auto, using(crate::proofs::Accesses::report_whole))]
 pub fn reports_are_sequential()
     ensures { ReportsAreSequential }
 {}
 
-/// Every log of steps that are the protocol's, in whatever order their passes took them: its history is legal and holds each finished
-/// call of each pass once, with the reply of the board of one thread at its point, which is not before its first step and not after
-/// its last; the calls of a pass come one after another; and where one call ended before another began, it comes before it
-/// (linearizability: Herlihy and Wing).
+/// States that every log that follows the protocol, in whatever order passes took its steps, is linearizable (Herlihy and Wing): its
+/// history is legal, and each finished call has a linearization point, not before its first step nor after its last, at which its reply is
+/// that of the board of one thread. Each entry is of exactly one accepted report. If a call ended before another began, its point comes first.
 pub fn logs_are_linearizable()
     ensures { LogsAreLinearizable }
 {}
 
-/// The numbers that a log gave are those from 1 to the number of the enlisted, which is at most 255, each to one pass; and the entries of
-/// a number are those that its pass added. Each step of such a log is a legal one.
+/// States that a log that follows the protocol gave its reporters the numbers from 1 to how many are enlisted, at most 255, each to one
+/// pass, and that the entries with a number are those that its pass added. Each step of such a log keeps the history legal, and gives a
+/// number only to a pass without one.
 pub fn logs_have_facts()
     ensures facts { (log : Log) → IsLog log → FollowsProtocol log → LogFacts log }
     ensures legal { IsLegalRule IsNextOfProtocol }
 {}
 
-/// Every log that follows the protocol is a run of the machine: each of its steps on a match word is one step of the machine, by a caller of
-/// its pass, with the beginning of a call just before its first step and the end just after its last. The run leads to the history of the log
-/// and the words of its board; what each pass holds is what its callers there hold. A longer log is a longer run.
+/// States that every log that follows the protocol is a run of the machine: each of its steps on a match word is one step of the machine,
+/// by a caller that stands for its pass, with the beginning of a call just before its first step and the end just after its last. The run
+/// leads to the history of the log and the words of its board; what each pass holds is what its callers there hold. A longer log is a
+/// longer run.
+#[tactic(auto, using(crate::proofs::LogRuns::logs_run, crate::proofs::LogRuns::longer_logs))]
 pub fn logs_are_runs()
     ensures runs { LogsAreRuns }
     ensures longer { LongerLogsAreLongerRuns }

@@ -1,4 +1,5 @@
-//! What a list of steps leaves.
+//! What a list of steps of the machine, the snapshot protocol, leaves. The history is the list of accepted events; places in time are its
+//! lengths.
 
 ghost use Rattle.std.specs.Prelude.{◌≡◌};
 ghost use Rattle.ucl_steps.specs.declared.trace.StepFault.TheVariants.{OutOfMemory};
@@ -9,18 +10,18 @@ use thiserror::Error;
 use ucl_board::{Entry, Reading};
 use ucl_word::{Accepted, Refusal};
 
-/// The reply to a call.
+/// What the board replied to a call.
 #[derive(Clone, Copy, Debug, PartialEq, Eq)]
 pub enum Reply {
     /// The event was entered.
     Accepted(Accepted),
     /// The event was refused.
     Refused(Refusal),
-    /// The board was read.
+    /// The board was read, and this is the snapshot.
     Copied(Reading),
 }
 
-/// What became of a call. Places in time are lengths of the history.
+/// What became of a call in a run. Places in time are lengths of the history.
 #[derive(Clone, Copy, Debug, PartialEq, Eq)]
 pub struct CallRecord {
     /// Who called.
@@ -29,7 +30,7 @@ pub struct CallRecord {
     pub call: Call,
     /// The length of the history at the call's `Begin`.
     pub begun: u16,
-    /// The call's linearization point, once its reply is decided: the call takes place after so many entries.
+    /// The call's linearization point, once its reply is decided: the call takes effect after so many entries.
     pub point: Option<u16>,
     /// The reply, once it is decided.
     pub reply: Option<Reply>,
@@ -37,7 +38,7 @@ pub struct CallRecord {
     pub ended: Option<u16>,
 }
 
-/// What a list of steps leaves.
+/// What a list of steps leaves: the history, the calls and the match words.
 #[derive(Debug, Drop)]
 pub struct Trace {
     /// The entries of the accepted events, oldest first.
@@ -54,7 +55,7 @@ pub enum StepFault {
     /// 40: step `at`, counted from 0, is the first that is not enabled.
     #[error("step {at} is not enabled: 40")]
     NotEnabled { at: usize },
-    /// 23: memory was asked for, and there was none. It may come in place of a trace, or of 40.
+    /// 23: out of memory. It may come in place of a trace, or of 40.
     #[error("out of memory 23")]
     OutOfMemory,
 }

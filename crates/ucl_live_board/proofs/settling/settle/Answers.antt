@@ -1,6 +1,5 @@
 use Rattle.std.proofs.Common.{List, ◌∷◌, ◌++◌, ℕ, ap, ◌∙◌, arith, rules, []}
-use Rattle.ucl_live_board.proofs.Lists.{unchanged}
-use Rattle.ucl_live_board.proofs.SettledPasses.{through, settled, alone, of_both, strangers, differ, one_number}
+use Rattle.ucl_live_board.proofs.Lists.{unchanged, through, settled, alone, of_both, strangers, differ, one_number}
 use Rattle.ucl_live_board.proofs.settling.settle.Goals as goal
 use Rattle.ucl_live_board.proofs.settling.settle.Goals.{else-ne-via-then-ne+else-from-accepted, else-ne-via-else-ne}
 

@@ -1,0 +1,235 @@
+-- What a call is to the history that explains it, what is known of a call by what its caller holds, and which call made an entry.
+use Rattle.ucl_steps.proofs.Common.{IfSome, slice_get, Entry, board_of, entry_of, sequential_reply, Caller, Reporter, Call, Event, Reading, Reply, Accepted}
+use Rattle.ucl_steps.proofs.Common.{Refused, Copied, CallRecord, ◌≡◌, ℕ, ◌+◌, ◌<◌, ◌≤◌, List, take, length, Option, Some, None, sym, ap, ◌∙◌, arith, get_or}
+use Rattle.ucl_steps.proofs.Common.{le_refl, IsSome, IsPrefix, EventCall, refusal_of, after, word_of, record_at, match_after, at_beginning, begins_length}
+use Rattle.ucl_steps.proofs.Common.{take_beginning, NoCall, Holding, Collecting, Checking, CallerState, Idle, Wanting, Within, Answered, refl, subst, ◌↔◌}
+use Rattle.ucl_steps.proofs.Common.{false≢true, Refusal, snapshot_at, PointWithinCall, IsDecided, IsEntry, AcceptedIsEntry, IsRefused, RefusedAtPoint}
+use Rattle.ucl_steps.proofs.Common.{ReadingIsSnapshot, ◌≢◌, true, false, ◌∷◌, ◌++◌, inl, inr, [], IsSomeAnd, none-some, same_Some, map, slice_get-map}
+use Rattle.ucl_steps.proofs.Common.{cases_eq, length_push, at_longer, at_either, change_at, is_accepted, Makes, EntryHasOneCall}
+use Rattle.std.specs.Prelude.{Ok, Err}
+use Rattle.ucl_steps.proofs.Histories.{get-change_at, change_at_here, change_at_else, map_unseen}
+use Rattle.ucl_word.specs.declared.event.Accepted as word
+use Rattle.ucl_board.specs.declared.reading.Reading as board
+
+-- what the board of one thread replies to a call of this caller after the first k entries, and the entry that it makes
+abbrev pub IsSequential : List Entry → ℕ → Caller → Call → Reply → Type 0
+IsSequential history k (Reporter r) (Event e) (Accepted a) = (sequential_reply (take k history) e ≡ Ok a) × (slice_get history k ≡ Some (entry_of r e))
+IsSequential history k (Reporter r) (Event e) (Refused refusal) = sequential_reply (take k history) e ≡ Err refusal
+IsSequential history k c Reading (Copied reading) = (reading.board ≡ board_of (take k history)) × (reading.version ≡ k)
+IsSequential history k c call reply = ⊥
+
+-- the point of an accepted call is that of its entry, before the end
+abbrev pub LiesWithin : CallRecord → ℕ → Reply → ℕ → Type 0
+LiesWithin c k (Accepted a) len = (c.begun ≤ k) × (k < len) × IfSome c.ended (λ ended. k < ended)
+LiesWithin c k reply len = (c.begun ≤ k) × (k ≤ len) × IfSome c.ended (λ ended. k ≤ ended)
+
+-- the call has a reply at a point between its beginning and its end, and it is the sequential one; or it has neither, and goes on
+abbrev pub IsExplained : List Entry → CallRecord → Option ℕ → Option Reply → Type 0
+IsExplained history c (Some k) (Some reply) = LiesWithin c k reply (length history) × IsSequential history k c.caller c.call reply
+IsExplained history c None None = c.ended ≡ None
+IsExplained history c point reply = ⊥
+
+-- a reporter asks for an event of a match
+pub record Asks (a : CallRecord) (e : EventCall) : Type 0 where
+  pub call : a.call ≡ Event e
+  pub reporter : ℕ
+  pub caller : a.caller ≡ Reporter reporter
+  pub low : 1 ≤ reporter
+  pub high : reporter ≤ 255
+  pub game : (1 ≤ e.game) × (e.game ≤ 12)
+  pub point : a.point ≡ None
+  pub reply : a.reply ≡ None
+
+-- the word that it found there once, on which the rules accept
+pub record Offers (h : List Entry) (a : CallRecord) (e : EventCall) (old new : ℕ) : Type 0 where
+  pub asks : Asks a e
+  pub place : ℕ
+  pub within : place ≤ length h
+  pub found : old ≡ word_of (match_after (take place h) e.game)
+  pub accepted : refusal_of (record_at old) e.expected e.kind ≡ None
+  pub next : new ≡ word_of (after (record_at old) asks.reporter e.kind)
+
+-- each word was that of its match at a place, at the latest this one
+abbrev pub Loaded : List Entry → List ℕ → ℕ → Type 0
+Loaded h words latest = (i : ℕ) → i < length words → (p : ℕ) × (p ≤ latest) × (get_or words i 0 ≡ word_of (match_after (take p h) (i + 1)))
+
+-- the first n words are those at this place
+abbrev pub AreAt : List Entry → List ℕ → ℕ → ℕ → Type 0
+AreAt h words n point = (i : ℕ) → i < n → get_or words i 0 ≡ word_of (match_after (take point h) (i + 1))
+
+pub record Reads (a : CallRecord) : Type 0 where
+  pub call : a.call ≡ Reading
+  pub point : a.point ≡ None
+  pub reply : a.reply ≡ None
+
+pub record Collects (h : List Entry) (a : CallRecord) (words : List ℕ) : Type 0 where
+  pub reads : Reads a
+  pub few : length words < 12
+  pub loaded : Loaded h words (length h)
+
+pub record Checks (h : List Entry) (a : CallRecord) (words : List ℕ) (checked point : ℕ) : Type 0 where
+  pub reads : Reads a
+  pub twelve : length words ≡ 12
+  pub few : checked < 12
+  pub early : a.begun ≤ point
+  pub late : point ≤ length h
+  pub loaded : Loaded h words point
+  pub same : AreAt h words checked point
+
+abbrev pub in_call : CallerState → Option ℕ
+in_call Idle = None
+in_call (Wanting k e) = Some k
+in_call (Within k held) = Some k
+in_call (Answered k) = Some k
+
+abbrev pub Sees : List Entry → CallRecord → CallerState → Type 0
+Sees h a Idle = Unit {0}
+Sees h a (Wanting k e) = Asks a e
+Sees h a (Within k NoCall) = ⊥
+Sees h a (Within k (Holding e old new)) = Offers h a e old new
+Sees h a (Within k (Collecting words)) = Collects h a words
+Sees h a (Within k (Checking words checked point)) = Checks h a words checked point
+Sees h a (Answered k) = IsSome a.reply
+
+-- the caller is in this call, and what it holds says how far it is
+pub record Knows (h : List Entry) (calls : List CallRecord) (c : Caller) (x : CallerState) (k : ℕ) : Type 0 where
+  pub call : CallRecord
+  pub at : slice_get calls k ≡ Some call
+  pub caller : call.caller ≡ c
+  pub unended : call.ended ≡ None
+  pub sees : Sees h call x
+
+module _ (h h' : List Entry) (b : IsPrefix h h') where
+  moved_word : (words : List ℕ) (i k : ℕ) → k ≤ length h → get_or words i 0 ≡ word_of (match_after (take k h) (i + 1)) → get_or words i 0 ≡ word_of (match_after (take k h') (i + 1))
+  moved_word words i k l e = e ∙ ap (λ (z : List Entry). word_of (match_after z (i + 1))) (sym (take_beginning h h' k b l))
+
+  loaded_later : (words : List ℕ) (n m : ℕ) → n ≤ length h → n ≤ m → Loaded h words n → Loaded h' words m
+  loaded_later words n m l le f i few = let t = f i few in let p = t.1 in (t.0, omega arith, moved_word words i t.0 (omega arith) t.2)
+
+  pub sees_later : (a : CallRecord) (x : CallerState) → Sees h a x → Sees h' a x
+  sees_later a (Within k (Holding e old new)) s =
+      let long = begins_length h h' b in
+      let low = s.within in
+      let found = s.found ∙ ap (λ (z : List Entry). word_of (match_after z e.game)) (sym (take_beginning h h' s.place b s.within)) in
+      record { asks = s.asks; place = s.place; within = omega arith; found = found; accepted = s.accepted; next = s.next }
+  sees_later a (Within k (Collecting words)) s = record { reads = s.reads; few = s.few; loaded = loaded_later words (length h) (length h') (le_refl (length h)) (begins_length h h' b) s.loaded }
+  sees_later a (Within k (Checking words checked point)) s = search (arith, begins_length h h' b, loaded_later, le_refl, moved_word, s.late, s.reads, s.twelve, s.few, s.early, s.loaded, s.same)
+  sees_later a x s = search arith
+
+  pub sequential_later : (k : ℕ) (c : Caller) (call : Call) (r : Reply) → k ≤ length h → IsSequential h k c call r → IsSequential h' k c call r
+  sequential_later k c call r l s = search (arith, take_beginning, at_beginning)
+
+  within_later : (c : CallRecord) (k : ℕ) (r : Reply) → LiesWithin c k r (length h) → (k ≤ length h) × LiesWithin c k r (length h')
+  within_later c k r s = search (arith, begins_length)
+
+  explained_at : (c : CallRecord) (p : Option ℕ) (r : Option Reply) → IsExplained h c p r → IsExplained h' c p r
+  explained_at c p r s = search (arith, within_later, sequential_later)
+
+  pub explained_later : (c : CallRecord) → IsExplained h c c.point c.reply → IsExplained h' c c.point c.reply
+  explained_later c = explained_at c c.point c.reply
+
+if_below : (o : Option ℕ) (k : ℕ) → IfSome o (λ n. k < n) → IfSome o (λ n. k ≤ n)
+if_below o k l = search arith
+
+-- the parts of `PointWithinCall`, of any point and reply
+abbrev IsWithin : List Entry → CallRecord → Option ℕ → Option Reply → Type 0
+IsWithin history c point reply = (IsSome c.ended → IsSome reply) × (IsSome point ↔ IsSome reply) × IfSome point (λ k. (c.begun ≤ k) × (k ≤ length history) × IfSome c.ended (λ ended. k ≤ ended))
+
+within_parts : (history : List Entry) (c : CallRecord) (point : Option ℕ) (reply : Option Reply) → IsExplained history c point reply → IsWithin history c point reply
+within_parts history c point reply s = search (arith, if_below, false≢true)
+
+module _ (history : List Entry) (c : CallRecord) (explained : IsExplained history c c.point c.reply) where
+  pub point_within : PointWithinCall history c
+  point_within = let w = within_parts history c c.point c.reply explained in record { replied = w.0; pointed = w.1; within = w.2 }
+
+  pub decided : (k : ℕ) (reply : Reply) → IsDecided c k reply → IsExplained history c (Some k) (Some reply)
+  decided k reply is = subst (λ (p : Option ℕ). IsExplained history c p (Some reply)) is.0 (subst (λ (r : Option Reply). IsExplained history c c.point r) is.1 explained)
+
+  entry_of_reporter : (k : ℕ) (a : word.Accepted) (caller : Caller) (call : Call) → c.caller ≡ caller → c.call ≡ call → IfSome c.ended (λ ended. k < ended)
+      → IsSequential history k caller call (Accepted a) → IsEntry history c k a
+  entry_of_reporter k a caller call is_caller is_call before s = search arith
+
+  pub accepted_entry : AcceptedIsEntry history c
+  accepted_entry k a is = let s = decided k (Accepted a) is in entry_of_reporter k a c.caller c.call refl refl s.0.2 s.1
+
+  refused_event : (k : ℕ) (refusal : Refusal) (caller : Caller) (call : Call) → c.call ≡ call → IsSequential history k caller call (Refused refusal) → IsRefused history c k refusal
+  refused_event k refusal caller call is_call s = search arith
+
+  pub refused_there : RefusedAtPoint history c
+  refused_there k refusal is = refused_event k refusal c.caller c.call refl (decided k (Refused refusal) is).1
+
+  snapshot : (k : ℕ) (reading : board.Reading) → reading.board ≡ board_of (take k history) → reading.version ≡ k → reading ≡ snapshot_at history k
+  snapshot k reading same is = ap (λ (z : List ℕ). record { board = z; version = reading.version }) same ∙ ap (λ (z : ℕ). record { board = board_of (take k history); version = z }) is
+
+  copied : (k : ℕ) (reading : board.Reading) (caller : Caller) (call : Call) → c.call ≡ call → IsSequential history k caller call (Copied reading)
+      → (c.call ≡ Reading) × (reading ≡ snapshot_at history k)
+  copied k reading caller call is_call s = search (arith, snapshot)
+
+  pub reading_snapshot : ReadingIsSnapshot history c
+  reading_snapshot k reading is = copied k reading c.caller c.call refl (decided k (Copied reading) is).1
+
+pub and_some : {A : Type 0} (o : Option A) (P : A → Type 0) → IsSomeAnd o P → (x : A) × (o ≡ Some x) × P x
+and_some o P p = search arith
+
+pub some_and : {A : Type 0} (o : Option A) (P : A → Type 0) (x : A) → o ≡ Some x → P x → IsSomeAnd o P
+some_and {A = A} o P x e p = subst (λ (z : Option A). IsSomeAnd z P) (sym e) p
+
+abbrev IsMaker : ℕ → CallRecord → Type 0
+IsMaker m c = (is_accepted c.reply ≡ true) × (c.point ≡ Some m)
+
+abbrev pub decision : CallRecord → Option Reply × Option ℕ
+decision c = (c.reply, c.point)
+
+made_alike : (xs ys : List CallRecord) (i m : ℕ) → map decision xs ≡ map decision ys → Makes xs i m → Makes ys i m
+made_alike xs ys i m same made = search (arith, and_some, slice_get-map decision xs i, slice_get-map decision ys i, some_and)
+
+once_same : (h : List Entry) (xs ys : List CallRecord) → ((i m : ℕ) → Makes xs i m → Makes ys i m) → ((i m : ℕ) → Makes ys i m → Makes xs i m) → EntryHasOneCall h xs → EntryHasOneCall h ys
+once_same h xs ys to from once m l = let t = once m l in (t.0, to t.0 m t.1, λ j made. t.2 j (from j m made))
+
+undecided : (c : CallRecord) (m : ℕ) → c.reply ≡ None → IsMaker m c → ⊥
+undecided c m none made = false≢true (ap is_accepted (sym none) ∙ made.0)
+
+module _ (xs : List CallRecord) (k : ℕ) (f : CallRecord → CallRecord) where
+  made_else : (i m : ℕ) → i ≢ k → Makes (change_at k f xs) i m → Makes xs i m
+  made_else i m not made = search (arith, and_some, get-change_at, some_and)
+
+  else_made : (i m : ℕ) → i ≢ k → Makes xs i m → Makes (change_at k f xs) i m
+  else_made i m not made = search (arith, and_some, some_and, change_at_else)
+
+  -- a call that keeps its reply and its point
+  pub once_kept : (h : List Entry) → ((c : CallRecord) → decision (f c) ≡ decision c) → EntryHasOneCall h xs → EntryHasOneCall h (change_at k f xs)
+  once_kept h same = let all = map_unseen decision k f same xs in
+      once_same h xs (change_at k f xs) (λ i m. made_alike xs (change_at k f xs) i m (sym all)) (λ i m. made_alike (change_at k f xs) xs i m all)
+
+  module _ (a : CallRecord) (here : slice_get xs k ≡ Some a) (none : a.reply ≡ None) where
+    not_made : (i m : ℕ) → Makes xs i m → i ≢ k
+    not_made i m made is = search (arith, and_some, undecided, same_Some)
+
+    -- a call that is not accepted now
+    pub once_refused : (h : List Entry) → is_accepted (f a).reply ≡ false → EntryHasOneCall h xs → EntryHasOneCall h (change_at k f xs)
+    once_refused h other = once_same h xs (change_at k f xs) (λ i m made. else_made i m (not_made i m made) made)
+        (λ i m made. search (arith, cases_eq, and_some, change_at_here, same_Some, false≢true, made_else))
+
+    -- the call that made the new entry
+    pub once_accepted : (h : List Entry) (e : Entry) → is_accepted (f a).reply ≡ true → (f a).point ≡ Some (length h) → ((i m : ℕ) → Makes xs i m → m < length h) → EntryHasOneCall h xs
+        → EntryHasOneCall (h ++ e ∷ []) (change_at k f xs)
+    once_accepted h e made_it point below once m l = let long = length_push h e in elim (cases_eq m (length h)) [
+      | inl is ↦
+          let made = some_and (slice_get (change_at k f xs) k) (IsMaker m) (f a) (change_at_here k f xs a here) (made_it, point ∙ ap Some (sym is)) in
+          (k, made, λ j other. search (arith, cases_eq j k, below j m, made_else j m))
+      | inr not-last ↦
+          let t = once m (omega arith) in
+          (t.0, else_made t.0 m (not_made t.0 m t.1) t.1, λ j made. search (arith, cases_eq j k, t.2 j, made_else j m, and_some, change_at_here, same_Some))
+    ]
+
+-- a call that begins
+pub once_begun : (h : List Entry) (xs : List CallRecord) (new : CallRecord) → new.reply ≡ None → EntryHasOneCall h xs → EntryHasOneCall h (xs ++ new ∷ [])
+once_begun h xs new none = once_same h xs (xs ++ new ∷ [])
+    (λ i m made. let t = and_some (slice_get xs i) (IsMaker m) made in some_and (slice_get (xs ++ new ∷ []) i) (IsMaker m) t.0 (at_longer xs (new ∷ []) i t.0 t.1) t.2)
+    (λ i m made. search (arith, and_some, at_either, some_and, undecided))
+
+accepted_within : (h : List Entry) (c : CallRecord) (p : Option ℕ) (r : Option Reply) (m : ℕ) → IsExplained h c p r → is_accepted r ≡ true → p ≡ Some m → m < length h
+accepted_within h c p r m s made is = search (arith, same_Some, false≢true, none-some)
+
+pub made_within : (h : List Entry) (xs : List CallRecord) → ((i : ℕ) (a : CallRecord) → slice_get xs i ≡ Some a → IsExplained h a a.point a.reply) → (i m : ℕ) → Makes xs i m → m < length h
+made_within h xs each i m made = let t = and_some (slice_get xs i) (IsMaker m) made in accepted_within h t.0 t.0.point t.0.reply m (each i t.0 t.1) t.2.0 t.2.1

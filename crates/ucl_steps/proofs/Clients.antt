@@ -1,0 +1,391 @@
+-- The passes of a log, one step more: their numbers, the entries that their steps add, and their calls, which come one after another.
+use Rattle.ucl_steps.proofs.Common.{◌≡◌, ◌≢◌, inl, inr, ℕ, ◌+◌, ◌<◌, ◌≤◌, ◌==◌, Bool, true, false, cond, List, ◌∷◌, ◌++◌, length, take, Option, Some, None}
+use Rattle.ucl_steps.proofs.Common.{refl, sym, ap, ◌∙◌, subst, arith, [], le_refl, length-append, cases_eq, length_push, slice_get, slice_index, none-some}
+use Rattle.ucl_steps.proofs.Common.{false≢true, same_Some, take-append-le, take-append-drop, take-take, take-length, at_below, at_longer, at_end, at_either}
+use Rattle.ucl_steps.proofs.Common.{begins_length, IsPrefix, Entry, EventCall, Refusal, Stale, refusal_of, record_at, entry_of, reading_of, IsLegal}
+use Rattle.ucl_steps.proofs.Common.{MayFollow, Reply, Accepted, Refused, Copied, Pending, NoCall, Holding, Collecting, Checking, Outcome, GoesOn, Answers}
+use Rattle.ucl_steps.proofs.Common.{by_rules, drop}
+use Rattle.std.specs.List.{fold}
+use Rattle.std.proofs.lemmas.List.Sums.{fold-append}
+use Rattle.ucl_word.proofs.Sequences.{may_induction, may_begin, may_last}
+use Rattle.ucl_board.specs.Log.{Enlisted, Enlists, First, IsLog, Log, Logged, Look, Match, MayBeTaken, Second, Swap, Taken, Target, Whole, entry_list}
+use Rattle.ucl_board.specs.Log.{history_of, taken_by, enlisted_by, number_by, number_of, MayAdd, MayEnlist, LogFacts}
+use Rattle.ucl_board.proofs.Logs.{history_append, history_more, history_same, taken_own, taken_other}
+use Rattle.ucl_steps.specs.ClientState.{FinishedCall, ClientState, FollowsProtocol, IsNextFor, IsNextOfProtocol, with_outcome, with_target, with_step}
+use Rattle.ucl_steps.specs.ClientState.{call_answered, client_at, client_of, entry_by, first_place, new_client, outcome, point_of}
+use Rattle.ucl_steps.specs.LogHistory.{MadeBy, accepts, entries_before}
+
+-- one step more
+
+pub client_own : (log : Log) (x : Logged) → client_at x.seat (log ++ x ∷ []) ≡ with_step (client_at x.seat log) x.step
+client_own log x = ap client_of (taken_own x.seat log x.step) ∙ fold-append with_step new_client (taken_by x.seat log) (x.step ∷ [])
+
+pub client_other : (log : Log) (x : Logged) (seat : ℕ) → x.seat ≢ seat → client_at seat (log ++ x ∷ []) ≡ client_at seat log
+client_other log x seat not = ap client_of (taken_other seat log x not)
+
+pub by_seat : (log : Log) (x : Logged) (P : ℕ → ClientState → Type 0) (d : ClientState) → with_step (client_at x.seat log) x.step ≡ d → P x.seat d
+    → ((seat : ℕ) → x.seat ≢ seat → P seat (client_at seat log)) → (seat : ℕ) → P seat (client_at seat (log ++ x ∷ []))
+by_seat log x P d is own other seat = elim (cases_eq x.seat seat) [
+  | inl same ↦ subst (λ (k : ℕ). P k (client_at k (log ++ x ∷ []))) same (subst (P x.seat) (sym (client_own log x ∙ is)) own)
+  | inr not ↦ subst (P seat) (sym (client_other log x seat not)) (other seat not)
+]
+
+-- how many entries there were
+
+pub entries_low : (log : Log) (place : ℕ) → entries_before log place ≤ length (history_of log)
+entries_low log place =
+    let e = ap (λ (l : Log). length (history_of l)) (sym (take-append-drop place log))
+    ∙ (ap length (history_append (take place log) (drop place log))
+    ∙ length-append (history_of (take place log)) (history_of (drop place log))) in
+    omega arith
+
+pub entries_same : (log more : Log) (place : ℕ) → place ≤ length log → entries_before (log ++ more) place ≡ entries_before log place
+entries_same log more place le = ap (λ (l : Log). length (history_of l)) (take-append-le place log more le)
+
+pub entries_rise : (log : Log) (p q : ℕ) → p ≤ q → entries_before log p ≤ entries_before log q
+entries_rise log p q le =
+    let e : take p (take q log) ≡ take p log = take-take p q log le in
+    let low = entries_low (take q log) p in
+    let same = ap (λ (l : Log). length (history_of l)) e in
+    omega arith
+
+pub entries_all : (log : Log) → entries_before log (length log) ≡ length (history_of log)
+entries_all log = ap (λ (l : Log). length (history_of l)) (take-length log)
+
+-- what is added where
+pub look_none : (h : Pending) (number game found : ℕ) (e : EventCall) → entry_by number h (Match (Look e) game found) ≡ None
+look_none h number game found e = search arith
+
+pub first_none : (h : Pending) (number game found : ℕ) → entry_by number h (Match First game found) ≡ None
+first_none h number game found = search arith
+
+pub second_none : (h : Pending) (number game found : ℕ) → entry_by number h (Match Second game found) ≡ None
+second_none h number game found = search arith
+
+pub count_none : (h : Pending) (number found : ℕ) → entry_by number h (Enlisted found) ≡ None
+count_none h number found = search arith
+
+pub enlist_none : (h : Pending) (number found : ℕ) → entry_by number h (Enlists found) ≡ None
+enlist_none h number found = search arith
+
+-- the number of a pass is the one that its steps gave it
+
+outcome_number : (o : Outcome) (y : Taken) (d : ClientState) → (with_outcome o y d).number ≡ d.number
+outcome_number o y d = search arith
+
+pub number_after : (target : Target) (y : Taken) (d : ClientState) → (with_target target y d).number ≡ number_by target d.number
+number_after target y d = search (arith, outcome_number)
+
+number_from : (d : ClientState) (n : ℕ) → d.number ≡ n → (steps : List Taken)
+    → (fold with_step d steps).number ≡ fold (λ (number : ℕ) (x : Taken). number_by x.target number) n steps
+number_from d n is [] = is
+number_from d n is (x ∷ steps) = number_from (with_step d x) (number_by x.target n) (number_after x.target x d ∙ ap (number_by x.target) is) steps
+
+pub client_number : (steps : List Taken) → (client_of steps).number ≡ number_of steps
+client_number steps = number_from new_client 0 refl steps
+
+pub numbers_low : (log : Log) → LogFacts log → (seat : ℕ) → (client_at seat log).number ≤ enlisted_by log
+numbers_low log facts seat = let low = facts.low seat in let is = client_number (taken_by seat log) in omega arith
+
+pub numbers_apart : (log : Log) → LogFacts log → (i j : ℕ) → 0 < (client_at i log).number → (client_at i log).number ≡ (client_at j log).number → i ≡ j
+numbers_apart log facts i j pos same = let n = client_number (taken_by i log) in let m = client_number (taken_by j log) in facts.apart i j (omega arith) (omega arith)
+
+-- each step is legal
+
+abbrev pub EntryOf : ℕ → Option Entry → Type 0
+EntryOf number None = Unit {0}
+EntryOf number (Some e) = e.reporter ≡ number
+
+pub entry_is : (number : ℕ) (h : Pending) (target : Target) → EntryOf number (entry_by number h target)
+entry_is number (Holding e old new) (Match Swap game found) = by (found == old)
+  where
+    by : (b : Bool) → EntryOf number (cond b (Some (entry_of number e)) None)
+    by true = refl
+    by false = tt
+entry_is number h target = search arith
+
+pub may_add : (h : List Entry) (n number : ℕ) (o : Option Entry) → n ≡ number → IsLegal (h ++ entry_list o) → EntryOf n o → MayAdd h number o
+may_add h n number None same legal of = tt
+may_add h n number (Some e) same legal of = (may_last MayFollow h e legal, of ∙ same)
+
+pub may_enlist : (d : ClientState) (number : ℕ) (t : Target) (entry : Option Entry) → d.number ≡ number → IsNextFor d t → entry ≡ entry_by d.number d.held t → MayEnlist number t entry
+may_enlist d number t entry same next is = search (arith, enlist_none)
+
+-- what is held within a call
+
+pub holding : (e : EventCall) (old new : ℕ) → Holding e old new ≢ NoCall
+holding e old new is = cc
+
+pub collecting : (words : List ℕ) → Collecting words ≢ NoCall
+collecting words is = cc
+
+pub checking : (words : List ℕ) (checked point : ℕ) → Checking words checked point ≢ NoCall
+checking words checked point is = cc
+
+-- a step adds an entry exactly if it answers that an event is accepted
+
+abbrev AddsBy : Pending → ℕ → Option Entry → Outcome → Type 0
+AddsBy held now entry (Answers (Accepted accepted)) = ((e : Entry) × (entry ≡ Some e)) × (point_of held now ≡ now)
+AddsBy held now entry outcome = entry ≡ None
+
+adds_by : (number : ℕ) (h : Pending) (t : Target) (now : ℕ) → AddsBy h now (entry_by number h t) (outcome number h t now)
+adds_by number (Holding e old new) (Match Swap game found) now = by (found == old)
+  where
+    by : (b : Bool) → AddsBy (Holding e old new) now (cond b (Some (entry_of number e)) None)
+        (Answers (cond b (Accepted (record { number = (record_at new).number })) (Refused (Stale (record_at found).number))))
+    by true = ((entry_of number e, refl), refl)
+    by false = refl
+adds_by number h (Match (Look e) game found) now = by (refusal_of (record_at found) e.expected e.kind)
+  where
+    by : (o : Option Refusal) → AddsBy h now (entry_by number h (Match (Look e) game found)) (by_rules number e found o)
+    by o = search (arith, look_none)
+adds_by number (Checking words checked point) (Match Second game found) now = by (found == slice_index words checked) (checked == 11)
+  where
+    by : (a b : Bool) → AddsBy (Checking words checked point) now None
+        (cond a (cond b (Answers (Copied (reading_of words))) (GoesOn (Checking words (checked + 1) point))) (GoesOn (Collecting [])))
+    by a b = search arith
+adds_by number h t now = search arith
+
+-- the point that a reading noted comes after its first step
+
+abbrev Noted : Log → ℕ → Pending → Type 0
+Noted log first (Checking words checked point) = (entries_before log first ≤ point) × (point ≤ length (history_of log))
+Noted log first held = Unit {0}
+
+abbrev NotedBy : Log → ℕ → Outcome → Type 0
+NotedBy log first (GoesOn held) = Noted log first held
+NotedBy log first (Answers reply) = Unit {0}
+
+noted_by : (log : Log) (first place number now : ℕ) (h : Pending) (t : Target) → entries_before log (first_place h first place) ≤ now
+    → now ≤ length (history_of log) → Noted log first h → NotedBy log (first_place h first place) (outcome number h t now)
+noted_by log first place number now h t low high s = search arith
+
+-- where a call begins and what its point is, by what is held
+
+first_after : (h : Pending) (first place last : ℕ) → last < place → (h ≢ NoCall → last < first) → last < first_place h first place
+first_after h first place last now was = search (arith, holding, collecting, checking)
+
+first_low : (h : Pending) (first place : ℕ) → (h ≢ NoCall → first < place) → first_place h first place ≤ place
+first_low h first place was = search (arith, le_refl, holding, collecting, checking)
+
+point_within : (log : Log) (h : Pending) (first place now : ℕ) → now ≡ length (history_of log) → Noted log first h
+    → (entries_before log (first_place h first place) ≤ point_of h now) × (point_of h now ≤ now)
+point_within log h first place now is s = search (arith, entries_low, le_refl)
+
+-- the last step of a call is of its pass, and its point comes between its first step and its last
+pub record IsTimed (log : Log) (seat : ℕ) (c : FinishedCall) : Type 0 where
+  step : Logged
+  there : slice_get log c.last ≡ Some step
+  own : step.seat ≡ seat
+  pub first : c.first ≤ c.last
+  pub within : (entries_before log c.first ≤ c.point) × (c.point ≤ entries_before log c.last)
+  pub by_end : accepts c.reply ≡ true → (c.point ≡ entries_before log c.last) × (c.point < entries_before log (c.last + 1))
+
+-- the finished calls of a pass come one after another, and before the one under way
+pub record InTurn (log : Log) (seat : ℕ) (d : ClientState) : Type 0 where
+  pub timed : (k : ℕ) (a : FinishedCall) → slice_get d.calls k ≡ Some a → IsTimed log seat a
+  pub turns : (k l : ℕ) (a b : FinishedCall) → slice_get d.calls k ≡ Some a → slice_get d.calls l ≡ Some b → k < l → a.last < b.first
+  pub under : d.held ≢ NoCall → (d.first < length log) × ((k : ℕ) (a : FinishedCall) → slice_get d.calls k ≡ Some a → a.last < d.first)
+  noted : Noted log d.first d.held
+
+-- an entry is of a call
+pub record IsMade (log : Log) (place : ℕ) : Type 0 where
+  pub seat : ℕ
+  pub call : ℕ
+  pub by : MadeBy log place seat call
+
+pub record AllInTurn (log : Log) : Type 0 where
+  pub turn : (seat : ℕ) → InTurn log seat (client_at seat log)
+  pub made : (place : ℕ) → place < length (history_of log) → IsMade log place
+
+-- the step in which a call ended is one of the log
+pub last_below : (log : Log) (seat : ℕ) (c : FinishedCall) → IsTimed log seat c → c.last < length log
+last_below log seat c t = at_below log c.last t.step t.there
+
+-- two calls that end with one step are of one pass
+pub one_seat : (log : Log) (i j : ℕ) (a b : FinishedCall) → IsTimed log i a → IsTimed log j b → a.last ≡ b.last → i ≡ j
+one_seat log i j a b s t is =
+    let same : s.step ≡ t.step = same_Some s.step t.step (sym s.there ∙ (ap (slice_get log) is ∙ t.there)) in
+    sym s.own ∙ (ap (λ (y : Logged). y.seat) same ∙ t.own)
+
+module _ (log : Log) (x : Logged) where
+  pub begins : IsPrefix (history_of log) (history_of (log ++ x ∷ []))
+  begins = (entry_list x.step.entry, sym (history_more log x))
+
+  grown : (e : Entry) → x.step.entry ≡ Some e → length (history_of (log ++ x ∷ [])) ≡ length (history_of log) + 1
+  grown e is = ap length (history_more log x ∙ ap (λ (o : Option Entry). history_of log ++ entry_list o) is) ∙ length_push (history_of log) e
+
+  timed_later : (seat : ℕ) (c : FinishedCall) → IsTimed log seat c → IsTimed (log ++ x ∷ []) seat c
+  timed_later seat c t =
+      let below = last_below log seat c t in
+      let first = t.first in
+      let low = t.within.0 in
+      let high = t.within.1 in
+      let same_first = entries_same log (x ∷ []) c.first (omega arith) in
+      let same_last = entries_same log (x ∷ []) c.last (omega arith) in
+      let same_end = entries_same log (x ∷ []) (c.last + 1) (omega arith) in
+      record {
+        step = t.step;
+        there = at_longer log (x ∷ []) c.last t.step t.there;
+        own = t.own;
+        first = t.first;
+        within = (omega arith, omega arith);
+        by_end = λ made. let at = (t.by_end made).0 in let end = (t.by_end made).1 in (omega arith, omega arith);
+      }
+
+  noted_later : (first : ℕ) (h : Pending) → (h ≢ NoCall → first < length log) → Noted log first h → Noted (log ++ x ∷ []) first h
+  noted_later first h low s = search (arith, checking, entries_same log (x ∷ []) first, begins_length (history_of log) (history_of (log ++ x ∷ [])) begins)
+
+  turn_later : (seat : ℕ) (d : ClientState) → InTurn log seat d → InTurn (log ++ x ∷ []) seat d
+  turn_later seat d t = record {
+    timed = λ k a at. timed_later seat a (t.timed k a at);
+    turns = t.turns;
+    under = λ some. let low = (t.under some).0 in let long = length_push log x in (omega arith, (t.under some).1);
+    noted = noted_later d.first d.held (λ some. (t.under some).0) t.noted;
+  }
+
+  -- a step of one seat
+  module _ (place_is : x.step.place ≡ length log) (at_is : x.step.at ≡ length (history_of log)) (d : ClientState) (t : InTurn log x.seat d) where
+    abbrev log' : Log
+    log' = log ++ x ∷ []
+
+    first_is : first_place d.held d.first x.step.place ≤ x.step.place
+    first_is = first_low d.held d.first x.step.place (λ some. let low = (t.under some).0 in omega arith)
+
+    after_all : (k : ℕ) (a : FinishedCall) → slice_get d.calls k ≡ Some a → a.last < first_place d.held d.first x.step.place
+    after_all k a at = let below = last_below log x.seat a (t.timed k a at) in
+        first_after d.held d.first x.step.place a.last (omega arith) (λ some. (t.under some).1 k a at)
+
+    added : (reply : Reply) → AddsBy d.held x.step.at x.step.entry (Answers reply) → accepts reply ≡ true
+        → ((e : Entry) × (x.step.entry ≡ Some e)) × (point_of d.held x.step.at ≡ x.step.at)
+    added (Accepted accepted) adds made = adds
+    added reply adds made = absurd (false≢true made)
+
+    timed_now : (reply : Reply) → AddsBy d.held x.step.at x.step.entry (Answers reply) → IsTimed (log ++ x ∷ []) x.seat (call_answered reply x.step d)
+    timed_now reply adds =
+        let first = first_place d.held d.first x.step.place in
+        let low = first_is in
+        let long = length_push log x in
+        let point = point_within log d.held d.first x.step.place x.step.at at_is t.noted in
+        let early = point.0 in
+        let late = point.1 in
+        let same = entries_same log (x ∷ []) first (omega arith) in
+        let now = entries_same log (x ∷ []) x.step.place (omega arith) ∙ (ap (entries_before log) place_is ∙ entries_all log) in
+        record {
+          step = x;
+          there = ap (slice_get (log ++ x ∷ [])) place_is ∙ at_end log x;
+          own = refl;
+          first = first_is;
+          within = (omega arith, omega arith);
+          by_end = λ made.
+              let t = added reply adds made in
+              let e = t.0 in
+              let is = t.1 in
+              let more = grown e.0 e.1 in
+              let end : x.step.place + 1 ≡ length (log ++ x ∷ []) = omega arith in
+              let all = ap (entries_before (log ++ x ∷ [])) end ∙ entries_all (log ++ x ∷ []) in
+              (omega arith, omega arith);
+        }
+
+    outcome_in_turn : (o : Outcome) → NotedBy (log ++ x ∷ []) (first_place d.held d.first x.step.place) o → AddsBy d.held x.step.at x.step.entry o
+        → InTurn (log ++ x ∷ []) x.seat (with_outcome o x.step d)
+    outcome_in_turn (GoesOn held) noted adds =
+        let low = first_is in
+        let long = length_push log x in
+        record { timed = λ k a at. timed_later x.seat a (t.timed k a at); turns = t.turns; under = λ _. (omega arith, after_all); noted = noted }
+    outcome_in_turn (Answers reply) noted adds =
+        let c = call_answered reply x.step d in
+        record {
+          timed = λ k a at. elim (at_either d.calls c k a at) [
+            | inl u ↦ timed_later x.seat a (t.timed k a u.1)
+            | inr u ↦ subst (IsTimed (log ++ x ∷ []) x.seat) u.1 (timed_now reply adds)
+          ];
+          turns = λ k l a b at bt less. elim (at_either d.calls c l b bt) [
+            | inl v ↦ elim (at_either d.calls c k a at) [ inl u ↦ t.turns k l a b u.1 v.1 less | inr u ↦ let e = u.0 in let low = v.0 in absurd (omega arith) ]
+            | inr v ↦ elim (at_either d.calls c k a at) [
+              | inl u ↦ subst (λ (z : FinishedCall). a.last < z.first) v.1 (after_all k a u.1)
+              | inr u ↦ let e = u.0 in let f = v.0 in absurd (omega arith)
+            ]
+          ];
+          under = λ some. absurd (some refl);
+          noted = tt;
+        }
+
+    -- what the pass has done then, and which call made the entry that came
+    abbrev Then : ClientState → Type 0
+    Then y = InTurn (log ++ x ∷ []) x.seat y × ((e : Entry) → x.step.entry ≡ Some e
+        → (c : FinishedCall) × (slice_get y.calls (length d.calls) ≡ Some c) × (accepts c.reply ≡ true) × (c.point ≡ length (history_of log)))
+
+    made_by : (o : Outcome) → AddsBy d.held x.step.at x.step.entry o → (e : Entry) → x.step.entry ≡ Some e
+        → (c : FinishedCall) × (slice_get (with_outcome o x.step d).calls (length d.calls) ≡ Some c) × (accepts c.reply ≡ true) × (c.point ≡ length (history_of log))
+    made_by (Answers (Accepted accepted)) adds e is = let c = call_answered (Accepted accepted) x.step d in (c, at_end d.calls c, refl, adds.1 ∙ at_is)
+    made_by o adds e is = absurd (none-some e (sym adds ∙ is))
+
+    by_outcome : (target : Target) → x.step.entry ≡ entry_by d.number d.held target → Then (with_outcome (outcome d.number d.held target x.step.at) x.step d)
+    by_outcome target is =
+        let o = outcome d.number d.held target x.step.at in
+        let low = first_is in
+        let first = first_place d.held d.first x.step.place in
+        let same = entries_same log (x ∷ []) first (omega arith) in
+        let before = entries_low log first in
+        let long = begins_length (history_of log) (history_of (log ++ x ∷ [])) begins in
+        let adds : AddsBy d.held x.step.at x.step.entry o = subst (λ (z : Option Entry). AddsBy d.held x.step.at z o) (sym is)
+        (adds_by d.number d.held target x.step.at) in (
+          outcome_in_turn o (noted_by (log ++ x ∷ []) d.first x.step.place d.number x.step.at d.held target (omega arith) (omega arith)
+              (noted_later d.first d.held (λ some. (t.under some).0) t.noted)) adds,
+          made_by o adds,
+        )
+
+    step_in_turn : (target : Target) → IsNextFor d target → x.step.entry ≡ entry_by d.number d.held target → Then (with_target target x.step d)
+    step_in_turn (Match kind game found) next is = by_outcome (Match kind game found) is
+    step_in_turn (Enlisted found) next is = by_outcome (Enlisted found) is
+    step_in_turn (Enlists found) next is =
+        let u = turn_later x.seat d t in
+        (record { timed = u.timed; turns = u.turns; under = u.under; noted = u.noted }, λ e some. absurd (none-some e (sym (is ∙ enlist_none d.held d.number found) ∙ some)))
+    step_in_turn (Whole shown) next is = absurd next
+
+calls_kept : (target : Target) (y : Taken) (d : ClientState) (k : ℕ) (a : FinishedCall) → slice_get d.calls k ≡ Some a → slice_get (with_target target y d).calls k ≡ Some a
+calls_kept target y d k a at = search (arith, at_longer)
+
+next_in_turn : (log : Log) (x : Logged) → AllInTurn log → MayBeTaken log x → IsNextOfProtocol log x → AllInTurn (log ++ x ∷ [])
+next_in_turn log x r may next =
+    let d = client_at x.seat log in
+    let t = step_in_turn log x may.place.0 may.place.1 d (r.turn x.seat) x.step.target next.next next.entry in
+    record { turn = by_seat log x (InTurn (log ++ x ∷ [])) (with_step d x.step) refl t.0 (λ seat not. turn_later log x seat (client_at seat log) (r.turn seat)); made = made t.1 }
+  where
+    old : (place : ℕ) → place < length (history_of log) → IsMade (log ++ x ∷ []) place
+    old place low =
+        let m = r.made place low in
+        let on = by_seat log x (λ seat y. slice_get (client_at seat log).calls m.call ≡ Some m.by.0 → slice_get y.calls m.call ≡ Some m.by.0)
+        (with_step (client_at x.seat log) x.step) refl (calls_kept x.step.target x.step (client_at x.seat log) m.call m.by.0) (λ seat not at. at) in
+        record { seat = m.seat; call = m.call; by = (m.by.0, on m.seat m.by.1, m.by.2, m.by.3) }
+
+    made : ((e : Entry) → x.step.entry ≡ Some e → (c : FinishedCall) × (slice_get (with_step (client_at x.seat log) x.step).calls (length (client_at x.seat log).calls) ≡ Some c)
+        × (accepts c.reply ≡ true) × (c.point ≡ length (history_of log))) → (place : ℕ) → place < length (history_of (log ++ x ∷ [])) → IsMade (log ++ x ∷ []) place
+    made new place low = by x.step.entry refl
+      where
+        by : (o : Option Entry) → x.step.entry ≡ o → IsMade (log ++ x ∷ []) place
+        by None is = let same = ap length (history_same log x is) in old place (omega arith)
+        by (Some e) is =
+            let more = grown log x e is in
+            elim (cases_eq place (length (history_of log))) [
+              | inl last ↦
+                  let m = new e is in
+                  let n = length (client_at x.seat log).calls in
+                  record { seat = x.seat; call = n; by = (m.0, ap (λ (y : ClientState). slice_get y.calls n) (client_own log x) ∙ m.1, m.2, m.3 ∙ sym last) }
+              | inr other ↦ old place (omega arith)
+            ]
+
+pub all_in_turn : (log : Log) → IsLog log → FollowsProtocol log → AllInTurn log
+all_in_turn log = may_induction MayBeTaken (λ l. FollowsProtocol l → AllInTurn l)
+    (λ f. record {
+      turn = λ seat. record {
+        timed = λ k a at. absurd (none-some a at);
+        turns = λ k l a b at bt less. absurd (none-some a at);
+        under = λ some. absurd (some refl);
+        noted = tt;
+      };
+      made = λ place low. absurd (omega arith);
+    })
+    (λ xs x before may was f. next_in_turn xs x (was (may_begin IsNextOfProtocol xs (x ∷ []) f)) may (may_last IsNextOfProtocol xs x f))
+    log
