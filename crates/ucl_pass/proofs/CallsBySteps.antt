@@ -10,7 +10,7 @@ use Rattle.std.proofs.lemmas.List.Sums.{fold-append}
 use Rattle.ucl_board.specs.Log as logs
 use Rattle.ucl_board.specs.Log.{Enlists, Whole}
 use Rattle.ucl_board.specs.declared.reading.Reading.{Reading}
-use Rattle.ucl_board.proofs.LogFacts.{legal_history}
+use Rattle.ucl_board.proofs.Logs.{legal_history}
 use Rattle.ucl_board.proofs.Logs.{history_on}
 use Rattle.ucl_live_board.proofs.CallsBySteps.{adds_continue, enlists, hears, meets, stays_continue}
 use Rattle.ucl_live_board.proofs.StepFacts as facts

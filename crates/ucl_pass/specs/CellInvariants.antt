@@ -1,4 +1,6 @@
--- The words of the cell, its invariant, and what contracts read off the view of a pass of the cell board.
+-- The thirteen words of a cell board, a board that threads share as one cell, which is loaded and exchanged as a whole; its invariant; and
+-- what contracts read off the view of a pass, that is, of what they know of a thread's permission on the board. The log has all steps of
+-- all passes; its history is the accepted events. A reading is a load that shows the version, the length of the history.
 use Rattle.std.specs.Prelude.{◌≡◌, ℕ, Bool, true, List, [], ◌∷◌, ◌++◌}
 use Rattle.std.specs.List.{fold}
 use Rattle.ucl_board.specs.declared.entry.Entry.{Entry}
@@ -9,35 +11,38 @@ use Rattle.ucl_live_board.specs.OneHistory.{BoardInvariant}
 use Rattle.ucl_live_board.specs.Passes.{PassView}
 use Rattle.ucl_live_board.specs.Views.{pass_view_by}
 
--- the words of the twelve matches, and the number of enlisted reporters
+-- The words of the board after a history and with `enlisted` reporters: the words of the twelve matches, then that number.
 abbrev pub words_after : List Entry → ℕ → List ℕ
 words_after history enlisted = board_of history ++ enlisted ∷ []
 
--- the invariant of the cell is that of every shared board, whose steps are legal
+-- The invariant of the board: one log of all steps, each as the rules allow (`IsLegalStep`), gives its words and what each pass knows.
 abbrev pub CellInvariant : List ℕ → List View → Type 0
 CellInvariant = BoardInvariant words_after IsLegalStep
 
--- whatever keeps this invariant keeps that of the cell
+-- A predicate on words and views is at least as strong as the invariant of the board: if it holds, the invariant holds.
 abbrev pub ImpliesInvariant : (List ℕ → List View → Type 0) → Type 0
 ImpliesInvariant holds = (words : List ℕ) (views : List View) → holds words views → CellInvariant words views
 
--- the versions of the loads that a pass has shown since it has its number, each of them the length of the history
+-- The versions that a pass has read after a step on this target at the length `at` of the history, if they were `shown` before: a reading
+-- (`Whole true`) adds the length, and an enlistment empties the list.
 abbrev pub shown_after : Target → ℕ → List ℕ → List ℕ
 shown_after (Whole true) at shown = shown ++ at ∷ []
 shown_after (Enlists found) at shown = []
 shown_after target at shown = shown
 
+-- The versions that a pass with these steps has read, oldest first, since it was enlisted if it is a reporter's.
 abbrev pub versions_loaded : List Taken → List ℕ
-versions_loaded steps = fold (λ (shown : List ℕ) (x : Taken). shown_after x.target x.at shown) [] steps
+versions_loaded steps = fold (λ (shown : List ℕ) (step : Taken). shown_after step.target step.at shown) [] steps
 
+-- What every shared board says of a pass, by its view: the events that it has seen, its own, its number, its share, its readings' versions.
 abbrev pub cell_pass_view : View → PassView
-cell_pass_view v = pass_view_by versions_loaded v
+cell_pass_view pass = pass_view_by versions_loaded pass
 
--- the last step of the log that the pass knows is its own: so it has seen the whole history, up to its last step
-pub record IsUpToDate (v : View) : Type 0 where
+-- The last step of the log that the pass knows is its own: so it has seen the whole history, as it was at that step.
+pub record IsUpToDate (pass : View) : Type 0 where
   pub before : Log
   pub seat : ℕ
   pub steps : List Taken
   pub last : Taken
-  pub log : v.log ≡ before ++ logged_by seat last ∷ []
-  pub own : v.own ≡ steps ++ last ∷ []
+  pub log : pass.log ≡ before ++ logged_by seat last ∷ []
+  pub own : pass.own ≡ steps ++ last ∷ []

@@ -1,5 +1,7 @@
--- What contracts see of a pass of the cell board, and what each call says of its passes, in one record.
--- The pass was k and is m.
+-- What each public call of a cell board promises: one record for each, with what every shared board says (`says`), how many steps the call
+-- takes (`acts`), and that its pass has then seen the whole history of accepted events (`up_to_date`). A pass is a thread's permission (its
+-- share a fraction of it): `old` is what contracts know of it before the call, `new` afterwards. A step is one load or exchange of all
+-- words.
 use Rattle.std.specs.Prelude.{◌≡◌, ◌+◌, ◌<◌, length, Result}
 use Rattle.atomic_table.specs.Seated.{TableId}
 use Rattle.atomic_table.specs.declared.shared.Seat.{Seat}
@@ -16,59 +18,62 @@ use Rattle.ucl_live_board.specs.declared.view.View.{View}
 use Rattle.ucl_live_board.specs.Views.{count_of, left_pass}
 use Rattle.ucl_pass.specs.CellInvariants.{IsUpToDate, cell_pass_view}
 
--- the board that a pass is of, and what it knows
+-- What contracts see of a pass: its board, and its view: the prefix of the log of all steps that it knows, its own steps, its share.
 pub record CellPass : Type 0 where
   pub board : TableId
   pub view : View
 
+-- What contracts see of the pass that acts by this seat of a cell (its identity there).
 abbrev pub cell_pass_of : {T : Type 0} → Seat T (cell.Doing T View) → CellPass
-cell_pass_of p = record { board = p.table_id; view = cell_view p }
+cell_pass_of seat = record { board = seat.table_id; view = cell_view seat }
 
--- the first pass of a board that was just opened
-pub record CellOpened (m : CellPass) : Type 0 where
-  pub fresh : cell_pass_view m.view ≡ opening_pass
-  pub acts : count_of m.view ≡ 0
+-- What `open` promises of the first pass of a new board: it has seen and done nothing, and has the whole board to itself.
+pub record CellOpened (new : CellPass) : Type 0 where
+  pub fresh : cell_pass_view new.view ≡ opening_pass
+  pub acts : count_of new.view ≡ 0
 
--- an event was entered or refused
-pub record CellReported (k : CellPass) (call : EventCall) (reply : Result Accepted Refusal) (m : CellPass) : Type 0 where
-  pub own : m.board ≡ k.board
-  pub says : LiveReported (cell_pass_view k.view) call reply (cell_pass_view m.view)
-  pub acts : count_of k.view < count_of m.view
-  pub up_to_date : IsUpToDate m.view
+-- What a report promises: the event `call` was entered or refused, as `reply` says, in one step or more.
+pub record CellReported (old : CellPass) (call : EventCall) (reply : Result Accepted Refusal) (new : CellPass) : Type 0 where
+  pub own : new.board ≡ old.board
+  pub says : LiveReported (cell_pass_view old.view) call reply (cell_pass_view new.view)
+  pub acts : count_of old.view < count_of new.view
+  pub up_to_date : IsUpToDate new.view
 
--- the board was read
-pub record CellRead (k : CellPass) (read : Reading) (m : CellPass) : Type 0 where
-  pub own : m.board ≡ k.board
-  pub says : LiveRead (cell_pass_view k.view) read (cell_pass_view m.view)
-  pub version : read.version ≡ length (history_of m.view.log)
-  pub acts : count_of m.view ≡ count_of k.view + 1
-  pub up_to_date : IsUpToDate m.view
+-- What a reading promises: one load, and the version of `read` is how many events had been accepted before it.
+pub record CellRead (old : CellPass) (read : Reading) (new : CellPass) : Type 0 where
+  pub own : new.board ≡ old.board
+  pub says : LiveRead (cell_pass_view old.view) read (cell_pass_view new.view)
+  pub version : read.version ≡ length (history_of new.view.log)
+  pub acts : count_of new.view ≡ count_of old.view + 1
+  pub up_to_date : IsUpToDate new.view
 
--- a second pass n was split off: the pass has the first half of its share, and is else as it was
-pub record CellSplit (k m n : CellPass) : Type 0 where
-  pub own : (m.board ≡ k.board) × (n.board ≡ k.board)
-  pub says : LiveSplit (cell_pass_view k.view) (cell_pass_view m.view) (cell_pass_view n.view)
-  pub kept : m.view ≡ left_pass k.view
-  pub acts : count_of n.view ≡ count_of k.view
+-- What a split promises of the pass that it splits, `old` and then `new`, and of the `second` pass that it returns: it takes no step, the
+-- first keeps half of its share of the board, and the second knows as much and has the other half.
+pub record CellSplit (old new second : CellPass) : Type 0 where
+  pub own : (new.board ≡ old.board) × (second.board ≡ old.board)
+  pub says : LiveSplit (cell_pass_view old.view) (cell_pass_view new.view) (cell_pass_view second.view)
+  pub kept : new.view ≡ left_pass old.view
+  pub acts : count_of second.view ≡ count_of old.view
 
--- a reader's pass became a reporter's
-pub record CellEnlisted (k m : CellPass) : Type 0 where
-  pub own : m.board ≡ k.board
-  pub enlisted : Enlistment (cell_pass_view k.view) (cell_pass_view m.view)
-  pub acts : count_of k.view < count_of m.view
-  pub up_to_date : IsUpToDate m.view
+-- What an enlistment promises: a reader's pass became a reporter's, with a number of its own, in one step or more.
+pub record CellEnlisted (old new : CellPass) : Type 0 where
+  pub own : new.board ≡ old.board
+  pub enlisted : Enlistment (cell_pass_view old.view) (cell_pass_view new.view)
+  pub acts : count_of old.view < count_of new.view
+  pub up_to_date : IsUpToDate new.view
 
--- a pass that was to be enlisted found that as many reporters are enlisted as there are numbers
-pub record CellFull (k m : CellPass) : Type 0 where
-  pub own : m.board ≡ k.board
-  pub says : LiveFull (cell_pass_view k.view) (cell_pass_view m.view)
-  pub acts : count_of k.view < count_of m.view
-  pub up_to_date : IsUpToDate m.view
+-- What an enlistment promises if no number is left: the reader's pass comes back, and has found 255 reporters enlisted.
+pub record CellFull (old new : CellPass) : Type 0 where
+  pub own : new.board ≡ old.board
+  pub says : LiveFull (cell_pass_view old.view) (cell_pass_view new.view)
+  pub acts : count_of old.view < count_of new.view
+  pub up_to_date : IsUpToDate new.view
 
--- a pass, k before and m after, met another, a before and b after: it has seen all that either had, and the other is unchanged
-pub record CellMet (a b k m : CellPass) : Type 0 where
-  pub own : (b.board ≡ a.board) × (m.board ≡ k.board)
-  pub says : LiveMet (cell_pass_view a.view) (cell_pass_view b.view) (cell_pass_view k.view) (cell_pass_view m.view)
-  pub unchanged : b ≡ a
-  pub acts : count_of m.view ≡ count_of k.view + 1
-  pub up_to_date : IsUpToDate m.view
+-- What a meeting of two passes promises: the pass `old`, then `new`, has seen all events that either had seen, after one load; the other
+-- pass, `other_old` and then `other_new`, is as it was.
+pub record CellMet (other_old other_new old new : CellPass) : Type 0 where
+  pub own : (other_new.board ≡ other_old.board) × (new.board ≡ old.board)
+  pub says : LiveMet (cell_pass_view other_old.view) (cell_pass_view other_new.view) (cell_pass_view old.view) (cell_pass_view new.view)
+  pub unchanged : other_new ≡ other_old
+  pub acts : count_of new.view ≡ count_of old.view + 1
+  pub up_to_date : IsUpToDate new.view

@@ -1,5 +1,7 @@
--- What each kind of step on the cell tells its pass.
--- The pass was v and is w; x are the words found and y the words left.
+-- What each kind of step on a cell board, a board that threads share as one cell, says of the pass that takes it. A pass is a thread's
+-- permission on the board; its view is what contracts know of it: a prefix of the log of all steps, and its own. A step is one load or one
+-- compare and exchange: `before` and `after` are the pass, `found` and `left` all thirteen words, before and after it. An entry is an
+-- accepted event; the history of a log is its entries.
 use Rattle.std.specs.Prelude.{◌≡◌, ◌≢◌, ◌⊎◌, ℕ, ◌+◌, true, false, List, [], ◌∷◌, Option, Some, None, slice_index, slice_set, Result, MatchResult}
 use Rattle.ucl_word.specs.declared.event.EventCall.{EventCall}
 use Rattle.ucl_word.specs.Counts.{GainsOne}
@@ -11,53 +13,53 @@ use Rattle.ucl_live_board.specs.Steps.{BoardStep}
 use Rattle.ucl_live_board.specs.Views.{Takes}
 use Rattle.ucl_pass.specs.CellInvariants.{words_after}
 
--- the words with one event more, whatever the history is that they are the words of
+-- If `current` are the words after a legal history, the entry may follow it, and then `next` are the words, with as many reporters.
 abbrev pub IsNextBoard : Entry → List ℕ → List ℕ → Type 0
-IsNextBoard e current next = (enlisted : ℕ) → GainsOne IsLegal (λ history. words_after history enlisted) e current next
+IsNextBoard entry current next = (enlisted : ℕ) → GainsOne IsLegal (λ history. words_after history enlisted) entry current next
 
--- the words with one reporter more
+-- The thirteen words with one more enlisted reporter; the last word is how many there are.
 abbrev pub with_one_more : List ℕ → List ℕ
 with_one_more words = slice_set words 12 (slice_index words 12 + 1)
 
--- a step of the pass of some seat, on this target, which added this entry: it found the words of the log before it, and left those
--- of the log that the pass then knows
-pub record CellStep (target : Target) (entry : Option Entry) (v : View) (x y : List ℕ) (w : View) : Type 0 where
+-- The pass took one step on this target (what was done and what was found), by which it added this entry or none. The words found are those
+-- of the log before the step, and the words left those of the log that the pass then knows.
+pub record CellStep (target : Target) (entry : Option Entry) (before : View) (found_words left_words : List ℕ) (after : View) : Type 0 where
   pub seat : ℕ
-  pub steps : BoardStep words_after IsLegalStep seat target v w
+  pub steps : BoardStep words_after IsLegalStep seat target before after
   pub entry_is : steps.step.entry ≡ entry
-  pub found : x ≡ words_after (history_of steps.before) (enlisted_by steps.before)
-  pub left : y ≡ words_after (history_of w.log) (enlisted_by w.log)
+  pub found : found_words ≡ words_after (history_of steps.before) (enlisted_by steps.before)
+  pub left : left_words ≡ words_after (history_of after.log) (enlisted_by after.log)
 
--- a load that shows nothing
+-- A load that is no reading, or a compare and exchange that stored nothing.
 abbrev pub LooksOnly : View → List ℕ → List ℕ → View → Type 0
-LooksOnly v x y w = CellStep (Whole false) None v x y w
+LooksOnly before found left after = CellStep (Whole false) None before found left after
 
--- a load whose version is shown
+-- A load of all words that a call of `read` makes (`true`: it is a whole reading). Its version is how many events are accepted by then.
 abbrev pub LooksAndShows : View → List ℕ → List ℕ → View → Type 0
-LooksAndShows v x y w = CellStep (Whole true) None v x y w
+LooksAndShows before found left after = CellStep (Whole true) None before found left after
 
--- an event, under the number of the pass
+-- The entry of the event `call` if this pass enters it, under its number.
 abbrev pub entry_at : View → EventCall → Entry
-entry_at v e = entry_of (number_of v.own) e
+entry_at pass call = entry_of (number_of pass.own) call
 
--- a step that stored one event
+-- A compare and exchange that entered the event `call`.
 abbrev pub StoresEvent : EventCall → View → List ℕ → List ℕ → View → Type 0
-StoresEvent e v x y w = CellStep (Whole false) (Some (entry_at v e)) v x y w
+StoresEvent call before found left after = CellStep (Whole false) (Some (entry_at before call)) before found left after
 
--- a step that stored one enlistment, after the number that it found
+-- A compare and exchange that enlisted its pass, under the number after the one that it found.
 abbrev pub StoresReporter : View → List ℕ → List ℕ → View → Type 0
-StoresReporter v x y w = CellStep (Enlists (slice_index x 12)) None v x y w
+StoresReporter before found left after = CellStep (Enlists (slice_index found 12)) None before found left after
 
--- a compare and exchange by which a pass may store something: the words stay, or they become those that it stores
+-- A compare and exchange: lost, it leaves the words as they are and stores nothing; won, it changes them as `Stores` says.
 abbrev pub MayStore : (View → List ℕ → List ℕ → View → Type 0) → View → List ℕ → List ℕ → View → Type 0
-MayStore Stores v x y w = ((x ≡ y) × LooksOnly v x y w) ⊎ ((x ≢ y) × Stores v x y w)
+MayStore Stores before found left after = ((found ≡ left) × LooksOnly before found left after) ⊎ ((found ≢ left) × Stores before found left after)
 
--- what it answers: the words that were expected, and it stored the next ones; or other words, and it stored nothing
+-- What a compare and exchange answers: `Ok` if it found the words `current` and stored `next`, `Err` if it found others and stored nothing.
 abbrev pub Exchanges : (View → List ℕ → List ℕ → View → Type 0) → View → List ℕ → List ℕ → Result (List ℕ) (List ℕ) → View → Type 0
-Exchanges Stores v current next answer w = MatchResult answer
-    (λ found. (found ≡ current) × Stores v current next w)
-    (λ found. (found ≢ current) × LooksOnly v found found w)
+Exchanges Stores before current next answer after = MatchResult answer
+    (λ found. (found ≡ current) × Stores before current next after)
+    (λ found. (found ≢ current) × LooksOnly before found found after)
 
--- whatever it finds and leaves, a step of this kind is one step in the log, of the pass that took it
+-- A step of this kind, whatever it finds and leaves, adds exactly one step to those of the pass that takes it, of which the log is made.
 abbrev pub LogsOneStep : (View → List ℕ → List ℕ → View → Type 0) → Type 0
-LogsOneStep tells = (v : View) (x y : List ℕ) (w : View) → tells v x y w → (t : Taken) × Takes v (t ∷ []) w
+LogsOneStep kind = (before : View) (found left : List ℕ) (after : View) → kind before found left after → (taken : Taken) × Takes before (taken ∷ []) after

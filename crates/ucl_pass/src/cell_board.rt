@@ -1,4 +1,6 @@
-//! The board in one cell.
+//! A board that threads share, in one cell of thirteen words that is loaded and exchanged as a whole. A pass is a thread's permission on
+//! the board, a reader's or a reporter's; its seat is its identity there, by which it takes steps if it may (`acts`), and `cell_view seat`
+//! what contracts know of it. A step is one load or one compare and exchange. `K: Asking` picks its event, in proofs alone.
 
 ghost use Rattle.std.specs.Prelude.{◌≡◌, ◌<◌, ◌++◌, ◌∷◌, [], take, length, slice_index, IfOk, IsSome, MatchResult};
 ghost use Rattle.atomic_table.specs.Seated.{TableId};
@@ -21,8 +23,8 @@ use ucl_board::{Board, Reading};
 use ucl_live_board::{LiveBoard, MAX_REPORTERS, TooManyReporters, View};
 use ucl_word::{Accepted, EventCall, OutOfMemory, Refusal, ReporterNo};
 
-/// A board of thirteen words that are read and written as a whole, by calls that may wait: the twelve matches, and the number of enlisted
-/// reporters. Contracts see which cell it is.
+/// A board of thirteen words that threads share, and load and exchange as a whole, by calls that may wait: the twelve matches, and the
+/// number of enlisted reporters. Contracts see which cell it is.
 #[derive(Drop)]
 pub struct CellBoard {
     cell: Cell,
@@ -34,7 +36,7 @@ impl Model for CellBoard {
     ghost view = { λ b. b.cell.table.shared.table_id };
 }
 
-/// Returns the board of the first twelve words.
+/// Returns the board of the twelve match words, which come first among the words of a cell.
 fn board_at(words: &[u64; 13]) -> Board
     requires { AreWords (take 12 words.now) }
     ensures { result ≡ take 12 words.now }
@@ -44,7 +46,7 @@ fn board_at(words: &[u64; 13]) -> Board
     Board::of_packed(&matches)
 }
 
-/// Returns the words of a board, and the number of enlisted reporters.
+/// Returns the words of a cell: those of a board, then the number of enlisted reporters.
 fn words_with(board: &Board, enlisted: u64) -> [u64; 13]
     ensures { result ≡ board.now ++ enlisted ∷ [] }
 {
@@ -53,7 +55,7 @@ fn words_with(board: &Board, enlisted: u64) -> [u64; 13]
     words
 }
 
-/// Returns the words with one reporter more.
+/// Returns the words of a cell with one more enlisted reporter.
 fn one_more_reporter(words: [u64; 13]) -> [u64; 13]
     requires { slice_index words 12 < 255 }
     ensures { result ≡ with_one_more words }
@@ -64,8 +66,12 @@ fn one_more_reporter(words: [u64; 13]) -> [u64; 13]
 }
 
 impl CellBoard {
-    /// Opens the fresh board, and returns the reader's pass from which all its passes come. The invariant of the cell lets no board open but one of no event,
-    /// no reporter and no step. Where the memory of the cell is refused the answer is `OutOfMemory`, and there is no board.
+    /// Opens a board of no event, and returns it with the reader's pass from which all its passes come. The invariant of its cell implies
+    /// that of cell boards (`tied`), and lets no board open but one of no event, no reporter and no step (`rule`).
+    ///
+    /// # Errors
+    ///
+    /// `OutOfMemory` if the memory of the cell is refused; then there is no board.
     ///
     /// ```rust
     /// let (board, mut reader) = CellBoard::open(&rt, rt.alloc())?;
@@ -82,7 +88,7 @@ impl CellBoard {
         Ok((CellBoard { cell }, CellReaderPass { seat }))
     }
 
-    /// Loads the words, and shows nothing.
+    /// Loads all words of the cell, in a step that is no reading: its version is not among those that the pass has read.
     fn load<R: Wait>(&self, rt: &R, seat: &mut Seat) -> [u64; 13]
         requires cell { seat.old.table_id ≡ self.now }
         requires acts { IsSome (cell_view seat.old).share }
@@ -92,7 +98,7 @@ impl CellBoard {
         self.cell.load_as::<Looks, R>(rt, seat)
     }
 
-    /// Stores the words with one event more, that of `call`, where the words are still those given.
+    /// Stores `next`, the words after the event `call`, if the cell has the words `current`; else answers `Err` with the words found.
     fn store_event<K: Asking, R: Wait>(
         &self,
         rt: &R,
@@ -115,7 +121,7 @@ impl CellBoard {
             .compare_exchange_as::<Adds<K>, R>(rt, seat, current, next)
     }
 
-    /// Reads the board by one load, with its version.
+    /// Reads the board and its version, by one load of all words.
     fn read_by<R: Wait>(&self, rt: &R, seat: &mut Seat) -> Reading
         requires cell { seat.old.table_id ≡ self.now }
         requires acts { IsSome (cell_view seat.old).share }
@@ -126,10 +132,9 @@ impl CellBoard {
     }
 }
 
-/// What a call says is one record (`CellReported` and others): in `says`, what every live board says; in `acts`, how many steps the call
-/// takes; and by `up_to_date` the pass has then seen the whole history, up to its last step. The version that is read is the length of what
-/// the pass has then seen. The calls may wait inside the cell; an event or an enlistment is tried again, without a bound, but only where
-/// another pass changed a word of the cell between the load and the exchange.
+/// Each call promises one record (`CellReported` and others): in `says` what every `LiveBoard` does, in `acts` how many steps it takes, and
+/// in `up_to_date` that the pass has then seen the whole history, up to its last step. The calls may wait inside the cell. A report or an
+/// enlistment is tried again, without a bound, but only if another pass changed a word between the load and the exchange.
 impl LiveBoard for CellBoard {
     type ReaderPass = CellReaderPass;
 
@@ -143,6 +148,8 @@ impl LiveBoard for CellBoard {
 
     ghost reporter = { λ pass. cell_pass_view pass.view };
 
+    /// Enters the event `call` under the number of the pass: loads the words, and answers the refusal if the rules refuse the event; else
+    /// stores the words after it if none has changed since the load, and begins anew if one has.
     fn report<R: Wait>(
         &self,
         rt: &R,
@@ -166,6 +173,7 @@ impl LiveBoard for CellBoard {
         unreachable!()
     }
 
+    /// Reads the board and its version by a reader's pass, by one load.
     fn read<R: Wait>(&self, rt: &R, pass: &mut CellReaderPass) -> Reading
         requires { pass.old.board ≡ self.now }
         ensures { CellRead pass.old result pass.new }
@@ -173,6 +181,7 @@ impl LiveBoard for CellBoard {
         self.read_by(rt, &mut pass.seat)
     }
 
+    /// Reads the board and its version by a reporter's pass, by one load.
     fn read_own<R: Wait>(&self, rt: &R, pass: &mut CellReporterPass) -> Reading
         requires { pass.old.board ≡ self.now }
         ensures { CellRead pass.old result pass.new }
@@ -181,6 +190,7 @@ impl LiveBoard for CellBoard {
         self.read_by(rt, seat)
     }
 
+    /// Splits a second reader's pass, for another thread, off `pass`: it has seen the same events as `pass`.
     fn split<R: Wait>(&self, _rt: &R, pass: &mut CellReaderPass) -> CellReaderPass
         requires { pass.old.board ≡ self.now }
         ensures { CellSplit pass.old pass.new result }
@@ -189,6 +199,7 @@ impl LiveBoard for CellBoard {
         CellReaderPass { seat }
     }
 
+    /// Makes a reader's pass a reporter's, under the number after those enlisted; returns it as an error if 255 reporters are enlisted.
     fn enlist<R: Wait>(
         &self,
         rt: &R,
@@ -222,6 +233,7 @@ impl LiveBoard for CellBoard {
         unreachable!()
     }
 
+    /// Tells the second pass all events that the first has seen, by a note (what the first knows, which the second takes in) and one load.
     fn meet<R: Wait>(&self, rt: &R, first: &mut CellReporterPass, second: &mut CellReporterPass)
         requires { (first.old.board ≡ self.now) × (second.old.board ≡ self.now) }
         ensures { CellMet first.old first.new second.old second.new }
@@ -231,12 +243,14 @@ impl LiveBoard for CellBoard {
         self.load(rt, &mut second.seat);
     }
 
+    /// Returns the number under which the pass enters events.
     fn number_of(pass: &CellReporterPass) -> ReporterNo
         ensures { result ≡ (reporter_figures (cell_pass_view pass.now.view)).number }
     {
         pass.number
     }
 
+    /// Returns how many events of the pass were accepted.
     fn accepted_of(pass: &CellReporterPass) -> u16
         ensures { result ≡ (reporter_figures (cell_pass_view pass.now.view)).accepted }
     {

@@ -1,4 +1,5 @@
-//! A board that threads share, in one cell. What every such board is, and settling, come from `ucl_live_board` and are named here too.
+//! A board that threads share, in one cell that is loaded and exchanged as a whole. What every such board is, and settling, come from
+//! `ucl_live_board` and are named here too.
 //!
 //! # Examples
 //!

@@ -1,4 +1,6 @@
-//! The passes of the cell board.
+//! The passes of a cell board, which threads share as one cell. A pass is a thread's permission on the board; it cannot be copied, and acts
+//! by its seat, its identity at the cell. A split makes a second reader's pass, and an enlistment makes a reader's pass a reporter's. What
+//! contracts know of a pass, its view (a prefix of the log of all steps, its own steps, its share of the board), exists only in proofs.
 
 ghost use Rattle.std.specs.Prelude.{◌≡◌, length};
 ghost use Rattle.ucl_live_board.specs.Passes.{IsSound};
@@ -11,7 +13,7 @@ use crate::rule::Seat;
 use std::marker::Model;
 use ucl_word::ReporterNo;
 
-/// A reader's pass. Contracts see which cell it is of, and what it knows.
+/// A reader's pass: a thread's permission to read a board, and to split or enlist the pass. Contracts see its cell and its view.
 #[derive(Drop)]
 pub struct CellReaderPass {
     pub(crate) seat: Seat,
@@ -27,7 +29,7 @@ impl Model for CellReaderPass {
 }
 
 impl CellReaderPass {
-    /// Returns the seat at the cell of its board, by which the pass acts: what contracts see of the pass is the view of this seat, as it is.
+    /// Returns the seat by which the pass acts at the cell of its board: what contracts see of the pass is what they see of this seat.
     pub fn seat(&self) -> &Seat
         ensures { self.now ≡ cell_pass_of result.now }
     {
@@ -35,11 +37,12 @@ impl CellReaderPass {
     }
 }
 
-/// A reporter's pass. Contracts see which cell it is of, and what it knows.
+/// A reporter's pass: a thread's permission to enter events under its own number, and to read. Contracts see its cell and its view.
 #[derive(Drop)]
 pub struct CellReporterPass {
     pub(crate) seat: Seat,
     pub(crate) number: ReporterNo,
+    /// How many of its events were accepted.
     pub(crate) accepted: u16,
 }
 
@@ -54,7 +57,7 @@ impl Model for CellReporterPass {
 }
 
 impl CellReporterPass {
-    /// Returns the seat at the cell of its board, by which the pass acts: what contracts see of the pass is the view of this seat, as it is.
+    /// Returns the seat by which the pass acts at the cell of its board: what contracts see of the pass is what they see of this seat.
     pub fn seat(&self) -> &Seat
         ensures { self.now ≡ cell_pass_of result.now }
     {

@@ -1,4 +1,6 @@
-//! The invariant of the cell, and the kinds of its steps. The values named here exist in proofs alone.
+//! The invariant of the cell of thirteen words that threads share, and the kinds of steps on it, by which contracts tell what a step does.
+//! A kind is a struct without fields; `K: Asking` says, only in proofs, for which event a step is. A pass is a thread's permission (its share
+//! a fraction of it), its seat the identity by which it takes steps. A note, a pass that can take none, tells what another knows.
 
 ghost use Rattle.ucl_board.specs.Log.{IsLegalStep};
 ghost use Rattle.ucl_live_board.specs.Views.{new_pass, first_pass, left_pass, second_pass, note_pass, told_pass};
@@ -12,7 +14,8 @@ use std::marker::PhantomData;
 pub use ucl_live_board::Asking;
 use ucl_live_board::{BoardRule, View};
 
-/// The invariant of the cell: one log of all steps, whose history gives the twelve match words, and its reporters the thirteenth.
+/// The invariant of the cell: there is one log of all steps, each as the rules allow; its history, the accepted events, gives the twelve
+/// match words, and its enlistments are as many as the thirteenth word says.
 pub struct OneHistory;
 
 impl Protocol<[u64; 13], View> for OneHistory {
@@ -27,35 +30,35 @@ impl BoardRule for OneHistory {
     ghost may = { IsLegalStep };
 }
 
-/// A load of all words.
+/// A load of all words that is no reading: its version is not among those that its pass has read.
 pub struct Looks;
 
 impl Outcome<[u64; 13], View> for Looks {
     ghost then = { LooksOnly };
 }
 
-/// A load of all words whose version is shown.
+/// A load of all words that is a reading: its version is the last that its pass has read.
 pub struct Reads;
 
 impl Outcome<[u64; 13], View> for Reads {
     ghost then = { LooksAndShows };
 }
 
-/// The exchange of a report, which stores one event, or nothing.
+/// The compare and exchange of a report, which stores one event if it is won, and nothing otherwise.
 pub struct Adds<K>(PhantomData<K>);
 
 impl<K: Asking> Outcome<[u64; 13], View> for Adds<K> {
     ghost then = { MayStore (StoresEvent K.call) };
 }
 
-/// The exchange of an enlistment, which stores it, or nothing.
+/// The compare and exchange of an enlistment, which adds one reporter, its pass, if it is won, and stores nothing otherwise.
 pub struct Enlists;
 
 impl Outcome<[u64; 13], View> for Enlists {
     ghost then = { MayStore StoresReporter };
 }
 
-/// The split of a second reader's pass.
+/// The split of a reader's pass into itself and a second one, each with half of its share of the board.
 pub struct SecondPass;
 
 impl Split<View> for SecondPass {
@@ -64,7 +67,7 @@ impl Split<View> for SecondPass {
     ghost right = { second_pass };
 }
 
-/// The split and the join of a note.
+/// The split of a note off a pass, which stays as it was, and the join of a note to another pass, which then knows what the note tells.
 pub struct Note;
 
 impl Split<View> for Note {
@@ -79,8 +82,8 @@ impl Join<View> for Note {
     ghost spent = { new_pass };
 }
 
-/// The cell: the words of matches 1 to 12, then the number of enlisted reporters.
+/// The cell of words that threads share: the words of matches 1 to 12, then the number of enlisted reporters.
 pub type Cell = RuledSeqCell<[u64; 13], View, OneHistory, 13>;
 
-/// A pass of the cell.
+/// A seat at the cell: the identity of a pass, by which it takes steps.
 pub type Seat = Pass<[u64; 13], View>;

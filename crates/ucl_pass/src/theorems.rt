@@ -1,4 +1,5 @@
-//! What holds of the steps on every cell. The functions do nothing: each is there for its contract.
+//! A theorem on every cell board, a board that threads share in one cell. The function does nothing: it is there for its contract. A step
+//! is one load or one compare and exchange of the cell; the log has all steps. A pass is a thread's permission on the board.
 
 ghost use Rattle.ucl_pass.specs.CellSteps.{LogsOneStep};
 
@@ -6,8 +7,8 @@ use crate::rule::{Adds, Asking, Enlists, Looks, Reads};
 use crossbeam_utils::rule::Outcome;
 use ucl_live_board::View;
 
-/// Each kind of step on the cell, whatever it finds, is one step in the log, of the pass that took it: so what a call says of how many
-/// steps its pass took counts all its loads and exchanges of these kinds, and there are no others.
+/// Shows that each kind of step on the cell, whatever it finds, is one step in the log, of the pass that took it. So the counts of steps in
+/// contracts are of all loads and exchanges of these kinds, and there are no others.
 pub fn each_cell_step_is_logged<K: Asking>()
     ensures looks { LogsOneStep ⟦<Looks as Outcome<[u64; 13], View>>⟧.then }
     ensures reads { LogsOneStep ⟦<Reads as Outcome<[u64; 13], View>>⟧.then }

@@ -1,2 +1,1 @@
 pub mod Screens
-pub mod BoardScreens

@@ -1,4 +1,7 @@
--- One history for all callers, and the screens of what its readers read.
+-- One history for all callers of a shared board, and the screens of what its readers read: of every run of the protocol's pure machine, and
+-- of every running word board (thirteen atomic words). An entry is an accepted event. A pass is a thread's permission on a board; its seat
+-- is its place in the list of all passes; the log has all atomic steps of all passes, oldest first. A call is a report or a reading; its
+-- point is how many entries of the history come before it takes effect. A profile is a choice of tie-break rules, a roster the four clubs.
 use Rattle.std.specs.Prelude.{◌≡◌, ℕ, ◌<◌, ◌++◌, List, All, length, take, drop, flat_map, Some}
 use mathlib.Core.List.{IsPrefix}
 use mathlib.Core.Option.{some}
@@ -24,64 +27,65 @@ use Rattle.ucl_steps.specs.LogHistory.{IsCall, IsLinearizableLog}
 use Rattle.ucl_live_board.specs.declared.view.View.{View}
 use Rattle.ucl_words.specs.LaterState.{LaterState}
 
--- the board after the first k entries of a history, as a screen shows it: version k, and the clubs in the order of the
--- profile, each with its numbers and its mark
+-- The screen of the board after the first `version` entries of a history: the version, and the clubs of the roster in the order of the
+-- profile, each with its numbers and its mark (whether one of the first two places is certain, out of reach or open).
 abbrev pub screen_at : Profile → List Entry → ℕ → List NamedClub → ℕ → List ℕ
-screen_at profile history k roster group =
-    let board = board_of (take k history) in
-    header group k (in_play board) ++ columns ++ flat_map (row_line roster) (rows_of profile board roster)
+screen_at profile history version roster group =
+    let board = board_of (take version history) in
+    header group version (in_play board) ++ columns ++ flat_map (row_line roster) (rows_of profile board roster)
 
--- the screen of a reading, whatever the profile, the roster and the group, is that of the board at the reading's place in the
--- history
+-- If this call of a run of the machine is a reading, its screen, under each profile, roster and group, is that of the history at its point.
 abbrev pub ScreenIsOfItsPlace : List Entry → CallRecord → Type 0
-ScreenIsOfItsPlace history c =
-    (k : ℕ) (reading : Reading) → IsDecided c k (Copied reading) → (profile : Profile) (roster : List NamedClub) (group : ℕ)
-    → screen_text profile reading.board roster group ≡ screen_at profile history k roster group
+ScreenIsOfItsPlace history call =
+    (point : ℕ) (reading : Reading) → IsDecided call point (Copied reading) → (profile : Profile) (roster : List NamedClub) (group : ℕ)
+    → screen_text profile reading.board roster group ≡ screen_at profile history point roster group
 
--- one history of the board of one thread holds each finished call once, with the reply that it got, between its beginning and
--- its end; and each screen is the text of the chosen order of the board that its reading copied
+-- A run of the machine by these steps is linearizable: one history of a board of one thread holds each finished call once, with the reply
+-- that it got, between its begin and its end. And the screen of each reading is that of the history at its point.
 pub record HasOneHistory (steps : List Step) (history : List Entry) (calls : List CallRecord) : Type 0 where
   pub linearizable : IsLinearizable steps history calls
   pub screens : All (ScreenIsOfItsPlace history) calls
 
--- for every list of steps of any reporters and readers, with calls cut anywhere and left unfinished
+-- Every run of the machine has one history, for any numbers of reporters and readers (`cast`), with calls left unfinished anywhere.
 abbrev pub EveryRunHasOneHistory : Type 0
-EveryRunHasOneHistory = (cast : Cast) (steps : List Step) (state : MachineState) → after_steps steps (initial_state cast) ≡ Some state → HasOneHistory steps state.history state.calls
+EveryRunHasOneHistory = (cast : Cast) (steps : List Step) (state : MachineState) → after_steps steps (initial_state cast) ≡ Some state
+    → HasOneHistory steps state.history state.calls
 
--- the screen of a reading, whatever the profile, the roster and the group, is that of the board at the reading's point
+-- If this call of a word board is a reading, its screen, under each profile, roster and group, is that of the history at its point.
 abbrev pub ScreenIsOfItsPoint : List Entry → FinishedCall → Type 0
-ScreenIsOfItsPoint history c =
-    (reading : Reading) → c.reply ≡ Copied reading → (profile : Profile) (roster : List NamedClub) (group : ℕ)
-    → screen_text profile reading.board roster group ≡ screen_at profile history c.point roster group
+ScreenIsOfItsPoint history call =
+    (reading : Reading) → call.reply ≡ Copied reading → (profile : Profile) (roster : List NamedClub) (group : ℕ)
+    → screen_text profile reading.board roster group ≡ screen_at profile history call.point roster group
 
--- a pass knows a beginning of the log, and the calls that it has finished are those that its own steps there make
-pub record IsOfLog (log : Log) (seat : ℕ) (v : View) : Type 0 where
-  pub knows : IsPrefix v.log log
-  pub own : v.own ≡ taken_by seat log
+-- The pass at a seat knows a prefix of the log, and its own steps are just those of its seat in the log.
+pub record IsOfLog (log : Log) (seat : ℕ) (pass : View) : Type 0 where
+  pub knows : IsPrefix pass.log log
+  pub own : pass.own ≡ taken_by seat log
 
--- a word board between two steps of any threads: there is one log of all steps, each the next one of the protocol, whose history
--- has the words that are there. Each pass is of this log, no step is of a seat without a pass, and no two passes have one number.
--- One history of the board of one thread holds each finished call of each pass once, with the reply that it got, between its
--- first step and its last; and each screen is the text of the chosen order of the board that its reading copied
-pub record IsOneHistory (s : State Entry View) : Type 0 where
+-- A word board, between two steps of any threads, has one history. There is one log of all steps, each the next one of the protocol, whose
+-- history has the words that are there. Each pass knows a prefix of it, which has its own steps; no step is of a seat without a pass, and
+-- no two passes have one number. The history holds each finished call of each pass once, with the reply that it got, between its first step
+-- and its last; and the screen of each reading is that of the history at its point.
+pub record IsOneHistory (state : State Entry View) : Type 0 where
   pub log : Log
   pub is_log : IsLog log
   pub protocol : FollowsProtocol log
-  pub words : board_of (history_of log) ≡ drop 1 s.words
-  pub each : (seat : ℕ) (v : View) → get_elem? s.views seat ≡ some v → IsOfLog log seat v
-  pub only : All (λ (x : Logged). x.seat < length s.views) log
+  pub words : board_of (history_of log) ≡ drop 1 state.words
+  pub each : (seat : ℕ) (pass : View)
+      → get_elem? state.views seat ≡ some pass → IsOfLog log seat pass
+  pub only : All (λ (x : Logged). x.seat < length state.views) log
   pub apart : (i j : ℕ)
       → 0 < (client_at i log).number → (client_at i log).number ≡ (client_at j log).number → i ≡ j
   pub linearizable : IsLinearizableLog log
-  pub screens : (seat k : ℕ) (c : FinishedCall)
-      → IsCall log seat k c → ScreenIsOfItsPoint (history_of log) c
+  pub screens : (seat k : ℕ) (call : FinishedCall)
+      → IsCall log seat k call → ScreenIsOfItsPoint (history_of log) call
 
--- so is each state that meets the invariant of the board
+-- Each state that satisfies `rule`, the invariant of the board, has one history.
 abbrev pub BoardsHaveOneHistory : (State Entry View → Type 0) → Type 0
-BoardsHaveOneHistory rule = (s : State Entry View) → rule s → IsOneHistory s
+BoardsHaveOneHistory rule = (state : State Entry View) → rule state → IsOneHistory state
 
--- and over time: the log of a later state begins with that of the earlier one, whichever steps of whichever passes came between,
--- and whether these passes ever met; so no entry and no call ever moves
+-- The history of a board that satisfies `rule`, its invariant, only grows: the log of a later state begins with that of the earlier one,
+-- whichever steps of whichever passes came between. So no entry and no call ever moves.
 pub record HistoriesGoOn (rule : State Entry View → Type 0) : Type 0 where
   pub boards : BoardsHaveOneHistory rule
   pub later : (s t : State Entry View) (r : rule s) (q : rule t) → LaterState s t → IsPrefix (boards s r).log (boards t q).log

@@ -1,4 +1,4 @@
-//! What the boards, the protocol's machine and the screen claim together: one history for all callers. The functions do nothing: each is
+//! What shared boards, the protocol's machine and the screen claim together: one history for all callers. The functions do nothing: each is
 //! there for its contract.
 #![tactic(auto)]
 

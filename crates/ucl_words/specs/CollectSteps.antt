@@ -1,5 +1,7 @@
--- Definitions that private functions alone cite: what a report holds, and what the two collects of a reading find.
--- The pass was v and is w.
+-- What the private functions of a word board do: the two steps of a report, and the two collects of a reading, which loads all match words,
+-- then loads them again, and begins anew at a word that has changed. A pass is a thread's permission: `old` is what contracts know of it
+-- before, `new` afterwards. An access is one load or exchange of a match word, at a length of the history (the accepted events). The log
+-- has all steps of all passes. A `Pending` is what a pass keeps of its report or reading (its call) until that is answered.
 use Rattle.std.specs.Prelude.{◌≡◌, ℕ, ◌≤◌, List, [], ◌∷◌, ◌++◌, length, Some, None, slice_get}
 use Rattle.ucl_word.specs.declared.event.EventCall.{EventCall}
 use Rattle.ucl_board.specs.Log.{First, Second, Access, added_by, history_of, number_of}
@@ -11,67 +13,66 @@ use Rattle.ucl_steps.specs.Trails.{IsCollect, IsBroken}
 use Rattle.ucl_live_board.specs.Passes.{SeesOn}
 use Rattle.ucl_live_board.specs.declared.view.View.{View}
 use Rattle.ucl_words.specs.WordViews.{pass_view_of}
-use Rattle.ucl_words.specs.WordCalls.{IsConsistent, LeavesAccesses}
-use Rattle.ucl_words.specs.CompletedCalls.{IsAnswered}
+use Rattle.ucl_words.specs.WordCalls.{IsAnswered, IsConsistent, LeavesAccesses}
 
--- a report of this match holds the word that it loaded, and the one that is to take its place
+-- By `held` the call under way is a report on the match `game` that has loaded the word `loaded` and is to put `next` in its place.
 pub record IsHoldingFor (held : Pending) (game loaded next : ℕ) : Type 0 where
   pub e : EventCall
   pub holds : held ≡ Holding e loaded next
   pub of : game ≡ e.game
 
--- steps on match words that stored nothing
-pub record Walks (v : View) (accesses : List Access) (w : View) : Type 0 where
-  pub consistent : IsConsistent w
-  pub on : SeesOn (pass_view_of v) (pass_view_of w)
-  pub mine : added_by w.own ≡ added_by v.own
-  pub number : number_of w.own ≡ number_of v.own
-  pub leaves : LeavesAccesses v accesses None w
+-- Between `old` and `new` the pass made exactly these accesses, which stored nothing: its entries and number are as before.
+pub record Walks (old : View) (accesses : List Access) (new : View) : Type 0 where
+  pub consistent : IsConsistent new
+  pub on : SeesOn (pass_view_of old) (pass_view_of new)
+  pub mine : added_by new.own ≡ added_by old.own
+  pub number : number_of new.own ≡ number_of old.own
+  pub leaves : LeavesAccesses old accesses None new
 
--- a first collect of these words: its last access is at the whole history
+-- These accesses are loads of matches 1 to 12 that found these words, and at the last of them the history had `now` entries.
 pub record IsFirstCollect (words : List ℕ) (accesses : List Access) (now : ℕ) : Type 0 where
   pub twelve : length accesses ≡ 12
   pub words_are : IsCollect First words accesses
   pub last : (m : Access) → slice_get accesses 11 ≡ Some m → m.at ≡ now
 
-pub record Collects (v : View) (words : List ℕ) (w : View) : Type 0 where
+-- Between `old` and `new` the pass loaded all twelve match words, a first collect, and found `words`; the last load saw the whole history.
+pub record Collects (old : View) (words : List ℕ) (new : View) : Type 0 where
   pub accesses : List Access
-  pub walks : Walks v accesses w
-  pub collect : IsFirstCollect words accesses (length (history_of w.log))
+  pub walks : Walks old accesses new
+  pub collect : IsFirstCollect words accesses (length (history_of new.log))
 
--- a second collect that found all words again
-pub record FindsAgain (v : View) (words : List ℕ) (w : View) : Type 0 where
+-- Between `old` and `new` the pass loaded all twelve match words again, a second collect, and found `words` unchanged.
+pub record FindsAgain (old : View) (words : List ℕ) (new : View) : Type 0 where
   pub accesses : List Access
-  pub walks : Walks v accesses w
+  pub walks : Walks old accesses new
   pub twelve : length accesses ≡ 12
   pub again : IsCollect Second words accesses
 
--- a second collect that found another word
-pub record FindsAnother (v : View) (words : List ℕ) (w : View) : Type 0 where
+-- Between `old` and `new` the pass loaded match words again, a second collect, up to the first that was not the one in `words`.
+pub record FindsAnother (old : View) (words : List ℕ) (new : View) : Type 0 where
   pub accesses : List Access
-  pub walks : Walks v accesses w
+  pub walks : Walks old accesses new
   pub broken : IsBroken words accesses
 
--- what is held, and what is done, after each part
-
--- a first collect may begin: no call is under way, or a reading that begins anew
+-- A first collect may begin: no call is under way, or a reading that found a word changed and has loaded none since.
 abbrev pub MayCollect : Pending → Type 0
 MayCollect NoCall = Unit {0}
 MayCollect (Collecting words) = words ≡ []
 MayCollect _ = ⊥
 
--- where nothing was held, the call begins with its first step, at a place after so many; else it began before
+-- The first step of the call under way is at place `first` of the log. If no call was under way before (`NoCall`), that is `known` or
+-- later; and if one was, it is `was`, the place of its first step.
 abbrev pub IsBegun : Pending → ℕ → ℕ → ℕ → Type 0
 IsBegun NoCall known was first = known ≤ first
 IsBegun _ known was first = first ≡ was
 
--- steps of one call, which goes on: no call is finished, and this is held
-pub record StaysIn (v : View) (held : Pending) (w : View) : Type 0 where
-  pub calls : (client_of w.own).calls ≡ (client_of v.own).calls
-  pub held_is : (client_of w.own).held ≡ held
-  pub begun : IsBegun (client_of v.own).held (length v.log) (client_of v.own).first (client_of w.own).first
+-- Between `old` and `new` the pass took steps of one call, not finished yet: `held` is what it keeps of the call, `begun` where that began.
+pub record StaysIn (old : View) (held : Pending) (new : View) : Type 0 where
+  pub calls : (client_of new.own).calls ≡ (client_of old.own).calls
+  pub held_is : (client_of new.own).held ≡ held
+  pub begun : IsBegun (client_of old.own).held (length old.log) (client_of old.own).first (client_of new.own).first
 
--- the last steps of the call that was under way
-pub record Finishes (v : View) (call : Call) (reply : Reply) (w : View) : Type 0 where
-  pub answers : IsAnswered v call reply w
-  pub first : answers.last.first ≡ (client_of v.own).first
+-- Between `old` and `new` the pass took the last steps of `call`, the call that was under way, which was answered with this reply.
+pub record Finishes (old : View) (call : Call) (reply : Reply) (new : View) : Type 0 where
+  pub answers : IsAnswered old call reply new
+  pub first : answers.last.first ≡ (client_of old.own).first

@@ -1,4 +1,6 @@
--- Later states of a board: each pass that can take steps is still at its seat, still can, and knows all that it had known of the log.
+-- When one state of a word board comes after another. A state has the words of the board and, by seat (a place in a list), the view of each
+-- pass: what it knows of the log of all atomic steps. A pass is a thread's permission on the board. With a share, a fraction of it, a pass
+-- can take steps; without one it cannot: it is a note, which tells another pass what it knows, or what is left of a note.
 use Rattle.std.specs.Prelude.{◌≡◌, ◌≢◌, ℕ, List, [], ◌∷◌, ◌++◌, None, slice_index, slice_set}
 use mathlib.Core.Option.{some}
 use mathlib.Core.List.{IsPrefix}
@@ -10,40 +12,40 @@ use Rattle.ucl_live_board.specs.CallSteps.{CountsReporters}
 use Rattle.ucl_live_board.specs.declared.view.View.{View}
 use Rattle.ucl_words.specs.TableInvariants.{TableInvariant}
 
+-- The second state is later than the first, or the same: each pass with a share is at its seat with one, and knows no less of the log.
 abbrev pub LaterState : State Entry View → State Entry View → Type 0
-LaterState s t =
-    (seat : ℕ) (v : View) → get_elem? s.views seat ≡ some v → v.share ≢ None
-    → (w : View) × (get_elem? t.views seat ≡ some w) × (w.share ≢ None) × IsPrefix v.log w.log
+LaterState earlier later = (seat : ℕ) (old : View) → get_elem? earlier.views seat ≡ some old → old.share ≢ None
+    → (new : View) × (get_elem? later.views seat ≡ some new) × (new.share ≢ None) × IsPrefix old.log new.log
 
--- so what follows a later state is one too, after any number of steps
+-- If a second state is later than a first, and a third later than the second, the third is later than the first.
 abbrev pub LaterStatesCompose : Type 0
-LaterStatesCompose = (s t u : State Entry View) → LaterState s t → LaterState t u → LaterState s u
+LaterStatesCompose = (first second third : State Entry View) → LaterState first second → LaterState second third → LaterState first third
 
--- what a step tells: of the step, the pass before it, the word that was found, and the pass after it
+-- A kind of atomic step, as a relation: which step was asked for, the pass before it, the word that was found, and the pass after it.
 abbrev pub StepKind : Type 1
 StepKind = Step Entry → Me Entry View → ℕ → Me Entry View → Type 0
 
--- after a step of this kind of the pass at a seat, whatever it finds and leaves, a state is a later one
+-- If the pass at a seat takes a step of this kind, the state after it is later, whatever word it found and whatever `words` it leaves.
 abbrev pub StepIsMonotone : StepKind → Type 0
-StepIsMonotone tells =
-    (s : State Entry View) (seat : ℕ) (st : Step Entry) (m : Me Entry View) (n : ℕ) (m' : Me Entry View) (words : List ℕ)
-    → get_elem? s.views seat ≡ some m.0 → tells st m n m' → LaterState s (record s { words = words; views = slice_set s.views seat m'.0 })
+StepIsMonotone kind =
+    (state : State Entry View) (seat : ℕ) (step : Step Entry) (before : Me Entry View) (found : ℕ) (after : Me Entry View) (words : List ℕ)
+    → get_elem? state.views seat ≡ some before.0 → kind step before found after
+    → LaterState state (record state { words = words; views = slice_set state.views seat after.0 })
 
--- after a split a state is a later one
+-- A split of a pass leads to a later state: `left` says what the pass at the seat becomes, `right` the new pass, added at the end.
 abbrev pub SplitIsMonotone : (View → View) → (View → View) → Type 0
-SplitIsMonotone left right =
-    (s : State Entry View) (seat : ℕ) (v : View) → get_elem? s.views seat ≡ some v
-    → LaterState s (record s { views = slice_set s.views seat (left v) ++ right v ∷ [] })
+SplitIsMonotone left right = (state : State Entry View) (seat : ℕ) (pass : View) → get_elem? state.views seat ≡ some pass
+    → LaterState state (record state { views = slice_set state.views seat (left pass) ++ right pass ∷ [] })
 
--- and after a note was taken in
+-- A join leads to a later state: the pass at a seat takes in a note, a pass without a share, at the seat `other`. `both` says what the pass
+-- becomes, and `spent` is what is left of the note.
 abbrev pub JoinIsMonotone : (View → View → View) → View → Type 0
 JoinIsMonotone both spent =
-    (s : State Entry View) → TableInvariant s → (seat other : ℕ) (v note : View)
-    → get_elem? s.views seat ≡ some v → get_elem? s.views other ≡ some note → other ≢ seat → note.share ≡ None
-    → LaterState s (record s { views = slice_set (slice_set s.views seat (both v note)) other spent })
+    (state : State Entry View) → TableInvariant state → (seat other : ℕ) (pass note : View)
+    → get_elem? state.views seat ≡ some pass → get_elem? state.views other ≡ some note → other ≢ seat → note.share ≡ None
+    → LaterState state (record state { views = slice_set (slice_set state.views seat (both pass note)) other spent })
 
--- a step of this kind that found the word that was there says that it found as many reporters as were enlisted
+-- In a state that satisfies the invariant, a step of this kind finds as many enlisted reporters as the log has, if it finds the word there.
 abbrev pub FindsEnlisted : StepKind → Type 0
-FindsEnlisted tells =
-    (s : State Entry View) (r : TableInvariant s) (st : Step Entry) (m m' : Me Entry View)
-    → tells st m (slice_index s.words st.word) m' → CountsReporters (enlisted_by r.log) m.0 m'.0
+FindsEnlisted kind = (state : State Entry View) (rule : TableInvariant state) (step : Step Entry) (before after : Me Entry View)
+    → kind step before (slice_index state.words step.word) after → CountsReporters (enlisted_by rule.log) before.0 after.0

@@ -1,9 +1,7 @@
-pub mod TableInvariants
-pub mod WordSteps
-pub mod Theorems
-pub mod WordCalls
-pub mod WordRecords
-pub mod CollectSteps
 pub mod WordViews
-pub mod CompletedCalls
+pub mod WordCalls
+pub mod CollectSteps
+pub mod TableInvariants
 pub mod LaterState
+pub mod Theorems
+pub mod WordRecords

@@ -1,4 +1,6 @@
--- What holds of all exchanges of match words, and of every running board.
+-- The theorems of word boards, on all boards of thirteen words between any two atomic steps. A state has the words and, by seat, what each
+-- pass (a thread's permission on the board) knows of the log of all steps. An entry is an accepted event; a list of them is a legal history
+-- if each is accepted after those before. In a later state each pass that can take steps is at its seat and knows all that it knew.
 use Rattle.std.specs.Prelude.{◌≡◌, ◌<◌, ℕ, List, length}
 use mathlib.Core.List.{IsPrefix}
 use mathlib.Core.Option.{some}
@@ -16,33 +18,35 @@ use Rattle.ucl_live_board.specs.declared.view.View.{View}
 use Rattle.ucl_words.specs.TableInvariants.{TableInvariant}
 use Rattle.ucl_words.specs.LaterState.{LaterState}
 
--- the word that takes the place of another where an entry is added, whatever the history is
+-- After any legal history in which the word of the entry's match is `old`, the entry may follow, and makes that word `new`.
 abbrev pub IsNextWord : Entry → ℕ → ℕ → Type 0
-IsNextWord e old new = GainsOne IsLegal (λ history. word_at (board_of history) e.game) e old new
+IsNextWord entry old new = GainsOne IsLegal (λ history. word_at (board_of history) entry.game) entry old new
 
--- two entries of one match with one word before and one word after are one entry
+-- Two entries of one match that turn the same word into the same word are one entry: so an exchange of words tells which event it entered.
 abbrev pub WordsTellTheEntry : Type 0
 WordsTellTheEntry =
-    (history : List Entry) (e f : Entry) (old new : ℕ) → IsLegal history → e.game ≡ f.game
-    → word_at (board_of history) e.game ≡ old → IsNextWord e old new → IsNextWord f old new → e ≡ f
+    (history : List Entry) (entry other : Entry) (old new : ℕ) → IsLegal history → entry.game ≡ other.game
+    → word_at (board_of history) entry.game ≡ old → IsNextWord entry old new → IsNextWord other old new → entry ≡ other
 
--- whatever the steps of a board are, and between any two of them: all calls of all passes are linearizable, and the log is a run of
--- the machine, of which each step on a match word is one step
-pub record BoardIsLinearizable (s : State Entry View) (r : TableInvariant s) : Type 0 where
-  pub linearizable : IsLinearizableLog r.log
-  pub run : LeadsToLog (length s.views) r.log
+-- In a state that satisfies the invariant (by `rule`, which has the log of all steps), all reports and readings of all passes are
+-- linearizable, and the log is a run of the protocol's pure machine (`ucl_steps`), of which each step on a match word is one step.
+pub record BoardIsLinearizable (state : State Entry View) (rule : TableInvariant state) : Type 0 where
+  pub linearizable : IsLinearizableLog rule.log
+  pub run : LeadsToLog (length state.views) rule.log
 
+-- Every state that satisfies the invariant is linearizable, so every board is, between any two steps of any threads.
 abbrev pub BoardsAreLinearizable : Type 0
-BoardsAreLinearizable = (s : State Entry View) (r : TableInvariant s) → BoardIsLinearizable s r
+BoardsAreLinearizable = (state : State Entry View) (rule : TableInvariant state) → BoardIsLinearizable state rule
 
--- the log of a later state goes on from that of the earlier one
+-- If one state is later than another, and both satisfy the invariant, its log begins with the log of the earlier one.
 abbrev pub LaterBoardsExtend : Type 0
-LaterBoardsExtend =
-    (s t : State Entry View) (r : TableInvariant s) (q : TableInvariant t) → LaterState s t → IsPrefix r.log q.log
+LaterBoardsExtend = (earlier later : State Entry View) (old : TableInvariant earlier) (new : TableInvariant later) → LaterState earlier later
+    → IsPrefix old.log new.log
 
--- the number that a reader was given is above all that had been given when it had none
+-- If a reader's pass of the earlier state is a reporter's in the later one, its number is above all that the earlier state had given.
 abbrev pub NumbersRiseInTime : Type 0
 NumbersRiseInTime =
-    (s t : State Entry View) (r : TableInvariant s) → TableInvariant t → LaterState s t
-    → (seat : ℕ) (v w : View) → get_elem? s.views seat ≡ some v → number_of v.own ≡ 0 → get_elem? t.views seat ≡ some w → 0 < number_of w.own
-    → IsGivenAfter (enlisted_by r.log) s.views (number_of w.own)
+    (earlier later : State Entry View) (rule : TableInvariant earlier) → TableInvariant later → LaterState earlier later
+    → (seat : ℕ) (reader reporter : View) → get_elem? earlier.views seat ≡ some reader → number_of reader.own ≡ 0
+    → get_elem? later.views seat ≡ some reporter → 0 < number_of reporter.own
+    → IsGivenAfter (enlisted_by rule.log) earlier.views (number_of reporter.own)

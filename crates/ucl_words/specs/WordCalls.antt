@@ -1,5 +1,7 @@
--- What a call of the word board says of the steps that it takes, one by one.
--- The pass was v and is w.
+-- What a call on a word board does, step by step. A pass is a thread's permission on the board: `old` is what contracts know of it before
+-- the call, and `new` afterwards. A step is one load or one compare and exchange of a word; a pass knows a prefix of the log of all steps,
+-- and has seen its history: the accepted events (entries) of all passes. An access is a step on a match word, as the trail of its pass
+-- keeps it: what was done, of which match, the word found, and the length of the history then.
 use Rattle.std.specs.Prelude.{◌≡◌, ◌≢◌, ◌⊎◌, ℕ, ◌+◌, ◌<◌, ◌≤◌, List, [], ◌∷◌, ◌++◌, length, Option, Some, None, Result, slice_get}
 use Rattle.ucl_word.specs.declared.event.EventCall.{EventCall}
 use Rattle.ucl_word.specs.declared.event.Accepted.{Accepted}
@@ -7,67 +9,88 @@ use Rattle.ucl_word.specs.declared.refusal.Refusal.{Refusal}
 use Rattle.ucl_board.specs.declared.entry.Entry.{Entry}
 use Rattle.ucl_board.specs.declared.reading.Reading.{Reading}
 use Rattle.ucl_board.specs.Log.{Access, Taken, history_of, number_of}
+use Rattle.ucl_steps.specs.declared.step.Call.{Call}
 use Rattle.ucl_steps.specs.declared.step.Call.TheVariants as calls
-use Rattle.ucl_steps.specs.Protocol.{MayAsk}
+use Rattle.ucl_steps.specs.declared.trace.Reply.{Reply}
+use Rattle.ucl_steps.specs.Protocol.{MayAsk, NoCall}
+use Rattle.ucl_steps.specs.ClientState.{FinishedCall, client_of}
 use Rattle.ucl_steps.specs.Trails.{Follows, ReportAccesses, max_tries, ReadingAccesses}
 use Rattle.ucl_live_board.specs.declared.view.View.{View}
 use Rattle.ucl_live_board.specs.Passes.{IsSound}
 use Rattle.ucl_live_board.specs.Views.{count_of, trail_of, Takes}
+use Rattle.ucl_live_board.specs.CallSteps.{steps_with, entry_made, FoundEnlisted}
 use Rattle.ucl_words.specs.WordViews.{pass_view_of}
-use Rattle.ucl_live_board.specs.CallSteps.{steps_with, entry_made, FoundEnlisted, EnlistSteps}
 
--- along the whole trail the places never fall, and each word that was found is that of its match at its place
+-- The trail of this pass agrees with the history: along it lengths never fall, and each word found is its match's after so many entries.
 abbrev pub HasTrail : View → Type 0
-HasTrail v = Follows (history_of v.log) 0 (trail_of v) (length (history_of v.log))
+HasTrail pass = Follows (history_of pass.log) 0 (trail_of pass) (length (history_of pass.log))
 
--- what holds of a pass between calls
-pub record IsConsistent (v : View) : Type 0 where
-  pub sound : IsSound (pass_view_of v)
-  pub told : v.told ≡ []
-  pub trail : HasTrail v
+-- What always holds of a pass between two calls: its history is legal and its entries are those under its own number (`sound`); no other
+-- pass has told it anything since its own last step (`told`); and its trail agrees with the history (`trail`).
+pub record IsConsistent (pass : View) : Type 0 where
+  pub sound : IsSound (pass_view_of pass)
+  pub told : pass.told ≡ []
+  pub trail : HasTrail pass
 
--- the steps of a call are on match words alone: each leaves one access, these are between what was seen before and
--- what is seen after, and
--- the last may have added an entry
-pub record LeavesAccesses (v : View) (accesses : List Access) (entry : Option Entry) (w : View) : Type 0 where
-  pub takes : Takes v (steps_with entry accesses) w
-  pub trail : trail_of w ≡ trail_of v ++ accesses
-  pub taken : count_of w ≡ count_of v + length accesses
-  pub follows : Follows (history_of w.log) (length (history_of v.log)) accesses (length (history_of w.log))
-  pub whole_trail : HasTrail w
+-- Between `old` and `new` the pass took steps on match words alone: exactly these accesses, none at a length of the history below what it
+-- had seen or above what it has seen since; the last of them added the entry, if there is one.
+pub record LeavesAccesses (old : View) (accesses : List Access) (entry : Option Entry) (new : View) : Type 0 where
+  pub takes : Takes old (steps_with entry accesses) new
+  pub trail : trail_of new ≡ trail_of old ++ accesses
+  pub taken : count_of new ≡ count_of old + length accesses
+  pub follows : Follows (history_of new.log) (length (history_of old.log)) accesses (length (history_of new.log))
+  pub whole_trail : HasTrail new
 
--- the steps of a report
-pub record ReportSteps (v : View) (call : EventCall) (reply : Result Accepted Refusal) (w : View) : Type 0 where
-  pub may : MayAsk (number_of v.own) (calls.Event call)
+-- The steps of a report of `call`: a load, on whose word the rules refuse the event, or a load and an exchange, won (accepted) or lost.
+pub record ReportSteps (old : View) (call : EventCall) (reply : Result Accepted Refusal) (new : View) : Type 0 where
+  pub may : MayAsk (number_of old.own) (calls.Event call)
   pub accesses : List Access
-  pub leaves : LeavesAccesses v accesses (entry_made (number_of v.own) call reply) w
-  pub report : ReportAccesses call reply accesses (length (history_of w.log))
+  pub leaves : LeavesAccesses old accesses (entry_made (number_of old.own) call reply) new
+  pub report : ReportAccesses call reply accesses (length (history_of new.log))
 
--- the steps of a reading, in no more than the most tries, and in at most one try more than there were events meanwhile: since
--- its first access
-pub record ReadingSteps (v : View) (reading : Reading) (w : View) : Type 0 where
+-- The steps of a reading. Each try loads all match words, then loads them again up to the first that has changed; only in the last try none
+-- has. There are at most `max_tries` tries, and at most one more than events were accepted after the first load.
+pub record ReadingSteps (old : View) (reading : Reading) (new : View) : Type 0 where
   pub accesses : List Access
-  pub leaves : LeavesAccesses v accesses None w
+  pub leaves : LeavesAccesses old accesses None new
   pub collects : ReadingAccesses reading accesses
   pub few : length collects.tries + 1 ≤ max_tries
-  pub meanwhile : (first : Access) → slice_get accesses 0 ≡ Some first → length collects.tries + first.at ≤ length (history_of w.log)
+  pub meanwhile : (first : Access) → slice_get accesses 0 ≡ Some first → length collects.tries + first.at ≤ length (history_of new.log)
 
--- exchanges of the number of enlisted reporters, the first of them tried from this number: one that finds another
--- is followed by one that is tried from what it found; one that finds it
--- is won, is the last, and gives the number after it; and none is tried where as many are enlisted as there are numbers
+-- These steps are the compare and exchanges of an enlistment, which gives a reader a number: the first expects `expected` reporters. One
+-- that finds another number is followed by one that expects what it found. One that finds what it expected is the last, and gives the
+-- number after it. None expects 255 or more: then no number is given.
 abbrev pub Enlisting : ℕ → List Taken → Option ℕ → Type 0
-Enlisting known [] given = (255 ≤ known) × (given ≡ None)
-Enlisting known (x ∷ steps) given =
-    (found : ℕ) × FoundEnlisted found x × (known < 255) × (((found ≡ known) × (steps ≡ []) × (given ≡ Some (known + 1))) ⊎ ((found ≢ known) × Enlisting found steps given))
+Enlisting expected [] given = (255 ≤ expected) × (given ≡ None)
+Enlisting expected (step ∷ steps) given = (found : ℕ) × FoundEnlisted found step × (expected < 255)
+    × (((found ≡ expected) × (steps ≡ []) × (given ≡ Some (expected + 1))) ⊎ ((found ≢ expected) × Enlisting found steps given))
 
--- the steps of an enlistment, which gave a number or found none left
-pub record EnlistTries (v : View) (given : Option ℕ) (w : View) : Type 0 where
+-- Between `old` and `new` the pass took exactly the steps of one enlistment, which gave it the number `given`: None if 255 were given.
+pub record EnlistTries (old : View) (given : Option ℕ) (new : View) : Type 0 where
   pub steps : List Taken
-  pub takes : Takes v steps w
+  pub takes : Takes old steps new
   pub tries : Enlisting 0 steps given
 
--- a call that leaves no access: its steps are on the number of enlisted reporters alone
-pub record KeepsTrail (v w : View) : Type 0 where
-  pub steps : EnlistSteps v w
-  pub trail : trail_of w ≡ trail_of v
-  pub whole_trail : HasTrail w
+-- Between `old` and `new` the pass took no step on a match word: its trail is as it was, and agrees with the history that it has seen.
+pub record KeepsTrail (old new : View) : Type 0 where
+  pub trail : trail_of new ≡ trail_of old
+  pub whole_trail : HasTrail new
+
+-- The report or reading `call` of the pass was answered with this reply: it is the last of its finished calls, and its last step is the
+-- last of the log that the pass knows; no call is under way.
+pub record IsAnswered (old : View) (call : Call) (reply : Reply) (new : View) : Type 0 where
+  pub last : FinishedCall
+  pub calls : (client_of new.own).calls ≡ (client_of old.own).calls ++ last ∷ []
+  pub asked : (last.call ≡ call) × (last.reply ≡ reply) × (last.number ≡ (client_of old.own).number)
+  pub ended : length new.log ≡ last.last + 1
+  pub held : (client_of new.own).held ≡ NoCall
+
+-- Between `old` and `new` the report or reading `call` was begun and answered: its first step came after all steps that the pass had known.
+pub record CompletesCall (old : View) (call : Call) (reply : Reply) (new : View) : Type 0 where
+  pub answers : IsAnswered old call reply new
+  pub since : length old.log ≤ answers.last.first
+
+-- Between `old` and `new` the pass finished no report and no reading, and began none.
+pub record DoneAsBefore (old new : View) : Type 0 where
+  pub calls : (client_of new.own).calls ≡ (client_of old.own).calls
+  pub held : (client_of new.own).held ≡ (client_of old.own).held

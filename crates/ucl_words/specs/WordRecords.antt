@@ -1,6 +1,8 @@
--- What each call of the word board says of its passes, in one record.
--- The pass was k and is m.
-use Rattle.std.specs.Prelude.{◌≡◌, ◌+◌, ◌≤◌, [], None, Some, Result}
+-- What each public call of a word board promises: one record for each call, of which most begin with what every shared board says (`says`).
+-- A pass is a thread's permission on the board: `old` is what contracts know of it before the call, `new` afterwards; its seat is its place
+-- in the list of all passes, its share its fraction of the permission. A step is one load or one compare and exchange of a word. A pass has
+-- seen a prefix of the accepted events. By `occurs`, some state that satisfies the invariant of the board has the pass as it is then.
+use Rattle.std.specs.Prelude.{◌≡◌, ◌+◌, ◌≤◌, None, Some, Result}
 use Rattle.ucl_word.specs.declared.event.EventCall.{EventCall}
 use Rattle.ucl_word.specs.declared.event.Accepted.{Accepted}
 use Rattle.ucl_word.specs.declared.refusal.Refusal.{Refusal}
@@ -10,84 +12,82 @@ use Rattle.ucl_steps.specs.declared.trace.Reply.TheVariants as replies
 use Rattle.ucl_steps.specs.Protocol.{report_reply}
 use Rattle.ucl_steps.specs.Trails.{max_loads}
 use Rattle.ucl_live_board.specs.LiveRecords.{LiveReported, LiveRead, LiveSplit, LiveFull, LiveMet}
-use Rattle.ucl_live_board.specs.Passes.{Enlistment, opening_pass}
+use Rattle.ucl_live_board.specs.Passes.{Enlistment}
 use Rattle.ucl_board.specs.Log.{number_of}
-use Rattle.ucl_live_board.specs.Views.{count_of, left_pass, trail_of}
-use Rattle.ucl_live_board.specs.CallSteps.{HasCopyOf, MeetingSteps}
-use Rattle.ucl_words.specs.WordCalls.{EnlistTries, KeepsTrail, ReportSteps, ReadingSteps}
-use Rattle.ucl_words.specs.CompletedCalls.{CompletesCall, DoneAsBefore}
+use Rattle.ucl_live_board.specs.Views.{count_of, first_pass, left_pass, second_pass}
+use Rattle.ucl_live_board.specs.CallSteps.{MeetingSteps}
+use Rattle.ucl_words.specs.WordCalls.{CompletesCall, DoneAsBefore, EnlistTries, KeepsTrail, ReportSteps, ReadingSteps}
 use Rattle.ucl_words.specs.TableInvariants.{Occurs, OccurAfterSplit}
 use Rattle.ucl_words.specs.WordViews.{WordPass, pass_view_of}
 
--- the first pass of a board that was just opened
-pub record WordOpened (m : WordPass) : Type 0 where
-  pub fresh : pass_view_of m.pass ≡ opening_pass
-  pub untaken : (m.pass.copied ≡ []) × (m.pass.own ≡ [])
-  pub occurs : Occurs m.seat m.pass
+-- What `open` promises of the first pass of a new board: it has seen and done nothing, and has the whole board to itself.
+pub record WordOpened (new : WordPass) : Type 0 where
+  pub fresh : new.pass ≡ first_pass
+  pub occurs : Occurs new.seat new.pass
 
--- an event was entered or refused
-pub record WordReported (k : WordPass) (call : EventCall) (reply : Result Accepted Refusal) (m : WordPass) : Type 0 where
-  pub own : m.board ≡ k.board
-  pub seat : m.seat ≡ k.seat
-  pub says : LiveReported (pass_view_of k.pass) call reply (pass_view_of m.pass)
-  pub steps : ReportSteps k.pass call reply m.pass
-  pub answers : CompletesCall k.pass (calls.Event call) (report_reply reply) m.pass
-  pub most : count_of m.pass ≤ count_of k.pass + 2
-  pub occurs : Occurs m.seat m.pass
+-- What a report promises: the event `call` was entered or refused, by one load and at most one compare and exchange of its match word. It
+-- is the last call that its pass has finished, with this reply (`answers`).
+pub record WordReported (old : WordPass) (call : EventCall) (reply : Result Accepted Refusal) (new : WordPass) : Type 0 where
+  pub own : new.board ≡ old.board
+  pub seat : new.seat ≡ old.seat
+  pub says : LiveReported (pass_view_of old.pass) call reply (pass_view_of new.pass)
+  pub steps : ReportSteps old.pass call reply new.pass
+  pub answers : CompletesCall old.pass (calls.Event call) (report_reply reply) new.pass
+  pub most : count_of new.pass ≤ count_of old.pass + 2
+  pub occurs : Occurs new.seat new.pass
 
--- the board was read
-pub record WordRead (k : WordPass) (read : Reading) (m : WordPass) : Type 0 where
-  pub own : m.board ≡ k.board
-  pub seat : m.seat ≡ k.seat
-  pub says : LiveRead (pass_view_of k.pass) read (pass_view_of m.pass)
-  pub steps : ReadingSteps k.pass read m.pass
-  pub answers : CompletesCall k.pass calls.Reading (replies.Copied read) m.pass
-  pub least : count_of k.pass + 24 ≤ count_of m.pass
-  pub most : count_of m.pass ≤ count_of k.pass + max_loads
-  pub occurs : Occurs m.seat m.pass
+-- What a reading promises: `read` is a snapshot of the board, taken in a bounded number of tries, each of at most 24 loads of match words.
+pub record WordRead (old : WordPass) (read : Reading) (new : WordPass) : Type 0 where
+  pub own : new.board ≡ old.board
+  pub seat : new.seat ≡ old.seat
+  pub says : LiveRead (pass_view_of old.pass) read (pass_view_of new.pass)
+  pub steps : ReadingSteps old.pass read new.pass
+  pub answers : CompletesCall old.pass calls.Reading (replies.Copied read) new.pass
+  pub least : count_of old.pass + 24 ≤ count_of new.pass
+  pub most : count_of new.pass ≤ count_of old.pass + max_loads
+  pub occurs : Occurs new.seat new.pass
 
--- a second pass n was split off: the pass has the first half of its share, and is else as it was
-pub record WordSplit (k m n : WordPass) : Type 0 where
-  pub own : (m.board ≡ k.board) × (n.board ≡ k.board)
-  pub seat : m.seat ≡ k.seat
-  pub says : LiveSplit (pass_view_of k.pass) (pass_view_of m.pass) (pass_view_of n.pass)
-  pub kept : m.pass ≡ left_pass k.pass
-  pub does : DoneAsBefore k.pass m.pass
-  pub steps : (count_of n.pass ≡ count_of k.pass) × (trail_of n.pass ≡ trail_of k.pass)
-  pub copy : HasCopyOf n.pass k.pass
-  pub nothing : n.pass.own ≡ []
-  pub occurs : OccurAfterSplit k.pass m.pass n.pass
+-- What a split promises of the pass that it splits, `old` and then `new`, and of the `second` pass that it returns: it takes no step, the
+-- first keeps half of its share of the board, and the second knows as much and has the other half.
+pub record WordSplit (old new second : WordPass) : Type 0 where
+  pub own : (new.board ≡ old.board) × (second.board ≡ old.board)
+  pub seat : new.seat ≡ old.seat
+  pub says : LiveSplit (pass_view_of old.pass) (pass_view_of new.pass) (pass_view_of second.pass)
+  pub kept : new.pass ≡ left_pass old.pass
+  pub given : second.pass ≡ second_pass old.pass
+  pub occurs : OccurAfterSplit old.pass new.pass second.pass
 
--- a reader's pass became a reporter's
-pub record WordEnlisted (k m : WordPass) : Type 0 where
-  pub own : m.board ≡ k.board
-  pub seat : m.seat ≡ k.seat
-  pub enlisted : Enlistment (pass_view_of k.pass) (pass_view_of m.pass)
-  pub trail : KeepsTrail k.pass m.pass
-  pub tries : EnlistTries k.pass (Some (number_of m.pass.own)) m.pass
-  pub does : DoneAsBefore k.pass m.pass
-  pub most : count_of m.pass ≤ count_of k.pass + 255
-  pub occurs : Occurs m.seat m.pass
+-- What an enlistment promises: a reader's pass became a reporter's, with a number of its own, by at most 255 compare and exchanges.
+pub record WordEnlisted (old new : WordPass) : Type 0 where
+  pub own : new.board ≡ old.board
+  pub seat : new.seat ≡ old.seat
+  pub enlisted : Enlistment (pass_view_of old.pass) (pass_view_of new.pass)
+  pub trail : KeepsTrail old.pass new.pass
+  pub tries : EnlistTries old.pass (Some (number_of new.pass.own)) new.pass
+  pub does : DoneAsBefore old.pass new.pass
+  pub most : count_of new.pass ≤ count_of old.pass + 255
+  pub occurs : Occurs new.seat new.pass
 
--- a pass that was to be enlisted found that as many reporters are enlisted as there are numbers
-pub record WordFull (k m : WordPass) : Type 0 where
-  pub own : m.board ≡ k.board
-  pub seat : m.seat ≡ k.seat
-  pub says : LiveFull (pass_view_of k.pass) (pass_view_of m.pass)
-  pub trail : KeepsTrail k.pass m.pass
-  pub tries : EnlistTries k.pass None m.pass
-  pub does : DoneAsBefore k.pass m.pass
-  pub most : count_of m.pass ≤ count_of k.pass + 255
-  pub occurs : Occurs m.seat m.pass
+-- What an enlistment promises if no number is left: the reader's pass comes back, and has found 255 reporters enlisted.
+pub record WordFull (old new : WordPass) : Type 0 where
+  pub own : new.board ≡ old.board
+  pub seat : new.seat ≡ old.seat
+  pub says : LiveFull (pass_view_of old.pass) (pass_view_of new.pass)
+  pub trail : KeepsTrail old.pass new.pass
+  pub tries : EnlistTries old.pass None new.pass
+  pub does : DoneAsBefore old.pass new.pass
+  pub most : count_of new.pass ≤ count_of old.pass + 255
+  pub occurs : Occurs new.seat new.pass
 
--- the pass met another, which was a and is b
-pub record WordMet (a b k m : WordPass) : Type 0 where
-  pub own : (b.board ≡ a.board) × (m.board ≡ k.board)
-  pub seat : m.seat ≡ k.seat
-  pub says : LiveMet (pass_view_of a.pass) (pass_view_of b.pass) (pass_view_of k.pass) (pass_view_of m.pass)
-  pub unchanged : b ≡ a
-  pub trail : KeepsTrail k.pass m.pass
-  pub does : DoneAsBefore k.pass m.pass
-  pub steps : MeetingSteps k.pass m.pass
-  pub taken : count_of m.pass ≡ count_of k.pass + 1
-  pub occurs : Occurs m.seat m.pass
+-- What a meeting of two passes promises: the pass `old`, then `new`, has seen all events that either had seen, after one load of the number
+-- of reporters; the other pass, `other_old` and then `other_new`, is as it was.
+pub record WordMet (other_old other_new old new : WordPass) : Type 0 where
+  pub own : (other_new.board ≡ other_old.board) × (new.board ≡ old.board)
+  pub seat : new.seat ≡ old.seat
+  pub says : LiveMet (pass_view_of other_old.pass) (pass_view_of other_new.pass) (pass_view_of old.pass) (pass_view_of new.pass)
+  pub unchanged : other_new ≡ other_old
+  pub trail : KeepsTrail old.pass new.pass
+  pub does : DoneAsBefore old.pass new.pass
+  pub steps : MeetingSteps old.pass new.pass
+  pub taken : count_of new.pass ≡ count_of old.pass + 1
+  pub occurs : Occurs new.seat new.pass

@@ -1,4 +1,6 @@
--- What contracts read off the view of a pass of the word board.
+-- What contracts know of a pass of a word board. A pass is a thread's permission on the board, a reader's or a reporter's; its share is the
+-- fraction of the permission that it has. A step is one load or one compare and exchange of a word, and the log has all steps of all
+-- passes. A client is what the steps of a pass make of it: its number (0 for a reader), and its finished reports and readings (calls).
 use Rattle.std.specs.Prelude.{ℕ, ◌==◌, List, [], ◌∷◌, if◌then◌else◌}
 use Rattle.std.specs.List.{flat_map}
 use Rattle.atomic_table.specs.Seated.{TableId}
@@ -10,25 +12,30 @@ use Rattle.ucl_live_board.specs.declared.view.View.{View}
 use Rattle.ucl_live_board.specs.Passes.{PassView}
 use Rattle.ucl_live_board.specs.Views.{pass_view_by}
 
--- the versions of the readings that a pass has had since it has its number
+-- The version in a reply, that is, how many events the board had that was read, as a list: none if it is the reply of a report.
 abbrev pub version_in : Reply → List ℕ
 version_in (Copied reading) = reading.version ∷ []
 version_in reply = []
 
+-- The versions (how many entries the history had) of the readings that a client finished since it has its present number, oldest first.
 abbrev pub versions_by : ClientState → List ℕ
-versions_by d = flat_map (λ c. if c.number == d.number then version_in c.reply else []) d.calls
+versions_by client = flat_map (λ call. if call.number == client.number then version_in call.reply else []) client.calls
 
+-- The versions of the readings that a pass with these steps has finished, oldest first, since it was enlisted if it is a reporter's.
 abbrev pub versions_shown : List Taken → List ℕ
 versions_shown steps = versions_by (client_of steps)
 
+-- What every shared board says of a pass, by its view: the events that it has seen, its own, its number, its share, its readings' versions.
 abbrev pub pass_view_of : View → PassView
-pass_view_of v = pass_view_by versions_shown v
+pass_view_of pass = pass_view_by versions_shown pass
 
--- the board that a pass is of, its seat there, and what it knows and has done
+-- What contracts see of a pass: which board it is of, its place in the list of all passes (`seat`), and its view (`pass`), that is, the
+-- prefix of the log that it knows, its own steps, and its share of the board.
 pub record WordPass : Type 0 where
   pub board : TableId
   pub seat : ℕ
   pub pass : View
 
+-- What contracts see of the pass of this board, in this place (`seat`) of the list of all passes, with this view.
 abbrev pub pass_of : TableId → ℕ → View → WordPass
-pass_of board seat v = record { board = board; seat = seat; pass = v }
+pass_of board seat pass = record { board = board; seat = seat; pass = pass }

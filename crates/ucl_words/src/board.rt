@@ -1,11 +1,13 @@
-//! The board over thirteen atomic words, and its calls.
+//! A board that threads share, over thirteen atomic words: the number of reporters, and the twelve matches of a group. A pass is a thread's
+//! permission on the board, a reader's or a reporter's; its seat is its identity there, by which it takes steps, and `seat.me.0` what
+//! contracts know of it. A step is one load or one compare and exchange of a word: `K: Asking` picks, in proofs alone, its seat and event,
+//! `acts` says that the pass may take steps, and `next` that this one comes next. `held` is what a pass keeps of a call under way.
 
 ghost use Rattle.std.specs.Prelude.{◌≡◌, ◌≢◌, ◌<◌, [], length, IfOk, IsSome, MatchResult, MatchBool};
 ghost use Rattle.atomic_table.specs.Seated.{TableId};
 ghost use Rattle.ucl_board.specs.Fixtures.{IsMatch};
 ghost use Rattle.ucl_board.specs.History.{reading_of};
-ghost use Rattle.ucl_words.specs.TableInvariants.{words_after, ImpliesInvariant, Occurs};
-ghost use Rattle.ucl_words.specs.WordSteps.{Steps};
+ghost use Rattle.ucl_words.specs.TableInvariants.{words_after, ImpliesInvariant, Occurs, Steps};
 ghost use Rattle.ucl_words.specs.CollectSteps.{Collects, FindsAgain, FindsAnother, IsHoldingFor, MayCollect, StaysIn, Finishes};
 ghost use Rattle.ucl_words.specs.WordCalls.{IsConsistent};
 ghost use Rattle.ucl_words.specs.WordRecords.{WordOpened, WordReported, WordRead, WordSplit, WordEnlisted, WordFull, WordMet};
@@ -31,16 +33,16 @@ use ucl_board::{Board, Entry, Reading};
 use ucl_live_board::{MAX_REPORTERS, TooManyReporters, View};
 use ucl_word::{Accepted, EventCall, OutOfMemory, Refusal, ReporterNo, next_word, number_of};
 
-/// Which word of the table is the number of enlisted reporters; words 1 to 12 are the matches.
+/// The index of the word that counts the enlisted reporters; words 1 to 12 are the matches.
 const ENLISTED: usize = 0;
 
-/// A board of thirteen words that are loaded and exchanged one at a time: the number of enlisted reporters, and the twelve matches.
-/// Contracts see which table it is.
+/// A board of thirteen words that threads share and that never waits: each word is loaded or exchanged in one atomic step. Contracts see
+/// which table of words it is.
 ///
-/// Each load and exchange of a match word leaves an access on the trail of its pass: what it did, of which match, the word that it found,
-/// and how many events had been accepted. By the invariant of the table the steps of all passes are one log, each the next one of the protocol
-/// (`ucl_steps`), and each report and each reading is a call of it, with the answer that was given. None of the six calls whose names end
-/// in `_now` can wait.
+/// Each load and exchange of a match word leaves an access on the trail of its pass, in contracts alone: what it did, of which match, the
+/// word that it found, and how many events had been accepted. By the invariant of the table the steps of all passes are one log, each the
+/// next one of the protocol (`ucl_steps`), and each report and each reading is a call of it, with the answer that was given. None of the
+/// six calls whose names end in `_now` can wait.
 #[derive(Drop)]
 pub struct WordBoard {
     table: Table,
@@ -55,7 +57,7 @@ impl Model for WordBoard {
         × (b.table.shared.table_id.slots ≡ 0) };
 }
 
-/// Returns the words before any event, with no reporter enlisted.
+/// Returns the thirteen words of a board of no event, with no reporter enlisted.
 fn fresh_words() -> [u64; 13]
     ensures { result ≡ words_after [] 0 }
 {
@@ -65,9 +67,12 @@ fn fresh_words() -> [u64; 13]
 }
 
 impl WordBoard {
-    /// Opens the fresh board, and returns the reader's pass from which all its passes come. The invariant of the table lets no board open but one of no event,
-    /// no reporter and no step. Where the memory of the table is refused the answer is `OutOfMemory`, and there is no board. No other call
-    /// takes memory.
+    /// Opens a board of no event, and returns it with the reader's pass from which all its passes come. The invariant of its table implies
+    /// that of word boards (`tied`), and lets no board open but one of no event, reporter or step (`rule`). No other call takes memory.
+    ///
+    /// # Errors
+    ///
+    /// `OutOfMemory` if the memory of the table is refused; then there is no board.
     ///
     /// ```rust
     /// let (board, mut reader) = WordBoard::open(&rt, rt.alloc())?;
@@ -84,7 +89,7 @@ impl WordBoard {
         Ok((WordBoard { table }, WordReaderPass { seat }))
     }
 
-    /// Loads the word of an event's match, for a report.
+    /// Loads the word of the match that the event `call` names: the first step of a report. The pass is a reporter's (`me`).
     fn look<K: Asking>(&self, seat: &mut Seat, call: &EventCall) -> u64
         requires table { seat.old.table_id ≡ self.now }
         requires acts { IsSome seat.old.me.0.share }
@@ -102,7 +107,7 @@ impl WordBoard {
         self.table.shared.load::<Look<K>>(seat, word)
     }
 
-    /// Puts the next word of a match in the place of the one that was loaded, where it is still there, and answers the word that was found.
+    /// Replaces the word of the entry's match by `next` if it is still `loaded`, and so enters the entry; returns the word that it found.
     fn swap<K: Asking>(&self, seat: &mut Seat, loaded: u64, next: u64, entry: Entry) -> u64
         requires table { seat.old.table_id ≡ self.now }
         requires acts { IsSome seat.old.me.0.share }
@@ -119,7 +124,7 @@ impl WordBoard {
             .compare_exchange_with::<Swap<K>>(seat, word, loaded, next, &entry)
     }
 
-    /// Loads words 1 to 12: the first collect.
+    /// Loads all twelve match words, one after another: the first collect of a reading.
     fn collect(&self, seat: &mut Seat) -> [u64; 12]
         requires table { seat.old.table_id ≡ self.now }
         requires consistent { IsConsistent seat.old.me.0 }
@@ -138,7 +143,7 @@ impl WordBoard {
         words
     }
 
-    /// Loads a word of the second collect.
+    /// Loads a match word again, the next that the second collect of a reading is to compare.
     fn load_again<K: Asking>(&self, seat: &mut Seat, word: usize) -> u64
         requires table { seat.old.table_id ≡ self.now }
         requires acts { IsSome seat.old.me.0.share }
@@ -153,7 +158,7 @@ impl WordBoard {
         self.table.shared.load::<Second<K>>(seat, word)
     }
 
-    /// Loads words 1 to 12 again, up to the first that is another: the second collect.
+    /// Loads the match words again, up to the first that is not the one in `words`, and returns whether all are: a second collect.
     fn is_clean(&self, seat: &mut Seat, words: &[u64; 12]) -> bool
         requires table { seat.old.table_id ≡ self.now }
         requires consistent { IsConsistent seat.old.me.0 }
@@ -178,7 +183,8 @@ impl WordBoard {
         true
     }
 
-    /// Reads by the clean double collect. Each try that is not clean has seen a longer history, so there are few.
+    /// Reads the board: loads all match words, and loads them again, until none has changed. During each try but the last an event was
+    /// accepted, so there are at most as many tries as a history has lengths.
     fn read_by(&self, seat: &mut Seat) -> Reading
         requires table { seat.old.table_id ≡ self.now }
         requires consistent { IsConsistent seat.old.me.0 }
@@ -195,7 +201,7 @@ impl WordBoard {
         }
     }
 
-    /// Puts one more in the place of the number of enlisted reporters, where it is still as many as are known, and answers how many were found.
+    /// Adds one to the number of enlisted reporters if it is `tried` (`won`); returns the number found, another if not (`missed`).
     fn add_reporter<K: Asking>(&self, seat: &mut Seat, tried: u64) -> u64
         requires table { seat.old.table_id ≡ self.now }
         requires acts { IsSome seat.old.me.0.share }
@@ -215,7 +221,7 @@ impl WordBoard {
             .compare_exchange::<Enlist<K>>(seat, ENLISTED, tried, tried + 1)
     }
 
-    /// Loads the number of enlisted reporters.
+    /// Loads the number of enlisted reporters, in one step of the pass that acts by this seat.
     fn count<K: Asking>(&self, seat: &mut Seat) -> u64
         requires table { seat.old.table_id ≡ self.now }
         requires acts { IsSome seat.old.me.0.share }
@@ -227,9 +233,13 @@ impl WordBoard {
         self.table.shared.load::<CountEnlisted<K>>(seat, ENLISTED)
     }
 
-    /// Enters an event under the number of the pass, by one load and at most one compare and exchange of its match word. An accepted
-    /// event is the last that the pass has seen. A refusal is the reply of a board of one thread after all that the pass has then seen,
-    /// and enters nothing; where another event of the match came between the load and the exchange, it is `Stale` with the number found.
+    /// Enters the event `call` under the number of the pass, by one load and at most one compare and exchange of its match word. An
+    /// accepted event is the last that the pass has then seen.
+    ///
+    /// # Errors
+    ///
+    /// The refusal that a board of one thread gives after all events that the pass has then seen: nothing is entered. If another event of
+    /// the match came between the load and the exchange, it is `Stale` with the event number that was found.
     ///
     /// ```rust
     /// let (board, pass) = WordBoard::open(&rt, rt.alloc())?;
@@ -255,10 +265,9 @@ impl WordBoard {
         let entry = Entry::of(pass.number, call);
         let found = self.swap::<Brand>(&mut pass.seat, loaded, next, entry);
         if found == loaded {
+            let number = number_of(next);
             pass.accepted += 1;
-            Ok(Accepted {
-                number: number_of(next),
-            })
+            Ok(Accepted { number })
         } else {
             Err(Refusal::Stale {
                 found: number_of(found),
@@ -266,8 +275,8 @@ impl WordBoard {
         }
     }
 
-    /// Reads the board after a prefix of the history that has all that the pass had seen, and its version: loads all match words, and loads
-    /// them again, anew from the first where one is another, in no more tries than a history can have lengths, of at most 24 loads.
+    /// Reads the board and its version, as they were at one moment of this call: loads all match words, and loads them again, and begins
+    /// anew if one has changed, in no more tries than a history can have lengths, of at most 24 loads each.
     ///
     /// ```rust
     /// let (board, mut reader) = WordBoard::open(&rt, rt.alloc())?;
@@ -282,7 +291,7 @@ impl WordBoard {
         self.read_by(&mut pass.seat)
     }
 
-    /// Does the same for a reporter.
+    /// Reads the board and its version, as they were at one moment of this call, by a reporter's pass, in the same steps as `read_now`.
     ///
     /// ```rust
     /// let (board, pass) = WordBoard::open(&rt, rt.alloc())?;
@@ -304,7 +313,7 @@ impl WordBoard {
         self.read_by(seat)
     }
 
-    /// Splits off a second pass, which has seen as much as the lent one, for another thread. It has a copy of the trail.
+    /// Splits off a second reader's pass, for another thread: it has seen the same events as `pass`, and has, in contracts, its steps.
     ///
     /// ```rust
     /// let (board, mut reader) = WordBoard::open(&rt, rt.alloc())?;
@@ -320,9 +329,12 @@ impl WordBoard {
         WordReaderPass { seat }
     }
 
-    /// Makes a reader a reporter, under a number of its own, by at most 255 compare and exchanges of the enlist word: the first is tried from
-    /// no reporter, and each later one from as many as were found. Where 255 are enlisted the answer is 30 with the pass, which may have seen
-    /// more.
+    /// Makes a reader's pass a reporter's, under a number of its own, by at most 255 compare and exchanges of the number of reporters: the
+    /// first expects none, and each later one as many as the one before found.
+    ///
+    /// # Errors
+    ///
+    /// `TooManyReporters` with the pass, which may have seen more, if 255 reporters are enlisted.
     ///
     /// ```rust
     /// let (board, pass) = WordBoard::open(&rt, rt.alloc())?;
@@ -358,7 +370,8 @@ impl WordBoard {
         Err(TooManyReporters(WordReaderPass { seat }))
     }
 
-    /// Tells the second pass all that the first has seen, by one load of the enlist word: afterwards it has seen all that either had seen. The first is as it was.
+    /// Tells the second pass all events that the first has seen, by one load of the number of reporters: afterwards it has seen all that
+    /// either had seen. The first is as it was.
     ///
     /// ```rust
     /// let (board, mut pass) = WordBoard::open(&rt, rt.alloc())?;

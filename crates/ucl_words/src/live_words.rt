@@ -1,4 +1,5 @@
-//! The word board is a live board.
+//! The word board is a `LiveBoard`, as every board is that threads share. A pass is a thread's permission on it: a reader's, to read, or a
+//! reporter's, to enter events under its number. None of these calls waits. What a pass has seen is a prefix of the accepted events.
 
 ghost use Rattle.std.specs.Prelude.{◌≡◌, MatchResult};
 ghost use Rattle.ucl_live_board.specs.Passes.{reporter_figures};
@@ -12,7 +13,7 @@ use ucl_board::Reading;
 use ucl_live_board::{LiveBoard, TooManyReporters};
 use ucl_word::{Accepted, EventCall, Refusal, ReporterNo};
 
-/// Each call passes on to the board's own, which takes no `rt` and cannot wait, and says of its steps what that one says.
+/// Each call calls the board's own one of the name with `_now`, which takes no `rt` and cannot wait, and promises what that one does.
 impl LiveBoard for WordBoard {
     type ReaderPass = WordReaderPass;
 
@@ -26,6 +27,7 @@ impl LiveBoard for WordBoard {
 
     ghost reporter = { λ pass. pass_view_of pass.pass };
 
+    /// Enters the event `call` under the number of the pass, by `report_now`; answers the refusal if the rules of a match refuse it.
     fn report<R: Wait>(
         &self,
         _rt: &R,
@@ -38,6 +40,7 @@ impl LiveBoard for WordBoard {
         self.report_now(pass, call)
     }
 
+    /// Reads the board and its version by a reader's pass, by `read_now`.
     fn read<R: Wait>(&self, _rt: &R, pass: &mut WordReaderPass) -> Reading
         requires { pass.old.board ≡ self.now }
         ensures { WordRead pass.old result pass.new }
@@ -45,6 +48,7 @@ impl LiveBoard for WordBoard {
         self.read_now(pass)
     }
 
+    /// Reads the board and its version by a reporter's pass, by `read_own_now`.
     fn read_own<R: Wait>(&self, _rt: &R, pass: &mut WordReporterPass) -> Reading
         requires { pass.old.board ≡ self.now }
         ensures { WordRead pass.old result pass.new }
@@ -52,6 +56,7 @@ impl LiveBoard for WordBoard {
         self.read_own_now(pass)
     }
 
+    /// Splits a second reader's pass, for another thread, off `pass`, by `split_now`.
     fn split<R: Wait>(&self, _rt: &R, pass: &mut WordReaderPass) -> WordReaderPass
         requires { pass.old.board ≡ self.now }
         ensures { WordSplit pass.old pass.new result }
@@ -59,6 +64,7 @@ impl LiveBoard for WordBoard {
         self.split_now(pass)
     }
 
+    /// Makes a reader's pass a reporter's, with a number of its own, by `enlist_now`; returns it as an error if 255 reporters are enlisted.
     fn enlist<R: Wait>(
         &self,
         _rt: &R,
@@ -70,6 +76,7 @@ impl LiveBoard for WordBoard {
         self.enlist_now(pass)
     }
 
+    /// Tells the second pass all events that the first has seen, by `meet_now`.
     fn meet<R: Wait>(&self, _rt: &R, first: &mut WordReporterPass, second: &mut WordReporterPass)
         requires { (first.old.board ≡ self.now) × (second.old.board ≡ self.now) }
         ensures { WordMet first.old first.new second.old second.new }
@@ -77,12 +84,14 @@ impl LiveBoard for WordBoard {
         self.meet_now(first, second);
     }
 
+    /// Returns the number under which the pass enters events.
     fn number_of(pass: &WordReporterPass) -> ReporterNo
         ensures { result ≡ (reporter_figures (pass_view_of pass.now.pass)).number }
     {
         pass.number
     }
 
+    /// Returns how many events of the pass were accepted.
     fn accepted_of(pass: &WordReporterPass) -> u16
         ensures { result ≡ (reporter_figures (pass_view_of pass.now.pass)).accepted }
     {

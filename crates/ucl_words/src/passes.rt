@@ -1,4 +1,6 @@
-//! The passes of the word board.
+//! The passes of a word board. A pass is a thread's permission on the board; it cannot be copied, and it acts by its seat, which is its
+//! identity at the table of words. A split makes a second reader's pass, and an enlistment makes a reader's pass a reporter's. What
+//! contracts know of a pass, its view (a prefix of the log of all steps, its own steps, its share of the board), exists in proofs alone.
 
 ghost use Rattle.std.specs.Prelude.{◌≡◌, length};
 ghost use Rattle.ucl_board.specs.Log.{added_by, number_of};
@@ -11,7 +13,7 @@ use crate::rule::Seat;
 use std::marker::Model;
 use ucl_word::ReporterNo;
 
-/// A reader's pass. Contracts see which table it is of, and what it knows.
+/// A reader's pass: a thread's permission to read a board, and to split or enlist the pass. Contracts see its table and its view.
 #[derive(Drop)]
 pub struct WordReaderPass {
     pub(crate) seat: Seat,
@@ -28,7 +30,7 @@ impl Model for WordReaderPass {
 }
 
 impl WordReaderPass {
-    /// Returns the seat at the table of its board, by which the pass acts: what contracts see of the pass is the view of this seat, as it is.
+    /// Returns the seat by which the pass acts at the table of its board: what contracts see of the pass is what they see of this seat.
     pub fn seat(&self) -> &Seat
         ensures { self.now ≡ pass_of result.now.table_id result.now.id result.now.me.0 }
     {
@@ -36,11 +38,12 @@ impl WordReaderPass {
     }
 }
 
-/// A reporter's pass. Contracts see which table it is of, and what it knows.
+/// A reporter's pass: a thread's permission to enter events under its own number, and to read. Contracts see its table and its view.
 #[derive(Drop)]
 pub struct WordReporterPass {
     pub(crate) seat: Seat,
     pub(crate) number: ReporterNo,
+    /// How many of its events were accepted.
     pub(crate) accepted: u16,
 }
 
@@ -56,7 +59,7 @@ impl Model for WordReporterPass {
 }
 
 impl WordReporterPass {
-    /// Returns the seat at the table of its board, by which the pass acts: what contracts see of the pass is the view of this seat, as it is.
+    /// Returns the seat by which the pass acts at the table of its board: what contracts see of the pass is what they see of this seat.
     pub fn seat(&self) -> &Seat
         ensures { self.now ≡ pass_of result.now.table_id result.now.id result.now.me.0 }
     {

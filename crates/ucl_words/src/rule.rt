@@ -1,7 +1,9 @@
-//! The invariant of the table, and the kinds of its atomic steps. The values named here exist in proofs alone.
+//! The invariant of the thirteen words that threads share, and the kinds of steps on them, by which contracts tell what a step does. A kind
+//! is a struct with no fields; `K: Asking` says, only in proofs, of which seat and for which event a step is. A pass is a thread's permission
+//! (its share a fraction of it), its seat the identity by which it takes steps. A note, which can take none, tells what another pass knows.
 
 ghost use Rattle.ucl_words.specs.TableInvariants.{TableInvariant, words_after};
-ghost use Rattle.ucl_words.specs.WordSteps.{LookStep, FirstStep, SecondStep, EnlistedStep, ExchangeStep, EnlistStep};
+ghost use Rattle.ucl_words.specs.TableInvariants.{LookStep, FirstStep, SecondStep, EnlistedStep, ExchangeStep, EnlistStep};
 ghost use Rattle.ucl_steps.specs.ClientState.{IsNextOfProtocol};
 ghost use Rattle.ucl_live_board.specs.Views.{new_pass, first_pass, left_pass, second_pass, note_pass, told_pass};
 
@@ -12,8 +14,8 @@ use ucl_board::Entry;
 pub use ucl_live_board::Asking;
 use ucl_live_board::{BoardRule, View};
 
-/// One log of all steps, each the next one of the protocol, whose history has the twelve match words and whose reporters are as many as the
-/// enlist word says.
+/// The invariant of the table: there is one log of all steps, each the next one of the protocol (`ucl_steps`); its history, the accepted
+/// events, gives the twelve match words, and its enlistments are as many as word 0 says.
 #[derive(Clone, Copy)]
 pub struct OneHistory;
 
@@ -29,49 +31,49 @@ impl BoardRule for OneHistory {
     ghost may = { IsNextOfProtocol };
 }
 
-/// A reporter's load of a match word, which begins its call.
+/// The load of a match word that begins a report, which enters an event.
 pub struct Look<K>(PhantomData<K>);
 
 impl<K: Asking> Play<Entry, View> for Look<K> {
     ghost then = { LookStep K.seat K.call };
 }
 
-/// A load of the first collect.
+/// A load of a match word in the first collect of a reading, which loads all of them.
 pub struct First;
 
 impl Play<Entry, View> for First {
     ghost then = { FirstStep };
 }
 
-/// A load of the second collect.
+/// A load of a match word in the second collect of a reading, which looks whether a word has changed.
 pub struct Second<K>(PhantomData<K>);
 
 impl<K: Asking> Play<Entry, View> for Second<K> {
     ghost then = { SecondStep K.seat };
 }
 
-/// A load of the enlist word.
+/// A load of the number of enlisted reporters.
 pub struct CountEnlisted<K>(PhantomData<K>);
 
 impl<K: Asking> Play<Entry, View> for CountEnlisted<K> {
     ghost then = { EnlistedStep K.seat };
 }
 
-/// An exchange of a match word, won or missed.
+/// The compare and exchange of a match word that ends a report, won or lost.
 pub struct Swap<K>(PhantomData<K>);
 
 impl<K: Asking> Play<Entry, View> for Swap<K> {
     ghost then = { ExchangeStep K.seat };
 }
 
-/// An exchange of the enlist word, won or missed.
+/// A compare and exchange of the number of enlisted reporters, won or lost; if it is won, its pass becomes a reporter's.
 pub struct Enlist<K>(PhantomData<K>);
 
 impl<K: Asking> Play<Entry, View> for Enlist<K> {
     ghost then = { EnlistStep K.seat };
 }
 
-/// The split of a second reader's pass.
+/// The split of a reader's pass into itself and a second one, each with half of its share of the board.
 pub struct SecondPass;
 
 impl Split<View> for SecondPass {
@@ -80,7 +82,7 @@ impl Split<View> for SecondPass {
     ghost right = { second_pass };
 }
 
-/// The split and the join of a note.
+/// The split of a note off a pass, which stays as it was, and the join of a note to another pass, which then knows what the note tells.
 pub struct Note;
 
 impl Split<View> for Note {
@@ -95,8 +97,8 @@ impl Join<View> for Note {
     ghost spent = { new_pass };
 }
 
-/// The table: the number of enlisted reporters, then the words of matches 1 to 12. It has no slot, and is never closed.
+/// The table of words that threads share: the number of enlisted reporters, then the words of matches 1 to 12. It is never closed.
 pub type Table = atomic_table::Table<Entry, View, (), OneHistory, Global>;
 
-/// A seat at the table, which takes its atomic steps.
+/// A seat at the table: the identity of a pass, by which it takes atomic steps.
 pub type Seat = atomic_table::Seat<Entry, View>;

@@ -1,30 +1,32 @@
-//! What holds of all exchanges of match words, and of every running board. The functions do nothing: each is there for its contract.
+//! The theorems of word boards, that is, of boards of thirteen atomic words that threads share. The functions do nothing: each is there for
+//! its contract. A pass is a thread's permission on a board; a step is one load or one compare and exchange; the log has all steps in
+//! order. In a later state of a board each pass that can take steps still can, and knows all that it had known of the log.
 
 ghost use Rattle.ucl_words.specs.Theorems.{WordsTellTheEntry, BoardsAreLinearizable, LaterBoardsExtend, NumbersRiseInTime};
 ghost use Rattle.ucl_words.specs.LaterState.{StepIsMonotone, SplitIsMonotone, JoinIsMonotone, LaterStatesCompose, FindsEnlisted};
 ghost use Rattle.ucl_live_board.specs.declared.view.View.{View};
-ghost use Rattle.ucl_words.specs.WordSteps.{LogsOneStep};
+ghost use Rattle.ucl_words.specs.TableInvariants.{LogsOneStep};
 
 use crate::rule::{Asking, CountEnlisted, Enlist, First, Look, Note, Second, SecondPass, Swap};
 use atomic_table::{Join, Play, Split};
 use ucl_board::Entry;
 use ucl_live_board::View;
 
-/// Which entry an exchange of a match word adds follows from the match, the word that it finds and the word that it puts there.
+/// Shows that the match, the word found and the word put in its place tell which event a compare and exchange has entered, and whose.
 pub fn words_tell_the_entry()
     ensures { WordsTellTheEntry }
 {}
 
-/// Between any two steps of any threads there is one log of all steps, each the next one of the protocol. Its history is legal and has the
-/// words that are there; what each pass has done is what its own steps make of it; and all reports and readings of all passes are
-/// linearizable in real time (Herlihy and Wing), also where two passes never met. The log is a run of the protocol's machine (`ucl_steps`), of
-/// which each step on a match word is one step.
+/// Shows that all reports and readings of all passes are linearizable in real time (Herlihy and Wing), even if no pass told another what it
+/// knew. Between any two steps of any threads there is one log of all steps, each the next one of the protocol. Its history is legal and
+/// gives the match words; what each pass has done is what its own steps make of it. The log is a run of the protocol's machine
+/// (`ucl_steps`), of which each step on a match word is one step.
 pub fn boards_are_linearizable()
     ensures { BoardsAreLinearizable }
 {}
 
-/// Each kind of step on the words of a board, whatever it finds, is one step in the log, of the pass that took it: so what a call's
-/// clause says of the steps of its pass counts all its loads and exchanges of these kinds, and there are no others.
+/// Shows that each kind of step on the words of a board, whatever it finds, is one step in the log, of the pass that took it. So the bounds
+/// in contracts count all loads and exchanges of these kinds, and there are no others.
 pub fn each_step_is_logged<K: Asking>()
     ensures looks { LogsOneStep ⟦<Look<K> as Play<Entry, View>>⟧.then }
     ensures first { LogsOneStep ⟦<First as Play<Entry, View>>⟧.then }
@@ -34,9 +36,9 @@ pub fn each_step_is_logged<K: Asking>()
     ensures enlists { LogsOneStep ⟦<Enlist<K> as Play<Entry, View>>⟧.then }
 {}
 
-/// After a step of any kind on the words of a board, whatever it finds and leaves, the state is a later one: its pass knows what it had
-/// known of the log, and can still take steps. So it is after a split, and after a note was split off or taken in; and what comes later
-/// than a later state is later too, after any number of steps of any passes.
+/// Shows that a step of any kind on the words of a board leads to a later state, whatever it finds and leaves: its pass knows what it had
+/// known of the log, and can still take steps. So do a split, and a note that is split off or taken in (what one pass tells another); and
+/// so do any number of steps of any passes, one after another.
 pub fn steps_are_monotone<K: Asking>()
     ensures looks { StepIsMonotone ⟦<Look<K> as Play<Entry, View>>⟧.then }
     ensures first { StepIsMonotone ⟦<First as Play<Entry, View>>⟧.then }
@@ -52,18 +54,18 @@ pub fn steps_are_monotone<K: Asking>()
     ensures compose { LaterStatesCompose }
 {}
 
-/// The log of a later state begins with that of the earlier one, whichever steps of whichever passes came between.
+/// Shows that the log of a later state begins with that of the earlier state, whichever steps of whichever passes came between.
 pub fn later_boards_extend()
     ensures { LaterBoardsExtend }
 {}
 
-/// The number that a reader is given is above all that had been given at any earlier moment at which it had none: so of two enlistments
-/// that follow one another the later one has the higher number, also of passes that never met.
+/// Shows that the number that a reader gets by enlisting is above all that had been given at any earlier moment at which it had none. So of
+/// two enlistments that follow one another the later one has the higher number, even if no pass told another what it knew.
 pub fn numbers_rise_in_time()
     ensures { NumbersRiseInTime }
 {}
 
-/// What a step on the number of reporters says that it found is what was there: as many as were enlisted in the state that it was taken in.
+/// Shows that a step on the number of enlisted reporters tells how many were enlisted in the state in which it was taken.
 pub fn numbers_are_there<K: Asking>()
     ensures counts { FindsEnlisted ⟦<CountEnlisted<K> as Play<Entry, View>>⟧.then }
     ensures enlists { FindsEnlisted ⟦<Enlist<K> as Play<Entry, View>>⟧.then }

@@ -1,4 +1,4 @@
-use Rattle.ucl_theorems.proofs.BoardScreens.{boards_have}
+use Rattle.ucl_theorems.proofs.Screens.{boards_have}
 use Rattle.ucl_theorems.proofs.theorems.boards_have_one_history.Goals as goal
 
 pub returns : goal.returns

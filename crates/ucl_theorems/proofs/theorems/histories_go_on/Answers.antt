@@ -1,4 +1,4 @@
-use Rattle.ucl_theorems.proofs.BoardScreens.{histories_go}
+use Rattle.ucl_theorems.proofs.Screens.{histories_go}
 use Rattle.ucl_theorems.proofs.theorems.histories_go_on.Goals as goal
 
 pub returns : goal.returns

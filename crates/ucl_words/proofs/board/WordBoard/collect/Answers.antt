@@ -1,8 +1,5 @@
-use Rattle.ucl_words.proofs.Common.{◌+◌, ◌∙◌, arith, length-set}
-use Rattle.ucl_board.specs.Log.{First}
-use Rattle.ucl_words.proofs.InvariantIsKept.{firsts}
-use Rattle.ucl_words.proofs.CollectFacts.{collected_none, collected_set}
-use Rattle.ucl_words.proofs.ClientFacts.{first_next, first_on, first_loads, firsts_all}
+use Rattle.ucl_words.proofs.BoardFacts.{◌+◌, ◌∙◌, arith, length-set, First, firsts, collected_none, collected_set, first_next, first_on}
+use Rattle.ucl_words.proofs.BoardFacts.{first_loads, firsts_all}
 use Rattle.ucl_words.proofs.board.WordBoard.collect.Goals as goal
 
 pub loop-i-init : goal.loop-i-init

@@ -1,7 +1,4 @@
-use Rattle.ucl_words.proofs.Common.{◌≡◌, length}
-use Rattle.ucl_board.specs.Log.{First}
-use Rattle.ucl_words.proofs.CollectFacts.{Collected}
-use Rattle.ucl_words.proofs.ClientFacts.{Firsts}
+use Rattle.ucl_words.proofs.BoardFacts.{◌≡◌, length, First, Collected, Firsts}
 use Rattle.ucl_words.proofs.board.WordBoard.collect.Given as goal
 
 abbrev pub invariant-loop-i : goal.invariant-loop-i

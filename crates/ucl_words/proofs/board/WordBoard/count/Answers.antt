@@ -1,6 +1,4 @@
-use Rattle.ucl_words.proofs.Common.{ℕ, sym, ◌∙◌, subst, arith, Steps}
-use Rattle.ucl_board.specs.Log.{Enlisted}
-use Rattle.ucl_words.proofs.InvariantIsKept.{counts}
+use Rattle.ucl_words.proofs.BoardFacts.{ℕ, sym, ◌∙◌, subst, arith, Steps, Enlisted, counts}
 use Rattle.ucl_words.proofs.board.WordBoard.count.Goals as goal
 
 pub load-requires : goal.load-requires

@@ -1,8 +1,6 @@
-use Rattle.ucl_words.proofs.Common.{inl, inr, refl, sym, ap, ◌∙◌, arith, rules, length, Occurs, pass_of}
-use Rattle.ucl_words.proofs.EnlistmentFacts.{missed_none, missed_higher, missed_more, won_consistent, won_number}
-use Rattle.ucl_words.proofs.StepFacts.{loads_enlisted, enlist_won}
-use Rattle.ucl_words.proofs.ClientFacts.{counted_does, enlisted_does}
-use Rattle.ucl_words.proofs.WholeCalls.{was_enlisted, was_full}
+use Rattle.ucl_words.proofs.BoardFacts.{inl, inr, refl, sym, ap, ◌∙◌, arith, rules, length, Occurs, pass_of, missed_none, missed_higher}
+use Rattle.ucl_words.proofs.BoardFacts.{missed_more, won_consistent, won_number, loads_enlisted, enlist_won, counted_does, enlisted_does}
+use Rattle.ucl_words.proofs.BoardFacts.{was_enlisted, was_full}
 use Rattle.ucl_words.proofs.board.WordBoard.enlist_now.Goals as goal
 
 pub tries-init : goal.tries-init
@@ -26,8 +24,8 @@ invariant_of-result c =
     let step = c.add_reporter-found.ensures.won same in
     let won = enlist_won m.id n x m.me.0 step in
     let v = c.pass.inside.seat.me.0 in
-    let number = won_number v x m.me.0 c.tries.known n was.missed (omega arith) same won in (
-      won_consistent v x m.me.0 c.tries.known n was.missed (omega arith) same won,
+    let number = won_number v x m.me.0 c.tries.known n was.missed same won in (
+      won_consistent v x m.me.0 c.tries.known n was.missed same won,
       number ∙ sym c.in-Some.ensures.value,
       ap length won.gives.mine,
       (enlisted_does m.id n x m.me.0 step).held ∙ (was.does.held ∙ c.pass.invariant.2),

@@ -1,6 +1,4 @@
-use Rattle.ucl_words.proofs.Common.{ℕ, sym, ◌∙◌, subst, arith, Steps}
-use Rattle.ucl_board.specs.Log.{Match, Second}
-use Rattle.ucl_words.proofs.InvariantIsKept.{again}
+use Rattle.ucl_words.proofs.BoardFacts.{ℕ, sym, ◌∙◌, subst, arith, Steps, Match, Second, again}
 use Rattle.ucl_words.proofs.board.WordBoard.load_again.Goals as goal
 
 pub load-requires : goal.load-requires

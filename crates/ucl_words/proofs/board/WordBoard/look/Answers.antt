@@ -1,6 +1,4 @@
-use Rattle.ucl_words.proofs.Common.{ℕ, ◌≤◌, ap, sym, ◌∙◌, subst, arith, EventCall, Steps}
-use Rattle.ucl_board.specs.Log.{Match, Look}
-use Rattle.ucl_words.proofs.InvariantIsKept.{looks}
+use Rattle.ucl_words.proofs.BoardFacts.{ℕ, ◌≤◌, ap, sym, ◌∙◌, subst, arith, EventCall, Steps, Match, Look, looks}
 use Rattle.ucl_words.proofs.board.WordBoard.look.Goals as goal
 
 pub load-requires : goal.load-requires

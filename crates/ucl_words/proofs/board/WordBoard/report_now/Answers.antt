@@ -1,8 +1,7 @@
-use Rattle.ucl_words.proofs.Common.{added_by, number_of, ◌≡◌, ℕ, ◌<◌, ◌≤◌, ◌+◌, sym, ap, ◌∙◌, subst, arith, rules, refl, length, length-append, Ok, Err, Stale}
-use Rattle.ucl_words.proofs.Common.{Entry, Steps, record_at, max_version, room, pass_view_of, pass_of, IsHoldingFor, client_of}
-use Rattle.ucl_board.specs.Log.{Match, Swap}
-use Rattle.ucl_words.proofs.StepFacts.{found_word}
-use Rattle.ucl_words.proofs.WholeReports.{Reported, refused_report, holding_for, accepted_report, missed_report, was_reported}
+use Rattle.ucl_words.proofs.BoardFacts.{added_by, number_of, ℕ, ◌+◌, sym, ap, ◌∙◌, subst, arith, rules, length, length-append, Ok, Err}
+use Rattle.ucl_words.proofs.BoardFacts.{Stale, Entry, Steps, pass_view_of, pass_of, IsHoldingFor, client_of, Match, Swap, found_word}
+use Rattle.ucl_words.proofs.BoardFacts.{Reported, refused_report, holding_for, accepted_report, missed_report, was_reported}
+use Rattle.ucl_live_board.proofs.Lists.{few_mine}
 use Rattle.ucl_words.proofs.board.WordBoard.report_now.Goals as goal
 
 pub next_word-requires : goal.next_word-requires
@@ -11,9 +10,9 @@ next_word-requires c = found_word _ _ _ _ _ _ c.look-loaded.ensures.looks
 -- the rules refuse
 refused : (c : goal.After-from_residual) → Reported c.pass.inside.seat.me.0 c.args.call.now (Err c.in_err-next.field-0.0) c.look-loaded.new.seat.me.0
 refused c =
-    let me : (0 < c.pass.inside.number) × (c.pass.inside.number ≤ 255) × (number_of c.pass.inside.seat.me.0.own ≡ c.pass.inside.number) = search (arith, c.pass.ranges) in
     let said = c.look-loaded.ensures in
-    refused_report c.pass.inside.seat.me.0 c.look-loaded.new.seat.me.0 c.args.call.now c.pass.inside.number c.look-loaded.result c.look-loaded.new.seat.id said.game me
+    refused_report c.pass.inside.seat.me.0 c.look-loaded.new.seat.me.0 c.args.call.now c.pass.inside.number c.look-loaded.result c.look-loaded.new.seat.id said.game
+    (search (arith, c.pass.ranges))
     c.pass.invariant.0 c.pass.invariant.3 said.looks c.in_err-next.field-0.0 c.in_err-next.ensures.refused
 
 pub invariant_of-pass : goal.invariant_of-pass
@@ -31,48 +30,34 @@ returns-in_err-next c =
 
 pub swap-found-requires-clause-next : goal.swap-found-requires-clause-next
 swap-found-requires-clause-next c =
-    let me : (0 < c.pass.inside.number) × (c.pass.inside.number ≤ 255) × (number_of c.pass.inside.seat.me.0.own ≡ c.pass.inside.number) = search (arith, c.pass.ranges) in
     let said = c.look-loaded.ensures in
     let next = c.in_ok-next.ensures in
     subst (λ (e : Entry). IsHoldingFor (client_of c.look-loaded.new.seat.me.0.own).held e.game c.look-loaded.result c.in_ok-next.next) (sym c.of-entry.ensures)
-    (holding_for c.pass.inside.seat.me.0 c.look-loaded.new.seat.me.0 c.args.call.now c.pass.inside.number c.look-loaded.result c.look-loaded.new.seat.id said.game me
+    (holding_for c.pass.inside.seat.me.0 c.look-loaded.new.seat.me.0 c.args.call.now c.pass.inside.number c.look-loaded.result c.look-loaded.new.seat.id said.game
+    (search (arith, c.pass.ranges))
     c.pass.invariant.0 c.pass.invariant.3 said.looks next.accepted.0 c.in_ok-next.next next.valid next.record)
 
 -- the exchange was won
-won : (c : goal.Then-found-loaded) (number : ℕ) → number ≡ (record_at c.in_ok-next.next).number
-    → Reported c.pass.inside.seat.me.0 c.args.call.now (Ok (record { number = number })) c.swap-found.new.seat.me.0
-won c number is =
-    let me : (0 < c.pass.inside.number) × (c.pass.inside.number ≤ 255) × (number_of c.pass.inside.seat.me.0.own ≡ c.pass.inside.number) = search (arith, c.pass.ranges) in
+won : (c : goal.After-pass-1) → Reported c.pass.inside.seat.me.0 c.args.call.now (Ok (record { number = c.number_of-number.result })) c.swap-found.new.seat.me.0
+won c =
     let said = c.look-loaded.ensures in
     let next = c.in_ok-next.ensures in
     let step = subst (λ (e : Entry). Steps c.swap-found.new.seat.id
     (Match Swap e.game c.swap-found.result) c.look-loaded.new.seat.me.0 c.swap-found.new.seat.me.0) c.of-entry.ensures c.swap-found.ensures.swaps in
-    accepted_report c.pass.inside.seat.me.0 c.look-loaded.new.seat.me.0 c.args.call.now c.pass.inside.number c.look-loaded.result c.look-loaded.new.seat.id said.game me
+    accepted_report c.pass.inside.seat.me.0 c.look-loaded.new.seat.me.0 c.args.call.now c.pass.inside.number c.look-loaded.result c.look-loaded.new.seat.id said.game
+    (search (arith, c.pass.ranges))
     c.pass.invariant.0 c.pass.invariant.3 said.looks next.accepted.0 c.in_ok-next.next next.valid next.record
-    c.swap-found.new.seat.me.0 c.swap-found.result c.swap-found.new.seat.id step c.if-found-loaded.true number is
+    c.swap-found.new.seat.me.0 c.swap-found.result c.swap-found.new.seat.id step c.if-found-loaded.true c.number_of-number.result c.number_of-number.ensures.value
 
 pub overflow_add-pass : goal.overflow_add-pass
 overflow_add-pass c =
-    let by = won c (record_at c.in_ok-next.next).number refl in
-    let r : c.pass.inside.accepted + 1 ≤ max_version =
-    room (pass_view_of c.pass.inside.seat.me.0) (pass_view_of c.swap-found.new.seat.me.0) c.args.call.now (Ok _) c.pass.inside.accepted by.accepted refl
-    by.always.sound c.pass.invariant.2 in
+    let few = few_mine (pass_view_of c.pass.inside.seat.me.0) c.pass.invariant.0.sound in
+    let mine = c.pass.invariant.2 in
     omega arith
-
-won_as : (c : goal.After-number_of) → Reported c.pass.inside.seat.me.0 c.args.call.now (Ok (record { number = c.number_of.result })) c.swap-found.new.seat.me.0
-won_as c =
-    let me : (0 < c.pass.inside.number) × (c.pass.inside.number ≤ 255) × (number_of c.pass.inside.seat.me.0.own ≡ c.pass.inside.number) = search (arith, c.pass.ranges) in
-    let said = c.look-loaded.ensures in
-    let next = c.in_ok-next.ensures in
-    let step = subst (λ (e : Entry). Steps c.swap-found.new.seat.id
-    (Match Swap e.game c.swap-found.result) c.look-loaded.new.seat.me.0 c.swap-found.new.seat.me.0) c.of-entry.ensures c.swap-found.ensures.swaps in
-    accepted_report c.pass.inside.seat.me.0 c.look-loaded.new.seat.me.0 c.args.call.now c.pass.inside.number c.look-loaded.result c.look-loaded.new.seat.id said.game me
-    c.pass.invariant.0 c.pass.invariant.3 said.looks next.accepted.0 c.in_ok-next.next next.valid next.record
-    c.swap-found.new.seat.me.0 c.swap-found.result c.swap-found.new.seat.id step c.if-found-loaded.true c.number_of.result c.number_of.ensures.value
 
 pub invariant_of-pass-then-found-loaded : goal.invariant_of-pass-then-found-loaded
 invariant_of-pass-then-found-loaded c =
-    let by = won_as c in (
+    let by = won c in (
       by.consistent,
       by.always.number ∙ c.pass.invariant.1,
       ap length by.accepted.mine ∙ (length-append (added_by c.pass.inside.seat.me.0.own) _ ∙ ap (λ (n : ℕ). n + 1) c.pass.invariant.2),
@@ -83,21 +68,21 @@ pub returns-then-found-loaded : goal.returns-then-found-loaded
 returns-then-found-loaded c =
     let k = c.pass.inside.seat in
     let m = c.swap-found.new.seat in
-    let all = was_reported (pass_of k.table_id k.id k.me.0) (pass_of m.table_id m.id m.me.0) c.args.call.now _ (won_as c)
+    let all = was_reported (pass_of k.table_id k.id k.me.0) (pass_of m.table_id m.id m.me.0) c.args.call.now _ (won c)
     (c.swap-found.ensures.own ∙ c.look-loaded.ensures.own) (c.swap-found.ensures.seat ∙ c.look-loaded.ensures.seat) c.swap-found.ensures.swaps.occurs in
     search (arith, rules, all)
 
 -- or missed
-missed : (c : goal.After-number_of-else-found-loaded) → Reported c.pass.inside.seat.me.0 c.args.call.now (Err (Stale c.number_of-else-found-loaded.result)) c.swap-found.new.seat.me.0
+missed : (c : goal.After-number_of) → Reported c.pass.inside.seat.me.0 c.args.call.now (Err (Stale c.number_of.result)) c.swap-found.new.seat.me.0
 missed c =
-    let me : (0 < c.pass.inside.number) × (c.pass.inside.number ≤ 255) × (number_of c.pass.inside.seat.me.0.own ≡ c.pass.inside.number) = search (arith, c.pass.ranges) in
     let said = c.look-loaded.ensures in
     let next = c.in_ok-next.ensures in
     let step = subst (λ (e : Entry). Steps c.swap-found.new.seat.id
     (Match Swap e.game c.swap-found.result) c.look-loaded.new.seat.me.0 c.swap-found.new.seat.me.0) c.of-entry.ensures c.swap-found.ensures.swaps in
-    missed_report c.pass.inside.seat.me.0 c.look-loaded.new.seat.me.0 c.args.call.now c.pass.inside.number c.look-loaded.result c.look-loaded.new.seat.id said.game me
+    missed_report c.pass.inside.seat.me.0 c.look-loaded.new.seat.me.0 c.args.call.now c.pass.inside.number c.look-loaded.result c.look-loaded.new.seat.id said.game
+    (search (arith, c.pass.ranges))
     c.pass.invariant.0 c.pass.invariant.3 said.looks next.accepted.0 c.in_ok-next.next next.valid next.record
-    c.swap-found.new.seat.me.0 c.swap-found.result c.swap-found.new.seat.id step c.if-found-loaded.false c.number_of-else-found-loaded.result c.number_of-else-found-loaded.ensures.value
+    c.swap-found.new.seat.me.0 c.swap-found.result c.swap-found.new.seat.id step c.if-found-loaded.false c.number_of.result c.number_of.ensures.value
 
 pub invariant_of-pass-else-found-loaded : goal.invariant_of-pass-else-found-loaded
 invariant_of-pass-else-found-loaded c =

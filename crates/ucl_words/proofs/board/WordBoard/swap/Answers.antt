@@ -1,6 +1,4 @@
-use Rattle.ucl_words.proofs.Common.{ℕ, sym, ◌∙◌, subst, arith, Steps}
-use Rattle.ucl_board.specs.Log.{Match, Swap}
-use Rattle.ucl_words.proofs.InvariantIsKept.{swaps}
+use Rattle.ucl_words.proofs.BoardFacts.{ℕ, sym, ◌∙◌, subst, arith, Steps, Match, Swap, swaps}
 use Rattle.ucl_words.proofs.board.WordBoard.swap.Goals as goal
 
 pub compare_exchange_with-requires : goal.compare_exchange_with-requires

@@ -1,22 +1,9 @@
--- Each kind of atomic step on the table keeps the invariant, and tells its pass the log before it.
-use Rattle.ucl_words.proofs.Common.{◌≡◌, ◌≢◌, ℕ, ◌+◌, ◌-◌, ◌<◌, ◌≤◌, ◌==◌, Bool, cond, List, ◌∷◌, ◌++◌, length, set, get_or, Option, Some, None, refl, sym, ap}
-use Rattle.ucl_words.proofs.Common.{◌∙◌, subst, arith, [], set-get_or, eq-eqb, ne_eqb, IsSome, some, get_elem?, either, exchanged, at_last, at_longer, set_here}
-use Rattle.ucl_words.proofs.Common.{Me, step, keeps, stepped, carried_after, Valid, opening, Allows, Splits, Joins, Entry, EventCall, IsMatch, MatchRecord}
-use Rattle.ucl_words.proofs.Common.{word_of, record_at, match_after, board_of, entry_of, after, refusal_of, word_after, View, Taken, logged_by, Target}
-use Rattle.ucl_words.proofs.Common.{AccessKind, history_of, enlisted_by, enlists, IsThere, MayBeTaken, IsNextOfProtocol, IsNextFor, entry_by, ClientState}
-use Rattle.ucl_words.proofs.Common.{client_of, client_at, next_game, Pending, NoCall, Holding, TableInvariant, Occurs, OccurAfterSplit, words_after, stepped_to}
-use Rattle.ucl_words.proofs.Common.{Steps, LookStep, FirstStep, SecondStep, ExchangeStep, EnlistedStep, EnlistStep, new_pass, first_pass, left_pass}
-use Rattle.ucl_words.proofs.Common.{second_pass, note_pass, told_pass, State, number_of}
+-- What the steps on a word board tell its passes: each kind of step keeps the invariant, and runs of steps on match words add up.
+pub mod Common
+pub use Common.*
 use mathlib.Core.Option as core
-use Rattle.ucl_word.specs.Record.{IsReporter}
-use Rattle.ucl_board.specs.Log.{Match, Look, Swap, First, Second, Enlisted, Enlists}
-use Rattle.ucl_board.specs.History.{MayFollow, attempted}
-use Rattle.ucl_board.proofs.HistoryTheorems.{may_attempt}
-use Rattle.ucl_steps.proofs.Histories.{read_back, board_next}
-use Rattle.ucl_steps.proofs.LogHistory.{Sees, holds_all, look_none, first_none, second_none, count_none, enlist_none}
-use Rattle.ucl_steps.proofs.LogFacts.{client_number}
-use Rattle.ucl_live_board.proofs.InvariantIsKept.{place_below, step_keeps, step_tells, words_stay, words_entered, words_enlisted, seconds_keep, notes_keep}
-use Rattle.ucl_live_board.proofs.InvariantIsKept.{joins_keep, opens_keep}
+use Rattle.ucl_board.specs.Log.{enlists}
+use Rattle.ucl_steps.proofs.LogHistory.{Sees as SeesPending}
 
 abbrev pub Position : Type 0
 Position = State Entry View
@@ -160,8 +147,8 @@ module _ (s : Position) (r : TableInvariant s) (seat : ℕ) (m : Me Entry View) 
   abbrev number : ℕ
   number = (client_of m.0.own).number
 
-  seen : Sees r.log (client_at seat r.log).number (client_at seat r.log).first (Holding e old new)
-  seen = subst (Sees r.log (client_at seat r.log).number (client_at seat r.log).first) (ap (λ (d : ClientState). d.held) (sym (client_here s r seat m.0 here acts)) ∙ holds)
+  seen : SeesPending r.log (client_at seat r.log).number (client_at seat r.log).first (Holding e old new)
+  seen = subst (SeesPending r.log (client_at seat r.log).number (client_at seat r.log).first) (ap (λ (d : ClientState). d.held) (sym (client_here s r seat m.0 here acts)) ∙ holds)
       ((holds_all r.log r.is_log r.follows).sees seat)
 
   is_match : IsMatch game
@@ -257,3 +244,185 @@ opens words are = opens_keep words_after IsNextOfProtocol words are
 
 pub opened_occurs : (words : List ℕ) → words ≡ words_after [] 0 → Occurs 0 first_pass
 opened_occurs words are = record { words = words; views = first_pass ∷ []; rule = opens words are; here = refl }
+
+-- What a step of the table tells of what its pass knows and has shown. --
+
+-- a load of the word of a match, or an exchange of it that was missed
+abbrev pub LoadsMatch : AccessKind → ℕ → View → ℕ → View → Type 0
+LoadsMatch kind game v n w = Sees (Match kind game n) v w
+
+-- an exchange of a match word that was missed
+abbrev pub ExchangeMissed : ℕ → View → ℕ → View → Type 0
+ExchangeMissed = LoadsMatch Swap
+
+-- an exchange of a match word that was won: its entry is the last that the pass has seen
+abbrev pub ExchangeWon : Entry → View → ℕ → View → Type 0
+ExchangeWon e v n w = Adds (Match Swap e.game n) e v w
+
+-- an exchange of the enlist word that was won: the pass is a reporter's
+pub record EnlistWon (v : View) (n : ℕ) (w : View) : Type 0 where
+  pub gives : GivesNumber n v w
+  pub shown : versions_shown w.own ≡ []
+
+-- what the pass has done
+pub client_is : (seat : ℕ) (target : Target) (v w : View) (s : Steps seat target v w) → client_of w.own ≡ with_target target s.step (client_of v.own)
+client_is seat target v w s = ap client_of (own_is words_after IsNextOfProtocol seat target v w s)
+    ∙ (fold-append with_step new_client v.own (s.step ∷ []) ∙ ap (λ (t : Target). with_target t s.step (client_of v.own)) s.of)
+
+-- what finished calls show under a number
+abbrev pub shown_of : ℕ → FinishedCall → List ℕ
+shown_of number c = cond (c.number == number) (version_in c.reply) []
+
+-- the word that a step on a match word found is that of a valid record
+pub found_word : (seat game n : ℕ) (kind : AccessKind) (v w : View) → Steps seat (Match kind game n) v w → IsWord n
+found_word seat game n kind v w s =
+    let there = there_before words_after IsNextOfProtocol seat (Match kind game n) v w s in
+    let legal = (holds_all s.before s.is_log s.follows).legal in
+    record { of = match_after (history_of s.before) game; valid = match_valid game (history_of s.before) legal; packed = sym there.1 }
+
+-- a step on a match word that added nothing
+pub loads_match : (seat game n : ℕ) (kind : AccessKind) (v w : View) (s : Steps seat (Match kind game n) v w) → s.step.entry ≡ None → LoadsMatch kind game v n w
+loads_match seat game n kind v w s none = sees words_after IsNextOfProtocol seat (Match kind game n) v w s legal_steps none refl
+
+-- a load of a match word adds nothing
+pub adds_none : (seat game n : ℕ) (kind : AccessKind) (v w : View) (s : Steps seat (Match kind game n) v w) → IsLoad kind → s.step.entry ≡ None
+adds_none seat game n kind v w s load = s.next.entry ∙ (ap (entry_by (client_at seat s.before).number (client_at seat s.before).held) s.of
+    ∙ load_none kind load (client_at seat s.before).held (client_at seat s.before).number game n)
+
+-- an exchange that was won
+pub exchange_won : (seat game old new : ℕ) (e : EventCall) (v w : View) (s : Steps seat (Match Swap game old) v w) → (client_of v.own).held ≡ Holding e old new → game ≡ e.game
+    → ExchangeWon (entry_of (number_of v.own) e) v old w
+exchange_won seat game old new e v w s held of =
+    let made : Entry = entry_of (client_of v.own).number e in
+    let entry : s.step.entry ≡ Some (entry_of (number_of v.own) e) =
+    s.next.entry ∙ ((λ i. entry_by (client_of (sym s.own i)).number (client_of (sym s.own i)).held (s.of i))
+    ∙ (ap (λ (h : Pending). entry_by (client_of v.own).number h (Match Swap game old)) held
+    ∙ (ap (λ (b : Bool). cond b (Some made) None) (eq-eqb old old refl) ∙ ap (λ (n : ℕ). Some (entry_of n e)) (client_number v.own)))) in
+    subst (λ (g : ℕ). Adds (Match Swap g old) (entry_of (number_of v.own) e) v w) of
+    (adds words_after IsNextOfProtocol seat (Match Swap game old) v w s legal_steps (entry_of (number_of v.own) e) entry refl)
+
+-- a step on the enlist word
+
+pub count_stays : (number found now : ℕ) (k : Pending) → outcome number k (Enlisted found) now ≡ GoesOn k
+count_stays number found now k = search arith
+
+-- a load, or an exchange that was missed: the pass then knows how many it found
+pub loads_enlisted : (seat n : ℕ) (v w : View) → Steps seat (Enlisted n) v w → Sees (Enlisted n) v w
+loads_enlisted seat n v w s = sees words_after IsNextOfProtocol seat (Enlisted n) v w s legal_steps
+    (s.next.entry ∙ (ap (entry_by (client_at seat s.before).number (client_at seat s.before).held) s.of ∙ count_none (client_at seat s.before).held (client_at seat s.before).number n)) refl
+
+pub enlist_won : (seat n : ℕ) (v w : View) → Steps seat (Enlists n) v w → EnlistWon v n w
+enlist_won seat n v w s =
+    let d = client_of v.own in
+    let own : d ≡ client_at seat s.before = ap client_of s.own in
+    let reader : d.number ≡ 0 = ap (λ (z : ClientState). z.number) own ∙ (subst (IsNextFor (client_at seat s.before)) s.of s.next.next).1 in
+    let calls : All (λ (c : FinishedCall). c.number ≤ d.number) d.calls = subst
+    (λ (z : ClientState). All (λ (c : FinishedCall). c.number ≤ z.number) z.calls) (sym own) (calls_low s.before s.is_log s.follows seat) in
+    record {
+      gives = enlisted words_after IsNextOfProtocol seat n v w s legal_steps;
+      shown = ap versions_by (client_is seat (Enlists n) v w s) ∙ none_shown (n + 1) d.calls (λ k c at. let l = calls k c at in omega arith);
+    }
+  where
+    none_shown : (k : ℕ) (cs : List FinishedCall) → All (λ (c : FinishedCall). c.number < k) cs → flat_map (shown_of k) cs ≡ []
+    none_shown k [] low = refl
+    none_shown k (c ∷ cs) low =
+        let less = All-head (λ (a : FinishedCall). a.number < k) c cs low in
+        ap (λ (b : Bool). cond b (version_in c.reply) [] ++ flat_map (shown_of k) cs) (ne_eqb c.number k (λ same. omega (arith, same, less)))
+        ∙ none_shown k cs (All-tail (λ (a : FinishedCall). a.number < k) c cs low)
+
+-- Steps on match words, one after another. --
+
+-- accesses that follow what a trail has, over a history that is longer
+pub trail_on : (s h : List Entry) (old new : List Access) → IsPrefix s h → Follows s 0 old (length s) → Follows h (length s) new (length h) → Follows h 0 (old ++ new) (length h)
+trail_on s h old new p was more = follows_append h 0 (length s) (length h) old new (follows_longer s h 0 (length s) old p (le_refl (length s)) was) more
+
+-- the same trail over a longer history
+pub trail_longer : (s h : List Entry) (trail : List Access) → IsPrefix s h → Follows s 0 trail (length s) → Follows h 0 trail (length h)
+trail_longer s h trail p was = follows_wider h 0 0 (length s) (length h) trail (le_refl 0) (begins_length s h p) (follows_longer s h 0 (length s) trail p (le_refl (length s)) was)
+
+-- the trail after some steps
+pub takes_trail : (v w : View) (steps : List Taken) → Takes v steps w → trail_of w ≡ trail_of v ++ accesses_in steps
+takes_trail v w steps t = search (arith, append_assoc, accesses_append)
+
+-- steps that add no entry
+abbrev plain : Access → Taken
+plain m = step_taken (Match m.kind m.game m.found) m.place m.at None
+
+all_plain : (ms : List Access) → steps_with None ms ≡ map plain ms
+all_plain [] = refl
+all_plain (m ∷ []) = refl
+all_plain (m ∷ n ∷ ms) = ap (λ (l : List Taken). plain m ∷ l) (all_plain (n ∷ ms))
+
+pub plain_append : (ms ns : List Access) → steps_with None (ms ++ ns) ≡ steps_with None ms ++ steps_with None ns
+plain_append ms ns = all_plain (ms ++ ns) ∙ (map-append plain ms ns ∙ sym (λ i. all_plain ms i ++ all_plain ns i))
+
+pub walks_none : (v : View) → IsConsistent v → Walks v [] v
+walks_none v consistent = record {
+  consistent = consistent;
+  on = record { seen = begins_same (history_of v.log); listed = le_refl (enlisted_by v.log); share = refl };
+  mine = refl;
+  number = refl;
+  leaves = record {
+    takes = takes_none v;
+    trail = sym (append-nil (trail_of v));
+    taken = omega arith;
+    follows = le_refl (length (history_of v.log));
+    whole_trail = consistent.trail;
+  };
+}
+
+pub walks_on : (u v w : View) (ms ns : List Access) → Walks u ms v → Walks v ns w → Walks u (ms ++ ns) w
+walks_on u v w ms ns a b =
+    let listed = a.on.listed in
+    let more = b.on.listed in
+    let count = a.leaves.taken in
+    let then = b.leaves.taken in
+    let long = length-append ms ns in
+    record {
+      consistent = b.consistent;
+      on = record { seen = begins_through (history_of u.log) (history_of v.log) (history_of w.log) a.on.seen b.on.seen; listed = omega arith; share = b.on.share ∙ a.on.share };
+      mine = b.mine ∙ a.mine;
+      number = b.number ∙ a.number;
+      leaves = record {
+        takes = subst (λ (l : List Taken). Takes u l w) (sym (plain_append ms ns)) (takes_on u v w (steps_with None ms) (steps_with None ns) a.leaves.takes b.leaves.takes);
+        trail = b.leaves.trail ∙ (ap (λ (l : List Access). l ++ ns) a.leaves.trail ∙ append_assoc (trail_of u) ms ns);
+        taken = omega arith;
+        follows = follows_append (history_of w.log) (length (history_of u.log)) (length (history_of v.log)) (length (history_of w.log)) ms ns
+            (follows_longer (history_of v.log) (history_of w.log) (length (history_of u.log)) (length (history_of v.log)) ms b.on.seen (le_refl (length (history_of v.log))) a.leaves.follows)
+            b.leaves.follows;
+        whole_trail = b.leaves.whole_trail;
+      };
+    }
+
+-- one load of a match word
+module _ (kind : AccessKind) (game n : ℕ) (v w : View) (consistent : IsConsistent v) (l : LoadsMatch kind game v n w) where
+  abbrev loaded : Access
+  loaded = access kind game n l.place (length (history_of w.log))
+
+  load_trail : trail_of w ≡ trail_of v ++ loaded ∷ []
+  load_trail = takes_trail v w (step_taken (Match kind game n) l.place (length (history_of w.log)) None ∷ []) l.takes
+
+  follows : Follows (history_of w.log) (length (history_of v.log)) (loaded ∷ []) (length (history_of w.log))
+  follows = follows_one (history_of w.log) (length (history_of v.log)) loaded (begins_length (history_of v.log) (history_of w.log) l.goes.seen) refl l.there.1
+
+  whole_trail : HasTrail w
+  whole_trail = subst (λ (t : List Access). Follows (history_of w.log) 0 t (length (history_of w.log))) (sym load_trail)
+      (trail_on (history_of v.log) (history_of w.log) (trail_of v) (loaded ∷ []) l.goes.seen consistent.trail follows)
+
+  pub walks_load : Walks v (access kind game n l.place (length (history_of w.log)) ∷ []) w
+  walks_load = record {
+    consistent = record { sound = sound versions_shown v w l.goes; told = l.goes.told; trail = whole_trail };
+    on = record { seen = l.goes.seen; listed = l.goes.listed; share = l.goes.share };
+    mine = l.mine;
+    number = l.number;
+    leaves = record {
+      takes = l.takes;
+      trail = load_trail;
+      taken = takes_count v w (step_taken (Match kind game n) l.place (length (history_of w.log)) None ∷ []) l.takes;
+      follows = follows;
+      whole_trail = whole_trail;
+    };
+  }
+
+pub walks_continue : (v w : View) (ms : List Access) → Walks v ms w → Continues (pass_view_of v) (pass_view_of w)
+walks_continue v w ms walk = record { sound = walk.consistent.sound; on = walk.on; number = walk.number }

@@ -1,73 +1,41 @@
 -- What the steps of a call leave as done and as held.
-use Rattle.ucl_words.proofs.Common.{◌≡◌, ◌≢◌, ◌⊎◌, inl, inr, ℕ, zero, suc, ◌+◌, ◌<◌, ◌≤◌, ◌==◌, Bool, true, cond, List, ◌∷◌, ◌++◌, take, length, set, Some}
-use Rattle.ucl_words.proofs.Common.{None, refl, sym, ap, ◌∙◌, subst, arith, [], eq-eqb, ne_eqb, slice_index, length-take-le, take-length, append-nil, EventCall}
-use Rattle.ucl_words.proofs.Common.{Refusal, Stale, refusal_of, after, record_at, word_of, reading_of, Call, Reply, Pending, NoCall, Holding, Collecting}
-use Rattle.ucl_words.proofs.Common.{Checking, Outcome, GoesOn, by_rules, collected, View, Target, AccessKind, ClientState, FinishedCall, client_of, client_at}
-use Rattle.ucl_words.proofs.Common.{outcome, with_outcome, call_answered, first_place, next_game, entry_by, version_in, Steps, IsAnswered, CompletesCall}
-use Rattle.ucl_words.proofs.Common.{StaysIn, Finishes, MayCollect, IsBegun, words_after, IsNextOfProtocol, history_of, number_of, versions_shown, DoneAsBefore}
+pub mod StepFacts
+pub use StepFacts.*
 use Rattle.ucl_steps.specs.declared.step.Call.TheVariants as calls
 use Rattle.ucl_steps.specs.declared.trace.Reply.TheVariants as replies
 use Rattle.ucl_steps.specs.Protocol as protocol
-use Rattle.ucl_steps.specs.ClientState.{call_asked}
-use Rattle.ucl_board.specs.Log.{Match, Look, Swap, First, Second, Enlisted, Enlists}
-use Rattle.ucl_steps.proofs.LogHistory.{look_none, first_none, second_none}
-use Rattle.ucl_steps.proofs.LogTurns.{collecting, checking}
-use Rattle.std.specs.List.{flat_map}
-use Rattle.std.proofs.lemmas.List.Concat.{flat_map-append}
-use Rattle.ucl_words.proofs.StepFacts.{LoadsMatch, ExchangeWon, ExchangeMissed, client_is, shown_of, loads_match, exchange_won, count_stays}
-use Rattle.ucl_steps.proofs.LogFacts.{legal_steps, client_number}
-use Rattle.ucl_live_board.proofs.StepFacts.{first_later, log_long, at_is}
-
--- when a call began
 
 begun_place : (h : Pending) (known was place : ℕ) → known ≤ place → IsBegun h known was (first_place h was place)
 begun_place h known was place le = search arith
 
-begun_on : (h : Pending) (known was first then : ℕ) → IsBegun h known was first → then ≡ first → IsBegun h known was then
-begun_on h known was first then begun same = subst (IsBegun h known was) (sym same) begun
-
 -- one step on a match word, by what comes of it
 
 module _ (seat game n : ℕ) (kind : AccessKind) (v w : View) (s : Steps seat (Match kind game n) v w) where
-  abbrev target : Target
-  target = Match kind game n
-
-  abbrev d : ClientState
-  d = client_of v.own
-
-  module _ (o : Outcome) (comes : outcome (client_of v.own).number (client_of v.own).held (Match kind game n) s.step.at ≡ o) where
-    pub done : client_of w.own ≡ with_outcome o s.step (client_of v.own)
-    done = client_is seat target v w s ∙ ap (λ (z : Outcome). with_outcome z s.step (client_of v.own)) comes
+  pub done : (o : Outcome) → outcome (client_of v.own).number (client_of v.own).held (Match kind game n) s.step.at ≡ o
+      → client_of w.own ≡ with_outcome o s.step (client_of v.own)
+  done o comes = client_is seat (Match kind game n) v w s ∙ ap (λ (z : Outcome). with_outcome z s.step (client_of v.own)) comes
 
   -- the call goes on
-  module _ (held : Pending) (comes : outcome (client_of v.own).number (client_of v.own).held (Match kind game n) s.step.at ≡ GoesOn held) where
-    goes_calls : (client_of w.own).calls ≡ (client_of v.own).calls
-    goes_calls = ap (λ (z : ClientState). z.calls) (done (GoesOn held) comes)
-
-    goes_first : (client_of w.own).first ≡ first_place (client_of v.own).held (client_of v.own).first s.step.place
-    goes_first = ap (λ (z : ClientState). z.first) (done (GoesOn held) comes)
-
-    pub goes_on : StaysIn v held w
-    goes_on = record {
-      calls = goes_calls;
-      held_is = ap (λ (z : ClientState). z.held) (done (GoesOn held) comes);
-      begun = begun_on (client_of v.own).held (length v.log) (client_of v.own).first _ (client_of w.own).first
-          (begun_place (client_of v.own).held (length v.log) (client_of v.own).first s.step.place (first_later words_after IsNextOfProtocol seat target v w s)) goes_first;
-    }
+  pub goes_on : (held : Pending) → outcome (client_of v.own).number (client_of v.own).held (Match kind game n) s.step.at ≡ GoesOn held → StaysIn v held w
+  goes_on held comes =
+      let is = done (GoesOn held) comes in
+      record {
+        calls = ap (λ (z : ClientState). z.calls) is;
+        held_is = ap (λ (z : ClientState). z.held) is;
+        begun = subst (IsBegun (client_of v.own).held (length v.log) (client_of v.own).first) (sym (ap (λ (z : ClientState). z.first) is))
+            (begun_place (client_of v.own).held (length v.log) (client_of v.own).first s.step.place (first_later words_after IsNextOfProtocol seat (Match kind game n) v w s));
+      }
 
   -- the call is answered
-  module _ (reply : Reply) (comes : outcome (client_of v.own).number (client_of v.own).held (Match kind game n) s.step.at ≡ protocol.Answers reply) where
-    abbrev answer : FinishedCall
-    answer = call_answered reply s.step (client_of v.own)
-
-    abbrev pub answered : (call : Call) → call_asked (client_of v.own).held (Match kind game n) ≡ call → IsAnswered v call reply w
-    answered call asked = record {
-      last = answer;
-      calls = ap (λ (z : ClientState). z.calls) (done (protocol.Answers reply) comes);
-      asked = (ap (call_asked (client_of v.own).held) s.of ∙ asked, refl, refl);
-      ended = log_long words_after IsNextOfProtocol seat target v w s;
-      held = ap (λ (z : ClientState). z.held) (done (protocol.Answers reply) comes);
-    }
+  abbrev pub answered : (reply : Reply) → outcome (client_of v.own).number (client_of v.own).held (Match kind game n) s.step.at ≡ protocol.Answers reply
+      → (call : Call) → call_asked (client_of v.own).held (Match kind game n) ≡ call → IsAnswered v call reply w
+  answered reply comes call asked = record {
+    last = call_answered reply s.step (client_of v.own);
+    calls = ap (λ (z : ClientState). z.calls) (done (protocol.Answers reply) comes);
+    asked = (ap (call_asked (client_of v.own).held) s.of ∙ asked, refl, refl);
+    ended = log_long words_after IsNextOfProtocol seat (Match kind game n) v w s;
+    held = ap (λ (z : ClientState). z.held) (done (protocol.Answers reply) comes);
+  }
 
 -- what a pass has shown, by the calls that it has finished
 
@@ -89,13 +57,12 @@ under_way : (h : Pending) (known was first : ℕ) → h ≢ NoCall → IsBegun h
 under_way h known was first any begun = search arith
 
 pub stays_on : (u v w : View) (h k : Pending) → h ≢ NoCall → StaysIn u h v → StaysIn v k w → StaysIn u k w
-stays_on u v w h k some a b =
-    let same = under_way (client_of v.own).held (length v.log) (client_of v.own).first (client_of w.own).first (λ none. some (sym a.held_is ∙ none)) b.begun in
+stays_on u v w h k any a b =
+    let same = under_way (client_of v.own).held (length v.log) (client_of v.own).first (client_of w.own).first (λ none. any (sym a.held_is ∙ none)) b.begun in
     record {
       calls = b.calls ∙ a.calls;
       held_is = b.held_is;
-      begun = begun_on (client_of u.own).held (length u.log) (client_of u.own).first
-          (client_of v.own).first (client_of w.own).first a.begun same;
+      begun = subst (IsBegun (client_of u.own).held (length u.log) (client_of u.own).first) (sym same) a.begun;
     }
 
 -- a call that began after all that its pass had known, and that was answered
@@ -119,12 +86,8 @@ stays_answered v u w held call reply nothing number stays finishes =
 -- a report's load, where nothing was held
 
 module _ (seat n : ℕ) (e : EventCall) (v w : View) (s : Steps seat (Match (Look e) e.game n) v w) (nothing : (client_of v.own).held ≡ NoCall) where
-  look_adds : s.step.entry ≡ None
-  look_adds = s.next.entry ∙ (ap (entry_by (client_at seat s.before).number (client_at seat s.before).held) s.of
-      ∙ look_none (client_at seat s.before).held (client_at seat s.before).number e.game n e)
-
   pub look_loads : LoadsMatch (Look e) e.game v n w
-  look_loads = loads_match seat e.game n (Look e) v w s look_adds
+  look_loads = loads_match seat e.game n (Look e) v w s (adds_none seat e.game n (Look e) v w s tt)
 
   module _ (refusal : Refusal) (refused : refusal_of (record_at n) e.expected e.kind ≡ Some refusal) where
     look_comes : outcome (client_of v.own).number (client_of v.own).held (Match (Look e) e.game n) s.step.at ≡ protocol.Answers (replies.Refused refusal)
@@ -195,22 +158,28 @@ module _ (v x : View) (words : List ℕ) (i : ℕ) (less : i < 12) (long : lengt
   collecting_still : (now : ℕ) → collected (take i words) now ≡ Collecting (take i words)
   collecting_still now = ap (λ (b : Bool). cond b (Checking (take i words) 0 now) (Collecting (take i words))) (ne_eqb (length (take i words)) 12 (λ full. let l = some_words in omega arith))
 
-  first_begins : (h : Pending) → MayCollect h → 1 ≡ next_game First h
-  first_begins NoCall m = refl
-  first_begins (Collecting ws) m = ap (λ (l : List ℕ). length l + 1) (sym m)
-  first_begins h m = absurd m
+  -- what is held before the next load
+  abbrev IsBefore : Pending → Type 0
+  IsBefore h = ((h ≡ NoCall) × (take i words ≡ [])) ⊎ (h ≡ Collecting (take i words))
+
+  begins_with : i ≡ 0 → (h : Pending) → MayCollect h → IsBefore h
+  begins_with none NoCall m = inl (refl, ap (λ (k : ℕ). take k words) none)
+  begins_with none (Collecting ws) m = inr (ap Collecting (m ∙ ap (λ (k : ℕ). take k words) (sym none)))
+  begins_with none h m = absurd m
+
+  held_before : Firsts v words i x → IsBefore (client_of x.own).held
+  held_before (inl t) = subst (λ (z : View). IsBefore (client_of z.own).held) (sym t.1) (begins_with t.0 (client_of v.own).held may)
+  held_before (inr t) = inr (t.1.held_is ∙ collecting_still (length (history_of x.log)))
 
   pub first_next : Firsts v words i x → i + 1 ≡ next_game First (client_of x.own).held
-  first_next (inl t) = ap (λ (k : ℕ). k + 1) t.0 ∙ (first_begins (client_of v.own).held may ∙ ap (λ (z : View). next_game First (client_of z.own).held) (sym t.1))
-  first_next (inr t) = ap (λ (k : ℕ). k + 1) (sym some_words) ∙ ap (next_game First) (sym (t.1.held_is ∙ collecting_still (length (history_of x.log))))
+  first_next so_far = elim (held_before so_far) [
+    | inl t ↦ ap (λ (k : ℕ). k + 1) (sym some_words ∙ ap length t.1) ∙ ap (next_game First) (sym t.0)
+    | inr t ↦ ap (λ (k : ℕ). k + 1) (sym some_words) ∙ ap (next_game First) (sym t)
+  ]
 
   module _ (seat n : ℕ) (w : View) (s : Steps seat (Match First (i + 1) n) x w) where
-    pub first_adds : s.step.entry ≡ None
-    first_adds = s.next.entry ∙ (ap (entry_by (client_at seat s.before).number (client_at seat s.before).held) s.of
-        ∙ first_none (client_at seat s.before).held (client_at seat s.before).number (i + 1) n)
-
     now_is : s.step.at ≡ length (history_of w.log)
-    now_is = at_is words_after IsNextOfProtocol seat (Match First (i + 1) n) x w s legal_steps first_adds
+    now_is = at_is words_after IsNextOfProtocol seat (Match First (i + 1) n) x w s legal_steps (adds_none seat (i + 1) n First x w s tt)
 
     abbrev more : Pending
     more = collected (take (i + 1) (set words i n)) (length (history_of w.log))
@@ -218,36 +187,17 @@ module _ (v x : View) (words : List ℕ) (i : ℕ) (less : i < 12) (long : lengt
     words_on : take i words ++ n ∷ [] ≡ take (i + 1) (set words i n)
     words_on = sym (take_set words i n (omega arith))
 
-    first_comes : (h : Pending) → (client_of x.own).held ≡ h → ((h ≡ NoCall) ⊎ (h ≡ Collecting [])) × (i ≡ 0) ⊎ (h ≡ Collecting (take i words))
-        → outcome (client_of x.own).number (client_of x.own).held (Match First (i + 1) n) s.step.at ≡ GoesOn more
-    first_comes h is by = ap (λ (k : Pending). outcome (client_of x.own).number k (Match First (i + 1) n) s.step.at) is ∙ (held_by h by ∙ (λ j. GoesOn (collected (words_on j) (now_is j))))
-      where
-        held_by : (h : Pending) → ((h ≡ NoCall) ⊎ (h ≡ Collecting [])) × (i ≡ 0) ⊎ (h ≡ Collecting (take i words))
-            → outcome (client_of x.own).number h (Match First (i + 1) n) s.step.at ≡ GoesOn (collected (take i words ++ n ∷ []) s.step.at)
-        held_by h (inl t) = elim t.0 [
-          | inl none ↦ ap (λ (k : Pending). outcome (client_of x.own).number k (Match First (i + 1) n) s.step.at) none
-              ∙ ap (λ (k : ℕ). GoesOn (collected (take k words ++ n ∷ []) s.step.at)) (sym t.1)
-          | inr anew ↦ ap (λ (k : Pending). outcome (client_of x.own).number k (Match First (i + 1) n) s.step.at) anew
-              ∙ ap (λ (k : ℕ). GoesOn (collected (take k words ++ n ∷ []) s.step.at)) (sym t.1)
-        ]
-        held_by h (inr t) = ap (λ (k : Pending). outcome (client_of x.own).number k (Match First (i + 1) n) s.step.at) t
-
-    may_be : (h : Pending) → MayCollect h → (h ≡ NoCall) ⊎ (h ≡ Collecting [])
-    may_be NoCall m = inl refl
-    may_be (Collecting ws) m = inr (ap Collecting m)
-    may_be h m = absurd m
-
     comes : Firsts v words i x → outcome (client_of x.own).number (client_of x.own).held (Match First (i + 1) n) s.step.at ≡ GoesOn more
-    comes (inl t) = first_comes (client_of x.own).held refl
-        (inl (
-          subst (λ (z : View). ((client_of z.own).held ≡ NoCall) ⊎ ((client_of z.own).held ≡ Collecting [])) (sym t.1)
-              (may_be (client_of v.own).held may),
-          t.0,
-        ))
-    comes (inr t) = first_comes (client_of x.own).held refl (inr (t.1.held_is ∙ collecting_still (length (history_of x.log))))
+    comes so_far =
+        let by : Pending → Outcome = (λ h. outcome (client_of x.own).number h (Match First (i + 1) n) s.step.at) in
+        let on : by (client_of x.own).held ≡ GoesOn (collected (take i words ++ n ∷ []) s.step.at) = elim (held_before so_far) [
+          | inl t ↦ ap by t.0 ∙ ap (λ (l : List ℕ). GoesOn (collected (l ++ n ∷ []) s.step.at)) (sym t.1)
+          | inr t ↦ ap by t
+        ] in
+        on ∙ (λ j. GoesOn (collected (words_on j) (now_is j)))
 
     pub first_loads : LoadsMatch First (i + 1) x n w
-    first_loads = loads_match seat (i + 1) n First x w s first_adds
+    first_loads = loads_match seat (i + 1) n First x w s (adds_none seat (i + 1) n First x w s tt)
 
     pub first_on : Firsts v words i x → Firsts v (set words i n) (i + 1) w
     first_on so_far = inr (omega arith, by so_far)
@@ -265,80 +215,54 @@ firsts_all v x words i long all (inr t) =
     (ap (λ (l : List ℕ). collected l (length (history_of x.log))) whole
     ∙ ap (λ (b : Bool). cond b (Checking words 0 (length (history_of x.log))) (Collecting words)) (eq-eqb (length words) 12 long)) t.1
 
--- a second collect
-
-pub record Seconds (v : View) (words : List ℕ) (point count : ℕ) (x : View) : Type 0 where
-  pub calls : (client_of x.own).calls ≡ (client_of v.own).calls
-  pub held : (client_of x.own).held ≡ Checking words count point
-  pub first : (client_of x.own).first ≡ (client_of v.own).first
-  pub number : (client_of x.own).number ≡ (client_of v.own).number
+-- a second collect, of which so many loads have found their word again
+abbrev pub Seconds : View → List ℕ → ℕ → ℕ → View → Type 0
+Seconds v words point count x = client_of x.own ≡ record (client_of v.own) { held = Checking words count point }
 
 pub seconds_none : (v : View) (words : List ℕ) (point : ℕ) → (client_of v.own).held ≡ Checking words 0 point → Seconds v words point 0 v
-seconds_none v words point is = record { calls = refl; held = is; first = refl; number = refl }
+seconds_none v words point is = λ i. record (client_of v.own) { held = is i }
 
 module _ (v x w : View) (words : List ℕ) (point i seat n : ℕ) (so_far : Seconds v words point i x) (s : Steps seat (Match Second (i + 1) n) x w) where
-  pub second_adds : s.step.entry ≡ None
-  second_adds = s.next.entry ∙ (ap (entry_by (client_at seat s.before).number (client_at seat s.before).held) s.of
-      ∙ second_none (client_at seat s.before).held (client_at seat s.before).number (i + 1) n)
-
   pub second_loads : LoadsMatch Second (i + 1) x n w
-  second_loads = loads_match seat (i + 1) n Second x w s second_adds
+  second_loads = loads_match seat (i + 1) n Second x w s (adds_none seat (i + 1) n Second x w s tt)
 
   abbrev compared_by : Bool → Bool → Outcome
   compared_by same last = cond same (cond last (protocol.Answers (replies.Copied (reading_of words))) (GoesOn (Checking words (i + 1) point))) (GoesOn (Collecting []))
 
-  second_comes : outcome (client_of x.own).number (client_of x.own).held (Match Second (i + 1) n) s.step.at ≡ compared_by (n == slice_index words i) (i == 11)
-  second_comes = ap (λ (h : Pending). outcome (client_of x.own).number h (Match Second (i + 1) n) s.step.at) so_far.held
+  abbrev checking_before : ClientState
+  checking_before = record (client_of v.own) { held = Checking words i point }
 
-  first_kept : (first : ℕ) → first ≡ first_place (client_of x.own).held (client_of x.own).first s.step.place → first ≡ (client_of v.own).first
-  first_kept first is = is ∙ (ap (λ (h : Pending). first_place h (client_of x.own).first s.step.place) so_far.held ∙ so_far.first)
+  second_is : (same last : Bool) → (n == slice_index words i) ≡ same → (i == 11) ≡ last
+      → client_of w.own ≡ with_outcome (compared_by same last) s.step checking_before
+  second_is same last by end = client_is seat (Match Second (i + 1) n) x w s
+      ∙ (ap (with_target (Match Second (i + 1) n) s.step) so_far ∙ (λ j. with_outcome (compared_by (by j) (end j)) s.step checking_before))
 
-  module _ (same : n ≡ slice_index words i) where
-    same_comes : outcome (client_of x.own).number (client_of x.own).held (Match Second (i + 1) n) s.step.at ≡ compared_by true (i == 11)
-    same_comes = second_comes ∙ ap (λ (b : Bool). compared_by b (i == 11)) (eq-eqb n (slice_index words i) same)
+  pub second_on : n ≡ slice_index words i → i < 11 → Seconds v words point (i + 1) w
+  second_on same less = second_is true false (eq-eqb n (slice_index words i) same) (ne_eqb i 11 (λ z. omega arith))
 
-    module _ (less : i < 11) where
-      on_comes : outcome (client_of x.own).number (client_of x.own).held (Match Second (i + 1) n) s.step.at ≡ GoesOn (Checking words (i + 1) point)
-      on_comes = same_comes ∙ ap (compared_by true) (ne_eqb i 11 (λ z. omega arith))
-
-      pub second_on : Seconds v words point (i + 1) w
-      second_on = record {
-        calls = goes_calls seat (i + 1) n Second x w s (Checking words (i + 1) point) on_comes ∙ so_far.calls;
-        held = (goes_on seat (i + 1) n Second x w s (Checking words (i + 1) point) on_comes).held_is;
-        first = first_kept (client_of w.own).first (goes_first seat (i + 1) n Second x w s (Checking words (i + 1) point) on_comes);
-        number = ap (λ (z : ClientState). z.number) (done seat (i + 1) n Second x w s (GoesOn (Checking words (i + 1) point)) on_comes) ∙ so_far.number;
+  pub second_last : n ≡ slice_index words i → i ≡ 11 → Finishes v calls.Reading (replies.Copied (reading_of words)) w
+  second_last same eleven =
+      let is = second_is true true (eq-eqb n (slice_index words i) same) (eq-eqb i 11 eleven) in
+      record {
+        answers = record {
+          last = call_answered (replies.Copied (reading_of words)) s.step checking_before;
+          calls = ap (λ (d : ClientState). d.calls) is;
+          asked = (ap (call_asked (Checking words i point)) s.of, refl, refl);
+          ended = log_long words_after IsNextOfProtocol seat (Match Second (i + 1) n) x w s;
+          held = ap (λ (d : ClientState). d.held) is;
+        };
+        first = refl;
       }
 
-    module _ (eleven : i ≡ 11) where
-      all_comes : outcome (client_of x.own).number (client_of x.own).held (Match Second (i + 1) n) s.step.at ≡ protocol.Answers (replies.Copied (reading_of words))
-      all_comes = same_comes ∙ ap (compared_by true) (eq-eqb i 11 eleven)
-
-      pub second_last : Finishes v calls.Reading (replies.Copied (reading_of words)) w
-      second_last =
-          let a = answered seat (i + 1) n Second x w s (replies.Copied (reading_of words)) all_comes calls.Reading
-          (ap (λ (h : Pending). call_asked h (Match Second (i + 1) n)) so_far.held) in
-          record {
-            answers = record {
-              last = a.last;
-              calls = a.calls ∙ ap (λ (l : List FinishedCall). l ++ a.last ∷ []) so_far.calls;
-              asked = (a.asked.0, a.asked.1, a.asked.2 ∙ so_far.number);
-              ended = a.ended;
-              held = a.held;
-            };
-            first = first_kept a.last.first refl;
-          }
-
-  module _ (other : n ≢ slice_index words i) where
-    anew_comes : outcome (client_of x.own).number (client_of x.own).held (Match Second (i + 1) n) s.step.at ≡ GoesOn (Collecting [])
-    anew_comes = second_comes ∙ ap (λ (b : Bool). compared_by b (i == 11)) (ne_eqb n (slice_index words i) other)
-
-    pub second_other : (client_of v.own).held ≡ Checking words 0 point → StaysIn v (Collecting []) w
-    second_other was = record {
-      calls = goes_calls seat (i + 1) n Second x w s (Collecting []) anew_comes ∙ so_far.calls;
-      held_is = (goes_on seat (i + 1) n Second x w s (Collecting []) anew_comes).held_is;
-      begun = subst (λ (h : Pending). IsBegun h (length v.log) (client_of v.own).first (client_of w.own).first) (sym was)
-          (first_kept (client_of w.own).first (goes_first seat (i + 1) n Second x w s (Collecting []) anew_comes));
-    }
+  pub second_other : n ≢ slice_index words i → (client_of v.own).held ≡ Checking words 0 point → StaysIn v (Collecting []) w
+  second_other other was =
+      let is = second_is false (i == 11) (ne_eqb n (slice_index words i) other) refl in
+      record {
+        calls = ap (λ (d : ClientState). d.calls) is;
+        held_is = ap (λ (d : ClientState). d.held) is;
+        begun = subst (λ (h : Pending). IsBegun h (length v.log) (client_of v.own).first (client_of w.own).first) (sym was)
+            (ap (λ (d : ClientState). d.first) is);
+      }
 
 -- tries of a reading
 
