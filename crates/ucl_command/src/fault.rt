@@ -1,4 +1,4 @@
-//! The words of the command line, read by `clap`, and why they name nothing to do. What each program takes is in a module of its own.
+//! The words of the command line, parsed by `clap`, and why they name nothing to do (`LineFault`).
 
 ghost use Rattle.ucl_command.specs.declared.fault.LineFault.TheVariants.{OutOfMemory};
 ghost use Rattle.ucl_command.specs.Arguments.{ReadsJust};
@@ -26,12 +26,13 @@ impl From<AllocError> for LineFault {
 
     ghost from_gives = { λ _ fault. fault ≡ OutOfMemory };
 
+    /// Returns `OutOfMemory`.
     fn from(_error: AllocError) -> LineFault {
         LineFault::OutOfMemory
     }
 }
 
-/// Creates a refusal with this text, if there is memory for it.
+/// Returns `Refused` with this text, or `OutOfMemory` if there is no memory for it.
 fn refusal(alloc: Global, text: &str) -> LineFault {
     match String::from_str(alloc, text) {
         Ok(text) => LineFault::Refused(text),
@@ -52,7 +53,7 @@ pub fn words_of<R: Env + AllocGlobal>(rt: &R, alloc: Global) -> Result<Vec<Strin
     }
 }
 
-/// Returns the fault of words that `clap` does not take: with its text, or one of our own if that is empty.
+/// Returns the fault for an error of `clap`, which is help, a refusal or lack of memory; an empty text of `clap` is replaced by ours.
 fn fault_of(alloc: Global, error: &Error) -> LineFault {
     if error.kind() == ErrorKind::OutOfMemory {
         return LineFault::OutOfMemory;
@@ -65,19 +66,18 @@ fn fault_of(alloc: Global, error: &Error) -> LineFault {
     }
 }
 
-/// Reads the words by a command of `clap`.
+/// Parses the words by a command of `clap`. `Err` if help is asked for, the words are refused, or there is no memory.
 pub(crate) fn matches_from<'a>(
     alloc: Global,
     command: Command<'a>,
     words: &'a [String],
 ) -> Result<ArgMatches<'a>, LineFault> {
-    match command.try_get_matches_from(words) {
-        Ok(matches) => Ok(matches),
-        Err(error) => Err(fault_of(alloc, &error)),
-    }
+    command
+        .try_get_matches_from(words)
+        .map_err(|error| fault_of(alloc, &error))
 }
 
-/// Returns what was read, or a refusal if `clap` has left something out.
+/// Returns what was found in the arguments, or `Err` with a refusal if nothing was, since `clap` has left something out.
 pub(crate) fn read<T>(alloc: Global, found: Option<T>) -> Result<T, LineFault>
     ensures { ReadsJust found result }
 {

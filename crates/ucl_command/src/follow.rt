@@ -1,4 +1,4 @@
-//! The arguments of `ucl_follow`.
+//! The arguments of `ucl_follow`, which reads answers of `ucl_live` in JSON and shows each newer screen: a group's table as it stands.
 
 use crate::fault::{LineFault, matches_from, read};
 use crate::help::{FORMAT, follow as help};
@@ -6,22 +6,22 @@ use crate::options::{
     Format, flag_option, format_of, format_option, group_of, group_option, order_of, order_option,
     program,
 };
-use clap::{Arg, ArgMatches, Command};
+use clap::{ArgMatches, Command};
 use std::alloc::{AllocError, Global};
 use ucl_order::Profile;
 
-/// Which group and order a follower was asked for, if any, and what it writes.
+/// Which group and order `ucl_follow` was asked to follow, `None` if not asked, and what it writes.
 #[derive(Clone, Copy, Debug, PartialEq, Eq)]
 pub struct FollowArgs {
     /// The letter of the group that was asked for, `A` to `H`.
     pub group: Option<u8>,
-    /// The order of the clubs that was asked for.
+    /// The tie-break order of the clubs that was asked for.
     pub profile: Option<Profile>,
     /// What it writes.
     pub shape: FollowShape,
 }
 
-/// What a follower writes.
+/// What `ucl_follow` writes.
 #[derive(Clone, Copy, Debug, PartialEq, Eq)]
 pub enum FollowShape {
     /// Each screen as its six lines of text.
@@ -32,45 +32,33 @@ pub enum FollowShape {
     Matches,
 }
 
-/// Creates the option `--matches`, which is text: it does not go with `--format`.
-fn matches_option<'a>(alloc: Global) -> Result<Arg<'a>, AllocError> {
-    flag_option(alloc, "matches", help::MATCHES).conflicts_with("format")
-}
-
-/// Creates the program's command.
+/// Creates the command by which `clap` parses the words of `ucl_follow`.
 fn command<'a>(alloc: Global) -> Result<Command<'a>, AllocError> {
     program(alloc, "ucl_follow", help::PROGRAM, help::PROGRAM_MORE)
         .arg(group_option(alloc, help::GROUP))?
         .arg(order_option(alloc, help::ORDER))?
         .arg(format_option(alloc, FORMAT))?
-        .arg(matches_option(alloc)?)
+        .arg(flag_option(alloc, "matches", help::MATCHES).conflicts_with("format")?)
 }
 
-/// Returns what was named to be written.
-fn shape_in(matches: &ArgMatches<'_>) -> Option<FollowShape> {
-    let format = format_of(matches)?;
-    if matches.get_flag("matches") {
-        return Some(FollowShape::Matches);
-    }
-    match format {
-        Format::Text => Some(FollowShape::Text),
-        Format::Json => Some(FollowShape::Json),
-    }
-}
-
-/// Returns the arguments that were named.
+/// Returns the arguments that `clap` has parsed, or `None` if `clap` gave no format. `clap` refuses `--matches` beside `--format`.
 fn args_in(matches: &ArgMatches<'_>) -> Option<FollowArgs> {
+    let shape = match format_of(matches)? {
+        _ if matches.get_flag("matches") => FollowShape::Matches,
+        Format::Text => FollowShape::Text,
+        Format::Json => FollowShape::Json,
+    };
     Some(FollowArgs {
         group: group_of(matches),
         profile: order_of(matches),
-        shape: shape_in(matches)?,
+        shape,
     })
 }
 
 /// Parses the words of `ucl_follow`. The first word is the program's name.
 ///
-/// The options are `--group` with a letter from `A` to `H`; `--order` with `uefa` or `away-in-tie`; `--format` with `text` or `json`, which is
-/// `text` if it is left out; and `--matches`, which asks for the matches in place of screens, and does not go with `--format`.
+/// The options are `--group` with a letter from `A` to `H`; `--order` with `uefa` or `away-in-tie`; `--format` with `text` or `json`, by
+/// default `text`; and `--matches`, which asks for the matches in place of screens, and does not go with `--format`.
 ///
 /// # Errors
 ///

@@ -1,4 +1,4 @@
-//! The arguments of `ucl_live`.
+//! The arguments of `ucl_live`, which answers rows of events through an evening. A screen is the table of the group as it stands.
 
 ghost use Rattle.std.specs.Prelude.{◌≡◌, true};
 ghost use Rattle.ucl_command.specs.Groups.{may_be_asked};
@@ -13,12 +13,12 @@ use clap::{ArgMatches, Command};
 use std::alloc::{AllocError, Global};
 use ucl_order::Profile;
 
-/// How an evening answers: which group and order were asked for, whether the screen follows each accepted event, and in which form.
+/// What the words of `ucl_live` ask for. Group and order are `None` if they do not name them; `letter` says that a group is one of A to H.
 #[derive(Debug, Drop)]
 pub struct LiveArgs {
     /// The letter of the group that was asked for, `A` to `H`.
     pub group: Option<u8>,
-    /// The order of the clubs that was asked for.
+    /// The tie-break order of the clubs that was asked for.
     pub profile: Option<Profile>,
     /// Whether the screen is shown after each accepted event.
     pub screens: bool,
@@ -27,7 +27,7 @@ pub struct LiveArgs {
     pub ghost letter: { may_be_asked group ≡ true },
 }
 
-/// Creates the program's command.
+/// Creates the command by which `clap` parses the words of `ucl_live`.
 fn command<'a>(alloc: Global) -> Result<Command<'a>, AllocError> {
     program(alloc, "ucl_live", help::PROGRAM, help::PROGRAM_MORE)
         .arg(group_option(alloc, help::GROUP))?
@@ -36,22 +36,20 @@ fn command<'a>(alloc: Global) -> Result<Command<'a>, AllocError> {
         .arg(format_option(alloc, FORMAT))
 }
 
-/// Returns the arguments that were named.
+/// Returns the arguments that `clap` has parsed, or `None` if it left out the format.
 fn args_in(matches: &ArgMatches<'_>) -> Option<LiveArgs> {
-    let format = format_of(matches)?;
-    let group = group_of(matches);
     Some(LiveArgs {
-        group,
+        group: group_of(matches),
         profile: order_of(matches),
         screens: matches.get_flag("screens"),
-        format,
+        format: format_of(matches)?,
     })
 }
 
 /// Parses the words of `ucl_live`. The first word is the program's name.
 ///
-/// The options are `--group` with a letter from `A` to `H`; `--order` with `uefa` or `away-in-tie`; `--screens`; and `--format` with `text` or
-/// `json`, which is `text` if it is left out.
+/// The options are `--group` with a letter from `A` to `H`; `--order` with `uefa` or `away-in-tie`; `--screens`; and `--format` with `text`
+/// or `json`, by default `text`.
 ///
 /// # Errors
 ///

@@ -1,4 +1,5 @@
-//! The arguments of `ucl_night`.
+//! The arguments of `ucl_night`. A script is an input of clubs and events; a sheet one of clubs and words, which are matches in 64 bits
+//! each; a screen is the table of the group as it stands; a reading is a snapshot of the board.
 
 ghost use Rattle.std.specs.Prelude.{IfOk, IfSome};
 ghost use Rattle.ucl_command.specs.Arguments.{IsInRange};
@@ -12,7 +13,7 @@ use clap::{ArgMatches, Command};
 use std::alloc::{AllocError, Global};
 use ucl_order::Profile;
 
-/// What `ucl_night` is to do.
+/// What `ucl_night` is to do, by its subcommand.
 #[derive(Clone, Copy, Debug, PartialEq, Eq)]
 pub enum Line {
     /// Enter a script, and write a reply for each event.
@@ -21,21 +22,21 @@ pub enum Line {
     Show {
         /// The letter of the group, `A` to `H`.
         group: u8,
-        /// The order of the clubs.
+        /// The tie-break order of the clubs.
         profile: Profile,
     },
-    /// Enter a script by two reporters in threads while two readers look on, and write the screens.
+    /// Enter a script by two reporters, each a thread, while two reader threads take readings, and write screens.
     Night {
         /// The letter of the group, `A` to `H`.
         group: u8,
         /// How many readings each reader takes, 0 to 1,000.
         readings: u32,
-        /// The order of the clubs.
+        /// The tie-break order of the clubs.
         profile: Profile,
     },
 }
 
-/// Creates the program's command, with a subcommand for each line.
+/// Creates the command by which `clap` parses the words of `ucl_night`, with the subcommands `feed`, `show` and `night`.
 fn command<'a>(alloc: Global) -> Result<Command<'a>, AllocError> {
     let feed = Command::new(alloc, "feed")
         .about(help::FEED)
@@ -58,7 +59,7 @@ fn command<'a>(alloc: Global) -> Result<Command<'a>, AllocError> {
         .subcommand(night)
 }
 
-/// Returns the subcommand that the arguments name, with its options, if all of them are in range.
+/// Returns the subcommand that `clap` has parsed, with its options, or `None` if there is none or an option is not in range.
 fn line_in(matches: &ArgMatches<'_>) -> Option<Line>
     ensures { IfSome result IsInRange }
 {
@@ -80,9 +81,8 @@ fn line_in(matches: &ArgMatches<'_>) -> Option<Line>
 
 /// Parses the words of `ucl_night`. The first word is the program's name.
 ///
-/// The subcommand is `feed`, `show` or `night`. The latter two take `--group` with a letter from `A` to `H`, which is `A` if it is left
-/// out, and `--order` with `uefa` or `away-in-tie`, which is `uefa` if it is left out. `night` takes `--readings` too, with a number from 0
-/// to 1,000, which is 0 if it is left out.
+/// The subcommand is `feed`, `show` or `night`. The latter two take `--group` with a letter from `A` to `H`, by default `A`, and `--order`
+/// with `uefa` or `away-in-tie`, by default `uefa`. `night` takes `--readings` too, with a number from 0 to 1,000, by default 0.
 ///
 /// # Errors
 ///

@@ -1,4 +1,5 @@
-//! The options that programs share, each once, and what their values name.
+//! The options that programs share, each once, and what their values name. `says` is the help of an option; a screen is a group's table as
+//! it stands; a reading is a snapshot of its board, which a reader thread takes; the order is the tie-break order of the clubs (profile).
 
 ghost use Rattle.std.specs.Prelude.{◌≡◌, ◌≤◌, true, IfSome};
 ghost use Rattle.ucl_screen.specs.Screen.{IsGroup};
@@ -13,24 +14,28 @@ use ucl_screen::is_group;
 /// In which form answers or screens are written.
 #[derive(Clone, Copy, Debug, PartialEq, Eq)]
 pub enum Format {
-    /// As text: reply lines, word lines and screens.
+    /// As text: a line for each event and each match word, and screens.
     Text,
     /// As JSON: each answer is one object on one line.
     Json,
 }
 
+/// The letters of the groups.
 static GROUPS: [&str; 8] = ["A", "B", "C", "D", "E", "F", "G", "H"];
 
+/// The values of `--format`.
 static FORMATS: [&str; 2] = [TEXT, JSON];
 
+/// The value of `--format` for text.
 const TEXT: &str = "text";
 
+/// The value of `--format` for JSON.
 const JSON: &str = "json";
 
 /// The most readings that `--readings` asks of each reader.
 const MAX_READINGS: u32 = 1000;
 
-/// Creates a program's command before it has options: its name, what it does, and what its help says after the options. It prints the version.
+/// Creates a program's command of `clap`, without options: its name, what it does, what its help says at the end, and the version.
 pub(crate) fn program<'a>(
     alloc: Global,
     name: &'a str,
@@ -43,7 +48,7 @@ pub(crate) fn program<'a>(
         .after_help(more)
 }
 
-/// Creates an option of one value.
+/// Creates the option `--name` of one value, which its help calls `value`.
 fn option<'a>(alloc: Global, name: &'a str, value: &'a str, says: &'a str) -> Arg<'a> {
     Arg::new(alloc, name)
         .long(name)
@@ -52,31 +57,31 @@ fn option<'a>(alloc: Global, name: &'a str, value: &'a str, says: &'a str) -> Ar
         .help(says)
 }
 
-/// Creates `--group` with a letter from `A` to `H`.
+/// Creates the option `--group` with a letter from `A` to `H`.
 pub(crate) fn group_option<'a>(alloc: Global, says: &'a str) -> Arg<'a> {
     option(alloc, "group", "GROUP", says).value_parser(GROUPS.as_slice())
 }
 
-/// Creates `--order` with `uefa` or `away-in-tie`.
+/// Creates the option `--order` with `uefa` or `away-in-tie`.
 pub(crate) fn order_option<'a>(alloc: Global, says: &'a str) -> Arg<'a> {
     option(alloc, "order", "ORDER", says).value_parser(PROFILE_NAMES.as_slice())
 }
 
-/// Creates `--format` with `text` or `json`, which is `text` if it is left out.
+/// Creates the option `--format` with `text` or `json`, by default `text`.
 pub(crate) fn format_option<'a>(alloc: Global, says: &'a str) -> Arg<'a> {
     option(alloc, "format", "FORMAT", says)
         .value_parser(FORMATS.as_slice())
         .default_value(TEXT)
 }
 
-/// Creates `--readings` with a number from 0 to 1,000, which is 0 if it is left out.
+/// Creates the option `--readings` with a number from 0 to 1,000, by default 0.
 pub(crate) fn readings_option<'a>(alloc: Global) -> Arg<'a> {
     option(alloc, "readings", "NUMBER", help::READINGS)
         .value_parser(value_parser!(u32).range(0..=i64::from(MAX_READINGS)))
         .default_value("0")
 }
 
-/// Creates an option without a value, which is there or not.
+/// Creates the option `--name` without a value, which is there or not.
 pub(crate) fn flag_option<'a>(alloc: Global, name: &'a str, says: &'a str) -> Arg<'a> {
     Arg::new(alloc, name)
         .long(name)
@@ -84,7 +89,7 @@ pub(crate) fn flag_option<'a>(alloc: Global, name: &'a str, says: &'a str) -> Ar
         .help(says)
 }
 
-/// Returns the group that was named.
+/// Returns the group that `--group` names, or `None` without the option or if it is no letter from `A` to `H`.
 #[tactic(auto, using(crate::proofs::Letters::letter_asked))]
 pub(crate) fn group_of(matches: &ArgMatches<'_>) -> Option<u8>
     ensures letter { IfSome result IsGroup }
@@ -96,12 +101,12 @@ pub(crate) fn group_of(matches: &ArgMatches<'_>) -> Option<u8>
     }
 }
 
-/// Returns the order that was named.
+/// Returns the order that `--order` names, or `None` without the option or if its value is no order.
 pub(crate) fn order_of(matches: &ArgMatches<'_>) -> Option<Profile> {
     Profile::from_name(matches.get_str("order")?.as_bytes())
 }
 
-/// Returns the form that was named.
+/// Returns the form that `--format` names, or `None` without a value or if that is no form.
 pub(crate) fn format_of(matches: &ArgMatches<'_>) -> Option<Format> {
     match matches.get_str("format")? {
         TEXT => Some(Format::Text),
@@ -110,7 +115,7 @@ pub(crate) fn format_of(matches: &ArgMatches<'_>) -> Option<Format> {
     }
 }
 
-/// Returns how many readings were asked for.
+/// Returns how many readings `--readings` asks for, or `None` without a value or if that is over 1,000.
 pub(crate) fn readings_of(matches: &ArgMatches<'_>) -> Option<u32>
     ensures { IfSome result (λ n. n ≤ 1000) }
 {

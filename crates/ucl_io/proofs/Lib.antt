@@ -2,4 +2,3 @@ pub mod Puts
 pub mod Cuts
 pub mod Calls
 pub mod Turns
-pub mod Runs

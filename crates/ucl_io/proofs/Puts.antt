@@ -125,7 +125,7 @@ given_after a b text none none2 went told sound = record { given = text; went = 
 
 module _ (F : Type 0) where
   -- the sink failed in the text
-  pub short_within : (a b c : Outlet) (text : List ℕ) (f : ServeFault F) → HasPut a b [] → b.held ≡ [] → WritesOn b.out b.failed c.failed b.taken c.taken text (Err f)
+  pub short_within : (a b c : Outlet) (text : List ℕ) (f : ServeFault F) → HasPut a b [] → b.held ≡ [] → WritesOn b c text (Err f)
       → PutsOrStops {V = ⊤} a c text (Err f)
   short_within a b c text (WriteFailed n) put none s = put_stops a b c [] text n put (rw none s)
   short_within _ _ _ _ _ _ _ s = absurd s

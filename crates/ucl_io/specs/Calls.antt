@@ -1,12 +1,13 @@
--- When a source was called for bytes, and a source and a sink as contracts see them.
+-- When a source, which gives bytes, was called for them; and a source and a sink, which takes bytes, as contracts see them.
+-- A time is a state just before such a call. `left` is what a source has left and `taken` what a sink has taken, None if not known.
 use Rattle.std.specs.Prelude.{◌≡◌, ⊤, ℕ, ◌+◌, Bool, List, [], ◌∷◌, ◌++◌, length, All, Option, Some, IfSome}
 
--- each time was just before its call: as many calls had been made at the first, and one more at each that follows
+-- at the first of these times the number of calls, which `count` gives, was `calls`, and at each later one it was one more
 unfoldable pub InTurn : {T : Type 0} (count : T → ℕ) → ℕ → List T → Type 0
 InTurn count calls [] = ⊤
 InTurn count calls (time ∷ more) = (count time ≡ calls) × InTurn count (calls + 1) more
 
--- the source was called these times more, by each call that was made; each time was just before its call, and P held then
+-- a log grew from old to new by `times`, one just before each of the calls that took their number from `calls` to `calls2`; at each P held
 pub record LogsCalls {T : Type 0} (count : T → ℕ) (old new : List T) (calls calls2 : ℕ) (P : T → Type 0) : Type 0 where
   pub times : List T
   pub more : new ≡ old ++ times
@@ -14,7 +15,7 @@ pub record LogsCalls {T : Type 0} (count : T → ℕ) (old new : List T) (calls 
   pub in_turn : InTurn count calls times
   pub held : All P times
 
--- no byte is left of a source, where its bytes were known at first
+-- if the bytes that a source had left at first are known, no byte of it is left in the end
 abbrev pub HasEnded : Option (List ℕ) → Option (List ℕ) → Type 0
 HasEnded left left2 = IfSome left (λ _. left2 ≡ Some [])
 
@@ -24,5 +25,6 @@ pub record Device : Type 0 where
   pub taken : Option (List ℕ)
   pub failed : Bool
 
+-- the `Device` of a source and a sink, by the functions for what the one has left, what the other has taken, and whether it has failed
 abbrev pub device : {S W : Type 0} → (S → Option (List ℕ)) → (W → Option (List ℕ)) → (W → Bool) → S → W → Device
 device left taken failed source sink = record { left = left source; taken = taken sink; failed = failed sink }

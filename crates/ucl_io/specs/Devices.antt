@@ -1,27 +1,20 @@
--- What clauses see of a reader of std as a source, and of a writer as a sink.
-use Rattle.std.specs.Prelude.{ℕ, zero, suc, Bool, Option, Some, None, Result, Ok, Err}
+-- What contracts see of a reader of std as a source, which gives bytes (`FromRead`), and of a writer as a sink, which takes bytes.
+use Rattle.std.specs.Prelude.{Bool}
 use Rattle.ucl_io.specs.declared.devices.FromRead.{FromRead}
 use Rattle.ucl_io.specs.declared.devices.ToWrite.{ToWrite}
 
+-- the reader of std from which a source takes its bytes
 abbrev pub reader_of : {R : Type 0} → FromRead R → R
-reader_of s = s.reader
+reader_of source = source.reader
 
+-- whether a call of a source has failed
 abbrev pub read_failed : {R : Type 0} → FromRead R → Bool
-read_failed s = s.has_failed
+read_failed source = source.has_failed
 
+-- the writer of std to which a sink gives its bytes
 abbrev pub writer_of : {W : Type 0} → ToWrite W → W
-writer_of s = s.writer
+writer_of sink = sink.writer
 
+-- whether a call of a sink has failed
 abbrev pub write_failed : {W : Type 0} → ToWrite W → Bool
-write_failed s = s.has_failed
-
--- what a source answers where its reader answered this: an error is a failure
-abbrev pub taken_by : {E : Type 0} → Result ℕ E → Option ℕ
-taken_by (Ok n) = Some n
-taken_by (Err e) = None
-
--- what a sink answers where its writer answered this: an error is a failure, and so is a write of no byte
-abbrev pub given_by : {E : Type 0} → Result ℕ E → Option ℕ
-given_by (Ok zero) = None
-given_by (Ok (suc n)) = Some (suc n)
-given_by (Err e) = None
+write_failed sink = sink.has_failed

@@ -1,4 +1,6 @@
--- What `serve_lines` did with the bytes of its source.
+-- What `serve_lines` did: it takes bytes from a source, has a handler answer each line, and gives the answers to a sink.
+-- A run is one call of it; a turn is one answered line. `old` and `new` are source, sink and handler before and after it, D are the rules
+-- of the handler: which answers it gives to a line, and for which fault it has none. Of a line `cap` bytes are kept.
 use Rattle.std.specs.Prelude.{◌≡◌, ◌⊎◌, ℕ, ◌+◌, ◌^◌, ◌<◌, Bool, true, false, List, [], ◌++◌, length, Option, Result, Ok, Err}
 use Rattle.std.specs.Io.KnownBytes.{Appends, Consumes}
 use Rattle.ucl_io.specs.declared.fault.ServeFault.{ServeFault}
@@ -8,25 +10,26 @@ use Rattle.ucl_io.specs.Lines.{begun_line, ended_lines}
 use Rattle.ucl_io.specs.Output.{StoppedShort}
 use Rattle.ucl_io.specs.Turns.{AreTurns, Rules, StopsNext, Turn, lines_in, rules, state_after, text_in}
 
--- what a handler does with a line, and with what has begun of a last one
+-- the rules of a handler: what it does with a line, and, when the input has ended, with the bytes after the last line feed
 pub record LineRules (M F : Type 0) : Type 1 where
   pub line : Rules M F
   pub last : Rules M F
 
+-- the rules of a handler, from its four relations: what it answers and why it does not, for a line and for the end of the input
 abbrev pub rules_of : {M F : Type 0} → (M → ℕ → List ℕ → M → List ℕ → Type 0) → (M → ℕ → List ℕ → M → F → Type 0) → (M → ℕ → List ℕ → M → List ℕ → Type 0)
     → (M → ℕ → List ℕ → M → F → Type 0) → LineRules M F
 rules_of answers stops ends stops_at_end = record { line = rules answers stops; last = rules ends stops_at_end }
 
--- a source and a sink, and the handler between them
+-- a source, a sink and a handler at one time, as contracts see them
 pub record Seen (M : Type 0) : Type 0 where
   pub device : Device
   pub handler : M
 
+-- what contracts see of a source, a sink and a handler, by the functions for the bytes left and taken and for the failure of the sink
 abbrev pub seen : {S W M : Type 0} → (S → Option (List ℕ)) → (W → Option (List ℕ)) → (W → Bool) → S × W × M → Seen M
 seen left taken failed time = record { device = device left taken failed time.0 time.1; handler = time.2 }
 
--- at one time of a run that came to these turns: some bytes were taken by then, and the first of the turns were those of all their lines
--- that have an end, and their answers were out, and nothing else
+-- at the time `now` of a run: just the lines that had ended among the bytes taken by then were answered, and just their answers were out
 pub record IsPromptAt {M : Type 0} (cap : ℕ) (old now : Seen M) (turns : List (Turn M)) : Type 0 where
   pub bytes : List ℕ
   pub first : List (Turn M)
@@ -37,28 +40,27 @@ pub record IsPromptAt {M : Type 0} (cap : ℕ) (old now : Seen M) (turns : List 
   pub handler : now.handler ≡ state_after old.handler first
   pub out : Appends old.device.taken now.device.taken (text_in first)
 
--- what a run came to: the bytes that it took, the turns by which it answered the first of their lines, the lines that it did not answer, and what
--- it answered to what had begun of a last line
+-- what a run did: the bytes that it took, the turns, the lines that it did not answer, and its answer to a last line without an end
 pub record Run (M : Type 0) : Type 0 where
   pub bytes : List ℕ
   pub turns : List (Turn M)
   pub rest : List (List ℕ)
   pub last : List ℕ
 
--- the input has ended, all its lines were answered, and what has begun of a last line was too
+-- the input has ended, all its lines were answered, and the bytes after its last line feed, which may be none, were answered by `last`
 pub record HasClosed {M F : Type 0} (D : LineRules M F) (cap : ℕ) (old new : Seen M) (run : Run M) : Type 0 where
   pub ended : HasEnded old.device.left new.device.left
   pub all : run.rest ≡ []
   pub answer : D.last.Answers (state_after old.handler run.turns) (1 + length run.turns) (begun_line cap [] run.bytes) new.handler run.last
 
--- or the handler has no answer to it
+-- the input has ended, all its lines were answered, and the handler has no answer, for this fault, to the bytes after its last line feed
 pub record StopsLast {M F : Type 0} (D : LineRules M F) (cap : ℕ) (old new : Seen M) (run : Run M) (fault : F) : Type 0 where
   pub ended : HasEnded old.device.left new.device.left
   pub all : run.rest ≡ []
   pub stops : D.last.Stops (state_after old.handler run.turns) (1 + length run.turns) (begun_line cap [] run.bytes) new.handler fault
 
--- why a run ended after this: the input has ended; the source failed, or more bytes came than any input has, when all lines that had an end
--- were answered; the sink failed in the answers; or the handler has no answer to the next line, or to what has begun of a last one
+-- why a run ended, by its result: the input has ended; the source failed, or more bytes came than any input has, when all lines that had an
+-- end were answered; the sink failed in the answers; or the handler has no answer to the next line, or to the bytes after the last one
 abbrev pub ServeEnds : {M F : Type 0} → LineRules M F → ℕ → Seen M → Seen M → Run M → Result ℕ (ServeFault F) → Type 0
 ServeEnds D cap old new run (Ok count) = (count ≡ length run.turns) × HasClosed D cap old new run
 ServeEnds D cap old new run (Err (ReadFailed count)) = (count ≡ length run.bytes) × (run.rest ≡ []) × (run.last ≡ [])
@@ -67,12 +69,13 @@ ServeEnds D cap old new run (Err (WriteFailed written)) = (run.last ≡ []) ⊎ 
 ServeEnds D cap old new run (Err (Handler fault)) =
     (StopsNext D.line.Stops 1 old.handler new.handler run.turns run.rest fault ⊎ StopsLast D cap old new run fault) × (run.last ≡ [])
 
--- a text is out, whole; or the sink has failed, and so many first bytes of it are out
+-- the sink has taken a text whole; or the result is `WriteFailed`, the sink has failed, and it took just `written` first bytes of the text
 abbrev pub IsOut : {F : Type 0} → Device → Device → List ℕ → Result ℕ (ServeFault F) → Type 0
 IsOut old new text (Err (WriteFailed written)) = StoppedShort 0 new.failed old.taken new.taken text written
 IsOut old new text _ = Appends old.taken new.taken text × (new.failed ≡ old.failed)
 
--- a run, whatever it came to: so many first lines of the bytes that it took were answered, their text is out, and it ended for this
+-- what a run did: it took bytes, answered the first of their lines or all, gave the answers to the sink, and ended as its result says;
+-- `Prompt` holds of its turns
 pub record Served {M F : Type 0} (D : LineRules M F) (cap : ℕ) (old new : Seen M) (result : Result ℕ (ServeFault F)) (Prompt : List (Turn M) → Type 0) : Type 0 where
   pub run : Run M
   pub consumed : Consumes old.device.left new.device.left run.bytes
@@ -82,7 +85,7 @@ pub record Served {M F : Type 0} (D : LineRules M F) (cap : ℕ) (old new : Seen
   pub out : IsOut old.device new.device (text_in run.turns ++ run.last) result
   pub ends : ServeEnds D cap old new run result
 
--- whether a run failed because its source did
+-- whether the result of a run is the fault that its source failed
 abbrev pub is_source_failed : {V F : Type 0} → Result V (ServeFault F) → Bool
 is_source_failed (Err (ReadFailed count)) = true
 is_source_failed _ = false

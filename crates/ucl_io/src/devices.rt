@@ -1,36 +1,15 @@
-//! Sources and sinks over std's readers and writers.
+//! `FromRead` makes a reader of std a source, which gives bytes, and `ToWrite` makes a writer of std a sink, which takes bytes. Each keeps
+//! whether a call of it has failed, and for contracts alone a log of its calls.
 
 ghost use Rattle.std.specs.Prelude.{◌≡◌, false, length};
-ghost use Rattle.ucl_io.specs.Devices.{given_by, reader_of, read_failed, taken_by, writer_of, write_failed};
+ghost use Rattle.ucl_io.specs.Devices.{reader_of, read_failed, writer_of, write_failed};
 
 use crate::call_log::CallLog;
 use crate::stream::{Sink, Source};
-use std::io;
 use std::io::{Read, Write};
 
-/// Returns what a source answers where its reader answered this.
-fn taken_by(answer: &io::Result<usize>) -> Option<usize>
-    ensures { result ≡ taken_by answer.now }
-{
-    match answer {
-        Ok(n) => Some(*n),
-        Err(_) => None,
-    }
-}
-
-/// Returns what a sink answers where its writer answered this.
-fn given_by(answer: &io::Result<usize>) -> Option<usize>
-    ensures { result ≡ given_by answer.now }
-{
-    match answer {
-        Ok(0) | Err(_) => None,
-        Ok(count) => Some(*count),
-    }
-}
-
-/// A reader as a source. Any error of the reader is a failure, and after it the reader is not called again. A buffer
-/// without room does not reach the reader. That the reader is called, once for each other call, and that no call fails but for
-/// it, is held by tests: std's readers have nothing by which a clause could say it.
+/// A reader of std as a source. Any error of the reader is a failure; the reader is not called again after it, nor for an empty buffer.
+/// Tested and not proved, since std's contracts have no word for it: each other call calls the reader once and fails only if it does.
 #[derive(Drop)]
 pub struct FromRead<R> {
     reader: R,
@@ -39,7 +18,7 @@ pub struct FromRead<R> {
 }
 
 impl<R: Read> FromRead<R> {
-    /// Creates a source of the bytes that the reader has left. No call has failed.
+    /// Creates a source of the bytes that `reader` has left, of which no call has failed yet.
     pub fn new(reader: R) -> FromRead<R>
         ensures reader { reader_of result ≡ reader }
         ensures sound { read_failed result ≡ false }
@@ -59,6 +38,7 @@ impl<R: Read> Source for FromRead<R> {
 
     ghost failed = { λ s. s.has_failed };
 
+    /// Reads into `buf`, by at most one call of the reader, and returns how many bytes came; `None` if a read failed, now or before.
     fn take(&mut self, buf: &mut [u8]) -> Option<usize> {
         self.calls = self.calls.and(&(), &(), &());
         if self.has_failed {
@@ -67,15 +47,15 @@ impl<R: Read> Source for FromRead<R> {
         if buf.is_empty() {
             return Some(0);
         }
-        let taken = taken_by(&self.reader.read(buf));
+        let taken = self.reader.read(buf).ok();
         self.has_failed = taken.is_none();
         taken
     }
 }
 
-/// A writer as a sink. Any error of the writer is a failure, and so is a write of no byte; after it the writer is not
-/// called again. An empty text does not reach the writer. Nothing is flushed: the writer should not keep bytes back. That the
-/// writer is called, once for each other call, and that no call fails but for it, is held by tests, as of readers.
+/// A writer of std as a sink. Any error of the writer is a failure, and so is a write of no byte; the writer is not called again after it,
+/// nor for an empty text. Nothing is flushed: the writer should not keep bytes back. Tested and not proved: each other call calls the
+/// writer once, and fails only if the writer does.
 #[derive(Drop)]
 pub struct ToWrite<W> {
     writer: W,
@@ -84,7 +64,7 @@ pub struct ToWrite<W> {
 }
 
 impl<W: Write> ToWrite<W> {
-    /// Creates a sink that hands its bytes to the writer. No call has failed.
+    /// Creates a sink that hands its bytes to `writer`, and of which no call has failed yet.
     pub fn new(writer: W) -> ToWrite<W>
         ensures writer { writer_of result ≡ writer }
         ensures sound { write_failed result ≡ false }
@@ -104,6 +84,7 @@ impl<W: Write> Sink for ToWrite<W> {
 
     ghost failed = { λ s. s.has_failed };
 
+    /// Writes by at most one call of the writer, and returns how many bytes of `text` went out; `None` if a write failed, now or before.
     fn give(&mut self, text: &[u8]) -> Option<usize> {
         self.calls = self.calls.and(&(), &(), &());
         if self.has_failed {
@@ -112,7 +93,10 @@ impl<W: Write> Sink for ToWrite<W> {
         if text.is_empty() {
             return Some(0);
         }
-        let given = given_by(&self.writer.write(text));
+        let given = match self.writer.write(text) {
+            Ok(0) | Err(_) => None,
+            Ok(count) => Some(count),
+        };
         self.has_failed = given.is_none();
         given
     }

@@ -1,4 +1,5 @@
-//! A whole run.
+//! The driver: it reads the bytes of a source, hands each line to a handler, and writes the answers to a sink. In contracts `left` and
+//! `taken` are the bytes that the source has left and the sink has taken; a turn is one answered line; a time is a state of all three.
 
 ghost use Rattle.std.specs.Prelude.{◌≡◌, ◌≤◌};
 ghost use Rattle.ucl_io.specs.Calls.{LogsCalls};
@@ -6,26 +7,26 @@ ghost use Rattle.ucl_io.specs.Serving.{IsPromptAt, Served, rules_of, is_source_f
 
 use crate::fault::ServeFault;
 use crate::handler::{LineHandler, Text};
-use crate::lines::Lines;
+use crate::lines::LineBuffer;
 use crate::logged_io::LoggedIo;
 use crate::stream::{Sink, Source};
 
-/// How many bytes are asked for at a time.
+/// The most bytes that one call of the source is asked for.
 const PIECE: usize = 16_384;
 
-/// The most bytes of an input, which none lives to see.
+/// A run of the driver that has read more than these 2^62 bytes ends with `TooLong`; no input has so many.
 const MAX_READ: usize = 0x4000_0000_0000_0000;
 
-/// Answers the lines of a source until it ends: each before more is asked for. Returns how many lines had an end.
+/// Reads the source to its end, and has `handler` answer each line; the answers are written before more bytes are asked for. Returns how
+/// many lines ended with a line feed.
 ///
-/// Of a line `cap` bytes are kept, and what comes after them is passed over. A handler that distinguishes long lines takes one byte more
-/// than a line may have. Answers to lines that came together are gathered, at most 4,096 bytes of them.
+/// Of a line at most `cap` bytes are kept, and the rest is dropped. A handler that refuses long lines needs a `cap` one above its limit.
+/// Answers to lines that came together are gathered, at most 4,096 bytes of them.
 ///
 /// # Errors
 ///
-/// If the source fails, all lines that had an end are answered. If the handler has no answer, the answers before are out. If the
-/// sink fails, a first part of the answers is out, and the fault has the number of its bytes. `TooLong` comes after more than 2^62 bytes, which no
-/// input has.
+/// If the source fails, all lines that had an end are answered. If the handler has no answer, all earlier ones are out. If the sink fails,
+/// a first part of the answers is out, and the fault has the number of its bytes. `TooLong` comes after more than 2^62 bytes.
 pub fn serve_lines<S: Source, W: Sink, M: LineHandler>(
     handler: &mut M,
     cap: usize,
@@ -35,8 +36,8 @@ pub fn serve_lines<S: Source, W: Sink, M: LineHandler>(
     requires cap { cap ≤ 4097 }
     ensures ready { M.ready handler.new }
 
-    // Which bytes it took, which lines the handler answered and how, what is out, and how it ended. Just before each call for bytes, also
-    // in a run that failed, the answers to all lines that had an end by then were out, and nothing else.
+    // Says which bytes were taken, which lines the handler answered and how, what is out, and how the run ended. Just before each call for
+    // bytes, also in a run that failed, the answers to all lines that had an end by then were out, and nothing else.
     ensures served { Served (rules_of M.answers M.stops M.ends M.stops_at_end) cap
         (seen S.left W.taken W.failed (logged_io.old.source, logged_io.old.sink, handler.old))
         (seen S.left W.taken W.failed (logged_io.new.source, logged_io.new.sink, handler.new))
@@ -51,7 +52,7 @@ pub fn serve_lines<S: Source, W: Sink, M: LineHandler>(
     // A failed read is answered exactly if the source has failed.
     ensures read_failed { S.failed logged_io.new.source ≡ is_source_failed result }
 {
-    let mut lines = Lines::new();
+    let mut lines = LineBuffer::new();
     let mut text = M::Answer::new();
     let mut piece = [0; PIECE];
     let mut read: usize = 0;

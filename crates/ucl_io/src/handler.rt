@@ -1,45 +1,47 @@
-//! What answers lines.
+//! Handlers: what answers the lines of an input, one after the other. A handler has a state that each line may change; a run is one call of
+//! `serve_lines`, which gives a handler all lines of a source, numbered from 1, and writes its answers to a sink.
 
 ghost use Rattle.std.specs.Prelude.{◌≡◌, ℕ, List, IfErr, OnOk};
 
-/// A text that can be written. There is one for a whole run, into which each answer is put.
+/// A buffer for answers. There is one for a whole run: the handler puts each answer into it in place of the one before.
 pub trait Text {
-    // Its bytes.
+    // The bytes of the answer in the buffer.
     ghost bytes: { Self → List ℕ };
 
-    /// Creates the room for the answers of a run.
+    /// Creates the buffer for the answers of a run.
     fn new() -> Self;
 
-    /// Its bytes.
+    /// Returns the bytes of the answer in the buffer.
     fn text(&self) -> &[u8]
         ensures { result.now ≡ bytes self.now };
 }
 
-/// What answers lines, one after the other. It is given no device: who gives it a line writes its answer.
+/// What answers lines, one after the other. It reads and writes nothing itself: `serve_lines` gives it each line and writes the answer.
 ///
-/// What it answers is a relation between its states, so others may act on what it borrows.
+/// Its answers are a relation, not a function, of its states and the lines: other threads may change what it borrows.
 pub trait LineHandler {
-    /// What it answers. An answer may be nothing.
+    /// The buffer for its answers. An answer may be empty.
     type Answer: Text + Drop;
 
-    /// Why it has no answer.
+    /// Why it has no answer to a line, at which the run ends.
     type Fault: Drop;
 
-    // It can be given a line.
+    // Whether the handler can be given a line.
     ghost ready: { Self → Type 0 };
 
-    // In the first state it answers the line of this number so, and is in the second state then.
+    // In the first state the handler answers the line with this number and these bytes by the last bytes, and is in the second state then.
     ghost answers: { Self → ℕ → List ℕ → Self → List ℕ → Type 0 };
 
-    // In the first state it has no answer to the line of this number, for this reason, and is in the second state then.
+    // In the first state the handler has no answer to the line with this number, for this fault, and is in the second state then.
     ghost stops: { Self → ℕ → List ℕ → Self → Self.Fault → Type 0 };
 
-    // The same where the input ends, and a last line of this number has begun so: it may have no byte.
+    // As `answers`, for the bytes after the last line feed when the input has ended.
     ghost ends: { Self → ℕ → List ℕ → Self → List ℕ → Type 0 };
 
+    // As `stops`, for the bytes after the last line feed when the input has ended.
     ghost stops_at_end: { Self → ℕ → List ℕ → Self → Self.Fault → Type 0 };
 
-    /// Answers the line of this number, which comes without its line feed. The answer takes the place of the one before.
+    /// Answers `line`, which has number `row` and comes without its line feed, and puts the answer into `text`. `Err` if it has none.
     fn answer(&mut self, row: u64, line: &[u8], text: &mut Self::Answer) -> Result<(), Self::Fault>
         requires { ready self.old }
         ensures ready { ready self.new }
@@ -47,7 +49,7 @@ pub trait LineHandler {
             (answers self.old row line.now self.new (Self.Answer.bytes text.new)) }
         ensures stops { IfErr result (stops self.old row line.now self.new) };
 
-    /// Answers what has begun of a last line, which has no end.
+    /// Answers, when the input has ended, the bytes after its last line feed, which may be none. `Err` if it has no answer.
     fn end(&mut self, row: u64, begun: &[u8], text: &mut Self::Answer) -> Result<(), Self::Fault>
         requires { ready self.old }
         ensures ready { ready self.new }

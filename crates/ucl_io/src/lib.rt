@@ -3,7 +3,6 @@
 #![tactic(auto)]
 
 mod call_log;
-mod cutting;
 mod devices;
 mod driver;
 mod fault;
@@ -12,14 +11,12 @@ mod lines;
 mod logged_io;
 mod output;
 mod stream;
-mod transfer;
 
 pub use call_log::CallLog;
-pub use cutting::{MAX_KEPT_BYTES, first_line};
 pub use devices::{FromRead, ToWrite};
 pub use driver::serve_lines;
 pub use fault::ServeFault;
 pub use handler::{LineHandler, Text};
+pub use lines::{MAX_KEPT_BYTES, first_line};
 pub use logged_io::LoggedIo;
-pub use stream::{Sink, Source};
-pub use transfer::give_all;
+pub use stream::{Sink, Source, give_all};

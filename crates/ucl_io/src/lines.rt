@@ -1,25 +1,64 @@
-//! The lines of bytes as they come, and their answers.
+//! Cuts bytes into lines as they come, and puts a handler's answers into an output, which holds text back until it is given to a sink.
+//! Of a line at most `cap` first bytes are kept; `begun` is what is kept of a line without its end yet, and `row` its number, from 1;
+//! `text` is the buffer for an answer. In contracts `progress` is the next line's number, the handler, the output and the sink.
 
-ghost use Rattle.std.specs.Prelude.{◌≡◌, ◌+◌, ◌-◌, ◌^◌, ◌<◌, ◌≤◌, [], ◌++◌, length, take, OnOk};
-ghost use Rattle.ucl_io.specs.Lines.{begun_line, ended_lines};
+ghost use Rattle.std.specs.Prelude.{◌≡◌, ◌+◌, ◌-◌, ◌^◌, ◌<◌, ◌≤◌, [], ◌++◌, length, take, IfSome, None, OnOk};
+ghost use Rattle.ucl_io.specs.Lines.{BeginsWithLine, HasNoFeed, begun_line, ended_lines};
 ghost use Rattle.ucl_io.specs.Turns.{Answered, Closed, Turned, progress, rules};
 
-use crate::cutting::{MAX_KEPT_BYTES, at_most, first_line, keep};
 use crate::fault::ServeFault;
 use crate::handler::{LineHandler, Text};
 use crate::output::Output;
 use crate::stream::Sink;
 use arrayvec::ArrayVec;
 
-/// Lines between two bytes: what is kept of the line that has begun, its number, and answers that wait.
+/// The most bytes that can be kept of a line.
+pub const MAX_KEPT_BYTES: usize = 4097;
+
+/// Returns the bytes of a text before its first line feed, or `None` if it has no line feed.
+pub fn first_line(text: &[u8]) -> Option<&[u8]>
+    ensures line { IfSome result (λ line. BeginsWithLine text.now line.now) }
+    ensures none { result ≡ None → HasNoFeed text.now }
+{
+    for at in 0..text.len() {
+        if text[at] == b'\n' {
+            return Some(&text[..at]);
+        }
+    }
+    None
+}
+
+/// Returns the first `most` bytes of a text, or all if it has fewer.
+fn at_most(text: &[u8], most: usize) -> &[u8]
+    ensures { result.now ≡ take most text.now }
+{
+    if text.len() <= most {
+        text
+    } else {
+        &text[..most]
+    }
+}
+
+/// Adds bytes to what is kept of a line, up to `cap` bytes in all; the rest is dropped.
+fn keep(line: &mut ArrayVec<u8, MAX_KEPT_BYTES>, cap: usize, bytes: &[u8])
+    requires cap { cap ≤ 4097 }
+    requires short { length line.old.items ≤ cap }
+    ensures { line.new.items ≡ take cap (line.old.items ++ bytes.now) }
+{
+    let room = cap - line.len();
+    let _fits = line.try_extend_from_slice(at_most(bytes, room));
+}
+
+/// The state between two bytes of the input: what is kept of the line that has begun, its number, and the answers that wait.
 #[derive(Drop)]
-pub(crate) struct Lines {
+pub(crate) struct LineBuffer {
     pub(crate) begun: ArrayVec<u8, MAX_KEPT_BYTES>,
     pub(crate) row: u64,
     pub(crate) output: Output,
 }
 
-/// Gives the line of this number to the handler, and puts its answer to those that wait. Where it has none, those before are given to the sink.
+/// Gives line `row` to the handler, and puts the answer into `output`. If the handler has no answer, the answers that wait go to the sink,
+/// and its fault is returned. `WriteFailed` if the sink fails.
 fn answer_line<W: Sink, M: LineHandler>(
     handler: &mut M,
     row: u64,
@@ -44,21 +83,22 @@ fn answer_line<W: Sink, M: LineHandler>(
     }
 }
 
-impl Lines {
-    /// Creates the state before the first byte.
-    pub(crate) fn new() -> Lines
+impl LineBuffer {
+    /// Creates the state before the first byte of an input: in line 1, with nothing kept and no answer that waits.
+    pub(crate) fn new() -> LineBuffer
         ensures begun { result.begun.items ≡ [] }
         ensures row { result.row ≡ 1 }
         ensures output { result.output ≡ record { held = []; out = 0 } }
     {
-        Lines {
+        LineBuffer {
             begun: ArrayVec::new(),
             row: 1,
             output: Output::new(),
         }
     }
 
-    /// Answers a line that ends with these bytes, which is answered where it lies if it lies here whole.
+    /// Answers the line that is `begun` and then `end`, and goes on to the next. If `begun` is empty, `end` is the whole line and is not
+    /// copied. `Err` if the handler has no answer or the sink fails.
     fn end_line<W: Sink, M: LineHandler>(
         &mut self,
         handler: &mut M,
@@ -92,7 +132,8 @@ impl Lines {
         Ok(())
     }
 
-    /// Takes bytes, answers each line that ends among them, and gives the answers to the sink; also those before a line that has none.
+    /// Takes the next bytes of the input, answers each line that ends among them, and gives all answers to the sink. `Err` if the handler
+    /// has no answer or the sink fails.
     pub(crate) fn enter<W: Sink, M: LineHandler>(
         &mut self,
         handler: &mut M,
@@ -132,7 +173,8 @@ impl Lines {
         }
     }
 
-    /// Answers what has begun of a last line, at the end of the input, and gives the answer to the sink.
+    /// Answers, when the input has ended, the bytes after the last line feed, and gives all answers to the sink. `Err` if the handler has
+    /// no answer or the sink fails.
     pub(crate) fn end<W: Sink, M: LineHandler>(
         &mut self,
         handler: &mut M,

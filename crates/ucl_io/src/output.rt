@@ -1,19 +1,19 @@
-//! Text that is gathered before it is given to a sink.
+//! `Output`: it gathers text before it is given to a sink. `held` is the text that waits, and `out` counts the bytes given before.
+//! In contracts an `outlet` is both, the bytes that the sink has taken, where known, and whether it has failed.
 
 ghost use Rattle.std.specs.Prelude.{◌≡◌, ◌-◌, ◌^◌, ◌+◌, ◌≤◌, [], ◌++◌, length, min, true, false, IfOk, OnOk};
 ghost use Rattle.std.specs.Io.KnownBytes.{Appends};
 ghost use Rattle.ucl_io.specs.Output.{PutsOrStops, Waiting, WritesOn, outlet};
 
 use crate::fault::ServeFault;
-use crate::stream::Sink;
-use crate::transfer::give_all;
+use crate::stream::{Sink, give_all};
 use arrayvec::ArrayVec;
 use std::marker::Model;
 
-/// The most bytes that are gathered.
+/// The most bytes of text that an output holds back.
 const PAGE: usize = 4096;
 
-/// A page of text that waits to be given to a sink, and how many bytes went out. A number past `usize::MAX` is given as that.
+/// The text that waits to be given to a sink, and how many bytes went out before. A number past `usize::MAX` is kept as `usize::MAX`.
 #[derive(Drop)]
 pub(crate) struct Output {
     held: ArrayVec<u8, PAGE>,
@@ -28,19 +28,6 @@ impl Model for Output {
     ghost view = { λ p. record { held = p.held.items; out = p.out } };
 }
 
-/// Gives bytes to a sink after so many, and returns how many are out then, also if it fails.
-fn put_bytes<W: Sink, F>(sink: &mut W, out: usize, bytes: &[u8]) -> Result<usize, ServeFault<F>>
-    ensures { WritesOn out (W.failed sink.old) (W.failed sink.new)
-        (W.taken sink.old) (W.taken sink.new) bytes.now result }
-{
-    match give_all(sink, bytes) {
-        Ok(()) => Ok(out.saturating_add(bytes.len())),
-        Err(more) => Err(ServeFault::WriteFailed {
-            written: out.saturating_add(more),
-        }),
-    }
-}
-
 impl Output {
     /// Creates an output in which nothing waits, and of which nothing went out.
     pub(crate) fn new() -> Output
@@ -52,7 +39,7 @@ impl Output {
         }
     }
 
-    /// Returns how many bytes went out.
+    /// Returns how many bytes went out to the sink so far.
     pub(crate) fn written(&self) -> usize
         ensures value { result ≡ self.now.out }
         ensures bound { self.now.out ≤ 2 ^ 64 - 1 }
@@ -60,18 +47,31 @@ impl Output {
         self.out
     }
 
-    /// Gives to the sink what waits.
+    /// Gives `bytes` to the sink at once, and returns how many bytes are out then in all; if the sink fails, `WriteFailed` has that number.
+    fn write_on<W: Sink, F>(&self, sink: &mut W, bytes: &[u8]) -> Result<usize, ServeFault<F>>
+        ensures { WritesOn (outlet W.taken W.failed self.now sink.old)
+            (outlet W.taken W.failed self.now sink.new) bytes.now result }
+    {
+        match give_all(sink, bytes) {
+            Ok(()) => Ok(self.out.saturating_add(bytes.len())),
+            Err(more) => Err(ServeFault::WriteFailed {
+                written: self.out.saturating_add(more),
+            }),
+        }
+    }
+
+    /// Gives the text that waits to the sink, so that none waits. `WriteFailed` if the sink fails.
     pub(crate) fn flush<W: Sink, F>(&mut self, sink: &mut W) -> Result<(), ServeFault<F>>
         ensures put { PutsOrStops (outlet W.taken W.failed self.old sink.old)
             (outlet W.taken W.failed self.new sink.new) [] result }
         ensures empty { OnOk result (self.new.held ≡ []) }
     {
-        self.out = put_bytes(sink, self.out, self.held.as_slice())?;
+        self.out = self.write_on(sink, self.held.as_slice())?;
         self.held.clear();
         Ok(())
     }
 
-    /// Holds a text back, after what waits, where there is room for both. Returns whether it does.
+    /// Puts a text after the text that waits, if there is room for all of it, and returns whether there is.
     fn hold(&mut self, text: &[u8]) -> bool
         ensures held { result ≡ true → self.new
             ≡ record { held = self.old.held ++ text.now; out = self.old.out } }
@@ -83,7 +83,7 @@ impl Output {
         }
     }
 
-    /// Puts a text after what waits. If there is no room for both, both are given to the sink.
+    /// Puts a text after the text that waits. If there is no room for it, both go to the sink; `WriteFailed` if the sink fails.
     pub(crate) fn put<W: Sink, F>(&mut self, sink: &mut W, text: &[u8]) -> Result<(), ServeFault<F>>
         ensures { PutsOrStops (outlet W.taken W.failed self.old sink.old)
             (outlet W.taken W.failed self.new sink.new) text.now result }
@@ -94,7 +94,7 @@ impl Output {
             return Ok(());
         }
         self.flush(sink)?;
-        self.out = put_bytes(sink, self.out, text)?;
+        self.out = self.write_on(sink, text)?;
         Ok(())
     }
 }

@@ -1,4 +1,3 @@
 pub mod Places
 pub mod OneLine
-pub mod Matches
 pub mod Members

@@ -1,14 +1,15 @@
 -- What the members of a value tell.
-use Rattle.std.proofs.Common.{Bool, List, None, Option, Some, [], ap, append_assoc, arith, cond, drop, false, get_or, inl, inr, le-leb, length, refl, sym, take}
+use Rattle.std.proofs.Common.{rules, Bool, List, None, Option, Some, [], ap, append_assoc, arith, cond, drop, false, get_or, inl, inr, le-leb, length, refl, sym, take}
 use Rattle.std.proofs.Common.{true, ℕ, ◌&&◌, ◌++◌, ◌+◌, ◌<◌, ◌∙◌, ◌∷◌, ◌≡◌, ◌≤◌}
-use Rattle.std.specs.Prelude.{IsUtf8, map, nat_le, option_and_then}
+use Rattle.std.specs.Result.{result_ok}
+use Rattle.std.specs.Prelude.{Err, IfOk, IsOk, IsUtf8, Ok, Result, map, nat_le, option_and_then}
 use Rattle.std.specs.Str.{is_utf8}
 use Rattle.std.proofs.lemmas.Str.{IsUtf8-from_is_utf8, is_utf8-from_IsUtf8}
 use Rattle.serde_json.specs.Read.{read}
 use Rattle.ucl_json.specs.declared.board_state.BoardState.{BoardState}
 use Rattle.std.proofs.lemmas.Bool.{cases_Bool, eq-eqb}
 use Rattle.std.proofs.lemmas.Bool.Decides.{nat_tests}
-use Rattle.std.proofs.lemmas.List.{length-map, map-append, take-append-drop, take_more}
+use Rattle.std.proofs.lemmas.List.{append-nil, drop_all, drop_more, length-map}
 use Rattle.serde_json.specs.Data.{Data}
 use Rattle.serde_json.specs.View.{items_view, view}
 use Rattle.serde_json.specs.declared.value.Value.{Value}
@@ -26,63 +27,43 @@ listed_view [] = refl
 listed_view (v ∷ values) = ap (λ (ds : List Data). view v ∷ ds) (listed_view values)
 
 module _ {T : Type 0} (parsed : Data → Option T) where
-  join : (o q : Option T) (p r : Option (List T)) → r ≡ (p >>= λ all. q >>= λ a. Some (all ++ a ∷ []))
-      → (o >>= λ f. r >>= λ m. Some (f ∷ m)) ≡ ((o >>= λ f. p >>= λ m. Some (f ∷ m)) >>= λ all. q >>= λ a. Some (all ++ a ∷ []))
-  join None q p r e = refl
-  join (Some f) q None r e = rw e refl
-  join (Some f) None (Some all) r e = rw e refl
-  join (Some f) (Some a) (Some all) r e = rw e refl
+  -- what was read so far and what the rest of the values gives
+  abbrev pub read_with : List T → List Value → Option (List T)
+  read_with so_far rest = parse_each parsed (map view rest) >>= λ more. Some (so_far ++ more)
 
-  pub parsed-last : (values : List Data) (value : Data) → parse_each parsed (values ++ value ∷ []) ≡ (parse_each parsed values >>= λ all. parsed value >>= λ a. Some (all ++ a ∷ []))
-  unfolding parse_each
-  parsed-last [] value = refl
-  parsed-last (v ∷ values) value = join (parsed v) (parsed value) (parse_each parsed values) (parse_each parsed (values ++ value ∷ [])) (parsed-last values value)
-
-  stuck : (o : Option T) (p : Option (List T)) → p ≡ None → (o >>= λ f. p >>= λ m. Some (f ∷ m)) ≡ None
-  stuck None p e = refl
-  stuck (Some f) p e = rw e refl
-
-  pub parsed-none : (values more : List Data) (value : Data) → parsed value ≡ None → parse_each parsed (values ++ value ∷ more) ≡ None
-  unfolding parse_each
-  parsed-none [] more value h = rw h refl
-  parsed-none (v ∷ values) more value h = stuck (parsed v) (parse_each parsed (values ++ value ∷ more)) (parsed-none values more value h)
-
-  pub parsed-nothing : parse_each parsed [] ≡ Some []
-  unfolding parse_each
-  parsed-nothing = refl
-
-  pub parsed-start : (values : List Value) (so_far : List T) → so_far ≡ [] → parse_each parsed (map view (take 0 values)) ≡ Some so_far
-  parsed-start values so_far e = rw e (parsed-first values)
+  pub read-none : (values : List Value) (so_far : List T) → so_far ≡ [] → read_with so_far values ≡ parse_each parsed (map view values)
+  read-none values so_far e = rw e (same (parse_each parsed (map view values)))
     where
-      parsed-first : (values : List Value) → parse_each parsed (map view (take 0 values)) ≡ Some []
-      parsed-first [] = parsed-nothing
-      parsed-first (v ∷ values) = parsed-nothing
-
-  next-at : (values : List Value) (i : ℕ) (d : Value) (so_far new : List T) (one : T) → i < length values → parse_each parsed (map view (take i values)) ≡ Some so_far
-      → Some one ≡ parsed (view (get_or values i d)) → new ≡ so_far ++ one ∷ [] → parse_each parsed (map view (take (i + 1) values)) ≡ Some new
-  next-at values i d so_far new one h so k e =
-      rw (take_more values i d h, map-append view (take i values) (get_or values i d ∷ []), parsed-last (map view (take i values)) (view (get_or values i d)), so, ← k, e) refl
-
-  not-at : (values : List Value) (i : ℕ) (d : Value) → i < length values → None ≡ parsed (view (get_or values i d)) → parse_each parsed (map view values) ≡ None
-  not-at values i d h k =
-      let parts : values ≡ (take i values ++ get_or values i d ∷ []) ++ drop (i + 1) values =
-      sym (take-append-drop (i + 1) values) ∙ ap (λ (l : List Value). l ++ drop (i + 1) values) (take_more values i d h) in
-      let all = append_assoc (take i values) (get_or values i d ∷ []) (drop (i + 1) values) in
-      ap (λ (l : List Value). parse_each parsed (map view l)) (parts ∙ all) ∙ ap (parse_each parsed) (map-append view (take i values) (get_or values i d ∷ drop (i + 1) values))
-      ∙ parsed-none (map view (take i values)) (map view (drop (i + 1) values)) (view (get_or values i d)) (sym k)
+      same : (p : Option (List T)) → (p >>= λ more. Some more) ≡ p
+      same None = refl
+      same (Some all) = refl
 
   -- one value more
-  pub parsed-next : (values : List Value) (i : ℕ) (x : Value) (so_far new : List T) (one : T) → i < length values → x ≡ get_or values i x →
-      parse_each parsed (map view (take i values)) ≡ Some so_far
-      → Some one ≡ parsed (view x) → new ≡ so_far ++ one ∷ [] → parse_each parsed (map view (take (i + 1) values)) ≡ Some new
-  parsed-next values i x so_far new one h is so k e = next-at values i x so_far new one h so (k ∙ ap (λ (v : Value). parsed (view v)) is) e
+  pub read-next : (values : List Value) (i : ℕ) (x : Value) (so_far new : List T) (one : T) → i < length values → x ≡ get_or values i x → Some one ≡ parsed (view x)
+      → new ≡ so_far ++ one ∷ [] → read_with new (drop (i + 1) values) ≡ read_with so_far (drop i values)
+  unfolding parse_each
+  read-next values i x so_far new one h is k e = rw (drop_more values i x h, ← is, ← k, e) (joined (parse_each parsed (map view (drop (i + 1) values))))
+    where
+      joined : (p : Option (List T)) → (p >>= λ more. Some ((so_far ++ one ∷ []) ++ more)) ≡ ((p >>= λ more. Some (one ∷ more)) >>= λ more. Some (so_far ++ more))
+      joined None = refl
+      joined (Some all) = ap (λ (l : List T). Some l) (append_assoc so_far (one ∷ []) all)
 
   -- a value that tells nothing
-  pub parsed-not : (values : List Value) (i : ℕ) (x : Value) → i < length values → x ≡ get_or values i x → None ≡ parsed (view x) → parse_each parsed (map view values) ≡ None
-  parsed-not values i x h is k = not-at values i x h (k ∙ ap (λ (v : Value). parsed (view v)) is)
+  pub read-not : (values : List Value) (i : ℕ) (x : Value) (so_far : List T) → i < length values → x ≡ get_or values i x → None ≡ parsed (view x)
+      → read_with so_far (drop i values) ≡ None
+  unfolding parse_each
+  read-not values i x so_far h is k = rw (drop_more values i x h, ← is, ← k) refl
 
-  pub not-parsed : (n : ℕ) (values : List Value) → length values ≡ n → parse_each parsed (map view values) ≡ None → just n parsed (map view values) ≡ None
-  not-parsed n values long e = rw (length-map values view, long, eq-eqb n n refl) e
+  pub read-all : (values : List Value) (i : ℕ) (so_far : List T) → length values ≤ i → read_with so_far (drop i values) ≡ Some so_far
+  unfolding parse_each
+  read-all values i so_far h = rw (drop_all i values h) (ap (λ (l : List T). Some l) (append-nil so_far))
+
+  pub just-each : (n : ℕ) (values : List Value) → length values ≡ n → just n parsed (map view values) ≡ parse_each parsed (map view values)
+  just-each n values long = rw (length-map values view, long, eq-eqb n n refl) refl
+
+pub inner-ok : {A E : Type 0} (r : Result A E) (x : A) → IsOk r → IfOk r (λ a. a ≡ x) → result_ok r ≡ Some x
+inner-ok {A} (Ok a) x ok e = ap (λ (y : A). Some y) e
+inner-ok (Err f) x ok e = absurd (search rules)
 
 -- ---- four clubs
 

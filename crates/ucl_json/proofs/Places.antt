@@ -1,9 +1,8 @@
--- Items that are added one after the other, and the members of a place.
-use Rattle.std.proofs.Common.{List, [], ap, arith, false, get_or, length, negsuc, pos, refl, take, ℕ, ℤ, ◌++◌, ◌+◌, ◌-ℤ◌, ◌<◌, ◌∙◌, ◌∷◌, ◌≡◌, ◌≤◌}
+-- Elements that are added one after the other, and answers that have no float and are not nested deep.
+use Rattle.std.proofs.Common.{List, [], ap, arith, codes, false, get_or, length, negsuc, pos, refl, take, ℕ, ℤ, ◌++◌, ◌+◌, ◌-ℤ◌, ◌<◌, ◌∙◌, ◌∷◌, ◌≡◌, ◌≤◌, ◌-◌}
 use Rattle.std.proofs.lemmas.List.{take_all, take_more}
-use Rattle.serde_json.specs.Data.{Data, Items, depth, item, items_depth, no_items, no_members, object, string}
+use Rattle.serde_json.specs.Data.{Data, Items, depth, item, items_depth, no_items, string}
 use Rattle.serde_json.specs.Find.{is_float, of_integer}
-use Rattle.serde_json.specs.Read.{max_depth}
 use Rattle.serde_json.specs.Written.{has_float, items_have_float}
 use Rattle.serde_json.specs.View.{items_view, view}
 use Rattle.serde_json.specs.declared.value.Value.{Value}
@@ -20,9 +19,12 @@ use Rattle.ucl_order.specs.Rows.{rows_of}
 use Rattle.ucl_order.specs.Roster.{NamedClub}
 use Rattle.ucl_screen.specs.Numbers.{hex_digits}
 use Rattle.ucl_json.specs.declared.header.BoardHeader.{BoardHeader}
-use Rattle.ucl_json.specs.Values.{accepted_value, place_items, place_value, refused_by, reply_value, screen_value, with_club, with_goals, with_matches, word_items}
-use Rattle.ucl_json.specs.Values.{words_value}
+use Rattle.ucl_json.specs.Values.{accepted_value, items_of, place_items, place_value, refused_by, reply_value, screen_value, word_items, words_value, coded_value}
+use Rattle.ucl_json.specs.Values.{match_value, number_value, numbered_value, with_member, edition_screen_value, match_items, matches_value}
+use Rattle.ucl_json.specs.Lines.{IsFlat}
 use Rattle.serde_json.proofs.OnLiterals.{serde_json_on_literals}
+use Rattle.ucl_board.specs.Fixtures.{match_numbers}
+use Rattle.ucl_screen.proofs.EventsInTurn.{match-numbered}
 
 abbrev pub add : Items → Data → Items
 add no_items d = item d no_items
@@ -32,69 +34,74 @@ pub view-add : (xs : List Value) (v : Value) → items_view (xs ++ v ∷ []) ≡
 view-add [] v = refl
 view-add (x ∷ xs) v = ap (item (view x)) (view-add xs v)
 
-words-add : (ws : List ℕ) (w : ℕ) → word_items (ws ++ w ∷ []) ≡ add (word_items ws) (string (hex_digits w))
-words-add [] w = refl
-words-add (v ∷ ws) w = ap (item (string (hex_digits v))) (words-add ws w)
+-- the value of one element more
+module _ {T : Type 0} (value_of : T → Data) where
+  items-add : (xs : List T) (x : T) → items_of value_of (xs ++ x ∷ []) ≡ add (items_of value_of xs) (value_of x)
+  items-add [] x = refl
+  items-add (y ∷ xs) x = ap (item (value_of y)) (items-add xs x)
 
-rows-add : (roster : List NamedClub) (rows : List Row) (row : Row) → place_items roster (rows ++ row ∷ []) ≡ add (place_items roster rows) (place_value roster row)
-rows-add roster [] row = refl
-rows-add roster (r ∷ rows) row = ap (item (place_value roster r)) (rows-add roster rows row)
+  pub next-item : (old new : List Value) (v : Value) (xs : List T) (i : ℕ) (d : T) → i < length xs → items_view old ≡ items_of value_of (take i xs)
+      → view v ≡ value_of (get_or xs i d) → new ≡ old ++ v ∷ [] → items_view new ≡ items_of value_of (take (i + 1) xs)
+  next-item old new v xs i d h so_far now e = rw (e, take_more xs i d h, items-add (take i xs) (get_or xs i d), ← so_far, ← now) (view-add old v)
 
--- one word more
-pub next-word : (xs ys : List Value) (v : Value) (ws : List ℕ) (i : ℕ) → i < length ws → items_view xs ≡ word_items (take i ws) → view v ≡ string (hex_digits (get_or ws i 0)) → ys ≡ xs ++ v ∷ []
-    → items_view ys ≡ word_items (take (i + 1) ws)
-next-word xs ys v ws i h so_far now e = rw (e, take_more ws i 0 h, words-add (take i ws) (get_or ws i 0), ← so_far, ← now) (view-add xs v)
+  pub all-items : (values : List Value) (xs : List T) (i : ℕ) → length xs ≤ i → items_view values ≡ items_of value_of (take i xs) → items_view values ≡ items_of value_of xs
+  all-items values xs i h e = e ∙ ap (items_of value_of) (take_all i xs h)
 
-pub all-words : (xs : List Value) (ws : List ℕ) (i : ℕ) → length ws ≤ i → items_view xs ≡ word_items (take i ws) → items_view xs ≡ word_items ws
-all-words xs ws i h e = e ∙ ap word_items (take_all i ws h)
+-- one match more
+pub next-match : (board : List ℕ) (xs ys : List Value) (v : Value) (n game : ℕ) → 1 ≤ n → n ≤ 12 → game ≡ n → items_view xs ≡ match_items board (take (n - 1) match_numbers)
+    → view v ≡ match_value game (game_at board game) → ys ≡ xs ++ v ∷ [] → items_view ys ≡ match_items board (take (n + 1 - 1) match_numbers)
+next-match board xs ys v n game low high is so_far now e =
+    let at : n + 1 - 1 ≡ n - 1 + 1 = omega arith in
+    rw at (next-item (λ (g : ℕ). match_value g (game_at board g)) xs ys v match_numbers (n - 1) 0 (omega arith) so_far (rw (match-numbered n low high, ← is) now) e)
 
--- one row more
-pub next-row : (roster : List NamedClub) (xs ys : List Value) (v : Value) (rows : List Row) (i : ℕ) (d : Row) → i < length rows → items_view xs ≡ place_items roster (take i rows)
-    → view v ≡ place_value roster (get_or rows i d) → ys ≡ xs ++ v ∷ [] → items_view ys ≡ place_items roster (take (i + 1) rows)
-next-row roster xs ys v rows i d h so_far now e = rw (e, take_more rows i d h, rows-add roster (take i rows) (get_or rows i d), ← so_far, ← now) (view-add xs v)
+-- all twelve
+pub all-matches : (board : List ℕ) (xs : List Value) (n : ℕ) → n ≡ 13 → items_view xs ≡ match_items board (take (n - 1) match_numbers) → items_view xs ≡ match_items board match_numbers
+all-matches board xs n last e = rw last at e
 
-pub all-rows : (roster : List NamedClub) (xs : List Value) (rows : List Row) (i : ℕ) → length rows ≤ i → items_view xs ≡ place_items roster (take i rows) → items_view xs ≡ place_items roster rows
-all-rows roster xs rows i h e = e ∙ ap (place_items roster) (take_all i rows h)
+-- two members more
+pub both_members : (n k : List ℕ) {whole second mid first base m d b : Data} → whole ≡ with_member n second mid → second ≡ m → mid ≡ with_member k first base → first ≡ d → base ≡ b
+    → whole ≡ with_member n m (with_member k d b)
+both_members n k p q r s t = rw (p, q, r, s, t) refl
 
--- the members of a place, in the order of their names
-pub placed : (roster : List NamedClub) (row : Row) → object (with_club roster row (with_goals row (with_matches row no_members))) ≡ place_value roster row
-unfolding place_value serde_json_on_literals
-placed roster row = refl
+-- what a stale event has more
+pub numbered : (row : ℕ) (event : NightEvent) (code : ℕ) (name : List ℕ) (found : ℕ) (m : MatchRecord)
+    → with_member (codes "stands") (match_value event.call.game m) (with_member (codes "number") (number_value found) (coded_value row event code name))
+    ≡ numbered_value row event code name found m
+unfolding serde_json_on_literals
+numbered row event code name found m = refl
 
 -- ---- no float, and no deep nesting
-
-pub record IsFlat (d : Data) : Type 0 where
-  pub whole : has_float d ≡ false
-  pub shallow : depth d ≤ max_depth
 
 pub record AreFlat (ds : Items) (n : ℕ) : Type 0 where
   pub whole : items_have_float ds ≡ false
   pub shallow : items_depth ds ≤ n
 
-pub words-flat : (ws : List ℕ) → AreFlat (word_items ws) 0
-words-flat [] = record { whole = refl; shallow = omega arith }
-words-flat (w ∷ ws) = let more = words-flat ws in record { whole = more.whole; shallow = let n = more.shallow in omega arith }
+pub items-flat : {T : Type 0} (value_of : T → Data) (n : ℕ) → ((x : T) → (has_float (value_of x) ≡ false) × (depth (value_of x) ≤ n)) → (xs : List T) → AreFlat (items_of value_of xs) n
+items-flat value_of n each [] = record { whole = refl; shallow = omega arith }
+items-flat value_of n each (x ∷ xs) =
+    let one = each x in
+    let more = items-flat value_of n each xs in record { whole = rw (one.0, more.whole) refl; shallow = omega (arith, one.1, more.shallow) }
 
-pub words-value-flat : (row : ℕ) (ws : List ℕ) → IsFlat (words_value row ws)
-words-value-flat row ws = let w = words-flat ws in record { whole = rw w.whole refl; shallow = omega (arith, w.shallow) }
+pub words-flat : (words : List ℕ) → AreFlat (word_items words) 0
+words-flat words = items-flat (λ (word : ℕ). string (hex_digits word)) 0 (λ word. (refl, omega arith)) words
+
+pub words_value_flat : (row : ℕ) (ws : List ℕ) → IsFlat (words_value row ws)
+words_value_flat row ws = let w = words-flat ws in record { whole = rw w.whole refl; shallow = omega (arith, w.shallow) }
 
 int-whole : (z : ℤ) → is_float (of_integer z) ≡ false
 int-whole (pos n) = refl
 int-whole (negsuc n) = refl
 
-place-flat : (roster : List NamedClub) (row : Row) → (has_float (place_value roster row) ≡ false) × (depth (place_value roster row) ≡ 1)
+place-flat : (roster : List NamedClub) (row : Row) → (has_float (place_value roster row) ≡ false) × (depth (place_value roster row) ≤ 1)
 unfolding place_value
-place-flat roster row = (rw (int-whole (pos row.goals_for -ℤ pos row.goals_against)) refl, refl)
+place-flat roster row = (rw (int-whole (pos row.goals_for -ℤ pos row.goals_against)) refl, omega arith)
 
 pub places-flat : (roster : List NamedClub) (rows : List Row) → AreFlat (place_items roster rows) 1
-places-flat roster [] = record { whole = refl; shallow = omega arith }
-places-flat roster (row ∷ rows) =
-    let one = place-flat roster row in
-    let more = places-flat roster rows in record { whole = rw (one.0, more.whole) refl; shallow = omega (arith, one.1, more.shallow) }
+places-flat roster rows = items-flat (place_value roster) 1 (place-flat roster) rows
 
-pub screen-flat : (row : ℕ) (profile : Profile) (board : List ℕ) (roster : List NamedClub) (group : ℕ) → IsFlat (screen_value row profile board roster group)
+pub screen_flat : (row : ℕ) (profile : Profile) (board : List ℕ) (roster : List NamedClub) (group : ℕ) → IsFlat (screen_value row profile board roster group)
 unfolding screen_value
-screen-flat row profile board roster group =
+screen_flat row profile board roster group =
     let p = places-flat roster (rows_of profile board roster) in
     let w = words-flat board in record { whole = rw (p.whole, w.whole) refl; shallow = omega (arith, p.shallow, w.shallow) }
 
@@ -102,9 +109,24 @@ refused-flat : (row : ℕ) (event : NightEvent) (code : ℕ) (name : List ℕ) (
 refused-flat row event code name None m = record { whole = refl; shallow = omega arith }
 refused-flat row event code name (Some found) m = record { whole = refl; shallow = omega arith }
 
-pub reply-flat : (row : ℕ) (event : NightEvent) (reply : Result Accepted Refusal) (header : BoardHeader) (board : List ℕ) (roster : List NamedClub)
+pub reply_flat : (row : ℕ) (event : NightEvent) (reply : Result Accepted Refusal) (header : BoardHeader) (board : List ℕ) (roster : List NamedClub)
     → IsFlat (reply_value row event reply header board roster)
 unfolding accepted_value
-reply-flat row event (Ok accepted) header board roster = let w = words-flat board in record { whole = rw w.whole refl; shallow = omega (arith, w.shallow) }
-reply-flat row event (Err refusal) header board roster =
+reply_flat row event (Ok accepted) header board roster = let w = words-flat board in record { whole = rw w.whole refl; shallow = omega (arith, w.shallow) }
+reply_flat row event (Err refusal) header board roster =
     refused-flat row event (refusal_code refusal) (refusal_name refusal) (found_of refusal) (game_at board event.call.game)
+
+games-flat : (board games : List ℕ) → AreFlat (match_items board games) 2
+games-flat board games = items-flat (λ (g : ℕ). match_value g (game_at board g)) 2 (λ g. (refl, omega arith)) games
+
+pub matches_flat : (row : ℕ) (board : List ℕ) (roster : List NamedClub) → IsFlat (matches_value row board roster)
+unfolding matches_value
+matches_flat row board roster = let m = games-flat board match_numbers in record { whole = rw m.whole refl; shallow = omega (arith, m.shallow) }
+
+-- and the screen with them
+pub edition_flat : (row : ℕ) (header : BoardHeader) (board : List ℕ) (roster : List NamedClub) → IsFlat (edition_screen_value row header board roster)
+unfolding edition_screen_value screen_value serde_json_on_literals
+edition_flat row header board roster =
+    let p = places-flat roster (rows_of header.profile board roster) in
+    let w = words-flat board in
+    let m = games-flat board match_numbers in record { whole = rw (p.whole, w.whole, m.whole) refl; shallow = omega (arith, p.shallow, w.shallow, m.shallow) }

@@ -1,8 +1,9 @@
--- Answers as values of JSON.
--- The members of an object stand in the order of their names. An accepted event's answer and a screen's stand for themselves:
--- each has the group, its order, its edition, the clubs and the words of the board, so that it is one board state, whole.
+-- Answers to rows as values of JSON; `row` is the number of the row. The members of an object stand in the order of their names.
+-- A board is given as its twelve words, each a match packed into 64 bits. The reply to an accepted event and a screen have a whole board
+-- state: the group, the tie-break order (profile), the edition (how often the board was begun again), the clubs and the words.
+-- An event is stale if its match has another event number than it expects. A bad row is neither an event nor a request.
 use Rattle.std.specs.Prelude.{ℕ, pos, ◌-ℤ◌, List, [], ◌∷◌, codes, Option, None, Some, Result, Ok, Err}
-use Rattle.serde_json.specs.Data.{Data, Items, item, no_items, Members, member, no_members, array, boolean, null, number, object, put, string, unsigned}
+use Rattle.serde_json.specs.Data.{Data, Items, item, no_items, member, no_members, array, boolean, null, number, object, put, string, unsigned}
 use Rattle.serde_json.specs.Find.{of_integer}
 use Rattle.ucl_word.specs.declared.event.Accepted.{Accepted}
 use Rattle.ucl_word.specs.declared.record.MatchRecord.{MatchRecord}
@@ -23,33 +24,38 @@ use Rattle.ucl_screen.specs.Screen.{in_play}
 use Rattle.ucl_screen.specs.Numbers.{hex_digits}
 use Rattle.ucl_json.specs.declared.header.BoardHeader.{BoardHeader}
 
+-- a natural number as a value
 abbrev pub number_value : ℕ → Data
 number_value n = number (unsigned n)
 
+-- the elements of an array: the value of each of these, in their order
+abbrev pub items_of : {T : Type 0} → (T → Data) → List T → Items
+items_of value_of [] = no_items
+items_of value_of (x ∷ xs) = item (value_of x) (items_of value_of xs)
+
 -- ---- what a board state is told by
 
--- each word in sixteen hexadecimal digits
+-- the elements of an array: each of these words in sixteen hexadecimal digits
 abbrev pub word_items : List ℕ → Items
-word_items [] = no_items
-word_items (word ∷ words) = item (string (hex_digits word)) (word_items words)
+word_items words = items_of (λ word. string (hex_digits word)) words
 
--- the club of a slot, with its coefficient in thousandths
+-- the club of a slot: its name, and its coefficient in thousandths
 abbrev pub club_value : List NamedClub → ℕ → Data
 club_value roster slot = object (
     member (codes "club") (string (name_of roster slot)) (
     member (codes "coefficient") (number_value (coefficient_of roster slot)) no_members))
 
--- the four clubs, in the order of their slots
+-- the elements of an array: the four clubs, in the order of their slots
 abbrev pub club_items : List NamedClub → Items
 club_items roster = item (club_value roster 1) (item (club_value roster 2) (item (club_value roster 3) (item (club_value roster 4) no_items)))
 
 -- ---- a match as it stands
 
--- a number of the home side and one of the visiting side
+-- an array of two numbers: one of the home side, and one of the visiting side
 abbrev pub sides_value : ℕ → ℕ → Data
 sides_value home away = array (item (number_value home) (item (number_value away) no_items))
 
--- the match with this number; its reporter is that of its last event, 0 where it has none
+-- the match with the number `game`, as its record m stands; its reporter is that of its last event, 0 if it has none
 abbrev pub match_value : ℕ → MatchRecord → Data
 match_value game m = object (
     member (codes "expulsions") (sides_value m.home_expulsions m.away_expulsions) (
@@ -60,12 +66,11 @@ match_value game m = object (
     member (codes "state") (string (state_name m.state)) (
     member (codes "yellows") (sides_value m.home_yellows m.away_yellows) no_members)))))))
 
--- these matches of a board
+-- the elements of an array: the matches of a board that have these numbers
 abbrev pub match_items : List ℕ → List ℕ → Items
-match_items board [] = no_items
-match_items board (game ∷ games) = item (match_value game (game_at board game)) (match_items board games)
+match_items board games = items_of (λ game. match_value game (game_at board game)) games
 
--- the twelve matches, and the clubs that play them
+-- the answer with the twelve matches of a board, and the clubs that play them
 unfoldable pub matches_value : ℕ → List ℕ → List NamedClub → Data
 matches_value row board roster = object (
     member (codes "clubs") (array (club_items roster)) (
@@ -75,7 +80,7 @@ matches_value row board roster = object (
 
 -- ---- replies
 
--- the reply to an event that was entered, with the row as it was read, the header, the clubs, and the board after the event
+-- the reply to an event that was accepted: the event, its number in its match, the header, the clubs, and the board after it
 unfoldable pub accepted_value : ℕ → NightEvent → ℕ → BoardHeader → List ℕ → List NamedClub → Data
 accepted_value row event event_number header board roster = object (
     member (codes "clubs") (array (club_items roster)) (
@@ -92,7 +97,7 @@ accepted_value row event event_number header board roster = object (
     member (codes "version") (number_value (version_of board)) (
     member (codes "words") (array (word_items board)) no_members)))))))))))))
 
--- the reply to an event that is refused, with the row as it was read
+-- the reply to an event that is refused and not stale: the event, and the code and the name of the refusal
 abbrev pub coded_value : ℕ → NightEvent → ℕ → List ℕ → Data
 coded_value row event code name = object (
     member (codes "code") (number_value code) (
@@ -104,7 +109,7 @@ coded_value row event code name = object (
     member (codes "reporter") (number_value event.reporter) (
     member (codes "row") (number_value row) no_members))))))))
 
--- the same with the number that was found, and the match as it stands
+-- the reply to a stale event: as for another refused event, with `found`, the event number that its match has, and with m, that match
 abbrev pub numbered_value : ℕ → NightEvent → ℕ → List ℕ → ℕ → MatchRecord → Data
 numbered_value row event code name found m = object (
     member (codes "code") (number_value code) (
@@ -118,20 +123,21 @@ numbered_value row event code name found m = object (
     member (codes "row") (number_value row) (
     member (codes "stands") (match_value event.call.game m) no_members))))))))))
 
+-- the reply to an event that is refused: `Some` has the event number that its match has, if the event is stale; m is the match as it stands
 abbrev pub refused_by : ℕ → NightEvent → ℕ → List ℕ → Option ℕ → MatchRecord → Data
 refused_by row event code name None m = coded_value row event code name
 refused_by row event code name (Some found) m = numbered_value row event code name found m
 
--- the reply to an event that is refused, where its match stands so
+-- the reply to an event that is refused; m is its match as it stands, which the reply has if the event is stale
 abbrev pub refused_value : ℕ → NightEvent → Refusal → MatchRecord → Data
 refused_value row event refusal m = refused_by row event (refusal_code refusal) (refusal_name refusal) (found_of refusal) m
 
--- the reply to an event, with the board after it
+-- the reply to an event, by what the board answered to it; `board` is the board after it
 abbrev pub reply_value : ℕ → NightEvent → Result Accepted Refusal → BoardHeader → List ℕ → List NamedClub → Data
 reply_value row event (Ok accepted) header board roster = accepted_value row event accepted.number header board roster
 reply_value row event (Err refusal) header board roster = refused_value row event refusal (game_at board event.call.game)
 
--- a refusal of a row for one of its fields, with the text that came
+-- the refusal of a row, with this code and name: `field` is the name of its bad field, and `text` the start of its text
 abbrev pub bad_value : ℕ → ℕ → List ℕ → List ℕ → List ℕ → Data
 bad_value row code name field text = object (
     member (codes "code") (number_value code) (
@@ -141,12 +147,13 @@ bad_value row code name field text = object (
     member (codes "row") (number_value row) (
     member (codes "text") (string text) no_members))))))
 
--- the reply to a row that asks for nothing that there is
+-- the reply to a bad row: `field` is the name of its first bad field, and `text` the start of its text
 abbrev pub bad_row_value : ℕ → List ℕ → List ℕ → Data
 bad_row_value row field text = bad_value row 20 (codes "bad-row") field text
 
 -- ---- words
 
+-- the answer with the twelve words of a board
 abbrev pub words_value : ℕ → List ℕ → Data
 words_value row words = object (
     member (codes "reply") (string (codes "words")) (
@@ -155,25 +162,17 @@ words_value row words = object (
 
 -- ---- screens
 
+-- the sign of a mark in the table: + for a club that is sure to be among the first two, - for one that is sure not to be
 abbrev pub mark_name : Mark → List ℕ
 mark_name Plus = codes "+"
 mark_name Minus = codes "-"
 mark_name Blank = codes ""
 
--- the members of a place, as they are put one after the other
-abbrev pub with_matches : Row → Members → Members
-with_matches row ms = put (codes "drawn") (number_value row.draws) (put (codes "lost") (number_value row.losses) (put (codes "played") (number_value row.played) (put (codes "won") (number_value row.wins) ms)))
-
+-- the goals of a club less those against it, which may be negative
 abbrev pub difference_value : Row → Data
 difference_value row = number (of_integer (pos row.goals_for -ℤ pos row.goals_against))
 
-abbrev pub with_goals : Row → Members → Members
-with_goals row ms = put (codes "goal_difference") (difference_value row) (put (codes "goals_against") (number_value row.goals_against) (put (codes "goals_for") (number_value row.goals_for) (put (codes "points") (number_value row.points) ms)))
-
-abbrev pub with_club : List NamedClub → Row → Members → Members
-with_club roster row ms = put (codes "club") (string (name_of roster row.slot)) (put (codes "mark") (string (mark_name row.mark)) (put (codes "place") (number_value row.place) (put (codes "slot") (number_value row.slot) ms)))
-
--- a place of the table, with the name of its club
+-- a row of the table, with the name of its club
 unfoldable pub place_value : List NamedClub → Row → Data
 place_value roster row = object (
     member (codes "club") (string (name_of roster row.slot)) (
@@ -189,11 +188,11 @@ place_value roster row = object (
     member (codes "slot") (number_value row.slot) (
     member (codes "won") (number_value row.wins) no_members))))))))))))
 
+-- the elements of an array: the rows of a table, from the first place to the last
 abbrev pub place_items : List NamedClub → List Row → Items
-place_items roster [] = no_items
-place_items roster (row ∷ rows) = item (place_value roster row) (place_items roster rows)
+place_items roster rows = items_of (place_value roster) rows
 
--- the screen of a board, for a group, in the order of the profile, and what it is worked out from
+-- the screen of a board, for a group and by a tie-break order: the table, and the clubs and the words from which it is worked out
 unfoldable pub screen_value : ℕ → Profile → List ℕ → List NamedClub → ℕ → Data
 screen_value row profile board roster group = object (
     member (codes "clubs") (array (club_items roster)) (
@@ -206,18 +205,17 @@ screen_value row profile board roster group = object (
     member (codes "version") (number_value (version_of board)) (
     member (codes "words") (array (word_items board)) no_members)))))))))
 
--- the same among whose members are the edition of the board and its twelve matches
-abbrev pub with_games : ℕ → List ℕ → Members → Members
-with_games edition board ms = put (codes "matches") (array (match_items board match_numbers)) (put (codes "edition") (number_value edition) ms)
+-- a value with one member more, if it is an object, and else the value as it is
+abbrev pub with_member : List ℕ → Data → Data → Data
+with_member name value (object members) = object (put name value members)
+with_member name value (array items) = array items
+with_member name value (string text) = string text
+with_member name value (number n) = number n
+with_member name value (boolean b) = boolean b
+with_member name value null = null
 
-abbrev pub with_board : ℕ → List ℕ → Data → Data
-with_board edition board (object ms) = object (with_games edition board ms)
-with_board edition board (array items) = array items
-with_board edition board (string text) = string text
-with_board edition board (number n) = number n
-with_board edition board (boolean b) = boolean b
-with_board edition board null = null
-
--- the screen of a board under a header, with the matches from which the table is worked out
+-- the screen of a board, by the group and the order of a header, with its edition and the twelve matches
 unfoldable pub edition_screen_value : ℕ → BoardHeader → List ℕ → List NamedClub → Data
-edition_screen_value row header board roster = with_board header.edition board (screen_value row header.profile board roster header.group)
+edition_screen_value row header board roster =
+    with_member (codes "matches") (array (match_items board match_numbers)) (
+    with_member (codes "edition") (number_value header.edition) (screen_value row header.profile board roster header.group))

@@ -1,4 +1,5 @@
-//! The board state that a line tells.
+//! Reads a board state from a line of JSON: group, tie-break order of the clubs, edition (how often the board was begun again), clubs, and
+//! the twelve match words, each a match packed into 64 bits. `None` says that a member is missing or is not what it should be.
 
 ghost use Rattle.std.specs.Prelude.{◌≡◌, ◌<◌, ◌≤◌, Some, IfErr, IfOk, IfSome, length, map, option_map};
 ghost use Rattle.serde_json.specs.View.{items_view, view};
@@ -16,23 +17,23 @@ use ucl_board::Board;
 use ucl_order::{LentClub, Profile, Roster};
 use ucl_screen::{hex_word, letter_in};
 
-/// The most bytes of a line.
+/// The most bytes of a line that is read.
 const MAX_ANSWER_BYTES: usize = 4096;
 
-/// The greatest edition.
+/// The greatest edition that a board has.
 const MAX_EDITION: u64 = 65_535;
 
 /// The greatest coefficient of a club.
 const MAX_COEFFICIENT: u64 = 999_999;
 
-/// Returns the text of a member.
+/// Returns the text that is the member of an object under this name, or `None` if there is no such text.
 fn text_in<'v>(value: &'v Value, name: &str) -> Option<&'v str>
     ensures { option_map (λ text. text.now) result ≡ text_at name.now (view value.now) }
 {
     value.get(name)?.as_str()
 }
 
-/// Returns the letter of the group.
+/// Returns the letter of the group, `A` to `H`, that the member `group` of a value names.
 fn group_in(value: &Value) -> Option<u8>
     ensures parsed { result ≡ parse_group (view value.now) }
     ensures letter { IfSome result IsGroup }
@@ -40,14 +41,14 @@ fn group_in(value: &Value) -> Option<u8>
     letter_in(text_in(value, "group")?.as_bytes())
 }
 
-/// Returns the order of the clubs.
+/// Returns the tie-break order of the clubs that the member `order` of a value names.
 fn order_in(value: &Value) -> Option<Profile>
     ensures { result ≡ parse_order (view value.now) }
 {
     Profile::from_name(text_in(value, "order")?.as_bytes())
 }
 
-/// Returns an edition.
+/// Returns the edition that a value is, or `None` if it is no whole number from 0 to 65,535.
 fn edition_of(value: &Value) -> Option<u16>
     ensures { result ≡ edition_in (Some (view value.now)) }
 {
@@ -58,7 +59,7 @@ fn edition_of(value: &Value) -> Option<u16>
     Some(edition as u16)
 }
 
-/// Returns the edition, 0 if no member says it.
+/// Returns the edition that the member `edition` of a value is, or 0 if there is no such member.
 fn edition_in(value: &Value) -> Option<u16>
     ensures { result ≡ parse_edition (view value.now) }
 {
@@ -68,7 +69,7 @@ fn edition_in(value: &Value) -> Option<u16>
     }
 }
 
-/// Returns the header of the board.
+/// Returns the header of a board, from the members `group`, `order` and `edition` of a value.
 fn header_in(value: &Value) -> Option<BoardHeader>
     ensures parsed { result ≡ parse_header (view value.now) }
     ensures letter { IfSome result (λ header. IsGroup header.group) }
@@ -83,7 +84,7 @@ fn header_in(value: &Value) -> Option<BoardHeader>
     })
 }
 
-/// Returns a club, with its coefficient.
+/// Returns the club that a value is, from its members `club`, the name, and `coefficient`, which is at most 999,999.
 fn club_in<'v>(value: &'v Value) -> Option<LentClub<'v>>
     ensures { option_map club_lent result ≡ parse_club (view value.now) }
 {
@@ -98,7 +99,7 @@ fn club_in<'v>(value: &'v Value) -> Option<LentClub<'v>>
     })
 }
 
-/// Returns the elements of a member that is an array.
+/// Returns the elements of the array that is the member of an object under this name, or `None` if there is no such array.
 #[tactic(auto, using(crate::proofs::Members::listed_view))]
 fn values_in<'v>(value: &'v Value, name: &str) -> Option<&'v [Value]>
     ensures { option_map (λ values. map view values.now) result
@@ -108,7 +109,7 @@ fn values_in<'v>(value: &'v Value, name: &str) -> Option<&'v [Value]>
     Some(values.as_slice())
 }
 
-/// Returns the roster of four clubs, if each can stand in one.
+/// Returns the roster of four clubs, one for each slot, or `None` if a name or a coefficient is not allowed.
 #[tactic(auto, using(crate::proofs::Members::roster_good, crate::proofs::Members::roster_bad))]
 fn roster_with(clubs: &[LentClub<'_>; 4]) -> Option<Roster>
     ensures { result ≡ unless_bad (map club_lent clubs.now) (bad_slot (map club_lent clubs.now)) }
@@ -119,7 +120,7 @@ fn roster_with(clubs: &[LentClub<'_>; 4]) -> Option<Roster>
     }
 }
 
-/// Returns the clubs of four values.
+/// Returns the roster of the clubs that four values are, or `None` if they are not four or one is no club.
 fn roster_of(values: &[Value]) -> Option<Roster>
     ensures { result ≡ parse_roster (map view values.now) }
 {
@@ -137,21 +138,21 @@ fn roster_of(values: &[Value]) -> Option<Roster>
     }
 }
 
-/// Returns the clubs of the group.
+/// Returns the roster of the four clubs in the member `clubs` of a value.
 fn clubs_in(value: &Value) -> Option<Roster>
     ensures { result ≡ parse_clubs (view value.now) }
 {
     roster_of(values_in(value, "clubs")?)
 }
 
-/// Returns a word of sixteen hexadecimal digits.
+/// Returns the match word that a value spells in sixteen hexadecimal digits.
 fn word_in(value: &Value) -> Option<u64>
     ensures { result ≡ parse_word (view value.now) }
 {
     hex_word(value.as_str()?.as_bytes())
 }
 
-/// Returns the twelve words of twelve values.
+/// Returns the match words that twelve values spell, or `None` if they are not twelve or one spells none.
 fn twelve_words(values: &[Value]) -> Option<[u64; 12]>
     ensures { result ≡ just 12 parse_word (map view values.now) }
 {
@@ -165,7 +166,7 @@ fn twelve_words(values: &[Value]) -> Option<[u64; 12]>
     words.into_inner().ok()
 }
 
-/// Returns the board of twelve words.
+/// Returns the board of twelve match words, or `None` if one is the word of no match.
 #[tactic(auto, using(crate::proofs::Members::words_read, crate::proofs::Members::words_bad))]
 fn read_board(words: &[u64; 12]) -> Option<Board>
     ensures { result ≡ if_read (read_words 1 words.now) }
@@ -176,7 +177,7 @@ fn read_board(words: &[u64; 12]) -> Option<Board>
     }
 }
 
-/// Returns the board of the words.
+/// Returns the board of the twelve match words in the member `words` of a value.
 fn board_in(value: &Value) -> Option<Board>
     ensures { result ≡ parse_board (view value.now) }
 {
@@ -184,7 +185,7 @@ fn board_in(value: &Value) -> Option<Board>
     read_board(&words)
 }
 
-/// Returns the board state that a value tells.
+/// Returns the board state in the members of a value, or `None` if one of them is missing or bad.
 #[tactic(auto, unfolding(crate::specs::BoardLines::parse_board_state))]
 fn board_state_in(value: &Value) -> Option<BoardState>
     ensures parsed { result ≡ parse_board_state (view value.now) }
@@ -200,7 +201,11 @@ fn board_state_in(value: &Value) -> Option<BoardState>
     })
 }
 
-/// Returns the board state that a line tells, if it tells one: of JSON, of at most 4,096 bytes, with the members of a board state. The error says that there is no memory.
+/// Returns the board state in the members of a line, if it is JSON of at most 4,096 bytes and has one, and else `None`.
+///
+/// # Errors
+///
+/// If there is no memory.
 pub fn parse_board_line(alloc: Global, line: &[u8]) -> Result<Option<BoardState>, AllocError>
     ensures parsed { IfOk result (λ board_state. board_state ≡ parse_board_line line.now) }
     ensures memory { IfErr result (λ _. length line.now ≤ 4096) }

@@ -1,4 +1,4 @@
-//! The header of a board.
+//! `BoardHeader`: of which group a board is, which tie-break order ranks its clubs, and how often the board was begun again.
 
 use ucl_order::Profile;
 
@@ -7,8 +7,8 @@ use ucl_order::Profile;
 pub struct BoardHeader {
     /// The letter of the group, `A` to `H`.
     pub group: u8,
-    /// The order of the clubs.
+    /// The tie-break order of the clubs.
     pub profile: Profile,
-    /// How many times the board was begun again to put a mistake right: what a later edition tells is newer, whatever its version.
+    /// How many times the board was begun again to put a mistake right. A board of a later edition is newer, however few events it has.
     pub edition: u16,
 }

@@ -1,59 +1,57 @@
-//! Replies to rows.
+//! The lines of JSON that answer rows: the reply to an event or to a bad row, which is no event and no request; the board's words, each
+//! a match packed into 64 bits; and its matches. `row` is the number of the row. `Err` says that there is no memory. An event is refused as
+//! stale if its match has another event number than it expects.
 
 ghost use Rattle.std.specs.Prelude.{◌≡◌, IfOk, string_bytes};
 ghost use Rattle.serde_json.specs.View.{view};
+ghost use Rattle.ucl_word.specs.Names.{refusal_code, refusal_name};
+ghost use Rattle.ucl_board.specs.Words.{game_at};
 ghost use Rattle.ucl_screen.specs.Screen.{IsGroup};
 ghost use Rattle.ucl_json.specs.Lines.{IsLineOf};
-ghost use Rattle.ucl_json.specs.Values.{accepted_value, bad_row_value, bad_value, coded_value, match_value, numbered_value, refused_value, reply_value};
+ghost use Rattle.ucl_json.specs.Values.{accepted_value, bad_row_value, coded_value, matches_value, refused_value, reply_value, words_value};
 
-use crate::clubs::club_values;
+use crate::answer_parts::{club_values, letter_of, match_value, match_values, word_values};
 use crate::header::BoardHeader;
-use crate::line::format_line;
-use crate::screen::letter_of;
-use crate::words::word_values;
+use crate::line::{format_line, with_member};
 use serde_json::{Value, json};
 use std::alloc::{AllocError, Global};
 use ucl_board::Board;
 use ucl_order::Roster;
-use ucl_screen::{NightEvent, state_name};
-use ucl_word::{Accepted, MatchNo, MatchRecord, Refusal};
+use ucl_screen::NightEvent;
+use ucl_word::{Accepted, Refusal};
 
-/// Returns a match as it stands.
-pub(crate) fn match_value(
-    alloc: Global,
-    game: MatchNo,
-    m: &MatchRecord,
-) -> Result<Value, AllocError>
-    ensures { IfOk result (λ value. view value ≡ match_value game m.now) }
-{
-    json!(in alloc; {
-        "match": game.get(),
-        "number": m.number,
-        "state": state_name(m.state),
-        "score": [m.home_goals, m.away_goals],
-        "yellows": [m.home_yellows, m.away_yellows],
-        "expulsions": [m.home_expulsions, m.away_expulsions],
-        "reporter": m.reporter
-    })
+/// What an event came to: its row, the reply, and the board after it.
+#[derive(Drop)]
+pub struct EventReply<'r> {
+    /// The number of the row on which the event came.
+    pub row: u64,
+    /// The event, as its row asks for it.
+    pub event: &'r NightEvent,
+    /// What the board answered to it.
+    pub outcome: Result<Accepted, Refusal>,
+    /// The group, the tie-break order of the clubs and the edition of the board.
+    pub header: BoardHeader,
+    /// The board after the event.
+    pub board: &'r Board,
+    /// The clubs of the board.
+    pub roster: &'r Roster,
 }
 
-/// Returns the reply to an event that was entered, with the board after it.
+/// Returns the reply to an event that was accepted, as a value of JSON: with its event number, the clubs, and the board after it.
 #[tactic(auto, unfolding(crate::specs::Values::accepted_value))]
-fn accepted_value(
-    alloc: Global,
-    row: u64,
-    event: &NightEvent,
-    number: u16,
-    board: &Board,
-    roster: &Roster,
-    header: BoardHeader,
-) -> Result<Value, AllocError>
-    requires { IsGroup header.group }
-    ensures { IfOk result (λ value. view value
-        ≡ accepted_value row event.now number header board.now roster.now) }
+fn accepted_value(alloc: Global, reply: &EventReply<'_>, number: u16) -> Result<Value, AllocError>
+    requires { IsGroup reply.now.header.group }
+    ensures { IfOk result (λ value. view value ≡ accepted_value reply.now.row reply.now.event.now
+        number reply.now.header reply.now.board.now reply.now.roster.now) }
 {
-    let clubs = club_values(alloc, roster)?;
-    let words = word_values(alloc, board.words().as_slice())?;
+    let EventReply {
+        row,
+        event,
+        header,
+        ..
+    } = *reply;
+    let clubs = club_values(alloc, reply.roster)?;
+    let words = word_values(alloc, reply.board.words().as_slice())?;
     json!(in alloc; {
         "row": row,
         "reply": "ok",
@@ -62,7 +60,7 @@ fn accepted_value(
         "expected": event.call.expected,
         "event": event.call.kind.name(),
         "number": number,
-        "version": board.version(),
+        "version": reply.board.version(),
         "group": letter_of(header.group),
         "order": header.profile.name(),
         "edition": header.edition,
@@ -71,16 +69,12 @@ fn accepted_value(
     })
 }
 
-/// Returns the reply to an event that is refused.
-fn coded_value(
-    alloc: Global,
-    row: u64,
-    event: &NightEvent,
-    code: u8,
-    name: &str,
-) -> Result<Value, AllocError>
-    ensures { IfOk result (λ value. view value ≡ coded_value row event.now code name.now) }
+/// Returns the reply to an event that is refused, as a value of JSON, without the members that only the reply to a stale event has.
+fn coded_value(alloc: Global, reply: &EventReply<'_>, refusal: Refusal) -> Result<Value, AllocError>
+    ensures { IfOk result (λ value. view value ≡ coded_value reply.now.row reply.now.event.now
+        (refusal_code refusal) (refusal_name refusal)) }
 {
+    let EventReply { row, event, .. } = *reply;
     json!(in alloc; {
         "row": row,
         "reply": "refused",
@@ -88,76 +82,34 @@ fn coded_value(
         "match": event.call.game.get(),
         "expected": event.call.expected,
         "event": event.call.kind.name(),
-        "code": code,
-        "name": name
+        "code": refusal.code(),
+        "name": refusal.name()
     })
 }
 
-/// Returns the reply to an event that is refused for its number, with the number that was found and the match as it stands.
-fn numbered_value(
-    alloc: Global,
-    row: u64,
-    event: &NightEvent,
-    code: u8,
-    name: &str,
-    found: u16,
-    m: &MatchRecord,
-) -> Result<Value, AllocError>
-    ensures { IfOk result (λ value. view value
-        ≡ numbered_value row event.now code name.now found m.now) }
-{
-    let stands = match_value(alloc, event.call.game, m)?;
-    json!(in alloc; {
-        "row": row,
-        "reply": "refused",
-        "reporter": event.reporter.get(),
-        "match": event.call.game.get(),
-        "expected": event.call.expected,
-        "event": event.call.kind.name(),
-        "code": code,
-        "name": name,
-        "number": found,
-        "stands": stands
-    })
-}
-
-/// Returns the reply to an event that is refused, where its match stands so.
+/// Returns the reply to an event that is refused, as a value of JSON; if it is stale, with its match as it stands.
 fn refused_value(
     alloc: Global,
-    row: u64,
-    event: &NightEvent,
+    reply: &EventReply<'_>,
     refusal: Refusal,
-    m: &MatchRecord,
 ) -> Result<Value, AllocError>
-    ensures { IfOk result (λ value. view value ≡ refused_value row event.now refusal m.now) }
+    ensures { IfOk result (λ value. view value ≡ refused_value reply.now.row reply.now.event.now
+        refusal (game_at reply.now.board.now reply.now.event.now.call.game)) }
 {
-    let code = refusal.code();
-    let name = refusal.name();
+    let coded = coded_value(alloc, reply, refusal)?;
     match refusal.found() {
-        Some(found) => numbered_value(alloc, row, event, code, name, found, m),
-        None => coded_value(alloc, row, event, code, name),
+        Some(found) => {
+            let numbered = with_member(alloc, coded, "number", Value::from(found))?;
+            let game = reply.event.call.game;
+            let stands = match_value(alloc, game, &reply.board.game(game))?;
+            Ok(with_member(alloc, numbered, "stands", stands)?)
+        }
+        None => Ok(coded),
     }
 }
 
-/// What an event came to: its row, the reply, and the board after it.
-#[derive(Drop)]
-pub struct EventReply<'r> {
-    /// The number of its row.
-    pub row: u64,
-    /// The event, as its row asks for it.
-    pub event: &'r NightEvent,
-    /// The reply.
-    pub outcome: Result<Accepted, Refusal>,
-    /// The header of the board.
-    pub header: BoardHeader,
-    /// The board after the event.
-    pub board: &'r Board,
-    /// Its clubs.
-    pub roster: &'r Roster,
-}
-
-/// Returns the line of the reply to an event. Where the event was entered, the line stands for itself: the header, the clubs and the words of the board after
-/// it are in it. Where it is stale, its match as it stands is in it.
+/// Returns the line of the reply to an event. If the event was accepted, it has the header, the clubs and the words of the board then,
+/// so that the board can be read from it alone. If the event is stale, the line has its match as it stands.
 ///
 /// # Errors
 ///
@@ -168,43 +120,29 @@ pub fn reply_json(alloc: Global, reply: &EventReply<'_>) -> Result<String, Alloc
         reply.now.outcome reply.now.header reply.now.board.now reply.now.roster.now)
         (string_bytes line)) }
 {
-    let EventReply {
-        row,
-        event,
-        outcome,
-        header,
-        board,
-        roster,
-    } = *reply;
+    let outcome = reply.outcome;
     let value = match outcome {
-        Ok(accepted) => accepted_value(alloc, row, event, accepted.number, board, roster, header)?,
-        Err(refusal) => refused_value(alloc, row, event, refusal, &board.game(event.call.game))?,
+        Ok(accepted) => accepted_value(alloc, reply, accepted.number)?,
+        Err(refusal) => refused_value(alloc, reply, refusal)?,
     };
     format_line(alloc, &value)
 }
 
-/// Returns the refusal of a row for one of its fields, with the text that came.
-fn bad_value(
-    alloc: Global,
-    row: u64,
-    code: u8,
-    name: &str,
-    field: &str,
-    text: &str,
-) -> Result<Value, AllocError>
-    ensures { IfOk result (λ value. view value ≡ bad_value row code name.now field.now text.now) }
+/// Returns the reply to a bad row, as a value of JSON: `field` is the name of its first bad field, and `text` the start of its text.
+fn bad_row_value(alloc: Global, row: u64, field: &str, text: &str) -> Result<Value, AllocError>
+    ensures { IfOk result (λ value. view value ≡ bad_row_value row field.now text.now) }
 {
     json!(in alloc; {
         "row": row,
         "reply": "refused",
-        "code": code,
-        "name": name,
+        "code": 20u8,
+        "name": "bad-row",
         "field": field,
         "text": text
     })
 }
 
-/// Returns the line of the reply to a row that asks for nothing that there is: which field is none, and the text that came.
+/// Returns the line of the reply to a bad row: `field` is the name of its first bad field, and `text` the start of its text.
 ///
 /// # Errors
 ///
@@ -213,6 +151,59 @@ pub fn bad_row_json(alloc: Global, row: u64, field: &str, text: &str) -> Result<
     ensures { IfOk result (λ line. IsLineOf (bad_row_value row field.now text.now)
         (string_bytes line)) }
 {
-    let value = bad_value(alloc, row, 20, "bad-row", field, text)?;
+    let value = bad_row_value(alloc, row, field, text)?;
+    format_line(alloc, &value)
+}
+
+/// Returns the answer with the twelve words of a board, as a value of JSON.
+fn words_value(alloc: Global, row: u64, board: &Board) -> Result<Value, AllocError>
+    ensures { IfOk result (λ value. view value ≡ words_value row board.now) }
+{
+    let words = word_values(alloc, board.words().as_slice())?;
+    json!(in alloc; {"row": row, "reply": "words", "words": words})
+}
+
+/// Returns the line of the answer with the twelve words of a board.
+///
+/// # Errors
+///
+/// If there is no memory.
+pub fn words_json(alloc: Global, row: u64, board: &Board) -> Result<String, AllocError>
+    ensures { IfOk result (λ line. IsLineOf (words_value row board.now) (string_bytes line)) }
+{
+    let value = words_value(alloc, row, board)?;
+    format_line(alloc, &value)
+}
+
+/// Returns the answer with the twelve matches of a board as they stand, and the clubs that play them, as a value of JSON.
+#[tactic(auto, unfolding(crate::specs::Values::matches_value))]
+fn matches_value(
+    alloc: Global,
+    row: u64,
+    board: &Board,
+    roster: &Roster,
+) -> Result<Value, AllocError>
+    ensures { IfOk result (λ value. view value ≡ matches_value row board.now roster.now) }
+{
+    let matches = match_values(alloc, board)?;
+    let clubs = club_values(alloc, roster)?;
+    json!(in alloc; {"row": row, "reply": "matches", "matches": matches, "clubs": clubs})
+}
+
+/// Returns the line of the answer with the twelve matches of a board as they stand, and the clubs that play them.
+///
+/// # Errors
+///
+/// If there is no memory.
+pub fn matches_json(
+    alloc: Global,
+    row: u64,
+    board: &Board,
+    roster: &Roster,
+) -> Result<String, AllocError>
+    ensures { IfOk result (λ line.
+        IsLineOf (matches_value row board.now roster.now) (string_bytes line)) }
+{
+    let value = matches_value(alloc, row, board, roster)?;
     format_line(alloc, &value)
 }

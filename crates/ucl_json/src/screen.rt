@@ -1,24 +1,23 @@
-//! The screen of a board.
+//! The screen of a board as JSON: the table of its group as it stands, the clubs, and the words, each a match packed into 64 bits.
+//! `row` is the number of the row that asks for the screen. `Err` says that there is no memory.
 
-ghost use Rattle.std.specs.Prelude.{◌≡◌, ◌≤◌, ◌-ℤ◌, pos, All, [], ◌∷◌, IfOk, OnOk, length, string_bytes};
-ghost use Rattle.serde_json.specs.View.{items_view, members_view, view};
+ghost use Rattle.std.specs.Prelude.{◌≡◌, ◌≤◌, ◌-ℤ◌, pos, All, [], ◌∷◌, IfOk, length, string_bytes};
+ghost use Rattle.serde_json.specs.View.{items_view, view};
 ghost use Rattle.ucl_order.specs.Rows.{IsWithinTable, rows_of};
 ghost use Rattle.ucl_screen.specs.Screen.{IsGroup};
 ghost use Rattle.ucl_json.specs.Lines.{IsLineOf};
-ghost use Rattle.ucl_json.specs.Values.{edition_screen_value, mark_name, place_items, place_value, screen_value, with_board, with_club, with_games, with_goals, with_matches};
+ghost use Rattle.ucl_json.specs.Values.{difference_value, edition_screen_value, mark_name, place_items, place_value, screen_value};
 
-use crate::clubs::club_values;
-use crate::games::match_values;
+use crate::answer_parts::{club_values, letter_of, match_values, word_values};
 use crate::header::BoardHeader;
-use crate::line::format_line;
-use crate::words::word_values;
-use serde_json::{Map, Value, json, put};
+use crate::line::{format_line, with_member};
+use serde_json::{Value, json};
 use std::alloc::{AllocError, Global};
 use ucl_board::Board;
 use ucl_order::{Mark, Profile, Roster, Row, standings};
 use ucl_screen::{matches_in_play, text_of};
 
-/// Returns the sign of a mark.
+/// Returns the sign of a mark: `+` if a club is sure to be among the first two, `-` if it is sure not to be, and else nothing.
 fn mark_name(mark: Mark) -> &'static str
     ensures { result.now ≡ mark_name mark }
 {
@@ -29,79 +28,37 @@ fn mark_name(mark: Mark) -> &'static str
     }
 }
 
-/// Returns the letter of a group, as text.
-pub(crate) fn letter_of(group: u8) -> &'static str
-    requires { IsGroup group }
-    ensures { result.now ≡ group ∷ [] }
-{
-    match group {
-        b'A' => "A",
-        b'B' => "B",
-        b'C' => "C",
-        b'D' => "D",
-        b'E' => "E",
-        b'F' => "F",
-        b'G' => "G",
-        _ => "H",
-    }
-}
-
-/// Puts what a club has done in its matches.
-fn put_matches(map: &mut Map<String, Value>, alloc: Global, row: &Row) -> Result<(), AllocError>
-    ensures { OnOk result (members_view map.new.entries
-        ≡ with_matches row.now (members_view map.old.entries)) }
-{
-    put(map, alloc, "won", Value::from(row.wins))?;
-    put(map, alloc, "played", Value::from(row.played))?;
-    put(map, alloc, "lost", Value::from(row.losses))?;
-    put(map, alloc, "drawn", Value::from(row.draws))
-}
-
-/// Puts the points of a club, and its goals.
-fn put_goals(map: &mut Map<String, Value>, alloc: Global, row: &Row) -> Result<(), AllocError>
+/// Returns the goals of a club less those against it, as a value of JSON.
+fn difference_value(row: &Row) -> Value
     requires { IsWithinTable row.now }
-    ensures { OnOk result (members_view map.new.entries
-        ≡ with_goals row.now (members_view map.old.entries)) }
+    ensures { view result ≡ difference_value row.now }
 {
-    let difference = i32::from(row.goals_for) - i32::from(row.goals_against);
-    put(map, alloc, "points", Value::from(row.points))?;
-    put(map, alloc, "goals_for", Value::from(row.goals_for))?;
-    put(map, alloc, "goals_against", Value::from(row.goals_against))?;
-    put(map, alloc, "goal_difference", Value::from(difference))
+    Value::from(i32::from(row.goals_for) - i32::from(row.goals_against))
 }
 
-/// Puts the place of a club, its mark, its slot and its name.
-fn put_club(
-    map: &mut Map<String, Value>,
-    alloc: Global,
-    row: &Row,
-    roster: &Roster,
-) -> Result<(), AllocError>
-    requires { IsWithinTable row.now }
-    ensures { OnOk result (members_view map.new.entries
-        ≡ with_club roster.now row.now (members_view map.old.entries)) }
-{
-    let name = String::from_str(alloc, text_of(roster.name(row.slot)))?;
-    let mark = String::from_str(alloc, mark_name(row.mark))?;
-    put(map, alloc, "slot", Value::from(row.slot))?;
-    put(map, alloc, "place", Value::from(row.place))?;
-    put(map, alloc, "mark", Value::String(mark))?;
-    put(map, alloc, "club", Value::String(name))
-}
-
-/// Returns a place of the table, with the name of its club.
+/// Returns a row of the table as a value of JSON, with the name of its club.
+#[tactic(auto, unfolding(crate::specs::Values::place_value))]
 fn place_value(alloc: Global, row: &Row, roster: &Roster) -> Result<Value, AllocError>
     requires { IsWithinTable row.now }
     ensures { IfOk result (λ value. view value ≡ place_value roster.now row.now) }
 {
-    let mut map = Map::new(alloc);
-    put_matches(&mut map, alloc, row)?;
-    put_goals(&mut map, alloc, row)?;
-    put_club(&mut map, alloc, row, roster)?;
-    Ok(Value::Object(map))
+    json!(in alloc; {
+        "place": row.place,
+        "mark": mark_name(row.mark),
+        "slot": row.slot,
+        "club": text_of(roster.name(row.slot)),
+        "played": row.played,
+        "won": row.wins,
+        "drawn": row.draws,
+        "lost": row.losses,
+        "goals_for": row.goals_for,
+        "goals_against": row.goals_against,
+        "goal_difference": difference_value(row),
+        "points": row.points
+    })
 }
 
-/// Returns the places of the table.
+/// Returns the rows of the table as values of JSON, in their order.
 fn place_values(alloc: Global, rows: &[Row], roster: &Roster) -> Result<Vec<Value>, AllocError>
     requires { All IsWithinTable rows.now }
     ensures { IfOk result (λ values. items_view values.items ≡ place_items roster.now rows.now) }
@@ -113,7 +70,7 @@ fn place_values(alloc: Global, rows: &[Row], roster: &Roster) -> Result<Vec<Valu
     Ok(values)
 }
 
-/// Returns the screen of a board, as a value.
+/// Returns the screen of a board, for a group and by the tie-break order `profile`, as a value of JSON.
 #[tactic(auto, unfolding(crate::specs::Values::screen_value))]
 fn screen_value(
     alloc: Global,
@@ -143,7 +100,7 @@ fn screen_value(
     })
 }
 
-/// Returns the line of the screen of a board, for a group, in the order of the profile. It stands for itself: the clubs and the words are in it.
+/// Returns the line of the screen of a board, for a group and by the tie-break order `profile`. The clubs and the words are in it.
 ///
 /// # Errors
 ///
@@ -165,36 +122,7 @@ pub fn screen_json(
     format_line(alloc, &value)
 }
 
-/// Puts the edition of a board and its twelve matches.
-fn put_games(
-    map: &mut Map<String, Value>,
-    alloc: Global,
-    edition: u16,
-    board: &Board,
-) -> Result<(), AllocError>
-    ensures { OnOk result (members_view map.new.entries
-        ≡ with_games edition board.now (members_view map.old.entries)) }
-{
-    let matches = match_values(alloc, board)?;
-    put(map, alloc, "edition", Value::from(edition))?;
-    put(map, alloc, "matches", Value::Array(matches))
-}
-
-/// Returns a value with the edition of a board and its twelve matches among its members.
-fn with_board(alloc: Global, value: Value, edition: u16, board: &Board) -> Result<Value, AllocError>
-    ensures { IfOk result (λ with. view with ≡ with_board edition board.now (view value)) }
-{
-    match value {
-        Value::Object(map) => {
-            let mut map = map;
-            put_games(&mut map, alloc, edition, board)?;
-            Ok(Value::Object(map))
-        }
-        other => Ok(other),
-    }
-}
-
-/// Returns the screen of a board under a header, as a value.
+/// Returns the screen of a board as a value of JSON, by the group and the order of `header`, with its edition and the twelve matches.
 #[tactic(auto, unfolding(crate::specs::Values::edition_screen_value))]
 fn edition_screen_value(
     alloc: Global,
@@ -208,10 +136,12 @@ fn edition_screen_value(
         ≡ edition_screen_value row header board.now roster.now) }
 {
     let screen = screen_value(alloc, row, board, roster, header.group, header.profile)?;
-    with_board(alloc, screen, header.edition, board)
+    let dated = with_member(alloc, screen, "edition", Value::from(header.edition))?;
+    let matches = Value::Array(match_values(alloc, board)?);
+    Ok(with_member(alloc, dated, "matches", matches)?)
 }
 
-/// Returns the line of the screen of a board under a header, with its edition and the twelve matches.
+/// Returns the line of the screen of a board, by the group and the order of `header`, with its edition and the twelve matches.
 ///
 /// # Errors
 ///

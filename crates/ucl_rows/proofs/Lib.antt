@@ -1,5 +1,4 @@
 pub mod Common
-pub mod Elements
 pub mod Texts
 pub mod NightParts
 pub mod WordDigits

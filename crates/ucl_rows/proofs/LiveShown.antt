@@ -20,8 +20,8 @@ ends-at (suc n) (suc at) (b ∷ text) h all e =
     further (inr e) = inr e
 ends-at _ _ _ _ _ _ = refl
 
-pub shown-at : (at : ℕ) (text : List ℕ) → at ≤ 64 → list_all is_printed (take at text) ≡ true → (at ≡ 64) ⊎ (is_printed (get_or text at 0) ≡ false) → take at text ≡ shown_text text
-shown-at at text h all e = ends-at 64 at text h all e
+pub shown_at : (at : ℕ) (text : List ℕ) → at ≤ 64 → list_all is_printed (take at text) ≡ true → (at ≡ 64) ⊎ (is_printed (get_or text at 0) ≡ false) → take at text ≡ shown_text text
+shown_at at text h all e = ends-at 64 at text h all e
 
 printed-all : (text : List ℕ) → list_all is_printed text ≡ true → printed text ≡ text
 unfolding printed
@@ -29,8 +29,8 @@ printed-all [] h = refl
 printed-all (b ∷ text) h =
     let p = and_parts (is_printed b) (list_all is_printed text) h in rw p.0 (ap (λ (l : List ℕ). b ∷ l) (printed-all text p.1))
 
-pub shown-all : (at : ℕ) (text : List ℕ) → length text ≤ at → at ≤ 64 → list_all is_printed (take at text) ≡ true → take (length text) text ≡ shown_text text
-shown-all at text h few all =
+pub shown_all : (at : ℕ) (text : List ℕ) → length text ≤ at → at ≤ 64 → list_all is_printed (take at text) ≡ true → take (length text) text ≡ shown_text text
+shown_all at text h few all =
     let whole = rw (take_all at text h) at all in
     take_all (length text) text (omega arith) ∙ sym (ap printed (take_all 64 text (omega (arith, h, few))) ∙ printed-all text whole)
 
@@ -41,5 +41,5 @@ ascii : (bytes : List ℕ) → list_all is_printed bytes ≡ true → IsAscii by
 ascii [] h = IsAscii-nil
 ascii (b ∷ bytes) h = let e = and_parts (is_printed b) (list_all is_printed bytes) h in IsAscii-cons b bytes (below b e.0) (ascii bytes e.1)
 
-pub shown-utf8 : (bytes : List ℕ) → list_all is_printed bytes ≡ true → IsUtf8 bytes
-shown-utf8 bytes h = IsUtf8-from_ascii bytes (ascii bytes h)
+pub shown_utf8 : (bytes : List ℕ) → list_all is_printed bytes ≡ true → IsUtf8 bytes
+shown_utf8 bytes h = IsUtf8-from_ascii bytes (ascii bytes h)

@@ -8,7 +8,7 @@ use Rattle.ucl_rows.proofs.Common.{take-append-drop, take_more}
 use Rattle.std.proofs.Common.{◌||◌, IfSome, eqb-true, ne_eqb}
 use Rattle.csv.specs.Machine.{next_record, Runs}
 use Rattle.csv.specs.Reading.{is_bom, strip_bom}
-use Rattle.ucl_screen.specs.Rows.{Fields as Rows, rows_from, four_seen}
+use Rattle.ucl_screen.specs.Rows.{Fields as FieldList, rows_from, four_seen}
 use Rattle.ucl_rows.specs.declared.row.RowState.TheVariants.{InQuoted, AfterQuote}
 use Rattle.ucl_rows.specs.declared.row.RowAction.TheVariants.{Copy, Skip, EndField}
 use Rattle.csv.specs.Records.{Rising, cut_from, last_end}
@@ -24,7 +24,7 @@ use Rattle.csv.specs.declared.parser.Terminator.TheVariants as term
 use Rattle.csv.specs.declared.parser.State.TheVariants as st
 use Rattle.csv.specs.declared.parser.Action.TheVariants as act
 
-pub by-action : (s : State) (d : RowAction) (b : ℕ) (fields : Rows) (field rest : List ℕ) → step default_config s b ≡ csv_step_of b d
+pub by-action : (s : State) (d : RowAction) (b : ℕ) (fields : FieldList) (field rest : List ℕ) → step default_config s b ≡ csv_step_of b d
     → next_record default_config s fields field (b ∷ rest) ≡ after_action d b fields field rest
 unfolding next_record
 by-action s (Copy state) b fields field rest e = rw e refl
@@ -35,7 +35,7 @@ state-ends StartField = refl
 state-ends _ = refl
 
 -- the end of a text ends the record
-pub at-end : (state : RowState) (fields : Rows) (field : List ℕ) → next_record default_config (csv_state_of state) fields field [] ≡ Some (fields ++ field ∷ [], st.StartRecord, [])
+pub at-end : (state : RowState) (fields : FieldList) (field : List ℕ) → next_record default_config (csv_state_of state) fields field [] ≡ Some (fields ++ field ∷ [], st.StartRecord, [])
 unfolding next_record
 at-end state fields field = rw (state-ends state) refl
 
@@ -53,16 +53,16 @@ any-action InQuoted b = elim (cases_Bool (b == 34)) [ inl y ↦ (Skip AfterQuote
 any-action AfterQuote b = elim (cases_Bool (b == 34)) [ inl y ↦ (Copy InQuoted, rw y refl) | inr n ↦ let p = plain_action b in (p.0, rw n p.1) ]
 
 abbrev HasRecord : List ℕ → Type 0
-HasRecord xs = (state : RowState) (fields : Rows) (field : List ℕ) → (p : Read) × (next_record default_config (csv_state_of state) fields field xs ≡ Some p)
+HasRecord xs = (state : RowState) (fields : FieldList) (field : List ℕ) → (p : Read) × (next_record default_config (csv_state_of state) fields field xs ≡ Some p)
 
-some-action : (d : RowAction) (b : ℕ) (fields : Rows) (field xs : List ℕ) → HasRecord xs → (p : Read) × (after_action d b fields field xs ≡ Some p)
+some-action : (d : RowAction) (b : ℕ) (fields : FieldList) (field xs : List ℕ) → HasRecord xs → (p : Read) × (after_action d b fields field xs ≡ Some p)
 some-action (Copy state) b fields field xs more = more state fields (field ++ b ∷ [])
 some-action (Skip state) b fields field xs more = more state fields field
 some-action EndField b fields field xs more = more StartField (fields ++ field ∷ []) []
 some-action EndRecord b fields field xs more = ((fields ++ field ∷ [], after_end term.CRLF b, xs), refl)
 
 -- from within a row there is a record
-pub some-record : (xs : List ℕ) (state : RowState) (fields : Rows) (field : List ℕ) → (p : Read) × (next_record default_config (csv_state_of state) fields field xs ≡ Some p)
+pub some-record : (xs : List ℕ) (state : RowState) (fields : FieldList) (field : List ℕ) → (p : Read) × (next_record default_config (csv_state_of state) fields field xs ≡ Some p)
 some-record [] state fields field = ((fields ++ field ∷ [], st.StartRecord, []), at-end state fields field)
 some-record (b ∷ xs) state fields field =
     let d = any-action state b in
@@ -83,20 +83,20 @@ as-start b = elim (cases_Bool (b == 10)) [
   | inr n ↦ rw n refl
 ]
 
-pub between-same : (s : State) (xs : List ℕ) → ends_at_end s ≡ false → next_record default_config s [] [] xs ≡ next_record default_config st.StartRecord [] [] xs
+pub between_same : (s : State) (xs : List ℕ) → ends_at_end s ≡ false → next_record default_config s [] [] xs ≡ next_record default_config st.StartRecord [] [] xs
 unfolding next_record
-between-same st.StartRecord xs h = refl
-between-same st.AfterCr [] h = refl
-between-same st.AfterCr (b ∷ xs) h = rw (as-start b) refl
-between-same s xs h = cc
+between_same st.StartRecord xs h = refl
+between_same st.AfterCr [] h = refl
+between_same st.AfterCr (b ∷ xs) h = rw (as-start b) refl
+between_same s xs h = cc
 
 pub skip-one : (b : ℕ) (xs : List ℕ) → ((b == 13) || (b == 10)) ≡ true → next_record default_config st.StartRecord [] [] (b ∷ xs) ≡ next_record default_config st.StartRecord [] [] xs
 unfolding next_record
 skip-one b xs h = rw h refl
 
-pub skip-at : (i : ℕ) (xs : List ℕ) → i < length xs → ((get_or xs i 0 == 13) || (get_or xs i 0 == 10)) ≡ true
+pub skip_at : (i : ℕ) (xs : List ℕ) → i < length xs → ((get_or xs i 0 == 13) || (get_or xs i 0 == 10)) ≡ true
     → next_record default_config st.StartRecord [] [] (drop i xs) ≡ next_record default_config st.StartRecord [] [] (drop (i + 1) xs)
-skip-at i xs h e = rw (drop_more xs i 0 h) (skip-one (get_or xs i 0) (drop (i + 1) xs) e)
+skip_at i xs h e = rw (drop_more xs i 0 h) (skip-one (get_or xs i 0) (drop (i + 1) xs) e)
 
 -- the mark at the start of a text
 pub marked : (xs : List ℕ) → 3 ≤ length xs → get_or xs 0 0 ≡ 0xEF → get_or xs 1 0 ≡ 0xBB → get_or xs 2 0 ≡ 0xBF → strip_bom xs ≡ drop 3 xs
@@ -104,9 +104,9 @@ unfolding strip_bom
 marked (a ∷ b ∷ c ∷ xs) h p q r = rw (p, q, r) refl
 marked xs h p q r = absurd (omega arith)
 
-pub is-end : (b : ℕ) → ((b ≡ 13 → ⊥) × (b ≡ 10)) ⊎ (b ≡ 13) → ((b == 13) || (b == 10)) ≡ true
-is-end b (inl p) = rw p.1 refl
-is-end b (inr e) = rw e refl
+pub is_end : (b : ℕ) → ((b ≡ 13 → ⊥) × (b ≡ 10)) ⊎ (b ≡ 13) → ((b == 13) || (b == 10)) ≡ true
+is_end b (inl p) = rw p.1 refl
+is_end b (inr e) = rw e refl
 
 mark-is : (a b c : ℕ) → is_bom a b c ≡ true → (a ≡ 0xEF) × (b ≡ 0xBB) × (c ≡ 0xBF)
 mark-is a b c h = (grind (arith, nat_tests), grind (arith, nat_tests), grind (arith, nat_tests))
@@ -133,10 +133,10 @@ pub found-nothing : (line rest : List ℕ) → IsBehindEnds line rest → rest �
 found-nothing line rest b e = whole line ∙ rows-none st.StartRecord line (b.same st.StartRecord refl ∙ ap (next_record default_config st.StartRecord [] []) e ∙ no-record)
 
 -- the rows after the first
-abbrev RestOf : Rows → State → List ℕ → List ℕ → Type 0
+abbrev RestOf : FieldList → State → List ℕ → List ℕ → Type 0
 RestOf row s line rest = (records default_config line ≡ row ∷ rows_from s (Some rest)) × (ends_at_end s ≡ false)
 
-first : (line text rest : List ℕ) (row : Rows) (s : State) → IsBehindEnds line text → begins_row text ≡ true
+first : (line text rest : List ℕ) (row : FieldList) (s : State) → IsBehindEnds line text → begins_row text ≡ true
     → next_record default_config st.StartField [] [] text ≡ Some (row, s, rest) → RestOf row s line rest
 first line text rest row s b begins e =
     let next = b.same st.StartRecord refl ∙ begins-field text begins ∙ e in
@@ -146,35 +146,35 @@ first line text rest row s b begins e =
 begins : (text rest : List ℕ) → IsBehindEnds text rest → ((rest ≡ []) → ⊥) → begins_row rest ≡ true
 begins text rest b nonempty = elim b.begins [ inl y ↦ absurd (nonempty y) | inr h ↦ h ]
 
-pub found-one : (line text rest after : List ℕ) (row : Rows) (s : State) → IsBehindEnds line text → ((text ≡ []) → ⊥)
+pub found-one : (line text rest after : List ℕ) (row : FieldList) (s : State) → IsBehindEnds line text → ((text ≡ []) → ⊥)
     → next_record default_config st.StartField [] [] text ≡ Some (row, s, rest) → IsBehindEnds rest after → after ≡ [] → AreFound One row (records default_config line)
 found-one line text rest after row s b nonempty e b2 none =
     let r = first line text rest row s b (begins line text b nonempty) e in
     let last = rows-none s rest (b2.same s r.1 ∙ ap (next_record default_config st.StartRecord [] []) none ∙ no-record) in
-    r.0 ∙ ap (λ (rows : List Rows). row ∷ rows) last
+    r.0 ∙ ap (λ (rows : List FieldList). row ∷ rows) last
 
-pub found-more : (line text rest after : List ℕ) (row : Rows) (s : State) → IsBehindEnds line text → ((text ≡ []) → ⊥)
+pub found-more : (line text rest after : List ℕ) (row : FieldList) (s : State) → IsBehindEnds line text → ((text ≡ []) → ⊥)
     → next_record default_config st.StartField [] [] text ≡ Some (row, s, rest) → IsBehindEnds rest after → ((after ≡ []) → ⊥) → AreFound More row (records default_config line)
 found-more line text rest after row s b nonempty e b2 some =
     let r = first line text rest row s b (begins line text b nonempty) e in
     let p = some-record after StartField [] [] in
     let more = rows-next s rest p.0 r.1 (b2.same s r.1 ∙ begins-field after (begins rest after b2 some) ∙ p.1) in
-    (p.0.0, rows_from p.0.1 (Some p.0.2), r.0 ∙ ap (λ (rows : List Rows). row ∷ rows) more)
+    (p.0.0, rows_from p.0.1 (Some p.0.2), r.0 ∙ ap (λ (rows : List FieldList). row ∷ rows) more)
 
 -- the field at hand
-pub field-pushed : (ends bytes : List ℕ) (b : ℕ) → Rising 0 ends (length bytes) → drop (last_end 0 ends) (bytes ++ b ∷ []) ≡ drop (last_end 0 ends) bytes ++ b ∷ []
-field-pushed ends bytes b r = drop-append-le (last_end 0 ends) bytes (b ∷ []) (rising-last 0 ends (length bytes) r)
+pub field_pushed : (ends bytes : List ℕ) (b : ℕ) → Rising 0 ends (length bytes) → drop (last_end 0 ends) (bytes ++ b ∷ []) ≡ drop (last_end 0 ends) bytes ++ b ∷ []
+field_pushed ends bytes b r = drop-append-le (last_end 0 ends) bytes (b ∷ []) (rising-last 0 ends (length bytes) r)
 
-pub field-ended : (ends bytes : List ℕ) → drop (last_end 0 (ends ++ length bytes ∷ [])) bytes ≡ []
-field-ended ends bytes = rw (last-append 0 ends (length bytes)) (drop-length bytes)
+pub field_ended : (ends bytes : List ℕ) → drop (last_end 0 (ends ++ length bytes ∷ [])) bytes ≡ []
+field_ended ends bytes = rw (last-append 0 ends (length bytes)) (drop-length bytes)
 
-pub no-fields : (text : List ℕ) → next_record default_config st.StartField (cut_from 0 [] []) (drop (last_end 0 []) []) text ≡ next_record default_config st.StartField [] [] text
+pub no_fields : (text : List ℕ) → next_record default_config st.StartField (cut_from 0 [] []) (drop (last_end 0 []) []) text ≡ next_record default_config st.StartField [] [] text
 unfolding cut_from last_end
-no-fields text = refl
+no_fields text = refl
 
-pub none-rising : Rising 0 [] 0
+pub none_rising : Rising 0 [] 0
 unfolding Rising
-none-rising = omega arith
+none_rising = omega arith
 
 pub empty-list : (b : Bool) (xs : List ℕ) → b ≡ (length xs == 0) → b ≡ true → xs ≡ []
 empty-list b xs e h = nil_from_length xs (eqb-true (length xs) 0 (sym e ∙ h))
@@ -183,14 +183,14 @@ pub full-list : (b : Bool) (xs : List ℕ) → b ≡ (length xs == 0) → b ≡ 
 full-list b xs e h none = let k : false ≡ (length xs == 0) = sym h ∙ e in let t = rw none at k in cc
 
 -- a byte of a text is read
-pub fill-step : (state : RowState) (d : RowAction) (o : Option RowState) (i : ℕ) (text : List ℕ) (fields fields2 : Rows) (field field2 : List ℕ) → i < length text
+pub fill-step : (state : RowState) (d : RowAction) (o : Option RowState) (i : ℕ) (text : List ℕ) (fields fields2 : FieldList) (field field2 : List ℕ) → i < length text
     → step default_config (csv_state_of state) (get_or text i 0) ≡ csv_step_of (get_or text i 0) d
     → ((rest : List ℕ) → after_action d (get_or text i 0) fields field rest ≡ read_on o (get_or text i 0) fields2 field2 rest)
     → next_record default_config (csv_state_of state) fields field (drop i text) ≡ read_on o (get_or text i 0) fields2 field2 (drop (i + 1) text)
 fill-step state d o i text fields fields2 field field2 h e reads =
     rw (drop_more text i 0 h) (by-action (csv_state_of state) d (get_or text i 0) fields field (drop (i + 1) text) e ∙ reads (drop (i + 1) text))
 
-pub fill-end : (state : RowState) (i : ℕ) (text : List ℕ) (fields : Rows) (field : List ℕ) → length text ≤ i
+pub fill-end : (state : RowState) (i : ℕ) (text : List ℕ) (fields : FieldList) (field : List ℕ) → length text ≤ i
     → next_record default_config (csv_state_of state) fields field (drop i text) ≡ Some (fields ++ field ∷ [], st.StartRecord, [])
 fill-end state i text fields field h = rw (drop_all i text h) (at-end state fields field)
 
@@ -211,8 +211,8 @@ joins b h = let p = apart b h in rw (p.comma, p.end) refl
 joins-first : (b : ℕ) → is_joining b ≡ true → step default_config st.StartField b ≡ (st.InField, act.Copy)
 joins-first b h = let p = apart b h in rw (p.quote, p.comma, p.end) refl
 
-pub joining-more : (text : List ℕ) (n : ℕ) → n < length text → AreJoining (take n text) → is_joining (get_or text n 0) ≡ true → AreJoining (take (n + 1) text)
-joining-more text n h all one = rw (take_more text n 0 h) (joining-end (take n text) (get_or text n 0) all one) where
+pub joining_more : (text : List ℕ) (n : ℕ) → n < length text → AreJoining (take n text) → is_joining (get_or text n 0) ≡ true → AreJoining (take (n + 1) text)
+joining_more text n h all one = rw (take_more text n 0 h) (joining-end (take n text) (get_or text n 0) all one) where
   joining-end : (xs : List ℕ) (b : ℕ) → AreJoining xs → is_joining b ≡ true → AreJoining (xs ++ b ∷ [])
   joining-end [] b all one = (one, tt)
   joining-end (x ∷ xs) b all one = (all.0, joining-end xs b all.1 one)
@@ -223,21 +223,21 @@ all-run [] h = tt
 all-run (b ∷ xs) h = (joins b h.0, all-run xs h.1)
 
 -- where the reading stands after bytes that join a field
-state_after : List ℕ → RowState
-state_after [] = StartField
-state_after (b ∷ xs) = InField
+joined_state : List ℕ → RowState
+joined_state [] = StartField
+joined_state (b ∷ xs) = InField
 
-field-read : (xs tail : List ℕ) (fields : Rows) → AreJoining xs
-    → next_record default_config st.StartField fields [] (xs ++ tail) ≡ next_record default_config (csv_state_of (state_after xs)) fields xs tail
-unfolding next_record state_after
+field-read : (xs tail : List ℕ) (fields : FieldList) → AreJoining xs
+    → next_record default_config st.StartField fields [] (xs ++ tail) ≡ next_record default_config (csv_state_of (joined_state xs)) fields xs tail
+unfolding next_record joined_state
 field-read [] tail fields h = refl
 field-read (b ∷ xs) tail fields h = rw (joins-first b h.0) (run-copies default_config st.InField fields (b ∷ []) xs tail (all-run xs h.1))
 
 -- ---- a comma behind them
 
-comma-ends : (xs rest : List ℕ) (fields : Rows)
-    → next_record default_config (csv_state_of (state_after xs)) fields xs (44 ∷ rest) ≡ next_record default_config st.StartField (fields ++ xs ∷ []) [] rest
-unfolding next_record state_after
+comma-ends : (xs rest : List ℕ) (fields : FieldList)
+    → next_record default_config (csv_state_of (joined_state xs)) fields xs (44 ∷ rest) ≡ next_record default_config st.StartField (fields ++ xs ∷ []) [] rest
+unfolding next_record joined_state
 comma-ends [] rest fields = refl
 comma-ends (b ∷ xs) rest fields = refl
 
@@ -252,9 +252,9 @@ before-comma xs rest h = record {
 }
 
 -- the same with the line feed, which is not with the text
-pub field-before : (text : List ℕ) (at : ℕ) → at < length text → AreJoining (take at text) → get_or text at 0 ≡ 44
+pub field_before : (text : List ℕ) (at : ℕ) → at < length text → AreJoining (take at text) → get_or text at 0 ≡ 44
     → IsFieldBefore (text ++ 10 ∷ []) (take at text) (drop (at + 1) text ++ 10 ∷ [])
-field-before text at h all is =
+field_before text at h all is =
     let parts = ap (λ (l : List ℕ). take at text ++ l) (sym (ap (λ (b : ℕ). b ∷ drop (at + 1) text) is) ∙ sym (drop_more text at 0 h)) ∙ take-append-drop at text in
     let fed = sym (append_assoc (take at text) (44 ∷ drop (at + 1) text) (10 ∷ [])) ∙ ap (λ (l : List ℕ). l ++ 10 ∷ []) parts in
     subst (λ (l : List ℕ). IsFieldBefore l (take at text) (drop (at + 1) text ++ 10 ∷ [])) fed (before-comma (take at text) (drop (at + 1) text ++ 10 ∷ []) all)
@@ -264,8 +264,8 @@ field-before text at h all is =
 line-end : (b : ℕ) → ((b == 13) || (b == 10)) ≡ true → in_field default_config b ≡ csv_step_of b EndRecord
 line-end b h = elim (cases_Bool (b == 44)) [ inl y ↦ absurd (grind (arith, nat_tests)) | inr n ↦ rw (n, h) refl ]
 
-stands-at-end : (xs : List ℕ) (b : ℕ) → ((b == 13) || (b == 10)) ≡ true → step default_config (csv_state_of (state_after xs)) b ≡ csv_step_of b EndRecord
-unfolding state_after
+stands-at-end : (xs : List ℕ) (b : ℕ) → ((b == 13) || (b == 10)) ≡ true → step default_config (csv_state_of (joined_state xs)) b ≡ csv_step_of b EndRecord
+unfolding joined_state
 stands-at-end [] b h = elim (cases_Bool (b == 34)) [ inl y ↦ absurd (grind (arith, nat_tests)) | inr n ↦ rw n (line-end b h) ]
 stands-at-end (x ∷ xs) b h = line-end b h
 
@@ -282,30 +282,30 @@ pub at-ends : (xs tail : List ℕ) → AreJoining xs → IsBehindEnds tail [] �
 at-ends xs [] h e = record {
   state = st.StartRecord;
   rest = [];
-  reads = λ fields. field-read xs [] fields h ∙ at-end (state_after xs) fields xs;
-  behind = record { same = λ s hs. between-same s [] hs; begins = inl refl };
+  reads = λ fields. field-read xs [] fields h ∙ at-end (joined_state xs) fields xs;
+  behind = record { same = λ s hs. between_same s [] hs; begins = inl refl };
 }
 at-ends xs (b ∷ tail) h e =
     let y = first-ends b tail e in record {
       state = after_end term.CRLF b;
       rest = tail;
-      reads = λ fields. field-read xs (b ∷ tail) fields h ∙ by-action (csv_state_of (state_after xs)) EndRecord b fields xs tail (stands-at-end xs b y);
-      behind = record { same = λ s hs. between-same s tail hs ∙ sym (skip-one b tail y) ∙ e.same st.StartRecord refl; begins = inl refl };
+      reads = λ fields. field-read xs (b ∷ tail) fields h ∙ by-action (csv_state_of (joined_state xs)) EndRecord b fields xs tail (stands-at-end xs b y);
+      behind = record { same = λ s hs. between_same s tail hs ∙ sym (skip-one b tail y) ∙ e.same st.StartRecord refl; begins = inl refl };
     }
 
 -- and one more
 ends-then : (tail : List ℕ) → IsBehindEnds tail [] → IsBehindEnds (tail ++ 10 ∷ []) []
-ends-then [] e = record { same = λ s hs. between-same s (10 ∷ []) hs ∙ skip-one 10 [] refl; begins = inl refl }
+ends-then [] e = record { same = λ s hs. between_same s (10 ∷ []) hs ∙ skip-one 10 [] refl; begins = inl refl }
 ends-then (b ∷ tail) e =
     let y = first-ends b tail e in
-    let rest : IsBehindEnds tail [] = record { same = λ s hs. between-same s tail hs ∙ sym (skip-one b tail y) ∙ e.same st.StartRecord refl; begins = inl refl } in
+    let rest : IsBehindEnds tail [] = record { same = λ s hs. between_same s tail hs ∙ sym (skip-one b tail y) ∙ e.same st.StartRecord refl; begins = inl refl } in
     record {
-      same = λ s hs. between-same s (b ∷ (tail ++ 10 ∷ [])) hs ∙ skip-one b (tail ++ 10 ∷ []) y ∙ (ends-then tail rest).same st.StartRecord refl;
+      same = λ s hs. between_same s (b ∷ (tail ++ 10 ∷ [])) hs ∙ skip-one b (tail ++ 10 ∷ []) y ∙ (ends-then tail rest).same st.StartRecord refl;
       begins = inl refl;
     }
 
-pub row-ends : (text : List ℕ) (at : ℕ) → AreJoining (take at text) → IsBehindEnds (drop at text) [] → EndsRow (text ++ 10 ∷ []) (take at text)
-row-ends text at h e =
+pub row_ends : (text : List ℕ) (at : ℕ) → AreJoining (take at text) → IsBehindEnds (drop at text) [] → EndsRow (text ++ 10 ∷ []) (take at text)
+row_ends text at h e =
     let parts = sym (append_assoc (take at text) (drop at text) (10 ∷ [])) ∙ ap (λ (l : List ℕ). l ++ 10 ∷ []) (take-append-drop at text) in
     subst (λ (l : List ℕ). EndsRow l (take at text)) parts (at-ends (take at text) (drop at text ++ 10 ∷ []) h (ends-then (drop at text) e))
 
@@ -319,7 +319,7 @@ pub plain_row : (text rest rest2 rest3 first second third fourth : List ℕ) →
     → of_rows (records default_config text) ≡ Row (record { first = first; second = second; third = third; fourth = fourth })
 plain_row text rest rest2 rest3 first second third fourth a b c d =
     let reads = a.reads [] ∙ b.reads (first ∷ []) ∙ c.reads (first ∷ second ∷ []) ∙ d.reads (first ∷ second ∷ third ∷ []) in
-    let same : IsBehindEnds text text = record { same = λ s hs. between-same s text hs; begins = inr a.begins } in
+    let same : IsBehindEnds text text = record { same = λ s hs. between_same s text hs; begins = inr a.begins } in
     ap of_rows (found-one text text d.rest [] (first ∷ second ∷ third ∷ fourth ∷ []) d.state same (not-empty text a.begins) reads d.behind refl)
 
 -- a line that is not the first, and not too long

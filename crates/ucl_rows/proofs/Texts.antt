@@ -5,13 +5,13 @@ use Rattle.std.proofs.lemmas.List.{append-nil}
 use Rattle.ucl_screen.proofs.EventsInTurn.{past}
 use Rattle.ucl_rows.specs.Lines.{word_lines}
 
-pub words-step : (index i : ℕ) (words out new whole : List ℕ) → i < length words → out ++ word_lines index (drop i words) ≡ whole
+pub words_step : (index i : ℕ) (words out new whole : List ℕ) → i < length words → out ++ word_lines index (drop i words) ≡ whole
     → new ≡ out ++ word_line index (get_or words i 0) → new ++ word_lines (index + 1) (drop (i + 1) words) ≡ whole
 unfolding word_lines
-words-step index i words out new whole h so_far line =
+words_step index i words out new whole h so_far line =
     let split : drop i words ≡ get_or words i 0 ∷ drop (i + 1) words = rw (add-one i) (drop-cons words i 0 h) in
     rw (line, append_assoc out (word_line index (get_or words i 0)) (word_lines (index + 1) (drop (i + 1) words))) (rw split at so_far)
 
-pub words-end : (index i : ℕ) (words out whole : List ℕ) → length words ≤ i → out ++ word_lines index (drop i words) ≡ whole → out ≡ whole
+pub words_end : (index i : ℕ) (words out whole : List ℕ) → length words ≤ i → out ++ word_lines index (drop i words) ≡ whole → out ≡ whole
 unfolding word_lines
-words-end index i words out whole h so_far = sym (append-nil out) ∙ (rw (past i words h) at so_far)
+words_end index i words out whole h so_far = sym (append-nil out) ∙ (rw (past i words h) at so_far)

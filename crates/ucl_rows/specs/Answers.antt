@@ -1,4 +1,5 @@
--- Single answers, each in its format.
+-- The answers to single rows of an input, as text or as a line of JSON; `row` is the number of the row. A board is given as twelve words,
+-- its matches packed into 64 bits each. A header names the group, the tie-break order (profile) and the edition, which counts fresh boards.
 use Rattle.std.specs.Prelude.{ℕ, List, ◌++◌, codes, decimal, string_bytes, Result}
 use Rattle.ucl_word.specs.declared.event.Accepted.{Accepted}
 use Rattle.ucl_word.specs.declared.refusal.Refusal.{Refusal}
@@ -17,35 +18,36 @@ use Rattle.ucl_rows.specs.declared.answer.Answer.{Answer}
 use Rattle.ucl_rows.specs.declared.answer.Answer.TheVariants.{Short, Long}
 use Rattle.ucl_rows.specs.declared.bad_row.BadField.{BadField}
 
--- the bytes of an answer
+-- the bytes of an answer to a row
 abbrev pub bytes_of : Answer → List ℕ
 bytes_of (Short line) = line.bytes
 bytes_of (Long text) = string_bytes text
 
--- the reply to an event, where so many events were accepted before, with the board after it
+-- the answer to an event, if `before` events were accepted before it: `reply` is what the board replied, and `board` the board after it
 abbrev pub reply_answer : Format → BoardHeader → ℕ → List NamedClub → NightEvent → ℕ → Result Accepted Refusal → List ℕ → List ℕ
 reply_answer Text header row clubs event before reply board = line_of_reply row event.call.game before reply
 reply_answer Json header row clubs event before reply board = json_line (reply_value row event reply header board clubs)
 
+-- the line of text that answers a bad row, which is neither an event nor a request
 abbrev pub bad_line : ℕ → List ℕ
 bad_line row = decimal row ++ codes " refused 20 bad-row\n"
 
--- the answer to a row that asks for nothing that there is, for this field, and is shown so
+-- the answer to a bad row, neither an event nor a request; in JSON with its first bad field and `shown`, the start of its text
 abbrev pub bad_answer : Format → ℕ → BadField → List ℕ → List ℕ
 bad_answer Text row field shown = bad_line row
 bad_answer Json row field shown = json_line (bad_row_value row (field_name field) shown)
 
--- the screen of a board
+-- the answer that is the screen of a board: the table of the group as it stands
 abbrev pub screen_answer : Format → BoardHeader → ℕ → List NamedClub → List ℕ → List ℕ
 screen_answer Text header row clubs board = screen_text header.profile board clubs header.group
 screen_answer Json header row clubs board = json_line (edition_screen_value row header board clubs)
 
--- the words of a board
+-- the answer that lists the twelve match words of a board
 abbrev pub words_answer : Format → ℕ → List ℕ → List ℕ
 words_answer Text row board = word_lines 1 board
 words_answer Json row board = json_line (words_value row board)
 
--- the matches of a board
+-- the answer that lists the twelve matches of a board as they stand
 abbrev pub matches_answer : Format → ℕ → List NamedClub → List ℕ → List ℕ
 matches_answer Text row clubs board = matches_text board clubs
 matches_answer Json row clubs board = json_line (matches_value row board clubs)

@@ -1,4 +1,5 @@
--- How a program ends: what it wrote, and its exit status.
+-- How a program ends: what it wrote, and its exit status. It prints faults on its error sink, which stands for standard error; a `RunFault`
+-- is why a run failed. `old` and `new` are the bytes that a sink has taken before and after, None if not known.
 use Rattle.std.specs.Prelude.{◌≡◌, ℕ, ⊤, Bool, List, Option, Result, Ok, Err, IfErr, OnOk, string_bytes}
 use Rattle.std.specs.Io.KnownBytes.{Appends}
 use Rattle.ucl_io.specs.declared.logged_io.LoggedIo.{LoggedIo}
@@ -18,21 +19,21 @@ pub record Ended : Type 0 where
   pub old : Option (List ℕ)
   pub new : Option (List ℕ)
 
+-- how a program ended with this status, if its error sink was `old` before and `new` after, by the functions for failure and bytes taken
 abbrev pub ended_with : {E : Type 0} → (E → Bool) → (E → Option (List ℕ)) → ℕ → E → E → Ended
 ended_with failed taken code old new = record { code = code; failed = failed new; old = taken old; new = taken new }
 
--- status 0 and nothing is printed; or the line of the fault is printed, and its status
+-- by the result of its run a program ended with status 0 and nothing printed, or with the status of the fault and the fault's line printed
 abbrev pub Ends : Result ⊤ RunFault → Ended → Type 0
 Ends (Ok done) e = (e.code ≡ 0) × (e.new ≡ e.old)
 Ends (Err fault) e = (e.code ≡ status fault) × Prints e.failed e.old e.new (fault_line fault)
 
--- a text was written whole, or has the fault r
+-- if the result is `Ok` a text was written whole; if it is a fault, the sink failed in the text, and the fault counts the bytes written
 pub record WritesText (text : List ℕ) (failed : Bool) (old new : Option (List ℕ)) (r : Result ⊤ RunFault) : Type 0 where
   pub all : OnOk r (Appends old new text)
   pub part : IfErr r (IsCutShort failed old new text)
 
--- what a program does if its arguments ask for no command: help is written on its output, a refusal is printed as it is, and lack of memory by its
--- line. Of the output it is known whether it has failed, and what it took
+-- what a program does if its arguments ask for no command: it writes help on its output, or prints a refusal or the line of lack of memory
 module _ {W : Type 0} (failed_of : W → Bool) (taken_of : W → Option (List ℕ)) where
   abbrev pub ExitsWithoutCommand : LineFault → W → W → Ended → Type 0
   ExitsWithoutCommand (words.Help text) before after e =
@@ -40,7 +41,7 @@ module _ {W : Type 0} (failed_of : W → Bool) (taken_of : W → Option (List �
   ExitsWithoutCommand (words.Refused text) before after e = (after ≡ before) × (e.code ≡ 2) × Prints e.failed e.old e.new (string_bytes text)
   ExitsWithoutCommand words.OutOfMemory before after e = (after ≡ before) × Ends (Err OutOfMemory) e
 
--- nothing was read, and it was answered that the arguments ask for no command
+-- a program whose arguments ask for no command, as `fault` says, ended without reading: of its input and output only the sink may differ
 abbrev pub AnsweredAlone : {S W M : Type 0} → writes.Ghosts W → LineFault → LoggedIo S W M → LoggedIo S W M → Ended → Type 0
 AnsweredAlone sink fault before after e =
     (after ≡ record before { sink = after.sink }) × ExitsWithoutCommand sink.failed sink.taken fault before.sink after.sink e

@@ -1,4 +1,4 @@
--- Faults of the program.
+-- Faults of a run, which are why a run of a program failed: their lines for standard error, and exit statuses.
 use Rattle.std.specs.Prelude.{◌≡◌, ℕ, ⊤, List, ◌++◌, codes, decimal}
 use Rattle.ucl_screen.specs.declared.fault.InputFault.{InputFault}
 use Rattle.ucl_screen.specs.declared.fault.InputFault.TheVariants as input
@@ -7,19 +7,19 @@ use Rattle.ucl_rows.specs.declared.fault.RunFault.{RunFault}
 use Rattle.ucl_rows.specs.declared.fault.RunFault.TheVariants.{Input, OutOfMemory, WriteFailed, NotOnDuty, NoThread, TooManyReporters, Strangers}
 use Rattle.ucl_live_board.specs.declared.live_board.LiveBoard as boards
 
--- the fault of a run whose input has a fault: lack of memory is the run's own
+-- the fault of a run whose input has this fault: lack of memory is the run's `OutOfMemory`, and any other fault is `Input`
 abbrev pub handed_on : InputFault → RunFault
 handed_on input.OutOfMemory = OutOfMemory
 handed_on fault = Input fault
 
--- the faults of a run of one thread: of the input, lack of memory, and a failed write
+-- a fault is one that a run of one thread can have: of the input, lack of memory, or a failed write
 abbrev pub IsOfOneThread : RunFault → Type 0
 IsOfOneThread (Input e) = ⊤
 IsOfOneThread OutOfMemory = ⊤
 IsOfOneThread (WriteFailed written) = ⊤
 IsOfOneThread _ = ⊥
 
--- all numbers of a live board are given, as a pass of it has seen
+-- a live board, which threads share, has given all 255 numbers of reporters: a pass, a thread's permission on it, has seen 255 given
 pub record HasNoNumberLeft {B R P : Type 0} (live : boards.Ghosts B R P) (board : B) : Type 0 where
   pub pass : R
   pub own : live.is_reader board pass
@@ -35,7 +35,7 @@ fault_text NoThread = codes "no thread 27"
 fault_text TooManyReporters = codes "board refused 30"
 fault_text (Strangers version) = codes "board refused 31: version " ++ decimal version
 
--- the exit status of the program
+-- the exit status of a program whose run failed with this fault
 abbrev pub status : RunFault → ℕ
 status (Input (input.ReadFailed bytes)) = 4
 status (Input input.OutOfMemory) = 5

@@ -3,11 +3,11 @@
 use Rattle.std.specs.Prelude.{ℕ, List, [], ◌∷◌, ◌++◌}
 use Rattle.ucl_io.specs.Lines.{begun_line, ended_lines}
 
--- a last line needs no end
+-- the bytes after the last line feed, as one line if there are any, and else as none
 abbrev pub last_lines : List ℕ → List (List ℕ)
 last_lines [] = []
 last_lines (b ∷ line) = (b ∷ line) ∷ []
 
--- the lines of a whole input
+-- the lines of a whole input; the bytes after its last line feed are one too, if there are any
 abbrev pub lines_of : List ℕ → List (List ℕ)
 lines_of bytes = ended_lines 258 [] bytes ++ last_lines (begun_line 258 [] bytes)

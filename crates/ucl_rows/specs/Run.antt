@@ -1,4 +1,5 @@
--- What a run of the program does to its input and its output, and which faults it ends with.
+-- What a run of a program does to its input and its output, and which faults it ends with. `CallsFor bytes text`: an input of these bytes
+-- calls for this text; `known` are the bytes of the input, None if not known; `old` and `new` are those of the output, before and after.
 use Rattle.std.specs.Prelude.{◌≡◌, ℕ, ◌+◌, ◌≤◌, Bool, true, false, ⊤, List, Option, IfSome, Result, Err, IfErr, IsErrOf, OnOk}
 use Rattle.std.specs.Io.KnownBytes.{Appends}
 use Rattle.ucl_screen.specs.declared.fault.InputFault.{InputFault}
@@ -11,26 +12,26 @@ use Rattle.ucl_io.specs.Stream.{WroteFirst}
 use Rattle.ucl_rows.specs.declared.fault.RunFault.{RunFault}
 use Rattle.ucl_rows.specs.declared.fault.RunFault.TheVariants.{Input, WriteFailed, NotOnDuty}
 
--- the input, where its bytes are known, calls for a text, and P holds of it
+-- if the bytes of the input are known, the text that they call for is one of which P holds
 abbrev pub TextHas : (List ℕ → List ℕ → Type 0) → Option (List ℕ) → (List ℕ → Type 0) → Type 0
 TextHas CallsFor known P = IfSome known (λ bytes. (text : List ℕ) × CallsFor bytes text × P text)
 
--- P holds of the input's fault, where that is why the run failed
+-- if the run failed for its input, P holds of the fault of the input
 abbrev pub IfInput : RunFault → (InputFault → Type 0) → Type 0
 IfInput (Input e) P = P e
 IfInput _ P = ⊤
 
--- P holds of how many bytes were written, where the run failed for the output
+-- if the run failed for its output, P holds of the number of bytes written
 abbrev pub IfWriteFailed : RunFault → (ℕ → Type 0) → Type 0
 IfWriteFailed (WriteFailed written) P = P written
 IfWriteFailed _ P = ⊤
 
--- P holds, where the run did not fail for the output
+-- if the run did not fail for its output, P holds
 abbrev pub UnlessWriteFailed : RunFault → Type 0 → Type 0
 UnlessWriteFailed (WriteFailed written) P = ⊤
 UnlessWriteFailed _ P = P
 
--- the output has failed: the first so many bytes of the text went out, and not all of them
+-- the output has failed in a text: it took some first bytes, as many as the fault has, and not all
 abbrev pub IsCutShort : Bool → Option (List ℕ) → Option (List ℕ) → List ℕ → RunFault → Type 0
 IsCutShort failed old new text (WriteFailed written) = (failed ≡ true) × WroteFirst old new written text
 IsCutShort failed old new text _ = ⊥
@@ -42,51 +43,52 @@ is_read_failed _ = false
 
 -- What a run that reads an input and writes a text promises. --
 
--- where it ended well, its output took exactly the text that the input calls for
+-- a run that ended well wrote exactly the text that its input calls for
 abbrev pub WritesAll : {U : Type 0} → (List ℕ → List ℕ → Type 0) → Option (List ℕ) → Option (List ℕ) → Option (List ℕ) → Result U RunFault → Type 0
 WritesAll CallsFor known old new result = OnOk result (TextHas CallsFor known (Appends old new))
 
--- where it failed for the output, that took the first bytes of the text, as many as the fault has
+-- a run that failed for its output wrote the first bytes of the text, as many as the fault has
 abbrev pub WritesFirst : {U : Type 0} → (List ℕ → List ℕ → Type 0) → Option (List ℕ) → Option (List ℕ) → Option (List ℕ) → Result U RunFault → Type 0
 WritesFirst CallsFor known old new result =
     IfErr result (λ f. IfWriteFailed f (λ written. TextHas CallsFor known (WroteFirst old new written)))
 
--- where it failed for anything else, the output is as it was
+-- a run that failed for anything but its output wrote nothing
 abbrev pub WritesNothing : {U A : Type 0} → A → A → Result U RunFault → Type 0
 WritesNothing old new result = IfErr result (λ f. UnlessWriteFailed f (new ≡ old))
 
--- it fails for the output only where that has failed
+-- a run fails for its output only if that has failed
 abbrev pub BlamesOutput : {U : Type 0} → Bool → Result U RunFault → Type 0
 BlamesOutput failed result = IfErr result (λ f. IfWriteFailed f (λ written. failed ≡ true))
 
--- where it failed for the input, the input has that fault
+-- a run that failed for its input has a fault that the input has: by `Means`, the input was read with that fault
 abbrev pub BlamesInput : {V E U : Type 0} → (List ℕ → Result E InputFault → Type 0) → (V → E) → Option (List ℕ) → Option (List ℕ) → Bool
     → Result U RunFault → Type 0
 BlamesInput Means view old new failed result = IfErr result (λ f. IfInput f (λ e. Reads Means view old new failed (Err e)))
 
--- lack of memory is not reported as a fault of the input
+-- a run does not report lack of memory as a fault of the input
 abbrev pub DistinguishesMemory : {U : Type 0} → Result U RunFault → Type 0
 DistinguishesMemory result = IsErrOf result (Input input.OutOfMemory) → ⊥
 
--- it makes no more calls of its source than the longest input has bytes, and two
+-- a run calls its source at most as often as the longest input has bytes, and two times more; `old` and `new` count the calls
 abbrev pub CallsWithin : ℕ → ℕ → Type 0
 CallsWithin old new = new ≤ old + max_bytes + 2
 
 -- Rows and parts of a night. --
 
--- P holds of the row of the fault if the run failed for a row whose reporter is not on duty, and else Q holds
+-- if the run failed for a row of a reporter other than 1 and 2 (not on duty), P holds of the row's number, and else Q holds
 abbrev pub MatchDuty : RunFault → (ℕ → Type 0) → Type 0 → Type 0
 MatchDuty (NotOnDuty row) P Q = P row
 MatchDuty _ P Q = Q
 
--- the output has failed in a text after so many bytes, and the fault has the number of all that went out
+-- the output has failed in a text before which `before` bytes went out, and the fault has the number of all bytes that went out
 abbrev pub IsStopped : ℕ → Bool → Option (List ℕ) → Option (List ℕ) → List ℕ → RunFault → Type 0
 IsStopped before failed old new text (WriteFailed written) = StoppedShort before failed old new text written
 IsStopped before failed old new text _ = ⊥
 
 -- Runs whose lines a driver hands to a handler. --
 
--- the fault of the driver, where Gives turns a fault of a run into one of the handler
+-- `fault` is what the fault of a driver, which hands lines to a handler, becomes: the handler's own as it is, any other by `Gives` from a
+-- fault of a run
 abbrev pub IsOfDriver : {F : Type 0} → (RunFault → F → Type 0) → ServeFault F → F → Type 0
 IsOfDriver Gives (driver.ReadFailed bytes) fault = Gives (Input (input.ReadFailed bytes)) fault
 IsOfDriver Gives driver.TooLong fault = Gives (Input input.TooLong) fault

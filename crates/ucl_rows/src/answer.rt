@@ -1,12 +1,14 @@
-//! Single answers, each in its format.
+//! The answers to single rows of an input, as text or as a line of JSON; `row` is the number of the row. A board is the twelve matches of a
+//! group, a roster its four clubs; a header names the group, the tie-break order (profile), and the edition, which counts fresh boards.
+//! A bad row is neither an event nor a request. An event is refused as stale if its match has another event number than it expects.
 
 ghost use Rattle.std.specs.Prelude.{◌≡◌, ◌<◌, ◌≤◌, ◌-◌, ◌^◌, ◌++◌, [], IfErr, IfOk};
 ghost use Rattle.arrayvec.specs.ArrayString.{array_string_len};
 ghost use Rattle.ucl_word.specs.Names.{refusal_text};
 ghost use Rattle.ucl_screen.specs.Screen.{IsGroup};
-ghost use Rattle.ucl_rows.specs.Lines.{line_of_reply, accepted_line, refused_line};
+ghost use Rattle.ucl_rows.specs.Lines.{line_of_reply};
 ghost use Rattle.ucl_rows.specs.BadRows.{shown_text};
-ghost use Rattle.ucl_rows.specs.Answers.{bytes_of, bad_answer, bad_line, matches_answer, screen_answer};
+ghost use Rattle.ucl_rows.specs.Answers.{bytes_of, bad_answer, matches_answer, screen_answer};
 
 use crate::bad_row::{BadField, shown_text};
 use arrayvec::ArrayString;
@@ -20,13 +22,13 @@ use ucl_order::Roster;
 use ucl_screen::{matches, screen};
 use ucl_word::{Accepted, OutOfMemory, Refusal};
 
-/// The line of a reply, which takes no memory.
+/// The line that answers an event, in at most 64 bytes; it takes no memory of an allocator.
 pub type ReplyLine = ArrayString<64>;
 
-/// An answer.
+/// The text that answers a row.
 #[derive(Drop)]
 pub enum Answer {
-    /// The line of a reply.
+    /// The line that answers an event, or no byte.
     Short(ReplyLine),
     /// Any text.
     Long(String),
@@ -35,17 +37,19 @@ pub enum Answer {
 impl Text for Answer {
     ghost bytes = { bytes_of };
 
+    /// Creates an answer of no byte.
     fn new() -> Answer {
         Answer::nothing()
     }
 
+    /// Returns the bytes of the answer.
     fn text(&self) -> &[u8] {
         self.as_str().as_bytes()
     }
 }
 
 impl Answer {
-    /// Makes it no answer.
+    /// Creates an answer of no byte.
     pub fn nothing() -> Answer
         ensures { bytes_of result ≡ [] }
     {
@@ -62,7 +66,7 @@ impl Answer {
         }
     }
 
-    /// Returns the answer, and then another.
+    /// Returns an answer with the text of this one and then that of `other`.
     ///
     /// # Errors
     ///
@@ -77,23 +81,7 @@ impl Answer {
     }
 }
 
-/// Returns the line of an event that was entered.
-fn accepted_line(row: u64, game: u8, number: u16, version: u16) -> ReplyLine
-    ensures { result.bytes ≡ accepted_line row game number version }
-{
-    let mut line = ArrayString::new();
-    line.push_str(Buffer::new().format(row));
-    line.push_str(" ok ");
-    line.push_str(Buffer::new().format(game));
-    line.push_str(" ");
-    line.push_str(Buffer::new().format(number));
-    line.push_str(" ");
-    line.push_str(Buffer::new().format(version));
-    line.push_str("\n");
-    line
-}
-
-/// Writes the number of a refusal and its name.
+/// Adds to a line the code of a refusal, its name and, if the event was stale, the event number that its match has.
 fn push_refusal(line: &mut ReplyLine, refusal: Refusal)
     requires { array_string_len line.old ≤ 30 }
     ensures text { line.new.bytes ≡ line.old.bytes ++ refusal_text refusal }
@@ -108,40 +96,34 @@ fn push_refusal(line: &mut ReplyLine, refusal: Refusal)
     }
 }
 
-/// Returns the line of an event that was refused.
-fn refused_line(row: u64, refusal: Refusal) -> ReplyLine
-    ensures { result.bytes ≡ refused_line row refusal }
-{
-    let mut line = ArrayString::new();
-    line.push_str(Buffer::new().format(row));
-    line.push_str(" refused ");
-    push_refusal(&mut line, refusal);
-    line.push_str("\n");
-    line
-}
-
-/// Returns the line of a row that asks for nothing that there is.
-fn bad_line(row: u64) -> ReplyLine
-    ensures { result.bytes ≡ bad_line row }
-{
-    let mut line = ArrayString::new();
-    line.push_str(Buffer::new().format(row));
-    line.push_str(" refused 20 bad-row\n");
-    line
-}
-
-/// Returns the line of a reply, where so many events were accepted before. It asks for no memory.
+/// Returns the line that answers the event of this row, of match `game`, if `before` events were accepted before it. It asks for no memory.
 pub fn reply_line(row: u64, game: u8, before: u16, reply: Result<Accepted, Refusal>) -> ReplyLine
     requires { before < 2 ^ 16 - 1 }
     ensures { result.bytes ≡ line_of_reply row game before reply }
 {
+    let mut line = ArrayString::new();
+    line.push_str(Buffer::new().format(row));
     match reply {
-        Ok(accepted) => accepted_line(row, game, accepted.number, before + 1),
-        Err(refusal) => refused_line(row, refusal),
+        Ok(accepted) => {
+            line.push_str(" ok ");
+            line.push_str(Buffer::new().format(game));
+            line.push_str(" ");
+            line.push_str(Buffer::new().format(accepted.number));
+            line.push_str(" ");
+            line.push_str(Buffer::new().format(before + 1));
+            line.push_str("\n");
+            line
+        }
+        Err(refusal) => {
+            line.push_str(" refused ");
+            push_refusal(&mut line, refusal);
+            line.push_str("\n");
+            line
+        }
     }
 }
 
-/// Returns the answer to a row that asks for nothing that there is, for this field.
+/// Returns the answer to a bad row: as text a line with its number, in JSON also its first bad field and the start of its text.
 ///
 /// # Errors
 ///
@@ -158,12 +140,17 @@ pub fn bad_answer(
     ensures memory { IfErr result (λ _. format ≡ Format.Json) }
 {
     match format {
-        Format::Text => Ok(Answer::Short(bad_line(row))),
+        Format::Text => {
+            let mut line = ArrayString::new();
+            line.push_str(Buffer::new().format(row));
+            line.push_str(" refused 20 bad-row\n");
+            Ok(Answer::Short(line))
+        }
         Format::Json => Ok(Answer::Long(bad_row_json(alloc, row, field.name(), shown_text(text))?)),
     }
 }
 
-/// Returns the screen of a board.
+/// Returns the answer that is the screen of a board: the table of the group as it stands.
 ///
 /// # Errors
 ///
@@ -187,7 +174,7 @@ pub fn screen_answer(
     Ok(Answer::Long(text))
 }
 
-/// Returns the matches of a board.
+/// Returns the answer that lists the twelve matches of a board as they stand.
 ///
 /// # Errors
 ///

@@ -1,34 +1,35 @@
-//! What is reported of a row that is no request.
+//! What an answer in JSON reports of a bad row, which is neither an event nor a request: its first bad field, and the start of its text.
+//! A row of an event has four fields: reporter, match, expected event number and event word.
 
 ghost use Rattle.std.specs.Prelude.{◌≡◌, ◌≤◌, length, take, true};
 ghost use Rattle.std.specs.List.{list_all};
 ghost use Rattle.ucl_order.specs.Roster.{is_printed};
 ghost use Rattle.ucl_screen.specs.Rows.{four_seen};
-ghost use Rattle.ucl_rows.specs.BadRows.{bad_field, bad_field_of_call, field_name, shown_text};
+ghost use Rattle.ucl_rows.specs.BadRows.{bad_field, field_name, shown_text};
 
 use std::str;
 use ucl_screen::{Four, expected_of_field, match_of_field, reporter_of_field};
 
-/// The most bytes of a row that an answer shows.
+/// The most bytes of the text of a row that an answer shows.
 const MAX_SHOWN: usize = 64;
 
-/// The first field of a row that is none of an event.
+/// The first field of a bad row that no row of an event can have.
 #[derive(Clone, Copy, Debug, PartialEq, Eq)]
 pub enum BadField {
-    /// There are not as many fields as there should be.
+    /// The count of fields, which is not four.
     Count,
     /// The reporter.
     Reporter,
     /// The match.
     Match,
-    /// The expected number.
+    /// The expected event number.
     Expected,
     /// The event.
     Event,
 }
 
 impl BadField {
-    /// Its name.
+    /// Returns the name of the field in an answer in JSON.
     pub(crate) fn name(self) -> &'static str
         ensures { result.now ≡ field_name self }
     {
@@ -42,38 +43,30 @@ impl BadField {
     }
 }
 
-/// Returns the first field that is none of an event, of those after the reporter. Where the first two are, it is the event.
-fn bad_field_of_call(game: &[u8], expected: &[u8]) -> BadField
-    ensures { result ≡ bad_field_of_call game.now expected.now }
+/// Returns the first of the four fields of a bad row that no row of an event can have. If the first three are good, it is the event word.
+pub fn bad_field(four: &Four<'_>) -> BadField
+    ensures { result ≡ bad_field (four_seen four.now) }
 {
-    if match_of_field(game).is_none() {
+    if reporter_of_field(four.first).is_none() {
+        BadField::Reporter
+    } else if match_of_field(four.second).is_none() {
         BadField::Match
-    } else if expected_of_field(expected).is_none() {
+    } else if expected_of_field(four.third).is_none() {
         BadField::Expected
     } else {
         BadField::Event
     }
 }
 
-/// Returns the first field of a row that is none of an event. Where the first three are, it is the event.
-pub fn bad_field(four: &Four<'_>) -> BadField
-    ensures { result ≡ bad_field (four_seen four.now) }
-{
-    if reporter_of_field(four.first).is_none() {
-        BadField::Reporter
-    } else {
-        bad_field_of_call(four.second, four.third)
-    }
-}
-
-/// Returns whether a byte is a letter, a digit, a sign or the space of ASCII.
+/// Returns whether a byte is printable ASCII: a letter, a digit, a sign or the space.
 fn is_printed(b: u8) -> bool
     ensures { result ≡ is_printed b }
 {
     0x20 <= b && b <= 0x7e
 }
 
-/// Returns how many bytes of a text are shown.
+/// Returns how many bytes of the text of a bad row an answer shows: those before the first that is not printable ASCII, and at most 64.
+#[tactic(auto, using(crate::proofs::LiveShown::shown_at))]
 fn shown_length(text: &[u8]) -> usize
     ensures within { result ≤ length text.now }
     ensures shown { take result text.now ≡ shown_text text.now }
@@ -87,7 +80,8 @@ fn shown_length(text: &[u8]) -> usize
     text.len()
 }
 
-/// Returns a row as an answer shows it: up to its first byte that is not printable ASCII, and at most 64 bytes.
+/// Returns what an answer shows of the text of a bad row: the bytes before the first that is not printable ASCII, and at most 64.
+#[tactic(auto, using(crate::proofs::LiveShown::shown_utf8))]
 pub(crate) fn shown_text(text: &[u8]) -> &str
     ensures { result.now ≡ shown_text text.now }
 {

@@ -1,19 +1,55 @@
-//! How a program ends: what it prints on the error sink, and its exit status.
+//! How a program ends: what it prints on the error sink, which stands for standard error, and its exit status. A run that failed has a
+//! `RunFault`, and each of these has a line of text and a status. In contracts `taken` are the bytes that a sink took, if known.
 
-ghost use Rattle.std.specs.Prelude.{◌≡◌};
-ghost use Rattle.ucl_rows.specs.Printing.{Prints};
+ghost use Rattle.std.specs.Prelude.{◌≡◌, ◌++◌, codes, true, OnOk, IfErr};
+ghost use Rattle.std.specs.Io.KnownBytes.{Appends};
+ghost use Rattle.ucl_rows.specs.Faults.{status};
+ghost use Rattle.ucl_rows.specs.Printing.{Prints, fault_line};
 ghost use Rattle.ucl_rows.specs.Ending.{Ends, ExitsWithoutCommand, ended_with};
+ghost use Rattle.ucl_rows.specs.Run.{IsStopped};
 
-use crate::fault::RunFault;
-use crate::output::put_text;
-use crate::printing::print_fault;
+use crate::fault::{RunFault, status_of};
+use crate::output::{put_text, put_under};
+use itoa::Buffer;
 use ucl_command::LineFault;
 use ucl_screen::Sink;
 
 /// The exit status if the arguments are refused.
 const REFUSED_ARGUMENTS: u8 = 2;
 
-/// Prints why the arguments are refused, as far as the error sink takes it, and returns the exit status.
+/// Writes a line: the texts `before`, `number` and `after`, and a line feed. `WriteFailed`, with a count of bytes, if the sink fails.
+#[tactic(auto, using(crate::proofs::NightParts::stopped_first, crate::proofs::NightParts::stopped_second))]
+fn put_line<W: Sink>(sink: &mut W, before: &str, number: &str, after: &str) -> Result<(), RunFault>
+    ensures all { OnOk result (Appends (W.taken sink.old) (W.taken sink.new)
+        ((before.now ++ number.now) ++ (after.now ++ codes "\n"))) }
+    ensures part { IfErr result (IsStopped 0 (W.failed sink.new)
+        (W.taken sink.old) (W.taken sink.new)
+        ((before.now ++ number.now) ++ (after.now ++ codes "\n"))) }
+    ensures sound { OnOk result (W.failed sink.new ≡ W.failed sink.old) }
+{
+    let written = put_under(sink, 0, before, number)?;
+    put_under(sink, written, after, "\n")?;
+    Ok(())
+}
+
+/// Prints the line of a fault, as far as the error sink takes it, and returns the exit status of the fault. No memory is taken.
+pub fn print_fault<E: Sink>(errors: &mut E, fault: RunFault) -> u8
+    ensures status { result ≡ status fault }
+    ensures told { Prints (E.failed errors.new) (E.taken errors.old) (E.taken errors.new)
+        (fault_line fault) }
+    ensures stays { E.failed errors.old ≡ true → E.failed errors.new ≡ true }
+{
+    let line = fault.line();
+    let mut buffer = Buffer::new();
+    let number = match line.number {
+        Some(number) => buffer.format(number),
+        None => "",
+    };
+    let _ = put_line(errors, line.before, number, line.after);
+    status_of(&fault)
+}
+
+/// Prints `text`, which says why the arguments are refused, as far as the error sink takes it, and returns exit status 2.
 pub fn print_refusal<E: Sink>(errors: &mut E, text: &str) -> u8
     ensures status { result ≡ 2 }
     ensures told { Prints (E.failed errors.new) (E.taken errors.old) (E.taken errors.new) text.now }
@@ -22,7 +58,7 @@ pub fn print_refusal<E: Sink>(errors: &mut E, text: &str) -> u8
     REFUSED_ARGUMENTS
 }
 
-/// Returns the exit status of what was done, and prints the line of a fault.
+/// Returns exit status 0 if a run succeeded; if it failed, prints the line of its fault and returns the status of that.
 pub fn ended<E: Sink>(errors: &mut E, done: Result<(), RunFault>) -> u8
     ensures { Ends done (ended_with E.failed E.taken result errors.old errors.new) }
 {
@@ -32,8 +68,8 @@ pub fn ended<E: Sink>(errors: &mut E, done: Result<(), RunFault>) -> u8
     }
 }
 
-/// Returns the exit status if the arguments ask for no command. Help goes to the output, and ends as a command that was done; a refusal, or lack
-/// of memory, is printed on the error sink.
+/// Ends a program whose arguments name nothing to do, and returns the exit status. Help is written to `sink`, with status 0 unless that
+/// fails; a refusal, or lack of memory, is printed on the error sink.
 pub fn exit_without_command<W: Sink, E: Sink>(sink: &mut W, errors: &mut E, fault: LineFault) -> u8
     ensures { ExitsWithoutCommand W.failed W.taken fault sink.old sink.new
         (ended_with E.failed E.taken result errors.old errors.new) }

@@ -1,4 +1,5 @@
-//! Why a run fails.
+//! `RunFault`: why a run of a program fails. Each fault has a code, 10 to 31, a line for standard error and an exit status. A driver is
+//! `ucl_io::serve_lines`, which reads lines, has a handler answer them, and writes the answers.
 
 ghost use Rattle.std.specs.Prelude.{◌≡◌, Some};
 ghost use Rattle.ucl_rows.specs.declared.fault.RunFault.TheVariants.{OutOfMemory, TooManyReporters, Strangers};
@@ -11,7 +12,7 @@ use std::{error, fmt};
 use ucl_io::ServeFault;
 use ucl_screen::{FaultLine, InputFault};
 
-/// Why a run failed. Its text is the line that the program writes to standard error.
+/// Why a run of a program failed. Its text is the line that the program writes to standard error. The numbers are the codes of the faults.
 #[derive(Clone, Copy, Debug, PartialEq, Eq)]
 pub enum RunFault {
     /// 10, 20 to 22 and 24: the input was refused, or could not be read.
@@ -20,18 +21,18 @@ pub enum RunFault {
     OutOfMemory,
     /// 26: the output failed, and took exactly the first `written` bytes of the text.
     WriteFailed { written: usize },
-    /// 25: a row of a night is of a reporter other than 1 and 2. `row` is the first such row, counted from 1.
+    /// 25: a row of the script of two reporters is of one other than 1 and 2. `row` is the first such row, counted from 1.
     NotOnDuty { row: usize },
-    /// 27: no thread could be had for a worker of a night or of a session.
+    /// 27: a thread could not be started.
     NoThread,
-    /// 30: the board has no number left for a reporter.
+    /// 30: the board has given all 255 numbers of reporters.
     TooManyReporters,
-    /// 31: the board has events of a reporter that is none of the night or of the session. `version` is that of the reading that was taken.
+    /// 31: the board has events of a reporter who takes no part in the run. `version` is how many events it had when it was read.
     Strangers { version: u16 },
 }
 
 impl RunFault {
-    /// Returns the line that the program writes to standard error, without its line feed.
+    /// Returns the line that the program writes to standard error for this fault, without its line feed.
     pub(crate) fn line(&self) -> FaultLine
         ensures { line_text result ≡ fault_text self.now }
     {
@@ -54,6 +55,7 @@ impl RunFault {
 impl fmt::Display for RunFault {
     ghost output = { λ fault. Some (fault_text fault) };
 
+    /// Writes the line of the fault, without its line feed.
     fn fmt<W: fmt::Write>(&self, f: &mut fmt::Formatter<W>) -> fmt::Result {
         let line = self.line();
         write!(f, "{line}")
@@ -62,10 +64,10 @@ impl fmt::Display for RunFault {
 
 impl error::Error for RunFault {}
 
-/// A fault of the input is handed on, and lack of memory there is lack of memory of the run.
 impl From<InputFault> for RunFault {
     ghost from_gives = { λ fault f. f ≡ handed_on fault };
 
+    /// Returns `OutOfMemory` for lack of memory while the input was read, and `Input` with the fault for any other.
     fn from(fault: InputFault) -> RunFault {
         match fault {
             InputFault::OutOfMemory => RunFault::OutOfMemory,
@@ -77,6 +79,7 @@ impl From<InputFault> for RunFault {
 impl From<AllocError> for RunFault {
     ghost from_gives = { λ _ f. f ≡ OutOfMemory };
 
+    /// Returns `OutOfMemory`.
     fn from(_error: AllocError) -> RunFault {
         RunFault::OutOfMemory
     }
@@ -85,15 +88,16 @@ impl From<AllocError> for RunFault {
 impl From<ucl_word::OutOfMemory> for RunFault {
     ghost from_gives = { λ _ f. f ≡ OutOfMemory };
 
+    /// Returns `OutOfMemory`.
     fn from(_error: ucl_word::OutOfMemory) -> RunFault {
         RunFault::OutOfMemory
     }
 }
 
-/// The pass that came back is dropped.
 impl<P: Drop> From<ucl_live_board::TooManyReporters<P>> for RunFault {
     ghost from_gives = { λ _ f. f ≡ TooManyReporters };
 
+    /// Returns `TooManyReporters`. The pass (a thread's permission on a board) that the error hands back is dropped.
     fn from(_error: ucl_live_board::TooManyReporters<P>) -> RunFault {
         RunFault::TooManyReporters
     }
@@ -102,6 +106,7 @@ impl<P: Drop> From<ucl_live_board::TooManyReporters<P>> for RunFault {
 impl From<ucl_live_board::Strangers> for RunFault {
     ghost from_gives = { λ error f. f ≡ Strangers error.version };
 
+    /// Returns `Strangers` with the version that the error has.
     fn from(error: ucl_live_board::Strangers) -> RunFault {
         RunFault::Strangers {
             version: error.version,
@@ -109,7 +114,7 @@ impl From<ucl_live_board::Strangers> for RunFault {
     }
 }
 
-/// Returns the fault of a run whose lines a driver hands to a handler: that of the handler, or one of a run.
+/// Turns the fault of a driver into one of its handler: the handler's own fault as it is, and any other from the `RunFault` for it.
 pub fn of_driver<F: From<RunFault>>(fault: ServeFault<F>) -> F
     ensures { IsOfDriver F.from_gives fault result }
 {
@@ -123,8 +128,8 @@ pub fn of_driver<F: From<RunFault>>(fault: ServeFault<F>) -> F
     }
 }
 
-/// Returns the exit status of the program for a fault: 3 if the input was refused, 4 if reading or writing failed, 5 where
-/// there was no memory or no thread, and 6 where a board refused its reporters.
+/// Returns the exit status of the program for a fault: 3 if the input was refused, 4 if reading or writing failed, 5 if there was no
+/// memory or no thread, and 6 if a board refused its reporters.
 pub fn status_of(fault: &RunFault) -> u8
     ensures { result ≡ status fault.now }
 {

@@ -1,7 +1,7 @@
-//! What a line says.
+//! Reading a line: the row on it, as the crate `csv` reads in its default dialect. A line with more than 256 bytes before its end is not
+//! read, and counts as one of several rows. In contracts `said_on` is what a line says: nothing, four fields, or something else.
 
-ghost use Rattle.std.specs.Prelude.{◌≡◌, ◌∷◌, [], ◌++◌, option_map, IfSome};
-ghost use Rattle.csv.specs.Records.{field_at};
+ghost use Rattle.std.specs.Prelude.{◌≡◌, ◌∷◌, [], ◌++◌, IfSome};
 ghost use Rattle.ucl_screen.specs.Rows.{four_seen};
 ghost use Rattle.ucl_rows.specs.Reading.{HoldsRow, fields_read, row_in};
 ghost use Rattle.ucl_rows.specs.Rows.{OneRow, Row, fields_seen, fits, row_on, said_of, said_on};
@@ -14,14 +14,14 @@ use ucl_screen::Four;
 /// The most bytes of a line before its end.
 const MAX_ROW_BYTES: usize = 256;
 
-/// Reads lines, one after the other, as the crate `csv` reads in its default dialect.
+/// A reader of lines, one after the other, that keeps the fields of the last row.
 #[derive(Drop)]
 pub struct LineReader {
     text: ArrayVec<u8, MAX_ROW_LINE_BYTES>,
     fields: Fields,
 }
 
-/// Returns whether a line has at most 256 bytes before its end. Its line feed is not with it.
+/// Returns whether a line, given without its line feed, has at most 256 bytes before its end, to which a last carriage return belongs.
 fn fits(line: &[u8]) -> bool
     ensures { result ≡ fits (line.now ++ 10 ∷ []) }
 {
@@ -33,8 +33,8 @@ fn fits(line: &[u8]) -> bool
     }
 }
 
-/// Returns the fields of a line that has this number, if it is a row of four fields and none is in quotes. The first line may begin with
-/// a byte order mark: for it the answer is `None`.
+/// Returns the fields of the line with this number, if it is a row of four fields without quotes. For any other line, and for line 1, which
+/// may begin with a byte order mark, the answer is `None`.
 #[tactic(auto, using(crate::proofs::RowEnds::said_plain))]
 pub fn plain_row(row: u64, line: &[u8]) -> Option<Four<'_>>
     ensures { IfSome result (λ four. said_on row line.now ≡ Row (four_seen four)) }
@@ -55,7 +55,7 @@ impl LineReader {
         }
     }
 
-    /// Reads a line that has this number, with the line feed that it comes without.
+    /// Reads the line with this number, given without its line feed, keeps the fields of its first row, and returns how many rows it has.
     #[tactic(auto, unfolding(crate::specs::Rows::row_by_text))]
     pub fn read(&mut self, row: u64, line: &[u8]) -> RowCount
         ensures read { HoldsRow self.new }
@@ -75,15 +75,7 @@ impl LineReader {
         }
     }
 
-    /// Returns a field of the row that was read, counted from 0.
-    pub fn field(&self, index: usize) -> Option<&[u8]>
-        requires { HoldsRow self.now }
-        ensures { option_map (λ f. f.now) result ≡ field_at (fields_read self.now) index }
-    {
-        self.fields.field(index)
-    }
-
-    /// Returns the fields of the row that was read.
+    /// Returns the fields of the row that was read last: `Four` if they are four, and else `Other`.
     pub fn row(&self) -> RowFields<'_>
         requires { HoldsRow self.now }
         ensures { fields_seen result ≡ said_of (OneRow (fields_read self.now)) }

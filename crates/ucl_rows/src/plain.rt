@@ -1,4 +1,4 @@
-//! The fields of a row that has no quotes, read where they lie.
+//! The fields of a row that has no quotes, read where they lie. Commas, quotes, carriage returns and line feeds end one.
 
 ghost use Rattle.std.specs.Prelude.{◌≡◌, ◌≤◌, ◌++◌, [], ◌∷◌, IfSome, length, take};
 ghost use Rattle.csv.specs.Reading.{default_config, records};
@@ -9,14 +9,15 @@ ghost use Rattle.ucl_rows.specs.Reading.{EndsRow, IsFieldBefore, AreJoining, is_
 use crate::row::without_ends;
 use ucl_screen::Four;
 
-/// Returns whether a byte joins a field that is not in quotes.
+/// Returns whether a byte can stand in a field without quotes.
 fn is_joining(b: u8) -> bool
     ensures { result ≡ is_joining b }
 {
     b != b',' && b != b'"' && b != b'\r' && b != b'\n'
 }
 
-/// Returns how many bytes at the start of a text join its first field, where this is not in quotes.
+/// Returns how many bytes of a text come before its first comma, quote, carriage return or line feed, or all if it has none.
+#[tactic(auto, using(crate::proofs::RowEnds::joining_more))]
 fn field_length(text: &[u8]) -> usize
     ensures within { result ≤ length text.now }
     ensures joining { AreJoining (take result text.now) }
@@ -29,7 +30,7 @@ fn field_length(text: &[u8]) -> usize
     text.len()
 }
 
-/// Returns the first field of a line, which ends at a comma and is not in quotes, and what comes after the comma.
+/// Returns the first field of a line and what comes after its comma, or `None` if something else than a comma ends the field.
 fn halves(text: &[u8]) -> Option<(&[u8], &[u8])>
     ensures { IfSome result
         (λ p. IsFieldBefore (text.now ++ 10 ∷ []) p.0.now (p.1.now ++ 10 ∷ [])) }
@@ -42,7 +43,7 @@ fn halves(text: &[u8]) -> Option<(&[u8], &[u8])>
     }
 }
 
-/// Returns the last field of a row, which is not in quotes and has nothing but ends of lines behind it.
+/// Returns the first field of a text if nothing but carriage returns and line feeds come after it, or else `None`.
 fn last_field(text: &[u8]) -> Option<&[u8]>
     ensures { IfSome result (λ field. EndsRow (text.now ++ 10 ∷ []) field.now) }
 {
@@ -54,7 +55,7 @@ fn last_field(text: &[u8]) -> Option<&[u8]>
     }
 }
 
-/// Returns the fields of a line that is one row of four fields of which none is in quotes. Its line feed is not with it.
+/// Returns the fields of a line, given without its line feed, if it is one row of four fields without quotes, and else `None`.
 pub(crate) fn plain_four(text: &[u8]) -> Option<Four<'_>>
     ensures { IfSome result (λ four.
         of_rows (records default_config (text.now ++ 10 ∷ [])) ≡ Row (four_seen four)) }

@@ -1,4 +1,5 @@
-//! The fields of a row, read byte by byte.
+//! The fields of a row, read byte by byte as the crate `csv` does, which calls a row a record. A field that has begun and not ended is the
+//! open field; a line end is a carriage return or a line feed. In contracts `Rising` says that the ends of the fields lie in their order.
 
 ghost use Rattle.std.specs.Prelude.{◌≡◌, ℕ, List, ◌+◌, ◌-◌, ◌<◌, ◌≤◌, ◌++◌, [], ◌∷◌, length, drop, take, Some, option_map};
 ghost use Rattle.csv.specs.Machine.{next_record, step};
@@ -16,10 +17,10 @@ use ucl_screen::Four;
 /// The most bytes that are read of a line: 256, and the two of its end.
 pub const MAX_ROW_LINE_BYTES: usize = 258;
 
-/// The most fields that so many bytes have.
+/// The most fields that a line of 258 bytes has: one more than its bytes.
 const MAX_FIELDS: usize = 259;
 
-/// The state of the reading of a row.
+/// Where the reading of a row stands: before a field, in one, in quotes, or behind a quote within quotes.
 #[derive(Clone, Copy, Debug, PartialEq, Eq)]
 pub(crate) enum RowState {
     StartField,
@@ -28,40 +29,40 @@ pub(crate) enum RowState {
     AfterQuote,
 }
 
-/// What a byte does.
+/// What a byte does to the row that is read.
 #[derive(Clone, Copy, Debug, PartialEq, Eq)]
 pub(crate) enum RowAction {
-    /// It joins the field at hand.
+    /// The byte joins the open field, and this state follows.
     Copy(RowState),
-    /// It is passed over.
+    /// The byte is passed over, and this state follows.
     Skip(RowState),
-    /// It ends a field.
+    /// The byte ends the open field.
     EndField,
-    /// It ends the record.
+    /// The byte ends the open field and the row.
     EndRecord,
 }
 
-/// The fields of a row.
+/// The fields of a row, if they are four.
 #[derive(Clone, Copy)]
 pub enum RowFields<'a> {
-    /// They are four.
+    /// The row has these four fields.
     Four(Four<'a>),
-    /// They are fewer, or more.
+    /// The row has fewer fields, or more.
     Other,
 }
 
 /// How many rows a line has.
 #[derive(Clone, Copy, Debug, PartialEq, Eq)]
 pub enum RowCount {
-    /// None.
+    /// No row.
     Nothing,
-    /// One.
+    /// One row.
     One,
-    /// Several, or a line that is too long to be read.
+    /// Several rows, or the line is too long to be read.
     More,
 }
 
-/// Returns what a byte does.
+/// Returns what the byte `b` does to a row whose reading is in this state.
 fn action_of(state: RowState, b: u8) -> RowAction
     ensures { step default_config (csv_state_of state) b ≡ csv_step_of b result }
 {
@@ -78,7 +79,8 @@ fn action_of(state: RowState, b: u8) -> RowAction
     }
 }
 
-/// Returns a line without a byte order mark at its start.
+/// Returns a line without the UTF-8 byte order mark that it may begin with.
+#[tactic(auto, using(crate::proofs::RowEnds::unmarked))]
 pub(crate) fn without_mark(line: &[u8]) -> &[u8]
     ensures text { result.now ≡ strip_bom line.now }
     ensures shorter { length result.now ≤ length line.now }
@@ -90,7 +92,7 @@ pub(crate) fn without_mark(line: &[u8]) -> &[u8]
     }
 }
 
-/// Returns the bytes of a text from one place to another.
+/// Returns the bytes of a text from index `start` up to index `end`, which is not included.
 fn part(bytes: &[u8], start: u16, end: u16) -> &[u8]
     requires { (start ≤ end) × (end ≤ length bytes.now) }
     ensures { result.now ≡ take (end - start) (drop start bytes.now) }
@@ -98,7 +100,7 @@ fn part(bytes: &[u8], start: u16, end: u16) -> &[u8]
     &bytes[usize::from(start)..usize::from(end)]
 }
 
-/// Returns where the field at an index begins, in fields joined without separators: where the one before it ends, or 0.
+/// Returns where the field at an index begins, if fields lie one after the other and end at these places.
 fn start_of(ends: &[u16], index: usize) -> u16
     requires { index < length ends.now }
     ensures { result ≡ prev 0 ends.now index }
@@ -109,7 +111,7 @@ fn start_of(ends: &[u16], index: usize) -> u16
     ends[index - 1]
 }
 
-/// Returns what comes after the line ends at the start of a text.
+/// Returns a text without the carriage returns and line feeds at its start.
 pub(crate) fn without_ends(text: &[u8]) -> &[u8]
     ensures behind { IsBehindEnds text.now result.now }
     ensures shorter { length result.now ≤ length text.now }
@@ -123,7 +125,7 @@ pub(crate) fn without_ends(text: &[u8]) -> &[u8]
     &text[text.len()..]
 }
 
-/// The fields of a row: their bytes, and where each ends.
+/// The fields of a row: the bytes of all, one after the other without separators, and where each ends.
 #[derive(Drop)]
 pub(crate) struct Fields {
     bytes: ArrayVec<u8, MAX_ROW_LINE_BYTES>,
@@ -131,7 +133,7 @@ pub(crate) struct Fields {
 }
 
 impl Fields {
-    /// Creates a record with no field.
+    /// Creates the fields of a row that has none.
     pub(crate) fn new() -> Fields {
         Fields {
             bytes: ArrayVec::new(),
@@ -139,15 +141,19 @@ impl Fields {
         }
     }
 
-    /// Forgets the fields.
+    /// Removes all fields, so that there is none and the open field is empty.
+    #[tactic(auto, using(crate::proofs::RowEnds::none_rising))]
     pub(crate) fn clear(&mut self)
-        ensures { Rising 0 self.new.ends.items (length self.new.bytes.items) }
+        ensures bytes { self.new.bytes.items ≡ [] }
+        ensures ends { self.new.ends.items ≡ [] }
+        ensures rising { Rising 0 self.new.ends.items (length self.new.bytes.items) }
     {
         self.bytes.clear();
         self.ends.clear();
     }
 
-    /// Ends the field at hand.
+    /// Ends the open field, which joins the fields; the open field is empty then.
+    #[tactic(auto, using(crate::proofs::RowEnds::field_ended))]
     fn end_field(&mut self)
         requires room { length self.old.ends.items < 259 }
         requires rising { Rising 0 self.old.ends.items (length self.old.bytes.items) }
@@ -161,7 +167,8 @@ impl Fields {
         self.ends.push(end);
     }
 
-    /// Puts a byte after the field at hand.
+    /// Adds a byte to the open field.
+    #[tactic(auto, using(crate::proofs::RowEnds::field_pushed))]
     fn push(&mut self, b: u8)
         requires room { length self.old.bytes.items < 258 }
         requires rising { Rising 0 self.old.ends.items (length self.old.bytes.items) }
@@ -174,7 +181,7 @@ impl Fields {
         self.bytes.push(b);
     }
 
-    /// Applies the action of a byte, and returns the state of the reading then: none if the record has ended.
+    /// Applies the action of the byte `b` to the row, and returns the next state, or `None` if the row has ended.
     fn act(&mut self, action: RowAction, b: u8) -> Option<RowState>
         requires ends { length self.old.ends.items < 259 }
         requires bytes { length self.old.bytes.items < 258 }
@@ -202,7 +209,7 @@ impl Fields {
         }
     }
 
-    /// Reads the first record of a text, which begins with a field, and returns how many bytes it has with its end.
+    /// Reads the first row of a text that does not begin with a line end, keeps its fields, and returns how many bytes it has with its end.
     fn fill(&mut self, text: &[u8]) -> usize
         requires { length text.now ≤ 258 }
         ensures within { result ≤ length text.now }
@@ -210,8 +217,7 @@ impl Fields {
         ensures record { (s : State) × (next_record default_config st.StartField
             [] [] text.now ≡ Some (fields_in self.new, s, drop result text.now)) }
     {
-        self.bytes.clear();
-        self.ends.clear();
+        self.clear();
         let mut state = RowState::StartField;
         for at in 0..text.len() {
             let b = text[at];
@@ -224,7 +230,7 @@ impl Fields {
         text.len()
     }
 
-    /// Reads the rows of a text, of which only the first is kept.
+    /// Returns how many rows a text has, and keeps the fields of the first.
     pub(crate) fn read(&mut self, text: &[u8]) -> RowCount
         requires { length text.now ≤ 258 }
         ensures rising { Rising 0 self.new.ends.items (length self.new.bytes.items) }
@@ -232,8 +238,7 @@ impl Fields {
     {
         let text = without_ends(text);
         if text.is_empty() {
-            self.bytes.clear();
-            self.ends.clear();
+            self.clear();
             return RowCount::Nothing;
         }
         let at = self.fill(text);
@@ -244,7 +249,7 @@ impl Fields {
         }
     }
 
-    /// Returns a field, counted from 0.
+    /// Returns the field at an index, counted from 0, or `None` if there are not so many.
     pub(crate) fn field(&self, index: usize) -> Option<&[u8]>
         requires { Rising 0 self.now.ends.items (length self.now.bytes.items) }
         ensures { option_map (λ f. f.now) result ≡ field_at (fields_in self.now) index }
@@ -257,7 +262,7 @@ impl Fields {
         Some(part(self.bytes.as_slice(), start, ends[index]))
     }
 
-    /// Returns the fields, if they are four.
+    /// Returns the fields if they are four, and else `None`.
     #[tactic(auto, using(ucl_screen::proofs::RowFacts::four_by))]
     fn four(&self) -> Option<Four<'_>>
         requires { Rising 0 self.now.ends.items (length self.now.bytes.items) }
@@ -278,7 +283,7 @@ impl Fields {
         }
     }
 
-    /// Returns the fields, if they are four.
+    /// Returns `Four` with the fields if they are four, and else `Other`.
     pub(crate) fn row(&self) -> RowFields<'_>
         requires { Rising 0 self.now.ends.items (length self.now.bytes.items) }
         ensures { fields_seen result ≡ said_of (OneRow (fields_in self.now)) }

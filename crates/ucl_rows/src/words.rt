@@ -1,4 +1,5 @@
-//! The word lines of a board. They ask for no memory.
+//! The word lines of a board, one for each of its twelve matches: `word,INDEX,HEX,`, in which HEX is the match word, the match packed into
+//! 64 bits. They ask for no memory.
 
 ghost use Rattle.std.specs.Prelude.{◌≡◌, ◌+◌, ◌<◌, ◌≤◌, ◌++◌, [], false, length};
 ghost use Rattle.std.specs.Fmt.{digit_glyph};
@@ -9,13 +10,13 @@ use arrayvec::ArrayVec;
 use itoa::Buffer;
 use ucl_board::Board;
 
-/// The most bytes of twelve lines, of which none has more than 27.
+/// The most bytes of twelve word lines, of which none has more than 27.
 const MAX_WORDS_BYTES: usize = 324;
 
-/// The word lines of a board, or the first of them.
-pub type Lines = ArrayVec<u8, MAX_WORDS_BYTES>;
+/// The text of the twelve word lines of a board, or of the first of them.
+pub type WordLines = ArrayVec<u8, MAX_WORDS_BYTES>;
 
-/// Returns a hexadecimal digit.
+/// Returns the lower-case hexadecimal digit of a number below 16.
 fn digit_of(n: u8) -> u8
     requires { n < 16 }
     ensures { result ≡ digit_glyph false n }
@@ -23,7 +24,7 @@ fn digit_of(n: u8) -> u8
     if n < 10 { b'0' + n } else { b'a' + (n - 10) }
 }
 
-/// Returns a word in sixteen hexadecimal digits.
+/// Returns the sixteen hexadecimal digits of a match word, the highest first.
 fn digits_of(word: u64) -> [u8; 16]
     ensures { result ≡ hex_digits word }
 {
@@ -38,18 +39,16 @@ fn digits_of(word: u64) -> [u8; 16]
     digits
 }
 
-/// Writes bytes, for which there is room.
-fn push(out: &mut Lines, bytes: &[u8])
+/// Adds bytes to lines that have room for them.
+fn push(out: &mut WordLines, bytes: &[u8])
     requires { length out.old.items + length bytes.now ≤ 324 }
     ensures { out.new.items ≡ out.old.items ++ bytes.now }
 {
-    for b in bytes {
-        out.push(*b);
-    }
+    let _fits = out.try_extend_from_slice(bytes);
 }
 
-/// Writes the line of a match word.
-fn push_word(out: &mut Lines, index: u8, word: u64)
+/// Adds the line of the match word with this index.
+fn push_word(out: &mut WordLines, index: u8, word: u64)
     requires { length out.old.items + 27 ≤ 324 }
     ensures text { out.new.items ≡ out.old.items ++ word_line index word }
     ensures short { length out.new.items ≤ length out.old.items + 27 }
@@ -61,8 +60,8 @@ fn push_word(out: &mut Lines, index: u8, word: u64)
     push(out, ",\n".as_bytes());
 }
 
-/// Writes a line for each match word. The first has index 1.
-fn push_words(out: &mut Lines, words: &[u64])
+/// Adds the line of each match word, the first with index 1.
+fn push_words(out: &mut WordLines, words: &[u64])
     requires few { length words.now ≤ 12 }
     requires empty { out.old.items ≡ [] }
     ensures { out.new.items ≡ word_lines 1 words.now }
@@ -74,8 +73,8 @@ fn push_words(out: &mut Lines, words: &[u64])
     }
 }
 
-/// Returns the word lines of a board, from which a session can continue it. They ask for no memory.
-pub fn word_lines(board: &Board) -> Lines
+/// Returns the twelve word lines of a board, from which the board can be read again. They ask for no memory.
+pub fn word_lines(board: &Board) -> WordLines
     ensures { result.items ≡ word_lines 1 board.now }
 {
     let mut out = ArrayVec::new();

@@ -1,4 +1,4 @@
-//! What `ucl_follow` tells of itself.
+//! The texts of the help of `ucl_follow`. A moment is the state of a board at one time; its order is the tie-break order of the clubs.
 
 /// What the program is.
 pub(crate) const PROGRAM: &str = "\
@@ -37,17 +37,17 @@ Examples:
 
 docs/REFERENCE.md has rows, answers and all codes; docs/RULES.md has the rules.";
 
-/// What `--group` does.
+/// The help of the option `--group`.
 pub(crate) const GROUP: &str = "\
 Follows this group alone; that of the first moment
 without it";
 
-/// What `--order` does.
+/// The help of the option `--order`.
 pub(crate) const ORDER: &str = "\
 Follows boards of this order of the clubs alone; that
 of the first moment without it";
 
-/// What `--matches` does.
+/// The help of the option `--matches`.
 pub(crate) const MATCHES: &str = "\
 Writes the twelve matches in place of each screen; does
 not go with --format";

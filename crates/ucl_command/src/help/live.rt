@@ -1,4 +1,4 @@
-//! What `ucl_live` tells of itself.
+//! The texts of the help of `ucl_live`. The order is the tie-break order of the clubs; a word is a match packed into 64 bits.
 
 /// What the program is.
 pub(crate) const PROGRAM: &str = "\
@@ -57,16 +57,16 @@ Examples:
 
 docs/REFERENCE.md has rows, answers and all codes; docs/RULES.md has the rules.";
 
-/// What `--group` is.
+/// The help of the option `--group`.
 pub(crate) const GROUP: &str = "\
 The letter of the group; A, where no first row says
 one";
 
-/// What `--order` is.
+/// The help of the option `--order`.
 pub(crate) const ORDER: &str = "\
 The order of the clubs: that of the Regulations, or
 with away goals among tied clubs; uefa, where no first
 row says one";
 
-/// What `--screens` does.
+/// The help of the option `--screens`.
 pub(crate) const SCREENS: &str = "Writes the screen after each accepted event";

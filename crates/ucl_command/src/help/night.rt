@@ -1,4 +1,4 @@
-//! What `ucl_night` tells of itself.
+//! The texts of the help of `ucl_night` and its subcommands. A word is a match packed into 64 bits; a reading is a snapshot of the board.
 
 /// What the program is.
 pub(crate) const PROGRAM: &str = "\
@@ -32,10 +32,10 @@ Examples:
 
 docs/REFERENCE.md has rows, answers and all codes; docs/RULES.md has the rules.";
 
-/// What `feed` does.
+/// What the subcommand `feed` does.
 pub(crate) const FEED: &str = "Enters a script, and writes a reply for each event";
 
-/// What `feed` takes and writes.
+/// What the subcommand `feed` takes and writes.
 pub(crate) const FEED_MORE: &str = "\
 Input, a script: rows of four fields separated by commas, with no header row
   club,SLOT,NAME,COEFFICIENT     rows 1 to 4: the clubs of slots 1 to 4, as
@@ -60,10 +60,10 @@ Output:
 Example:
   ucl_night feed < examples/one_goal.csv";
 
-/// What `show` does.
+/// What the subcommand `show` does.
 pub(crate) const SHOW: &str = "Writes the screen of a board that was written down";
 
-/// What `show` takes.
+/// What the subcommand `show` takes.
 pub(crate) const SHOW_MORE: &str = "\
 Input, a sheet: rows of four fields separated by commas, with no header row
   club,SLOT,NAME,COEFFICIENT     rows 1 to 4, as in a script
@@ -73,11 +73,11 @@ Input, a sheet: rows of four fields separated by commas, with no header row
 Example:
   ucl_night show --group B < examples/two_matches_sheet.csv";
 
-/// What `night` does.
+/// What the subcommand `night` does.
 pub(crate) const NIGHT: &str =
     "Enters a script by two reporters in threads, and writes the screens";
 
-/// What `night` takes and writes.
+/// What the subcommand `night` takes and writes.
 pub(crate) const NIGHT_MORE: &str = "\
 Input: a script, as `feed` takes it, whose reporters are 1 and 2
 

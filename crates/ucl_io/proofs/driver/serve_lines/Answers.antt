@@ -3,7 +3,7 @@ use Rattle.std.proofs.lemmas.List.{length-take}
 use Rattle.std.proofs.lemmas.Result.{err_from_is_err_and}
 use Rattle.ucl_io.specs.Output.{Waiting}
 use Rattle.std.proofs.lemmas.Bool.{false_from_ne_true}
-use Rattle.ucl_io.proofs.Runs.{row_low, run_ended, run_ends_badly, run_read_failed, run_stopped, run_too_long, standing_first, standing_then}
+use Rattle.ucl_io.proofs.Turns.{row_low, run_ended, run_ends_badly, run_read_failed, run_stopped, run_too_long, standing_first, standing_then}
 use Rattle.ucl_io.proofs.driver.serve_lines.Goals as goal
 
 pub pieces-init : goal.pieces-init

@@ -1,6 +1,6 @@
 use Rattle.std.proofs.Common.{◌≡◌, ◌⊎◌, ◌-◌, ◌+◌, ◌^◌, ◌≤◌, length, false}
 use Rattle.ucl_io.specs.Serving.{rules_of, seen}
-use Rattle.ucl_io.proofs.Runs.{Standing}
+use Rattle.ucl_io.proofs.Turns.{Standing}
 use Rattle.ucl_io.proofs.driver.serve_lines.Given as goal
 
 abbrev pub invariant-pieces : goal.invariant-pieces

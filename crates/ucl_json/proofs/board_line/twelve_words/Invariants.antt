@@ -1,11 +1,12 @@
-use Rattle.std.proofs.Common.{◌≡◌, Some, length, take}
+use Rattle.std.proofs.Common.{◌≡◌, drop, length}
 use Rattle.std.specs.Prelude.{map}
 use Rattle.serde_json.specs.View.{view}
 use Rattle.ucl_json.specs.BoardLines.{parse_each, parse_word}
+use Rattle.ucl_json.proofs.Members.{read_with}
 use Rattle.ucl_json.proofs.board_line.twelve_words.Given as goal
 
 abbrev pub invariant-loop-value : goal.invariant-loop-value
 invariant-loop-value l = record {
   count : length l.words.items ≡ l.value-index;
-  parsed : parse_each parse_word (map view (take l.value-index l.values)) ≡ Some l.words.items;
+  parsed : read_with parse_word l.words.items (drop l.value-index l.values) ≡ parse_each parse_word (map view l.values);
 }

@@ -1,11 +1,11 @@
 use Rattle.ucl_rows.proofs.Common.{None, Some, after_end, arith, drop-length, field_in, get_or, sym, ◌∙◌}
-use Rattle.ucl_rows.proofs.RowEnds.{fill-end, fill-step, no-fields, none-rising}
+use Rattle.ucl_rows.proofs.RowEnds.{fill-end, fill-step, no_fields, none_rising}
 use Rattle.csv.specs.declared.parser.State.TheVariants as st
 use Rattle.csv.specs.declared.parser.Terminator.TheVariants as term
 use Rattle.ucl_rows.proofs.row.Fields.fill.Goals as goal
 
 pub loop-at-init : goal.loop-at-init
-loop-at-init c = rw (c.clear-2.ensures, c.clear.ensures) (record { rising = none-rising; few_ends = omega arith; few_bytes = omega arith; same = no-fields c.args.text.now })
+loop-at-init c = rw (c.clear.ensures.ends, c.clear.ensures.bytes) (record { rising = none_rising; few_ends = omega arith; few_bytes = omega arith; same = no_fields c.args.text.now })
 
 pub returns-in-None-clause-record : goal.returns-in-None-clause-record
 returns-in-None-clause-record c =

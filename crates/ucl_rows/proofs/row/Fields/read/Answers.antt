@@ -1,9 +1,6 @@
 use Rattle.ucl_rows.proofs.Common.{arith, rest_of}
-use Rattle.ucl_rows.proofs.RowEnds.{empty-list, found-more, found-nothing, found-one, full-list, none-rising}
+use Rattle.ucl_rows.proofs.RowEnds.{empty-list, found-more, found-nothing, found-one, full-list}
 use Rattle.ucl_rows.proofs.row.Fields.read.Goals as goal
-
-pub returns-then-is_empty-clause-rising : goal.returns-then-is_empty-clause-rising
-returns-then-is_empty-clause-rising c = rw (c.clear-then-is_empty.ensures, c.clear.ensures) none-rising
 
 pub returns-then-is_empty-clause-found : goal.returns-then-is_empty-clause-found
 returns-then-is_empty-clause-found c =
