@@ -104,35 +104,28 @@ module _ (profile : Profile) (board : List ℕ) (roster : List NamedClub) (words
   unfolding row_of
   row_fits place low high = row_short roster (row place) is (within place low high) high
 
-  abbrev Fits : Row → Type 0
-  Fits r = length (row_line roster r) ≤ 54
-
-  rows_short : All Fits (rows_of profile board roster)
-  rows_short =
-      All-cons Fits (row 1) (row 2 ∷ row 3 ∷ row 4 ∷ []) (row_fits 1 (omega arith) (omega arith))
-      (All-cons Fits (row 2) (row 3 ∷ row 4 ∷ []) (row_fits 2 (omega arith) (omega arith))
-      (All-cons Fits (row 3) (row 4 ∷ []) (row_fits 3 (omega arith) (omega arith)) (All-cons Fits (row 4) [] (row_fits 4 (omega arith) (omega arith)) (All-nil Fits))))
-
   pub screen_short : (group : ℕ) → length (screen_text profile board roster group) ≤ 296
   unfolding screen_text
   screen_short group =
-      let twelve : length board ≡ 12 = words.twelve in
-      let top : List ℕ = header group (version_of board) (in_play board) in
-      let lines : List ℕ = flat_map (row_line roster) (rows_of profile board roster) in
-      let head : length top ≤ 26 = header_short group (version_of board) (in_play board) (version_low board twelve) (in_play_low board twelve) in
+      let head = header_short group (version_of board) (in_play board) (version_low board words.twelve) (in_play_low board words.twelve) in
       let names : length columns ≡ 54 = lines_wide.names in
-      let sum : sum_by (λ row. length (row_line roster row)) (rows_of profile board roster) ≤ 4 * 54 = sum_by-le (λ row. length (row_line roster row)) 54 (rows_of profile board roster) rows_short in
-      let long : length lines ≡ sum_by (λ row. length (row_line roster row)) (rows_of profile board roster) = length-flat_map (row_line roster) (rows_of profile board roster) in
-      let whole : length (top ++ columns ++ lines) ≡ length top + length columns + length lines = simp length-append in
-      omega arith
+      let one = row_fits 1 (omega arith) (omega arith) in
+      let two = row_fits 2 (omega arith) (omega arith) in
+      let three = row_fits 3 (omega arith) (omega arith) in
+      let four = row_fits 4 (omega arith) (omega arith) in
+      simp length-append (omega arith)
 
-pub screen_bound : (profile : Profile) (board : List ℕ) (roster : List NamedClub) (group : ℕ) (text : List ℕ)
-    → AreWords board → IsRoster roster → text ≡ screen_text profile board roster group → length text ≤ 296
-screen_bound profile board roster group text words good is = rw is (screen_short profile board roster words good group)
+-- ---- numbers
+
+by_sign : (t : Bool) (m n : ℕ) → m < 378 → n ≤ 378 → length (number_text (of_integer (cond t (negsuc m) (pos n)))) ≤ 4
+by_sign true m n low few = length_signed_le 3 (negsuc m) (omega arith) (omega arith)
+by_sign false m n low few = let l = length-decimal-le 3 n (omega arith) (omega arith) (omega arith) in omega arith
+
+pub difference_short : (a b : ℕ) → a ≤ 378 → b ≤ 378 → length (number_text (of_integer (pos a -ℤ pos b))) ≤ 4
+difference_short a zero h k = let l = length-decimal-le 3 (a + 0) (omega arith) (omega arith) (omega arith) in omega arith
+difference_short a (suc b) h k = by_sign (ltb a (suc b)) (suc b - suc a) (a - suc b) (omega arith) (omega arith)
 
 -- ---- how long the texts of values in JSON are
-
--- ---- values
 
 -- how many bytes the text of a value has
 abbrev mutual
@@ -180,16 +173,6 @@ mutual
       let one = sized d in
       let others = members_sized true ms in
       omega arith
-
--- ---- numbers
-
-by_sign : (t : Bool) (m n : ℕ) → m < 378 → n ≤ 378 → length (number_text (of_integer (cond t (negsuc m) (pos n)))) ≤ 4
-by_sign true m n low few = length_signed_le 3 (negsuc m) (omega arith) (omega arith)
-by_sign false m n low few = let l = length-decimal-le 3 n (omega arith) (omega arith) (omega arith) in omega arith
-
-pub difference_short : (a b : ℕ) → a ≤ 378 → b ≤ 378 → length (number_text (of_integer (pos a -ℤ pos b))) ≤ 4
-difference_short a zero h k = let l = length-decimal-le 3 (a + 0) (omega arith) (omega arith) (omega arith) in omega arith
-difference_short a (suc b) h k = by_sign (ltb a (suc b)) (suc b - suc a) (a - suc b) (omega arith) (omega arith)
 
 -- ---- printed bytes
 
@@ -389,7 +372,3 @@ line_short row profile board roster group fits words is letter =
     let same = sized value in
     let ends = length-append (compact_text value) (10 ∷ []) in
     omega arith
-
-pub line_bound : (row : ℕ) (profile : Profile) (board : List ℕ) (roster : List NamedClub) (group : ℕ) (line : List ℕ)
-    → row < 2 ^ 64 → AreWords board → IsRoster roster → IsGroup group → line ≡ json_line (screen_value row profile board roster group) → length line ≤ 1423
-line_bound row profile board roster group line fits words good letter is = rw is (line_short row profile board roster group fits words good letter)

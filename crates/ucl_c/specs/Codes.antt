@@ -1,5 +1,7 @@
--- The numbers by which C names states and marks, and the names of statuses.
-use Rattle.std.specs.Prelude.{ℕ, ◌==◌, if◌then◌else◌, List, [], ◌∷◌, Option, None, Some, codes}
+-- The numbers by which C names states and marks, the names of statuses, and a match in the form of C. A status is what a call of C returns:
+-- 0, or the number of a fault or of a refusal, which is a rule that refuses an event. A word is a match packed into 64 bits, and its record
+-- is what the word holds. The event number of a match is how many events it has had.
+use Rattle.std.specs.Prelude.{ℕ, ◌==◌, nat_lt, if◌then◌else◌, List, [], ◌∷◌, Option, None, Some, codes}
 use Rattle.ucl_word.specs.declared.record.State.{State}
 use Rattle.ucl_word.specs.declared.record.State.TheVariants.{Scheduled, InPlay, Finished}
 use Rattle.ucl_word.specs.declared.refusal.Refusal.{Refusal}
@@ -12,7 +14,7 @@ use Rattle.ucl_word.specs.Layout.{record_at, word_of}
 use Rattle.ucl_word.specs.Rules.{after}
 use Rattle.ucl_c.specs.declared.event.MatchOfC.{MatchOfC}
 
--- the names of statuses that no refusal has, as the command line writes them where it does
+-- the statuses that are no refusals, with their names
 abbrev pub names_of_statuses : List (ℕ × List ℕ)
 names_of_statuses =
     (0, codes "done")
@@ -24,49 +26,55 @@ names_of_statuses =
     ∷ (63, codes "not a reporter")
     ∷ []
 
+-- the name of a status in a list of numbers and names, or `None` if it is not there
 abbrev pub name_in : List (ℕ × List ℕ) → ℕ → Option (List ℕ)
 name_in [] status = None
 name_in (named ∷ later) status = if named.0 == status then Some named.1 else name_in later status
 
+-- the name of this refusal, or if there is none, of this status
 abbrev pub name_by : Option Refusal → ℕ → Option (List ℕ)
 name_by (Some refusal) status = Some (refusal_name refusal)
 name_by None status = name_in names_of_statuses status
 
--- the number of a refusal is its status, and its name that of the status
+-- the name of a status, which is a refusal or one of the others; `None` if the number is no status
 abbrev pub name_of_status : ℕ → Option (List ℕ)
 name_of_status status = name_by (refusal_with status 0) status
 
+-- the number of a mark of the table: 1 if a club is certain to be first or second, 2 if it is certain not to be, 0 if neither
 abbrev pub mark_code : Mark → ℕ
 mark_code Blank = 0
 mark_code Plus = 1
 mark_code Minus = 2
 
+-- the number of the state of a match: 0 scheduled, 1 in play, 2 finished
 abbrev pub state_code_in_c : State → ℕ
 state_code_in_c Scheduled = 0
 state_code_in_c InPlay = 1
 state_code_in_c Finished = 2
 
--- ---- the next word of a match, and how C sees a record
+-- in 16 bits, the event number that a reporter expects of a match: 65,535 stands for all that do not fit; no match has one over 4,095
+abbrev pub expected_told : ℕ → ℕ
+expected_told expected = if nat_lt expected 65536 then expected else 65535
 
--- the word of a record after an event of this reporter, where its kind is one
+-- the word of a match, of which this was the record, after an event of this reporter and this kind; 0 if there is no such kind
 abbrev pub word_after : MatchRecord → ℕ → Option Kind → ℕ
-word_after m reporter (Some kind) = word_of (after m reporter kind)
-word_after m reporter None = 0
+word_after game reporter (Some kind) = word_of (after game reporter kind)
+word_after game reporter None = 0
 
--- the word that comes after this one by an event
+-- the word that this word of a match becomes by an event of this reporter, whose kind has this code
 abbrev pub next_of : ℕ → ℕ → ℕ → ℕ
 next_of word reporter code = word_after (record_at word) reporter (kind_with code)
 
--- a record as C sees it
+-- the record of a match in the form of C
 abbrev pub match_seen : MatchRecord → MatchOfC
-match_seen m = record {
-  number = m.number;
-  state = state_code_in_c m.state;
-  home_goals = m.home_goals;
-  away_goals = m.away_goals;
-  home_yellows = m.home_yellows;
-  away_yellows = m.away_yellows;
-  home_expulsions = m.home_expulsions;
-  away_expulsions = m.away_expulsions;
-  reporter = m.reporter;
+match_seen game = record {
+  number = game.number;
+  state = state_code_in_c game.state;
+  home_goals = game.home_goals;
+  away_goals = game.away_goals;
+  home_yellows = game.home_yellows;
+  away_yellows = game.away_yellows;
+  home_expulsions = game.home_expulsions;
+  away_expulsions = game.away_expulsions;
+  reporter = game.reporter;
 }

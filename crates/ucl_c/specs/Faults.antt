@@ -1,4 +1,7 @@
--- Why a call is not done: which fault it returns, and by what number.
+-- Why a call of C is not done: `Option Fault` is the fault of some inputs, or none. A word is a match packed into 64 bits, of today's
+-- layout of the bits or of the first; twelve are a board. A script is text with rows for four clubs and then for events. A roster is four
+-- clubs, in slots 1 to 4. A profile is a set of tie-break rules. Room is what the caller has for an output. An event is stale if it names
+-- an event number (how many events a match has had) that is not the match's; it has found the match's.
 use Rattle.std.specs.Prelude.{ℕ, ◌==◌, ◌&&◌, nat_le, nat_lt, Bool, true, false, codes, List, [], ◌∷◌, length, map, Option, Some, None, option_map, unwrap_or, Result, Ok, Err}
 use Rattle.std.specs.Result.{result_err}
 use Rattle.ucl_word.specs.declared.event.Kind.{Kind}
@@ -13,11 +16,13 @@ use Rattle.ucl_screen.specs.declared.fault.InputFault.{InputFault}
 use Rattle.ucl_screen.specs.declared.fault.InputFault.TheVariants as input
 use Rattle.ucl_screen.specs.Script.{Script, night_of}
 use Rattle.ucl_screen.specs.WordsRead.{is_word, read_words}
+use Rattle.ucl_c.specs.Codes.{expected_told}
 use Rattle.ucl_c.specs.declared.fault.Fault.{Fault}
 use Rattle.ucl_c.specs.declared.fault.Fault.TheVariants.{Refused, BadWord, BadRow, BadRoster, OutOfMemory, TooLong, FullBoard, NoReporter, NoKind, NoProfile}
 use Rattle.ucl_c.specs.declared.fault.Fault.TheVariants.{NoGroup, NotTwelve, NotFour, NoRoom, NotFourRows, NoStatus, InUse, NoPass, NotAReader, NoMatch}
 use Rattle.ucl_c.specs.declared.fault.Fault.TheVariants.{NotAReporter}
 
+-- the number of a fault, which a call returns; that of a rule that refuses an event is the rule's
 abbrev pub fault_code : Fault → ℕ
 fault_code (Refused refusal) = refusal_code refusal
 fault_code (BadWord index) = 10
@@ -41,24 +46,24 @@ fault_code NotAReader = 61
 fault_code NoMatch = 62
 fault_code NotAReporter = 63
 
--- the status of a call: 0 where nothing is wrong
+-- the status of a call whose inputs have this fault: 0 if they have none
 abbrev pub status_with : Option Fault → ℕ
 status_with None = 0
 status_with (Some fault) = fault_code fault
 
--- the number that a stale event found, over what was there before; else that stays
+-- what is left where a call writes the number that a stale event found: that number; or at any other fault or none, what was there before
 abbrev pub found_with : Option Fault → ℕ → ℕ
 found_with (Some (Refused refusal)) before = unwrap_or (found_of refusal) before
 found_with _ before = before
 
--- what is written where a fault has a place, the word, the row or the slot, over what was there before; else that stays
+-- what is left where a call writes the word, row or slot that is wrong: its number; or at any other fault or none, what was there before
 abbrev pub place_with : Option Fault → ℕ → ℕ
 place_with (Some (BadWord index)) before = index
 place_with (Some (BadRow row)) before = row
 place_with (Some (BadRoster slot)) before = slot
 place_with _ before = before
 
--- the first fault of inputs that are judged in turn
+-- the first fault of inputs that are judged in turn, if one of them has a fault
 abbrev pub first_fault : List (Option Fault) → Option Fault
 first_fault [] = None
 first_fault (None ∷ later) = first_fault later
@@ -66,47 +71,53 @@ first_fault (Some fault ∷ later) = Some fault
 
 -- One input. --
 
+-- this fault, unless a test holds
 abbrev pub fault_unless : Bool → Fault → Option Fault
 fault_unless true fault = None
 fault_unless false fault = Some fault
 
--- a number that stands for nothing
+-- this fault, if there is no value, since a code or a number stands for nothing
 abbrev pub fault_if_none : {A : Type 0} → Option A → Fault → Option Fault
 fault_if_none (Some x) fault = None
 fault_if_none None fault = Some fault
 
+-- `NoKind` if no kind of event has this code
 abbrev pub fault_of_kind : ℕ → Option Fault
 fault_of_kind code = fault_if_none (kind_with code) NoKind
 
+-- `NoProfile` if no profile, which is a set of tie-break rules, has this code
 abbrev pub fault_of_profile : ℕ → Option Fault
 fault_of_profile code = fault_if_none (profile_with code) NoProfile
 
+-- `NoGroup` if this is not the letter of a group, `A` to `H`
 abbrev pub fault_of_group : ℕ → Option Fault
 fault_of_group letter = fault_unless (nat_le 65 letter && nat_le letter 72) NoGroup
 
+-- `NotTwelve` unless this number of words is 12
 abbrev pub fault_of_twelve : ℕ → Option Fault
 fault_of_twelve count = fault_unless (count == 12) NotTwelve
 
--- the words of a board: they are not twelve, or this is the first that is of neither layout
+-- `NotTwelve` if these are not twelve words; otherwise `BadWord` with the first that is of neither layout, if one is
 abbrev pub fault_of_words : List ℕ → Option Fault
 fault_of_words words = first_fault (fault_of_twelve (length words) ∷ option_map BadWord (result_err (read_words 1 words)) ∷ [])
 
+-- `NotFour` unless this number of clubs is 4
 abbrev pub fault_of_four : ℕ → Option Fault
 fault_of_four count = fault_unless (count == 4) NotFour
 
--- not four clubs, or the least slot whose club no roster takes in
+-- `NotFour` if these are not four clubs; otherwise `BadRoster` with the least slot whose name or coefficient is bad, if there is one
 abbrev pub fault_of_clubs : List NamedClub → Option Fault
 fault_of_clubs clubs = first_fault (fault_of_four (length clubs) ∷ option_map BadRoster (bad_slot clubs) ∷ [])
 
--- a club of this coefficient, and of a name that any roster takes in
+-- a club with this coefficient and the name `-`, for calls that are given no names
 abbrev pub club_with : ℕ → NamedClub
 club_with coefficient = record { name = codes "-"; coefficient = coefficient }
 
--- not four coefficients, or the least slot whose coefficient no roster takes in
+-- `NotFour` if these are not four coefficients; otherwise `BadRoster` with the least slot whose coefficient is too large, if there is one
 abbrev pub fault_of_coefficients : List ℕ → Option Fault
 fault_of_coefficients coefficients = fault_of_clubs (map club_with coefficients)
 
--- a fault of an input as a call returns it: bytes in memory are read without fail
+-- the fault that a call returns if an input in memory has this one; `ReadFailed` cannot come there
 abbrev pub of_input : InputFault → Fault
 of_input (input.BadWordAt index) = BadWord index
 of_input (input.BadRow row) = BadRow row
@@ -114,43 +125,45 @@ of_input (input.BadRoster slot) = BadRoster slot
 of_input input.TooLong = TooLong
 of_input _ = OutOfMemory
 
--- the first fault of the rows of a script, or too many bytes
+-- `TooLong` if these bytes are too many; otherwise, if they are no script, `BadRow` or `BadRoster` with the first row or slot that is wrong
 abbrev pub fault_of_script : List ℕ → Option Fault
 fault_of_script bytes = option_map of_input (result_err (night_of bytes))
 
--- as many replies as the script has events have no room
+-- `NoRoom` if a script was read that has more events than there is room for replies
 abbrev pub of_events : Result Script InputFault → ℕ → Option Fault
 of_events (Ok script) room = fault_unless (nat_le (length script.events) room) NoRoom
 of_events (Err fault) room = None
 
+-- `NoRoom` if the script that these bytes are has more events than there is room for replies
 abbrev pub fault_of_replies : List ℕ → ℕ → Option Fault
 fault_of_replies bytes room = of_events (night_of bytes) room
 
 -- The inputs of a call, in the order in which they are judged. --
 
--- of an event for a word: the reporter, the kind, and the word, which has to be of today's layout
+-- the first fault of an event for a match, given as its word, from the reporter and the kind's code: the word has to be of today's layout
 abbrev pub fault_of_entry : ℕ → ℕ → ℕ → Option Fault
 fault_of_entry word reporter code = first_fault (fault_unless (is_reporter reporter) NoReporter ∷ fault_of_kind code ∷ fault_unless (is_word word) (BadWord 1) ∷ [])
 
+-- the rule that refuses an event of this kind for a match, if it names this event number; `NoKind` if there is no kind
 abbrev pub of_rules : Option Kind → MatchRecord → ℕ → Option Fault
-of_rules (Some kind) m expected = option_map Refused (refusal_of m expected kind)
-of_rules None m expected = Some NoKind
+of_rules (Some kind) game expected = option_map Refused (refusal_of game expected kind)
+of_rules None game expected = Some NoKind
 
--- and the rules: the first that refuses the event
+-- the first fault, or the refusal, of an event for the match in a word, from the reporter, the event number it names and the kind's code
 abbrev pub fault_of_next : ℕ → ℕ → ℕ → ℕ → Option Fault
-fault_of_next word reporter expected code = first_fault (fault_of_entry word reporter code ∷ of_rules (kind_with code) (record_at word) expected ∷ [])
+fault_of_next word reporter expected code = first_fault (fault_of_entry word reporter code ∷ of_rules (kind_with code) (record_at word) (expected_told expected) ∷ [])
 
 -- the first fault of a call for a table: of the profile, the words, the coefficients, or the room, which is for four rows
 abbrev pub fault_of_table : ℕ → List ℕ → List ℕ → ℕ → Option Fault
 fault_of_table profile words coefficients room =
     first_fault (fault_of_profile profile ∷ fault_of_words words ∷ fault_of_coefficients coefficients ∷ fault_unless (room == 4) NotFourRows ∷ [])
 
--- the first fault of a call for a screen, but for its room: of the profile, the group, the words, or the clubs
+-- the first fault of a call for a screen, whatever room there is for it: of the profile, the group, the words, or the clubs
 abbrev pub fault_of_inputs : ℕ → ℕ → List ℕ → List NamedClub → Option Fault
 fault_of_inputs profile group words clubs =
     first_fault (fault_of_profile profile ∷ fault_of_group group ∷ fault_of_words words ∷ fault_of_clubs clubs ∷ [])
 
--- that fault, or that the text and a zero do not fit the room
+-- this fault, or if it is none, `NoRoom` if a text and a zero have more bytes than there is room for
 abbrev pub fault_with_text : Option Fault → List ℕ → ℕ → Option Fault
 fault_with_text fault text room = first_fault (fault ∷ fault_unless (nat_lt (length text) room) NoRoom ∷ [])
 

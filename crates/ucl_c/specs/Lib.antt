@@ -7,4 +7,3 @@ pub mod Theorems
 pub mod BoardPasses
 pub mod OwnedAt
 pub mod Handles
-pub mod PassCalls

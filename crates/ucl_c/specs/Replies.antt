@@ -1,4 +1,6 @@
--- What becomes of the events of a script, as C sees it.
+-- What becomes of the events of a script, in the form of C. A script is text with four rows of clubs and then a row for each event; they
+-- are entered in turn on a fresh board, one without events. A history is the list of the accepted events; its length is the version of the
+-- board. A roster is four clubs, in slots 1 to 4; a word is a match packed into 64 bits, and twelve are a board.
 use Rattle.std.specs.Prelude.{◌≡◌, ℕ, ◌+◌, ◌-◌, ◌++◌, List, [], ◌∷◌, length, map, take, drop, replicate, unwrap_or, Result, Ok, Err}
 use Rattle.ucl_word.specs.declared.event.Accepted.{Accepted}
 use Rattle.ucl_word.specs.declared.refusal.Refusal.{Refusal}
@@ -12,43 +14,44 @@ use Rattle.ucl_screen.specs.Events.{attempt_of}
 use Rattle.ucl_c.specs.declared.script.ReplyOfC.{ReplyOfC}
 use Rattle.ucl_c.specs.declared.group.ClubOfC.{ClubOfC}
 
--- the reply to an event in this row, of this match, where so many events were accepted before: an accepted one raises the version by one, and
--- a stale one has the number found
+-- what C is told of the event of this row and match, at this version of the board, on which the board gave this reply
 abbrev pub reply_by : ℕ → ℕ → ℕ → Result Accepted Refusal → ReplyOfC
-reply_by row game before (Ok accepted) = record { row = row; match_number = game; status = 0; event_number = accepted.number; version = before + 1 }
-reply_by row game before (Err refusal) = record { row = row; match_number = game; status = refusal_code refusal; event_number = unwrap_or (found_of refusal) 0; version = before }
+reply_by row game version (Ok accepted) = record { row = row; match_number = game; status = 0; event_number = accepted.number; version = version + 1 }
+reply_by row game version (Err refusal) =
+    record { row = row; match_number = game; status = refusal_code refusal; event_number = unwrap_or (found_of refusal) 0; version = version }
 
--- the reply of the board of one thread after a history
+-- what C is told of the event of this row, if it is entered after this history
 abbrev pub reply_after : ℕ → List Entry → NightEvent → ReplyOfC
 reply_after row history event = reply_by row event.call.game (length history) (sequential_reply history event.call)
 
--- the replies to the events from a row on, each after the events that were accepted before it
+-- what C is told of events entered in turn, the first of which is in this row and comes after this history
 unfoldable pub replies_from : ℕ → List Entry → List NightEvent → List ReplyOfC
 replies_from row history [] = []
 replies_from row history (event ∷ events) = reply_after row history event ∷ replies_from (row + 1) (after_attempt history (attempt_of event)) events
 
--- the events of a script begin in row 5, and are entered on a board before any event
+-- what C is told of the events of a script, the first of which is in row 5, on a fresh board
 abbrev pub replies_to : List NightEvent → List ReplyOfC
 replies_to events = replies_from 5 [] events
 
--- the words after them
+-- the twelve words of a fresh board after the events of a script were entered in turn
 abbrev pub words_after : List NightEvent → List ℕ
 words_after events = board_of (accepted_of (map attempt_of events))
 
--- a club as it is written: behind its name there are zeros
+-- a club in the form of C: behind its name there are zeros, up to 20 bytes
 abbrev pub club_written : NamedClub → ClubOfC
 club_written club = record { name = club.name ++ replicate (20 - length club.name) 0; length = length club.name; coefficient = club.coefficient }
 
--- the clubs of a roster, slot by slot
+-- the four clubs of a roster in the form of C, slot by slot
 abbrev pub clubs_written : List NamedClub → List ClubOfC
 clubs_written roster = map (λ slot. club_written (club_in roster slot)) (1 ∷ 2 ∷ 3 ∷ 4 ∷ [])
 
--- these stand at the front of what was there before, and the rest is as it was
+-- a list was `before` and is `after`: the replies stand at its front, and the rest is as it was
 pub record AreWritten (replies before after : List ReplyOfC) : Type 0 where
   pub front : take (length replies) after ≡ replies
   pub beyond : drop (length replies) after ≡ drop (length replies) before
 
--- the script that the bytes say was played: its clubs, the words after its events, and its replies are written
+-- the bytes are a script, `clubs` are its clubs, `words` the board after its events, and what became of these stands at the front of
+-- `after`, of which the rest is as it was in `before`
 pub record IsWholeScript (bytes : List ℕ) (clubs : List ClubOfC) (words : List ℕ) (before after : List ReplyOfC) : Type 0 where
   pub script : Script
   pub said : night_of bytes ≡ Ok script
@@ -56,7 +59,7 @@ pub record IsWholeScript (bytes : List ℕ) (clubs : List ClubOfC) (words : List
   pub words_are : words ≡ words_after script.events
   pub replies_are : AreWritten (replies_to script.events) before after
 
--- how many events the script has that the bytes say
+-- the bytes are a script that has `count` events
 pub record CountsEvents (bytes : List ℕ) (count : ℕ) : Type 0 where
   pub script : Script
   pub said : night_of bytes ≡ Ok script

@@ -1,5 +1,7 @@
--- What twelve words and four clubs are shown as, and how it is written.
-use Rattle.std.specs.Prelude.{◌≡◌, ◌≢◌, ◌⊎◌, ℕ, ◌+◌, ◌<◌, ◌≤◌, ◌++◌, nat_le, if◌then◌else◌, List, [], ◌∷◌, map, take, drop, length, Option, Some, Result, Ok, Err}
+-- What words and clubs are shown as, and how that is written into the room that a caller has for it. A word is a match in 64 bits; words
+-- are read as a board if each is of today's layout or the first. A profile, which has a code, is the set of tie-break rules that order its
+-- table. A screen is the table as text; a line of JSON has one as the answer to a row, given by its number, that asked for it.
+use Rattle.std.specs.Prelude.{◌≡◌, ◌≢◌, ◌⊎◌, ℕ, ◌+◌, ◌<◌, ◌≤◌, ◌++◌, nat_le, if◌then◌else◌, List, [], ◌∷◌, map, take, drop, length, Option, None, Some, Result, Ok, Err}
 use Rattle.ucl_board.specs.Words.{version_of}
 use Rattle.ucl_order.specs.declared.profile.Profile.{Profile}
 use Rattle.ucl_order.specs.declared.table.Row.{Row}
@@ -16,7 +18,7 @@ use Rattle.ucl_c.specs.declared.fault.Fault.{Fault}
 use Rattle.ucl_c.specs.Codes.{mark_code}
 use Rattle.ucl_c.specs.Faults.{fault_with_text, place_with, status_with}
 
--- a row of the table as C sees it
+-- a row of the table in the form of C
 abbrev pub row_seen : Row → RowOfC
 row_seen row = record {
   slot = row.slot;
@@ -31,58 +33,69 @@ row_seen row = record {
   points = row.points;
 }
 
--- what a club of C says: a length past the room is no name
+-- the name and the coefficient of a club that C hands over; the name is empty, and so bad, if its length is said to be over 20
 abbrev pub club_handed : ClubOfC → NamedClub
 club_handed club = record { name = if nat_le club.length 20 then take club.length club.name else []; coefficient = club.coefficient }
 
+-- the names and coefficients of the clubs that a caller hands over
 abbrev pub clubs_handed : List ClubOfC → List NamedClub
 clubs_handed clubs = map club_handed clubs
 
 -- Of words that are read as no board, and in no order, nothing is shown.
 
+-- the version of a board that was read, which is how many events its matches have had in all; 0 if none was read
 abbrev pub version_by : Result (List ℕ) ℕ → ℕ
 version_by (Ok board) = version_of board
 version_by (Err index) = 0
 
--- the version of the board that the words are read as
+-- the version of the board that the words are read as; 0 if one of them is no match's
 abbrev pub version_told : List ℕ → ℕ
 version_told words = version_by (read_words 1 words)
 
--- the list that is made of an order and a board, and none of no order or no board
+-- what `make` makes of a profile and a board; it is empty if there is no such profile or the board could not be read
 abbrev pub shown_with : {X : Type 0} → Option Profile → Result (List ℕ) ℕ → (Profile → List ℕ → List X) → List X
 shown_with (Some profile) (Ok board) make = make profile board
 shown_with _ _ make = []
 
--- the table of that board, in the order of the profile with this code
+-- the table of the board that the words are read as, by the profile with this code; no rows if there is no such board or profile
 abbrev pub table_shown : ℕ → List ℕ → List NamedClub → List RowOfC
 table_shown code words clubs = shown_with (profile_with code) (read_words 1 words) (λ profile board. map row_seen (rows_of profile board clubs))
 
--- the screen of that board, for a group
-abbrev pub screen_shown : ℕ → ℕ → List ℕ → List NamedClub → List ℕ
-screen_shown code group words clubs = shown_with (profile_with code) (read_words 1 words) (λ profile board. screen_text profile board clubs group)
+-- a board and its clubs as text, by a profile: the screen for this group, or if a row is given, the line of JSON that answers it with that
+abbrev pub text_by : Option ℕ → ℕ → List NamedClub → Profile → List ℕ → List ℕ
+text_by None group clubs profile board = screen_text profile board clubs group
+text_by (Some row) group clubs profile board = json_line (screen_value row profile board clubs group)
 
--- the line in JSON of a screen under the row of this number: that of an evening, but for its edition and its matches
-abbrev pub json_shown : ℕ → ℕ → ℕ → List ℕ → List NamedClub → List ℕ
-json_shown row code group words clubs = shown_with (profile_with code) (read_words 1 words) (λ profile board. json_line (screen_value row profile board clubs group))
+-- the screen, or the line of JSON that answers a row with it, if one is given, of the board that the words are read as, for a group, by the
+-- profile with this code; no text if there is no such board or profile
+abbrev pub text_shown : Option ℕ → ℕ → ℕ → List ℕ → List NamedClub → List ℕ
+text_shown row code group words clubs = shown_with (profile_with code) (read_words 1 words) (text_by row group clubs)
 
--- the text and a zero stand at the front of what was there before, and the rest is as it was
+-- how many bytes a screen has at most, or if a row is given, the line of JSON that answers it with one
+abbrev pub max_length : Option ℕ → ℕ
+max_length None = 296
+max_length (Some row) = 1423
+
+-- a buffer was `before` and is `after`: a text and a zero stand at its front, and the rest is as it was
 pub record IsWritten (text before after : List ℕ) : Type 0 where
   pub front : take (length text + 1) after ≡ text ++ 0 ∷ []
   pub beyond : drop (length text + 1) after ≡ drop (length text + 1) before
 
--- how a text is handed over: whole, where the room takes it and a zero; else nothing is written and the status is that of no room. Its length is written in both
+-- a text was written to a caller's buffer, from `before` to `after`: whole, if it and a zero fit; otherwise the buffer is as it was and the
+-- call returns 56. The number written for its length, `told`, is right in both cases
 pub record HandsOver (text before after : List ℕ) (told status : ℕ) : Type 0 where
   pub told_length : told ≡ length text
   pub whole : length text < length before → (status ≡ 0) × IsWritten text before after
   pub no_room : length before ≤ length text → (status ≡ 56) × (after ≡ before)
 
--- what a call that answers with a text writes to: the room for it, its length, and the place of a fault
+-- what a call for a text writes to: the caller's buffer, the length of the text, and the number of a bad word or of the slot of a bad club
 pub record TextLeft : Type 0 where
   pub out : List ℕ
   pub long : ℕ
   pub at : ℕ
 
--- the answer of a call with a text of at most so many bytes, where its inputs have this fault or none; lack of memory, 23, may come in place of any
+-- what a call for a text returns and writes, if its inputs have this fault or none, and this would be the text, of `most` bytes at the
+-- most: the text whole and 0, or a fault, and then only `at`, or for 56 `long`, may change. 23, out of memory, may come in place of any
 pub record AnswersWithText (fault : Option Fault) (text : List ℕ) (most : ℕ) (before after : TextLeft) (status : ℕ) : Type 0 where
   pub told : status ≢ 23 → status ≡ status_with (fault_with_text fault text (length before.out))
   pub placed : status ≢ 23 → after.at ≡ place_with (fault_with_text fault text (length before.out)) before.at

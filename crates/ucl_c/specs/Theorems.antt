@@ -1,4 +1,5 @@
--- What holds of all words, of the numbers of faults, and of how long screens are.
+-- What holds of all words, of the numbers of faults, and of how long screens are. A word is a match packed into 64 bits, of today's layout
+-- or of the first; twelve are a board, and a screen is its table as text. A fault is why a call of C is not done.
 use Rattle.std.specs.Prelude.{◌≡◌, ◌↔◌, ◌<◌, ◌≤◌, ◌^◌, ℕ, ◌++◌, true, List, length, Some, Ok, Err, codes, decimal}
 use Rattle.ucl_word.specs.Layout.{IsWord}
 use Rattle.ucl_board.specs.Words.{AreReadAs, AreWords, IsFirstBad}
@@ -15,39 +16,39 @@ use Rattle.ucl_c.specs.declared.fault.Fault.TheVariants.{BadRow, OutOfMemory}
 use Rattle.ucl_c.specs.Codes.{name_of_status}
 use Rattle.ucl_c.specs.Faults.{fault_code, of_input}
 
--- words are read as the board that the definitions of a board say, or as their first bad word
+-- `read_words` gives the board that these words are by the definitions of both layouts, or else the index of the first that is of neither
 pub record AreJudged (words : List ℕ) : Type 0 where
   pub read : (board : List ℕ) → AreReadAs words board → read_words 1 words ≡ Ok board
   pub refused : (index : ℕ) → IsFirstBad words index → read_words 1 words ≡ Err index
 
--- and the test of a single word is whether it is that of a valid record
+-- any twelve words are read by `read_words` as the definitions of words say, and `is_word` holds of just the words of valid matches
 pub record WordsAreJudged : Type 0 where
   pub twelve : (words : List ℕ) → length words ≡ 12 → AreJudged words
   pub single : (word : ℕ) → (is_word word ≡ true) ↔ IsWord word
 
--- the command line writes this fault of an input by the number of the fault that calls return
+-- the line that the programs write for this fault of their input has the number that calls of C return for it
 pub record IsWrittenByNumber (fault : InputFault) : Type 0 where
   pub place : List ℕ
   pub written : input_fault_text fault ≡ codes "input refused " ++ decimal (fault_code (of_input fault)) ++ codes ": " ++ place
 
--- and so it writes lack of memory; no call reads from a source that fails
+-- the line for this fault of an input, or for lack of memory, has the number that C has for it; no call of C reads from a source that fails
 abbrev pub IsWrittenAsTold : InputFault → Type 0
 IsWrittenAsTold (input.ReadFailed bytes) = Unit {0}
 IsWrittenAsTold input.OutOfMemory = input_fault_text input.OutOfMemory ≡ codes "out of memory " ++ decimal (fault_code OutOfMemory)
 IsWrittenAsTold fault = IsWrittenByNumber fault
 
--- an evening answers a bad row by the number and the name of its status
+-- the answer of `ucl_live` to a bad row of its input has the number and the name that this fault has for C
 pub record IsAnsweredByName (row : ℕ) : Type 0 where
   pub name : List ℕ
   pub named : name_of_status (fault_code (BadRow row)) ≡ Some name
   pub answered : (field text : List ℕ) → bad_row_value row field text ≡ bad_value row (fault_code (BadRow row)) name field text
 
--- the programs write each fault that calls return by its number
+-- the programs write each fault of an input under the number that it has for C, and answer each bad row by that number and its name
 pub record FaultsAreWrittenByNumber : Type 0 where
   pub inputs : (fault : InputFault) → IsWrittenAsTold fault
   pub rows : (row : ℕ) → IsAnsweredByName row
 
--- the screen of any board has no more bytes than this, and neither has the line of JSON that answers a row with it
+-- the screen of any board has at most 296 bytes, and the line of JSON that answers a row with it at most 1,423
 pub record ScreensAreShort : Type 0 where
   pub text : (profile : Profile) (board : List ℕ) (roster : List NamedClub) (group : ℕ) → AreWords board → IsRoster roster → length (screen_text profile board roster group) ≤ 296
   pub line : (row : ℕ) (profile : Profile) (board : List ℕ) (roster : List NamedClub) (group : ℕ) → row < 2 ^ 64 → AreWords board → IsRoster roster → IsGroup group

@@ -1,10 +1,13 @@
-//! A pass together with its board, so that no call can be given a pass of another board.
+//! A pass together with its board, so that no call can be given a pass of another board. A pass is a thread's permission on a board that
+//! threads share: a reader's only reads, and a reporter's has a number, under which it enters events. To split a reader's pass is to make a
+//! second one; to enlist a reporter, to split a pass and turn the second into a reporter's, with one of 255 numbers. A `Fault` is why a
+//! call is not done.
 
 ghost use Rattle.std.specs.Prelude.{◌≡◌, IfOk, IfErr, MatchResult, None, Some};
 ghost use Rattle.std.specs.Arc.{arc_value};
 ghost use Rattle.ucl_c.specs.declared.board_pass.AnyPass.TheVariants.{Nobody};
-ghost use Rattle.ucl_c.specs.declared.fault.Fault.TheVariants.{FullBoard, OutOfMemory};
-ghost use Rattle.ucl_c.specs.BoardPasses.{FoundFull, IsPassOf, IsOpened, IsSplit, IsEnlisted, IsEnlistedFrom, IsNotEnlisted, IsReported, IsRead, IsNumberOf, fault_of_split, fault_of_report, fault_of_read, or_memory};
+ghost use Rattle.ucl_c.specs.declared.fault.Fault.TheVariants.{OutOfMemory};
+ghost use Rattle.ucl_c.specs.BoardPasses.{IsPassOf, IsOpened, IsSplit, IsEnlisted, IsNotEnlisted, IsReported, IsRead, IsNumberOf, fault_of_split, fault_of_report, fault_of_read, or_memory};
 
 use crate::fault::Fault;
 use std::alloc::Global;
@@ -15,18 +18,18 @@ use ucl_live_board::LiveBoard;
 use ucl_word::{Accepted, EventCall, Refusal, ReporterNo};
 use ucl_words::{WordBoard, WordReaderPass, WordReporterPass};
 
-/// A pass of either kind, or none.
+/// A reader's or a reporter's pass of a board, or no pass.
 #[derive(Drop)]
 pub enum AnyPass {
     /// No pass.
     Nobody,
-    /// A reader's.
+    /// The pass of a reader.
     Reader(WordReaderPass),
-    /// A reporter's.
+    /// The pass of a reporter.
     Reporter(WordReporterPass),
 }
 
-/// A share of a board, and a pass of it or none. Contracts see which table the board is, and the pass.
+/// A counted reference to a board, with a pass of that board or none. Contracts see the identity of the board, and the pass.
 #[derive(Drop)]
 pub struct BoardPass {
     board: Arc<WordBoard, Global>,
@@ -45,7 +48,7 @@ impl Model for BoardPass {
 }
 
 impl BoardPass {
-    /// Opens a fresh board, and returns its first pass, a reader's.
+    /// Opens a board that has no events, and returns it with its first pass, a reader's; `OutOfMemory` if memory is refused.
     pub fn open(alloc: Global) -> Result<Box<BoardPass>, Fault>
         ensures { MatchResult result (λ opened. IsOpened opened.value.pass) (λ fault. fault ≡ OutOfMemory) }
     {
@@ -55,7 +58,7 @@ impl BoardPass {
         Ok(Box::new(alloc, BoardPass { board, pass })?)
     }
 
-    /// Takes the memory for another pass of this board.
+    /// Returns a new reference to this board, without a pass yet; `OutOfMemory` if memory is refused or there are too many references.
     fn room(board: &Arc<WordBoard, Global>, alloc: Global) -> Result<Box<BoardPass>, Fault>
         ensures { MatchResult result
             (λ room. room.value ≡ record { board = arc_value board.now; pass = Nobody })
@@ -66,7 +69,7 @@ impl BoardPass {
         Ok(Box::new(alloc, BoardPass { board, pass })?)
     }
 
-    /// Puts a pass of the board into room for one.
+    /// Puts this pass, which is of the same board, in the place of the one held.
     fn hold(&mut self, pass: AnyPass)
         requires { IsPassOf self.old.board pass }
         ensures { self.new ≡ record { board = self.old.board; pass = pass } }
@@ -74,7 +77,8 @@ impl BoardPass {
         self.pass = pass;
     }
 
-    /// Splits off a second reader's pass of the same board, which has seen as much. Without memory for it nothing is split.
+    /// Splits the reader's pass held here, and returns the second pass, which has seen as much of the board's history. `NotAReader` for a
+    /// reporter's pass, `NoPass` for none and `OutOfMemory` change nothing.
     pub fn split_off(&mut self, alloc: Global) -> Result<Box<BoardPass>, Fault>
         ensures board { self.new.board ≡ self.old.board }
         ensures given { IfOk result (λ second.
@@ -94,23 +98,8 @@ impl BoardPass {
         }
     }
 
-    /// Makes a reader's pass a reporter's, and puts it into room for it.
-    fn enlist_into(
-        board: &Arc<WordBoard, Global>,
-        mut room: Box<BoardPass>,
-        pass: WordReaderPass,
-    ) -> Result<Box<BoardPass>, Fault>
-        requires { (pass.board ≡ arc_value board.now)
-            × (room.value.board ≡ arc_value board.now) }
-        ensures { MatchResult result (λ second. IsEnlistedFrom pass second.value.pass)
-            (λ fault. (fault ≡ FullBoard) × FoundFull pass) }
-    {
-        let reporter = board.enlist_now(pass)?;
-        room.hold(AnyPass::Reporter(reporter));
-        Ok(room)
-    }
-
-    /// Enlists another reporter of the same board, and returns its pass. Without memory for it no number is spent.
+    /// Enlists a reporter of the same board by the reader's pass held here, and returns the reporter's pass. `NotAReader` for a reporter's
+    /// pass, `NoPass` for none and `OutOfMemory` change nothing; `FullBoard` if all 255 numbers are given.
     pub fn enlist_another(&mut self, alloc: Global) -> Result<Box<BoardPass>, Fault>
         ensures board { self.new.board ≡ self.old.board }
         ensures given { IfOk result (λ second.
@@ -120,16 +109,22 @@ impl BoardPass {
     {
         match &mut self.pass {
             AnyPass::Reader(pass) => {
-                let room = BoardPass::room(&self.board, alloc)?;
+                let mut room = BoardPass::room(&self.board, alloc)?;
                 let split = self.board.split_now(pass);
-                BoardPass::enlist_into(&self.board, room, split)
+                match self.board.enlist_now(split) {
+                    Ok(reporter) => {
+                        room.hold(AnyPass::Reporter(reporter));
+                        Ok(room)
+                    }
+                    Err(_) => Err(Fault::FullBoard),
+                }
             }
             AnyPass::Reporter(_) => Err(Fault::NotAReader),
             AnyPass::Nobody => Err(Fault::NoPass),
         }
     }
 
-    /// Enters an event under the number of a reporter's pass.
+    /// Enters an event by the reporter's pass held here, and returns the board's reply; `NotAReporter` for a reader's, `NoPass` for none.
     pub fn report(&mut self, call: &EventCall) -> Result<Result<Accepted, Refusal>, Fault>
         ensures board { self.new.board ≡ self.old.board }
         ensures judged { IfOk result (λ reply.
@@ -144,7 +139,7 @@ impl BoardPass {
         }
     }
 
-    /// Returns the number of a reporter's pass.
+    /// Returns the number of the reporter's pass held here; `NotAReporter` for a reader's pass and `NoPass` for none.
     pub fn number(&self) -> Result<ReporterNo, Fault>
         ensures number { IfOk result (IsNumberOf self.now.pass) }
         ensures refused { IfErr result (λ fault. fault_of_report self.now.pass ≡ Some fault) }
@@ -156,7 +151,7 @@ impl BoardPass {
         }
     }
 
-    /// Reads the board by the pass.
+    /// Returns a snapshot of the board, read by the pass held here, a reader's or a reporter's; `NoPass` for none.
     pub fn read(&mut self) -> Result<Reading, Fault>
         ensures board { self.new.board ≡ self.old.board }
         ensures reading { IfOk result (λ reading. IsRead self.old.pass reading self.new.pass) }

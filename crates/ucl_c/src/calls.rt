@@ -1,4 +1,5 @@
-//! Calls on a handle: what it holds is taken out, called, and put back. The calls that C makes are in `passes`.
+//! Calls on a handle, which is a pointer for C to a box with a board and a pass of it (a thread's permission on the board), or null. The
+//! box is taken out, called on, and put back. A fault, which has a number, is why a function for C (see `passes`) is not done.
 
 ghost use Rattle.std.specs.Prelude.{◌≡◌, true, false, IfOk, IfErr, MatchResult, Ok, None};
 ghost use Rattle.std.specs.Fn.{FnOnceReturnsAtMut};
@@ -22,7 +23,7 @@ impl Handle {
         self.at.is_null()
     }
 
-    /// Takes out what the handle owns, and leaves it null.
+    /// Takes out the box that the handle owns, in parts, and leaves the handle null; it must not be null before.
     fn take(&mut self, alloc: Global) -> RawBox<BoardPass, Global>
         requires { is_null self.old.at ≡ false }
         ensures { (result.value.pass ≡ pass_held self.old)
@@ -33,27 +34,28 @@ impl Handle {
         RawBox { ptr, alloc }
     }
 
-    /// Makes a null handle own this.
+    /// Makes a null handle own a box with a board and a pass, which is given by its parts: its pointer and its allocator.
     fn put(&mut self, parts: RawBox<BoardPass, Global>)
         requires { is_null self.old.at ≡ true }
-        ensures { pass_held self.new ≡ parts.value.pass }
+        ensures { (pass_held self.new ≡ parts.value.pass) × (is_null self.new.at ≡ false) }
     {
         let RawBox { ptr, alloc: _ } = parts;
         self.at = ptr as *mut UclboardPass;
     }
 
-    /// Makes a call on the pass that the handle holds, where it is not null.
+    /// Calls `call` on the board and the pass that the handle holds, and returns its result; `NoPass` if the handle is null.
     pub fn with_held<T, F: FnOnce(&mut BoardPass) -> Result<T, Fault>>(
         &mut self,
         alloc: Global,
         call: F,
     ) -> Result<T, Fault>
         requires { F.IsAlwaysCallable call }
-        ensures { MatchResult result
+        ensures called { MatchResult result
             (λ made. IsCallOn (FnOnceReturnsAtMut F.FnOnce call)
             (pass_held self.old) (Ok made) (pass_held self.new))
             (λ fault. IsRefusalOn (FnOnceReturnsAtMut F.FnOnce call)
             (pass_held self.old) fault (pass_held self.new)) }
+        ensures null { is_null self.new.at ≡ is_null self.old.at }
     {
         if self.is_null() {
             return Err(Fault::NoPass);
@@ -64,7 +66,7 @@ impl Handle {
         made
     }
 
-    /// Makes a null handle own the pass that was made, and answers the status of the call: 0, or why none was made.
+    /// Makes a null handle own the pass in `made` and returns 0; if `made` is a fault, returns its number and leaves the handle null.
     pub fn give(&mut self, made: Result<Box<BoardPass>, Fault>) -> u32
         requires { is_null self.old.at ≡ true }
         ensures given { IfOk made (λ held. (result ≡ 0) × (pass_held self.new ≡ held.value.pass)) }
@@ -80,7 +82,7 @@ impl Handle {
         }
     }
 
-    /// Lets the pass go, and with the last pass of a board the board. The handle is null then.
+    /// Drops the pass that the handle holds, if it holds one, and with the last pass of a board the board. The handle is null then.
     pub fn let_go(&mut self, alloc: Global)
         ensures { (fault_of_room self.new ≡ None) × (pass_held self.new ≡ Nobody) }
     {

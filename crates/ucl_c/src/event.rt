@@ -1,19 +1,20 @@
-//! One match: its next word, whether a word is one, and words of the first layout.
+//! Calls of C on one match. Its word is the match packed into 64 bits, and its record is what the word holds: the event number, which is
+//! how many events it has had, the state, the goals, the cards and the last reporter. Words of the first layout of these bits are read as
+//! words of today's. An event has a kind (kick-off, goal, card ..), given by a code, and the expected number, which is the event number
+//! that its reporter saw last; if that is not the match's, the event is stale and is refused.
 
-ghost use Rattle.std.specs.Prelude.{◌≡◌, ◌≢◌, ◌↔◌, IsSome, IfSome, IfOk, IfErr, None, Some};
+ghost use Rattle.std.specs.Prelude.{◌≡◌, ◌≢◌, ◌↔◌, IsSome, IfSome};
 ghost use Rattle.ucl_word.specs.Record.{IsReporter};
-ghost use Rattle.ucl_word.specs.Layout.{IsWord, record_at, word_of};
+ghost use Rattle.ucl_word.specs.Layout.{IsWord, record_at};
 ghost use Rattle.ucl_word.specs.Migration.{IsReadable, IsReadAs};
-ghost use Rattle.ucl_word.specs.Names.{kind_with};
-ghost use Rattle.ucl_word.specs.Rules.{refusal_of, after};
-ghost use Rattle.ucl_c.specs.Codes.{match_seen, next_of, state_code_in_c};
-ghost use Rattle.ucl_c.specs.Faults.{fault_of_entry, fault_of_next, found_with, status_with};
+ghost use Rattle.ucl_c.specs.Codes.{expected_told, match_seen, next_of, state_code_in_c};
+ghost use Rattle.ucl_c.specs.Faults.{fault_of_next, found_with, status_with};
 
-use crate::fault::Fault;
+use crate::fault::{Fault, refused};
 use crate::word::is_word;
-use ucl_word::{Kind, Refusal, ReporterNo, State, migrate, next_word, number_of, record_of};
+use ucl_word::{Kind, ReporterNo, State, migrate, next_word, record_of};
 
-/// The record of a match.
+/// The record of a match in the form of C. Its yellows are standing ones: yellow cards that no second yellow has turned into an expulsion.
 #[repr(C)]
 #[derive(Clone, Copy, Debug, PartialEq, Eq)]
 pub struct MatchOfC {
@@ -31,7 +32,7 @@ pub struct MatchOfC {
     pub reporter: u32,
 }
 
-/// Returns the reporter with this number, if the number is 1 to 255.
+/// Returns the reporter with this number, or `None` unless the number is 1 to 255.
 fn reporter_with(number: u32) -> Option<ReporterNo>
     ensures exists { IsSome result ↔ IsReporter number }
     ensures value { IfSome result (λ reporter. reporter ≡ number) }
@@ -42,44 +43,18 @@ fn reporter_with(number: u32) -> Option<ReporterNo>
     }
 }
 
-/// Enters an event in the word of a match. An expected number that no match can have is stale.
-#[tactic(auto, unfolding(ucl_word::specs::Rules::refusal_of))]
-fn entered(word: u64, reporter: ReporterNo, expected: u32, kind: Kind) -> Result<u64, Refusal>
-    requires { IsWord word }
-    ensures refused { IfErr result (λ r. refusal_of (record_at word) expected kind ≡ Some r) }
-    ensures accepted { IfOk result (λ next. (refusal_of (record_at word) expected kind ≡ None)
-        × (next ≡ word_of (after (record_at word) reporter kind))) }
+/// Returns an expected event number in 16 bits. One that does not fit becomes 65,535: like it, that is a number that no match has.
+pub fn expected_told(expected: u32) -> u16
+    ensures { result ≡ expected_told expected }
 {
     match u16::try_from(expected) {
-        Ok(expected) => next_word(word, reporter, expected, kind),
-        Err(_) => Err(Refusal::Stale {
-            found: number_of(word),
-        }),
+        Ok(expected) => expected,
+        Err(_) => 65535,
     }
 }
 
-/// Checks the reporter and the kind of an event for the word of a match: the reporter first, then the kind, then the word.
-fn event_of(word: u64, reporter: u32, kind: u32) -> Result<(ReporterNo, Kind), Fault>
-    ensures taken { IfOk result (λ event. (event.0 ≡ reporter) × (kind_with kind ≡ Some event.1)
-        × IsWord word × (fault_of_entry word reporter kind ≡ None)) }
-    ensures refused { IfErr result (λ fault. fault_of_entry word reporter kind ≡ Some fault) }
-{
-    let Some(reporter) = reporter_with(reporter) else {
-        return Err(Fault::NoReporter);
-    };
-    let Some(kind) = Kind::from_code(kind) else {
-        return Err(Fault::NoKind);
-    };
-    if !is_word(word) {
-        return Err(Fault::BadWord { index: 1 });
-    }
-    Ok((reporter, kind))
-}
-
-/// Enters an event of a reporter in the word of a match.
-///
-/// The reporter is judged first, then the kind, then the word, and then the rules. Only a stale event writes to `found`, and only an accepted
-/// one to `next`.
+/// Writes to `next` the word that the word of a match becomes by an event, and returns 0; or returns the number of the first fault: of the
+/// reporter, the kind, the word, or the rule that refuses the event. A stale event writes the match's event number to `found`.
 #[unsafe(no_mangle)]
 pub extern "C" fn uclboard_next_word(
     word: u64,
@@ -94,38 +69,40 @@ pub extern "C" fn uclboard_next_word(
     ensures unchanged { result ≢ 0 → next.new ≡ next.old }
     ensures found { found.new ≡ found_with (fault_of_next word reporter expected kind) found.old }
 {
-    match event_of(word, reporter, kind) {
-        Ok((reporter, kind)) => match entered(word, reporter, expected, kind) {
-            Ok(entered) => {
-                *next = entered;
-                0
-            }
-            Err(refusal) => Fault::from(refusal).tell_found(found),
-        },
-        Err(fault) => fault.tell_found(found),
+    let Some(reporter) = reporter_with(reporter) else {
+        return Fault::NoReporter.status();
+    };
+    let Some(kind) = Kind::from_code(kind) else {
+        return Fault::NoKind.status();
+    };
+    if !is_word(word) {
+        return Fault::BadWord { index: 1 }.status();
+    }
+    match next_word(word, reporter, expected_told(expected), kind) {
+        Ok(entered) => {
+            *next = entered;
+            0
+        }
+        Err(refusal) => refused(refusal, found),
     }
 }
 
-/// Reads a word of either layout as one of this. Status 10 leaves `read` as it was.
+/// Writes to `read` the word in today's layout for one of today's or the first, and returns 0; or returns 10 and writes nothing.
 #[unsafe(no_mangle)]
 pub extern "C" fn uclboard_read_word(word: u64, read: &mut u64) -> u32
     ensures done { IsReadable word → (result ≡ 0) × IsReadAs word read.new }
     ensures refused { (IsReadable word → ⊥) → (result ≡ 10) × (read.new ≡ read.old) }
 {
-    if is_word(word) {
-        *read = word;
-        return 0;
-    }
     match migrate(word) {
         Ok(new) => {
             *read = new;
             0
         }
-        Err(bad) => Fault::from(bad).status(),
+        Err(_) => Fault::BadWord { index: 1 }.status(),
     }
 }
 
-/// Returns the number of a state.
+/// Returns the number by which C knows the state of a match: 0 scheduled, 1 in play, 2 finished.
 fn state_code(state: State) -> u32
     ensures { result ≡ state_code_in_c state }
 {
@@ -136,7 +113,7 @@ fn state_code(state: State) -> u32
     }
 }
 
-/// Writes the record of a word to `out`. A word of no valid record has status 10, and leaves `out` as it was.
+/// Writes the record that a word of today's layout holds to `out`, and returns 0. If it holds no valid one, returns 10 and leaves `out`.
 #[unsafe(no_mangle)]
 pub extern "C" fn uclboard_match_of(word: u64, out: &mut MatchOfC) -> u32
     ensures done { IsWord word → (result ≡ 0) × (out.new ≡ match_seen (record_at word)) }

@@ -1,26 +1,29 @@
-//! Why a call is not done, and the numbers by which C knows it.
+//! Why a call of C is not done: it returns a status, 0 or the number of a fault. A word is a match in 64 bits; a script is text with a row
+//! for each of four clubs and then each event; a roster is four clubs, in slots 1 to 4; a profile is a set of tie-break rules. A handle is
+//! a pointer that owns a pass, a reader's or a reporter's permission on a board that threads share. A stale event does not name the event
+//! number of its match, which is how many events that has had; the match's is the number found.
 
-ghost use Rattle.std.specs.Prelude.{◌≡◌, Some};
-ghost use Rattle.ucl_c.specs.declared.fault.Fault.TheVariants.{BadRoster, BadWord, FullBoard, OutOfMemory, Refused};
-ghost use Rattle.ucl_c.specs.Faults.{fault_code, found_with, of_input, place_with};
+ghost use Rattle.std.specs.Prelude.{◌≡◌, Some, unwrap_or};
+ghost use Rattle.ucl_word.specs.Names.{found_of, refusal_code};
+ghost use Rattle.ucl_c.specs.declared.fault.Fault.TheVariants.{BadRoster, BadWord, FullBoard, OutOfMemory};
+ghost use Rattle.ucl_c.specs.Faults.{fault_code, of_input, place_with};
 
 use std::alloc::{AllocError, AllocFailed};
 use ucl_board::BadWordAt;
-use ucl_live_board::TooManyReporters;
 use ucl_order::BadRoster;
 use ucl_screen::InputFault;
 use ucl_word::Refusal;
 
-/// Why a call is not done.
+/// Why a call of C is not done; each variant with its number.
 #[derive(Clone, Copy, Debug, PartialEq, Eq)]
 pub enum Fault {
     /// 1 to 9: the rule that refuses an event.
     Refused(Refusal),
-    /// 10: the first of the words that is of no valid record, counted from 1.
+    /// 10: the first of the words that holds no valid match, counted from 1.
     BadWord { index: u8 },
     /// 20: the first row of a script, counted from 1, that is missing or is not as its place demands.
     BadRow { row: u32 },
-    /// 21: the least slot whose club no roster takes in.
+    /// 21: the least slot whose club has a bad name or coefficient.
     BadRoster { slot: u8 },
     /// 23: an allocation was refused, or a board has more handles than can be counted.
     OutOfMemory,
@@ -34,7 +37,7 @@ pub enum Fault {
     NoKind,
     /// 52: no profile has this code.
     NoProfile,
-    /// 53: not the letter of a group.
+    /// 53: not the letter of a group, `A` to `H`.
     NoGroup,
     /// 54: not twelve words.
     NotTwelve,
@@ -42,7 +45,7 @@ pub enum Fault {
     NotFour,
     /// 56: the caller's room is too small for the text and a zero, or for the replies.
     NoRoom,
-    /// 57: not room for four rows.
+    /// 57: the caller's room is not one for the four rows of a table.
     NotFourRows,
     /// 58: no status has this number.
     NoStatus,
@@ -50,16 +53,16 @@ pub enum Fault {
     InUse,
     /// 60: the handle holds no pass.
     NoPass,
-    /// 61: only a reader's pass is split or enlisted.
+    /// 61: the pass is a reporter's: only a reader's makes another pass.
     NotAReader,
     /// 62: not the number of a match, 1 to 12.
     NoMatch,
-    /// 63: only a reporter's pass reports.
+    /// 63: the pass is a reader's: only a reporter's enters events.
     NotAReporter,
 }
 
 impl Fault {
-    /// Returns the number of a fault, which is the status of the call.
+    /// Returns the number of a fault, which a call of C returns as its status.
     pub fn status(self) -> u32
         ensures { result ≡ fault_code self }
     {
@@ -88,8 +91,8 @@ impl Fault {
         }
     }
 
-    /// Writes to `at` the word, the row or the slot of a fault, if it has one, and returns the fault's number.
-    pub fn tell(self, at: &mut u32) -> u32
+    /// Writes to `at` the number of the word, row or slot that a fault is about, if it is about one, and returns the fault's number.
+    pub fn status_at(self, at: &mut u32) -> u32
         ensures told { result ≡ fault_code self }
         ensures placed { at.new ≡ place_with (Some self) at.old }
     {
@@ -101,39 +104,41 @@ impl Fault {
         }
         self.status()
     }
+}
 
-    /// Writes to `found` the number that a stale event has found, and returns the number of the fault.
-    pub fn tell_found(self, found: &mut u32) -> u32
-        ensures told { result ≡ fault_code self }
-        ensures found { found.new ≡ found_with (Some self) found.old }
-    {
-        if let Fault::Refused(Refusal::Stale { found: number }) = self {
-            *found = u32::from(number);
+/// Takes the value out of a result. If it is a fault, the call of C that uses this macro returns its number, and writes its place to `$at`.
+macro_rules! or_return {
+    ($made:expr) => {
+        match $made {
+            Ok(made) => made,
+            Err(fault) => return fault.status(),
         }
-        self.status()
-    }
+    };
+    ($made:expr, $at:expr) => {
+        match $made {
+            Ok(made) => made,
+            Err(fault) => return fault.status_at($at),
+        }
+    };
 }
 
-impl From<Refusal> for Fault {
-    ghost from_gives = { λ refusal fault. fault ≡ Refused refusal };
+pub(crate) use or_return;
 
-    fn from(refusal: Refusal) -> Fault {
-        Fault::Refused(refusal)
+/// Returns the number of the rule that refuses an event. If it is that the event is stale, writes the match's event number to `found`.
+pub fn refused(refusal: Refusal, found: &mut u32) -> u32
+    ensures status { result ≡ refusal_code refusal }
+    ensures found { found.new ≡ unwrap_or (found_of refusal) found.old }
+{
+    if let Some(number) = refusal.found() {
+        *found = u32::from(number);
     }
-}
-
-/// A word alone is the first.
-impl From<ucl_word::BadWord> for Fault {
-    ghost from_gives = { λ _ fault. fault ≡ BadWord 1 };
-
-    fn from(_error: ucl_word::BadWord) -> Fault {
-        Fault::BadWord { index: 1 }
-    }
+    u32::from(refusal.code())
 }
 
 impl From<BadWordAt> for Fault {
     ghost from_gives = { λ bad fault. fault ≡ BadWord bad.index };
 
+    /// Returns the fault of the first word, by its index, that holds no valid match.
     fn from(bad: BadWordAt) -> Fault {
         Fault::BadWord { index: bad.index }
     }
@@ -142,15 +147,16 @@ impl From<BadWordAt> for Fault {
 impl From<BadRoster> for Fault {
     ghost from_gives = { λ bad fault. fault ≡ BadRoster bad.slot };
 
+    /// Returns the fault of the least slot whose club has a bad name or coefficient.
     fn from(bad: BadRoster) -> Fault {
         Fault::BadRoster { slot: bad.slot }
     }
 }
 
-/// Bytes in memory are read without fail, and rows of a script hold no words.
 impl From<InputFault> for Fault {
     ghost from_gives = { λ input fault. fault ≡ of_input input };
 
+    /// Returns the fault of a call whose input has this one. `ReadFailed` cannot come, since calls of C read bytes in memory.
     fn from(input: InputFault) -> Fault {
         match input {
             InputFault::BadWordAt { index } => Fault::BadWord { index },
@@ -159,14 +165,6 @@ impl From<InputFault> for Fault {
             InputFault::TooLong => Fault::TooLong,
             InputFault::OutOfMemory | InputFault::ReadFailed { .. } => Fault::OutOfMemory,
         }
-    }
-}
-
-impl<P: Drop> From<TooManyReporters<P>> for Fault {
-    ghost from_gives = { λ _ fault. fault ≡ FullBoard };
-
-    fn from(_error: TooManyReporters<P>) -> Fault {
-        Fault::FullBoard
     }
 }
 

@@ -1,4 +1,6 @@
-//! Boards, rosters and groups of what C hands over.
+//! Boards, rosters, letters of groups and profiles, from the numbers, words and clubs that C hands over. A word is a match packed into 64
+//! bits, and twelve are a board; a roster is the four clubs of a group, in slots 1 to 4; a profile is the set of tie-break rules by which
+//! its table is ordered. What C hands over wrong is answered by a `Fault`.
 
 ghost use Rattle.std.specs.Prelude.{◌≡◌, map, None, Some, Ok, IfOk, IfErr};
 ghost use Rattle.ucl_board.specs.Words.{AreWords};
@@ -6,15 +8,14 @@ ghost use Rattle.ucl_order.specs.Names.{profile_with};
 ghost use Rattle.ucl_order.specs.Roster.{club_lent};
 ghost use Rattle.ucl_screen.specs.Screen.{IsGroup};
 ghost use Rattle.ucl_screen.specs.WordsRead.{read_words};
-ghost use Rattle.ucl_c.specs.Faults.{club_with, fault_of_clubs, fault_of_coefficients, fault_of_group, fault_of_inputs, fault_of_profile, fault_of_words};
+ghost use Rattle.ucl_c.specs.Faults.{club_with, fault_of_clubs, fault_of_coefficients, fault_of_group, fault_of_profile, fault_of_words};
 ghost use Rattle.ucl_c.specs.Tables.{club_handed, clubs_handed};
-ghost use Rattle.ucl_c.specs.Inputs.{IsGroupOf};
 
 use crate::fault::Fault;
 use ucl_board::Board;
 use ucl_order::{LentClub, Profile, Roster};
 
-/// A club of a group.
+/// A club of a group in the form of C.
 #[repr(C)]
 #[derive(Clone, Copy, Debug, PartialEq, Eq)]
 pub struct ClubOfC {
@@ -26,20 +27,7 @@ pub struct ClubOfC {
     pub coefficient: u32,
 }
 
-/// A group that is shown.
-#[derive(Drop)]
-pub struct Group {
-    /// Its matches.
-    pub board: Board,
-    /// Its clubs.
-    pub roster: Roster,
-    /// Its letter, `A` to `H`.
-    pub letter: u8,
-    /// The order of its table.
-    pub profile: Profile,
-}
-
-/// Returns the order profile with this code.
+/// Returns the profile with this code, or `NoProfile` if no profile has it.
 pub fn profile_of(code: u32) -> Result<Profile, Fault>
     ensures taken { IfOk result (λ profile. profile_with code ≡ Some profile) }
     ensures refused { IfErr result (λ fault. fault_of_profile code ≡ Some fault) }
@@ -47,8 +35,8 @@ pub fn profile_of(code: u32) -> Result<Profile, Fault>
     Profile::from_code(code).ok_or(Fault::NoProfile)
 }
 
-/// Returns the letter of a group, in a wider number.
-fn letter_of(letter: u32) -> Result<u8, Fault>
+/// Returns the letter of a group as a byte, or `NoGroup` unless it is `A` to `H`.
+pub fn letter_of(letter: u32) -> Result<u8, Fault>
     ensures taken { IfOk result (λ group. (group ≡ letter) × IsGroup letter
         × (fault_of_group letter ≡ None)) }
     ensures refused { IfErr result (λ fault. fault_of_group letter ≡ Some fault) }
@@ -60,7 +48,7 @@ fn letter_of(letter: u32) -> Result<u8, Fault>
     }
 }
 
-/// Reads the board of twelve words.
+/// Returns the board that twelve words are read as; `NotTwelve` if they are not twelve, `BadWord` with the first that is no match's word.
 pub fn board_of(words: &[u64]) -> Result<Board, Fault>
     ensures board { IfOk result (λ board. (read_words 1 words.now ≡ Ok board)
         × (fault_of_words words.now ≡ None)) }
@@ -75,7 +63,7 @@ pub fn board_of(words: &[u64]) -> Result<Board, Fault>
     Ok(Board::of_words(&twelve)?)
 }
 
-/// Returns a club as a roster takes it in.
+/// Returns a club of C with its name as a slice, as rosters are made of. If `length` is over 20, the name is empty, which is a bad one.
 fn club_of(club: &ClubOfC) -> LentClub<'_>
     ensures { club_lent result ≡ club_handed club.now }
 {
@@ -90,8 +78,8 @@ fn club_of(club: &ClubOfC) -> LentClub<'_>
     }
 }
 
-/// Creates the roster of four clubs.
-fn roster_of(clubs: &[ClubOfC]) -> Result<Roster, Fault>
+/// Creates the roster of four clubs; `NotFour` if they are not four, `BadRoster` with the least slot that has a bad name or coefficient.
+pub fn roster_of(clubs: &[ClubOfC]) -> Result<Roster, Fault>
     ensures taken { IfOk result (λ roster. (roster ≡ clubs_handed clubs.now)
         × (fault_of_clubs (clubs_handed clubs.now) ≡ None)) }
     ensures refused { IfErr result (λ fault. fault_of_clubs (clubs_handed clubs.now) ≡ Some fault) }
@@ -108,7 +96,7 @@ fn roster_of(clubs: &[ClubOfC]) -> Result<Roster, Fault>
     Ok(Roster::of_lent(&clubs)?)
 }
 
-/// Creates a club of this coefficient, whose name is of no account.
+/// Returns a club with this coefficient, and with the name `-`, for calls that are not given names.
 fn club_with(coefficient: u32) -> LentClub<'static>
     ensures { club_lent result ≡ club_with coefficient }
 {
@@ -118,7 +106,8 @@ fn club_with(coefficient: u32) -> LentClub<'static>
     }
 }
 
-/// Creates a roster of clubs with these four coefficients.
+/// Creates a roster of clubs with these coefficients and the name `-`; `NotFour` if they are not four, `BadRoster` with the least slot
+/// whose coefficient is over 999,999.
 pub fn roster_with(coefficients: &[u32]) -> Result<Roster, Fault>
     ensures taken { IfOk result (λ roster. (roster ≡ map club_with coefficients.now)
         × (fault_of_coefficients coefficients.now ≡ None)) }
@@ -134,22 +123,4 @@ pub fn roster_with(coefficients: &[u32]) -> Result<Roster, Fault>
         club_with(*fourth),
     ];
     Ok(Roster::of_lent(&clubs)?)
-}
-
-/// Reads the group of twelve words, four clubs, a letter and the code of an order.
-pub fn group_of(words: &[u64], clubs: &[ClubOfC], letter: u32, profile: u32) -> Result<Group, Fault>
-    ensures taken { IfOk result (IsGroupOf profile letter words.now (clubs_handed clubs.now)) }
-    ensures refused { IfErr result (λ fault.
-        fault_of_inputs profile letter words.now (clubs_handed clubs.now) ≡ Some fault) }
-{
-    let profile = profile_of(profile)?;
-    let letter = letter_of(letter)?;
-    let board = board_of(words)?;
-    let roster = roster_of(clubs)?;
-    Ok(Group {
-        board,
-        roster,
-        letter,
-        profile,
-    })
 }

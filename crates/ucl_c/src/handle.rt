@@ -1,16 +1,16 @@
-//! A handle for C, which owns a pass and a share of its board, or nothing.
+//! A handle for C, which owns a pass (a thread's permission on a shared board) and a counted reference to the board, or nothing.
 
 ghost use Rattle.ucl_c.specs.declared.board_pass.BoardPass.{BoardPass};
 
 use std::marker::Model;
 
-/// What C takes a handle to point to. No value of it is ever made.
+/// The opaque type to which a handle points as C sees it. No value of it is ever made: the pointer is one to a `BoardPass`.
 #[repr(C)]
 pub struct UclboardPass {
     nothing: [u8; 0],
 }
 
-/// A handle: where its share of a board and its pass lie. A null handle holds nothing.
+/// A pointer that owns a box with a pass and a counted reference to its board, or null. Contracts see as `value` what lies in that box.
 #[repr(C)]
 pub struct Handle {
     pub(crate) at: *mut UclboardPass,
@@ -27,10 +27,10 @@ impl Model for Handle {
 
 unsafe impl Send for Handle {}
 
-/// Asks of a type that its values may go to another thread.
+/// Compiles only for a type whose values may go to another thread.
 fn crosses<T: Send>() {}
 
-/// States that handles may go to other threads.
+/// Compiles only if a handle may go to another thread, and does nothing.
 pub fn handles_cross() {
     crosses::<Handle>();
 }

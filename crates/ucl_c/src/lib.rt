@@ -1,7 +1,8 @@
-//! The board for programs in other languages: functions over numbers, slices, `#[repr(C)]` structs and handles, for C to call.
+//! The board for programs in other languages: functions over numbers, slices, `#[repr(C)]` structs and handles, for C to call. A handle is
+//! a pointer that holds a pass, which is a thread's permission on a board that threads share. What C sees is in `uclboard.h`.
 //!
-//! Bad input is answered by a status, and no function asks anything of its caller but what slices and handles themselves need.
-//! What C sees is in `uclboard.h`.
+//! Each call returns a status, which is the number of a fault if its input is bad. No function asks anything of its caller but what slices
+//! and handles themselves need.
 //!
 //! # Examples
 //!

@@ -1,21 +1,23 @@
-//! A board that threads share: handles, each of which holds a pass and a share of its board.
+//! The calls of C on a board that threads share. A pass is a thread's permission on the board: a reader's only reads, and a reporter's has
+//! a number, under which it enters events. A handle is a pointer for C that holds a pass, or is null. A call returns a status: 0, or the
+//! number of a fault. To split a reader's pass is to make a second one; to enlist a reporter, to turn such a second pass into a reporter's.
 
-ghost use Rattle.std.specs.Prelude.{◌≡◌, ◌≢◌, ◌↔◌, IsSome, IfSome, IfOk, IfErr, [], ◌∷◌, None, Some, length};
+ghost use Rattle.std.specs.Prelude.{◌≡◌, ◌≢◌, ◌↔◌, IsSome, IfSome, [], ◌∷◌, None, Some, length};
 ghost use Rattle.ucl_board.specs.Fixtures.{IsMatch};
 ghost use Rattle.ucl_c.specs.declared.board_pass.AnyPass.TheVariants.{Nobody};
 ghost use Rattle.ucl_c.specs.declared.fault.Fault.{Fault};
-ghost use Rattle.ucl_c.specs.BoardPasses.{IsOpened, IsSplit, IsEnlisted, IsRead, IsNumberOf, fault_of_split, fault_of_report, or_memory};
+ghost use Rattle.ucl_c.specs.BoardPasses.{IsOpened, IsSplit, IsEnlisted, IsRead, IsReply, IsNumberOf, fault_of_event, fault_of_reading, fault_of_split, fault_of_report, or_memory};
 ghost use Rattle.ucl_c.specs.Faults.{fault_code, first_fault};
 ghost use Rattle.ucl_c.specs.Handles.{pass_held, fault_of_room, IsNotEnlistedIn};
-ghost use Rattle.ucl_c.specs.PassCalls.{IsCallOf, IsReply, fault_of_call, fault_of_event, fault_of_reading, expected_told, number_after, status_of_reply};
 
 use crate::board_pass::BoardPass;
-use crate::fault::Fault;
+use crate::event::expected_told;
+use crate::fault::{Fault, or_return, refused};
 use crate::handle::Handle;
 use std::alloc::Global;
-use ucl_word::{Accepted, EventCall, Kind, MatchNo, Refusal};
+use ucl_word::{EventCall, Kind, MatchNo};
 
-/// Opens a fresh board, and gives its first pass, a reader's, to a handle that is null.
+/// Opens a board that has no events, and gives its first pass, a reader's, to a handle that is null. On a fault, the handle is as it was.
 #[unsafe(no_mangle)]
 pub extern "C" fn uclboard_open(alloc: Global, pass: &mut Handle) -> u32
     ensures opened { result ≡ 0 →
@@ -29,7 +31,8 @@ pub extern "C" fn uclboard_open(alloc: Global, pass: &mut Handle) -> u32
     pass.give(BoardPass::open(alloc))
 }
 
-/// Splits off a second reader's pass of the same board, for a handle that is null. Without memory for it nothing is split.
+/// Splits the reader's pass of a handle, and gives the second pass, of the same board, to `other`, which has to be null. If it is not done,
+/// nothing is split, and `other` stays as it was.
 #[unsafe(no_mangle)]
 pub extern "C" fn uclboard_pass_split(alloc: Global, pass: &mut Handle, other: &mut Handle) -> u32
     ensures given { result ≡ 0 →
@@ -39,6 +42,7 @@ pub extern "C" fn uclboard_pass_split(alloc: Global, pass: &mut Handle, other: &
         × (other.new ≡ other.old)
         × (result ≡ fault_code (or_memory (first_fault
         (fault_of_room other.old ∷ fault_of_split (pass_held pass.old) ∷ [])))) }
+    ensures null { fault_of_room pass.new ≡ fault_of_room pass.old }
 {
     if !other.is_null() {
         return Fault::InUse.status();
@@ -46,7 +50,8 @@ pub extern "C" fn uclboard_pass_split(alloc: Global, pass: &mut Handle, other: &
     other.give(pass.with_held(alloc, |held| held.split_off(alloc)))
 }
 
-/// Enlists another reporter of the same board, and gives its pass to a handle that is null. Without memory for it no number is spent.
+/// Enlists a reporter by the reader's pass of a handle, and gives the reporter's pass, of the same board, to `other`, which has to be null.
+/// If it is not done, `other` stays as it was, and no number is given.
 #[unsafe(no_mangle)]
 pub extern "C" fn uclboard_pass_enlist(alloc: Global, pass: &mut Handle, other: &mut Handle) -> u32
     ensures given { result ≡ 0 →
@@ -56,6 +61,7 @@ pub extern "C" fn uclboard_pass_enlist(alloc: Global, pass: &mut Handle, other: 
         × ((fault : Fault) × (result ≡ fault_code fault)
         × IsNotEnlistedIn (fault_of_room other.old) fault
         (pass_held pass.old) (pass_held pass.new)) }
+    ensures null { fault_of_room pass.new ≡ fault_of_room pass.old }
 {
     if !other.is_null() {
         return Fault::InUse.status();
@@ -63,7 +69,7 @@ pub extern "C" fn uclboard_pass_enlist(alloc: Global, pass: &mut Handle, other: 
     other.give(pass.with_held(alloc, |held| held.enlist_another(alloc)))
 }
 
-/// Returns the match with this number, if the number is 1 to 12.
+/// Returns the match with this number, or `None` unless the number is 1 to 12.
 fn match_with(number: u32) -> Option<MatchNo>
     ensures exists { IsSome result ↔ IsMatch number }
     ensures value { IfSome result (λ game. game ≡ number) }
@@ -74,51 +80,9 @@ fn match_with(number: u32) -> Option<MatchNo>
     }
 }
 
-/// Returns an expected number as the board takes it: a number that no match can have stays one.
-fn expected_told(expected: u32) -> u16
-    ensures { result ≡ expected_told expected }
-{
-    match u16::try_from(expected) {
-        Ok(expected) => expected,
-        Err(_) => 65535,
-    }
-}
-
-/// Checks the event of these numbers: the kind first, then the match.
-fn call_of(game: u32, expected: u32, kind: u32) -> Result<EventCall, Fault>
-    ensures call { IfOk result (λ call. IsCallOf game expected kind call) }
-    ensures sound { IfOk result (λ _. fault_of_call game kind ≡ None) }
-    ensures refused { IfErr result (λ fault. fault_of_call game kind ≡ Some fault) }
-{
-    let Some(kind) = Kind::from_code(kind) else {
-        return Err(Fault::NoKind);
-    };
-    let Some(game) = match_with(game) else {
-        return Err(Fault::NoMatch);
-    };
-    Ok(EventCall {
-        game,
-        expected: expected_told(expected),
-        kind,
-    })
-}
-
-/// Answers a reply by its status, and writes the number of an accepted event or of a stale one.
-fn answer(reply: Result<Accepted, Refusal>, number: &mut u32) -> u32
-    ensures status { result ≡ status_of_reply reply }
-    ensures number { number.new ≡ number_after reply number.old }
-{
-    match reply {
-        Ok(accepted) => {
-            *number = u32::from(accepted.number);
-            0
-        }
-        Err(refusal) => Fault::Refused(refusal).tell_found(number),
-    }
-}
-
-/// Enters an event of a match under the number of a reporter's pass. The kind is judged first, then the match, then the pass, and then the
-/// rules. Only an accepted event and a stale one write to `number`.
+/// Enters an event, of the kind with code `kind`, by the reporter's pass of a handle. `expected` is how many events match `game` had when
+/// its reporter saw it last; if that is not so now, the event is stale. The first fault is returned: of the kind, the match, the pass, or
+/// the rules. Writes to `number` how many events the match has had, if this one is accepted or stale.
 #[unsafe(no_mangle)]
 pub extern "C" fn uclboard_pass_report(
     alloc: Global,
@@ -129,23 +93,35 @@ pub extern "C" fn uclboard_pass_report(
     number: &mut u32,
 ) -> u32
     ensures judged { fault_of_event (pass_held pass.old) game kind ≡ None →
-        IsReply game expected kind (pass_held pass.old) (pass_held pass.new)
-        result number.old number.new }
+        IsReply (record { game = game; expected = expected; code = kind })
+        (pass_held pass.old) (pass_held pass.new) result number.old number.new }
     ensures refused { (fault : Fault) → fault_of_event (pass_held pass.old) game kind ≡ Some fault →
         (result ≡ fault_code fault) × (pass_held pass.new ≡ pass_held pass.old)
         × (number.new ≡ number.old) }
+    ensures null { fault_of_room pass.new ≡ fault_of_room pass.old }
 {
-    let call = match call_of(game, expected, kind) {
-        Ok(call) => call,
-        Err(fault) => return fault.status(),
+    let Some(kind) = Kind::from_code(kind) else {
+        return Fault::NoKind.status();
     };
-    match pass.with_held(alloc, |held| held.report(&call)) {
-        Ok(reply) => answer(reply, number),
-        Err(fault) => fault.status(),
+    let Some(game) = match_with(game) else {
+        return Fault::NoMatch.status();
+    };
+    let call = EventCall {
+        game,
+        expected: expected_told(expected),
+        kind,
+    };
+    let reply = or_return!(pass.with_held(alloc, |held| held.report(&call)));
+    match reply {
+        Ok(accepted) => {
+            *number = u32::from(accepted.number);
+            0
+        }
+        Err(refusal) => refused(refusal, number),
     }
 }
 
-/// Returns the number of a reporter's pass.
+/// Writes the number of the reporter's pass of a handle to `number`, or nothing if the handle is null (60) or has a reader's pass (63).
 #[unsafe(no_mangle)]
 pub extern "C" fn uclboard_pass_number(alloc: Global, pass: &mut Handle, number: &mut u32) -> u32
     ensures told { fault_of_report (pass_held pass.old) ≡ None →
@@ -153,17 +129,15 @@ pub extern "C" fn uclboard_pass_number(alloc: Global, pass: &mut Handle, number:
     ensures refused { (fault : Fault) → fault_of_report (pass_held pass.old) ≡ Some fault →
         (result ≡ fault_code fault) × (number.new ≡ number.old) }
     ensures unchanged { pass_held pass.new ≡ pass_held pass.old }
+    ensures null { fault_of_room pass.new ≡ fault_of_room pass.old }
 {
-    match pass.with_held(alloc, |held| held.number()) {
-        Ok(own) => {
-            *number = u32::from(own.get());
-            0
-        }
-        Err(fault) => fault.status(),
-    }
+    let own = or_return!(pass.with_held(alloc, |held| held.number()));
+    *number = u32::from(own.get());
+    0
 }
 
-/// Reads the board: its twelve words, and its version. The room for words is judged first, then the pass.
+/// Reads the board by the pass of a handle, of either kind: its twelve matches, each packed into a word, and its version, which is how many
+/// events were entered. If `words` is not twelve long (54) or the handle is null (60), writes nothing.
 #[unsafe(no_mangle)]
 pub extern "C" fn uclboard_pass_read(
     alloc: Global,
@@ -178,21 +152,18 @@ pub extern "C" fn uclboard_pass_read(
         fault_of_reading (pass_held pass.old) (length words.old) ≡ Some fault →
         (result ≡ fault_code fault) × (pass_held pass.new ≡ pass_held pass.old)
         × (words.new ≡ words.old) × (version.new ≡ version.old) }
+    ensures null { fault_of_room pass.new ≡ fault_of_room pass.old }
 {
     if words.len() != 12 {
         return Fault::NotTwelve.status();
     }
-    match pass.with_held(alloc, |held| held.read()) {
-        Ok(reading) => {
-            words.copy_from_slice(&reading.board.words());
-            *version = u32::from(reading.version);
-            0
-        }
-        Err(fault) => fault.status(),
-    }
+    let reading = or_return!(pass.with_held(alloc, |held| held.read()));
+    words.copy_from_slice(&reading.board.words());
+    *version = u32::from(reading.version);
+    0
 }
 
-/// Lets the pass of a handle go, and with the last pass of a board the board. The handle is null then; one that was null stays so.
+/// Drops the pass of a handle, and with the last pass of a board the board. The handle is null then; if it was null it stays so.
 #[unsafe(no_mangle)]
 pub extern "C" fn uclboard_pass_drop(alloc: Global, pass: &mut Handle)
     ensures null { fault_of_room pass.new ≡ None }

@@ -1,4 +1,4 @@
-//! A `Box` with its fields in sight of the module above.
+//! A `Box` that is taken apart into its pointer and its allocator, so that C can keep the pointer.
 
 ghost use Rattle.std.specs.Prelude.{◌≡◌};
 ghost use Rattle.std.specs.Box.Ownership.{box_owns};
@@ -6,7 +6,7 @@ ghost use Rattle.std.specs.Box.Ownership.{box_owns};
 use std::alloc::Allocator;
 use std::marker::Model;
 
-/// What a box is made of: where its value lies, and who frees it.
+/// The parts of a box: the pointer to its value, and the allocator that frees it. Contracts see as `value` what lies at the pointer.
 pub struct RawBox<T, A: Allocator> {
     pub(crate) ptr: *mut T,
     pub(crate) alloc: A,
@@ -18,7 +18,7 @@ impl<T, A: Allocator> Model for RawBox<T, A> {
 }
 
 impl<T, A: Allocator> RawBox<T, A> {
-    /// Takes a box apart.
+    /// Takes a box apart into its pointer and its allocator.
     pub fn of(b: Box<T, A>) -> RawBox<T, A>
     where
         T: Drop,
@@ -28,7 +28,7 @@ impl<T, A: Allocator> RawBox<T, A> {
         RawBox { ptr, alloc }
     }
 
-    /// Makes the box again.
+    /// Makes the box again from its parts.
     pub fn into_box(self) -> Box<T, A>
         ensures { result.value ≡ self.value }
     {

@@ -1,27 +1,26 @@
-//! A script that is played: its clubs, what becomes of its events, and the words after them.
+//! A script that is played: its events are entered in turn on a board that has none. A script is rows of text, four of clubs and then one
+//! for each event; it is called a night, as two reporters may enter one. A word is a match packed into 64 bits, and twelve are a board. The
+//! version of a board is how many events were entered, and a roster is its four clubs. Slots, 1 to 4, are the places of clubs in it.
 
-ghost use Rattle.std.specs.Prelude.{◌≡◌, ◌≢◌, ◌≤◌, ◌⊎◌, List, [], ◌∷◌, length, Ok, Some, IfOk, IfErr};
+ghost use Rattle.std.specs.Prelude.{◌≡◌, ◌≢◌, ◌≤◌, ◌⊎◌, List, length};
 ghost use Rattle.ucl_board.specs.Fixtures.{IsSlot};
 ghost use Rattle.ucl_board.specs.Words.{max_version};
 ghost use Rattle.ucl_board.specs.declared.entry.Entry.{Entry};
 ghost use Rattle.ucl_board.specs.History.{after_attempt};
 ghost use Rattle.ucl_order.specs.Roster.{club_in};
 ghost use Rattle.ucl_screen.specs.Input.{max_bytes};
-ghost use Rattle.ucl_screen.specs.Script.{night_of};
-ghost use Rattle.ucl_screen.specs.Parsing.{night_seen};
 ghost use Rattle.ucl_screen.specs.Events.{IsBoardAfter, attempt_of};
-ghost use Rattle.ucl_c.specs.declared.fault.Fault.TheVariants.{OutOfMemory};
-ghost use Rattle.ucl_c.specs.Faults.{fault_of_four, fault_of_play, fault_of_script, fault_of_twelve, first_fault, place_with, status_with};
-ghost use Rattle.ucl_c.specs.Replies.{CountsEvents, IsWholeScript, club_written, clubs_written, replies_to, reply_after, words_after};
+ghost use Rattle.ucl_c.specs.Faults.{fault_of_play, place_with, status_with};
+ghost use Rattle.ucl_c.specs.Replies.{CountsEvents, IsWholeScript, club_written, replies_to, reply_after, words_after};
 
 use crate::fault::Fault;
 use crate::group::ClubOfC;
 use std::alloc::Global;
 use ucl_board::Board;
 use ucl_order::Roster;
-use ucl_screen::{Night, NightEvent, night_of_bytes};
+use ucl_screen::{NightEvent, night_of_bytes};
 
-/// What became of an event of a script.
+/// What became of an event of a script when it was entered.
 #[repr(C)]
 #[derive(Clone, Copy, Debug, PartialEq, Eq)]
 pub struct ReplyOfC {
@@ -29,15 +28,15 @@ pub struct ReplyOfC {
     pub row: u32,
     /// The match, 1 to 12.
     pub match_number: u32,
-    /// 0 where the event was entered, else the rule that refuses it, 1 to 9.
+    /// 0 if the event was entered, otherwise the rule that refuses it, 1 to 9.
     pub status: u32,
-    /// The match's event number after the event; where the event is stale, the number found; else 0.
+    /// The match's event number after an event that was entered, the one found by a stale event, or 0.
     pub event_number: u32,
     /// How many events were entered by then.
     pub version: u32,
 }
 
-/// Enters the event of a row on a board of this version.
+/// Enters the event of a row on a board of this version, and returns what became of it: accepted, with the next version, or refused.
 fn reply_to(board: &mut Board, version: u32, row: u32, event: &NightEvent) -> ReplyOfC
     requires { version ≤ max_version }
     ensures reply { (h : List Entry) → IsBoardAfter h board.old version →
@@ -64,7 +63,7 @@ fn reply_to(board: &mut Board, version: u32, row: u32, event: &NightEvent) -> Re
     }
 }
 
-/// Enters the events in turn on a fresh board, and writes what becomes of each. Gives the board afterwards.
+/// Enters the events of a script in turn on a board that has none, writes what becomes of each to `replies`, and returns the board.
 fn play(events: &[NightEvent], replies: &mut [ReplyOfC]) -> Board
     requires room { length replies.old ≡ length events.now }
     requires few { length events.now ≤ max_bytes }
@@ -83,7 +82,7 @@ fn play(events: &[NightEvent], replies: &mut [ReplyOfC]) -> Board
     board
 }
 
-/// Returns the club in a slot.
+/// Returns the club in a slot of a roster in the form of C, with zeros behind its name.
 fn club_of(roster: &Roster, slot: u8) -> ClubOfC
     requires { IsSlot slot }
     ensures { result ≡ club_written (club_in roster.now slot) }
@@ -98,39 +97,9 @@ fn club_of(roster: &Roster, slot: u8) -> ClubOfC
     }
 }
 
-/// Returns the clubs of a roster.
-fn clubs_of(roster: &Roster) -> [ClubOfC; 4]
-    ensures { result ≡ clubs_written roster.now }
-{
-    [
-        club_of(roster, 1),
-        club_of(roster, 2),
-        club_of(roster, 3),
-        club_of(roster, 4),
-    ]
-}
-
-/// Reads a script from its bytes, if there is room for its words and its clubs.
-fn script_of(alloc: Global, script: &[u8], clubs: usize, words: usize) -> Result<Night, Fault>
-    ensures said { IfOk result (λ night. night_of script.now ≡ Ok (night_seen night)) }
-    ensures room { IfOk result (λ _. (words ≡ 12) × (clubs ≡ 4)) }
-    ensures few { IfOk result (λ night. length night.events.items ≤ max_bytes) }
-    ensures refused { IfErr result (λ fault. fault ≢ OutOfMemory →
-        first_fault (fault_of_twelve words ∷ fault_of_four clubs ∷ fault_of_script script.now ∷ [])
-        ≡ Some fault) }
-{
-    if words != 12 {
-        return Err(Fault::NotTwelve);
-    }
-    if clubs != 4 {
-        return Err(Fault::NotFour);
-    }
-    Ok(night_of_bytes(alloc, script)?)
-}
-
-/// Plays a whole script: enters its events in turn on a board before any event. Its clubs go to `clubs`, with zeros behind their names,
-/// what became of each event to the front of `replies`, the twelve words after the last to `words`, and how many events there are to
-/// `count`, also where `replies` has no room for as many.
+/// Plays a whole script and returns 0, or the number of a fault. Its clubs go to `clubs`, what became of each event to the front of
+/// `replies`, the twelve words after the last to `words`, and how many events there are to `count`, also if `replies` has no room for as
+/// many (56). The row or the club that is wrong goes to `at`.
 #[unsafe(no_mangle)]
 pub extern "C" fn uclboard_script(
     alloc: Global,
@@ -154,18 +123,29 @@ pub extern "C" fn uclboard_script(
     ensures uncounted { result ≢ 0 → result ≢ 56 → count.new ≡ count.old }
     ensures no_place { result ≡ 23 → at.new ≡ at.old }
 {
-    match script_of(alloc, script, clubs.len(), words.len()) {
-        Ok(night) => {
-            let events = night.events.len();
-            *count = events;
-            if replies.len() < events {
-                return Fault::NoRoom.status();
-            }
-            let board = play(&night.events, &mut replies[..events]);
-            words.copy_from_slice(&board.words());
-            clubs.copy_from_slice(&clubs_of(&night.roster));
-            0
-        }
-        Err(fault) => fault.tell(at),
+    if words.len() != 12 {
+        return Fault::NotTwelve.status();
     }
+    if clubs.len() != 4 {
+        return Fault::NotFour.status();
+    }
+    let night = match night_of_bytes(alloc, script) {
+        Ok(night) => night,
+        Err(fault) => return Fault::from(fault).status_at(at),
+    };
+    let events = night.events.len();
+    *count = events;
+    if replies.len() < events {
+        return Fault::NoRoom.status();
+    }
+    let board = play(&night.events, &mut replies[..events]);
+    words.copy_from_slice(&board.words());
+    let roster = &night.roster;
+    clubs.copy_from_slice(&[
+        club_of(roster, 1),
+        club_of(roster, 2),
+        club_of(roster, 3),
+        club_of(roster, 4),
+    ]);
+    0
 }

@@ -1,16 +1,18 @@
-//! Twelve words: their version and the table.
+//! The version and the table of a board that is given as its twelve words, each a match in 64 bits. Clubs are known by their slots, 1 to 4,
+//! and ranked by their coefficients if nothing else tells them apart; a profile is the set of tie-break rules. A call returns 0 or the
+//! number of a fault, and writes the place of a bad word, or the slot of a bad coefficient, to `at`.
 
-ghost use Rattle.std.specs.Prelude.{◌≡◌, ◌≢◌, List, length, map, None, Some, IfOk, IfErr};
+ghost use Rattle.std.specs.Prelude.{◌≡◌, ◌≢◌, List, length};
 ghost use Rattle.ucl_order.specs.Roster.{NamedClub, coefficients_in};
 ghost use Rattle.ucl_c.specs.Codes.{mark_code};
-ghost use Rattle.ucl_c.specs.Faults.{club_with, fault_of_table, fault_of_words, place_with, status_with};
+ghost use Rattle.ucl_c.specs.Faults.{fault_of_table, fault_of_words, place_with, status_with};
 ghost use Rattle.ucl_c.specs.Tables.{row_seen, table_shown, version_told};
 
-use crate::fault::Fault;
+use crate::fault::{Fault, or_return};
 use crate::group::{board_of, profile_of, roster_with};
 use ucl_order::{Mark, Row, standings};
 
-/// A club at its place of the table.
+/// A row of the table in the form of C: a club at its place.
 #[repr(C)]
 #[derive(Clone, Copy, Debug, PartialEq, Eq)]
 pub struct RowOfC {
@@ -18,7 +20,7 @@ pub struct RowOfC {
     pub slot: u32,
     /// The place, 1 to 4.
     pub place: u32,
-    /// 0 blank, 1 plus, 2 minus.
+    /// 0 blank, 1 plus: the club is certain to be first or second, 2 minus: it is certain not to be.
     pub mark: u32,
     pub played: u32,
     pub wins: u32,
@@ -29,7 +31,7 @@ pub struct RowOfC {
     pub points: u32,
 }
 
-/// Writes the version of a board to `version`: the sum of the event numbers of its twelve words.
+/// Writes to `version` how many events the twelve matches of a board have had in all; if `words` is no board, leaves it as it was.
 #[unsafe(no_mangle)]
 pub extern "C" fn uclboard_board_version(words: &[u64], version: &mut u32, at: &mut u32) -> u32
     ensures told { result ≡ status_with (fault_of_words words.now) }
@@ -37,16 +39,12 @@ pub extern "C" fn uclboard_board_version(words: &[u64], version: &mut u32, at: &
     ensures done { result ≡ 0 → version.new ≡ version_told words.now }
     ensures unchanged { result ≢ 0 → version.new ≡ version.old }
 {
-    match board_of(words) {
-        Ok(board) => {
-            *version = u32::from(board.version());
-            0
-        }
-        Err(fault) => fault.tell(at),
-    }
+    let board = or_return!(board_of(words), at);
+    *version = u32::from(board.version());
+    0
 }
 
-/// Returns the number of a mark.
+/// Returns the number by which C knows a mark: 0 blank, 1 plus (the club is certain to be first or second), 2 minus (certain not to be).
 fn mark_code(mark: Mark) -> u32
     ensures { result ≡ mark_code mark }
 {
@@ -57,6 +55,7 @@ fn mark_code(mark: Mark) -> u32
     }
 }
 
+/// Returns a row of the table in the form of C: with all figures in 32 bits, and the mark as a number.
 fn row_seen(row: &Row) -> RowOfC
     ensures { result ≡ row_seen row.now }
 {
@@ -74,38 +73,8 @@ fn row_seen(row: &Row) -> RowOfC
     }
 }
 
-/// Returns the four rows of the table of these words, or the fault of the profile, the words, the coefficients or the room.
-fn rows_of(
-    words: &[u64],
-    coefficients: &[u32],
-    profile: u32,
-    room: usize,
-) -> Result<[RowOfC; 4], Fault>
-    ensures rows { IfOk result (λ rows.
-        rows ≡ table_shown profile words.now (map club_with coefficients.now)) }
-    ensures sound { IfOk result (λ _. (room ≡ 4)
-        × (fault_of_table profile words.now coefficients.now room ≡ None)) }
-    ensures refused { IfErr result (λ fault.
-        fault_of_table profile words.now coefficients.now room ≡ Some fault) }
-{
-    let profile = profile_of(profile)?;
-    let board = board_of(words)?;
-    let roster = roster_with(coefficients)?;
-    if room != 4 {
-        return Err(Fault::NotFourRows);
-    }
-    let rows = standings(&board, &roster, profile);
-    Ok([
-        row_seen(&rows[0]),
-        row_seen(&rows[1]),
-        row_seen(&rows[2]),
-        row_seen(&rows[3]),
-    ])
-}
-
-/// Writes the table of twelve words and the coefficients of four clubs: four rows, in order of place.
-///
-/// They are the rows for any clubs of these coefficients, since a table does not go by names. If it is not done, `rows` is as it was.
+/// Writes to `rows` the table of twelve words and four clubs with these coefficients: four rows, in order of place, which do not depend on
+/// the names of the clubs. If it is not done, `rows` is as it was.
 #[unsafe(no_mangle)]
 pub extern "C" fn uclboard_standings(
     words: &[u64],
@@ -122,11 +91,18 @@ pub extern "C" fn uclboard_standings(
         result ≡ 0 → rows.new ≡ table_shown profile words.now clubs }
     ensures unchanged { result ≢ 0 → rows.new ≡ rows.old }
 {
-    match rows_of(words, coefficients, profile, rows.len()) {
-        Ok(made) => {
-            rows.copy_from_slice(&made);
-            0
-        }
-        Err(fault) => fault.tell(at),
+    let profile = or_return!(profile_of(profile), at);
+    let board = or_return!(board_of(words), at);
+    let roster = or_return!(roster_with(coefficients), at);
+    if rows.len() != 4 {
+        return Fault::NotFourRows.status();
     }
+    let table = standings(&board, &roster, profile);
+    rows.copy_from_slice(&[
+        row_seen(&table[0]),
+        row_seen(&table[1]),
+        row_seen(&table[2]),
+        row_seen(&table[3]),
+    ]);
+    0
 }

@@ -1,14 +1,14 @@
-//! Texts, written into the caller's room.
+//! Texts, written into the buffer of a caller: a text is handed over with a zero behind it, and with the number of its bytes. A status is
+//! the number that a call of C returns: 0, or that of a fault or of a rule that refuses an event.
 
-ghost use Rattle.std.specs.Prelude.{◌≡◌, List, ℕ, None, Some, IfOk, IfErr, MatchOption, string_bytes};
-ghost use Rattle.ucl_c.specs.Codes.{name_in, name_of_status, names_of_statuses};
-ghost use Rattle.ucl_c.specs.Faults.{fault_code, place_with};
+ghost use Rattle.std.specs.Prelude.{◌≡◌, List, ℕ, None, Some, MatchOption};
+ghost use Rattle.ucl_c.specs.Codes.{name_of_status};
 ghost use Rattle.ucl_c.specs.Tables.{HandsOver};
 
 use crate::fault::Fault;
 use ucl_word::Refusal;
 
-/// Writes a text and a zero to the front of `out`, if there is room for both; its length goes to `length` in any case.
+/// Writes a text and a zero to the front of `out` and returns 0, or 56 if there is no room for both; writes its length to `length` anyway.
 pub fn hand_over(text: &[u8], out: &mut [u8], length: &mut usize) -> u32
     ensures { HandsOver text.now out.old out.new length.new result }
 {
@@ -22,24 +22,10 @@ pub fn hand_over(text: &[u8], out: &mut [u8], length: &mut usize) -> u32
     0
 }
 
-/// Writes a text, a zero and the length of the text, and returns 0, or the status of the fault, whose place it writes to `at`.
-pub fn answer(made: Result<String, Fault>, out: &mut [u8], length: &mut usize, at: &mut u32) -> u32
-    ensures handed { IfOk made (λ text.
-        HandsOver (string_bytes text) out.old out.new length.new result × (at.new ≡ at.old)) }
-    ensures refused { IfErr made (λ fault. (result ≡ fault_code fault)
-        × (at.new ≡ place_with (Some fault) at.old)
-        × (out.new ≡ out.old) × (length.new ≡ length.old)) }
-{
-    match made {
-        Ok(text) => hand_over(text.as_bytes(), out, length),
-        Err(fault) => fault.tell(at),
-    }
-}
-
-/// Returns the name of a status that no refusal has, if there is one.
-fn other_name(status: u32) -> Option<&'static str>
-    ensures { MatchOption result (name_in names_of_statuses status ≡ None)
-        (λ name. name_in names_of_statuses status ≡ Some name.now) }
+/// Returns the name of a status, or `None` if the number is no status.
+fn name_of_status(status: u32) -> Option<&'static str>
+    ensures { MatchOption result (name_of_status status ≡ None)
+        (λ name. name_of_status status ≡ Some name.now) }
 {
     match status {
         0 => Some("done"),
@@ -63,25 +49,15 @@ fn other_name(status: u32) -> Option<&'static str>
         61 => Some("not a reader"),
         62 => Some("no match"),
         63 => Some("not a reporter"),
-        _ => None,
+        _ => match Refusal::from_code(status, 0) {
+            Some(refusal) => Some(refusal.name()),
+            None => None,
+        },
     }
 }
 
-/// Returns the name of a status, if there is one: that of the refusal with this number, or one of the others.
-fn name_of_status(status: u32) -> Option<&'static str>
-    ensures { MatchOption result (name_of_status status ≡ None)
-        (λ name. name_of_status status ≡ Some name.now) }
-{
-    match Refusal::from_code(status, 0) {
-        Some(refusal) => Some(refusal.name()),
-        None => other_name(status),
-    }
-}
-
-/// Writes the name of a status.
-///
-/// Its bytes and a zero go to the front of `out`, and their number without the zero to `length`, also if the room is too small. A number that
-/// is no status leaves both as they were.
+/// Writes the name of a status and a zero to the front of `out`, and the length of the name to `length`, also if `out` is too small (56). A
+/// number that is no status (58) leaves both as they were.
 #[unsafe(no_mangle)]
 pub extern "C" fn uclboard_text_of_status(status: u32, out: &mut [u8], length: &mut usize) -> u32
     ensures known { (name : List ℕ) → name_of_status status ≡ Some name →

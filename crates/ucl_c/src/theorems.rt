@@ -1,19 +1,20 @@
-//! Theorems on all words, on the numbers of faults, and on how long screens are. The functions do nothing: they are there for their contracts.
+//! Theorems on all words, on the numbers of faults, and on how long screens are. The functions are there for their contracts only.
+//! A word is a match packed into 64 bits, twelve are a board, and a screen is its table as text. A fault is why a call of C is not done.
 
 ghost use Rattle.ucl_c.specs.Theorems.{FaultsAreWrittenByNumber, ScreensAreShort, WordsAreJudged};
 
-/// Shows that the function by which the contracts of calls read twelve words, as a board or as the first bad word, agrees with the definitions of a
-/// board, and that the test of a single word is whether it is that of a valid record.
+/// Proves that `read_words`, by which contracts read twelve words, gives the board that the definitions say, or else the first word that is
+/// no match's; and that `is_word`, which tests one word, holds of just the words of valid matches.
 pub fn words_are_judged()
     ensures { WordsAreJudged }
 {}
 
-/// Shows that the programs write each fault that a call can return by its number, and answer a bad row by the number and the name of its status.
+/// Proves that the programs write faults of their input under the numbers for C, and that `ucl_live` answers a bad row by number and name.
 pub fn faults_are_written_by_number()
     ensures { FaultsAreWrittenByNumber }
 {}
 
-/// Shows that a screen has at most 296 bytes, and its line of JSON at most 1,423 with its line feed: for each board, roster, group, order and row.
+/// Proves that each screen has at most 296 bytes, and that the line of JSON with it, which answers a row of `ucl_live`, has at most 1,423.
 pub fn screens_are_short()
     ensures { ScreensAreShort }
 {}

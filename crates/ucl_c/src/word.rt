@@ -1,4 +1,5 @@
-//! Whether a word is that of a valid record, told by its bits.
+//! Whether a word, 64 bits, holds a valid match, by its bits: 12 from bit 0 on are the event number, which is how many events the match has
+//! had, 2 the state, 8 from bit 48 on the number of the last reporter, and the top 8 mark today's layout of words.
 
 ghost use Rattle.std.specs.Prelude.{◌≡◌, ◌<◌, ◌↔◌, IsTrue};
 ghost use Rattle.ucl_word.specs.Layout.{IsWord, bits_at};
@@ -8,7 +9,7 @@ ghost use Rattle.ucl_c.specs.Inputs.{HasBegun};
 /// The word of a match before its kick-off.
 const SCHEDULED_WORD: u64 = 0x2000_0000_0000_0000;
 
-/// Returns the bits of a word from `low` on, as many as `width`.
+/// Returns the number in the `width` bits of a word from bit `low` on.
 fn bits(word: u64, low: u32, width: u32) -> u64
     requires low { low < 64 }
     requires width { width < 64 }
@@ -17,7 +18,7 @@ fn bits(word: u64, low: u32, width: u32) -> u64
     word >> low & (1 << width) - 1
 }
 
-/// Returns whether a word is that of a match that has begun.
+/// Returns whether a word is that of a match that has kicked off: in play or finished.
 fn has_begun(word: u64) -> bool
     ensures { IsTrue result ↔ HasBegun word }
 {
@@ -31,7 +32,7 @@ fn has_begun(word: u64) -> bool
         && number <= 4093 + state
 }
 
-/// Returns whether a word is that of a valid record. It makes no record of it, as [`unpack`](ucl_word::unpack) does.
+/// Returns whether a word is that of a valid match, without unpacking it, as [`unpack`](ucl_word::unpack) does.
 pub fn is_word(word: u64) -> bool
     ensures word { IsTrue result ↔ IsWord word }
     ensures test { result ≡ is_word word }

@@ -15,7 +15,7 @@ pub use ucl_runs::{
 use ucl_screen::{FromRead, ToWrite};
 use ucl_words::WordBoard;
 
-/// Runs the program over the standard streams. Standard output has no buffer, so that nothing is left to flush.
+/// Runs the program over its arguments and the standard streams. Standard output has no buffer, so that nothing is left to flush.
 fn main(rt: HostRuntime) -> ExitCode {
     let alloc = rt.alloc();
     let mut source = FromRead::new(rt.stdin());

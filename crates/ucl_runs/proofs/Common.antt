@@ -12,7 +12,7 @@ pub use Rattle.std.specs.Io.KnownBytes.{Appends}
 pub use Rattle.std.specs.List.{fold}
 pub use Rattle.std.specs.Prelude.{All, Err, IfErr, IfSome, Ok, OnOk, Result, if◌then◌else◌, option_map, string_bytes, ⊤}
 pub use Rattle.std.specs.Result.{is_ok}
-pub use Rattle.ucl_board.proofs.Repeats.{at_within, begins_length, begins_take, begins_through, take_beginning}
+pub use Rattle.ucl_board.proofs.HistoryTheorems.{at_within, begins_length, begins_take, begins_through, take_beginning}
 pub use Rattle.ucl_board.specs.Fixtures.{match_numbers}
 pub use Rattle.ucl_board.specs.History.{Attempt, IsLegal, accepted_of, after_attempt, attempted, entries_of, entry_of, followed_by, sequential_reply, snapshot_at}
 pub use Rattle.ucl_board.specs.declared.entry.Entry.{Entry}
@@ -24,8 +24,7 @@ pub use Rattle.ucl_runs.specs.Feed.{IsFed}
 pub use Rattle.ucl_runs.specs.Nights.{ComesFirst, EachMatchHasOneReporter, HasEntered, HasShown, IsEnteredAt, IsInterleaving, IsOnDuty, IsRefusedAt}
 pub use Rattle.ucl_runs.specs.Nights.{HasLinearizationPoint, attempt_by, last_shown, number_of_two}
 pub use Rattle.ucl_rows.specs.Run.{IsStopped, TextHas}
-pub use Rattle.ucl_runs.specs.Show.{IsShown}
-pub use Rattle.ucl_runs.specs.Styles.{styled}
+pub use Rattle.ucl_runs.specs.Show.{IsShown, styled}
 pub use Rattle.ucl_rows.specs.declared.fault.RunFault.{RunFault}
 pub use Rattle.ucl_screen.proofs.EventsInTurn.{first-event}
 pub use Rattle.ucl_screen.specs.Events.{attempt_of}

@@ -7,7 +7,7 @@ use Rattle.ucl_runs.proofs.Common.{IsRefusedAt, NightEvent, PassView, Refusal, a
 use Rattle.ucl_runs.proofs.Common.{if◌then◌else◌, ne_eqb, take-length, ◌⊎◌, All, All-get_or, IsLegal, IsInterleaving, IsOnDuty, None}
 use Rattle.ucl_runs.proofs.Common.{Option, attempt_by, begins_take, get_or, number_of_two, subst, take_more, ◌+◌}
 use Rattle.std.proofs.lemmas.List.{nil_from_length, same_from_push}
-use Rattle.ucl_board.proofs.Repeats.{at_beginning}
+use Rattle.ucl_board.proofs.HistoryTheorems.{at_beginning}
 use Rattle.ucl_live_board.proofs.Lists.{by_more, by_own, goes_on, unchanged}
 use Rattle.std.proofs.Common.{Result, Ok, Err, IfOk, IfErr, le_refl}
 use Rattle.std.proofs.Math.Seq.{take-append_seam}
@@ -18,7 +18,7 @@ use Rattle.std.proofs.lemmas.Bool.{cases_order}
 use Rattle.std.proofs.lemmas.Option.{get_or_from_slice_get}
 use Rattle.ucl_board.proofs.HistoryTheorems.{legal_take}
 use Rattle.ucl_live_board.specs.Settling.{Settled, IsOfBoth}
-use Rattle.ucl_rows.proofs.Elements.{get_some}
+use Rattle.ucl_runs.proofs.Elements.{get_some}
 
 -- the beginning of a history
 module _ (s h : List Entry) (on : IsPrefix s h) where

@@ -1,7 +1,5 @@
 pub mod Common
-pub mod Texts
+pub mod Elements
 pub mod RunFacts
-pub mod ShownVersions
-pub mod Duty
 pub mod EnteredRows
 pub mod Merges

@@ -10,8 +10,8 @@ use Rattle.std.proofs.lemmas.List.Sums.{fold_push}
 use Rattle.ucl_word.specs.Counts.{counted_match}
 use Rattle.ucl_word.proofs.EntryCounts.{entered}
 use Rattle.ucl_board.specs.History.{board_of}
-use Rattle.ucl_board.proofs.Histories.{entries_same, entries_else}
-use Rattle.ucl_rows.proofs.Elements.{get_some, take_one}
+use Rattle.ucl_board.proofs.HistoryTheorems.{entries_same, entries_else}
+use Rattle.ucl_runs.proofs.Elements.{get_some, take_one}
 use Rattle.ucl_runs.specs.Nights.{ScheduleDoesNotMatter, night_board}
 use Rattle.ucl_runs.proofs.EnteredRows.{entered_within, place_within}
 

@@ -1,24 +1,34 @@
--- The text of an input that was accepted, how a night ends, and what is done if the arguments ask for no command.
-use Rattle.ucl_runs.proofs.Common.{Err, IfErr, IfSome, IsFed, IsShown, List, MeansNight, None, Ok, OnOk, Option, Profile, Result, RunFault}
-use Rattle.ucl_runs.proofs.Common.{Script, Some, TextHas, screen_text, ℕ, ◌≡◌, Appends, Bool, IsOnDuty, IsStopped, NightEvent, StoppedShort}
-use Rattle.ucl_runs.proofs.Common.{false, refl, styled, ⊤, ap}
-use Rattle.std.specs.Prelude.{Bool}
+-- How a run ends, from what its calls return; and one step more of its loops: one reply line, one row of a script, one reading.
+use Rattle.ucl_runs.proofs.Common.{All, All-push, Appends, Bool, Continues, Entry, Err, HasShown, IfErr, IfSome, IsFed, IsOnDuty, IsShown, IsStopped, List}
+use Rattle.ucl_runs.proofs.Common.{MeansNight, NightEvent, None, Ok, OnOk, Option, PassView, Profile, Reading, Result, RunFault, Script, SharedReading, Some}
+use Rattle.ucl_runs.proofs.Common.{TextHas, [], after_attempt, ap, append_assoc, arith, attempt_of, begins_length, begins_through, drop, false, first-event, get_or}
+use Rattle.ucl_runs.proofs.Common.{inl, inr, length, length-append, refl, screen_text, styled, subst, suc, sym, take, take-append-drop, true, zero, ℕ, ⊎_elim, ⊤}
+use Rattle.ucl_runs.proofs.Common.{◌++◌, ◌+◌, ◌-◌, ◌<◌, ◌∙◌, ◌∷◌, ◌≡◌, ◌≤◌, ◌⊎◌}
 use Rattle.ucl_screen.specs.Script.{WrittenSheet}
 use Rattle.ucl_screen.specs.Parsing.{MeansSheet}
-use Rattle.ucl_runs.specs.Feed.{feed_text}
+use Rattle.ucl_screen.specs.Input.{Reads}
+use Rattle.ucl_screen.specs.declared.fault.InputFault.{InputFault}
+use Rattle.ucl_runs.specs.Feed.{feed_text, reply_lines}
 use Rattle.ucl_rows.specs.declared.fault.RunFault.TheVariants.{WriteFailed, Input, NotOnDuty, OutOfMemory}
+use Rattle.ucl_rows.specs.Faults.{handed_on}
 use Rattle.ucl_io.specs.Stream.{WroteFirst}
-use Rattle.ucl_rows.specs.Run.{IfWriteFailed, IsCutShort, CallsWithin}
-use Rattle.std.proofs.Common.{All}
+use Rattle.ucl_io.specs.Output.{StoppedShort}
+use Rattle.ucl_rows.specs.Run.{CallsWithin, DistinguishesMemory, IfInput, IfWriteFailed, IsCutShort, is_read_failed}
 use Rattle.ucl_command.specs.declared.night.Line.TheVariants.{Night}
 use Rattle.ucl_runs.specs.declared.night.NightEnd.{NightEnd}
 use Rattle.ucl_runs.specs.Nights.{IsDutyTold, IsFirstOffDuty, IsNightEnd, IsWhyNoNight, night_output}
-use Rattle.ucl_runs.specs.Program.{IsFaultOfNight, IsPlayed, Executes, streams, Streams, streams_at}
-use Rattle.ucl_command.specs.declared.fault.LineFault.{LineFault}
-use Rattle.ucl_command.specs.declared.fault.LineFault.TheVariants.{Help, Refused, OutOfMemory}
-use Rattle.ucl_rows.specs.Ending.{Ended, ExitsWithoutCommand}
+use Rattle.ucl_runs.specs.Program.{IsFaultOfNight, IsOfScript, IsPlayed, IsRun, Streams, Task, task_of}
+use Rattle.std.proofs.lemmas.List.{append-nil}
+use Rattle.ucl_screen.proofs.EventsInTurn.{past}
+use Rattle.ucl_rows.specs.Lines.{reply_line}
+use Rattle.std.proofs.Common.{take_all, length-take-le}
+use Rattle.std.proofs.lemmas.List.Elements.{All-more}
+use Rattle.std.specs.List.Sorted.{IsNonDecreasing}
+use Rattle.std.proofs.lemmas.List.Sorted.{IsNonDecreasingBy-push}
+use Rattle.ucl_live_board.specs.Passes.{IsReadingOf}
+use Rattle.ucl_runs.specs.Show.{Style, styled_screen}
+use Rattle.ucl_screen.specs.declared.fault.InputFault.TheVariants as input
 use Rattle.ucl_live_board.specs.declared.live_board.LiveBoard as boards
-use Rattle.ucl_io.specs.declared.stream.Source as reads
 use Rattle.ucl_io.specs.declared.stream.Sink as writes
 
 -- a script's text, and a sheet's screen
@@ -32,121 +42,195 @@ pub shown : (profile : Profile) (known : Option (List ℕ)) (group : ℕ) (sheet
 shown profile None group sheet text means is = tt
 shown profile (Some bytes) group sheet text means is = record { sheet = sheet; means = means; text_is = is }
 
-pub text-has : (CallsFor : List ℕ → List ℕ → Type 0) (known : Option (List ℕ)) (text : List ℕ) (P : List ℕ → Type 0) → IfSome known (λ bytes. CallsFor bytes text) → P text → TextHas CallsFor known P
+text-has : (CallsFor : List ℕ → List ℕ → Type 0) (known : Option (List ℕ)) (text : List ℕ) (P : List ℕ → Type 0) → IfSome known (λ bytes. CallsFor bytes text) → P text → TextHas CallsFor known P
 text-has CallsFor None text P is h = tt
 text-has CallsFor (Some bytes) text P is h = (text, is, h)
 
--- the whole text went out
-pub text-out : {U : Type 0} (result : Result U RunFault) (CallsFor : List ℕ → List ℕ → Type 0) (known : Option (List ℕ)) (text : List ℕ) (P : List ℕ → Type 0)
-    → IfSome known (λ bytes. CallsFor bytes text) → OnOk result (P text) → OnOk result (TextHas CallsFor known P)
-text-out (Ok u) CallsFor known text P is h = text-has CallsFor known text P is h
-text-out (Err f) CallsFor known text P is h = tt
+-- the output failed within a text, by the fault of the run
+abbrev Cut : (List ℕ → ℕ → Type 0) → Bool → List ℕ → RunFault → Type 0
+Cut Stops failed text (WriteFailed written) = (failed ≡ true) × Stops text written
+Cut Stops failed text _ = ⊥
 
--- its first bytes went out
-pub part-out : {U : Type 0} (result : Result U RunFault) (CallsFor : List ℕ → List ℕ → Type 0) (known : Option (List ℕ)) (text : List ℕ) (failed : Bool) (old new : Option (List ℕ))
-    → IfSome known (λ bytes. CallsFor bytes text) → IfErr result (IsCutShort failed old new text)
-    → IfErr result (λ f. IfWriteFailed f (λ written. TextHas CallsFor known (WroteFirst old new written)))
-part-out (Err (WriteFailed written)) CallsFor known text failed old new is h = text-has CallsFor known text (WroteFirst old new written) is h.1
-part-out _ _ _ _ _ _ _ _ _ = tt
+module _ {W : Type 0} (known : writes.Ghosts W) (task : Task) (before after : Streams W) (calls : CallsWithin before.calls after.calls) where
+  abbrev Stops : List ℕ → ℕ → Type 0
+  Stops text written = task.stops (known.failed after.sink) (known.taken before.sink) (known.taken after.sink) written text
 
--- ---- how a night ends, from what its calls answer
+  -- the text was written, or the output failed within it
+  pub wrote : (text : List ℕ) (r : Result ⊤ RunFault) → after.read_failed ≡ false → IfSome before.left (λ bytes. task.calls_for bytes text)
+      → ((written : ℕ) → task.may_fail before.left (WriteFailed written)) → OnOk r (Appends (known.taken before.sink) (known.taken after.sink) text)
+      → IfErr r (Cut Stops (known.failed after.sink) text) → OnOk r (known.failed after.sink ≡ known.failed before.sink) → IsRun known task before after r
+  wrote text (Ok done) reads is may out part sound = record {
+    text = text-has task.calls_for before.left text (Appends (known.taken before.sink) (known.taken after.sink)) is out;
+    kinds = tt;
+    input = tt;
+    unwritten = tt;
+    memory = λ bad. absurd (cc);
+    read_failed = reads;
+    write_failed = tt;
+    written = tt;
+    sound = sound;
+    calls = calls;
+  }
+  wrote text (Err (WriteFailed written)) reads is may out part sound = record {
+    text = tt;
+    kinds = may written;
+    input = tt;
+    unwritten = tt;
+    memory = λ bad. absurd (cc);
+    read_failed = reads;
+    write_failed = part.0;
+    written = text-has task.calls_for before.left text (λ t. Stops t written) is part.1;
+    sound = tt;
+    calls = calls;
+  }
+  wrote _ _ _ _ _ _ part _ = absurd part
 
-module _ {B R P X : Type 0} (live : boards.Ghosts B R P) (Opens : Result (B × R) X → Type 0) (profile : Profile) (group readings : ℕ) where
-  abbrev Played : List ℕ → List ℕ → Type 0
-  Played = IsPlayed live Opens profile group readings
+  -- nothing was written
+  pub stopped : (f : RunFault) → IfWriteFailed f (λ _. ⊥) → after.sink ≡ before.sink → after.read_failed ≡ is_read_failed {U = ⊤} (Err f) → task.may_fail before.left f
+      → IfInput f (task.refuses before.left after.left after.read_failed) → DistinguishesMemory {U = ⊤} (Err f) → IsRun known task before after (Err f)
+  stopped (WriteFailed written) not same reads kinds input memory = absurd not
+  stopped f not same reads kinds input memory = record {
+    text = tt;
+    kinds = kinds;
+    input = input;
+    unwritten = same;
+    memory = memory;
+    read_failed = reads;
+    write_failed = tt;
+    written = tt;
+    sound = tt;
+    calls = calls;
+  }
 
-  pub played : (known : Option (List ℕ)) (night : Script) (board : B) (pass : R) (end : NightEnd R P) → IfSome known (λ bytes. MeansNight bytes (Ok night))
-      → All IsOnDuty night.events → Opens (Ok (board, pass)) → IsNightEnd live board pass night.events (styled profile night.clubs group) readings end
-      → IfSome known (λ bytes. Played bytes (night_output end.last end.closing))
-  played None night board pass end means duty on_it ends = tt
-  played (Some bytes) night board pass end means duty on_it ends = record {
-    night = night;
-    means = means;
+  -- the input was refused or could not be read, or there was no memory to read it
+  pub refused : {V E : Type 0} (Means : List ℕ → Result E InputFault → Type 0) (view : V → E) (e : InputFault) → Reads Means view before.left after.left after.read_failed (Err e)
+      → task.refuses before.left after.left after.read_failed e → ((fault : InputFault) → task.may_fail before.left (Input fault)) → task.may_fail before.left OutOfMemory
+      → after.sink ≡ before.sink → IsRun known task before after (Err (handed_on e))
+  refused Means view (input.ReadFailed n) reads why may memory same = stopped (Input (input.ReadFailed n)) tt same reads.0 (may (input.ReadFailed n)) why (λ bad. absurd (cc))
+  refused Means view input.OutOfMemory reads why may memory same = stopped OutOfMemory tt same reads memory tt (λ bad. absurd (cc))
+  refused Means view e reads why may memory same = stopped (Input e) tt same reads.0 (may e) why (λ bad. absurd (cc))
+
+-- the output of a run of one thread failed within a text, and that of a night
+pub cut_short : (r : Result ⊤ RunFault) (failed : Bool) (old new : Option (List ℕ)) (text : List ℕ) → IfErr r (IsCutShort failed old new text)
+    → IfErr r (Cut (λ t written. WroteFirst old new written t) failed text)
+cut_short (Err (WriteFailed written)) failed old new text part = part
+cut_short _ _ _ _ _ part = part
+
+pub cut_within : (r : Result ⊤ RunFault) (failed : Bool) (old new : Option (List ℕ)) (text : List ℕ) → IfErr r (IsStopped 0 failed old new text)
+    → IfErr r (Cut (λ t written. StoppedShort 0 failed old new t written) failed text)
+cut_within (Err (WriteFailed written)) failed old new text part = (part.failed_is, part)
+cut_within _ _ _ _ _ part = part
+
+-- ---- how a night ends
+
+-- what holds of the events of a script holds if it is read
+pub scripted : (known : Option (List ℕ)) (night : Script) (Q : List NightEvent → Type 0) → IfSome known (λ bytes. MeansNight bytes (Ok night)) → Q night.events → IsOfScript known Q
+scripted None night Q means h = tt
+scripted (Some bytes) night Q means h = (night, means, h)
+
+module _ {B R P X : Type 0} (live : boards.Ghosts B R P) (Opens : Result (B × R) X → Type 0) (profile : Profile) (group readings : ℕ)
+    (known : Option (List ℕ)) (night : Script) (means : IfSome known (λ bytes. MeansNight bytes (Ok night))) (board : B) (pass : R) (on_it : Opens (Ok (board, pass))) where
+  pub played : (end : NightEnd R P) → All IsOnDuty night.events → IsNightEnd live board pass night.events (styled profile night.clubs group) readings end
+      → IfSome known (λ bytes. IsPlayed live Opens profile group readings bytes (night_output end.last end.closing))
+  played end duty ends = by known means
+    where
+      by : (o : Option (List ℕ)) → IfSome o (λ bytes. MeansNight bytes (Ok night)) → IfSome o (λ bytes. IsPlayed live Opens profile group readings bytes (night_output end.last end.closing))
+      by None is = tt
+      by (Some bytes) is = record { night = night; means = is; duty = duty; board = board; pass = pass; on_it = on_it; end = end; ends = ends; text_is = refl }
+
+  abbrev IsWhy : RunFault → Type 0
+  IsWhy f = IsWhyNoNight live board night.events f
+
+  pub fault_of : (f : RunFault) → IsWhy f → IsDutyTold night.events f → IsFaultOfNight live Opens known f
+  fault_of (Input e) why duty = tt
+  fault_of OutOfMemory why duty = tt
+  fault_of (NotOnDuty row) why duty = scripted known night (λ rows. IsFirstOffDuty rows row) means duty
+  fault_of (WriteFailed n) why duty = absurd why
+  fault_of f why duty = record {
+    rows = night.events;
+    script = scripted known night (λ rows. rows ≡ night.events) means refl;
     duty = duty;
     board = board;
     pass = pass;
     on_it = on_it;
-    end = end;
-    ends = ends;
-    text_is = refl;
+    why = why;
   }
 
-  on_duty : (known : Option (List ℕ)) (text : List ℕ) → IfSome known (λ bytes. Played bytes text)
-      → IfSome known (λ bytes. (n : Script) × MeansNight bytes (Ok n) × All IsOnDuty n.events)
-  on_duty None text is = tt
-  on_duty (Some bytes) text is = (is.night, is.means, is.duty)
+  -- a night that failed has written nothing
+  pub failed_night : {W : Type 0} (sink : writes.Ghosts W) (w : W) (k : ℕ) (b : Bool) (after : Streams W) (f : RunFault) → CallsWithin k after.calls → after.sink ≡ w
+      → after.read_failed ≡ false → IsWhy f → IsDutyTold night.events f
+      → IsRun sink (task_of live Opens (Night group readings profile)) (record { left = known; calls = k; read_failed = b; sink = w }) after (Err f)
+  failed_night sink w k b after (Input e) calls same reads why duty = absurd why
+  failed_night sink w k b after (WriteFailed n) calls same reads why duty = absurd why
+  failed_night sink w k b after f calls same reads why duty =
+      stopped sink (task_of live Opens (Night group readings profile)) (record { left = known; calls = k; read_failed = b; sink = w }) after calls f tt same reads
+      (fault_of f why duty) tt (λ bad. absurd (cc))
 
-  -- the output was written, or stopped within
-  pub put : (old new taken : Option (List ℕ)) (k m : ℕ) (reads_before writes_before : Bool) (text : List ℕ) (failed write_failed : Bool) (after : Option (List ℕ))
-      (r : Result ⊤ RunFault) → failed ≡ false → CallsWithin k m → IfSome old (λ bytes. Played bytes text) → OnOk r (Appends taken after text)
-      → IfErr r (IsStopped 0 write_failed taken after text) → OnOk r (write_failed ≡ writes_before)
-      → Executes live Opens (Night group readings profile) (streams old k reads_before taken writes_before) (streams new m failed after write_failed) r
-  put old new taken k m reads_before writes_before text failed write_failed after (Ok done) reads calls is out part sound = record {
-    text = text-has Played old text (Appends taken after) is out;
-    kinds = tt;
-    memory = λ bad. absurd (cc);
-    calls = calls;
-    input = tt;
-    unwritten = tt;
-    read_failed = reads;
-    write_failed = tt;
-    sound = sound;
-    written = tt;
-  }
-  put old new taken k m reads_before writes_before text failed write_failed after (Err (WriteFailed written)) reads calls is out part sound = record {
-    text = tt;
-    kinds = on_duty old text is;
-    memory = λ bad. absurd (cc);
-    calls = calls;
-    input = tt;
-    unwritten = tt;
-    read_failed = reads;
-    write_failed = part.failed_is;
-    sound = tt;
-    written = text-has Played old text (λ t. StoppedShort 0 write_failed taken after t written) is part;
-  }
-  put _ _ _ _ _ _ _ _ _ _ _ _ _ _ _ _ part _ = absurd part
+-- ---- the text of `feed`, one reply line more
 
-  -- the night had no end
-  module _ (known : Option (List ℕ)) (night : Script) (means : IfSome known (λ bytes. MeansNight bytes (Ok night))) (board : B) (pass : R) (on_it : Opens (Ok (board, pass))) where
-    abbrev IsWhy : RunFault → Type 0
-    IsWhy f = IsWhyNoNight live board night.events f
+pub replies-step : (row i : ℕ) (events : List NightEvent) (e : NightEvent) (history : List Entry) (out new whole : List ℕ) → i < length events → e ≡ get_or events i e
+    → out ++ reply_lines row history (drop i events) ≡ whole → new ≡ out ++ reply_line row history e.call
+    → new ++ reply_lines (row + 1) (after_attempt history (attempt_of e)) (drop (i + 1) events) ≡ whole
+unfolding reply_lines
+replies-step row i events e history out new whole h is so_far line =
+    rw (line, append_assoc out (reply_line row history e.call) (reply_lines (row + 1) (after_attempt history (attempt_of e)) (drop (i + 1) events))) (rw (first-event i events e h is) at so_far)
 
-    scripted : (Q : List NightEvent → Type 0) → Q night.events → (o : Option (List ℕ)) → IfSome o (λ bytes. MeansNight bytes (Ok night))
-        → IfSome o (λ bytes. (n : Script) × MeansNight bytes (Ok n) × Q n.events)
-    scripted Q h None is = tt
-    scripted Q h (Some bytes) is = (night, is, h)
+pub replies-end : (row i : ℕ) (events : List NightEvent) (history : List Entry) (out whole : List ℕ) → length events ≤ i → out ++ reply_lines row history (drop i events) ≡ whole → out ≡ whole
+unfolding reply_lines
+replies-end row i events history out whole h so_far = sym (append-nil out) ∙ (rw (past i events h) at so_far)
 
-    fault_of : (f : RunFault) → IsWhy f → IsDutyTold night.events f → IsFaultOfNight live Opens known f
-    fault_of (Input e) why duty = tt
-    fault_of OutOfMemory why duty = tt
-    fault_of (NotOnDuty row) why duty = scripted (λ rows. IsFirstOffDuty rows row) duty known means
-    fault_of (WriteFailed n) why duty = absurd why
-    fault_of f why duty =
-        record { rows = night.events; script = scripted (λ rows. rows ≡ night.events) refl known means; duty = duty; board = board; pass = pass; on_it = on_it; why = why }
+-- ---- rows of reporters on duty
 
-    pub ended_badly : (new taken : Option (List ℕ)) (k m : ℕ) (before writes failed : Bool) (f : RunFault) → failed ≡ false → CallsWithin k m → IsWhy f → IsDutyTold night.events f
-        → Executes live Opens (Night group readings profile) (streams known k before taken writes) (streams new m failed taken writes) (Err f)
-    ended_badly _ _ _ _ _ _ _ (Input e) reads calls why duty = absurd why
-    ended_badly _ _ _ _ _ _ _ (WriteFailed n) reads calls why duty = absurd why
-    ended_badly new taken k m before writes failed f reads calls why duty = record {
-      text = tt;
-      kinds = fault_of f why duty;
-      memory = λ bad. absurd (cc);
-      calls = calls;
-      input = tt;
-      unwritten = refl;
-      read_failed = reads;
-      write_failed = tt;
-      sound = tt;
-      written = tt;
+one_or_two : (n : ℕ) → 1 ≤ n → n ≤ 2 → (n ≡ 1) ⊎ (n ≡ 2)
+one_or_two zero low high = absurd (omega arith)
+one_or_two (suc zero) low high = inl (omega arith)
+one_or_two (suc (suc n)) low high = inr (omega arith)
+
+pub duty_more : (i : ℕ) (rows : List NightEvent) (row : NightEvent) → i < length rows → row ≡ get_or rows i row → 1 ≤ row.reporter → row.reporter ≤ 2
+    → All IsOnDuty (take i rows) → All IsOnDuty (take (i + 1) rows)
+duty_more i rows row below is low high so_far = All-more IsOnDuty rows i row below so_far (subst IsOnDuty is (one_or_two row.reporter low high))
+
+pub duty_all : (i : ℕ) (rows : List NightEvent) → length rows ≤ i → All IsOnDuty (take i rows) → All IsOnDuty rows
+duty_all i rows past all = subst (All IsOnDuty) (take_all i rows past) all
+
+pub first_off_duty : (i : ℕ) (rows : List NightEvent) (event : NightEvent) → i < length rows → event ≡ get_or rows i event → All IsOnDuty (take i rows)
+    → 2 < event.reporter → IsFirstOffDuty rows (5 + i)
+first_off_duty i rows event below is so_far high = record {
+  before = take i rows;
+  event = event;
+  after = drop (i + 1) rows;
+  rows_are = sym (take-append-drop i rows) ∙ ap (λ (rest : List NightEvent). take i rows ++ rest) (first-event i rows event below is);
+  on_duty = so_far;
+  off_duty = ⊎_elim (λ one. omega arith) (λ two. omega arith);
+  row_is = let many : length (take i rows) ≡ i = length-take-le i rows (omega arith) in omega arith;
+}
+
+-- ---- the versions that a reader shows, and the history that they are of
+
+-- a version that is no lower than what had been seen
+pub rises_more : (versions : List ℕ) (seen version : ℕ) → IsNonDecreasing versions → All (λ v. v ≤ seen) versions → seen ≤ version → IsNonDecreasing (versions ++ version ∷ [])
+rises_more versions seen version rises high low = IsNonDecreasingBy-push (λ v. v) versions version rises (λ d some. (let last = high (length versions - 1) d (omega arith) in omega arith))
+
+-- one reading more
+pub shown_more : (style : Style) (k m z : PassView) (reading : Reading) (readings : ℕ) (last : Option (List ℕ)) (text : List ℕ)
+    → HasShown style k m readings last → Continues m z → SharedReading m reading z → text ≡ styled_screen style reading.board
+    → HasShown style k z (readings + 1) (Some text)
+shown_more style k m z reading readings last text h on read is =
+    let longer = begins_length k.seen m.seen h.on.seen in
+    record {
+      on = record {
+        seen = begins_through k.seen m.seen z.seen h.on.seen on.on.seen;
+        listed = (let a = h.on.listed in let b = on.on.listed in omega arith);
+        share = on.on.share ∙ h.on.share;
+      };
+      many = (let all = ap length read.shown in let one = length-append m.shown (reading.version ∷ []) in let before = h.many in omega arith);
+      rises = subst IsNonDecreasing (sym read.shown) (rises_more m.shown (length m.seen) reading.version h.rises h.high read.low);
+      low = subst (All (λ v. length k.seen ≤ v)) (sym read.shown) (All-push (λ v. length k.seen ≤ v) m.shown reading.version h.low (let low = read.low in omega arith));
+      high = subst (All (λ v. v ≤ length z.seen)) (sym read.shown)
+          (All-push (λ v. v ≤ length z.seen) m.shown reading.version (λ i d below. (let a = h.high i d below in let b = read.low in let c = read.high in omega arith)) read.high);
+      last_is = record { before = m.shown; version = reading.version; last = read.shown; text_is = is ∙ ap (λ (r : Reading). styled_screen style r.board) read.snapshot };
     }
 
--- ---- what is done where the words name nothing to do, over the streams
-
-pub over_streams : {S W : Type 0} (source : reads.Ghosts S) (sink : writes.Ghosts W) (s : S) (fault : LineFault) (before after : W) (e : Ended)
-    → ExitsWithoutCommand sink.failed sink.taken fault before after e
-    → ExitsWithoutCommand (λ (d : Streams). d.write_failed) (λ (d : Streams). d.taken) fault (streams_at source sink s before) (streams_at source sink s after) e
-over_streams source sink s (Help text) before after e ends = ends
-over_streams source sink s (Refused text) before after e ends = (ap (streams_at source sink s) ends.0, ends.1, ends.2)
-over_streams source sink s OutOfMemory before after e ends = (ap (streams_at source sink s) ends.0, ends.1)
+-- a reading that was just taken is the last of its pass
+pub just_read : (m z : PassView) (reading : Reading) → SharedReading m reading z → IsReadingOf z reading
+just_read m z reading is = record { before = _; last = is.shown; high = is.high; snapshot = is.snapshot }

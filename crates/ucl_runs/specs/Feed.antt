@@ -1,4 +1,5 @@
--- The text of `feed`: a reply line for each event, and then the twelve word lines.
+-- The text of `feed`: a line with the reply to each event of a script, and then a line for each word of the board, a match in 64 bits.
+-- A history is the list of the accepted events, oldest first. The rows of a script are counted from 1, and its events begin in row 5.
 use Rattle.std.specs.Prelude.{◌≡◌, ℕ, ◌+◌, List, [], ◌∷◌, ◌++◌, map, Ok}
 use Rattle.ucl_board.specs.declared.entry.Entry.{Entry}
 use Rattle.ucl_board.specs.History.{after_attempt, accepted_of, board_of}
@@ -8,16 +9,16 @@ use Rattle.ucl_screen.specs.Script.{Script, first_event_row}
 use Rattle.ucl_screen.specs.Parsing.{MeansNight}
 use Rattle.ucl_rows.specs.Lines.{reply_line, word_lines}
 
--- the lines of the events from a row on, each after the events that were accepted before it
+-- the lines with the replies to events that are entered in turn, the first of which is in this row and comes after this history
 unfoldable pub reply_lines : ℕ → List Entry → List NightEvent → List ℕ
 reply_lines row history [] = []
 reply_lines row history (event ∷ events) = reply_line row history event.call ++ reply_lines (row + 1) (after_attempt history (attempt_of event)) events
 
--- the events of a script begin in row 5
+-- the text of `feed` for the events of a script
 abbrev pub feed_text : List NightEvent → List ℕ
 feed_text events = reply_lines first_event_row [] events ++ word_lines 1 (board_of (accepted_of (map attempt_of events)))
 
--- the input is a script, and this is the text of `feed`
+-- the bytes of an input are a script, and this is the text of `feed` for it
 pub record IsFed (bytes text : List ℕ) : Type 0 where
   pub night : Script
   pub means : MeansNight bytes (Ok night)

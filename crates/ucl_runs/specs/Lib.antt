@@ -1,6 +1,4 @@
 pub mod Feed
-pub mod Styles
-pub mod Nights
-pub mod Workers
 pub mod Show
+pub mod Nights
 pub mod Program

@@ -1,9 +1,11 @@
-//! What the workers of a night have in common, and the gate that they call.
+//! What the workers of a night have in common. A night is a run of a script (clubs and events) on a board that threads share: workers 1 and
+//! 2 are reporters, 3 and 4 readers, who read it and show it; a pass is a thread's permission on it. A gate is what workers call as they
+//! go, which tests use to hold them up. A profile is a set of tie-break rules.
 
 ghost use Rattle.std.specs.Prelude.{◌≡◌};
 ghost use Rattle.ucl_live_board.specs.Passes.{IsSound, IsReadingOf};
-ghost use Rattle.ucl_runs.specs.Styles.{styled_screen};
-ghost use Rattle.ucl_runs.specs.Workers.{style_of};
+ghost use Rattle.ucl_runs.specs.Nights.{style_of};
+ghost use Rattle.ucl_runs.specs.Show.{styled_screen};
 
 use crate::gate::Gate;
 use ucl_board::Reading;
@@ -11,19 +13,19 @@ use ucl_live_board::LiveBoard;
 use ucl_order::Profile;
 use ucl_screen::Night;
 
-/// Keeps the gate of a night to this file, so that only `come` and `NightConfig::shown` call it.
+/// A gate in a private field, so that nothing but `come` and `NightConfig::shown` calls it.
 #[derive(Drop)]
 pub struct NightGate<'n, G> {
     gate: &'n G,
 }
 
 impl<'n, G: Gate> NightGate<'n, G> {
-    /// Wraps this gate.
+    /// Returns a wrapper of this gate.
     pub fn of(gate: &'n G) -> NightGate<'n, G> {
         NightGate { gate }
     }
 
-    /// Calls the gate before a worker's call on the board.
+    /// Calls the gate before this call of a worker on the board; the calls of each worker are counted from 0.
     pub fn come(&self, worker: u8, call: u32) {
         self.gate.come(worker, call);
     }
@@ -34,18 +36,18 @@ impl<'n, G: Gate> NightGate<'n, G> {
 pub struct NightConfig<'n, G> {
     /// The clubs, and the events that the reporters enter.
     pub night: &'n Night,
-    /// The letter of the group.
+    /// The letter of the group, `A` to `H`.
     pub group: u8,
     /// How many readings each reader takes.
     pub readings: u32,
-    /// The order of the clubs in all screens.
+    /// The tie-break rules by which all screens order the clubs.
     pub profile: Profile,
-    /// The gate.
+    /// The gate that is called on the way.
     pub night_gate: NightGate<'n, G>,
 }
 
 impl<G: Gate> NightConfig<'_, G> {
-    /// Shows a screen to the gate: that of the last reading of a pass of the board, in the style of the night.
+    /// Calls the gate with a reading, the last by a reader's pass of the board, and with its screen, `text`, for the group of the night.
     pub fn shown<B: LiveBoard>(
         &self,
         board: &B,

@@ -1,25 +1,27 @@
-//! Who watches a night.
+//! The gate of a night, which tests use to count its calls and to hold up its threads. A night is a run of a script of events on one board
+//! by two reporters and two readers, each a worker in a thread of its own.
 
 use ucl_board::Reading;
 
-/// Who watches a night: each worker calls it, in a thread of its own. Workers 1 and 2 are the reporters, 3 and 4 the readers. What a night
-/// promises holds whatever a gate does: it may wait, count or write down its calls. But it can hold workers up, and so decide which merge of the
-/// rows comes out, and whether the night ends. A gate is shown no text but the screen of the reading beside it, which is the last of a pass of
-/// the board: the clauses of its caller say so.
+/// What the workers of a night call as they go: 1 and 2 are the reporters, 3 and 4 the readers. What a night promises holds whatever a gate
+/// does, which may wait, count or write down its calls; but by holding workers up it can decide in which order the events of both reporters
+/// come to the board, and whether the night ends.
 pub trait Gate: Sync {
     /// Is called before each of a worker's calls on the board, which are counted from 0 (and, past `u32::MAX`, from 0 again).
     fn come(&self, worker: u8, call: u32);
 
-    /// Is called after each screen of a reader, with the reading that it is of.
+    /// Is called after each screen of a reader, with the reading, a snapshot of the board, of which `text` is the screen.
     fn shown(&self, worker: u8, reading: &Reading, text: &str);
 }
 
-/// The gate that holds nobody up.
+/// The gate that does nothing, and so holds no worker up.
 #[derive(Clone, Copy, Debug, Default)]
 pub struct OpenGate;
 
 impl Gate for OpenGate {
+    /// Lets a worker make its call on the board at once.
     fn come(&self, _worker: u8, _call: u32) {}
 
+    /// Does nothing with the screen that a reader has made of its reading.
     fn shown(&self, _worker: u8, _reading: &Reading, _text: &str) {}
 }

@@ -1,9 +1,9 @@
-//! What holds of every night. The function does nothing: it is there for its contract.
+//! What holds of every night, in which reporters in threads enter the rows of a script, each an event. The function is there to state it.
 
 ghost use Rattle.ucl_runs.specs.Nights.{ScheduleDoesNotMatter};
 
-/// Where each match of a night has one reporter, every history that is a merge of the rows of the night comes to the same
-/// board: that of the rows entered one after the other in script order, whoever wins which race.
+/// Proves that, if all events of each match are of one reporter, every history that can come of the rows of a script, whoever wins which
+/// race, comes to the same board: that of the rows entered one after the other in script order.
 pub fn schedule_does_not_matter()
     ensures { ScheduleDoesNotMatter }
 {}

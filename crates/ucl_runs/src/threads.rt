@@ -1,9 +1,11 @@
-//! A thread for each worker of a night.
+//! A thread for each worker of a night: two reporters enter their rows of a script on a board that threads share, and two readers show it.
+//! A pass is a thread's permission on that board. A promise says what holds of the value that a thread hands back when it is joined; it
+//! keeps snapshots, which are copies that only contracts see, of what the thread was given.
 
-ghost use Rattle.std.specs.Prelude.{◌≡◌, IfErr, IfOk};
+ghost use Rattle.std.specs.Prelude.{◌≡◌, IfOk, MatchResult};
 ghost use Rattle.ucl_screen.specs.Screen.{IsGroup};
 ghost use Rattle.ucl_rows.specs.declared.fault.RunFault.TheVariants as RunFault;
-ghost use Rattle.ucl_runs.specs.Workers.{IsFreshOn, IsNewOn, HasEnteredOn, HasShownOn};
+ghost use Rattle.ucl_runs.specs.Nights.{AreReady, HasEnteredOn, HasShownOn, HaveWorked, IsFreshOn, IsNewOn};
 
 use crate::config::NightConfig;
 use crate::gate::Gate;
@@ -15,9 +17,8 @@ use std::thread;
 use std::thread::{Promise, PromisedHandle, Scope, Threads};
 use ucl_live_board::LiveBoard;
 use ucl_rows::RunFault;
-use ucl_word::OutOfMemory;
 
-/// What a reporter's thread promises of the pass that it hands back.
+/// The promise of a reporter's thread: the pass that it hands back, which was `before`, has entered the reporter's rows of the script.
 #[derive(Drop)]
 pub struct Entering<'n, B: LiveBoard, G: Gate> {
     board: Snapshot<B>,
@@ -31,7 +32,7 @@ impl<'n, B: LiveBoard, G: Gate> Promise<B::ReporterPass> for Entering<'n, B, G> 
         HasEnteredOn B.LiveBoard p.board.value p.config.value p.before.value p.reporter pass };
 }
 
-/// What a reader's thread promises of what it hands back.
+/// The promise of a reader's thread: unless out of memory, it hands back its pass, which has taken all its readings, and its last screen.
 #[derive(Drop)]
 pub struct Showing<'n, B: LiveBoard, G: Gate> {
     board: Snapshot<B>,
@@ -39,13 +40,12 @@ pub struct Showing<'n, B: LiveBoard, G: Gate> {
     before: Snapshot<B::ReaderPass>,
 }
 
-impl<'n, B: LiveBoard, G: Gate> Promise<Result<ReaderResult<B::ReaderPass>, OutOfMemory>>
-    for Showing<'n, B, G> {
+impl<'n, B: LiveBoard, G: Gate> Promise<ReaderResult<B::ReaderPass>> for Showing<'n, B, G> {
     ghost kept_by = { λ p end.
         IfOk end (HasShownOn B.LiveBoard p.board.value p.config.value p.before.value) };
 }
 
-/// Starts the thread of a reporter, who enters its rows of the script.
+/// Starts the thread of a reporter, 1 or 2, who enters its rows of the script by this pass; `NoThread` if it cannot be started.
 fn start_reporter<'s, E, B: LiveBoard, G: Gate, R: Wait + Sync>(
     scope: &Scope<'s, E>,
     rt: &'s R,
@@ -87,7 +87,7 @@ where
     started.map_err(|_| RunFault::NoThread)
 }
 
-/// Starts the thread of a reader, who takes its readings.
+/// Starts the thread of a reader, worker 3 or 4, who takes its readings by this pass; `NoThread` if it cannot be started.
 fn start_reader<'s, E, B: LiveBoard, G: Gate, R: Wait + Sync>(
     scope: &Scope<'s, E>,
     rt: &'s R,
@@ -96,10 +96,7 @@ fn start_reader<'s, E, B: LiveBoard, G: Gate, R: Wait + Sync>(
     pass: B::ReaderPass,
     worker: u8,
     config: &'s NightConfig<'s, G>,
-) -> Result<
-    PromisedHandle<Result<ReaderResult<B::ReaderPass>, OutOfMemory>, Showing<'s, B, G>>,
-    RunFault,
->
+) -> Result<PromisedHandle<ReaderResult<B::ReaderPass>, Showing<'s, B, G>>, RunFault>
 where
     B::ReaderPass: 's,
     requires new { IsNewOn B.LiveBoard board.now pass }
@@ -115,7 +112,7 @@ where
     };
     let started = scope.spawn_with(
         promise,
-        move || -> Result<ReaderResult<B::ReaderPass>, OutOfMemory>
+        move || -> ReaderResult<B::ReaderPass>
             requires { IsNewOn B.LiveBoard board.now pass × IsGroup config.now.group }
             ensures { IfOk result (HasShownOn B.LiveBoard board.entry.now config.entry.now pass) }
         { show_screens(rt, alloc, board, pass, worker, config) },
@@ -123,7 +120,7 @@ where
     started.map_err(|_| RunFault::NoThread)
 }
 
-/// The four workers of a night, each by what it is lent, or by what it hands back.
+/// One value for each of the four workers of a night, of type `P` for a reporter and `R` for a reader: the passes that they are given, say.
 #[derive(Drop)]
 pub struct Workers<P, R> {
     pub reporter_1: P,
@@ -132,52 +129,35 @@ pub struct Workers<P, R> {
     pub reader_2: R,
 }
 
-/// Runs the four workers of a night, each in a thread of its own: the reporters enter the rows of reporters 1 and 2, and the
-/// readers take their readings. If there is no thread for one, the others still run to their end before this fault is returned.
+/// Runs the four workers of a night, each in a thread of its own with its pass of `lent`, and returns what they hand back: the reporters
+/// enter their rows, and the readers take their readings.
+///
+/// # Errors
+///
+/// `NoThread` if there is no thread for one of them; the others still run to their end first.
 pub fn work<B: LiveBoard, G: Gate, R: Threads + Wait + Sync>(
     rt: &R,
     alloc: Global,
     board: &B,
     lent: Workers<B::ReporterPass, B::ReaderPass>,
     config: &NightConfig<'_, G>,
-) -> Result<Workers<B::ReporterPass, Result<ReaderResult<B::ReaderPass>, OutOfMemory>>, RunFault>
-    requires reporters { IsFreshOn B.LiveBoard board.now lent.reporter_1
-        × IsFreshOn B.LiveBoard board.now lent.reporter_2 }
-    requires readers { IsNewOn B.LiveBoard board.now lent.reader_1
-        × IsNewOn B.LiveBoard board.now lent.reader_2 }
+) -> Result<Workers<B::ReporterPass, ReaderResult<B::ReaderPass>>, RunFault>
+    requires ready { AreReady B.LiveBoard board.now lent }
     requires group { IsGroup config.now.group }
-    ensures reporter_1 { IfOk result (λ w.
-        HasEnteredOn B.LiveBoard board.entry.now config.entry.now lent.reporter_1 1 w.reporter_1) }
-    ensures reporter_2 { IfOk result (λ w.
-        HasEnteredOn B.LiveBoard board.entry.now config.entry.now lent.reporter_2 2 w.reporter_2) }
-    ensures reader_1 { IfOk result (λ w. IfOk w.reader_1
-        (HasShownOn B.LiveBoard board.entry.now config.entry.now lent.reader_1)) }
-    ensures reader_2 { IfOk result (λ w. IfOk w.reader_2
-        (HasShownOn B.LiveBoard board.entry.now config.entry.now lent.reader_2)) }
-    ensures failed { IfErr result (λ f. f ≡ RunFault.NoThread) }
+    ensures { MatchResult result (HaveWorked B.LiveBoard board.entry.now config.entry.now lent)
+        (λ f. f ≡ RunFault.NoThread) }
 {
     thread::scope(
         thread::scope_env(),
         rt,
-        move |scope| -> Result<
-            Workers<B::ReporterPass, Result<ReaderResult<B::ReaderPass>, OutOfMemory>>,
-            RunFault,
-        >
-            requires reporters { IsFreshOn B.LiveBoard board.now lent.reporter_1
-                × IsFreshOn B.LiveBoard board.now lent.reporter_2 }
-            requires readers { IsNewOn B.LiveBoard board.now lent.reader_1
-                × IsNewOn B.LiveBoard board.now lent.reader_2 }
+        move |scope| -> Result<Workers<B::ReporterPass, ReaderResult<B::ReaderPass>>, RunFault>
+            requires ready { AreReady B.LiveBoard board.now lent }
             requires group { IsGroup config.now.group }
-            ensures reporter_1 { IfOk result (λ w. HasEnteredOn B.LiveBoard board.entry.now
-                config.entry.now lent.reporter_1 1 w.reporter_1) }
-            ensures reporter_2 { IfOk result (λ w. HasEnteredOn B.LiveBoard board.entry.now
-                config.entry.now lent.reporter_2 2 w.reporter_2) }
-            ensures reader_1 { IfOk result (λ w. IfOk w.reader_1
-                (HasShownOn B.LiveBoard board.entry.now config.entry.now lent.reader_1)) }
-            ensures reader_2 { IfOk result (λ w. IfOk w.reader_2
-                (HasShownOn B.LiveBoard board.entry.now config.entry.now lent.reader_2)) }
-            ensures failed { IfErr result (λ f. f ≡ RunFault.NoThread) }
+            ensures { MatchResult result
+                (HaveWorked B.LiveBoard board.entry.now config.entry.now lent)
+                (λ f. f ≡ RunFault.NoThread) }
         {
+            let lent = lent;
             let reporter_1 = start_reporter(scope, rt, board, lent.reporter_1, 1, config);
             let reporter_2 = start_reporter(scope, rt, board, lent.reporter_2, 2, config);
             let reader_1 = start_reader(scope, rt, alloc, board, lent.reader_1, 3, config);

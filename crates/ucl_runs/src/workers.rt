@@ -1,9 +1,10 @@
-//! What each thread of a night does.
+//! What each thread of a night does. A reporter enters its rows of a script, each an event, on a board that all threads share; a reader
+//! takes readings, which are snapshots of the board, and renders their screens. A pass is a thread's permission on the board. Workers 1 and
+//! 2 are the reporters, 3 and 4 the readers; a gate is called before each call on the board.
 
 ghost use Rattle.std.specs.Prelude.{IfOk, option_map, string_bytes};
 ghost use Rattle.ucl_screen.specs.Screen.{IsGroup};
-ghost use Rattle.ucl_runs.specs.Nights.{IsFresh, IsNew, HasEntered, HasShown};
-ghost use Rattle.ucl_runs.specs.Workers.{style_of};
+ghost use Rattle.ucl_runs.specs.Nights.{IsFresh, IsNew, HasEntered, HasShown, style_of};
 
 use crate::config::{NightConfig, NightGate};
 use crate::gate::Gate;
@@ -13,8 +14,7 @@ use ucl_live_board::LiveBoard;
 use ucl_screen::{NightEvent, screen};
 use ucl_word::OutOfMemory;
 
-/// Enters the rows of one reporter of the script in their order, on a pass that has entered nothing yet. Replies are
-/// ignored.
+/// Enters the rows that are of this reporter, in order, by a pass that has entered nothing yet; ignores replies, and returns the pass.
 pub fn enter_rows<B: LiveBoard, G: Gate, R: Wait>(
     rt: &R,
     board: &B,
@@ -39,15 +39,14 @@ pub fn enter_rows<B: LiveBoard, G: Gate, R: Wait>(
     pass
 }
 
-/// What a reader of a night hands back: its pass, and its last screen.
-#[derive(Drop)]
-pub struct ReaderResult<P> {
-    pub pass: P,
-    pub last: Option<String>,
-}
+/// What a reader of a night hands back: its pass, and its last screen if it has taken a reading; or that there was no memory for a screen.
+pub type ReaderResult<P> = Result<(P, Option<String>), OutOfMemory>;
 
-/// Takes the readings of a reader with a pass that has shown nothing yet, and renders each. If there is no memory for a
-/// screen, no further reading is taken.
+/// Takes the readings of a reader by a pass that has taken none yet, renders the screen of each, and returns the pass and the last screen.
+///
+/// # Errors
+///
+/// `OutOfMemory` if there is no memory for a screen; no further reading is taken then.
 pub fn show_screens<B: LiveBoard, G: Gate, R: Wait>(
     rt: &R,
     alloc: Global,
@@ -55,14 +54,14 @@ pub fn show_screens<B: LiveBoard, G: Gate, R: Wait>(
     mut pass: B::ReaderPass,
     worker: u8,
     config: &NightConfig<'_, G>,
-) -> Result<ReaderResult<B::ReaderPass>, OutOfMemory>
+) -> ReaderResult<B::ReaderPass>
     requires own { B.is_reader board.now pass }
     requires new { IsNew (B.reader pass) }
     requires group { IsGroup config.now.group }
-    ensures own { IfOk result (λ end. B.is_reader board.entry.now end.pass) }
+    ensures own { IfOk result (λ end. B.is_reader board.entry.now end.0) }
     ensures shown { IfOk result (λ end. HasShown (style_of config.entry.now)
-        (B.reader pass) (B.reader end.pass)
-        config.entry.now.readings (option_map string_bytes end.last)) }
+        (B.reader pass) (B.reader end.0)
+        config.entry.now.readings (option_map string_bytes end.1)) }
 {
     let NightConfig {
         night,
@@ -79,5 +78,5 @@ pub fn show_screens<B: LiveBoard, G: Gate, R: Wait>(
         config.shown(board, worker, &pass, &reading, text.as_str());
         last = Some(text);
     }
-    Ok(ReaderResult { pass, last })
+    Ok((pass, last))
 }

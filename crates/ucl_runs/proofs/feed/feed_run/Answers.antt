@@ -1,17 +1,25 @@
-use Rattle.ucl_runs.proofs.Common.{Appends, IsFed, night_seen, ◌∙◌}
-use Rattle.ucl_runs.proofs.RunFacts.{fed, part-out, text-out}
+use Rattle.ucl_runs.proofs.Common.{MeansNight, err_from_is_err_and, night_seen, refl, ◌∙◌}
+use Rattle.ucl_rows.specs.declared.fault.RunFault.TheVariants.{OutOfMemory}
+use Rattle.ucl_runs.proofs.RunFacts.{cut_short, fed, refused, stopped, wrote}
+use Rattle.ucl_runs.specs.Program.{feed_task}
 use Rattle.ucl_runs.proofs.feed.feed_run.Goals as goal
 
-pub returns-clause-text : goal.returns-clause-text
-returns-clause-text g c =
-    let known = g.S.Source.left c.args.source.now in
-    let text = rw c.deref.ensures.value at c.in_ok-text.ensures in
-    let is = fed known (night_seen c.in_ok-night.night) c.as_slice.result.now c.in_ok-night.ensures.reads.1 (c.as_slice.ensures.value ∙ text) in
-    text-out c.put_text.result IsFed known c.as_slice.result.now (Appends (g.W.Sink.taken c.args.sink.now) (g.W.Sink.taken c.put_text.new.sink)) is c.put_text.ensures.all
+pub returns-in_err-night : goal.returns-in_err-night
+returns-in_err-night g c =
+    let fault = err_from_is_err_and c.from_residual.result c.from_residual.ensures.1 in
+    let read = c.in_err-night.ensures in
+    rw (fault.1, fault.2) (refused g.W.Sink feed_task _ _ read.calls MeansNight night_seen _ read.reads read.reads (λ e. tt) tt refl)
 
-pub returns-clause-written : goal.returns-clause-written
-returns-clause-written g c =
+pub returns-in_err-text : goal.returns-in_err-text
+returns-in_err-text g c =
+    let fault = err_from_is_err_and c.from_residual-in_err-text.result c.from_residual-in_err-text.ensures.1 in
+    let read = c.in_ok-night.ensures in
+    rw (fault.1, fault.2) (stopped g.W.Sink feed_task _ _ read.calls OutOfMemory tt refl read.reads.0 tt tt (λ bad. absurd (cc)))
+
+pub returns : goal.returns
+returns g c =
     let known = g.S.Source.left c.args.source.now in
     let text = rw c.deref.ensures.value at c.in_ok-text.ensures in
     let is = fed known (night_seen c.in_ok-night.night) c.as_slice.result.now c.in_ok-night.ensures.reads.1 (c.as_slice.ensures.value ∙ text) in
-    part-out c.put_text.result IsFed known c.as_slice.result.now _ _ _ is c.put_text.ensures.part
+    wrote g.W.Sink feed_task _ _ c.in_ok-night.ensures.calls c.as_slice.result.now c.put_text.result c.in_ok-night.ensures.reads.0 is (λ written. tt) c.put_text.ensures.all
+    (cut_short c.put_text.result _ _ _ _ c.put_text.ensures.part) c.put_text.ensures.sound

@@ -1,5 +1,5 @@
 use Rattle.ucl_runs.proofs.Common.{arith}
-use Rattle.ucl_runs.proofs.Duty.{duty_more, duty_all, first_off_duty}
+use Rattle.ucl_runs.proofs.RunFacts.{duty_more, duty_all, first_off_duty}
 use Rattle.ucl_runs.proofs.night.check_duty.Goals as goal
 
 pub loop-index-preserved : goal.loop-index-preserved

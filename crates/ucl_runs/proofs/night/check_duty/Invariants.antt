@@ -1,5 +1,4 @@
-use Rattle.ucl_runs.proofs.Common.{IsOnDuty, take}
-use Rattle.std.proofs.Common.{All}
+use Rattle.ucl_runs.proofs.Common.{All, IsOnDuty, take}
 use Rattle.ucl_runs.proofs.night.check_duty.Given as goal
 
 abbrev pub invariant-loop-index : goal.invariant-loop-index

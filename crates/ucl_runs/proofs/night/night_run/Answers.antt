@@ -29,9 +29,9 @@ returns g c =
     let halved = c.split-reader_2.ensures.says.kept ∙ ap kept_pass (c.split-reader_1.ensures.says.kept ∙ ap kept_pass c.split-reporter_2.ensures.says.kept) in
     let merge = merged_by_settlers worked.reporter_1.1 worked.reporter_2.1 settling.always.0 settling.always.1 (settling.exactly.0 refl).0
     (each_on_duty rows (rw (← c.deref.ensures.value) c.in_ok-check_duty.ensures)) settled settling.of_both in
-    let shown_1 = subst (λ (k : PassView). HasShown style k (reader c.in_ok-reader_1.reader_1.pass) c.args.readings (option_map string_bytes c.in_ok-reader_1.reader_1.last))
+    let shown_1 = subst (λ (k : PassView). HasShown style k (reader c.in_ok-reader_1.reader_1) c.args.readings (option_map string_bytes c.in_ok-reader_1.last_1))
     given_1 (rw c.in_ok-reader_1.was at worked.reader_1).1 in
-    let shown_2 = subst (λ (k : PassView). HasShown style k (reader c.in_ok-reader_2.reader_2.pass) c.args.readings (option_map string_bytes c.in_ok-reader_2.reader_2.last))
+    let shown_2 = subst (λ (k : PassView). HasShown style k (reader c.in_ok-reader_2.reader_2) c.args.readings (option_map string_bytes c.in_ok-reader_2.last_2))
     given_2 (rw c.in_ok-reader_2.was at worked.reader_2).1 in
     record {
       kinds = tt;

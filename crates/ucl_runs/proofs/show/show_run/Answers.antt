@@ -1,19 +1,26 @@
-use Rattle.ucl_runs.proofs.Common.{Appends, IsShown, ◌∙◌}
-use Rattle.ucl_screen.specs.Parsing.{sheet_seen}
-use Rattle.ucl_runs.proofs.RunFacts.{part-out, shown, text-out}
+use Rattle.ucl_runs.proofs.Common.{err_from_is_err_and, refl, ◌∙◌}
+use Rattle.ucl_screen.specs.Parsing.{MeansSheet, sheet_seen}
+use Rattle.ucl_rows.specs.declared.fault.RunFault.TheVariants.{OutOfMemory}
+use Rattle.ucl_runs.proofs.RunFacts.{cut_short, refused, shown, stopped, wrote}
+use Rattle.ucl_runs.specs.Program.{show_task}
 use Rattle.ucl_runs.proofs.show.show_run.Goals as goal
 
-pub returns-clause-text : goal.returns-clause-text
-returns-clause-text g c =
-    let known = g.S.Source.left c.args.source.now in
-    let is = shown c.args.profile known c.args.group (sheet_seen c.in_ok-sheet.sheet) c.as_bytes.result.now
-    c.in_ok-sheet.ensures.reads.1 (c.as_bytes.ensures.value ∙ c.in_ok-text.ensures) in
-    text-out c.put_text.result (IsShown c.args.profile c.args.group) known c.as_bytes.result.now
-    (Appends (g.W.Sink.taken c.args.sink.now) (g.W.Sink.taken c.put_text.new.sink)) is c.put_text.ensures.all
+pub returns-in_err-sheet : goal.returns-in_err-sheet
+returns-in_err-sheet g c =
+    let fault = err_from_is_err_and c.from_residual.result c.from_residual.ensures.1 in
+    let read = c.in_err-sheet.ensures in
+    rw (fault.1, fault.2) (refused g.W.Sink (show_task c.args.profile c.args.group) _ _ read.calls MeansSheet sheet_seen _ read.reads read.reads (λ e. tt) tt refl)
 
-pub returns-clause-written : goal.returns-clause-written
-returns-clause-written g c =
+pub returns-in_err-text : goal.returns-in_err-text
+returns-in_err-text g c =
+    let fault = err_from_is_err_and c.from_residual-in_err-text.result c.from_residual-in_err-text.ensures.1 in
+    let read = c.in_ok-sheet.ensures in
+    rw (fault.1, fault.2) (stopped g.W.Sink (show_task c.args.profile c.args.group) _ _ read.calls OutOfMemory tt refl read.reads.0 tt tt (λ bad. absurd (cc)))
+
+pub returns : goal.returns
+returns g c =
     let known = g.S.Source.left c.args.source.now in
     let is = shown c.args.profile known c.args.group (sheet_seen c.in_ok-sheet.sheet) c.as_bytes.result.now
     c.in_ok-sheet.ensures.reads.1 (c.as_bytes.ensures.value ∙ c.in_ok-text.ensures) in
-    part-out c.put_text.result (IsShown c.args.profile c.args.group) known c.as_bytes.result.now _ _ _ is c.put_text.ensures.part
+    wrote g.W.Sink (show_task c.args.profile c.args.group) _ _ c.in_ok-sheet.ensures.calls c.as_bytes.result.now c.put_text.result c.in_ok-sheet.ensures.reads.0 is (λ written. tt)
+    c.put_text.ensures.all (cut_short c.put_text.result _ _ _ _ c.put_text.ensures.part) c.put_text.ensures.sound

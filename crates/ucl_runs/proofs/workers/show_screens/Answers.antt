@@ -1,6 +1,6 @@
 use Rattle.ucl_runs.proofs.Common.{string_bytes, ◌∙◌}
-use Rattle.ucl_runs.specs.Workers.{style_of}
-use Rattle.ucl_runs.proofs.ShownVersions.{just_read, shown_more}
+use Rattle.ucl_runs.specs.Nights.{style_of}
+use Rattle.ucl_runs.proofs.RunFacts.{just_read, shown_more}
 use Rattle.ucl_runs.proofs.workers.show_screens.Goals as goal
 
 pub shown-requires-clause-own : goal.shown-requires-clause-own

@@ -1,7 +1,7 @@
-use Rattle.ucl_runs.proofs.Common.{after_attempt, arith, attempt_of, sym}
-use Rattle.ucl_runs.proofs.Texts.{replies-end, replies-step}
+use Rattle.ucl_runs.proofs.Common.{after_attempt, arith, attempt_of}
+use Rattle.ucl_runs.proofs.RunFacts.{replies-end, replies-step}
 use Rattle.ucl_screen.proofs.EventsInTurn.{history-end, history-step, version-bound}
-use Rattle.ucl_runs.proofs.feed.push_replies.Goals as goal
+use Rattle.ucl_runs.proofs.feed.feed_text.Goals as goal
 
 pub push_reply-requires : goal.push_reply-requires
 push_reply-requires c = let so_far = c.loop-event.invariant in version-bound so_far.history _ _ so_far.board_is
@@ -20,11 +20,9 @@ loop-event-preserved c =
       entries = history-step i c.args.events.now e so_far.history _ c.loop-event-test.true c.event-item.is so_far.entries;
     }
 
-pub returns-clause-lines : goal.returns-clause-lines
-returns-clause-lines c = let so_far = c.loop-event.invariant in replies-end c.loop-event.row c.loop-event.event-index c.args.events.now so_far.history _ _ c.loop-event-test.false so_far.lines
-
-pub returns-clause-after : goal.returns-clause-after
-returns-clause-after c =
+pub returns : goal.returns
+returns c =
     let so_far = c.loop-event.invariant in
+    let lines = replies-end c.loop-event.row c.loop-event.event-index c.args.events.now so_far.history _ _ c.loop-event-test.false so_far.lines in
     let whole = history-end c.loop-event.event-index c.args.events.now so_far.history _ c.loop-event-test.false so_far.entries in
-    rw (← whole) (sym so_far.board_is.words_are)
+    grind (arith, lines, whole)
