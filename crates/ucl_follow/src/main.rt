@@ -1,5 +1,5 @@
-//! A follower of the board of one group of the UEFA Champions League: the program shows each board state that is newer than all before, of the lines
-//! of its standard input.
+//! `ucl_follow`, which follows the board of one group of the UEFA Champions League: of the lines of its standard input, which may be
+//! answers of `ucl_live`, the program shows each board state that is newer than all before.
 #![tactic(auto)]
 
 use std::process::ExitCode;

@@ -1,5 +1,5 @@
-//! The board of one group of the UEFA Champions League through a session: the program answers each row of its standard input as it
-//! comes.
+//! `ucl_live`, the board of one group of the UEFA Champions League: the program answers each row of its standard input, which names a club,
+//! enters an event or asks to show the board, as it comes.
 #![tactic(auto)]
 
 use std::process::ExitCode;

@@ -1,42 +1,34 @@
 -- The lines of answers, and what each carries.
-use Rattle.std.proofs.lemmas.List.Elements.{All-weaker}
-use Rattle.ucl_live_runs.proofs.Common.{All, All-append, All-cons, All-get_or, All-head, All-nil, All-tail, AreWords, AwaitingClubs, AwaitingHeader, Bad}
-use Rattle.ucl_live_runs.proofs.Common.{BoardHeader, BoardState, Bool, Data, Event, FourFields, HasNoFeed, HasNumbers, IfSome, IsAttempt, IsBoardState, IsGroup}
-use Rattle.ucl_live_runs.proofs.Common.{IsRoster, IsValid, IsWord, Json, KickOff, Kind, List, LiveArgs, MatchRecord, Matches, NamedClub, NewBoard, NightEvent, None}
-use Rattle.ucl_live_runs.proofs.Common.{Nothing, Open, Option, Phase, Profile, Refusal, Refused, Request, Row, Said, Screen, Session, Some, Words, []}
-use Rattle.ucl_live_runs.proofs.Common.{accepted_value, again_on, and_from, and_parts, answer, answer_of, answer_said, ap, arith, asked_header, attempt_of}
-use Rattle.ucl_live_runs.proofs.Common.{bad_row_value, begun_append, begun_ended, begun_line, begun_none, board_after, board_state_at, board_state_with, cases_Bool}
-use Rattle.ucl_live_runs.proofs.Common.{cases_lt, club_said, compact_text, edition_screen_value, ended_append, ended_line, ended_lines, ended_none, false}
-use Rattle.ucl_live_runs.proofs.Common.{field_name, found_of, game_at, header_by, header_said, if◌then◌else◌, inl, inr, is_bad, is_group_row, is_printed, json_line}
-use Rattle.ucl_live_runs.proofs.Common.{leb-true, length, letter_in, list_all, nat_le, next, next_at, next_board, next_on, number, number_valid, one_line}
-use Rattle.ucl_live_runs.proofs.Common.{parse_board_line, profile_named, record_at, refl, refusal_code, refusal_name, refused_by, reply_answer, reply_of}
-use Rattle.ucl_live_runs.proofs.Common.{reply_value, request_of, screen_after, screen_answer, shown_text, start_of, subst, sym, take, take_all, true, unwrap_or}
-use Rattle.ucl_live_runs.proofs.Common.{version_of, word_at, word_valid, words_value, ℕ, ◌&&◌, ◌++◌, ◌+◌, ◌-◌, ◌/◌, ◌<◌, ◌>>=◌, ◌^◌, ◌∙◌, ◌∷◌, ◌≡◌, ◌≤◌, ◌⊎◌}
-use Rattle.std.specs.Prelude.{map, ◌≢◌}
-use Rattle.std.proofs.lemmas.List.{append_cancel_right, length-take, length-take-le, map-append}
-use Rattle.serde_json.proofs.OnLiterals.{serde_json_on_literals}
-use Rattle.ucl_word.specs.declared.refusal.Refusal.TheVariants.{AlreadyStarted, Finished, LimitReached, NoCaution, NoGoal, NotFinished, NotStarted, NumberFull}
-use Rattle.ucl_word.specs.declared.refusal.Refusal.TheVariants.{Stale}
-use Rattle.ucl_word.proofs.Words.{word_high}
-use Rattle.ucl_json.specs.Values.{coded_value, matches_value, numbered_value, refused_value}
-use Rattle.ucl_rows.specs.BadRows.{printed}
+use Rattle.ucl_live_runs.proofs.Common.{All, All-append, All-cons, All-get_or, All-head, All-nil, All-tail, All-weaker, AreWords, AwaitingClubs}
+use Rattle.ucl_live_runs.proofs.Common.{AwaitingHeader, Bad, BoardHeader, BoardState, Bool, Data, Err, Event, FourFields, HasNoFeed, HasNumbers, IfSome}
+use Rattle.ucl_live_runs.proofs.Common.{IsAttempt, IsBoardState, IsGroup, IsRoster, IsValid, IsWord, Json, KickOff, Kind, LinesTellTheirBoardState, List}
+use Rattle.ucl_live_runs.proofs.Common.{LiveArgs, MatchRecord, Matches, NamedClub, NewBoard, NightEvent, None, Nothing, Ok, Open, Option, Profile, Reached}
+use Rattle.ucl_live_runs.proofs.Common.{Refusal, Request, Said, Screen, Session, Some, Words, [], accepted_value, again_on, and_from, and_parts, answer}
+use Rattle.ucl_live_runs.proofs.Common.{answer_of, answer_said, ap, append_cancel_right, arith, asked_header, attempt_of, bad_row_value, begun_append}
+use Rattle.ucl_live_runs.proofs.Common.{begun_ended, begun_line, begun_none, board_after, board_state_at, board_state_with, cases_Bool, cases_lt, club_said}
+use Rattle.ucl_live_runs.proofs.Common.{coded_value, compact_text, cond_both, edition_by, edition_screen_value, ended_append, ended_line, ended_lines}
+use Rattle.ucl_live_runs.proofs.Common.{ended_none, false, field_name, found_of, game_at, header_by, header_said, if◌then◌else◌, inl, inr, is_bad}
+use Rattle.ucl_live_runs.proofs.Common.{is_group_row, is_printed, json_line, leb-true, length, length-take, length-take-le, letter_in, list_all, map}
+use Rattle.ucl_live_runs.proofs.Common.{map-append, matches_value, nat_le, next, next_at, next_board, next_on, number_valid, numbered_value, one_line}
+use Rattle.ucl_live_runs.proofs.Common.{open_at, parse_board_line, parse_board_state, printed, profile_named, record_at, refl, refusal_code, refusal_name}
+use Rattle.ucl_live_runs.proofs.Common.{refusal_of, refused_by, refused_value, reply_answer, reply_of, reply_value, request_of, screen_after, screen_answer}
+use Rattle.ucl_live_runs.proofs.Common.{serde_json_on_literals, shown_text, start_of, subst, sym, take, take_all, too-long, true, unwrap_or, version_of}
+use Rattle.ucl_live_runs.proofs.Common.{word_at, word_high, word_valid, words_value, ℕ, ◌&&◌, ◌++◌, ◌+◌, ◌-◌, ◌/◌, ◌<◌, ◌^◌, ◌>>=◌, ◌∙◌, ◌∷◌, ◌≡◌, ◌≢◌, ◌≤◌}
+use Rattle.ucl_live_runs.proofs.Common.{◌⊎◌}
+use Rattle.ucl_command.proofs.Letters.{asked_letter}
+use Rattle.ucl_command.specs.Groups.{may_be_asked}
+use Rattle.ucl_rows.specs.Rows.{Row}
 use Rattle.ucl_rows.specs.declared.bad_row.BadField.{BadField}
 use Rattle.ucl_rows.specs.declared.bad_row.BadField.TheVariants.{Count}
-use Rattle.ucl_json.specs.BoardLines.{parse_board_state}
-use Rattle.ucl_json.proofs.Members.{too-long}
+use Rattle.ucl_screen.specs.Numbers.{number}
+use Rattle.ucl_word.specs.declared.refusal.Refusal.TheVariants.{AlreadyStarted, Finished, LimitReached, NoCaution, NoGoal, NotFinished, NotStarted}
+use Rattle.ucl_word.specs.declared.refusal.Refusal.TheVariants.{NumberFull, Stale}
 use Rattle.ucl_live_runs.proofs.AnswerValues.{digits-20, kind-text, match-plain, matches-plain, told-lines, words-plain}
-use Rattle.ucl_live_runs.proofs.ReadBack.{IsShortPlain, IsText, parsed-line}
-use Rattle.std.proofs.lemmas.Bool.{cond_both}
 use Rattle.ucl_live_runs.proofs.Boards.{IsGood, IsPossible, fresh-good, good-after, good-board, good-club, good-first, of-request, possible, ranged, renewed}
-use Rattle.ucl_live_runs.specs.Requests.{edition_by}
-use Rattle.ucl_command.specs.Groups.{may_be_asked}
-use Rattle.ucl_command.proofs.Letters.{asked_letter}
 use Rattle.ucl_live_runs.proofs.Lines.{by-line}
-use Rattle.ucl_word.specs.Rules.{refusal_of}
+use Rattle.ucl_live_runs.proofs.ReadBack.{IsShortPlain, IsText, parsed-line}
 
 -- ==== The lines that a session in JSON answers, and what each tells
-
--- ---- a text of whole lines, of which each carries nothing or this
 
 -- what the lines of a text carry
 abbrev pub carried_in : List ℕ → List (Option BoardState)
@@ -171,39 +163,25 @@ pub refused-line : (o : Option BoardState) (row : ℕ) (event : NightEvent) (ref
 refused-line o row event refusal m r fits f v =
     let p = name-text refusal in refused-by-line o row event (refusal_code refusal) (refusal_name refusal) (found_of refusal) m r fits p.2 p.0 p.1 f v
 
--- ---- the number that a refusal tells
+record IsFound (o : Option Refusal) : Type 0 where
+  is : IfSome o (λ refusal. IfSome (found_of refusal) (λ n. n < 2 ^ 64))
 
-record IsFound (number : ℕ) (o : Option Refusal) : Type 0 where
-  is : IfSome o (λ refusal. IfSome (found_of refusal) (λ n. n ≡ number))
+or-found : (b : Bool) (refusal : Refusal) (o : Option Refusal) → IfSome (found_of refusal) (λ n. n < 2 ^ 64) → IsFound o → IsFound (if b then Some refusal else o)
+or-found true refusal o h k = record { is = h }
+or-found false refusal o h k = k
 
-or-found : (number : ℕ) (b : Bool) (refusal : Refusal) (o : Option Refusal) → IfSome (found_of refusal) (λ n. n ≡ number) → IsFound number o → IsFound number (if b then Some refusal else o)
-or-found number true refusal o h k = record { is = h }
-or-found number false refusal o h k = k
-
-found-is : (m : MatchRecord) (expected : ℕ) (kind : Kind) → IsFound m.number (refusal_of m expected kind)
+found-is : (m : MatchRecord) (expected : ℕ) (kind : Kind) → m.number < 2 ^ 64 → IsFound (refusal_of m expected kind)
 unfolding refusal_of
-found-is m expected kind =
-    or-found m.number _ (Stale m.number) _ refl
-    (or-found m.number _ Finished _ tt
-    (or-found m.number _ NotFinished _ tt
-    (or-found m.number _ NotStarted _ tt
-    (or-found m.number _ AlreadyStarted _ tt
-    (or-found m.number _ NumberFull _ tt
-    (or-found m.number _ NoGoal _ tt
-    (or-found m.number _ NoCaution _ tt
-    (or-found m.number _ LimitReached None tt (record { is = tt })))))))))
-
-few : (found : Option ℕ) (number : ℕ) → IfSome found (λ n. n ≡ number) → number < 2 ^ 64 → IfSome found (λ n. n < 2 ^ 64)
-few None number h k = tt
-few (Some n) number h k = rw h k
+found-is m expected kind h =
+    or-found _ (Stale m.number) _ h (or-found _ Finished _ tt (or-found _ NotFinished _ tt (or-found _ NotStarted _ tt
+    (or-found _ AlreadyStarted _ tt (or-found _ NumberFull _ tt (or-found _ NoGoal _ tt (or-found _ NoCaution _ tt
+    (or-found _ LimitReached None tt (record { is = tt })))))))))
 
 pub found-fits : (word expected : ℕ) (kind : Kind) (refusal : Refusal) → IsWord word → refusal_of (record_at word) expected kind ≡ Some refusal → IfSome (found_of refusal) (λ n. n < 2 ^ 64)
 found-fits word expected kind refusal is e =
     let m = record_at word in
-    let h : IsFound m.number (Some refusal) = subst (IsFound m.number) e (found-is m expected kind) in
-    few (found_of refusal) m.number h.is (let n = number_valid m (word_valid word is) in omega arith)
-
--- ---- words fit
+    let few : m.number < 2 ^ 64 = let n = number_valid m (word_valid word is) in omega arith in
+    let h : IsFound (Some refusal) = subst IsFound e (found-is m expected kind few) in h.is
 
 word-fits : (word : ℕ) → IsWord word → word < 2 ^ 64
 word-fits word is = let high : word / 2 ^ 56 ≡ 32 = word_high word is in omega (arith, high)
@@ -270,21 +248,21 @@ pub record IsSound (e : Session) : Type 0 where
   pub phase : IsGood e.phase
   pub header : IsHeader e.header
 
-sound-on : (e : Session) (clubs : List NamedClub) (board : List ℕ) (r : Said) (o : Option NewBoard) → again_on e.header e.is_new clubs r ≡ o → IsGood (Open clubs board)
+sound-on : (e : Session) (clubs : List NamedClub) (board : List ℕ) (r : Said) (o : Option NewBoard) → again_on e.header e.is_new clubs r ≡ o → IsGood (open_at clubs board)
     → IsHeader e.header → IsGood (next_on e clubs board r o).phase × IsHeader (next_on e clubs board r o).header
 sound-on e clubs board r None is g t = ((g.0, good-board board (request_of r) g.1 (of-request r)), t)
 sound-on e clubs board r (Some new) is g t =
     let x = renewed e.header e.is_new clubs r new is in
     ((x.good g.0, fresh-good), elim x.has_header [ inl later ↦ said-header later.1 new.header later.2 | inr same ↦ subst IsHeader (sym same.1) t ])
 
-sound-at : (e : Session) (s : Phase) (r : Said) → IsGood s → IsHeader e.header → IsGood (next_at e s r).phase × IsHeader (next_at e s r).header
-sound-at e AwaitingHeader r g t = (
+sound-at : (e : Session) (s : Reached) (r : Said) → IsGood s → IsHeader e.header → IsGood (next_at e s r).phase × IsHeader (next_at e s r).header
+sound-at e (Ok AwaitingHeader) r g t = (
   good-first e.options e.row r,
   cond_both (is_group_row r) (unwrap_or (header_said r) e.header) e.header IsHeader (λ _. row-header e.header r t) (λ _. t),
 )
-sound-at e (AwaitingClubs clubs) r g t = (good-club e.row clubs (club_said (length clubs + 1) r), t)
-sound-at e (Open clubs board) r g t = sound-on e clubs board r (again_on e.header e.is_new clubs r) refl g t
-sound-at e (Refused fault) r g t = (tt, t)
+sound-at e (Ok (AwaitingClubs clubs)) r g t = (good-club e.row clubs (club_said (length clubs + 1) r), t)
+sound-at e (Ok (Open table)) r g t = sound-on e table.roster table.board r (again_on e.header e.is_new table.roster r) refl g t
+sound-at e (Err fault) r g t = (tt, t)
 
 pub sound-next : (e : Session) (r : Said) → IsSound e → IsSound (next e r)
 sound-next e Nothing g = record { phase = g.phase; header = g.header }
@@ -292,8 +270,6 @@ sound-next e r g = let p = sound-at e e.phase r g.phase g.header in record { pha
 
 pub start-sound : (options : LiveArgs) → IsSound (start_of options)
 start-sound options = record { phase = tt; header = first-header options }
-
--- ---- board states
 
 pub board_state-good : (header : BoardHeader) (clubs : List NamedClub) (board : List ℕ) → IsHeader header → IsRoster clubs → AreWords board →
     IsBoardState (board_state_with header clubs board)
@@ -312,7 +288,7 @@ kick_off-fits : HasNumbers kick_off
 kick_off-fits = record { reporter = omega arith; game = omega arith; expected = omega arith }
 
 -- what the board stands at, once something but the rows of its heading has come
-abbrev pub told_now : Bool → BoardHeader → Phase → Option BoardState
+abbrev pub told_now : Bool → BoardHeader → Reached → Option BoardState
 told_now true header s = None
 told_now false header s = board_state_at header s
 
@@ -322,6 +298,7 @@ module _ (options : LiveArgs) (header : BoardHeader) (row : ℕ) (clubs : List N
   At board = Some (board_state_with header clubs board)
 
   screen-tells : (board : List ℕ) → AreWords board → CarriesAtMost (At board) (screen_answer options.format header row clubs board)
+  unfolding LinesTellTheirBoardState
   screen-tells board w =
       rw json (most-as (At board) (At board) (json_line (edition_screen_value row header board clubs)) (value-line (edition_screen_value row header board clubs) (At board)
       (told-lines row kick_off 0 (board_state_with header clubs board) (board_state-good header clubs board good is w) fits kick_off-fits (omega arith)).screen) (inr refl))
@@ -349,6 +326,7 @@ module _ (options : LiveArgs) (header : BoardHeader) (row : ℕ) (clubs : List N
     reply-with o = json_line (reply_value row event (answer (game_of board).number o) header now clubs)
 
     accepted-line : IsLineThat (At now) (reply-with None)
+    unfolding LinesTellTheirBoardState
     accepted-line =
         value-line (accepted_value row event ((game_of board).number + 1) header now clubs) (At now)
         ((told-lines row event ((game_of board).number + 1) (board_state_with header clubs now) (board_state-good header clubs now good is good-now) fits small number-fits).reply)
@@ -373,14 +351,14 @@ module _ (options : LiveArgs) (header : BoardHeader) (row : ℕ) (clubs : List N
 
   -- a row that asks for nothing that there is carries nothing, and any other the board state after it
   request-tells : (is_new : Bool) (board : List ℕ) (request : Request) (shown : List ℕ) → AreWords board → IsPossible request → IsShown shown
-      → CarriesAtMost (told_now (is_bad request && is_new) header (Open clubs (next_board board request))) (answer_of options header row clubs board request shown)
+      → CarriesAtMost (told_now (is_bad request && is_new) header (open_at clubs (next_board board request))) (answer_of options header row clubs board request shown)
   request-tells is_new board (Event event) shown w p short =
       let m = game_at board event.call.game in
       let after = board_after board (attempt_of event) in
       most-then (At after) (reply_answer options.format header row clubs event (version_of board) (reply_of m event.call) after)
       (screen_after options header row clubs (reply_of m event.call) after)
       (reply-tells board w event p.0 (numbers event p) (version_of board)) (after-tells board w event p.0 (numbers event p) (refusal_of m event.call.expected event.call.kind))
-  request-tells is_new board (Bad field) shown w p short = rw json (bad-line (told_now is_new header (Open clubs board)) row field shown fits short)
+  request-tells is_new board (Bad field) shown w p short = rw json (bad-line (told_now is_new header (open_at clubs board)) row field shown fits short)
   request-tells is_new board Screen shown w p short = screen-tells board w
   request-tells is_new board Words shown w p short = rw json (words-line (At board) row board fits w.twelve (board-fits board w.each))
   request-tells is_new board Matches shown w p short = rw json (matches-line (At board) row board clubs fits is w)
@@ -392,5 +370,5 @@ told_after e = told_now e.is_new e.header e.phase
 pub line-tells : (e : Session) (r : Said) (shown : List ℕ) → e.options.format ≡ Json → e.row < 2 ^ 64 → IsSound e → IsShown shown
     → CarriesAtMost (told_after (next e r)) (answer_said e r shown)
 line-tells e r shown json fits g short = by-line (λ after text. CarriesAtMost (told_after after) text) e r shown (λ after. most-none (told_after after))
-    (λ clubs board is. let good : IsGood (Open clubs board) = subst IsGood is g.phase in
+    (λ clubs board is. let good : IsGood (open_at clubs board) = subst IsGood is g.phase in
     request-tells e.options e.header e.row clubs json fits g.header good.0 e.is_new board (request_of r) shown good.1 (possible r) short)

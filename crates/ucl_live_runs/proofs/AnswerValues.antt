@@ -1,42 +1,40 @@
 -- The values of answers: the board state that they carry, and that they are plain and short.
-use Rattle.ucl_live_runs.proofs.Common.{All, All-get_or, All-head, All-tail, AreWords, AwayInTie, BoardState, Data, Disallow, Goal, HasNumbers, Home, IsBoardState}
-use Rattle.ucl_live_runs.proofs.Common.{IsClub, IsGroup, IsRoster, IsValid, IsWord, Kind, List, Mark, MatchRecord, NamedClub, NightEvent, None, Ok, Option, Plus}
-use Rattle.ucl_live_runs.proofs.Common.{Profile, Red, Scheduled, SecondYellow, Some, Uefa, Yellow, [], and_from, and_parts, ap, arith, bad_slot, cases_Bool}
-use Rattle.ucl_live_runs.proofs.Common.{club_in, club_items, codes, decimal, digit_glyph, false, game_at, hex_digits, in_play, inl, inr, is_in_play, is_name}
-use Rattle.ucl_live_runs.proofs.Common.{is_printed, le-leb, leb-true, length, length-decimal-le, letter_in, list_all, mark_name, match_items, match_numbers, member}
-use Rattle.ucl_live_runs.proofs.Common.{nat_le, nat_lt, nat_tests, negsuc, no_members, number_text, number_valid, number_value, object, of_integer, place_items}
-use Rattle.ucl_live_runs.proofs.Common.{pos, pow-suc, profile_name, profile_named, read_words, record_at, refl, rows_of, string, suc, true, unsigned, version_of}
-use Rattle.ucl_live_runs.proofs.Common.{word_at, word_items, word_valid, zero, ℕ, ℤ, ◌%◌, ◌&&◌, ◌*◌, ◌+◌, ◌-ℤ◌, ◌-◌, ◌/◌, ◌<◌, ◌==◌, ◌^◌, ◌∙◌, ◌∷◌, ◌≡◌, ◌≤◌}
-use Rattle.std.specs.Prelude.{option_and_then, slice_index_or}
+use Rattle.ucl_live_runs.proofs.Common.{All, All-get_or, All-head, All-tail, AnswersTellTheirBoardState, AreWords, AwayInTie, BoardState, Data, Disallow}
+use Rattle.ucl_live_runs.proofs.Common.{Goal, HasNumbers, IsBoardState, IsClub, IsGroup, IsRoster, IsValid, IsWord, Kind, LinesTellTheirBoardState, List}
+use Rattle.ucl_live_runs.proofs.Common.{MatchRecord, MatchesFitTheirLine, NamedClub, NightEvent, None, Ok, Option, Profile, Red, SecondYellow, Some, Uefa}
+use Rattle.ucl_live_runs.proofs.Common.{Yellow, [], accepted_value, and_from, and_parts, ap, arith, away_expulsions_valid, away_goals_valid}
+use Rattle.ucl_live_runs.proofs.Common.{away_yellows_valid, bad_slot, bad_slot_from, cases_Bool, club_in, club_items, club_value, codes, count_by-le-length}
+use Rattle.ucl_live_runs.proofs.Common.{decimal, edition_in, edition_screen_value, eq-eqb, false, game_at, hex_after, hex_digit, hex_digits, hex_word}
+use Rattle.ucl_live_runs.proofs.Common.{home_expulsions_valid, home_goals_valid, home_yellows_valid, if_read, in_play, inl, inr, is_club, is_in_play, is_name}
+use Rattle.ucl_live_runs.proofs.Common.{is_printed, just, kind_name, le-leb, leb-true, length, length-decimal-le, letter_in, list_all, list_at, listed}
+use Rattle.ucl_live_runs.proofs.Common.{mark_name, match_items, match_value, matches_value, member, named, nat_le, nat_lt, nat_tests, negsuc, no_members}
+use Rattle.ucl_live_runs.proofs.Common.{number_text, number_valid, number_value, object, option_and_then, parse_board, parse_board_state, parse_club}
+use Rattle.ucl_live_runs.proofs.Common.{parse_clubs, parse_each, parse_edition, parse_group, parse_order, parse_roster, parse_word, place_items, place_value}
+use Rattle.ucl_live_runs.proofs.Common.{pos, profile_name, profile_named, record_at, refl, reporter_valid, screen_value, serde_json_on_literals, sides_value}
+use Rattle.ucl_live_runs.proofs.Common.{slice_index_or, string, suc, sum_by-le, text_at, true, unsigned, version_of, word_at, word_items, word_valid, zero, ℕ}
+use Rattle.ucl_live_runs.proofs.Common.{ℤ, ◌%◌, ◌&&◌, ◌*◌, ◌+◌, ◌-ℤ◌, ◌-◌, ◌/◌, ◌<◌, ◌^◌, ◌∙◌, ◌∷◌, ◌≡◌, ◌≤◌}
 use Rattle.serde_json.specs.Data.{number}
-use Rattle.serde_json.specs.Find.{get}
-use Rattle.serde_json.proofs.OnLiterals.{serde_json_on_literals}
-use Rattle.ucl_order.specs.Roster.{bad_slot_from, is_club, named}
-use Rattle.ucl_screen.specs.Numbers.{hex_after, hex_digit, hex_word}
-use Rattle.ucl_screen.proofs.ReadWords.{all-read}
-use Rattle.ucl_json.specs.Values.{accepted_value, club_value, edition_screen_value, match_value, matches_value, place_value, screen_value, sides_value}
-use Rattle.ucl_rows.proofs.WordDigits.{low, word-digits}
-use Rattle.ucl_json.specs.BoardLines.{edition_in, if_read, just, list_at, listed, parse_board, parse_board_state, parse_club, parse_clubs, parse_each}
-use Rattle.ucl_json.specs.BoardLines.{parse_edition, parse_group, parse_order, parse_roster, parse_word, text_at}
-use Rattle.ucl_live_runs.specs.Follow.{AnswersTellTheirBoardState, LinesTellTheirBoardState, MatchesFitTheirLine}
+use Rattle.serde_json.specs.Find.{get, of_integer}
+use Rattle.std.proofs.Math.Nat.{pow-suc}
 use Rattle.std.proofs.lemmas.Int.{ints}
-use Rattle.std.proofs.lemmas.List.Sums.{count_by-le-length, sum_by-le}
-use Rattle.ucl_board.specs.Fixtures.{IsSlot}
-use Rattle.ucl_live_runs.proofs.ReadBack.{ArePlain, IsPlain, IsPlainNumber, IsShortPlain, IsText, items_size, line-short, parsed-line, size}
+use Rattle.std.specs.Fmt.{digit_glyph}
+use Rattle.ucl_board.specs.Fixtures.{IsSlot, match_numbers}
 use Rattle.ucl_order.proofs.KeysFit.{words_valid}
 use Rattle.ucl_order.proofs.Limits.{rows_within}
-use Rattle.ucl_order.specs.Rows.{IsWithinTable, row_of}
+use Rattle.ucl_order.specs.Rows.{IsWithinTable, row_of, rows_of}
+use Rattle.ucl_order.specs.declared.mark.Mark.{Mark}
+use Rattle.ucl_order.specs.declared.mark.Mark.TheVariants.{Plus}
 use Rattle.ucl_order.specs.declared.table.Row.{Row}
+use Rattle.ucl_rows.proofs.WordDigits.{low, word-digits}
+use Rattle.ucl_screen.proofs.ReadWords.{all-read}
 use Rattle.ucl_screen.specs.Matches.{state_name}
-use Rattle.ucl_word.proofs.ValidRecords.{away_expulsions_valid, away_goals_valid, away_yellows_valid, home_expulsions_valid, home_goals_valid, home_yellows_valid}
-use Rattle.ucl_word.proofs.ValidRecords.{reporter_valid}
-use Rattle.ucl_word.specs.Names.{kind_name}
+use Rattle.ucl_screen.specs.WordsRead.{read_words}
+use Rattle.ucl_word.specs.declared.event.Side.TheVariants.{Home}
 use Rattle.ucl_word.specs.declared.record.State.{State}
-use Rattle.std.proofs.lemmas.Bool.{eq-eqb}
+use Rattle.ucl_word.specs.declared.record.State.TheVariants.{Scheduled}
+use Rattle.ucl_live_runs.proofs.ReadBack.{ArePlain, IsPlain, IsPlainNumber, IsShortPlain, IsText, items_size, line-short, parsed-line, size}
 
 -- ==== What a session answers tells its board state
-
--- ---- digits
 
 glyph-back : (d : ℕ) → d < 16 → hex_digit (digit_glyph false d) ≡ Some d
 glyph-back (suc (suc (suc (suc (suc (suc (suc (suc (suc (suc (suc (suc (suc (suc (suc (suc d)))))))))))))))) h = absurd (omega arith)
@@ -110,8 +108,6 @@ clubs-told : (clubs : List NamedClub) → IsRoster clubs → parse_roster (liste
 clubs-told (a ∷ b ∷ c ∷ d ∷ []) is = four a b c d (is.each 0 a (omega arith)) (is.each 1 a (omega arith)) (is.each 2 a (omega arith)) (is.each 3 a (omega arith))
 clubs-told _ is = absurd (let t = is.four in omega arith)
 
--- ---- the group and its order
-
 letter-told : (group : ℕ) → IsGroup group → letter_in (group ∷ []) ≡ Some group
 letter-told group h = rw (le-leb 65 group h.0, le-leb group 72 h.1) refl
 
@@ -152,14 +148,13 @@ unfolding edition_screen_value screen_value serde_json_on_literals
 screen-has row m = (refl, refl, refl, refl, refl)
 
 pub answered : AnswersTellTheirBoardState
+unfolding AnswersTellTheirBoardState
 answered row event event_number m is = record {
   reply = tells (accepted_value row event event_number m.header m.board m.roster) m is (reply-has row event event_number m);
   screen = tells (edition_screen_value row m.header m.board m.roster) m is (screen-has row m);
 }
 
 -- ==== What a session answers in JSON is plain, and short: so each of its lines carries what its value carries
-
--- ---- numbers
 
 pub digits-20 : (n : ℕ) → n < 2 ^ 64 → length (decimal n) ≤ 20
 digits-20 n h = length-decimal-le 20 n (omega arith) (omega arith) h
@@ -342,12 +337,10 @@ module _ (board : List ℕ) (w : AreWords board) where
       record { plain = ((refl, refl), (c.0, (games.0, (refl, (r, tt))))); size = omega (arith, digits-20 row r, c.1, games.1) }
 
 pub matches-fit : MatchesFitTheirLine
+unfolding MatchesFitTheirLine
 matches-fit row m is r = line-short (matches_value row m.board m.roster) (matches-plain m.board is.words row m.roster r is.clubs)
 
 -- ---- the screen
-
-playing : (board : List ℕ) → AreWords board → in_play board ≤ 12
-playing board w = let t = w.twelve in let few = count_by-le-length (λ word. is_in_play (record_at word).state) board in omega (arith, t, few)
 
 difference-plain : (z : ℤ) (a b : ℕ) → z ≡ pos a -ℤ pos b → a ≤ 378 → b ≤ 378 → IsPlainNumber (of_integer z) × (length (number_text (of_integer z)) ≤ 4)
 difference-plain (pos n) a b e h k = let few : n < 1000 = omega (arith, ints) in (omega arith, omega (arith, digits-3))
@@ -368,20 +361,16 @@ place-plain roster row is w four =
       omega (arith, digits-3, club.short, mark.1, apart.1),
     )
 
-row-at : (profile : Profile) (board : List ℕ) (roster : List NamedClub) (place : ℕ) → place ≤ 4 → (row_of profile board roster place).place ≤ 4
-unfolding row_of
-row-at profile board roster place h = h
-
 places-plain : (profile : Profile) (board : List ℕ) (roster : List NamedClub) → IsRoster roster → AreWords board
     → ArePlain 125 (place_items roster (rows_of profile board roster)) × (items_size (place_items roster (rows_of profile board roster)) ≤ 925)
+unfolding row_of
 places-plain profile board roster is words =
     let within = rows_within profile board roster (words_valid board words) in
     let row = row_of profile board roster in
-    let at = row-at profile board roster in
-    let a = place-plain roster (row 1) is (within 0 (row 1) (omega arith)) (at 1 (omega arith)) in
-    let b = place-plain roster (row 2) is (within 1 (row 1) (omega arith)) (at 2 (omega arith)) in
-    let c = place-plain roster (row 3) is (within 2 (row 1) (omega arith)) (at 3 (omega arith)) in
-    let d = place-plain roster (row 4) is (within 3 (row 1) (omega arith)) (at 4 (omega arith)) in
+    let a = place-plain roster (row 1) is (within 0 (row 1) (omega arith)) (omega arith) in
+    let b = place-plain roster (row 2) is (within 1 (row 1) (omega arith)) (omega arith) in
+    let c = place-plain roster (row 3) is (within 2 (row 1) (omega arith)) (omega arith) in
+    let d = place-plain roster (row 4) is (within 3 (row 1) (omega arith)) (omega arith) in
     ((a.0, (b.0, (c.0, (d.0, tt)))), omega (arith, a.1, b.1, c.1, d.1))
 
 screen-plain : (row : ℕ) (m : BoardState) → IsBoardState m → row < 2 ^ 64 → IsShortPlain (edition_screen_value row m.header m.board m.roster)
@@ -393,7 +382,7 @@ screen-plain row m is r =
     let places = places-plain m.header.profile m.board m.roster is.clubs is.words in
     let games = plain-items m.board is.words match_numbers refl in
     let version = version-fits m.board is.words in
-    let few = playing m.board is.words in
+    let few : in_play m.board ≤ 12 = omega (arith, is.words.twelve, count_by-le-length (λ word. is_in_play (record_at word).state) m.board) in
     let edition = is.edition in record {
       plain = (
         (refl, refl),
@@ -414,9 +403,8 @@ screen-plain row m is r =
       );
     }
 
--- ---- their lines
-
 pub told-lines : LinesTellTheirBoardState
+unfolding LinesTellTheirBoardState AnswersTellTheirBoardState
 told-lines row event event_number m is r fits n =
     let told = answered row event event_number m is in record {
       reply = parsed-line (accepted_value row event event_number m.header m.board m.roster) (accepted-plain row event event_number m is r fits n) ∙ told.reply;

@@ -1,43 +1,36 @@
 -- The board of a session, and how a row begins it again.
-use Rattle.ucl_live_runs.proofs.Common.{Accepted, All, All-append, All-cons, All-get_or, All-head, All-nil, AreWords, Attempt, AwaitingClubs, Bad, BoardHeader}
-use Rattle.ucl_live_runs.proofs.Common.{Entry, Event, EventCall, Format, FourFields, IsAttempt, IsClub, IsLegal, IsRoster, IsValid, IsWord, Json, Kind, List}
-use Rattle.ucl_live_runs.proofs.Common.{LiveArgs, MatchRecord, Matches, NamedClub, NewBoard, NightEvent, None, Nothing, Open, Option, OtherGroup, Phase, Refusal}
-use Rattle.ucl_live_runs.proofs.Common.{Refused, Request, Result, Row, Said, Screen, Session, Some, Text, Words, [], after_attempt, after_beginning, after_club}
-use Rattle.ucl_live_runs.proofs.Common.{after_header, again, again_at, again_on, and_parts, answer_at, answer_of, answer_on, answer_said, ap, append-nil, ap₂}
-use Rattle.ucl_live_runs.proofs.Common.{arith, attempt_board, attempt_of, attempts_of, bad_slot, board_after, board_of, bytes_eq, cases_Bool, club_said, event_of}
-use Rattle.ucl_live_runs.proofs.Common.{event_or_bad, false, fold, game_at, get_or, header_by, header_said, if◌then◌else◌, in_range, inl, inr, is_as_asked}
-use Rattle.ucl_live_runs.proofs.Common.{is_asked, is_bad, is_group_row, kind_named, length, line_of_reply, moved, nat_le, nat_lt, nat_tests, next, next_at}
-use Rattle.ucl_live_runs.proofs.Common.{next_board, next_on, number, record_at, record_back, refl, refusal_of, reply_answer, reply_of, request_of, said_on}
-use Rattle.ucl_live_runs.proofs.Common.{same_Some, screen_after, sequential_reply, set, shown_text, subst, sym, true, version_of, with_roster, word_of, word_valid}
-use Rattle.ucl_live_runs.proofs.Common.{ℕ, ⊤, ◌&&◌, ◌++◌, ◌+◌, ◌-◌, ◌<◌, ◌==◌, ◌>>=◌, ◌∙◌, ◌∷◌, ◌≡◌, ◌≤◌, ◌⊎◌}
-use Rattle.ucl_live_runs.proofs.FollowShown.{IsOfSame, asked-same}
-use Rattle.std.proofs.lemmas.List.{length-set}
-use Rattle.std.proofs.lemmas.List.Elements.{All-set}
-use Rattle.std.proofs.lemmas.Option.{cond_some}
-use Rattle.ucl_order.specs.Roster.{bad_slot_from, is_club}
-use Rattle.ucl_screen.specs.Script.{club_of}
-use Rattle.ucl_rows.specs.Rows.{fields_seen}
-use Rattle.ucl_rows.specs.declared.row.RowFields.{RowFields}
+use Rattle.ucl_live_runs.proofs.Common.{Accepted, All, All-append, All-cons, All-get_or, All-head, All-nil, All-set, AreWords, Attempt, AwaitingClubs, Bad}
+use Rattle.ucl_live_runs.proofs.Common.{BeginsAgain, BoardHeader, BoardsTakeEvents, Bool, Entry, Err, Event, Format, FourFields, IsAttempt, IsClub, IsLegal}
+use Rattle.ucl_live_runs.proofs.Common.{IsRoster, IsValid, IsWord, Json, Kind, List, LiveArgs, MatchRecord, Matches, MayFollow, NamedClub, NeedsMemory}
+use Rattle.ucl_live_runs.proofs.Common.{NewBoard, NightEvent, None, Nothing, Ok, Open, Option, OtherGroup, Reached, Refusal, RefusedSessionsAreSilent}
+use Rattle.ucl_live_runs.proofs.Common.{RepliesAreThoseOfFeed, Request, RequestNeedsMemory, Result, Said, Screen, Session, SessionsAreSequential, Some}
+use Rattle.ucl_live_runs.proofs.Common.{StayOnTheBoard, Words, [], after, after_attempt, after_beginning, after_club, after_header, after_lines, again}
+use Rattle.ucl_live_runs.proofs.Common.{again_at, again_on, and_parts, answer_at, answer_by_history, answer_of, answer_on, answer_said, answers}
+use Rattle.ucl_live_runs.proofs.Common.{answers_by_history, ap, append-nil, ap₂, arith, asked_by, attempt_board, attempt_of, attempts_from, attempts_in}
+use Rattle.ucl_live_runs.proofs.Common.{attempts_of, bad_field, bad_slot, bad_slot_from, board_after, board_of, by_edition, cases_Bool, club_said, clubs_said}
+use Rattle.ucl_live_runs.proofs.Common.{codes, cond_both, cond_some, edition_said, eqb-true, event_of, event_or_bad, false, fields_seen, fold, game_at}
+use Rattle.ucl_live_runs.proofs.Common.{get_or, header_by, header_said, if◌then◌else◌, in_range, inl, inr, is_asked, is_bad, is_club}
+use Rattle.ucl_live_runs.proofs.Common.{is_group_row, is_later_edition, kind_named, later_header, length, length-set, line_by_history, moved, nat_le, nat_lt}
+use Rattle.ucl_live_runs.proofs.Common.{nat_tests, new_board, next, next_at, next_board, next_on, open_at, record_at, record_back, refl, refusal_of}
+use Rattle.ucl_live_runs.proofs.Common.{reply_answer, reply_by_history, reply_of, request_of, said_on, same_Some, screen_after, sequential_reply, session_at}
+use Rattle.ucl_live_runs.proofs.Common.{set, shown_by, shown_text, slot_in, subst, sum_by-set, sym, true, version_of, versions, with_club_in, with_roster}
+use Rattle.ucl_live_runs.proofs.Common.{word_of, word_valid, ℕ, ⊤, ◌&&◌, ◌++◌, ◌+◌, ◌-◌, ◌<◌, ◌==◌, ◌>>=◌, ◌∙◌, ◌∷◌, ◌≡◌, ◌≤◌, ◌⊎◌}
+use Rattle.std.specs.Str.{bytes_eq}
+use Rattle.ucl_board.proofs.HistoryTheorems.{board_words, reply_is}
+use Rattle.ucl_command.specs.declared.options.Format.TheVariants.{Text}
 use Rattle.ucl_live_runs.specs.declared.header.HeaderState.{HeaderState}
 use Rattle.ucl_live_runs.specs.declared.phase.OpenBoard.{OpenBoard}
-use Rattle.ucl_live_runs.specs.SessionRuns.{NeedsMemory, RequestNeedsMemory, open_board_seen, session_at}
-use Rattle.ucl_live_runs.specs.LiveText.{after_lines, answers}
-use Rattle.std.specs.Prelude.{Bool, codes}
-use Rattle.ucl_live_runs.specs.NewBoards.{BeginsAgain, by_edition, clubs_by_slot, clubs_said, new_board, of_clubs, slot_in, with_club_in}
-use Rattle.ucl_live_runs.specs.Requests.{asked_by, edition_said, is_later_edition, later_header, shown_by}
-use Rattle.std.proofs.lemmas.List.Sums.{sum_by-set}
-use Rattle.ucl_word.specs.Rules.{after}
+use Rattle.ucl_rows.specs.Lines.{line_of_reply, reply_line}
+use Rattle.ucl_rows.specs.Rows.{Row}
+use Rattle.ucl_rows.specs.declared.row.RowFields.{RowFields}
+use Rattle.ucl_screen.specs.Numbers.{number}
+use Rattle.ucl_screen.specs.Script.{club_of}
 use Rattle.ucl_word.proofs.AcceptedEvents.{accepts, after_number, after_valid}
 use Rattle.ucl_word.proofs.Sequences.{may_none}
-use Rattle.ucl_board.specs.History.{MayFollow}
-use Rattle.ucl_board.proofs.Histories.{board_words, reply_is}
-use Rattle.std.proofs.lemmas.Bool.{cond_both, eqb-true}
-use Rattle.ucl_board.proofs.HistoryTheorems.{attempts_from, versions}
-use Rattle.ucl_rows.specs.Lines.{reply_line}
-use Rattle.ucl_rows.specs.BadRows.{bad_field}
-use Rattle.ucl_live_runs.specs.LiveTheorems.{BoardsTakeEvents, RefusedSessionsAreSilent, RepliesAreThoseOfFeed, SessionsAreSequential, StayOnTheBoard}
-use Rattle.ucl_live_runs.specs.LiveTheorems.{answer_by_history, answers_by_history, attempts_in, line_by_history, reply_by_history}
-use Rattle.ucl_live_runs.proofs.Lines.{refused-shut, silent}
+use Rattle.ucl_word.specs.declared.event.EventCall.{EventCall}
+use Rattle.std.specs.Prelude.{option_and_then, option_map}
+use Rattle.ucl_live_runs.proofs.FollowShown.{IsOfSame, asked-same}
+use Rattle.ucl_live_runs.proofs.Lines.{is_open, silent}
 use Rattle.ucl_rows.specs.declared.row.RowFields.TheVariants as seen
 
 -- ==== A row that begins the board again: what its header and its clubs are
@@ -65,8 +58,6 @@ edition-is header f later h = by-header header (header_by f) later (if-some (is_
     if-some true o t h = h
     if-some false o t h = cc
 
--- ---- clubs
-
 good-put : (slot : ℕ) (clubs : List NamedClub) (o : Option NamedClub) (more : List NamedClub) → with_club_in slot clubs o ≡ Some more → IsRoster clubs → IsRoster more
 good-put slot clubs (Some club) more h roster =
     let p = cond_some (is_club club) (set clubs (slot - 1) club) more h in
@@ -76,17 +67,16 @@ good-put slot clubs (Some club) more h roster =
     })
 good-put slot clubs None more h roster = cc
 
-good-clubs : (slot : Option ℕ) (clubs : List NamedClub) (f : FourFields) (more : List NamedClub) → clubs_by_slot slot clubs f ≡ Some more → IsRoster clubs → IsRoster more
+good-clubs : (o : Option ℕ) (clubs : List NamedClub) (f : FourFields) (more : List NamedClub)
+    → option_and_then (λ slot. with_club_in slot clubs (club_of slot f)) o ≡ Some more → IsRoster clubs → IsRoster more
 good-clubs (Some slot) clubs f more h roster = good-put slot clubs (club_of slot f) more h roster
 good-clubs None clubs f more h roster = cc
-
--- ---- the whole row
 
 pub record Renews (header : BoardHeader) (is_new : Bool) (clubs : List NamedClub) (new : NewBoard) : Type 0 where
   pub has_header : (IsLaterHeader header new.header × (f : FourFields) × (header_by f ≡ Some new.header)) ⊎ ((is_new ≡ true) × (new.header ≡ header))
   pub good : IsRoster clubs → IsRoster new.clubs
 
-of-clubs : (header : BoardHeader) (clubs : List NamedClub) (f : FourFields) (o : Option (List NamedClub)) (new : NewBoard) → clubs_said clubs f ≡ o → of_clubs header o ≡ Some new
+of-clubs : (header : BoardHeader) (clubs : List NamedClub) (f : FourFields) (o : Option (List NamedClub)) (new : NewBoard) → clubs_said clubs f ≡ o → option_map (new_board header) o ≡ Some new
     → Renews header true clubs new
 of-clubs header clubs f (Some more) new said h =
     let same = same_Some (new_board header more) new h in record {
@@ -117,14 +107,14 @@ not-begun (Some again) done head head2 old new h is_not = cc (h.0, is_not)
 
 module _ (options : LiveArgs) (head : HeaderState) (row : ℕ) (table : OpenBoard) where
   abbrev e : Session
-  e = session_at options head row (open_board_seen table)
+  e = session_at options head row (Open table)
 
   pub answered-next : (said : RowFields) (head2 : HeaderState) (table2 : OpenBoard) → again_on head.header head.is_new table.roster (fields_seen said) ≡ None
       → head2.header ≡ head.header → head2.is_new ≡ (is_bad (request_of (fields_seen said)) && head.is_new)
-      → table2.roster ≡ table.roster → table2.board ≡ next_board table.board (request_of (fields_seen said))
-      → session_at options head2 (row + 1) (open_board_seen table2) ≡ next e (fields_seen said)
-  answered-next (seen.Four f) head2 table2 none t n c b = rw (none, t, n, c, b) refl
-  answered-next seen.Other head2 table2 none t n c b = rw (t, n, c, b) refl
+      → table2 ≡ record table { board = next_board table.board (request_of (fields_seen said)) }
+      → session_at options head2 (row + 1) (Open table2) ≡ next e (fields_seen said)
+  answered-next (seen.Four f) head2 table2 none t n b = rw (none, t, n, b) refl
+  answered-next seen.Other head2 table2 none t n b = rw (t, n, b) refl
 
   pub answered-text : (said : RowFields) (shown : List ℕ) → again_on head.header head.is_new table.roster (fields_seen said) ≡ None
       → answer_of options head.header row table.roster table.board (request_of (fields_seen said)) shown ≡ answer_said e (fields_seen said) shown
@@ -133,8 +123,8 @@ module _ (options : LiveArgs) (head : HeaderState) (row : ℕ) (table : OpenBoar
 
   pub answered-asks : (said : RowFields) → again_on head.header head.is_new table.roster (fields_seen said) ≡ None
       → RequestNeedsMemory options table.board (request_of (fields_seen said)) → NeedsMemory e (fields_seen said)
-  answered-asks (seen.Four f) none asks = rw none asks
-  answered-asks seen.Other none asks = asks
+  answered-asks (seen.Four f) none asks = (none, asks)
+  answered-asks seen.Other none asks = (none, asks)
 
 -- ==== Boards of valid words, through a session
 
@@ -167,8 +157,6 @@ module _ (words : List ℕ) (a : Attempt) (w : AreWords words) (is : IsAttempt a
       let more : (record_at (word_of n)).number ≡ (game_at words a.call.game).number + 1 =
       ap (λ (r : MatchRecord). r.number) (record_back n (valid-after e)) ∙ after_number (game_at words a.call.game) a.reporter a.call.kind in
       rw e (omega (arith, sum, more))
-
--- ---- the fresh board
 
 pub fresh-good : AreWords (board_of [])
 fresh-good = board_words [] (may_none MayFollow)
@@ -211,17 +199,6 @@ event-numbers f e h =
       (ranged 0 65535 (number 5 f.third) e.call.expected p.2).1,
     )
 
--- of all requests
-
-abbrev pub AreAttempts : Request → Type 0
-AreAttempts r = All IsAttempt (attempts_of r)
-
-none : All IsAttempt []
-none = λ k d h. absurd (omega arith)
-
-one : (a : Attempt) → IsAttempt a → All IsAttempt (a ∷ [])
-one a p = λ k d h. let z : k ≡ 0 = omega arith in rw z p
-
 -- an event is of a reporter and a match that there are, and of a number of 16 bits
 abbrev pub IsPossible : Request → Type 0
 IsPossible (Event e) = IsAttempt (attempt_of e) × (e.call.expected ≤ 65535)
@@ -247,16 +224,16 @@ pub possible : (r : Said) → IsPossible (request_of r)
 possible (Row f) = asked-by IsPossible f tt tt tt tt (possible-event f (event_of f) refl)
 possible _ = tt
 
-pub of-request : (r : Said) → AreAttempts (request_of r)
+pub of-request : (r : Said) → All IsAttempt (attempts_of (request_of r))
 of-request r = of (request_of r) (possible r)
   where
-    of : (q : Request) → IsPossible q → AreAttempts q
-    of (Event e) p = one (attempt_of e) p.0
-    of _ p = none
+    of : (q : Request) → IsPossible q → All IsAttempt (attempts_of q)
+    of (Event e) p = All-cons IsAttempt (attempt_of e) [] p.0 (All-nil IsAttempt)
+    of _ p = All-nil IsAttempt
 
 all-attempts : (row : ℕ) (lines : List (List ℕ)) → All IsAttempt (attempts_in row lines)
 unfolding attempts_in
-all-attempts row [] = none
+all-attempts row [] = All-nil IsAttempt
 all-attempts row (line ∷ lines) = All-append IsAttempt (attempts_of (request_of (said_on row line))) (attempts_in (row + 1) lines) (of-request (said_on row line)) (all-attempts (row + 1) lines)
 
 -- the board
@@ -266,31 +243,27 @@ fold-request board (Event e) more = refl
 fold-request _ _ _ = refl
 
 -- a line that does not begin the board again
-pub on-board : (e : Session) (r : Said) (clubs : List NamedClub) (board : List ℕ) → e.phase ≡ Open clubs board → again e r ≡ None → next e r ≡ moved e (next_on e clubs board r None)
+pub on-board : (e : Session) (r : Said) (clubs : List NamedClub) (board : List ℕ) → e.phase ≡ open_at clubs board → again e r ≡ None → next e r ≡ moved e (next_on e clubs board r None)
 on-board e Nothing clubs board h none = rw h refl
 on-board e r clubs board h none = ap (moved e) (at e.phase h none)
   where
-    at : (s : Phase) → s ≡ Open clubs board → again_at e s r ≡ None → next_at e s r ≡ next_on e clubs board r None
+    at : (s : Reached) → s ≡ open_at clubs board → again_at e s r ≡ None → next_at e s r ≡ next_on e clubs board r None
     at s is none = rw is (ap (next_on e clubs board r) (rw is at none))
 
-pub answer-at : (e : Session) (s : Phase) (r : Said) (shown : List ℕ) (clubs : List NamedClub) (board : List ℕ) → s ≡ Open clubs board → again_at e s r ≡ None
+pub answer-at : (e : Session) (s : Reached) (r : Said) (shown : List ℕ) (clubs : List NamedClub) (board : List ℕ) → s ≡ open_at clubs board → again_at e s r ≡ None
     → answer_at e s r shown ≡ answer_of e.options e.header e.row clubs board (request_of r) shown
 answer-at e s r shown clubs board is none = rw is (ap (answer_on e clubs board r shown) (rw is at none))
 
 pub boards : BoardsTakeEvents
-unfolding after_lines attempts_in StayOnTheBoard
+unfolding after_lines attempts_in StayOnTheBoard BoardsTakeEvents
 boards e [] clubs board h stay = h
 boards e (line ∷ lines) clubs board h stay =
     let r = said_on e.row line in
     boards (next e r) lines clubs (next_board board (request_of r)) (ap (λ (k : Session). k.phase) (on-board e r clubs board h stay.0)) stay.1
-    ∙ ap (λ (b : List ℕ). Open clubs b) (sym (fold-request board (request_of r) (attempts_in (e.row + 1) lines)))
-
--- ---- the history
-
--- ---- replies
+    ∙ ap (open_at clubs) (sym (fold-request board (request_of r) (attempts_in (e.row + 1) lines)))
 
 pub replies : RepliesAreThoseOfFeed
-unfolding reply_line
+unfolding reply_line RepliesAreThoseOfFeed
 replies header clubs board history row event legal game =
     ap₂ (λ (before : ℕ) (reply : Result Accepted Refusal). line_of_reply row event.call.game before reply) (versions history legal).0 (reply_is history (board_of history) event.call legal refl game)
 
@@ -302,9 +275,6 @@ reply-answer Text header row clubs history event = refl
 reply-answer Json header row clubs history event = refl
 
 -- ---- answers
-
-first : (a : Attempt) (attempts : List Attempt) → All IsAttempt (a ∷ attempts) → IsAttempt a
-first a attempts all = All-head IsAttempt a attempts all
 
 event-answer : (options : LiveArgs) (header : BoardHeader) (row : ℕ) (clubs : List NamedClub) (history : List Entry) (event : NightEvent) (shown : List ℕ) →
     IsLegal history → IsAttempt (attempt_of event)
@@ -324,23 +294,23 @@ event-answer options header row clubs history event shown legal is =
 request-answer : (options : LiveArgs) (header : BoardHeader) (row : ℕ) (clubs : List NamedClub) (history : List Entry) (request : Request) (shown : List ℕ) → IsLegal history
     → All IsAttempt (attempts_of request)
     → answer_of options header row clubs (board_of history) request shown ≡ answer_by_history options header row clubs history request shown
-request-answer options header row clubs history (Event event) shown legal all = event-answer options header row clubs history event shown legal (first (attempt_of event) [] all)
+request-answer options header row clubs history (Event event) shown legal all = event-answer options header row clubs history event shown legal (All-head IsAttempt (attempt_of event) [] all)
 request-answer _ _ _ _ _ _ _ _ _ = refl
 
-said-answer : (e : Session) (clubs : List NamedClub) (history : List Entry) (r : Said) (shown : List ℕ) → IsLegal history → e.phase ≡ Open clubs (board_of history) → again e r ≡ None
+said-answer : (e : Session) (clubs : List NamedClub) (history : List Entry) (r : Said) (shown : List ℕ) → IsLegal history → e.phase ≡ open_at clubs (board_of history) → again e r ≡ None
     → answer_said e r shown ≡ line_by_history e.options e.header e.row clubs history r shown
 said-answer e clubs history Nothing shown legal h stays = refl
 said-answer e clubs history r shown legal h stays =
     answer-at e e.phase r shown clubs (board_of history) h stays ∙ request-answer e.options e.header e.row clubs history (request_of r) shown legal (of-request r)
 
-said-phase : (e : Session) (clubs : List NamedClub) (history : List Entry) (r : Said) → IsLegal history → e.phase ≡ Open clubs (board_of history) → again e r ≡ None
-    → (next e r).phase ≡ Open clubs (board_of (fold after_attempt history (attempts_of (request_of r))))
+said-phase : (e : Session) (clubs : List NamedClub) (history : List Entry) (r : Said) → IsLegal history → e.phase ≡ open_at clubs (board_of history) → again e r ≡ None
+    → (next e r).phase ≡ open_at clubs (board_of (fold after_attempt history (attempts_of (request_of r))))
 said-phase e clubs history r legal h none =
     let made = attempts_of (request_of r) in
     ap (λ (k : Session). k.phase) (on-board e r clubs (board_of history) h none)
-    ∙ ap (Open clubs) (sym (fold-request (board_of history) (request_of r) []) ∙ ap (fold board_after (board_of history)) (append-nil made) ∙ (attempts_from history made legal (of-request r)).1)
+    ∙ ap (open_at clubs) (sym (fold-request (board_of history) (request_of r) []) ∙ ap (fold board_after (board_of history)) (append-nil made) ∙ (attempts_from history made legal (of-request r)).1)
 
-text-by-history : (e : Session) (lines : List (List ℕ)) (clubs : List NamedClub) (history : List Entry) → IsLegal history → e.phase ≡ Open clubs (board_of history)
+text-by-history : (e : Session) (lines : List (List ℕ)) (clubs : List NamedClub) (history : List Entry) → IsLegal history → e.phase ≡ open_at clubs (board_of history)
     → StayOnTheBoard e lines → answers e lines ≡ answers_by_history e.options e.header e.row clubs history lines
 unfolding answers answers_by_history StayOnTheBoard
 text-by-history e [] clubs history legal h stay = refl
@@ -353,20 +323,22 @@ text-by-history e (line ∷ lines) clubs history legal h stay =
     ∙ ap (λ (t : BoardHeader). answers_by_history e.options t (e.row + 1) clubs later lines) (ap (λ (k : Session). k.header) (on-board e r clubs (board_of history) h stay.0)))
 
 pub sequential : SessionsAreSequential
+unfolding SessionsAreSequential BoardsTakeEvents
 sequential e lines clubs history legal h stay =
     let from = attempts_from history (attempts_in e.row lines) legal (all-attempts e.row lines) in record {
       legal = from.0;
-      phase = boards e lines clubs (board_of history) h stay ∙ ap (λ (b : List ℕ). Open clubs b) from.1;
+      phase = boards e lines clubs (board_of history) h stay ∙ ap (open_at clubs) from.1;
       text = text-by-history e lines clubs history legal h stay;
     }
 
 pub silence : RefusedSessionsAreSilent
-silence e lines fault h = silent e lines (refused-shut _ fault h)
+unfolding RefusedSessionsAreSilent
+silence e lines fault h = silent e lines (ap is_open h)
 
 -- ==== The stages of a session: rosters and boards that there are
 
-abbrev pub IsGood : Phase → Type 0
-IsGood (Open clubs board) = IsRoster clubs × AreWords board
+abbrev pub IsGood : Reached → Type 0
+IsGood (Ok (Open table)) = IsRoster table.roster × AreWords table.board
 IsGood _ = ⊤
 
 all-clubs : (slot : ℕ) (clubs : List NamedClub) → bad_slot_from slot clubs ≡ None → All IsClub clubs
@@ -385,16 +357,16 @@ pub good-club : (row : ℕ) (clubs : List NamedClub) (club : Option NamedClub) �
 good-club row clubs None = tt
 good-club row clubs (Some club) =
     let all = clubs ++ club ∷ [] in
-    cond_both (length all == 4) (with_roster all (bad_slot all)) (AwaitingClubs all) IsGood
+    cond_both (length all == 4) (with_roster all (bad_slot all)) (Ok (AwaitingClubs all)) IsGood
     (λ e. good-roster all (bad_slot all) (eqb-true (length all) 4 e) refl) (λ _. tt)
 
-pub good-board : (board : List ℕ) (request : Request) → AreWords board → AreAttempts request → AreWords (next_board board request)
+pub good-board : (board : List ℕ) (request : Request) → AreWords board → All IsAttempt (attempts_of request) → AreWords (next_board board request)
 good-board board (Event event) w all = good-after board (attempt_of event) w (All-head IsAttempt (attempt_of event) [] all)
 good-board _ _ w _ = w
 
 good-header : (options : LiveArgs) (row : ℕ) (header : Option BoardHeader) → IsGood (after_header options row header)
 good-header options row None = tt
-good-header options row (Some header) = cond_both (is_as_asked options header) (AwaitingClubs []) (Refused OtherGroup) IsGood (λ _. tt) (λ _. tt)
+good-header options row (Some header) = cond_both (is_asked options.group options.profile header) (Ok (AwaitingClubs [])) (Err OtherGroup) IsGood (λ _. tt) (λ _. tt)
 
 pub good-first : (options : LiveArgs) (row : ℕ) (r : Said) → IsGood (after_beginning options row r)
 good-first options row r =

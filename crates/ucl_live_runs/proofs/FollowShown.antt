@@ -1,23 +1,18 @@
 -- What is shown of lines.
-use Rattle.std.proofs.lemmas.List.Elements.{All-contains, All-map, All-weaker, Contains-append_cases, Contains-append_right}
-use Rattle.std.proofs.lemmas.Option.{cond_some}
-use Rattle.std.specs.List.{Contains}
-use Rattle.std.specs.Prelude.{map, option_to_list}
-use Rattle.ucl_live_runs.proofs.Common.{All, All-cons, All-head, All-nil, All-tail, AwayInTie, BoardHeader, BoardState, FollowArgs, FollowState, IsCarriedIn}
-use Rattle.ucl_live_runs.proofs.Common.{IsNoNewer, List, None, Option, Profile, Some, Uefa, [], and_parts, ap, arith, eqb-true, false, flat_map, inl, inr, is_asked}
-use Rattle.ucl_live_runs.proofs.Common.{is_later, is_newer, is_same_order, is_shown, nat_tests, parse_board_line, refl, same_Some, screen_text, subst, sym, true}
+use Rattle.ucl_live_runs.proofs.Common.{All, All-cons, All-contains, All-head, All-map, All-nil, All-tail, All-weaker, AwayInTie, BoardHeader, BoardState}
+use Rattle.ucl_live_runs.proofs.Common.{Contains, Contains-append_cases, Contains-append_right, FollowArgs, FollowState, IsCarriedIn, IsFollowed, IsNoNewer}
+use Rattle.ucl_live_runs.proofs.Common.{IsOlder, IsShownLast, LatestIsShownLast, List, None, Option, OthersDoNotMatter, Profile, RiseAbove, ShownVersionsRise}
+use Rattle.ucl_live_runs.proofs.Common.{Some, Uefa, [], after_shown, and_parts, ap, arith, board_states_shown, cond_some, eqb-true, false, flat_map}
+use Rattle.ucl_live_runs.proofs.Common.{follow_outputs, followed, inl, inr, is_asked, is_later, is_newer, is_same_order, is_shown, map, nat_tests}
+use Rattle.ucl_live_runs.proofs.Common.{option_to_list, parse_board_line, refl, same_Some, screen_text, shown_if, shown_of, shown_output, subst, sym, true}
 use Rattle.ucl_live_runs.proofs.Common.{unseen, ℕ, ⊤, ◌++◌, ◌==◌, ◌∙◌, ◌∷◌, ◌≡◌, ◌⊎◌}
 use Rattle.ucl_command.specs.declared.follow.FollowShape.TheVariants.{Text}
-use Rattle.ucl_live_runs.specs.Follow.{IsFollowed, IsOlder, IsShownLast, LatestIsShownLast, OthersDoNotMatter, RiseAbove, ShownVersionsRise, after_shown}
-use Rattle.ucl_live_runs.specs.Follow.{board_states_shown, follow_outputs, followed, shown_if, shown_of, shown_output}
 
 abbrev Lines : Type 0
 Lines = List (List ℕ)
 
 abbrev screen_of : BoardState → List ℕ
 screen_of m = screen_text m.header.profile m.board m.roster m.header.group
-
--- ---- a line
 
 record Shows (f : FollowState) (line : List ℕ) (m : BoardState) : Type 0 where
   carried : parse_board_line line ≡ Some m
@@ -39,8 +34,6 @@ by-shown P f line none some = by (shown_of f line) refl
     by : (o : Option BoardState) → shown_of f line ≡ o → P o
     by None is = none is
     by (Some m) is = some m (shows f line (parse_board_line line) m refl is)
-
--- ---- rising
 
 rise : (f : FollowState) (lines : Lines) → RiseAbove f.newest (board_states_shown f lines)
 unfolding board_states_shown
@@ -135,6 +128,7 @@ has_header f (line ∷ lines) = by-shown (λ o. All (IsFollowed (followed (after
     All-cons (IsFollowed (followed g lines)) m (board_states_shown g lines) (own (followed g lines) m (keeps g lines m (refl, refl))) (has_header g lines))
 
 pub versions : ShownVersionsRise
+unfolding ShownVersionsRise
 versions f lines = record {
   rise = rise f lines;
   text = text f lines;
@@ -244,9 +238,11 @@ module _ (args : FollowArgs) (m : BoardState) (asked : is_asked args.group args.
   last lines all is = let p = ends (unseen args) lines (inl (refl, refl)) tt is all in record { before = p.1.0; shown = p.1.1; newest = p.0 }
 
 pub latest : LatestIsShownLast
+unfolding LatestIsShownLast
 latest args m lines h = last args m h.asked lines h.newest h.carried
 
 pub others : OthersDoNotMatter
+unfolding OthersDoNotMatter
 others args m lines those h these told =
     let os = map parse_board_line lines in
     last args m h.asked those (All-weaker (Contains os) (IsNoNewer args m) (λ o. All-contains (IsNoNewer args m) os o h.newest) (map parse_board_line those) (among lines those these)) told

@@ -1,10 +1,8 @@
 pub mod Common
 pub mod Boards
 pub mod Lines
-pub mod Driven
-pub mod LiveRuns
 pub mod FollowShown
-pub mod FollowRuns
+pub mod Runs
 pub mod AnswerValues
 pub mod ReadBack
 pub mod Repeats

@@ -1,33 +1,25 @@
 -- The lines of a session, one after the other.
-use Rattle.ucl_live_runs.proofs.Common.{Accepted, AreLinesOfValues, AwaitingClubs, AwaitingHeader, Bad, BoardHeader, Bool, Err, Event, Format, HasNoAnswer}
-use Rattle.ucl_live_runs.proofs.Common.{HasNoEnd, Json, List, LiveArgs, LiveFault, Matches, NamedClub, NewBoard, NightEvent, None, Nothing, Ok, Open, Option, Other}
-use Rattle.ucl_live_runs.proofs.Common.{Phase, Refusal, Refused, Request, Result, Row, Said, Screen, Session, Some, Words, [], after_bytes, again, again_at}
-use Rattle.ucl_live_runs.proofs.Common.{again_on, answer_at, answer_of, answer_on, answer_said, answers_to, ap, append-nil, append_assoc, ap₂, arith, bad_row_value}
-use Rattle.ucl_live_runs.proofs.Common.{begun_again, begun_append, begun_ended, cases_Bool, edition_screen_value, ended_append, false, field_name, fits, game_at}
-use Rattle.ucl_live_runs.proofs.Common.{get_or, inl, inr, last_lines, length, length-append, lines_of, live_text, lt-leb, matches_value, min, missing}
-use Rattle.ucl_live_runs.proofs.Common.{missing_after, missing_at, moved, nat_le, nat_tests, next, next_at, next_board, next_on, refl, reply_answer, reply_of}
-use Rattle.ucl_live_runs.proofs.Common.{reply_value, request_of, said_on, same_Some, screen_after, screen_answer, shown_text, subst, sym, take, take-append-le}
-use Rattle.ucl_live_runs.proofs.Common.{true, version_of, words_value, ℕ, ⊤, ◌++◌, ◌+◌, ◌-◌, ◌<◌, ◌==◌, ◌^◌, ◌∙◌, ◌∷◌, ◌≡◌, ◌≤◌}
-use Rattle.ucl_rows.specs.declared.fault.RunFault.TheVariants.{Input, OutOfMemory}
+use Rattle.ucl_live_runs.proofs.Common.{Accepted, AreLinesOfValues, AwaitingClubs, AwaitingHeader, Bad, BeginningsAreAnswered, BoardHeader, BoardsBeginAgain}
+use Rattle.ucl_live_runs.proofs.Common.{Bool, Err, Event, HasNoAnswer, HasNoEnd, Input, Json, JsonAnswersAreLines, LinesAreReadWhole, List, LiveArgs}
+use Rattle.ucl_live_runs.proofs.Common.{LiveFault, Matches, NamedClub, NewBoard, None, Nothing, Ok, Open, Option, Other, OutOfMemory, Reached}
+use Rattle.ucl_live_runs.proofs.Common.{Refusal, Request, Result, Said, Screen, Session, Some, StopsBy, Words, [], after_bytes, after_lines, again, again_at}
+use Rattle.ucl_live_runs.proofs.Common.{again_on, answer_at, answer_of, answer_on, answer_said, answers, answers_to, ap, append-nil, append_assoc, ap₂, arith}
+use Rattle.ucl_live_runs.proofs.Common.{bad_row, bad_row_value, begun_again, begun_append, begun_ended, begun_line, cases_Bool, cond_both}
+use Rattle.ucl_live_runs.proofs.Common.{edition_screen_value, end_of, ended, ended_append, ended_lines, false, fault_row, field_name, fits, game_at, get_or}
+use Rattle.ucl_live_runs.proofs.Common.{inl, inr, last_lines, length, length-append, line_of_value, lines_of, lines_then, live_text, longer, lt-leb}
+use Rattle.ucl_live_runs.proofs.Common.{matches_value, min, missing, missing_after, missing_at, missing_now, moved, nat_le, nat_tests, next, next_at}
+use Rattle.ucl_live_runs.proofs.Common.{next_board, next_on, no_lines, open_at, printed, refl, reply_answer, reply_of, reply_value, request_of, row_by_text}
+use Rattle.ucl_live_runs.proofs.Common.{said_on, same_Some, screen_after, screen_answer, shown_text, subst, sym, take, take-append-le, true, uncut_after}
+use Rattle.ucl_live_runs.proofs.Common.{uncut_lines, version_of, words_value, ℕ, ⊤, ◌++◌, ◌+◌, ◌-◌, ◌<◌, ◌==◌, ◌^◌, ◌∙◌, ◌∷◌, ◌≡◌, ◌≤◌, ◌⊎◌}
 use Rattle.ucl_live_runs.specs.declared.live_fault.LiveFault.TheVariants.{Run}
-use Rattle.ucl_live_runs.specs.Phases.{StopsBy, bad_row, fault_row}
-use Rattle.ucl_live_runs.specs.LiveText.{after_lines, answers, missing_now}
+use Rattle.ucl_live_runs.specs.declared.phase.Phase.{Phase}
+use Rattle.ucl_rows.specs.Rows.{Row}
 use Rattle.ucl_screen.specs.declared.fault.InputFault.TheVariants.{BadRow}
-use Rattle.ucl_live_runs.specs.SessionRuns.{end_of, phase_seen}
-use Rattle.ucl_live_runs.specs.LiveTheorems.{BeginningsAreAnswered, BoardsBeginAgain, JsonAnswersAreLines, LinesAreReadWhole, ended, uncut_after, uncut_lines}
-use Rattle.ucl_live_runs.specs.declared.phase.Phase.{Phase as Reached}
-use Rattle.std.proofs.lemmas.Bool.{cond_both}
-use Rattle.ucl_json.proofs.OneLine.{line_of_value, lines_then, no_lines}
-use Rattle.std.specs.Prelude.{◌⊎◌}
-use Rattle.ucl_io.specs.Lines.{begun_line, ended_lines, longer}
-use Rattle.ucl_rows.specs.BadRows.{printed}
-use Rattle.ucl_rows.specs.Rows.{row_by_text}
-use Rattle.ucl_live_runs.specs.declared.phase.Phase.TheVariants as reached
 
 -- ==== A session whose board is not open has answered nothing, and one that is refused stays so
 
-abbrev pub is_open : Phase → Bool
-is_open (Open clubs board) = true
+abbrev pub is_open : Reached → Bool
+is_open (Ok (Open table)) = true
 is_open _ = false
 
 -- an open board stays open
@@ -36,8 +28,8 @@ open-on : (e : Session) (clubs : List NamedClub) (board : List ℕ) (r : Said) (
 open-on e clubs board r None = refl
 open-on e clubs board r (Some new) = refl
 
-open-at : (e : Session) (s : Phase) (r : Said) → is_open s ≡ true → is_open (next_at e s r).phase ≡ true
-open-at e (Open clubs board) r h = open-on e clubs board r (again_on e.header e.is_new clubs r)
+open-at : (e : Session) (s : Reached) (r : Said) → is_open s ≡ true → is_open (next_at e s r).phase ≡ true
+open-at e (Ok (Open table)) r h = open-on e table.roster table.board r (again_on e.header e.is_new table.roster r)
 open-at e s r h = cc
 
 open-next : (e : Session) (r : Said) → is_open e.phase ≡ true → is_open (next e r).phase ≡ true
@@ -52,17 +44,17 @@ stays-open e (line ∷ lines) h = stays-open (next e (said_on e.row line)) lines
 -- a line is answered by an open board alone, that it does not begin again
 module _ (P : Session → List ℕ → Type 0) where
   pub by-line : (e : Session) (r : Said) (shown : List ℕ) → ((after : Session) → P after [])
-      → ((clubs : List NamedClub) (board : List ℕ) → e.phase ≡ Open clubs board
+      → ((clubs : List NamedClub) (board : List ℕ) → e.phase ≡ open_at clubs board
       → P (moved e (next_on e clubs board r None)) (answer_of e.options e.header e.row clubs board (request_of r) shown)) → P (next e r) (answer_said e r shown)
   by-line e Nothing shown silent answered = silent (next e Nothing)
   by-line e r shown silent answered = at e.phase refl
     where
-      on : (clubs : List NamedClub) (board : List ℕ) → e.phase ≡ Open clubs board → (o : Option NewBoard) → P (moved e (next_on e clubs board r o)) (answer_on e clubs board r shown o)
+      on : (clubs : List NamedClub) (board : List ℕ) → e.phase ≡ open_at clubs board → (o : Option NewBoard) → P (moved e (next_on e clubs board r o)) (answer_on e clubs board r shown o)
       on clubs board is None = answered clubs board is
       on clubs board is (Some new) = silent (begun_again e new)
 
-      at : (s : Phase) → e.phase ≡ s → P (moved e (next_at e s r)) (answer_at e s r shown)
-      at (Open clubs board) is = on clubs board is (again_on e.header e.is_new clubs r)
+      at : (s : Reached) → e.phase ≡ s → P (moved e (next_at e s r)) (answer_at e s r shown)
+      at (Ok (Open table)) is = on table.roster table.board is (again_on e.header e.is_new table.roster r)
       at s is = silent (moved e (next_at e s r))
 
 pub shut-lines : (e : Session) (lines : List (List ℕ)) → is_open (after_lines e lines).phase ≡ false → is_open e.phase ≡ false
@@ -78,25 +70,19 @@ silent e (line ∷ lines) h =
 
 -- a refused session stays refused
 
-refused-next : (e : Session) (r : Said) (fault : LiveFault) → e.phase ≡ Refused fault → (next e r).phase ≡ Refused fault
+refused-next : (e : Session) (r : Said) (fault : LiveFault) → e.phase ≡ Err fault → (next e r).phase ≡ Err fault
 refused-next e Nothing fault h = h
 refused-next e Other fault h = rw h refl
 refused-next e (Row f) fault h = rw h refl
 
-pub stays-refused : (e : Session) (lines : List (List ℕ)) (fault : LiveFault) → e.phase ≡ Refused fault → (after_lines e lines).phase ≡ Refused fault
+pub stays-refused : (e : Session) (lines : List (List ℕ)) (fault : LiveFault) → e.phase ≡ Err fault → (after_lines e lines).phase ≡ Err fault
 unfolding after_lines
 stays-refused e [] fault h = h
 stays-refused e (line ∷ lines) fault h =
     let r = said_on e.row line in stays-refused (next e r) lines fault (refused-next e r fault h)
 
-pub refused-shut : (s : Phase) (fault : LiveFault) → s ≡ Refused fault → is_open s ≡ false
-refused-shut s fault h = rw h refl
-
-pub refused-missing : (row : ℕ) (s : Phase) (fault : LiveFault) → s ≡ Refused fault → missing row s ≡ Some fault
-refused-missing row s fault h = rw h refl
-
-pub missing-shut : (row : ℕ) (s : Phase) (fault : LiveFault) → missing row s ≡ Some fault → is_open s ≡ false
-missing-shut row (Open clubs board) fault h = cc
+pub missing-shut : (row : ℕ) (s : Reached) (fault : LiveFault) → missing row s ≡ Some fault → is_open s ≡ false
+missing-shut row (Ok (Open table)) fault h = cc
 missing-shut _ _ _ _ = refl
 
 -- the same of weaker facts
@@ -116,30 +102,24 @@ unfolding after_lines
 after-append e [] b = refl
 after-append e (line ∷ a) b = after-append (next e (said_on e.row line)) a b
 
--- ---- a beginning of an input
-
 lines-append : (xs ys : List ℕ) → begun_line 258 [] xs ≡ [] → lines_of (xs ++ ys) ≡ lines_of xs ++ lines_of ys
 lines-append xs ys e =
     rw (ended_append 258 [] xs ys, begun_append 258 [] xs ys, e)
     (append_assoc (ended_lines 258 [] xs) (ended_lines 258 [] ys) (last_lines (begun_line 258 [] ys))
     ∙ ap (λ (l : List (List ℕ)). l ++ lines_of ys) (sym (append-nil (ended_lines 258 [] xs))))
 
-pub text-append : (e : Session) (xs ys : List ℕ) → begun_line 258 [] xs ≡ [] → live_text e (xs ++ ys) ≡ live_text e xs ++ live_text (after_lines e (lines_of xs)) ys
-text-append e xs ys k = ap (answers e) (lines-append xs ys k) ∙ answers-append e (lines_of xs) (lines_of ys)
-
 pub beginnings : BeginningsAreAnswered
-beginnings e bytes more = text-append e (ended bytes) more (begun_ended 258 [] bytes)
+unfolding BeginningsAreAnswered
+beginnings e bytes more =
+    ap (answers e) (lines-append (ended bytes) more (begun_ended 258 [] bytes)) ∙ answers-append e (lines_of (ended bytes)) (lines_of more)
 
 -- ---- a whole input
 
 pub whole-text : (e : Session) (bytes : List ℕ) → live_text e bytes ≡ answers_to e bytes ++ answers (after_bytes e bytes) (last_lines (begun_line 258 [] bytes))
 whole-text e bytes = answers-append e (ended_lines 258 [] bytes) (last_lines (begun_line 258 [] bytes))
 
-pub whole-end : (e : Session) (bytes : List ℕ) → after_lines e (lines_of bytes) ≡ end_of (after_bytes e bytes) (begun_line 258 [] bytes)
-whole-end e bytes = after-append e (ended_lines 258 [] bytes) (last_lines (begun_line 258 [] bytes))
-
 pub whole-missing : (e : Session) (bytes : List ℕ) → missing_after e bytes ≡ missing_at (after_bytes e bytes) (begun_line 258 [] bytes)
-whole-missing e bytes = ap missing_now (whole-end e bytes)
+whole-missing e bytes = ap missing_now (after-append e (ended_lines 258 [] bytes) (last_lines (begun_line 258 [] bytes)))
 
 -- ---- what has begun of a last line
 
@@ -162,9 +142,9 @@ some-end e [] some = absurd (some refl)
 some-end e (b ∷ line) some = refl
 
 -- a greater row is told as the greatest that can be told
-told-alike : (a b : ℕ) (s : Phase) → fault_row a ≡ fault_row b → missing a s ≡ missing b s
-told-alike a b (Open clubs board) e = refl
-told-alike a b (Refused fault) e = refl
+told-alike : (a b : ℕ) (s : Reached) → fault_row a ≡ fault_row b → missing a s ≡ missing b s
+told-alike a b (Ok (Open table)) e = refl
+told-alike a b (Err fault) e = refl
 told-alike _ _ _ e = ap (λ (n : ℕ). Some (Run (Input (BadRow n)))) e
 
 -- the session after the line is this one
@@ -176,49 +156,40 @@ some-missing e f begun some is =
 pub some-stops : (e : Session) (begun : List ℕ) (fault : LiveFault) → (begun ≡ [] → ⊥) → HasNoAnswer e (said_on e.row begun) fault → HasNoEnd e begun fault
 some-stops e begun fault some h =
     stops-with _ _ _ _ (λ asks. asks)
-    (λ refused. ap missing_now (some-end e begun some) ∙ refused-missing (e.row + 1) (next e (said_on e.row begun)).phase fault refused) fault h
+    (λ refused. ap missing_now (some-end e begun some) ∙ ap (missing (e.row + 1)) refused) fault h
 
 -- a club that is missing is no lack of memory
-pub misses : (row : ℕ) (s : Reached) (fault : LiveFault) (A B : Type 0) → missing row (phase_seen s) ≡ Some fault → B → StopsBy A B fault
-misses row (reached.Open table) fault A B e b = absurd (cc)
-misses row reached.AwaitingHeader fault A B e b = subst (StopsBy A B) (same_Some (bad_row row) fault e) b
-misses row (reached.AwaitingClubs clubs) fault A B e b = subst (StopsBy A B) (same_Some (bad_row row) fault e) b
+pub misses : (row : ℕ) (s : Phase) (fault : LiveFault) (A B : Type 0) → missing row (Ok s) ≡ Some fault → B → StopsBy A B fault
+misses row (Open table) fault A B e b = absurd (cc)
+misses row AwaitingHeader fault A B e b = subst (StopsBy A B) (same_Some (bad_row row) fault e) b
+misses row (AwaitingClubs clubs) fault A B e b = subst (StopsBy A B) (same_Some (bad_row row) fault e) b
 
--- ---- a board that is begun again
-
-new-at : (e : Session) (s : Phase) (r : Said) (shown : List ℕ) (new : NewBoard) → again_at e s r ≡ Some new → (moved e (next_at e s r) ≡ begun_again e new) × (answer_at e s r shown ≡ [])
-new-at e (Open clubs board) r shown new h = rw h (refl, refl)
+new-at : (e : Session) (s : Reached) (r : Said) (shown : List ℕ) (new : NewBoard) → again_at e s r ≡ Some new → (moved e (next_at e s r) ≡ begun_again e new) × (answer_at e s r shown ≡ [])
+new-at e (Ok (Open table)) r shown new h = rw h (refl, refl)
 new-at e s r shown new h = cc
 
 pub begun : (e : Session) (r : Said) (shown : List ℕ) (new : NewBoard) → again e r ≡ Some new → (next e r ≡ begun_again e new) × (answer_said e r shown ≡ [])
 begun e Nothing shown new h = absurd (none e.phase h)
   where
-    none : (s : Phase) → again_at e s Nothing ≡ Some new → ⊥
-    none (Open clubs board) h = cc
+    none : (s : Reached) → again_at e s Nothing ≡ Some new → ⊥
+    none (Ok (Open table)) h = cc
     none s h = cc
 begun e r shown new h = new-at e e.phase r shown new h
 
 pub begins-again : BoardsBeginAgain
-unfolding answers after_lines
+unfolding answers after_lines BoardsBeginAgain
 begins-again e line lines new is =
     let b = begun e (said_on e.row line) (shown_text line) new is in
     record { text = ap₂ (λ (text : List ℕ) (k : Session). text ++ answers k lines) b.1 b.0; after = ap (λ (k : Session). after_lines k lines) b.0 }
 
 -- ==== In JSON a session answers by lines of values
 
-screen-line : (format : Format) (header : BoardHeader) (row : ℕ) (clubs : List NamedClub) (board : List ℕ) → format ≡ Json → AreLinesOfValues (screen_answer format header row clubs board)
-screen-line format header row clubs board h = rw h (line_of_value (edition_screen_value row header board clubs))
-
 after-line : (options : LiveArgs) (header : BoardHeader) (row : ℕ) (clubs : List NamedClub) (reply : Result Accepted Refusal) (board : List ℕ)
     → options.format ≡ Json → AreLinesOfValues (screen_after options header row clubs reply board)
 after-line options header row clubs (Ok accepted) board h =
     cond_both options.screens (screen_answer options.format header row clubs board) [] AreLinesOfValues
-    (λ _. screen-line options.format header row clubs board h) (λ _. no_lines)
+    (λ _. rw h (line_of_value (edition_screen_value row header board clubs))) (λ _. no_lines)
 after-line options header row clubs (Err refusal) board h = no_lines
-
-reply-lines : (format : Format) (header : BoardHeader) (row : ℕ) (clubs : List NamedClub) (event : NightEvent) (before : ℕ) (reply : Result Accepted Refusal) (board : List ℕ) → format ≡ Json
-    → AreLinesOfValues (reply_answer format header row clubs event before reply board)
-reply-lines format header row clubs event before reply board h = rw h (line_of_value (reply_value row event reply header board clubs))
 
 request-lines : (options : LiveArgs) (header : BoardHeader) (row : ℕ) (clubs : List NamedClub) (board : List ℕ) (request : Request) (shown : List ℕ) → options.format ≡ Json
     → AreLinesOfValues (answer_of options header row clubs board request shown)
@@ -226,14 +197,14 @@ request-lines options header row clubs board (Event event) shown h =
     let reply = reply_of (game_at board event.call.game) event.call in
     let after = next_board board (Event event) in
     lines_then (reply_answer options.format header row clubs event (version_of board) reply after) (screen_after options header row clubs reply after)
-    (reply-lines options.format header row clubs event (version_of board) reply after h) (after-line options header row clubs reply after h)
+    (rw h (line_of_value (reply_value row event reply header after clubs))) (after-line options header row clubs reply after h)
 request-lines options header row clubs board (Bad field) shown h = rw h (line_of_value (bad_row_value row (field_name field) shown))
-request-lines options header row clubs board Screen shown h = screen-line options.format header row clubs board h
+request-lines options header row clubs board Screen shown h = rw h (line_of_value (edition_screen_value row header board clubs))
 request-lines options header row clubs board Words shown h = rw h (line_of_value (words_value row board))
 request-lines options header row clubs board Matches shown h = rw h (line_of_value (matches_value row board clubs))
 
 pub json-lines : JsonAnswersAreLines
-unfolding answers
+unfolding answers JsonAnswersAreLines
 json-lines e [] h = no_lines
 json-lines e (line ∷ lines) h =
     let said = said_on e.row line in
@@ -319,4 +290,5 @@ same-lines e (line ∷ lines) (whole ∷ wholes) h =
 same-lines _ _ _ h = absurd h
 
 pub read-whole : LinesAreReadWhole
+unfolding LinesAreReadWhole
 read-whole e bytes = let same = same-lines e (lines_of bytes) (uncut_lines bytes) (lines-alike [] [] bytes (inl refl)) in record { text = same.0; after = same.1 }

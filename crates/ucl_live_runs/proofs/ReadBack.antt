@@ -1,24 +1,22 @@
 -- The text of a plain value: it is read as that value, has ASCII alone, and is no longer than its parts.
-use Rattle.ucl_live_runs.proofs.Common.{All, All-append, All-cons, All-nil, Bool, Data, IsUtf8-from_ascii, List, Some, [], and_parts, ap, append-nil, arith, array}
-use Rattle.ucl_live_runs.proofs.Common.{cases_eq, compact_text, decimal, false, inl, inr, is_printed, length, length-append, list_all, member, nat_le, nat_tests}
-use Rattle.ucl_live_runs.proofs.Common.{negsuc, no_members, null, number_text, object, option_map, parse_board_line, pos, quoted, refl, string, suc, sym, true}
-use Rattle.ucl_live_runs.proofs.Common.{unsigned, ℕ, ⊤, ◌&&◌, ◌*◌, ◌++◌, ◌+◌, ◌<◌, ◌^◌, ◌∙◌, ◌∷◌, ◌≡◌, ◌≤◌}
-use Rattle.std.specs.Prelude.{not, ◌==◌, ◌||◌}
-use Rattle.std.proofs.lemmas.Fmt.{IsAscii-decimal}
-use Rattle.std.proofs.lemmas.Str.Ascii.{All-from_ascii, IsAscii-from_all}
-use Rattle.json.specs.Lex.{tokens}
-use Rattle.json.specs.Print.{escape, escape_byte}
-use Rattle.json.proofs.Printed.Strings.{escape_byte_plain}
+use Rattle.ucl_live_runs.proofs.Common.{All, All-append, All-cons, All-nil, Bool, Data, IsAscii-decimal, Items, List, Members, Num, Some, [], and_parts, ap}
+use Rattle.ucl_live_runs.proofs.Common.{append-nil, arith, array, boolean, cases_eq, comma_if, compact_text, decimal, false, float, inl, inr, is_printed}
+use Rattle.ucl_live_runs.proofs.Common.{item, items_outline, items_text, length, length-append, list_all, member, members_outline, members_text, nat_le}
+use Rattle.ucl_live_runs.proofs.Common.{nat_tests, negative, negsuc, no_items, no_members, not, null, number_text, object, option_map, outline}
+use Rattle.ucl_live_runs.proofs.Common.{parse_board_line, parse_board_state, pos, put, refl, string, suc, sym, true, unsigned, was-read, ℕ, ⊤, ◌&&◌, ◌*◌}
+use Rattle.ucl_live_runs.proofs.Common.{◌++◌, ◌+◌, ◌<◌, ◌==◌, ◌^◌, ◌||◌, ◌∙◌, ◌∷◌, ◌≡◌, ◌≤◌}
 use Rattle.json.proofs.Printed.Decimals.{IsNumber-decimal, IsNumber-signed_decimal}
+use Rattle.json.proofs.Printed.Strings.{escape_byte_plain}
 use Rattle.json.proofs.Printed.Tokens.{tokens-print}
 use Rattle.json.proofs.Printed.Trees.{ArePrintable-json_tokens, value-json_tokens}
-use Rattle.serde_json.specs.Data.{Items, Members, Num, boolean, float, item, negative, no_items, number, put}
-use Rattle.serde_json.specs.Read.{number_of, of_items, of_json, of_members, read}
-use Rattle.serde_json.specs.Written.{comma_if, items_outline, items_text, members_outline, members_text, outline}
+use Rattle.json.specs.Lex.{tokens}
+use Rattle.json.specs.Print.{escape, escape_byte, quoted}
 use Rattle.serde_json.proofs.Numbers.{number_of-decimal, number_of-negative}
 use Rattle.serde_json.proofs.Texts.{print-outline}
-use Rattle.ucl_json.specs.BoardLines.{parse_board_state}
-use Rattle.ucl_json.proofs.Members.{was-read}
+use Rattle.serde_json.specs.Data.{number}
+use Rattle.serde_json.specs.Read.{number_of, of_items, of_json, of_members, read}
+use Rattle.std.proofs.lemmas.Str.{IsUtf8-from_ascii}
+use Rattle.std.proofs.lemmas.Str.Ascii.{All-from_ascii, IsAscii-from_all}
 use Rattle.json.specs.Json as json
 use Rattle.json.specs.Tree as tree
 
@@ -220,8 +218,6 @@ mutual
       (then (quoted k) (58 ∷ rest) (length k + 2) (1 + (size d + members_size ms)) (in-quotes k (length k) (bare k p.0))
       (first 58 rest (size d + members_size ms) (omega arith)
       (then (compact_text d) (members_text true ms) (size d) (members_size ms) (value-short deep d h.0) (members-short deep true ms p.1 h.1))))
-
--- ---- its line
 
 pub record IsShortPlain (d : Data) : Type 0 where
   pub plain : IsPlain 127 d

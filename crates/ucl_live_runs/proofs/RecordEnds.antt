@@ -1,22 +1,19 @@
 -- The last board state that the answers of a record tell is its board.
-use Rattle.ucl_live_runs.proofs.Common.{BoardHeader, BoardState, Bool, Event, FollowArgs, Json, List, LiveArgs, NamedClub, NewBoard, NightEvent, None, Nothing}
-use Rattle.ucl_live_runs.proofs.Common.{Open, Option, Phase, Refusal, Request, Said, Session, Some, [], again, and_right, answer_of, answer_said, ap, append-nil}
+use Rattle.ucl_live_runs.proofs.Common.{All-contains, All-contains_itself, All-weaker, BoardHeader, BoardState, Bool, Contains, Contains-append_cases}
+use Rattle.ucl_live_runs.proofs.Common.{Contains-append_left, Contains-append_right, Event, FollowArgs, FollowersEndWithTheBoard, IsCarriedIn, IsLatest}
+use Rattle.ucl_live_runs.proofs.Common.{IsNoNewer, IsOlder, IsRecord, Json, List, LiveArgs, NamedClub, NewBoard, NightEvent, None, Nothing, Ok, Open, Option}
+use Rattle.ucl_live_runs.proofs.Common.{OthersDoNotMatter, Reached, Refusal, Request, Said, SameRowsSameTable, Session, ShownVersionsRise, Some, []}
+use Rattle.ucl_live_runs.proofs.Common.{after_lines, after_record, again, and_right, answer_lines, answer_of, answer_said, answers, ap, append-nil}
 use Rattle.ucl_live_runs.proofs.Common.{append_assoc, arith, attempt_of, begun_line, begun_none, board_after, board_of, board_state_at, board_state_now}
-use Rattle.ucl_live_runs.proofs.Common.{board_state_with, ended_lines, false, flat_map, game_at, inl, inr, is_bad, is_later, last_lines, length, length-append}
-use Rattle.ucl_live_runs.proofs.Common.{lines_of, nat_tests, next, next_board, parse_board_line, refl, refusal_of, reply_answer, reply_of, request_of, said_on}
-use Rattle.ucl_live_runs.proofs.Common.{same_Some, screen_after, screen_text, shown_text, start_of, subst, sym, true, unseen, version_at, version_of, ℕ, ◌++◌, ◌+◌}
-use Rattle.ucl_live_runs.proofs.Common.{◌<◌, ◌^◌, ◌∙◌, ◌∷◌, ◌≡◌, ◌≤◌, ◌⊎◌}
+use Rattle.ucl_live_runs.proofs.Common.{board_state_with, ended_lines, false, few_lines, flat_map, game_at, inl, inr, is_bad, is_later, last_lines, length}
+use Rattle.ucl_live_runs.proofs.Common.{length-append, lines_of, map, nat_tests, next, next_board, open_at, parse_board_line, refl, refusal_of, reply_answer}
+use Rattle.ucl_live_runs.proofs.Common.{reply_of, request_of, said_on, same_Some, screen_after, screen_text, shown_text, start_of, subst, sym, true, unseen}
+use Rattle.ucl_live_runs.proofs.Common.{version_of, ℕ, ◌++◌, ◌+◌, ◌<◌, ◌^◌, ◌∙◌, ◌∷◌, ◌≡◌, ◌≤◌, ◌⊎◌}
 use Rattle.std.proofs.lemmas.Grind.{flat_map-append}
 use Rattle.ucl_live_runs.proofs.AnswerLines.{CarriesAtMost, IsAtMost, IsShown, IsSound, Lines, accepted-reply, begun-then, carried-none, carried-then, carried_in}
 use Rattle.ucl_live_runs.proofs.AnswerLines.{line-tells, numbers, shown-text, sound-next, start-sound, told_after, told_now}
 use Rattle.ucl_live_runs.proofs.Boards.{IsGood, IsLaterHeader, IsPossible, answer-at, on-board, possible, renewed, version-after}
-use Rattle.ucl_io.proofs.Cuts.{few_lines}
 use Rattle.ucl_live_runs.proofs.FollowShown.{IsOfSame, among, others, same-asked, versions}
-use Rattle.ucl_live_runs.specs.Follow.{FollowersEndWithTheBoard, IsCarriedIn, IsLatest, IsNoNewer, IsOlder, IsRecord, SameRowsSameTable, after_record, answer_lines}
-use Rattle.ucl_live_runs.specs.LiveText.{after_lines, answers}
-use Rattle.std.specs.List.{Contains}
-use Rattle.std.specs.Prelude.{map}
-use Rattle.std.proofs.lemmas.List.Elements.{All-contains, All-contains_itself, All-weaker, Contains-append_cases, Contains-append_left, Contains-append_right}
 use Rattle.ucl_live_runs.proofs.Lines.{begun}
 
 -- ---- older board states
@@ -24,12 +21,12 @@ use Rattle.ucl_live_runs.proofs.Lines.{begun}
 -- the first is of the group and order of the second, and of an earlier edition, or of the same one and a lower version
 record IsBehind (o m : BoardState) : Type 0 where
   same : IsOfSame o.header m.header
-  less : (o.header.edition < m.header.edition) ⊎ ((o.header.edition ≡ m.header.edition) × (version_at o < version_at m))
+  less : (o.header.edition < m.header.edition) ⊎ ((o.header.edition ≡ m.header.edition) × (version_of o.board < version_of m.board))
 
 older : (m o : BoardState) → IsBehind o m → IsOlder m o
 older m o b = (same-asked m.header o.header (sym b.same.0, sym b.same.1), later m o b.less)
   where
-    later : (m o : BoardState) → (o.header.edition < m.header.edition) ⊎ ((o.header.edition ≡ m.header.edition) × (version_at o < version_at m)) → is_later m o ≡ true
+    later : (m o : BoardState) → (o.header.edition < m.header.edition) ⊎ ((o.header.edition ≡ m.header.edition) × (version_of o.board < version_of m.board)) → is_later m o ≡ true
     later m o (inl less) = grind (arith, nat_tests)
     later m o (inr less) = grind (arith, nat_tests)
 
@@ -44,7 +41,7 @@ further a b c (inr p) q = record {
 }
 
 -- the answer to what a row asks for
-by-row : (e : Session) (r : Said) (shown : List ℕ) (event : NightEvent) (clubs : List NamedClub) (board : List ℕ) → request_of r ≡ Event event → e.phase ≡ Open clubs board
+by-row : (e : Session) (r : Said) (shown : List ℕ) (event : NightEvent) (clubs : List NamedClub) (board : List ℕ) → request_of r ≡ Event event → e.phase ≡ open_at clubs board
     → again e r ≡ None → answer_said e r shown ≡ answer_of e.options e.header e.row clubs board (Event event) shown
 by-row e Nothing shown event clubs board is h none = cc
 by-row e r shown event clubs board is h none =
@@ -56,12 +53,12 @@ no-later o m (inr b) = (b.same, elim b.less [ inl less ↦ omega arith | inr les
 
 -- ---- the board state of a session
 
-is-at : (header : BoardHeader) (s : Phase) (m : BoardState) → board_state_at header s ≡ Some m → (s ≡ Open m.roster m.board) × (header ≡ m.header)
-is-at header (Open clubs board) m h =
-    let same = same_Some (board_state_with header clubs board) m h in (ap (λ (x : BoardState). Open x.roster x.board) same, ap (λ (x : BoardState). x.header) same)
+is-at : (header : BoardHeader) (s : Reached) (m : BoardState) → board_state_at header s ≡ Some m → (s ≡ open_at m.roster m.board) × (header ≡ m.header)
+is-at header (Ok (Open table)) m h =
+    let same = same_Some (board_state_with header table.roster table.board) m h in (ap (λ (x : BoardState). open_at x.roster x.board) same, ap (λ (x : BoardState). x.header) same)
 is-at header s m h = cc
 
-told-now : (is_new : Bool) (header : BoardHeader) (s : Phase) (m : BoardState) → told_now is_new header s ≡ Some m → (is_new ≡ false) × (board_state_at header s ≡ Some m)
+told-now : (is_new : Bool) (header : BoardHeader) (s : Reached) (m : BoardState) → told_now is_new header s ≡ Some m → (is_new ≡ false) × (board_state_at header s ≡ Some m)
 told-now false header s m h = (refl, h)
 told-now true header s m h = cc
 
@@ -79,8 +76,6 @@ record IsNoNewerIn (e : Session) (out : Carried) (o : BoardState) : Type 0 where
 
 abbrev AreNoNewer : Session → Carried → Type 0
 AreNoNewer e out = (o : BoardState) → Contains out (Some o) → IsNoNewerIn e out o
-
--- ---- what a line does with the board
 
 record Takes (board : List ℕ) (q : Request) (event : NightEvent) : Type 0 where
   asks : q ≡ Event event
@@ -111,7 +106,7 @@ module _ (e : Session) (r : Said) (shown : List ℕ) (json : e.options.format �
       → Contains (carried_in text) (Some (board_state_with m.header m.roster (board_after m.board (attempt_of event))))
   event-told m event none now takes =
       let at = is-at e.header e.phase m now in
-      let good : IsGood (Open m.roster m.board) = subst IsGood at.0 g.phase in
+      let good : IsGood (open_at m.roster m.board) = subst IsGood at.0 g.phase in
       let p : IsPossible (Event event) = subst IsPossible takes.asks (possible r) in
       let after = board_after m.board (attempt_of event) in
       let reply = reply_answer e.options.format e.header e.row m.roster event (version_of m.board) (reply_of (game_at m.board event.call.game) event.call) after in
@@ -139,7 +134,7 @@ module _ (e : Session) (r : Said) (shown : List ℕ) (json : e.options.format �
       abbrev m : BoardState
       m = b.now
 
-      at : (e.phase ≡ Open m.roster m.board) × (e.header ≡ m.header)
+      at : (e.phase ≡ open_at m.roster m.board) × (e.header ≡ m.header)
       at = is-at e.header e.phase m b.stands
 
       stays : again e r ≡ None → Moves m.board (request_of r) → IsNoNewerIn (next e r) all o
@@ -260,12 +255,14 @@ module _ (options : LiveArgs) (rows : List ℕ) (args : FollowArgs) (m : BoardSt
       each (Some other) t = no-newer other t
 
 pub ends-with-the-board : FollowersEndWithTheBoard
+unfolding FollowersEndWithTheBoard
 ends-with-the-board options rows args m other is told same = is-latest options rows args m is other told same
 
 abbrev screen_at : BoardState → List ℕ
 screen_at m = screen_text m.header.profile m.board m.roster m.header.group
 
 pub same-table : SameRowsSameTable
+unfolding SameRowsSameTable OthersDoNotMatter ShownVersionsRise
 same-table options rows args m lines is all told =
     let out = answer_lines options rows in
     let carried = All-contains (Contains (map parse_board_line out)) (map parse_board_line lines) (Some m) (among out lines all) told in

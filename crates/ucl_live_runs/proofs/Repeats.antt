@@ -1,15 +1,10 @@
 -- Accepted attempts that are made again, at any places and any number of times.
-use Rattle.std.proofs.Common.{length}
-use Rattle.std.proofs.Math.Seq.{take-append_seam}
-use Rattle.std.proofs.lemmas.List.Elements.{All-take}
-use Rattle.ucl_live_runs.proofs.Common.{All-head, All-nil, All-push, All-tail, Attempt, Entry, IsAttempt, IsLegal, List, [], after_attempt, ap, attempt_board}
-use Rattle.ucl_live_runs.proofs.Common.{board_after, fold, inl, inr, refl, subst, sym, ℕ, ◌++◌, ◌∙◌, ◌∷◌, ◌≡◌}
-use Rattle.std.specs.List.{All}
-use Rattle.std.proofs.lemmas.List.Sums.{fold-append}
+use Rattle.ucl_live_runs.proofs.Common.{All, All-drop, All-head, All-nil, All-push, All-tail, All-take, Attempt, Entry, HasRepeats, IsAttempt, IsLegal, LeaveTheSame}
+use Rattle.ucl_live_runs.proofs.Common.{List, RepeatedRowsChangeNothing, WasAccepted, [], after_attempt, ap, attempt_board, attempts_from, board_after, fold}
+use Rattle.ucl_live_runs.proofs.Common.{fold-append, inl, inr, length, refl, subst, sym, ℕ, ◌++◌, ◌∙◌, ◌∷◌, ◌≡◌}
+use Rattle.std.proofs.Math.Seq.{drop-append_seam, take-append_seam}
+use Rattle.ucl_board.proofs.HistoryTheorems.{go_stale}
 use Rattle.ucl_board.specs.Theorems.{IsStaleAgain}
-use Rattle.ucl_board.proofs.HistoryTheorems.{attempts_from}
-use Rattle.ucl_board.proofs.Repeats.{go_stale}
-use Rattle.ucl_live_runs.specs.Follow.{HasRepeats, LeaveTheSame, RepeatedRowsChangeNothing, WasAccepted}
 
 -- the attempts of a part are attempts
 
@@ -17,8 +12,7 @@ front-all : (xs ys : List Attempt) → All IsAttempt (xs ++ ys) → All IsAttemp
 front-all xs ys all = rw take-append_seam at (All-take IsAttempt (length xs) (xs ++ ys) all)
 
 back-all : (xs ys : List Attempt) → All IsAttempt (xs ++ ys) → All IsAttempt ys
-back-all [] ys all = all
-back-all (x ∷ xs) ys all = back-all xs ys (All-tail IsAttempt x (xs ++ ys) all)
+back-all xs ys all = rw drop-append_seam at (All-drop IsAttempt (length xs) (xs ++ ys) all)
 
 -- one that was accepted at an earlier place is stale
 
@@ -68,4 +62,5 @@ all-same h made (a ∷ longer) shorter legal before all (inr twice) =
     again-same (fold after_attempt h made) a longer shorter stale then
 
 pub repeated : RepeatedRowsChangeNothing
+unfolding RepeatedRowsChangeNothing
 repeated h longer shorter legal all has = all-same h [] longer shorter legal (All-nil IsAttempt) all has

@@ -1,6 +1,8 @@
+pub mod Names
 pub mod Requests
 pub mod NewBoards
 pub mod Driven
+pub mod Clubs
 pub mod Phases
 pub mod LiveText
 pub mod LiveTheorems

@@ -1,53 +1,45 @@
--- The text of a session: the answers to its lines.
-use Rattle.std.specs.Prelude.{Bool, Err, List, None, Ok, Option, Result, Some, [], if◌then◌else◌, length, true, unwrap_or, ℕ, ◌&&◌, ◌++◌, ◌+◌, ◌∷◌}
+-- The text of a session of `ucl_live`: what it answers to its lines. A line says (`Said`) a row of four fields, something else, or nothing.
+-- A row names a club or the header of the board (group, tie-break order, edition), or makes a request: to enter an event or show the board.
+-- A row of a later edition puts a fresh board in place of the open one. The answer to a bad row has its text, `shown`.
+use Rattle.ucl_live_runs.specs.Names.{Bad, BoardHeader, Bool, Err, Event, List, LiveArgs, LiveFault, Matches, NamedClub, NightEvent, None, Nothing, Ok}
+use Rattle.ucl_live_runs.specs.Names.{Option, Request, Result, Said, Screen, Some, Words, [], bad_answer, board_of, game_at, length, lines_of, matches_answer}
+use Rattle.ucl_live_runs.specs.Names.{reply_answer, reply_of, said_on, screen_answer, shown_text, true, unwrap_or, version_of, words_answer, ℕ}
+use Rattle.std.specs.Prelude.{if◌then◌else◌, ◌&&◌, ◌++◌, ◌+◌, ◌∷◌}
 use Rattle.ucl_word.specs.declared.event.Accepted.{Accepted}
 use Rattle.ucl_word.specs.declared.refusal.Refusal.{Refusal}
-use Rattle.ucl_word.specs.Rules.{reply_of}
-use Rattle.ucl_board.specs.Words.{game_at, version_of}
-use Rattle.ucl_order.specs.Roster.{NamedClub}
-use Rattle.ucl_rows.specs.Answers.{bad_answer, matches_answer, reply_answer, screen_answer, words_answer}
-use Rattle.ucl_screen.specs.declared.night.NightEvent.{NightEvent}
-use Rattle.ucl_json.specs.declared.header.BoardHeader.{BoardHeader}
-use Rattle.ucl_command.specs.declared.live.LiveArgs.{LiveArgs}
-use Rattle.ucl_live_runs.specs.declared.live_fault.LiveFault.{LiveFault}
-use Rattle.ucl_live_runs.specs.declared.request.Request.{Request}
-use Rattle.ucl_live_runs.specs.declared.request.Request.TheVariants.{Bad, Event, Matches, Screen, Words}
-use Rattle.ucl_rows.specs.InputLines.{lines_of}
-use Rattle.ucl_rows.specs.Rows.{Nothing, Said, said_on}
-use Rattle.ucl_rows.specs.BadRows.{shown_text}
-use Rattle.ucl_board.specs.History.{board_of}
 use Rattle.ucl_live_runs.specs.NewBoards.{NewBoard, again_on}
 use Rattle.ucl_live_runs.specs.Requests.{asked_header, header_said, is_bad, is_group_row, request_of}
-use Rattle.ucl_live_runs.specs.Phases.{AwaitingClubs, AwaitingHeader, Open, Phase, Refused, after_beginning, after_club, club_said, missing, next_board}
+use Rattle.ucl_live_runs.specs.Phases.{Reached, after_beginning, after_club, club_said, missing, next_board, open_at}
+use Rattle.ucl_live_runs.specs.declared.phase.Phase.TheVariants.{AwaitingClubs, AwaitingHeader, Open}
 
--- between two lines: how it answers, the header of its board, which line comes next, counted from 1, how far it is, and whether nothing
--- but the row of its edition and rows of its clubs has come in that edition
+-- a session between two lines: its options, the header of its board, the number of the next line, its phase or the fault that it is refused
+-- for, and whether its edition is new: neither an event nor a request to show the board has come in it
 pub record Session : Type 0 where
   pub options : LiveArgs
   pub header : BoardHeader
   pub row : ℕ
-  pub phase : Phase
+  pub phase : Reached
   pub is_new : Bool
 
--- before the first line
+-- the session with these options before the first line
 abbrev pub start_of : LiveArgs → Session
-start_of options = record { options = options; header = asked_header options; row = 1; phase = AwaitingHeader; is_new = true }
+start_of options = record { options = options; header = asked_header options; row = 1; phase = Ok AwaitingHeader; is_new = true }
 
 -- ---- the answer to a line
 
--- the screen after an accepted event, if screens are wanted
+-- the screen that follows the reply to an event, if this was accepted and the options ask for screens; else nothing
 abbrev pub screen_after : LiveArgs → BoardHeader → ℕ → List NamedClub → Result Accepted Refusal → List ℕ → List ℕ
 screen_after options header row clubs (Ok accepted) board = if options.screens then screen_answer options.format header row clubs board else []
 screen_after options header row clubs (Err refusal) board = []
 
--- the answer to an event: its reply, and the screen
+-- the answer to an event on this board: its reply, and then the screen, if the event is accepted and the options ask for screens
 abbrev pub event_answer : LiveArgs → BoardHeader → ℕ → List NamedClub → List ℕ → NightEvent → List ℕ
 event_answer options header row clubs board event =
     let reply = reply_of (game_at board event.call.game) event.call in
     let after = next_board board (Event event) in
     reply_answer options.format header row clubs event (version_of board) reply after ++ screen_after options header row clubs reply after
 
--- the answer to what a row asks that is shown so
+-- what an open board answers to the request of row number `row`; the answer to a bad row has its text, `shown`
 abbrev pub answer_of : LiveArgs → BoardHeader → ℕ → List NamedClub → List ℕ → Request → List ℕ → List ℕ
 answer_of options header row clubs board (Event event) shown = event_answer options header row clubs board event
 answer_of options header row clubs board (Bad field) shown = bad_answer options.format row field shown
@@ -55,88 +47,95 @@ answer_of options header row clubs board Screen shown = screen_answer options.fo
 answer_of options header row clubs board Words shown = words_answer options.format row board
 answer_of options header row clubs board Matches shown = matches_answer options.format row clubs board
 
--- the board that a line begins again, on an open board
-abbrev pub again_at : Session → Phase → Said → Option NewBoard
-again_at e (Open clubs board) r = again_on e.header e.is_new clubs r
-again_at e s r = None
+-- the fresh board, its header and clubs, that a line puts in place of the open one; None if it does not, or in this phase none is open
+abbrev pub again_at : Session → Reached → Said → Option NewBoard
+again_at session (Ok (Open table)) said = again_on session.header session.is_new table.roster said
+again_at session reached said = None
 
+-- the fresh board, its header and clubs, that a line puts in place of the open one of a session; None if it does not, or none is open
 abbrev pub again : Session → Said → Option NewBoard
-again e r = again_at e e.phase r
+again session said = again_at session session.phase said
 
--- a row that begins the board again has no answer
+-- what an open board answers to a line: nothing if it puts a fresh board in its place, else the answer to its request
 abbrev pub answer_on : Session → List NamedClub → List ℕ → Said → List ℕ → Option NewBoard → List ℕ
-answer_on e clubs board r shown (Some new) = []
-answer_on e clubs board r shown None = answer_of e.options e.header e.row clubs board (request_of r) shown
+answer_on session clubs board said shown (Some fresh) = []
+answer_on session clubs board said shown None = answer_of session.options session.header session.row clubs board (request_of said) shown
 
--- nothing is answered before the board is open
-abbrev pub answer_at : Session → Phase → Said → List ℕ → List ℕ
-answer_at e (Open clubs board) r shown = answer_on e clubs board r shown (again_on e.header e.is_new clubs r)
-answer_at e s r shown = []
+-- what a session in this phase answers to a line: nothing before its board is open, or if it is refused
+abbrev pub answer_at : Session → Reached → Said → List ℕ → List ℕ
+answer_at session (Ok (Open table)) said shown = answer_on session table.roster table.board said shown (again_on session.header session.is_new table.roster said)
+answer_at session reached said shown = []
 
--- the answer to a line that says this and is shown so
+-- what a session answers to a line: nothing if it is empty, or before the board is open
 abbrev pub answer_said : Session → Said → List ℕ → List ℕ
-answer_said e Nothing shown = []
-answer_said e r shown = answer_at e e.phase r shown
+answer_said session Nothing shown = []
+answer_said session said shown = answer_at session session.phase said shown
 
 -- ---- the session after a line
 
--- what a line changes but the number of the next
+-- what a line changes in a session, except the number of the next line: header, phase, and whether the edition is new
 pub record Stage : Type 0 where
   pub header : BoardHeader
-  pub phase : Phase
+  pub phase : Reached
   pub is_new : Bool
 
-abbrev pub stage : BoardHeader → Phase → Bool → Stage
+-- what a line leads to (`Stage`): this header, this phase, and `is_new`, whether the edition is new
+abbrev pub stage : BoardHeader → Reached → Bool → Stage
 stage header phase is_new = record { header = header; phase = phase; is_new = is_new }
 
+-- the session after one more line, with the header, the phase and the newness of its edition as in this stage
 abbrev pub moved : Session → Stage → Session
-moved e s = record { options = e.options; header = s.header; row = e.row + 1; phase = s.phase; is_new = s.is_new }
+moved session stage = record { options = session.options; header = stage.header; row = session.row + 1; phase = stage.phase; is_new = stage.is_new }
 
--- the first row may say the header of the board
+-- the header of the board after the first row: the one that this names as the row of a group, else the one before
 abbrev pub first_header : BoardHeader → Said → BoardHeader
-first_header header r = if is_group_row r then unwrap_or (header_said r) header else header
+first_header header said = if is_group_row said then unwrap_or (header_said said) header else header
 
--- the fresh board of an edition, in place of the present one
+-- the session after a line that puts this fresh board in place of the open one
 abbrev pub begun_again : Session → NewBoard → Session
-begun_again e new = moved e (stage new.header (Open new.clubs (board_of [])) true)
+begun_again session fresh = moved session (stage fresh.header (open_at fresh.clubs (board_of [])) true)
 
--- a line that asks for nothing that there is leaves an edition new
+-- header, phase and newness of the edition (`Stage`) after a line on an open board: on a fresh one if it begins one, or after its request
 abbrev pub next_on : Session → List NamedClub → List ℕ → Said → Option NewBoard → Stage
-next_on e clubs board r (Some new) = stage new.header (Open new.clubs (board_of [])) true
-next_on e clubs board r None = stage e.header (Open clubs (next_board board (request_of r))) (is_bad (request_of r) && e.is_new)
+next_on session clubs board said (Some fresh) = stage fresh.header (open_at fresh.clubs (board_of [])) true
+next_on session clubs board said None = stage session.header (open_at clubs (next_board board (request_of said))) (is_bad (request_of said) && session.is_new)
 
-abbrev pub next_at : Session → Phase → Said → Stage
-next_at e AwaitingHeader r = stage (first_header e.header r) (after_beginning e.options e.row r) e.is_new
-next_at e (AwaitingClubs clubs) r = stage e.header (after_club e.row clubs (club_said (length clubs + 1) r)) e.is_new
-next_at e (Open clubs board) r = next_on e clubs board r (again_on e.header e.is_new clubs r)
-next_at e (Refused fault) r = stage e.header (Refused fault) e.is_new
+-- header, phase and newness of the edition (`Stage`) of a session, in this phase or refused, after a line that is not empty
+abbrev pub next_at : Session → Reached → Said → Stage
+next_at session (Ok AwaitingHeader) said = stage (first_header session.header said) (after_beginning session.options session.row said) session.is_new
+next_at session (Ok (AwaitingClubs clubs)) said = stage session.header (after_club session.row clubs (club_said (length clubs + 1) said)) session.is_new
+next_at session (Ok (Open table)) said = next_on session table.roster table.board said (again_on session.header session.is_new table.roster said)
+next_at session (Err fault) said = stage session.header (Err fault) session.is_new
 
+-- header, phase and newness of the edition (`Stage`) of a session after a line; an empty line changes none of them
 abbrev pub stage_after : Session → Said → Stage
-stage_after e Nothing = stage e.header e.phase e.is_new
-stage_after e r = next_at e e.phase r
+stage_after session Nothing = stage session.header session.phase session.is_new
+stage_after session said = next_at session session.phase said
 
+-- the session after a line
 abbrev pub next : Session → Said → Session
-next e r = moved e (stage_after e r)
+next session said = moved session (stage_after session said)
 
--- ---- the answers to lines, one after the other
+-- ---- lines
 
+-- the answers of a session to these lines, one after the other
 unfoldable pub answers : Session → List (List ℕ) → List ℕ
-answers e [] = []
-answers e (line ∷ lines) = answer_said e (said_on e.row line) (shown_text line) ++ answers (next e (said_on e.row line)) lines
+answers session [] = []
+answers session (line ∷ lines) = answer_said session (said_on session.row line) (shown_text line) ++ answers (next session (said_on session.row line)) lines
 
--- the session after lines
+-- the session after these lines, one after the other
 unfoldable pub after_lines : Session → List (List ℕ) → Session
-after_lines e [] = e
-after_lines e (line ∷ lines) = after_lines (next e (said_on e.row line)) lines
+after_lines session [] = session
+after_lines session (line ∷ lines) = after_lines (next session (said_on session.row line)) lines
 
--- the text of a session that begins here and has this whole input
+-- the answers of a session to these bytes, which are all that is left of its input
 abbrev pub live_text : Session → List ℕ → List ℕ
-live_text e bytes = answers e (lines_of bytes)
+live_text session bytes = answers session (lines_of bytes)
 
--- why a session is refused that ends here
+-- the fault of a session whose input ends here: that which it is refused for, or a club is missing; None if its board is open
 abbrev pub missing_now : Session → Option LiveFault
-missing_now e = missing e.row e.phase
+missing_now session = missing session.row session.phase
 
--- why a session is refused that begins here and has this whole input
+-- the fault of a session whose input ends after these bytes: that which it is refused for, or a club is missing; None if its board is open
 abbrev pub missing_after : Session → List ℕ → Option LiveFault
-missing_after e bytes = missing_now (after_lines e (lines_of bytes))
+missing_after session bytes = missing_now (after_lines session (lines_of bytes))

@@ -1,67 +1,59 @@
--- The rows by which an open board is begun again: that of a later edition, and, before anything else of an edition, those of its clubs.
-use Rattle.std.specs.Prelude.{Bool, List, None, Option, Some, [], false, if◌then◌else◌, nat_le, set, true, ℕ, ◌&&◌, ◌-◌, ◌∷◌, ◌≡◌}
-use Rattle.ucl_order.specs.Roster.{NamedClub, is_club}
-use Rattle.ucl_screen.specs.Rows.{FourFields}
-use Rattle.ucl_screen.specs.Script.{club_of}
-use Rattle.ucl_json.specs.declared.header.BoardHeader.{BoardHeader}
-use Rattle.ucl_rows.specs.Rows.{Row, Said}
-use Rattle.ucl_board.specs.History.{board_of}
+-- The rows that put a fresh board in place of an open one: the row of a group that names a later edition, and, while an edition is new, the
+-- row of a club. A header is the group, the tie-break order and the edition of a board. An edition is a number from 0, and new until an
+-- event or a request to show the board comes in it. A slot, 1 to 4, is the number of a club in the roster.
+use Rattle.ucl_live_runs.specs.Names.{BoardHeader, Bool, FourFields, List, NamedClub, None, Option, Row, Said, Some, [], board_of, club_of, false, is_club}
+use Rattle.ucl_live_runs.specs.Names.{nat_le, option_and_then, option_map, set, true, ℕ}
+use Rattle.std.specs.Prelude.{if◌then◌else◌, ◌&&◌, ◌-◌, ◌∷◌, ◌≡◌}
 use Rattle.ucl_live_runs.specs.declared.header.HeaderState.{HeaderState}
 use Rattle.ucl_live_runs.specs.declared.phase.OpenBoard.{OpenBoard}
 use Rattle.ucl_live_runs.specs.Requests.{edition_said}
 
--- the header of the fresh board, and its clubs
+-- a fresh board, by its header and its clubs
 pub record NewBoard : Type 0 where
   pub header : BoardHeader
   pub clubs : List NamedClub
 
+-- the fresh board with this header and these clubs
 abbrev pub new_board : BoardHeader → List NamedClub → NewBoard
 new_board header clubs = record { header = header; clubs = clubs }
 
--- `1` to `4`
+-- the slot that a field names, which is one digit, `1` to `4`; else None
 abbrev pub slot_in : List ℕ → Option ℕ
-slot_in (b ∷ []) = if nat_le 49 b && nat_le b 52 then Some (b - 48) else None
+slot_in (digit ∷ []) = if nat_le 49 digit && nat_le digit 52 then Some (digit - 48) else None
 slot_in _ = None
 
--- the clubs with this one in a slot, if a roster takes it
+-- these clubs with one put in a slot; None if there is no such club, or no roster takes it
 abbrev pub with_club_in : ℕ → List NamedClub → Option NamedClub → Option (List NamedClub)
 with_club_in slot clubs None = None
 with_club_in slot clubs (Some club) = if is_club club then Some (set clubs (slot - 1) club) else None
 
-abbrev pub clubs_by_slot : Option ℕ → List NamedClub → FourFields → Option (List NamedClub)
-clubs_by_slot None clubs f = None
-clubs_by_slot (Some slot) clubs f = with_club_in slot clubs (club_of slot f)
-
--- the clubs with the one that a row names
+-- these clubs with the one that a row names (`club,1,Alpha,60000`) put in its slot; None if the row names none, or no roster takes it
 abbrev pub clubs_said : List NamedClub → FourFields → Option (List NamedClub)
-clubs_said clubs f = clubs_by_slot (slot_in f.second) clubs f
+clubs_said clubs fields = option_and_then (λ slot. with_club_in slot clubs (club_of slot fields)) (slot_in fields.second)
 
-abbrev pub of_clubs : BoardHeader → Option (List NamedClub) → Option NewBoard
-of_clubs header None = None
-of_clubs header (Some clubs) = Some (new_board header clubs)
-
--- a row of a later edition begins it with the present clubs; a row of a club puts it in its slot, if nothing else of the edition came
+-- the fresh board that a row begins: that of the later edition which it names, or, if the edition is new, that with the club it names
 abbrev pub by_edition : BoardHeader → Bool → List NamedClub → FourFields → Option BoardHeader → Option NewBoard
-by_edition header is_new clubs f (Some later) = Some (new_board later clubs)
-by_edition header is_new clubs f None = if is_new then of_clubs header (clubs_said clubs f) else None
+by_edition header is_new clubs fields (Some later) = Some (new_board later clubs)
+by_edition header is_new clubs fields None = if is_new then option_map (new_board header) (clubs_said clubs fields) else None
 
+-- the fresh board that a row of four fields begins, if it names a later edition, or a club while the edition is new; else None
 abbrev pub begins_again : BoardHeader → Bool → List NamedClub → FourFields → Option NewBoard
-begins_again header is_new clubs f = by_edition header is_new clubs f (edition_said header (Row f))
+begins_again header is_new clubs fields = by_edition header is_new clubs fields (edition_said header (Row fields))
 
--- the board that a line begins again, on an open board
+-- the fresh board that a line begins, if its row names a later edition, or a club while the edition is new; else None
 abbrev pub again_on : BoardHeader → Bool → List NamedClub → Said → Option NewBoard
-again_on header is_new clubs (Row f) = begins_again header is_new clubs f
+again_on header is_new clubs (Row fields) = begins_again header is_new clubs fields
 again_on header is_new clubs _ = None
 
 -- ---- what the code does
 
--- the clubs become these, if a row names one; else nothing changes
+-- a call puts these clubs in place of those of an open board, and returns whether it did (`done`); for None nothing changes
 abbrev pub Puts : Option (List NamedClub) → Bool → OpenBoard → OpenBoard → Type 0
 Puts None done old new = (done ≡ false) × (new ≡ old)
-Puts (Some clubs) done old new = (done ≡ true) × (new.roster ≡ clubs) × (new.board ≡ old.board)
+Puts (Some clubs) done old new = (done ≡ true) × (new ≡ record old { roster = clubs })
 
--- the board becomes the fresh one under this header and with these clubs, if a row begins it again; else nothing changes
+-- a call puts this fresh board and its header in place of the old ones, and returns whether it did (`done`); for None nothing changes
 abbrev pub BeginsAgain : Option NewBoard → Bool → HeaderState → HeaderState → OpenBoard → OpenBoard → Type 0
-BeginsAgain None done head head2 old new = (done ≡ false) × (head2 ≡ head) × (new ≡ old)
-BeginsAgain (Some again) done head head2 old new =
-    (done ≡ true) × (head2.header ≡ again.header) × (head2.is_new ≡ true) × (new.roster ≡ again.clubs) × (new.board ≡ board_of [])
+BeginsAgain None done heading heading2 old new = (done ≡ false) × (heading2 ≡ heading) × (new ≡ old)
+BeginsAgain (Some again) done heading heading2 old new =
+    (done ≡ true) × (heading2.header ≡ again.header) × (heading2.is_new ≡ true) × (new ≡ record { roster = again.clubs; board = board_of [] })

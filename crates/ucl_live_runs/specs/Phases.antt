@@ -1,81 +1,84 @@
--- How far a session is, what a line makes of it, and the faults by which it ends.
-use Rattle.std.specs.Prelude.{List, None, Option, Some, [], codes, if◌then◌else◌, length, min, ℕ, ◌++◌, ◌+◌, ◌-◌, ◌==◌, ◌^◌, ◌∷◌}
-use Rattle.ucl_board.specs.History.{board_after, board_of}
-use Rattle.ucl_order.specs.Roster.{NamedClub, bad_slot}
-use Rattle.ucl_screen.specs.Events.{attempt_of}
-use Rattle.ucl_screen.specs.Script.{club_of}
-use Rattle.ucl_command.specs.declared.live.LiveArgs.{LiveArgs}
+-- How far a session of `ucl_live` is (its phase), what a row makes of it, and the faults by which it ends. Its first rows name its clubs,
+-- by slots 1 to 4; before them may come the row of a group, which names a header: group, tie-break order, edition. Then the board is open.
+-- `Said` is what a line says: a row of four fields, something else, or nothing. A roster takes names of 1 to 20 bytes.
+use Rattle.ucl_live_runs.specs.Names.{BoardHeader, Err, Event, Input, List, LiveArgs, LiveFault, NamedClub, None, Ok, Option, OtherGroup, OutOfMemory}
+use Rattle.ucl_live_runs.specs.Names.{Request, Result, Row, Run, Said, Some, [], attempt_of, bad_slot, board_after, board_of, club_of, codes, length, min, ℕ}
+use Rattle.ucl_live_runs.specs.Names.{⊤}
+use Rattle.std.specs.Prelude.{if◌then◌else◌, ◌++◌, ◌+◌, ◌-◌, ◌==◌, ◌^◌, ◌∷◌, ◌≡◌}
 use Rattle.ucl_screen.specs.declared.fault.InputFault.TheVariants.{BadRoster, BadRow}
-use Rattle.ucl_rows.specs.declared.fault.RunFault.TheVariants.{Input, OutOfMemory}
-use Rattle.ucl_live_runs.specs.declared.live_fault.LiveFault.{LiveFault}
-use Rattle.ucl_live_runs.specs.declared.live_fault.LiveFault.TheVariants.{OtherGroup, Run}
-use Rattle.ucl_json.specs.declared.header.BoardHeader.{BoardHeader}
-use Rattle.ucl_live_runs.specs.Requests.{header_said, is_as_asked, is_group_row}
-use Rattle.ucl_rows.specs.Rows.{Row, Said}
-use Rattle.ucl_live_runs.specs.declared.request.Request.{Request}
-use Rattle.ucl_live_runs.specs.declared.request.Request.TheVariants.{Event}
+use Rattle.ucl_live_runs.specs.declared.phase.Phase.{Phase}
+use Rattle.ucl_live_runs.specs.declared.phase.Phase.TheVariants.{AwaitingClubs, Open}
+use Rattle.ucl_live_runs.specs.Requests.{header_said, is_asked, is_group_row}
 
--- no row came yet; then the clubs are named, fewer than four so far; then the board is open. A session whose clubs have a fault is refused
-pub data Phase : Type 0 where
-  AwaitingHeader : Phase
-  AwaitingClubs : (clubs : List NamedClub) → Phase
-  Open : (clubs : List NamedClub) (board : List ℕ) → Phase
-  Refused : (fault : LiveFault) → Phase
+-- what a session has reached: its phase, or the fault for which it is refused
+abbrev pub Reached : Type 0
+Reached = Result Phase LiveFault
 
--- the number of a row as a fault reports it, at most the greatest of 32 bits
+-- a session has reached the phase in which its board is open, with these clubs and the words of this board
+abbrev pub open_at : List NamedClub → List ℕ → Reached
+open_at clubs board = Ok (Open (record { roster = clubs; board = board }))
+
+-- the number of a row as a fault reports it: at most the greatest of 32 bits
 abbrev pub fault_row : ℕ → ℕ
 fault_row row = min row (2 ^ 32 - 1)
 
+-- the fault of the row of this number, which is missing, or does not name the club or the header that it has to
 abbrev pub bad_row : ℕ → LiveFault
 bad_row row = Run (Input (BadRow (fault_row row)))
 
 -- ---- clubs
 
+-- the club that a line names for this slot; None if it names none
 abbrev pub club_said : ℕ → Said → Option NamedClub
-club_said slot (Row f) = club_of slot f
+club_said slot (Row fields) = club_of slot fields
 club_said slot _ = None
 
-abbrev pub with_roster : List NamedClub → Option ℕ → Phase
-with_roster clubs None = Open clubs (board_of [])
-with_roster clubs (Some slot) = Refused (Run (Input (BadRoster slot)))
+-- what a session reaches with these four clubs: the fresh board is open, or it is refused for the slot whose club no roster takes, if any
+abbrev pub with_roster : List NamedClub → Option ℕ → Reached
+with_roster clubs None = open_at clubs (board_of [])
+with_roster clubs (Some slot) = Err (Run (Input (BadRoster slot)))
 
--- the roster is looked at once there are four clubs, and then the fresh board is open
-abbrev pub with_clubs : List NamedClub → Phase
-with_clubs clubs = if length clubs == 4 then with_roster clubs (bad_slot clubs) else AwaitingClubs clubs
+-- what a session reaches with these clubs: if they are four, the fresh board is open, or no roster takes them; if fewer, it awaits the next
+abbrev pub with_clubs : List NamedClub → Reached
+with_clubs clubs = if length clubs == 4 then with_roster clubs (bad_slot clubs) else Ok (AwaitingClubs clubs)
 
-abbrev pub after_club : ℕ → List NamedClub → Option NamedClub → Phase
-after_club row clubs None = Refused (bad_row row)
+-- what a session reaches after the row of this number: it has one club more, or is refused, if the row does not name the club (None)
+abbrev pub after_club : ℕ → List NamedClub → Option NamedClub → Reached
+after_club row clubs None = Err (bad_row row)
 after_club row clubs (Some club) = with_clubs (clubs ++ club ∷ [])
 
--- ---- the first row
+-- what a session reaches after the row of a group: refused if it names no header (None), or another group or order than the options ask for
+abbrev pub after_header : LiveArgs → ℕ → Option BoardHeader → Reached
+after_header options row None = Err (bad_row row)
+after_header options row (Some header) = if is_asked options.group options.profile header then Ok (AwaitingClubs []) else Err OtherGroup
 
--- a row of a group, or that of the first club
-abbrev pub after_header : LiveArgs → ℕ → Option BoardHeader → Phase
-after_header options row None = Refused (bad_row row)
-after_header options row (Some header) = if is_as_asked options header then AwaitingClubs [] else Refused OtherGroup
-
-abbrev pub after_beginning : LiveArgs → ℕ → Said → Phase
+-- what a session reaches after the first row, which has to be the row of a group or that of the first club
+abbrev pub after_beginning : LiveArgs → ℕ → Said → Reached
 after_beginning options row said = if is_group_row said then after_header options row (header_said said) else after_club row [] (club_said 1 said)
 
--- the board after a request
+-- the board after a request: it takes an event, if this is accepted; no other request changes it
 abbrev pub next_board : List ℕ → Request → List ℕ
 next_board board (Event event) = board_after board (attempt_of event)
 next_board board _ = board
 
--- why a session is refused that ends here, before a line with this number: a club is missing
-abbrev pub missing : ℕ → Phase → Option LiveFault
-missing row AwaitingHeader = Some (bad_row row)
-missing row (AwaitingClubs clubs) = Some (bad_row row)
-missing row (Open clubs board) = None
-missing row (Refused fault) = Some fault
+-- the fault of a session whose input ends before the line of this number: its own, or a club is missing; None if the board is open
+abbrev pub missing : ℕ → Reached → Option LiveFault
+missing row (Ok (Open table)) = None
+missing row (Ok _) = Some (bad_row row)
+missing row (Err fault) = Some fault
 
 -- ---- the faults of a session
 
--- there was no memory, and A holds; or it is another fault, and B holds
+-- a session stops by this fault: if it is out of memory, A holds, else B
 abbrev pub StopsBy : Type 0 → Type 0 → LiveFault → Type 0
 StopsBy A B (Run OutOfMemory) = A
 StopsBy A B fault = B
 
--- what is printed if a row of a group differs from what was asked for
+-- a call returns what the session reaches (`reached`), unless it is out of memory
+abbrev pub IsIfMemory : Reached → Reached → Type 0
+IsIfMemory reached (Ok phase) = reached ≡ Ok phase
+IsIfMemory reached (Err fault) = StopsBy ⊤ (reached ≡ Err fault) fault
+
+-- what is printed if the first row names another group or tie-break order than the options ask for
 abbrev pub other_group_text : List ℕ
 other_group_text = codes "error: the row of the group differs from --group or --order\n"

@@ -1,4 +1,5 @@
-//! What `ucl_follow` does for its arguments.
+//! What `ucl_follow` does for its arguments: it reads lines, of which some carry a board state (group, tie-break order, edition, clubs,
+//! twelve words), shows each that is newer than all before, and passes over all others. Each edition, from 0 on, begins a fresh board.
 
 ghost use Rattle.std.specs.Prelude.{◌≡◌};
 ghost use Rattle.ucl_screen.specs.Screen.{IsGroup};
@@ -15,7 +16,7 @@ use ucl_json::BoardHeader;
 use ucl_rows::{RunFault, exit_without_command, of_driver, print_fault, put_text};
 use ucl_screen::{Sink, Source};
 
-/// Returns the line that says how many lines came, were shown and were passed over.
+/// Returns the line that says how many lines came, how many of them were shown, and how many were not, that is, passed over.
 fn counts_line(followed: FollowSummary) -> ArrayString<128>
     ensures { result.bytes ≡ counts_line followed }
 {
@@ -30,7 +31,7 @@ fn counts_line(followed: FollowSummary) -> ArrayString<128>
     line
 }
 
-/// Returns the line that says that the board state of a line is passed over, for its group or order.
+/// Returns the text which reports that line number `line` is passed over because it has the group and the tie-break order of `header`.
 pub(crate) fn other_line(line: u64, header: BoardHeader) -> ArrayString<128>
     requires { IsGroup header.group }
     ensures { result.bytes ≡ other_line line header }
@@ -46,7 +47,7 @@ pub(crate) fn other_line(line: u64, header: BoardHeader) -> ArrayString<128>
     text
 }
 
-/// Prints how many lines were followed, or the fault, and returns the exit status.
+/// Prints the counts of a run that ended well, or the fault of one that failed, and returns the exit status: 0, or that of the fault.
 fn print_outcome<E: Sink>(errors: &mut E, done: Result<FollowSummary, ServeFault<RunFault>>) -> u8
     ensures { EndsFollowing done (ended_with E.failed E.taken result errors.old errors.new) }
 {
@@ -59,11 +60,11 @@ fn print_outcome<E: Sink>(errors: &mut E, done: Result<FollowSummary, ServeFault
     }
 }
 
-/// Follows lines as the arguments ask, which `follow_args` has read, and returns the exit status.
+/// Runs `ucl_follow` for its arguments, which `follow_args` has parsed to `asked`, and returns the exit status.
 ///
-/// The status is 0 if the input has ended, and then the error sink gets the number of lines that came, were shown and were passed over; 2 if
-/// the arguments are refused, with the text of `clap`; 4 if a device failed, and 5 if memory was lacking, each with the line of the fault.
-/// Help goes to the output. `others` gets a line for each other group and order.
+/// The status is 0 if the input has ended, and then the sink `errors` gets the number of lines that came, were shown and were passed over;
+/// 2 if the arguments are refused, with the text of `clap`; 4 if a device failed, and 5 if memory was lacking, each with the line of the
+/// fault. Help goes to the output. The sink `others` gets a line for each group and tie-break order that is passed over.
 pub fn run_following<S: Source, W: Sink, T: Sink + Drop, E: Sink>(
     alloc: Global,
     asked: Result<FollowArgs, LineFault>,

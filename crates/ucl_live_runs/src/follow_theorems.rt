@@ -1,51 +1,54 @@
-//! What holds of all that is followed. The functions do nothing: they are there for their contracts.
+//! Theorems on what a follower (`ucl_follow`) shows; the functions do nothing, their contracts state the theorems. Lines carry board
+//! states: group, tie-break order, edition (from 0; each later one begins a fresh board), clubs, words. One is newer than another if its
+//! edition is later, or the same and its version (its number of events) is higher. A record is the input of a session, a run of `ucl_live`.
 #![tactic(auto, using(crate::proofs::Theorems::follow_theorems))]
 
 ghost use Rattle.ucl_live_runs.specs.Follow.{AnswersTellTheirBoardState, FollowersEndWithTheBoard, LatestIsShownLast, LinesTellTheirBoardState, MatchesFitTheirLine, OthersDoNotMatter, RepeatedRowsChangeNothing, SameRowsSameTable, ShownVersionsRise};
 
-/// States that each board state that is shown is one that a line carries, newer than all before; as text, its screen is printed.
+/// States that each board state that is shown is carried by a line and newer than all before, and that the text is that of their screens.
 pub fn versions_rise()
     ensures { ShownVersionsRise }
 {}
 
-/// States that the last board state that is shown is the latest that any line carries.
+/// States that if a line carries a board state as asked, and each other one as asked is older and of its group and order, it is shown last.
 pub fn latest_is_shown_last()
     ensures { LatestIsShownLast }
 {}
 
-/// States that the values of a session's answer to an accepted event and of a screen carry the board state after it.
+/// States that the JSON value of the answer to an accepted event, or of a screen, parses to just the board state that it was made from.
 pub fn answers_tell_their_board_state()
     ensures { AnswersTellTheirBoardState }
 {}
 
-/// States that the line of each such answer carries that board state too: it has at most 4,096 bytes.
+/// States that the JSON line of the answer to an accepted event, or of a screen, parses to the board state that it was made from: it has at
+/// most the 4,096 bytes that a follower reads of a line.
 pub fn lines_tell_their_board_state()
     ensures { LinesTellTheirBoardState }
 {}
 
-/// States that the line of the twelve matches has at most 4,096 bytes.
+/// States that the JSON line that shows the twelve matches of a board has at most 4,096 bytes.
 pub fn matches_fit_their_line()
     ensures { MatchesFitTheirLine }
 {}
 
-/// States that lines may come in another order, twice or not at all: if one carries the latest board state, that is shown last.
+/// States that the latest board state of some lines is shown last also if they come reordered, repeated or in part, but one carries it.
 pub fn others_do_not_matter()
     ensures { OthersDoNotMatter }
 {}
 
-/// States that accepted events which come again, at any later places and any number of times, change nothing: the history and the board are
-/// those of the events without them.
+/// States that accepted events which are entered again, at any later places and any number of times, change nothing: the history (the list
+/// of accepted events) and the board are those without them.
 pub fn repeated_rows_change_nothing()
     ensures { RepeatedRowsChangeNothing }
 {}
 
-/// States that the board at the end of a record is the latest that its answers carry, if they carry one of its last edition.
+/// States that the board state at the end of a record is the latest that its answers carry, if one of them carries one of its edition.
 pub fn followers_end_with_the_board()
     ensures { FollowersEndWithTheBoard }
 {}
 
-/// States that the last table that a follower shows is that of the board of the record, if its lines are answers of the record, in any order
-/// and any number of times, and one carries the last board state.
+/// States that the last table that a follower shows is that of the board at the end of a record, if its lines are answers to the record, in
+/// any order and any number of times, and one of them carries the board state at the end.
 pub fn same_rows_same_table()
     ensures { SameRowsSameTable }
 {}

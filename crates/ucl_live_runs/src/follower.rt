@@ -1,10 +1,12 @@
-//! A follower, which shows the board states that lines carry.
+//! A follower (`ucl_follow`) reads lines, of which each may carry a board state in JSON, and shows each that is newer than all before. A
+//! board state is a header (group, tie-break order, edition), a roster of four clubs and twelve words, one per match. An edition is a
+//! number from 0: a later one begins a fresh board. Newer: of a later edition, or of the same and a higher version (more events).
 
-ghost use Rattle.std.specs.Prelude.{◌≡◌, ◌≤◌, ⊤, [], length, IfOk};
+ghost use Rattle.std.specs.Prelude.{◌≡◌, ◌<◌, ◌≤◌, ⊤, [], length, IfOk};
 ghost use Rattle.ucl_rows.specs.declared.fault.RunFault.TheVariants.{OutOfMemory};
 ghost use Rattle.ucl_screen.specs.Screen.{IsGroup};
 ghost use Rattle.ucl_live_runs.specs.Follow.{is_later, is_newer, line_output, output_text, unseen};
-ghost use Rattle.ucl_live_runs.specs.FollowerRuns.{IsHandled, follow_state_of, shape_of, output_bytes, follow_due};
+ghost use Rattle.ucl_live_runs.specs.FollowerRuns.{IsHandled, follow_state_of, shape_of, output_bytes, follow_due, Reports, report_place, unreported};
 ghost use Rattle.ucl_json.specs.BoardLines.{parse_board_line};
 ghost use Rattle.ucl_live_runs.specs.Driven.{IsDriven};
 
@@ -15,22 +17,23 @@ use ucl_command::{FollowArgs, FollowShape};
 use ucl_io::{LineHandler, LoggedIo, MAX_KEPT_BYTES, ServeFault, Text, serve_lines};
 use ucl_json::{BoardHeader, BoardState, edition_screen_json, parse_board_line};
 use ucl_order::Profile;
-use ucl_rows::RunFault;
+use ucl_rows::{RunFault, put_text};
 use ucl_screen::{Sink, Source, matches, screen};
 use ucl_word::OutOfMemory;
 
-/// What a follower writes for a line.
+/// What a follower writes for one line of its input.
 #[derive(Drop)]
 pub enum FollowOutput {
     /// Nothing.
     Nothing,
-    /// A screen, or the matches in its place.
+    /// The text that shows a board state: its screen, or its twelve matches.
     Screen(String),
 }
 
 impl Text for FollowOutput {
     ghost bytes = { output_bytes };
 
+    /// Creates the output before a line is answered: nothing is written.
     fn new() -> FollowOutput {
         FollowOutput::Nothing
     }
@@ -43,7 +46,7 @@ impl Text for FollowOutput {
     }
 }
 
-/// Returns the text by which a board state is shown that the line of this number carries.
+/// Returns the text that shows the board state of line `row`: its screen, as text or JSON, or its matches. Fails only if out of memory.
 fn show(
     alloc: Global,
     shape: FollowShape,
@@ -76,21 +79,36 @@ fn show(
     }
 }
 
-/// Marks a group and its order as reported, and returns whether they were not before.
-fn is_first_report(reported: &mut [bool; 16], header: BoardHeader) -> bool {
-    let order = match header.profile {
-        Profile::Uefa => 0,
-        Profile::AwayInTie => 8,
-    };
-    let place = usize::from(header.group.wrapping_sub(b'A')) + order;
-    if place < 16 && !reported[place] {
-        reported[place] = true;
-        return true;
+/// Returns the index, below 16, of a header's group and tie-break order: groups A to H under `uefa`, then under `away-in-tie`.
+fn report_place(header: BoardHeader) -> usize
+    requires { IsGroup header.group }
+    ensures place { result ≡ report_place header.group header.profile }
+    ensures within { result < 16 }
+{
+    let place = usize::from(header.group - b'A');
+    match header.profile {
+        Profile::Uefa => place,
+        Profile::AwayInTie => place + 8,
     }
-    false
 }
 
-/// A follower between two lines: what it has followed, how it shows it, and where it reports other groups and orders.
+/// Reports to `others` that line `row` is passed over for its header, once for each group and tie-break order, as `reported` marks.
+fn report_once<T: Sink>(reported: &mut [bool; 16], others: &mut T, row: u64, header: BoardHeader)
+    requires { IsGroup header.group }
+    ensures { Reports T.Sink row (unreported reported.old header)
+        reported.old others.old reported.new others.new }
+{
+    let place = report_place(header);
+    if reported[place] {
+        return;
+    }
+    reported[place] = true;
+    let line = other_line(row, header);
+    let _ = put_text(others, line.as_str().as_bytes());
+}
+
+/// A follower between two lines: the form in which it shows board states, what it has followed, and the sink `others`, which gets a line
+/// for each group and tie-break order that is passed over, once: `reported` marks them.
 #[derive(Drop)]
 pub struct Follower<T> {
     alloc: Global,
@@ -101,7 +119,7 @@ pub struct Follower<T> {
 }
 
 impl<T> Follower<T> {
-    /// Creates the state before the first line.
+    /// Creates the follower before its first line, with the group and the tie-break order that the arguments ask for, if any.
     pub(crate) fn new(alloc: Global, args: FollowArgs, others: T) -> Follower<T>
         ensures follow_state { follow_state_of result ≡ unseen args }
         ensures shape { shape_of result ≡ args.shape }
@@ -109,7 +127,13 @@ impl<T> Follower<T> {
         Follower {
             alloc,
             shape: args.shape,
-            follow_state: FollowState::new(args),
+            follow_state: FollowState {
+                group: args.group,
+                profile: args.profile,
+                newest: None,
+                lines: 0,
+                shown: 0,
+            },
             others,
             reported: [false; 16],
         }
@@ -117,32 +141,36 @@ impl<T> Follower<T> {
 }
 
 impl<T: Sink> LineHandler for Follower<T> {
+    /// What it writes for a line.
     type Answer = FollowOutput;
 
+    /// Why it cannot write for a line: it is out of memory.
     type Fault = RunFault;
 
     ghost ready = { λ _. ⊤ };
 
-    ghost answers = { λ m row line n text. IsHandled m n line
+    ghost answers = { λ m row line n text. IsHandled T.Sink m n line
         × (text ≡ line_output (shape_of m) (follow_state_of m) line) };
 
-    ghost stops = { λ _ _ line _ fault. (fault ≡ OutOfMemory) × (length line ≤ 4096) };
+    ghost stops = { λ m _ line n fault. (fault ≡ OutOfMemory) × (length line ≤ 4096) × (n ≡ m) };
 
-    ghost ends = { λ m row begun n text. (shape_of n ≡ shape_of m)
-        × (follow_state_of n ≡ follow_state_of m) × (text ≡ []) };
+    ghost ends = { λ m row begun n text. (n ≡ m) × (text ≡ []) };
 
     ghost stops_at_end = { λ _ _ _ _ _. ⊥ };
 
+    /// Shows the line's board state if it is newer than all before; reports it if of another group or order. Fails if out of memory.
     fn answer(&mut self, _row: u64, line: &[u8], text: &mut FollowOutput) -> Result<(), RunFault> {
         let told = parse_board_line(self.alloc, line)?;
         let row = self.follow_state.lines.saturating_add(1);
         let (group, profile) = (self.follow_state.group, self.follow_state.profile);
         match told {
             Some(board_state) if !is_asked(group, profile, board_state.header) => {
-                if is_first_report(&mut self.reported, board_state.header) {
-                    let line = other_line(row, board_state.header);
-                    let _given = self.others.give(line.as_str().as_bytes());
-                }
+                report_once(
+                    &mut self.reported,
+                    &mut self.others,
+                    row,
+                    board_state.header,
+                );
                 *text = FollowOutput::Nothing;
                 self.follow_state.lines = row;
             }
@@ -162,14 +190,15 @@ impl<T: Sink> LineHandler for Follower<T> {
         Ok(())
     }
 
+    /// Writes nothing for `begun`, a last line without a line feed: it is not followed.
     fn end(&mut self, _row: u64, _begun: &[u8], text: &mut FollowOutput) -> Result<(), RunFault> {
         *text = FollowOutput::Nothing;
         Ok(())
     }
 }
 
-/// What was followed so far: the group and the order, if they were asked for or a line was shown; the newest board state; how many lines came,
-/// and how many of them were shown. A number past `u64::MAX` is given as that.
+/// What a follower has followed: the group and the tie-break order, if they were asked for or a board state was shown; the newest board
+/// state; how many lines came, and how many of them were shown, each at most `u64::MAX`.
 #[derive(Drop)]
 pub(crate) struct FollowState {
     pub(crate) group: Option<u8>,
@@ -179,7 +208,7 @@ pub(crate) struct FollowState {
     pub(crate) shown: u64,
 }
 
-/// Returns whether a board state is of a later edition than another, or of the same one and of a higher version.
+/// Returns whether `board_state` is of a later edition than `other`, or of the same edition and a higher version.
 fn is_later(board_state: &BoardState, other: &BoardState) -> bool
     ensures { result ≡ is_later board_state.now other.now }
 {
@@ -188,7 +217,7 @@ fn is_later(board_state: &BoardState, other: &BoardState) -> bool
     other_edition < edition || (other_edition == edition && other_version < version)
 }
 
-/// Returns whether a board state is newer than the newest that was shown.
+/// Returns whether a board state is later than `newest`, the newest that was shown, or none was shown.
 pub(crate) fn is_newer(newest: &Option<BoardState>, board_state: &BoardState) -> bool
     ensures { result ≡ is_newer newest.now board_state.now }
 {
@@ -198,43 +227,28 @@ pub(crate) fn is_newer(newest: &Option<BoardState>, board_state: &BoardState) ->
     }
 }
 
-impl FollowState {
-    /// Creates the state before the first line.
-    pub(crate) fn new(args: FollowArgs) -> FollowState
-        ensures { result ≡ unseen args }
-    {
-        FollowState {
-            group: args.group,
-            profile: args.profile,
-            newest: None,
-            lines: 0,
-            shown: 0,
-        }
-    }
-}
-
-/// How many lines came, and how many of them were shown: all others were passed over. A number past `u64::MAX` is given as that.
+/// How many lines a follower has read, and how many of them it has shown: all others were passed over. Each number is at most `u64::MAX`.
 #[derive(Clone, Copy, Debug, PartialEq, Eq)]
 pub struct FollowSummary {
-    /// The lines that had an end.
+    /// The lines that had an end, a line feed.
     pub lines: u64,
-    /// Those that carried a board state newer than any before.
+    /// The lines whose board state was shown.
     pub shown: u64,
 }
 
 /// Follows the lines of a source until it ends: shows each board state that is newer than all before at once, before it asks for more, and
 /// passes over each other line.
 ///
-/// The group and the order are those that are asked for, else those of the first board state. A board state of another one is passed over, and
-/// `others` gets a line for each such group and order, at once. A line carries a board state if it is JSON of at most 4,096 bytes whose members
-/// `group`, `order`, `clubs` and `words` are those of a board: each answer of a session to an accepted event, and each screen. It takes memory
-/// for one line at a time, and keeps none.
+/// The group and the tie-break order are those that `args` asks for, else those of the first board state. A board state of another group or
+/// order is passed over, and the sink `others` gets a line for each such pair, at once. A line carries a board state if it is JSON of at
+/// most 4,096 bytes whose members `group`, `order`, `clubs` and `words` are those of a board: each answer of a session to an accepted
+/// event, and each screen. Memory is taken for one line at a time, and none is kept.
 ///
 /// # Errors
 ///
-/// Nothing that comes in is an error. If the source fails, all lines that had an end are followed. If the sink fails, a first part of
-/// the text is out, and how many bytes. If there is no memory for a line, the lines before are followed.
-/// `TooLong` comes after more than 2^62 bytes, which no input has.
+/// Nothing that comes in is an error. If the source fails, all lines that had an end are followed. If the sink fails, a prefix of the text
+/// is out, and the error has its length. If there is no memory for a line, the lines before are followed. `TooLong` comes after more than
+/// 2^62 bytes, which no input has.
 pub fn follow_run<S: Source, W: Sink, T: Sink + Drop>(
     alloc: Global,
     args: FollowArgs,

@@ -1,10 +1,11 @@
-//! The header of a board: its group, its order and its edition.
+//! The header of a board, as the row `group,B,uefa,0` names it: its group (A to H), its tie-break order (a profile: `uefa` or
+//! `away-in-tie`), and its edition, a number from 0: each later edition begins a fresh board. A row is what one line of the input says.
 
 ghost use Rattle.std.specs.Prelude.{◌≡◌, IfSome, ◌&&◌};
 ghost use Rattle.ucl_screen.specs.Rows.{four_seen};
 ghost use Rattle.ucl_screen.specs.Screen.{IsGroup};
 ghost use Rattle.ucl_rows.specs.Rows.{Row, fields_seen};
-ghost use Rattle.ucl_live_runs.specs.Requests.{asked_header, edition_said, header_by, header_said, is_as_asked, is_asked, is_bad, is_group_row};
+ghost use Rattle.ucl_live_runs.specs.Requests.{asked_header, edition_said, header_by, header_said, is_asked, is_bad, is_group_row};
 
 use crate::request::Request;
 use ucl_command::LiveArgs;
@@ -13,7 +14,7 @@ use ucl_order::Profile;
 use ucl_rows::RowFields;
 use ucl_screen::{Four, expected_of_field, letter_in};
 
-/// Returns the header that the fields of a row of a group name.
+/// Returns the header that the last three fields of a row name: group, tie-break order and edition; None if one of them is bad.
 fn header_by(four: &Four<'_>) -> Option<BoardHeader>
     ensures told { result ≡ header_by (four_seen four.now) }
     ensures letter { IfSome result (λ header. IsGroup header.group) }
@@ -29,7 +30,7 @@ fn header_by(four: &Four<'_>) -> Option<BoardHeader>
     })
 }
 
-/// Returns whether a row is that of a group, good or bad.
+/// Returns whether a row has four fields and the first is `group`; the others may be bad.
 pub(crate) fn is_group_row(row: &RowFields<'_>) -> bool
     ensures { result ≡ is_group_row (fields_seen row.now) }
 {
@@ -39,7 +40,7 @@ pub(crate) fn is_group_row(row: &RowFields<'_>) -> bool
     }
 }
 
-/// Returns the header that a row names.
+/// Returns the header that the last three fields of a row name; None if the row has not four fields, or one of these is bad.
 pub(crate) fn header_said(row: &RowFields<'_>) -> Option<BoardHeader>
     ensures told { result ≡ header_said (fields_seen row.now) }
     ensures letter { IfSome result (λ header. IsGroup header.group) }
@@ -50,7 +51,7 @@ pub(crate) fn header_said(row: &RowFields<'_>) -> Option<BoardHeader>
     }
 }
 
-/// Returns whether the group and the order of a header are those that were asked for, if some were.
+/// Returns whether a header has this group and this tie-break order; a None in their place lets any through.
 pub(crate) fn is_asked(group: Option<u8>, profile: Option<Profile>, header: BoardHeader) -> bool
     ensures { result ≡ is_asked group profile header }
 {
@@ -58,14 +59,7 @@ pub(crate) fn is_asked(group: Option<u8>, profile: Option<Profile>, header: Boar
         && profile.unwrap_or(header.profile) == header.profile
 }
 
-/// Returns whether the group and the order are those that the options ask for, if they do.
-pub(crate) fn is_as_asked(options: &LiveArgs, header: BoardHeader) -> bool
-    ensures { result ≡ is_as_asked options.now header }
-{
-    is_asked(options.group, options.profile, header)
-}
-
-/// Returns the header if no row names one: what was asked for, else group A and the order of the Regulations.
+/// Returns the header of a board that no row names: the group and tie-break order of the options, else group A and UEFA's; edition 0.
 #[tactic(auto, using(ucl_command::proofs::Letters::asked_letter))]
 pub(crate) fn asked_header(options: &LiveArgs) -> BoardHeader
     ensures told { result ≡ asked_header options.now }
@@ -78,7 +72,7 @@ pub(crate) fn asked_header(options: &LiveArgs) -> BoardHeader
     }
 }
 
-/// Returns the header that a row names, if it is of a later edition of the same group and order.
+/// Returns the header that a `group` row names, if it has the group and tie-break order of `header` and a later edition; else None.
 pub(crate) fn later_edition(header: BoardHeader, four: &Four<'_>) -> Option<BoardHeader>
     ensures told { result ≡ edition_said header (Row (four_seen four.now)) }
     ensures letter { IfSome result (λ later. IsGroup later.group) }
@@ -94,17 +88,17 @@ pub(crate) fn later_edition(header: BoardHeader, four: &Four<'_>) -> Option<Boar
     }
 }
 
-/// The header of a board, of a group that there is.
+/// The header of a session's board, whose group is one from A to H, and whether its edition is new.
 #[derive(Clone, Copy)]
 pub(crate) struct HeaderState {
     pub(crate) header: BoardHeader,
-    /// Whether nothing but the row of the edition and rows of its clubs has come in it.
+    /// Whether neither an event nor a request to show the board has come in the edition: bad rows do not count.
     pub(crate) is_new: bool,
     pub ghost letter: { IsGroup header.group },
 }
 
 impl HeaderState {
-    /// Notes that a row asked for this: the edition is new no more, unless it is a bad row.
+    /// Updates `is_new` after a row that made this request: any request that is not bad makes it false.
     pub(crate) fn note_request(&mut self, request: &Request)
         ensures header { self.new.header ≡ self.old.header }
         ensures new { self.new.is_new ≡ (is_bad request.now && self.old.is_new) }

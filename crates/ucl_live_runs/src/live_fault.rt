@@ -1,4 +1,4 @@
-//! The faults of a session.
+//! The faults of a session, a run of `ucl_live`. Its first rows name four clubs, in slots 1 to 4; before them may come its group.
 
 ghost use Rattle.std.specs.Prelude.{◌≡◌};
 ghost use Rattle.ucl_rows.specs.declared.fault.RunFault.TheVariants.{OutOfMemory};
@@ -7,13 +7,13 @@ ghost use Rattle.ucl_live_runs.specs.declared.live_fault.LiveFault.TheVariants.{
 use std::alloc::AllocError;
 use ucl_rows::RunFault;
 
-/// Why a session has no answer to a line.
+/// Why a session stops at a line, in place of an answer.
 #[derive(Clone, Copy, Debug, PartialEq, Eq)]
 pub enum LiveFault {
-    /// 20, the first row that is missing or is not as its place demands, where a row past `u32::MAX` is given as that; 21, the least slot with
-    /// a club that no roster takes in; or 23, lack of memory.
+    /// A fault of its rows, or of memory or a device. 20: the first row that is missing, or does not name the club or the group that it has
+    /// to; its number is at most `u32::MAX`. 21: the least slot with a club that no roster takes. 23: out of memory.
     Run(RunFault),
-    /// The first row names another group or order than was asked for.
+    /// The first row names another group or tie-break order than the options ask for.
     OtherGroup,
 }
 

@@ -1,4 +1,4 @@
-//! What `ucl_live` does for its arguments.
+//! What `ucl_live` does for its arguments: it runs a session, which answers each row of its input, and ends with an exit status.
 
 ghost use Rattle.ucl_rows.specs.Ending.{ended_with};
 ghost use Rattle.ucl_live_runs.specs.SessionRuns.{EndsHeld, RunsSession};
@@ -11,10 +11,10 @@ use ucl_io::{LoggedIo, ServeFault};
 use ucl_rows::{exit_without_command, of_driver, print_fault, print_refusal};
 use ucl_screen::{Sink, Source};
 
-/// What is printed if the first row names another group or order than was asked for.
+/// What is printed if the first row names another group or tie-break order than the options `--group` and `--order` ask for.
 const OTHER_GROUP: &str = "error: the row of the group differs from --group or --order\n";
 
-/// Prints the fault of a session, if it has one, and returns the exit status.
+/// Prints the fault of a session that failed, and returns the exit status: 0 if it did not fail, else that of the fault.
 fn print_outcome<E: Sink>(errors: &mut E, done: Result<(), ServeFault<LiveFault>>) -> u8
     ensures { EndsHeld done (ended_with E.failed E.taken result errors.old errors.new) }
 {
@@ -27,11 +27,11 @@ fn print_outcome<E: Sink>(errors: &mut E, done: Result<(), ServeFault<LiveFault>
     }
 }
 
-/// Runs the session that the arguments ask for, which `live_args` has read, and returns the exit status.
+/// Runs the session that the arguments ask for, which `live_args` has parsed to `asked`, and returns the exit status.
 ///
-/// The status is 0 if the input has ended and each row is answered; 2 if the arguments are refused, with the text of `clap`, or the row of the
-/// group differs from them; 3 if the clubs are refused, 4 if a device failed, and 5 if memory was lacking, each with the line of the fault.
-/// Help goes to the output.
+/// The status is 0 if the input has ended and each row is answered; 2 if the arguments are refused, with the text of `clap`, or the first
+/// row names another group or tie-break order than they do; 3 if the clubs are refused, 4 if a device failed, and 5 if memory was lacking,
+/// each with the line of the fault. Help goes to the output.
 pub fn run_session<S: Source, W: Sink, E: Sink>(
     alloc: Global,
     asked: Result<LiveArgs, LineFault>,

@@ -1,4 +1,6 @@
-//! Rows that begin an open board again.
+//! Rows that put a fresh board in place of an open one: that of a later edition, and, while an edition is new, that of a club. An edition
+//! is a number from 0, and new until an event or a request to show the board comes in it. A slot, 1 to 4, is the number of a club. A roster
+//! takes names of 1 to 20 printable bytes and coefficients of at most 999,999.
 
 ghost use Rattle.std.specs.Prelude.{◌≡◌, ⊤, false, true, Some, None, IfSome, option_map};
 ghost use Rattle.ucl_board.specs.Fixtures.{IsSlot};
@@ -14,7 +16,7 @@ use ucl_board::Board;
 use ucl_rows::RowFields;
 use ucl_screen::{Four, lent_club};
 
-/// Returns the slot that a field names.
+/// Returns the slot that a field names, which is one digit, `1` to `4`; else None.
 fn slot_in(text: &[u8]) -> Option<u8>
     ensures value { result ≡ slot_in text.now }
     ensures slot { IfSome result IsSlot }
@@ -26,7 +28,7 @@ fn slot_in(text: &[u8]) -> Option<u8>
 }
 
 impl OpenBoard {
-    /// Puts the club that a row names in its slot, if a roster takes it, and returns whether it did.
+    /// Puts the club that a row names (`club,1,Alpha,60000`) in its slot, and returns whether it did: not if the row or the club is bad.
     fn put_club(&mut self, four: &Four<'_>) -> bool
         ensures { Puts (clubs_said self.old.roster (four_seen four.now)) result self.old self.new }
     {
@@ -39,7 +41,7 @@ impl OpenBoard {
         }
     }
 
-    /// Puts the fresh board in place of this one if a row of four fields begins it again, and returns whether it did.
+    /// Begins a fresh board if a row of four fields names a later edition, or a club while the edition is new; returns whether it did.
     fn begin_with(&mut self, heading: &mut HeaderState, four: &Four<'_>) -> bool
         ensures { BeginsAgain
             (begins_again heading.old.header heading.old.is_new self.old.roster (four_seen four.now))
@@ -60,8 +62,8 @@ impl OpenBoard {
         false
     }
 
-    /// Empties the board if the row begins a later edition, or puts a club while the edition has had no other rows; returns whether it did. A
-    /// later edition also replaces the header.
+    /// Puts a fresh board in place of this one if a row names a later edition, or a club while the edition is new, and returns whether it
+    /// did. A later edition also replaces the header.
     pub(crate) fn begin_again(&mut self, heading: &mut HeaderState, said: &RowFields<'_>) -> bool
         ensures { BeginsAgain
             (again_on heading.old.header heading.old.is_new self.old.roster (fields_seen said.now))

@@ -1,4 +1,4 @@
-//! The answers of an open board.
+//! What an open board, one whose four clubs are named, answers to a row of the input, which enters an event or asks to show the board.
 
 ghost use Rattle.std.specs.Prelude.{◌≡◌, IfErr, OnOk};
 ghost use Rattle.ucl_screen.specs.Screen.{IsGroup};
@@ -19,7 +19,8 @@ use ucl_screen::NightEvent;
 use ucl_word::OutOfMemory;
 
 impl OpenBoard {
-    /// Enters an event and writes the answer to it.
+    /// Enters the event of row number `row` and puts the answer in `parts`: the reply, and then the screen, if the event is accepted and
+    /// the options ask for screens. Fails only if out of memory.
     fn enter(
         &mut self,
         alloc: Global,
@@ -30,8 +31,7 @@ impl OpenBoard {
         parts: &mut Parts,
     ) -> Result<(), OutOfMemory>
         requires { IsGroup header.group }
-        ensures roster { OnOk result (self.new.roster ≡ self.old.roster) }
-        ensures board { OnOk result (self.new.board ≡ next_board self.old.board (Event event.now)) }
+        ensures board { OnOk result (self.new ≡ record self.old { board = next_board self.old.board (Event event.now) }) }
         ensures text { OnOk result (parts_bytes parts.new
             ≡ event_answer options.now header row self.old.roster self.old.board event.now) }
         ensures memory { IfErr result
@@ -69,7 +69,7 @@ impl OpenBoard {
         Ok(())
     }
 
-    /// Does what a row with this text asks for, and writes the answer to it.
+    /// Does what row number `row` asks for and puts the answer in `parts`; if the row is bad, it shows `text`. Fails only if out of memory.
     #[inline(always)]
     pub(crate) fn answer_request(
         &mut self,
@@ -82,8 +82,7 @@ impl OpenBoard {
         parts: &mut Parts,
     ) -> Result<(), OutOfMemory>
         requires { IsGroup header.group }
-        ensures roster { OnOk result (self.new.roster ≡ self.old.roster) }
-        ensures board { OnOk result (self.new.board ≡ next_board self.old.board request.now) }
+        ensures board { OnOk result (self.new ≡ record self.old { board = next_board self.old.board request.now }) }
         ensures text { OnOk result (parts_bytes parts.new
             ≡ answer_of options.now header row self.old.roster self.old.board request.now
             (shown_text text.now)) }

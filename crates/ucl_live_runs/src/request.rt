@@ -1,4 +1,5 @@
-//! What a row asks for.
+//! What a row of `ucl_live` asks for: to enter an event (`3,7,0,kickoff`: reporter, match, the number of events that the reporter expects
+//! the match to have, kind), or to show the board (`screen,,,`, `words,,,`, `matches,,,`).
 
 ghost use Rattle.std.specs.Prelude.{◌≡◌};
 ghost use Rattle.ucl_screen.specs.Rows.{four_seen};
@@ -8,23 +9,23 @@ ghost use Rattle.ucl_rows.specs.Rows.{fields_seen};
 use ucl_rows::{BadField, RowFields, bad_field};
 use ucl_screen::{Four, NightEvent, event_of_fields};
 
-/// What a row asks for, once there is a board.
+/// What a row asks for, once the board is open.
 #[derive(Clone, Copy, Debug, PartialEq, Eq)]
 pub enum Request {
-    /// Nothing that exists: this field is wrong.
+    /// Neither to enter an event nor to show the board: this is the first field that is wrong.
     Bad(BadField),
-    /// To enter the event of a reporter.
+    /// To enter this event, with its reporter.
     Event(NightEvent),
-    /// The screen of the board.
+    /// To show the screen of the board.
     Screen,
-    /// The twelve words of the board.
+    /// To show the twelve words of the board, one for each match.
     Words,
-    /// The twelve matches of the board.
+    /// To show the twelve matches of the board.
     Matches,
 }
 
 impl Request {
-    /// Returns whether it asks for nothing that exists.
+    /// Returns whether the request is bad: neither to enter an event nor to show the board.
     pub(crate) fn is_bad(&self) -> bool
         ensures { result ≡ is_bad self.now }
     {
@@ -32,7 +33,7 @@ impl Request {
     }
 }
 
-/// Returns what a row of four fields asks for.
+/// Returns what a row of four fields asks for; `Bad` with the first wrong field if it is neither to enter an event nor to show the board.
 #[tactic(auto, unfolding(crate::specs::Requests::asked_by))]
 fn asked_by(four: &Four<'_>) -> Request
     ensures { result ≡ asked_by (four_seen four.now) }
@@ -55,7 +56,7 @@ fn asked_by(four: &Four<'_>) -> Request
     }
 }
 
-/// Returns what a row asks for.
+/// Returns what a row asks for; `Bad` if it has not four fields, or asks neither to enter an event nor to show the board.
 pub(crate) fn request_of(row: &RowFields<'_>) -> Request
     ensures { result ≡ request_of (fields_seen row.now) }
 {

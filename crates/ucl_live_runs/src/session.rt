@@ -1,11 +1,13 @@
-//! A session, which answers lines.
+//! A session of `ucl_live`, which answers the row on each line of its input. Its first rows name its header (group, tie-break order,
+//! edition) and its four clubs; then its board is open. The row of a later edition begins a fresh board.
 
 ghost use Rattle.std.specs.Prelude.{◌≡◌, ◌+◌, ⊤, IfErr, OnOk};
 ghost use Rattle.ucl_rows.specs.BadRows.{shown_text};
-ghost use Rattle.ucl_live_runs.specs.SessionRuns.{Closes, HasNoAnswer, HasNoEnd, NeedsMemory, open_board_seen, parts_bytes, phase_seen, session_at, session_due, session_of};
+ghost use Rattle.ucl_live_runs.specs.SessionRuns.{Closes, HasNoAnswer, HasNoEnd, NeedsMemory, parts_bytes, session_at, session_due, session_of};
 ghost use Rattle.ucl_rows.specs.Rows.{fields_seen, said_on};
 ghost use Rattle.ucl_live_runs.specs.LiveText.{answer_said, next, start_of};
 ghost use Rattle.ucl_live_runs.specs.Driven.{IsDriven};
+ghost use Rattle.ucl_live_runs.specs.declared.phase.Phase.TheVariants.{Open};
 
 use crate::header::{HeaderState, asked_header};
 use crate::live_fault::LiveFault;
@@ -20,7 +22,7 @@ use ucl_rows::{LineReader, MAX_ROW_LINE_BYTES, RowCount, RowFields, plain_row};
 use ucl_screen::{Sink, Source};
 use ucl_word::OutOfMemory;
 
-/// A session between two lines: how it answers, the header of its board, how far it is, and what it reads lines by.
+/// A session between two lines: its options, the header of its board, its phase (how far its first rows are), and the reader of its lines.
 #[derive(Drop)]
 pub struct Session {
     alloc: Global,
@@ -31,7 +33,8 @@ pub struct Session {
 }
 
 impl OpenBoard {
-    /// Answers the row of this number and text on the open board, which the row may begin again.
+    /// Puts the answer to row number `row` on the open board in `parts`: none if the row begins a fresh board. `said` are the fields of the
+    /// row, `text` is its line. Fails only if out of memory.
     fn answer_row(
         &mut self,
         alloc: Global,
@@ -42,13 +45,13 @@ impl OpenBoard {
         text: &[u8],
         parts: &mut Parts,
     ) -> Result<(), OutOfMemory>
-        ensures next { OnOk result (session_at options.now heading.new (row + 1) (open_board_seen self.new)
-            ≡ next (session_at options.now heading.old row (open_board_seen self.old)) (fields_seen said.now)) }
+        ensures next { OnOk result (session_at options.now heading.new (row + 1) (Open self.new)
+            ≡ next (session_at options.now heading.old row (Open self.old)) (fields_seen said.now)) }
         ensures text { OnOk result (parts_bytes parts.new
-            ≡ answer_said (session_at options.now heading.old row (open_board_seen self.old))
+            ≡ answer_said (session_at options.now heading.old row (Open self.old))
             (fields_seen said.now) (shown_text text.now)) }
         ensures memory { IfErr result (λ _. NeedsMemory
-            (session_at options.now heading.old row (open_board_seen self.old)) (fields_seen said.now)) }
+            (session_at options.now heading.old row (Open self.old)) (fields_seen said.now)) }
     {
         if self.begin_again(heading, said) {
             parts.put_nothing();
@@ -62,7 +65,8 @@ impl OpenBoard {
 }
 
 impl Phase {
-    /// Answers the row of this number and text.
+    /// Puts the answer to row number `row` in `parts`: none if the board is not open yet. `said` are the fields of the row, `text` is its
+    /// line. Fails if out of memory, or if the row has to name the group or a club and does not.
     fn answer_row(
         &mut self,
         alloc: Global,
@@ -73,13 +77,13 @@ impl Phase {
         text: &[u8],
         parts: &mut Parts,
     ) -> Result<(), LiveFault>
-        ensures next { OnOk result (session_at options.now heading.new (row + 1) (phase_seen self.new)
-            ≡ next (session_at options.now heading.old row (phase_seen self.old)) (fields_seen said.now)) }
+        ensures next { OnOk result (session_at options.now heading.new (row + 1) self.new
+            ≡ next (session_at options.now heading.old row self.old) (fields_seen said.now)) }
         ensures text { OnOk result (parts_bytes parts.new
-            ≡ answer_said (session_at options.now heading.old row (phase_seen self.old))
+            ≡ answer_said (session_at options.now heading.old row self.old)
             (fields_seen said.now) (shown_text text.now)) }
         ensures stops { IfErr result
-            (HasNoAnswer (session_at options.now heading.old row (phase_seen self.old))
+            (HasNoAnswer (session_at options.now heading.old row self.old)
             (fields_seen said.now)) }
     {
         if let Phase::Open(table) = self {
@@ -97,7 +101,7 @@ impl Phase {
 }
 
 impl Session {
-    /// Creates the state before the first line.
+    /// Creates the session before the first line, with these options: no club is named.
     pub fn new(alloc: Global, options: LiveArgs) -> Session
         ensures { session_of result 1 ≡ start_of options }
     {
@@ -116,8 +120,10 @@ impl Session {
 }
 
 impl LineHandler for Session {
+    /// The answer to a line.
     type Answer = Parts;
 
+    /// Why there is no answer to a line: out of memory, or a club or the group is not named as it has to be.
     type Fault = LiveFault;
 
     ghost ready = { λ _. ⊤ };
@@ -132,6 +138,7 @@ impl LineHandler for Session {
 
     ghost stops_at_end = { λ m row begun _ fault. HasNoEnd (session_of m row) begun fault };
 
+    /// Answers the row on the line: none is an empty answer, and several, or one that is too long, are a bad row.
     fn answer(&mut self, row: u64, line: &[u8], text: &mut Parts) -> Result<(), LiveFault> {
         if let Some(four) = plain_row(row, line) {
             return self.phase.answer_row(
@@ -173,6 +180,7 @@ impl LineHandler for Session {
         }
     }
 
+    /// Answers `begun`, a last line without a line feed, if it has a byte. Fails if a club is missing at the end.
     fn end(&mut self, row: u64, begun: &[u8], text: &mut Parts) -> Result<(), LiveFault> {
         if begun.is_empty() {
             text.put_nothing();
@@ -189,17 +197,17 @@ impl LineHandler for Session {
     }
 }
 
-/// Answers the rows of a source until it ends: each at once, before more is asked for.
+/// Answers the rows of a source until it ends: each at once, before it asks for more.
 ///
-/// The first four lines with something on them name the clubs; the row of a group may come before them. Then come events and requests, in any
-/// order and without an end. The row of a later edition puts a fresh board in place of the present one.
+/// The first four lines that are not empty name the clubs; the row of a group may come before them. Then come events and requests to show
+/// the board, in any order and without an end. The row of a later edition puts a fresh board in place of the present one.
 ///
 /// # Errors
 ///
 /// If the source fails, the answers before are out. If the sink fails, the error says how many bytes of the answers are out. If there is no
-/// memory for the answer to a line, those before it are out, whole. Memory is needed only for the names of clubs, for screens and matches, and
-/// for each answer in JSON. If the clubs have a fault, nothing is out.
-/// `TooLong` comes after more than 2^62 bytes, which no session has.
+/// memory for the answer to a line, those before it are out, whole. Memory is needed only for the names of clubs, for screens and matches,
+/// and for each answer in JSON. If the clubs have a fault, nothing is out. `TooLong` comes after more than 2^62 bytes, which no session
+/// has.
 pub fn live_run<S: Source, W: Sink>(
     alloc: Global,
     options: LiveArgs,

@@ -1,4 +1,4 @@
-use Rattle.ucl_live_runs.proofs.Common.{List, BoardState, Some, arith, cases_Bool, err_from_is_err_and, inl, inr, length, nat_le, nat_tests, sym, ℕ, ◌∙◌, ◌≡◌, ◌≤◌}
+use Rattle.ucl_live_runs.proofs.Common.{List, BoardState, Some, arith, cases_Bool, err_from_is_err_and, inl, inr, length, nat_le, nat_tests, refl, sym, ℕ, ◌∙◌, ◌≡◌, ◌≤◌}
 use Rattle.ucl_json.specs.BoardLines.{parse_board_line}
 use Rattle.ucl_live_runs.proofs.follower.FollowerLineHandler.answer.Goals as goal
 
@@ -12,4 +12,4 @@ told_short line m h = elim (cases_Bool (nat_le (length line) 4096)) [
 pub returns-in_err-text-in-Some-2-clause-stops : goal.returns-in_err-text-in-Some-2-clause-stops
 returns-in_err-text-in-Some-2-clause-stops g c =
     let p = err_from_is_err_and c.from_residual-in_err-text-in-Some-2.result c.from_residual-in_err-text-in-Some-2.ensures.1 in
-    rw p.1 (p.2, told_short c.args.line.now _ (sym c.in_ok-told.ensures.parsed ∙ c.in-Some-2.is))
+    rw p.1 (p.2, told_short c.args.line.now _ (sym c.in_ok-told.ensures.parsed ∙ c.in-Some-2.is), refl)

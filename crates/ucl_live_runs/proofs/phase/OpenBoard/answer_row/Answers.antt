@@ -10,11 +10,10 @@ pub returns-clause-next : goal.returns-clause-next
 returns-clause-next c =
     let same = not-begun _ _ _ _ _ _ c.begin_again.ensures c.if-begin_again.false in
     let asked = c.request_of-request.ensures in
-    let answered = c.in_ok-answer_request.ensures in
     answered-next c.args.options.now c.args.heading.now c.args.row c.args.self.now c.args.said.now c.note_request.new.self c.answer_request.new.self same.0
     (c.note_request.ensures.header ∙ ap (λ (h : HeaderState). h.header) same.1)
     (c.note_request.ensures.new ∙ ap₂ (λ (h : HeaderState) (r : Request). is_bad r && h.is_new) same.1 asked)
-    (answered.roster ∙ ap (λ (t : OpenBoard). t.roster) same.2) (answered.board ∙ ap₂ (λ (t : OpenBoard) (r : Request). next_board t.board r) same.2 asked)
+    (c.in_ok-answer_request.ensures.board ∙ ap₂ (λ (t : OpenBoard) (r : Request). record t { board = next_board t.board r }) same.2 asked)
 
 pub returns-clause-text : goal.returns-clause-text
 returns-clause-text c =

@@ -1,4 +1,4 @@
-use Rattle.ucl_live_runs.proofs.Common.{err_from_is_err_and, session_of, sym, ◌∙◌}
+use Rattle.ucl_live_runs.proofs.Common.{Ok, ap, err_from_is_err_and, missing, session_of, sym, ℕ, ◌∙◌}
 use Rattle.ucl_live_runs.proofs.Lines.{misses, none-answers, none-missing, some-answers, some-missing, some-stops}
 use Rattle.ucl_rows.proofs.RowEnds.{empty-list, full-list}
 use Rattle.ucl_live_runs.proofs.session.SessionLineHandler.end.Goals as goal
@@ -25,12 +25,13 @@ returns-in-Some-missing-clause-stops c =
     let some = full-list c.is_empty.result _ c.is_empty.ensures c.if-is_empty.false in
     misses _ _ c.in-Some-missing.fault _ _ (sym c.in-Some-missing.ensures)
     (some-missing (session_of c.args.self.now c.args.row) _ c.args.begun.now some c.in_ok-answer.ensures.answers.0
-    ∙ rw (← c.saturating_add.ensures) (sym c.in-Some-missing.ensures))
+    ∙ ap (λ (n : ℕ). missing n (Ok c.answer.new.self.phase)) (sym c.saturating_add.ensures) ∙ sym c.in-Some-missing.ensures)
 
 pub returns-in-None-missing-clause-answers : goal.returns-in-None-missing-clause-answers
 returns-in-None-missing-clause-answers c =
     let some = full-list c.is_empty.result _ c.is_empty.ensures c.if-is_empty.false in
     let e = session_of c.args.self.now c.args.row in record {
       text_is = c.in_ok-answer.ensures.answers.1 ∙ sym (some-answers e c.args.begun.now some);
-      complete = some-missing e _ c.args.begun.now some c.in_ok-answer.ensures.answers.0 ∙ rw (← c.saturating_add.ensures) (sym c.in-None-missing.ensures);
+      complete = some-missing e _ c.args.begun.now some c.in_ok-answer.ensures.answers.0
+          ∙ ap (λ (n : ℕ). missing n (Ok c.answer.new.self.phase)) (sym c.saturating_add.ensures) ∙ sym c.in-None-missing.ensures;
     }
