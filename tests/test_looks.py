@@ -42,7 +42,7 @@ def test_kit(tmp_path, version, verdict):
 FAULTS = {
     "a lock in a board": (looks.boards_hold_words_alone, "ucl_words/src/board.rt", "    table: Table,\n}", "    table: Table,\n    lock: AtomicBool,\n}"),
     "a lock behind a handle": (looks.boards_hold_words_alone, "*/src/board_pass.rt", "    pass: AnyPass,\n}", "    pass: AnyPass,\n    turn: Arc<Mutex<()>, Global>,\n}"),
-    "another type behind a handle": (looks.boards_hold_words_alone, "*/src/board_pass.rt", "/// A pass of either", "mod turns {\n    pub struct BoardPass {}\n}\n\n/// A pass of either"),
+    "another type behind a handle": (looks.boards_hold_words_alone, "*/src/board_pass.rt", "impl BoardPass {", "mod turns {\n    pub struct BoardPass {}\n}\n\nimpl BoardPass {"),
     "a lock of a night": (looks.boards_hold_words_alone, "ucl_runs/src/night.rt", "use std::sync::Wait;", "use std::sync::{\n    Mutex, Wait,\n};"),
     "a load of its own kind": (looks.traits_are_listed, "ucl_words/src/board.rt", "impl WordBoard {", "impl\n    atomic_table::Play<Entry, View> for Glance {}\n\nimpl WordBoard {"),
     "a load of a handle's own kind": (looks.kinds_of_step, "*/src/board_pass.rt", "impl BoardPass {", "impl\n    Play<Entry, View> for Glance {}\n\nimpl BoardPass {"),

@@ -5,7 +5,8 @@ ghost use Rattle.std.specs.Prelude.{◌≤◌, IfOk};
 use std::io;
 use ucl_screen::{FromRead, Sink, Source, ToWrite, give_all};
 
-/// A reader of a text, which gives at most `piece` bytes at a time, fails after `room` bytes, and then reads on.
+/// A reader of a text, which gives at most `piece` bytes at a time, fails after `room` bytes, and then reads on. It fails too if it is asked
+/// again after its end.
 #[derive(Drop)]
 pub struct Cut<'a> {
     pub text: &'a [u8],
@@ -28,6 +29,9 @@ impl io::Read for Cut<'_> {
         buf[..n].copy_from_slice(front);
         self.text = rest;
         self.room -= n;
+        if n == 0 && !buf.is_empty() {
+            self.room = 0;
+        }
         Ok(n)
     }
 }
@@ -131,5 +135,24 @@ fn devices_are_called_until_they_fail(rt: HostRuntime) {
         drop(sink);
         drop(other);
         assert_eq!(rt; (reads, writes, gifts), (failing, failing, failing));
+    }
+}
+
+/// No length of a slice makes a device fail.
+#[test]
+fn devices_take_slices_of_any_length(rt: HostRuntime) {
+    let (mut reads, mut writes) = (0, 0);
+    let mut source = FromRead::new(Counted {
+        calls: &mut reads,
+        failing: 0,
+    });
+    let mut sink = ToWrite::new(Counted {
+        calls: &mut writes,
+        failing: 0,
+    });
+    let (mut buf, text) = ([0; 16_384], [b'a'; 16_384]);
+    for length in 1..16_385 {
+        let moved = (source.take(&mut buf[..length]), sink.give(&text[..length]));
+        assert_eq!(rt; moved, (Some(1), Some(1)), "{length}");
     }
 }

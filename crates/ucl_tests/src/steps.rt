@@ -429,6 +429,8 @@ fn steps_not_enabled(rt: HostRuntime) -> Result<(), Fail> {
         let fault = run_steps(rt.alloc(), &ONE_REPORTER, steps).err();
         assert_eq!(rt; fault, Some(StepFault::NotEnabled { at }));
     }
+    let text = StepFault::NotEnabled { at: 1 }.to_string(rt.alloc())?;
+    assert_eq!(rt; text.as_str(), "step 1 is not enabled: 40");
     let trace = run_steps(rt.alloc(), &ONE_REPORTER, &[])?;
     let left = (trace.history.len(), trace.calls.len(), trace.words);
     assert_eq!(rt; left, (0, 0, [FRESH; 12]));

@@ -1,5 +1,6 @@
-//! Words of the layout, and events by the rules.
+//! Words of the layout, events by the rules, and the texts of refusals.
 
+use std::test::Fail;
 use ucl_board::{BadWordAt, Board};
 use ucl_word::Kind::{Disallow, FullTime, Goal, KickOff, Red, Reopen, SecondYellow};
 use ucl_word::Refusal::{
@@ -7,7 +8,9 @@ use ucl_word::Refusal::{
     Stale,
 };
 use ucl_word::Side::Home;
-use ucl_word::{BadWord, Kind, Refusal, ReporterNo, State, apply, migrate, pack, unpack};
+use ucl_word::{
+    BadWord, Kind, OutOfMemory, Refusal, ReporterNo, State, apply, migrate, pack, unpack,
+};
 
 /// The number, the state, then goals, yellows and expulsions, home side first, and the reporter. The states count from 0.
 fn fields_of(word: u64) -> Option<[u16; 9]> {
@@ -188,4 +191,27 @@ fn boards_of_words(rt: HostRuntime) {
         assert_eq!(rt; read, wanted, "at {fourth:x} and {ninth:x}");
     }
     assert_eq!(rt; Board::of_words(&[0; 12]), Ok(Board::fresh()));
+}
+
+/// No refusal gives up when it is written. What it is written as is proved, but for the last three texts.
+#[test]
+fn refusals_are_written(rt: HostRuntime) -> Result<(), Fail> {
+    for found in 0..4096 {
+        for code in 1..10 {
+            if let Some(refusal) = Refusal::from_code(code, found) {
+                let text = refusal.to_string(rt.alloc())?;
+                assert!(rt; !text.is_empty());
+            }
+        }
+    }
+    let texts = [
+        BadWord.to_string(rt.alloc())?,
+        BadWordAt { index: 4 }.to_string(rt.alloc())?,
+        OutOfMemory.to_string(rt.alloc())?,
+    ];
+    let [word, at, memory] = &texts;
+    assert_eq!(rt; word.as_str(), "bad word 10");
+    assert_eq!(rt; at.as_str(), "bad word 10: word 4");
+    assert_eq!(rt; memory.as_str(), "out of memory 23");
+    Ok(())
 }
