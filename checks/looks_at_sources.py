@@ -22,16 +22,34 @@ KINDS = {
     "crates/ucl_pass/src/cell_board.rt": "load_as Looks, compare_exchange_as Adds, load_as Reads, split_pass SecondPass, compare_exchange_as Enlists, split_pass Note, join_pass Note",
     "crates/ucl_words/src/board.rt": "load Look, compare_exchange_with Swap, load First, load Second, compare_exchange Enlist, load CountEnlisted, split_seat SecondPass, split_seat Note, join_seat Note",
 }
+# What steps each call of a board takes, also by functions that it calls, in the order of their texts, and the loops that they stand in: so a step in no loop
+# is taken once, and no call waits or idles in a loop of its own. A split and a join of a table are a load each. A call of `LiveBoard` on a word board takes
+# those of the board's own call.
+STEPS = {
+    "ucl_pass": {
+        "report": "for, load_as Looks, compare_exchange_as Adds", "read": "load_as Reads", "read_own": "load_as Reads", "split": "split_pass SecondPass",
+        "enlist": "for, load_as Looks, compare_exchange_as Enlists", "meet": "split_pass Note, join_pass Note, load_as Looks",
+    },
+    "ucl_words": {
+        "report_now": "load Look, compare_exchange_with Swap", "read_now": "loop, for, load First, for, load Second",
+        "read_own_now": "loop, for, load First, for, load Second", "split_now": "split_seat SecondPass", "enlist_now": "while, compare_exchange Enlist",
+        "meet_now": "split_seat Note, join_seat Note, load CountEnlisted",
+    },
+}
+STEPS["ucl_words"].update({name[: -len("_now")]: steps for name, steps in STEPS["ucl_words"].items()})
+TAKEN = re.compile(
+    r"\b((?:load|store|swap|fetch|compare_exchange|split|join)(?:_\w+)?::<(?!Brand\b)\w+|(?:for|while|loop)\b(?! *\())|\b(\w+)(?:::<[^()]*?>)?\("
+)
 # What boards, passes and handles of C have, and what that is of.
 PARTS = """struct WordBoard { table: Table, }
 struct WordReaderPass { seat: Seat, }
 struct WordReporterPass { seat: Seat, number: ReporterNo, accepted: u16, }
-type Table = atomic_table::Table<Entry, View, (), OneHistory, Global>;
+type Table = atomic_table::Table<Entry, View, (), WordRule, Global>;
 type Seat = atomic_table::Seat<Entry, View>;
 struct CellBoard { cell: Cell, }
 struct CellReaderPass { seat: Seat, }
 struct CellReporterPass { seat: Seat, number: ReporterNo, accepted: u16, }
-type Cell = RuledSeqCell<[u64; 13], View, OneHistory, 13>;
+type Cell = RuledSeqCell<[u64; 13], View, CellRule, 13>;
 type Seat = Pass<[u64; 13], View>;
 struct BoardPass { board: Arc<WordBoard, Global>, pass: AnyPass, }
 enum AnyPass { Nobody, Reader(WordReaderPass), Reporter(WordReporterPass), }
@@ -59,13 +77,12 @@ TRAITS = {
     "ucl_pass": {
         **dict.fromkeys(["Adds<K>", "Enlists", "Looks", "Reads"], "| Outcome<[u64; 13], View>"),
         **dict.fromkeys(["CellReaderPass", "CellReporterPass"], "Drop | Model"), "CellBoard": "Drop | LiveBoard Model",
-        "Note": "| Join<View> Split<View>", "OneHistory": "| BoardRule Protocol<[u64; 13], View>", "SecondPass": "| Split<View>",
+        "CellRule": "| BoardRule Protocol<[u64; 13], View>", "Note": "| Join<View> Split<View>", "SecondPass": "| Split<View>",
     },
     "ucl_words": {
         **dict.fromkeys(["CountEnlisted<K>", "Enlist<K>", "First", "Look<K>", "Second<K>", "Swap<K>"], "| Play<Entry, View>"),
         **dict.fromkeys(["WordReaderPass", "WordReporterPass"], "Drop | Model"), "WordBoard": "Drop | LiveBoard Model",
-        "Note": "| Join<View> Split<View>", "OneHistory": "Clone Copy | BoardRule TableRule<Entry, View, ()>",
-        "SecondPass": "| Split<View>",
+        "Note": "| Join<View> Split<View>", "SecondPass": "| Split<View>", "WordRule": "Clone Copy | BoardRule TableRule<Entry, View, ()>",
     },
 }
 DERIVES = re.compile(r"#\s*\[derive\(([^)]*)\)\](?:\s*#\s*\[[^\]]*\])*\s*(?:pub(?:\([^)]*\))?\s+)?(?:struct|enum)\s+(\w+)")
@@ -89,7 +106,9 @@ TWICE = {"taken_by", "club_at", "rows_of", "words_after", "ImpliesInvariant", "L
 # option of one has. A roster and a club hold names, each of which came on one line.
 TYPE = re.compile(r"^(?:pub(?:\(crate\))? )?(?:struct|enum) (\w+)(?:<[^>]*>)? \{\n(.*?)^\}", re.M | re.S)
 PART = re.compile(r"^ *(?:pub(?:\(crate\))? )?\w+: (.*),$|^ *\w+\((.*)\),$", re.M)
-FIXED = {"u8", "u16", "u32", "u64", "usize", "bool", "ArrayVec", "Board", "Club", "FollowArgs", "FollowShape", "Global", "LineReader", "LiveArgs", "BoardState", "Option", "Profile", "Roster", "BoardHeader"}
+FIXED = {"u8", "u16", "u32", "u64", "usize", "bool", "ArrayVec", "Board", "Club", "FollowArgs", "FollowShape", "Global", "LineReader", "LiveArgs", "BoardState", "Option", "Profile", "Roster", "BoardHeader",
+         # It has room for all events that can stand, from the start on.
+         "StandingEvents"}
 # What is kept from one line to the next: the crate, the type, and types that have to be found among its parts.
 KEPT = [("ucl_rows", "LineReader", {"Fields"}), ("ucl_live_runs", "Session", {"Phase", "OpenBoard"}), ("ucl_live_runs", "Follower", {"FollowState"}), ("ucl_io", "LineBuffer", {"Output"})]
 # Where a lemma begins, or a module with parameters, in which lemmas stand two columns further in.
@@ -122,6 +141,28 @@ def kinds_of_step(top):
         texts[str(path.relative_to(top))] += f"{line.strip()} "
     told = ((file, ", ".join(" ".join(filter(None, step)) for step in STEP.findall(text))) for file, text in texts.items())
     return [f"{file}: the steps are {steps}" for file, steps in told if steps != KINDS.get(file, "")]
+
+
+def steps_in(name, bodies, callers=()):
+    """The steps and the loops in the texts of the functions of this name, and of those that they call but for the callers."""
+    for taken, called in TAKEN.findall(bodies.get(name, "")):
+        if taken:
+            yield taken.replace("::<", " ")
+        elif called not in (name, *callers):
+            yield from steps_in(called, bodies, (name, *callers))
+
+
+def calls_take_their_steps(top):
+    """Each call of a board takes the steps that are listed of it, and no other: so a bound counts each, or the page names it."""
+    found = []
+    for crate, listed in STEPS.items():
+        bodies = collections.defaultdict(str)
+        for it in sources.functions_of(top / "crates" / crate):
+            lines = (top / "crates" / crate / it.path).read_text().split("\n")
+            bodies[it.name] += re.sub(r"//[^\n]*", "", "\n".join(lines[it.body : it.last + 1]))
+        told = {name: ", ".join(steps_in(name, bodies)) for name in bodies}
+        found += [f"{crate}: `{name}` takes the steps {told.get(name)}" for name, steps in listed.items() if told.get(name) != steps]
+    return found
 
 
 def code_of(top, crate):
@@ -277,9 +318,24 @@ def scripts_are_clean(top):
     return [line.replace(f"{top}/", "") for line in ran.stdout.split("\n") if line]
 
 
+def python_is_typed(top):
+    """mypy finds nothing in the package and in the examples in Python, and Black would set no line otherwise; where one is missing, that is told."""
+    found = []
+    folders = "hall", "examples/python"
+    for tool, words in ("mypy", ["--strict", "--no-error-summary", "--config-file", "mypy.ini"]), ("black", ["--quiet", "--check", "--diff", "--line-length", "100"]):
+        if not shutil.which(tool):
+            print(f"not looked at: {tool} is not installed")
+            continue
+        for folder in folders:
+            ran = subprocess.run([tool, *words, folder], cwd=top, stdout=subprocess.PIPE, stderr=subprocess.STDOUT, universal_newlines=True)
+            found += ran.stdout.splitlines()[:20] if ran.returncode else []
+    return found
+
+
 LOOKS = [
     ("all go to the boards through passes", boards_go_through_passes),
     ("the kinds of step of the boards", kinds_of_step),
+    ("what steps each call of a board takes", calls_take_their_steps),
     ("what the types of boards and readings implement is listed", traits_are_listed),
     ("nothing is done where a value is let go", nothing_acts_when_let_go),
     ("boards, passes and handles hold their parts alone", boards_hold_words_alone),
@@ -292,4 +348,5 @@ LOOKS = [
     ("each status has a name", statuses_are_named),
     ("lines of proofs and lemmas are short", proofs_are_short),
     ("shell scripts are clean", scripts_are_clean),
+    ("the package and the examples in Python are typed, and set by Black", python_is_typed),
 ]

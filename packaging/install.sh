@@ -1,7 +1,7 @@
 #!/bin/sh
 # Installs the programs, the library, the manual, completions and examples. PROVED beside this file says what they were built from.
 #
-# Usage: ./install.sh --prefix FOLDER     into FOLDER/bin, lib, include, libexec and share; FOLDER/share/ucl-board/installed lists all files
+# Usage: ./install.sh --prefix FOLDER     into FOLDER/bin, lib, include and share; FOLDER/share/ucl-board/installed lists all files
 #        tr '\n' '\0' <FOLDER/share/ucl-board/installed | xargs -0 rm     takes them away again
 set -eu
 case $#,${1-} in
@@ -13,7 +13,7 @@ mkdir -p "$2"
 prefix=$(cd "$2" && pwd)
 list=$prefix/share/ucl-board/installed
 mkdir -p "${list%/*}"
-find bin lib include libexec share ! -type d | sort | while read -r file; do
+find bin lib include share ! -type d | sort | while read -r file; do
     mkdir -p "$prefix/${file%/*}"
     cp -P "$file" "$prefix/$file"
     echo "$prefix/$file"

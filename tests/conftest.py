@@ -16,8 +16,10 @@ import select
 import shutil
 import signal
 import subprocess
+import sys
 import tempfile
 import termios
+import time
 from typing import NamedTuple
 
 import hypothesis
@@ -25,6 +27,8 @@ import pytest
 
 TOP = pathlib.Path(__file__).resolve().parent.parent
 EXAMPLES = TOP / "examples"
+# The package of what people touch.
+sys.path.insert(0, str(TOP))
 # How long a test may take, in seconds, where it does not say `limit`; all take a few with nothing beside, and most of them milliseconds.
 LIMIT = 120
 
@@ -38,6 +42,8 @@ def pytest_addoption(parser):
     group.addoption("--programs", metavar="FOLDER", type=lambda it: pathlib.Path(it).resolve(), default=TOP, help="try what is built in another checkout")
     group.addoption("--unproved", action="store_true", help="where a program is not built, try cases of words and input on the code as it is")
     group.addoption("--picture", metavar="FILE", help="write a picture of the page of an evening, as PNG")
+    group.addoption("--seed", type=int, default=None, help="the seed of kills and hostile messages; each test that has one prints it")
+    group.addoption("--kills", type=int, default=100, help="how often a test kills what it kills: 100, and thousands at night")
     group.addoption("--must-run", action="store_true", help="a test whose program is not built fails, and is not skipped")
 
 
@@ -45,14 +51,14 @@ def pytest_configure(config):
     # A shell that starts the tests in the background has them ignore Ctrl-C, and what they start too: some tests end a program by it.
     signal.signal(signal.SIGINT, signal.default_int_handler)
     config.addinivalue_line("markers", "quick: needs words and input alone, or no program at all, so that --unproved can try it")
-    config.addinivalue_line("markers", "limit(seconds): how long the test may take; fifty times that by the profile `night`")
+    config.addinivalue_line("markers", "limit(seconds): how long the test may take; more by the profile `night` and with more kills")
 
 
 @pytest.fixture(autouse=True)
 def limited(request):
     """No test waits for ever."""
     marker = request.node.get_closest_marker("limit")
-    seconds = (marker.args[0] if marker else LIMIT) * max(1, hypothesis.settings.default.max_examples // 100)
+    seconds = (marker.args[0] if marker else LIMIT) * max(1, hypothesis.settings.default.max_examples // 100, request.config.getoption("kills") // 100)
     signal.signal(signal.SIGALRM, lambda *_: pytest.fail(f"waited for {seconds} seconds"))
     signal.setitimer(signal.ITIMER_REAL, seconds, seconds)
     yield
@@ -180,6 +186,25 @@ def program(pytestconfig, place):
         return built(name, place)
 
     return path_of
+
+
+@pytest.fixture(scope="session")
+def seed(pytestconfig):
+    """The seed of what is random, another one in each run."""
+    asked = pytestconfig.getoption("seed")
+    return int(time.time()) if asked is None else asked
+
+
+@pytest.fixture(scope="session")
+def kills(pytestconfig):
+    """How often a test kills what it kills."""
+    return pytestconfig.getoption("kills")
+
+
+@pytest.fixture(scope="session")
+def live(program):
+    """The path of `ucl_live`, or of what the environment names in its place, as tests/stand_in_live.py."""
+    return os.environ.get("UCL_LIVE") or str(program("ucl_live"))
 
 
 @pytest.fixture(scope="session")

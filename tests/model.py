@@ -19,6 +19,8 @@ ROSTER = [("Alpha", 60_000), ("Bravo", 95_000), ("Charlie", 60_000), ("Delta", 8
 CLUBS = "".join(f"club,{slot},{name},{coefficient}\n" for slot, (name, coefficient) in enumerate(ROSTER, 1))
 # The most bytes of a line of an evening, and of a line that a follower reads.
 LONGEST_LINE, LONGEST_FOLLOWED = 256, 4_096
+# The last line of an evening that a mend can name, and the last edition.
+LAST_ROW, LAST_EDITION = 4_294_967_295, 65_535
 
 
 class Match:
@@ -260,6 +262,30 @@ def bad_field(fields):
     return ("reporter", "match", "expected", "event")[found.index(None)] if None in found else None
 
 
+def mend(fields):
+    """The row that a mend leaves out, and the edition that it names, one of them None; None where a row is no mend."""
+    if len(fields) != 4 or fields[0] != "mend" or fields[3] != "" or (fields[1] == "") == (fields[2] == ""):
+        return None
+    said = number(fields[1], 10, 1, LAST_ROW) if fields[1] else number(fields[2], 5, 0, LAST_EDITION)
+    return None if said is None else (said, None) if fields[1] else (None, said)
+
+
+def mended(events, without):
+    """The matches after these events, each with its row, without the one of this row; the events that stand then, and those that are left out."""
+    matches, standing, left_out = fresh(), [], []
+    for row, reporter, game, word in events:
+        m = matches[game - 1]
+        refusal = m.refusal(m.number, word)
+        if row == without:
+            continue
+        if refusal:
+            left_out.append((row, reporter, game, word, refusal))
+        else:
+            m.enter(reporter, word)
+            standing.append((row, reporter, game, word))
+    return matches, standing, left_out
+
+
 def word(fields, game):
     """The word that a row gives for a match; None where it gives none."""
     is_word = len(fields) == 4 and fields[0] == "word" and number(fields[1], 2, game, game) and fields[3] == ""
@@ -387,8 +413,8 @@ class Session:
     def __init__(self, words):
         self.is_json, self.with_screens, self.style = "json" in words, "--screens" in words, Style(words)
         self.roster, self.matches, self.begun = [], None, False
-        # Whether nothing has come of the edition that stands but its row, clubs and bad rows.
-        self.is_new = True
+        # The events that stand, in their order: row, reporter, match and word.
+        self.events = []
 
     def told(self, row, members, text):
         """An answer in its form."""
@@ -407,6 +433,7 @@ class Session:
         if refusal:
             return self.refused(row, refusal, **asked, **({"stands": m.members(game)} if refusal.startswith("1 ") else {}))
         m.enter(reporter, word)
+        self.events.append((row, reporter, game, word))
         members = {"reply": "ok", **asked, "number": m.number, **self.style.moment(self.matches, self.roster)}
         return self.told(row, members, f"{row} ok {game} {m.number} {version(self.matches)}\n") + (self.shown(row) if self.with_screens else [])
 
@@ -433,20 +460,29 @@ class Session:
             check_roster(self.roster)
         return True
 
-    def turned(self, fields):
-        """Takes the row of a later edition, or of a club before anything else of its edition; False where the row is neither."""
-        style, slot = self.style, number(fields[1], 1, 1, 4) if len(fields) == 4 else None
-        if len(fields) == 4 and fields[:3] == ["group", style.group, style.order]:
-            edition = number(fields[3], 5, style.edition + 1, 65_535)
-            if edition:
-                style.edition, self.matches, self.is_new = edition, fresh(), True
-            return edition is not None
-        said = club(fields, slot) if self.is_new and slot else None
-        roster = [*self.roster[: slot - 1], said, *self.roster[slot:]] if said else []
-        if not said or bad_slots(roster):
-            return False
-        self.roster = roster
-        return True
+    def mended(self, row, fields):
+        """Takes a mend, or a club on an open board, and gives its answers; None where the row is neither."""
+        said, slot = mend(fields), number(fields[1], 1, 1, 4) if len(fields) == 4 else None
+        named = club(fields, slot) if slot else None
+        roster = [*self.roster[: slot - 1], named, *self.roster[slot:]] if named else self.roster
+        if not said and not named or bad_slots(roster):
+            return None
+        without, edition = said or (None, None)
+        later = self.style.edition + 1 if edition is None else edition
+        if not self.style.edition < later <= LAST_EDITION:
+            return self.refused(row, "12 last-edition")
+        if without is not None and without not in [it[0] for it in self.events]:
+            return self.refused(row, "11 no-event")
+        self.style.edition, self.roster = later, roster
+        self.matches, self.events, left_out = mended(self.events, without)
+        lines = []
+        for number_, reporter, game, word, refusal in left_out if self.is_json else []:
+            code, name = refusal.split()[:2]
+            members = {"reply": "left-out", "row": number_, "reporter": reporter, "match": game, "event": word, "code": int(code), "name": name}
+            lines.append(line_of(members))
+        members = {"reply": "mended", "left_out": len(left_out), **({} if without is None else {"without": without}), **self.style.moment(self.matches, self.roster)}
+        lines += self.told(row, members, f"{row} mended {later} {version(self.matches)}\n")
+        return lines + (self.shown(row) if self.with_screens else [])
 
     def answers(self, row, line):
         """The answers to a line."""
@@ -454,9 +490,9 @@ class Session:
         if fields is None or self.beginning(row, fields):
             return []
         self.matches = self.matches or fresh()
-        if self.turned(fields):
-            return []
-        self.is_new &= event(fields) is None and fields not in [[asked, "", "", ""] for asked in ("screen", "words", "matches")]
+        answers = self.mended(row, fields)
+        if answers is not None:
+            return answers
         if fields == ["screen", "", "", ""]:
             return self.shown(row)
         if fields == ["words", "", "", ""]:
@@ -479,6 +515,23 @@ class Session:
         except Fault as fault:
             return 2 if str(fault).startswith("error") else 3, "", f"{fault}\n"
         return 0, "".join(answers), ""
+
+
+# ---- evenings at random
+
+
+def random_rows(chance, count):
+    """Rows that the rules accept one after the other; matches with odd numbers are reporter 1's, the others reporter 2's."""
+    matches, rows = fresh(), []
+    in_play = [word for word in WORDS if word not in ("kickoff", "reopen", "fulltime")]
+    while len(rows) < count:
+        number = chance.randint(1, 12)
+        m = matches[number - 1]
+        word = {SCHEDULED: "kickoff", FINISHED: "reopen"}.get(m.state) or (chance.choice(in_play) if chance.random() < 0.99 else "fulltime")
+        if m.refusal(m.number, word) is None:
+            rows.append(f"{2 - number % 2},{number},{m.number},{word}\n")
+            m.enter(2 - number % 2, word)
+    return rows
 
 
 # ---- followers

@@ -1,6 +1,7 @@
 /* Stands before the C library's malloc (LD_PRELOAD) and refuses the request for memory with the number of the environment's REFUSE_NTH,
    counted from 1; where REFUSE_MODE is `all`, each one after it too. Counting begins with the process where REFUSE_FROM is `start`, and else
-   after a request of 7919 bytes; it ends at a request of 7907 bytes. A refusal is told by a line on the file descriptor of REFUSE_TELLS. */
+   after a request of 7919 bytes; it ends at a request of 7907 bytes. A refusal is told by a line on the file descriptor of REFUSE_TELLS, and by one
+   more if the next request of the same thread is for no more, as of a list that finds no room to grow to twice its size. */
 
 #include <errno.h>
 #include <stdatomic.h>
@@ -16,6 +17,7 @@ extern void *__libc_memalign(size_t alignment, size_t size);
 static atomic_long left;
 static atomic_int counts;
 static int refuses_all, tells;
+static _Thread_local size_t refused;
 
 __attribute__((constructor)) static void begin(void)
 {
@@ -25,8 +27,17 @@ __attribute__((constructor)) static void begin(void)
     atomic_store(&counts, !strcmp(getenv("REFUSE_FROM"), "start"));
 }
 
+static void tell(const char *line)
+{
+    if (write(tells, line, strlen(line)) < 0)
+        abort();
+}
+
 static int is_refused(size_t size)
 {
+    if (size <= refused)
+        tell("again\n");
+    refused = 0;
     if (size == BEGINS || size == ENDS)
         atomic_store(&counts, size == BEGINS);
     if (size == BEGINS || !atomic_load(&counts))
@@ -34,8 +45,8 @@ static int is_refused(size_t size)
     long place = atomic_fetch_sub(&left, 1);
     if (place > 1 || (place < 1 && !refuses_all))
         return 0;
-    if (write(tells, "refused\n", 8) < 0)
-        abort();
+    tell("refused\n");
+    refused = size;
     errno = ENOMEM;
     return 1;
 }

@@ -8,7 +8,7 @@ import subprocess
 
 import model
 import pytest
-from conftest import EXAMPLES, Has, built, command, needs, tabled, text_of
+from conftest import EXAMPLES, TOP, Has, built, command, needs, tabled, text_of
 from model import CLUBS
 
 example = lambda name: text_of(EXAMPLES / name)
@@ -188,6 +188,38 @@ def test_version(run, line):
 def block_of(text, heading):
     """The lines after a heading, up to an empty one."""
     return text.split(heading + "\n", 1)[1].split("\n\n", 1)[0].splitlines()
+
+
+# What each exit status stands for, and which a program has with a cause of its own.
+CAUSES = {
+    0: "done, or help or the version was asked for",
+    2: "the words of the command line are refused",
+    3: "the input is refused",
+    4: "reading or writing failed",
+    5: "there is no memory, or no thread",
+    6: "the board refuses its reporters",
+}
+OWN_CAUSES = {
+    "ucl_night": {},
+    "ucl_live": {
+        0: "the input has ended, or help or the version was asked for",
+        2: "the words of the command line are refused, or differ from the row of a group",
+        3: "the clubs have a fault; nothing was written",
+        5: "there is no memory",
+        6: None,
+    },
+    "ucl_follow": {0: "the input has ended, or help or the version was asked for", 3: None, 5: "there is no memory", 6: None},
+}
+
+
+@pytest.mark.parametrize("name", OWN_CAUSES)
+def test_statuses_of_the_help_are_those_of_the_table(run, name):
+    """Line by line, and each number is in the table of the reference."""
+    lines = run(name, "--help").output.split("\nExit status", 1)[1].split("\n\n")[0].splitlines()[1:]
+    wanted = {status: cause for status, cause in {**CAUSES, **OWN_CAUSES[name]}.items() if cause}
+    assert lines == [f"  {status}  {cause}" for status, cause in sorted(wanted.items())]
+    table = (TOP / "docs/REFERENCE.md").read_text().split("\n## Exit statuses\n")[1].split("\n## ")[0]
+    assert {str(status) for status in wanted} <= {*re.findall(r"^\| (\d+) \|", table, re.M)}
 
 
 @pytest.mark.parametrize("line", ["ucl_night --help", "ucl_live --help", "ucl_follow --help", "ucl_night --version", "ucl_night feed --gruop"])

@@ -6,7 +6,7 @@ import shutil
 
 import pytest
 from conftest import EXAMPLES, Case, tabled, text_of
-from model import CLUBS, FIXTURES, ROSTER, Session, fresh, screen
+from model import CLUBS, FIXTURES, ROSTER, Session
 
 example = lambda name: text_of(EXAMPLES / name)
 FED = ["one_goal", "two_matches", "head_to_head", "reopened", "plus_lost"]
@@ -15,7 +15,8 @@ AWAY, AWAY_IN_TIE = example("away_goals_night.csv"), "".join(example("away_goals
 
 BAD = [
     "0,1,0,kickoff", "256,1,0,kickoff", "1,0,0,kickoff", "1,13,0,kickoff", "1,1,65536,kickoff", "1,1,-1,kickoff", "1, 1,0,kickoff",
-    "1,1,0,kick-off", "1,1,0,kick", "1,1,0", "1,1,0,kickoff,", "kickoff", "word,1,2000000000000000", "club,5,Echo,1", "group,A,uefa,0", "group,B,uefa,1", "group,A,away-in-tie,1", "screen", "screen,,,,",
+    "1,1,0,kick-off", "1,1,0,kick", "1,1,0", "1,1,0,kickoff,", "kickoff", "word,1,2000000000000000", "club,5,Echo,1", "mend,0,,", "mend,+5,,", "mend, 5,,", "mend,5,,1", "mend,5,1,", "mend,,,", "mend,4294967296,,", "mend,00000000005,,", "mend,,70000,", "mend,5,", "mend,5,,,",
+    "group,A,uefa,0", "group,A,uefa,1", "group,B,uefa,1", "group,A,away-in-tie,1", "screen", "screen,,,,",
     "screen,1,,", "words,,,1", "Screen,,,", "matches", "matches,,1,", "match,,,", '1,1,0,"kickoff', '1,1,0,kickoff"', "1,1,0,kickoff\r2,2,0,kickoff", "\ufeff1,1,0,kickoff",
     "\0" + "1,1,0,kickoff", "x" * 257, "x" * 100_000, *('1,1,0,"' + "x" * (length - 8) + '"' for length in (255, 256, 257)), "\r" * 244 + "1,1,0,kickoff",
 ]
@@ -29,8 +30,23 @@ test_rows = tabled({
     "a mark at the start": ("ucl_live", "\ufeff" + CLUBS + "1,1,0,kickoff\n", "5 ok 1 1 1\n"),
     "the longest club": ("ucl_live", LONGEST_CLUBS + "1,1,0,kickoff\n", "5 ok 1 1 1\n"),
     "no row": ("ucl_live", CLUBS, ""),
-    "a club after an event": ("ucl_live", CLUBS + "1,1,0,kickoff\nclub,1,Echo,7\n", "5 ok 1 1 1\n6 refused 20 bad-row\n"),
+    "a club after an event": ("ucl_live", CLUBS + "1,1,0,kickoff\nclub,1,Echo,7\n", "5 ok 1 1 1\n6 mended 1 1\n"),
 })
+
+# What rows after a kick-off in row 5 are answered with.
+test_mends = tabled({name: ("ucl_live", CLUBS + "1,1,0,kickoff\n" + rows, "5 ok 1 1 1\n" + answers) for name, (rows, answers) in {
+    "of the event": ("mend,5,,\n", "6 mended 1 0\n"),
+    "by quotes and leading zeros": ('"mend","0000000005","",""\n', "6 mended 1 0\n"),
+    "of a club": ("mend,4,,\n", "6 refused 11 no-event\n"),
+    "of itself": ("mend,6,,\n", "6 refused 11 no-event\n"),
+    "of a row to come": ("mend,7,,\n2,2,0,kickoff\n", "6 refused 11 no-event\n7 ok 2 1 2\n"),
+    "of a row that is out": ("mend,5,,\nmend,5,,\n", "6 mended 1 0\n7 refused 11 no-event\n"),
+    "of a refused row": ("1,1,0,kickoff\nmend,6,,\n", "6 refused 1 stale 1\n7 refused 11 no-event\n"),
+    "of what others need": ("1,1,1,goal-home\n2,2,0,kickoff\nmend,5,,\n", "6 ok 1 2 2\n7 ok 2 1 3\n8 mended 1 1\n"),
+    "as a later edition": ("mend,,15,\n", "6 mended 15 1\n"),
+    "as the same edition": ("mend,,0,\n", "6 refused 12 last-edition\n"),
+    "past the last edition": ("mend,,65535,\nmend,5,,\nmend,9,,\nclub,1,Echo,7\n", "6 mended 65535 1\n7 refused 12 last-edition\n8 refused 12 last-edition\n9 refused 12 last-edition\n"),
+}.items()})
 
 CLUB = CLUBS.splitlines(True)
 
@@ -139,9 +155,10 @@ def test_json(run):
 
 # ---- a record of rows
 
-# A record of two editions, what is answered to its rows, and its table.
-RECORD = "group,B,uefa,1\n" + CLUBS + "1,1,0,kickoff\n1,1,1,goal-home\n2,4,0,kickoff\ngroup,B,uefa,23\nclub,2,Real Madrid,61000\n1,1,0,kickoff\n2,1,1,goal-away\n"
-ANSWERS = "6 ok 1 1 1\n7 ok 1 2 2\n8 ok 4 1 3\n11 ok 1 1 1\n12 ok 1 2 2\n"
+# A record of three editions, what is answered to its rows, and its table.
+MEND = "mend,7,,\n"
+RECORD = "group,B,uefa,1\n" + CLUBS + "1,1,0,kickoff\n1,1,1,goal-home\n" + MEND + 'club,2,Real Madrid,"61000"\n2,1,1,goal-away\n'
+ANSWERS = "6 ok 1 1 1\n7 ok 1 2 2\n8 mended 2 1\n9 mended 3 1\n10 ok 1 2 2\n"
 TABLE = """GROUP B v00002 IN PLAY 1
     Club                  P  W  D  L  GF  GA   GD Pts
 1   Charlie               1  1  0  0   1   0   +1   3
@@ -156,7 +173,10 @@ def test_record_cut_after_each_byte(run):
     for cut in range(RECORD.index("1,1,0,kickoff"), len(RECORD) + 1):
         kept, row = RECORD[:cut], RECORD.rfind("\n", 0, cut) + 1
         begun = kept if cut == row else kept + "\n"
-        again, on = (run("ucl_live", input=begun + rest + "screen,,,\n") for rest in (RECORD[row:], RECORD[cut:]))
+        # A torn row is a line more before the goal, and whoever mends names the line that the goal has now.
+        typed = begun + RECORD[row:]
+        typed = typed.replace(MEND, f"mend,{typed.splitlines().index('1,1,1,goal-home') + 1},,\n")
+        again, on = (run("ucl_live", input=text + "screen,,,\n") for text in (typed, begun + RECORD[cut:]))
         assert (again.status, again.errors, on.status, on.errors) == (0, "", 0, ""), f"cut after {cut} bytes"
         assert again.output.endswith(TABLE) and on.output.splitlines()[-6].startswith("GROUP B v"), f"cut after {cut} bytes"
         if cut == row:
@@ -174,16 +194,16 @@ def test_record_is_answered_the_same_again(run, start, words):
 
 @pytest.mark.limit(30)
 def test_record_that_grows(start, tmp_path):
-    """What is appended to the file is shown at once, a later edition too."""
-    (tmp_path / "evening.csv").write_text(RECORD[: RECORD.index("group,B,uefa,23")])
+    """What is appended to the file is shown at once, a mend too."""
+    (tmp_path / "evening.csv").write_text(RECORD[: RECORD.index(MEND)])
     tail = start(shutil.which("tail"), "-n", "+1", "-F", "evening.csv")
     evening = start("ucl_live", "--screens", stdin=tail.stdout)
-    evening.lines(21)
+    evening.lines(14)
     with open(tmp_path / "evening.csv", "a", buffering=1) as file:
         file.write("1,1,2,fulltime\n")
-        assert evening.lines(7).startswith("9 ok 1 3 4\nGROUP B v00004 IN PLAY 1\n")
-        file.write("group,B,uefa,23\nscreen,,,\n")
-        assert evening.lines(6) == screen(fresh(), group="B")
+        assert evening.lines(7).startswith("8 ok 1 3 3\nGROUP B v00003 IN PLAY 0\n")
+        file.write(MEND)
+        assert evening.lines(7).startswith("9 mended 2 2\nGROUP B v00002 IN PLAY 0\n")
 
 
 def test_same_rows_same_table(run):
@@ -206,6 +226,10 @@ def said(members):
         return "{row} ok {match} {number} {version}\n".format(**members)
     if members["reply"] == "refused":
         return "{row} refused {code} {name}".format(**members) + (f" {members['number']}" if "number" in members else "") + "\n"
+    if members["reply"] == "mended":
+        return "{row} mended {edition} {version}\n".format(**members)
+    if members["reply"] == "left-out":
+        return ""
     if members["reply"] == "words":
         return "".join(f"word,{game},{word},\n" for game, word in enumerate(members["words"], 1))
     if members["reply"] == "matches":

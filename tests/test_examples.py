@@ -43,6 +43,7 @@ def test_writers_that_share_a_pipe(program, place):
 def test_first_look(program, place):
     """The commands of the README's first look, typed as they stand there, give what it shows."""
     program("ucl_live")
+    program("ucl_night")
     blocks = re.findall(r"^```console\n\$ (.*)\n((?s:.*?))^```$", README, re.M)
     assert [command(["bash", "-c", line], cwd=place).output for line, _ in blocks] == [shown for _, shown in blocks] and len(blocks) == 2
 

@@ -11,6 +11,7 @@ sys.path.insert(0, str(TOP / "checks"))
 
 import looks_at_pages
 import looks_at_sources as looks
+import looks_at_tests
 
 SUM = "dac8208d650f15bf"
 LOOK = "the README and --version tell the logic sum of the kit"
@@ -55,7 +56,7 @@ FAULTS = {
     "a wake by a program": (looks.boards_go_through_passes, "ucl_night/src/main.rt", "    let alloc = rt.alloc();", "    words.wake_all(0);\n    let alloc = rt.alloc();"),
     "a pass that acts": (looks.nothing_acts_when_let_go, "ucl_words/src/passes.rt", "impl WordReporterPass {", "impl ops::Drop\n    for WordReporterPass { fn drop(self) {} }\n\nimpl WordReporterPass {"),
     "a writer that writes a line more": (looks.nothing_acts_when_let_go, "ucl_io/src/devices.rt", "impl<W: Write> ToWrite<W> {", TO_WRITE + "impl<W: Write> ToWrite<W> {"),
-    "memory that is never given back": (looks.nothing_acts_when_let_go, "ucl_*runs/src/*.rt", "        let before = self.board.version();\n", "        let before = self.board.version();\n        mem::forget(text);\n"),
+    "memory that is never given back": (looks.nothing_acts_when_let_go, "ucl_*runs/src/*.rt", "        let before = self.events.version();\n", "        let before = self.events.version();\n        mem::forget(text);\n"),
     "a handle that acts": (looks.nothing_acts_when_let_go, "ucl_c*/src/*.rt", "            drop(self.take(alloc).into_box());", "            report(self.take(alloc));"),
     "a call of C that acts": (looks.nothing_acts_when_let_go, "ucl_c*/src/*.rt", "    pass.let_go(alloc);\n", "    report(pass);\n    pass.let_go(alloc);\n"),
     "a trait by another name": (looks.traits_are_listed, "ucl_pass/src/passes.rt", "use std::marker::Model;", "use std::marker::Model;\nuse std::ops::{\n    Drop as Quiet,\n};"),
@@ -126,3 +127,28 @@ def test_a_crate_that_is_not_trusted(tmp_path):
     path = tmp_path / "crates.txt"
     path.write_text(path.read_text().replace("ucl_runs: ", "ucl_runs: libc "))
     assert looks_at_pages.crates_are_listed(tmp_path)
+
+
+# Tests that go, by what is done to a file: the name that the look has to tell, with what is there of it.
+GONE = {
+    "a module": ("crates/ucl_tests/src/lib.rt", "#[cfg(test)]\nmod nights;\n", "", "ucl_tests::nights::gates: no such test"),
+    "a test in Rattle": ("crates/ucl_tests/src/word.rt", "#[test]\nfn refusals_are_written(", "fn refusals_are_written(", "ucl_tests::word::refusals_are_written: no such test"),
+    "a crate of tests": ("crates.txt", "\nucl_tests ", "\n#ucl_tests ", "ucl_tests::word::refusals_are_written: no such test"),
+    "a file": ("tests/test_build.py", None, None, "test_build.py::"),
+    "a case": ("tests/test_memory.py", '"one", "all"', '"one"', "test_memory.py::"),
+    "a test": ("tests/test_cases.py", "def test_full_disk(", "def full_disk(", "test_cases.py::test_full_disk: no such test"),
+}
+
+
+@pytest.mark.quick
+@pytest.mark.parametrize("name", GONE)
+def test_a_test_that_goes_is_seen(tmp_path, name):
+    shutil.copytree(TOP, tmp_path / "top", ignore=shutil.ignore_patterns("out", ".git", "library", "target", "__pycache__", "proofs", "specs"))
+    file, old, new, told = GONE[name]
+    path = tmp_path / "top" / file
+    if old is None:
+        path.unlink()
+    else:
+        assert old in path.read_text()
+        path.write_text(path.read_text().replace(old, new))
+    assert any(line.startswith(told) for line in looks_at_tests.tests_are_there(tmp_path / "top"))

@@ -1,5 +1,6 @@
 """A matchday of eight groups over a broker: the season of 2021/22, one night after the other, with parts that are killed."""
 
+import json
 import os
 import pathlib
 import random
@@ -20,16 +21,21 @@ PACE = 0.03
 
 
 def boards(site):
-    """The processes of the boards in this folder, by their group."""
-    found = {}
+    """The groups whose boards run in this folder: each holds a lock."""
+    return [group for group in GROUPS if (site.path / f"{group}.lock").exists() and site.done(f"flock -n {group}.lock echo free") == ""]
+
+
+def programs(site):
+    """The processes of `ucl_live` in this folder."""
+    found = []
     for process in pathlib.Path("/proc").glob("[0-9]*"):
         try:
             words = (process / "cmdline").read_text().split("\0")
-            is_board = (process / "comm").read_text() == "ucl_live\n" and "--screens" in words and os.readlink(process / "cwd") == str(site.path)
+            is_program = "--screens" in words and os.readlink(process / "cwd") == str(site.path)
         except OSError:
             continue
-        if is_board:
-            found[words[words.index("--group") + 1].lower()] = int(process.name)
+        if is_program:
+            found.append(int(process.name))
     return found
 
 
@@ -57,7 +63,7 @@ class Season:
         """Plays a night, in which the broker and the board of a group are killed, each in the midst of the rows."""
         told, (before, after) = self.site.path / f"told{night}", (sum(self.until_night(group, it) for group in GROUPS) for it in (night - 1, night))
         with open(told, "wb") as file:
-            matchday = self.site.line(f"exec examples/matchday --rehearse {PACE} --matchday {night} {SEASON} mosquitto_sub", stdout=file)
+            matchday = self.site.line(f"exec python3 -m hall.matchday --rehearse {PACE} --matchday {night} {SEASON} mosquitto_sub", stdout=file)
         places = sorted(self.chance.sample(range(before + 1, after - 3), 2))
         for place, kill in zip(places, self.chance.sample([self.kill_broker, self.kill_board], 2)):
             until(lambda: self.entered() >= place)
@@ -74,15 +80,13 @@ class Season:
         self.site.await_broker()
 
     def kill_board(self):
-        """Kills the board of a group, which is there again by itself."""
-        found = until(lambda: boards(self.site))
-        group = self.chance.choice(sorted(found))
-        os.kill(found[group], signal.SIGKILL)
-        assert until(lambda: boards(self.site).get(group, found[group]) != found[group], 20)
+        """Kills the program of a board, which is there again by itself."""
+        os.kill(self.chance.choice(until(lambda: programs(self.site))), signal.SIGKILL)
 
 
 def test_a_season_on_four_screens_a_group(site):
     """All 32 screens end with the final tables, though one board and the broker are killed each night."""
+    site.needs_follower()
     site.open_broker()
     season = Season(site)
     for night in range(1, NIGHTS + 1):
@@ -96,23 +100,42 @@ def test_a_season_on_four_screens_a_group(site):
 
 
 def test_a_matchday_needs_eight_files_and_a_folder_of_its_own(site):
+    """Boards, a broker, a reporter, a mend; it ends by Ctrl-C with all that it started, and goes on from the records."""
     (site.path / "clubs").mkdir()
-    assert site.done("examples/matchday clubs 2>&1; echo $?") == "matchday: there is no file clubs/group_a.csv\n1\n"
-    matchday = site.line(f"exec examples/matchday {SEASON}")
-    until(lambda: len(boards(site)) == len(GROUPS))
-    assert site.done(f"timeout 5 examples/matchday {SEASON} 2>&1; echo $?") == "matchday: another matchday runs here: it holds matchday.lock\n1\n"
+    assert site.done("python3 -m hall.matchday clubs 2>&1; echo $?") == "matchday: there is no file clubs/group_a.csv\n1\n"
+    matchday = site.line(f"exec python3 -m hall.matchday {SEASON}")
+    assert until(lambda: len(boards(site)) == len(GROUPS), 30)
+    assert site.done(f"timeout 5 python3 -m hall.matchday {SEASON} 2>&1; echo $?") == "matchday: another matchday runs here: it holds matchday.lock\n1\n"
     report = "printf '3 kickoff\\n3 goal away\\n' | XDG_CONFIG_HOME=clients ./ucl_reporter --broker h --number 200"
-    assert site.done(report).endswith("3 goal away             entered, row 8: Chelsea 0-1 Juventus, in play, event 2 by 200\n")
-    newest = lambda: site.done("XDG_CONFIG_HOME=clients timeout 5 mosquitto_sub -q 1 -C 1 -t ucl/h/desk | ./ucl_follow")
-    site.mend("h", 8)
-    assert until(lambda: newest().startswith("GROUP H v00001 "), 20)
+    assert site.done(report).endswith("3 goal away             entered, row 7: Chelsea 0-1 Juventus, in play, event 2 by 200\n")
+    newest = lambda: json.loads(site.done("XDG_CONFIG_HOME=clients timeout 5 mosquitto_sub -q 1 -C 1 -t ucl/h/desk") or "{}")
+    site.append("h", "mend,7,,\n")
+    assert until(lambda: (newest().get("edition"), newest().get("version")) == (1, 1), 20)
     end_by_ctrl_c(site, matchday)
     matchday.start()
-    assert until(lambda: newest().startswith("GROUP H v00001 "), 20)
+    assert until(lambda: (newest().get("edition"), newest().get("version")) == (1, 1), 30)
+    os.kill(matchday.shell.pid, signal.SIGKILL)
+    assert until(lambda: not programs(site) and not boards(site), 10)
+
+
+def test_no_message_ends_a_matchday(site):
+    """What ended all eight boards before: a topic of no group, an answer without a reply; and a board whose record is replaced is held again."""
+    matchday = site.line(f"exec python3 -m hall.matchday {SEASON}")
+    assert until(lambda: len(boards(site)) == len(GROUPS), 30)
+    send = lambda topic, text: site.done(f"XDG_CONFIG_HOME=clients mosquitto_pub -q 1 -t {topic} -s", text)
+    for topic, text in ("ucl/z/desk", "x"), ("ucl/a/answers", "{}"), ("ucl/a/answers", "x"), ("ucl/a/0 x/rows/1", "hi"), ("ucl/zz/0/rows/1", "1,1,0,kickoff"), ("ucl/a/desk", "[]"):
+        send(topic, text)
+    for group in GROUPS:
+        report = f"echo 1 kickoff | XDG_CONFIG_HOME=clients ./ucl_reporter --broker {group}"
+        assert "1 kickoff               entered, row 6" in site.done(report)
+    (site.path / "a.rows").write_text((site.path / "b.rows").read_text().replace("group,B", "group,A"))
+    assert until(lambda: "a.rows has become another file" in (site.path / "matchday.log").read_text(), 10)
+    report = "echo 2 kickoff | XDG_CONFIG_HOME=clients ./ucl_reporter --broker a"
+    assert "2 kickoff               entered, row 7" in site.done(report)
     end_by_ctrl_c(site, matchday)
 
 
 def end_by_ctrl_c(site, matchday):
     """Ends a matchday, and with it all boards."""
     os.kill(matchday.shell.pid, signal.SIGINT)
-    assert matchday.shell.wait() == 130 and until(lambda: not boards(site), 10)
+    assert matchday.shell.wait() == 130 and until(lambda: not programs(site) and not boards(site), 10)

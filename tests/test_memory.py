@@ -2,7 +2,7 @@
 
 A call of the library then answers want of memory, and does its work when it is made again; the program `ucl_hostile` makes it twice. A program
 tells want of memory and has written nothing, or, in an evening, whole answers up to a row whose answer asks for memory. Where one request alone is
-refused the work may also be done at once, for a list that finds no room to grow to twice its size asks again for what it needs.
+refused, and the next one is for no more, the work is also done at once: a list that finds no room to grow to twice its size asks for what it needs.
 """
 
 import itertools
@@ -15,6 +15,7 @@ from conftest import EXAMPLES, TOP
 pytestmark = pytest.mark.limit(200)
 H2H, SHEET, SCREEN = "head_to_head", "head_to_head_sheet.csv", "head_to_head_sheet.expected"
 NO_MEMORY, NO_THREAD = "Some(OutOfMemory)", "Some(NoThread)"
+LINE = "Ok(Night { group: 67, readings: 3, profile: AwayInTie })\n"
 
 
 @pytest.fixture(scope="session")
@@ -28,17 +29,18 @@ def refuses(tmp_path_factory):
 
 
 def swept(refuses, mode, start, words, text):
-    """The runs whose first request is refused, whose second is, and so on, and last the one that meets no refusal."""
+    """The runs whose first request is refused, whose second is, and so on, each with whether no more was asked for then; and the one that meets none."""
     met = []
     for nth in itertools.count(1):
         reading, writing = os.pipe()
         environment = {**os.environ, "LD_PRELOAD": refuses, "REFUSE_NTH": str(nth), "REFUSE_MODE": mode, "REFUSE_FROM": start, "REFUSE_TELLS": str(writing)}
         run = conftest.command(words, text, env=environment, pass_fds=[writing])
         os.close(writing)
-        with open(reading, "rb") as told:
-            if not told.read():
-                return met, run
-        met.append(run)
+        with open(reading) as told:
+            lines = told.read().split()
+        if not lines:
+            return met, run
+        met.append((run, mode == "one" and "again" in lines))
 
 
 def text_of(name, more=""):
@@ -55,7 +57,8 @@ CALLS = {
     "CellBoard::open": ("", ("", "version 0\n"), [NO_MEMORY]),
     "WordBoard::open": ("", ("", "version 0\n"), [NO_MEMORY]),
     "feed_run": ("two_matches.csv", ("two_matches.expected",), [NO_MEMORY]),
-    "show_run": (SHEET, (SCREEN,), [NO_MEMORY]),
+    "show_run": ("two_matches_sheet.csv", ("two_matches_sheet.expected",), [NO_MEMORY]),
+    "line_of": (None, ("", LINE), [NO_MEMORY]),
     "night_run": (f"{H2H}.csv", (SCREEN,), [NO_MEMORY, NO_THREAD]),
     "night_run_in_a_cell": (f"{H2H}.csv", (SCREEN,), [NO_MEMORY, NO_THREAD]),
 }
@@ -65,12 +68,13 @@ CALLS = {
 @pytest.mark.parametrize("call", CALLS)
 def test_a_call_of_the_library(program, refuses, call, mode):
     name, gives, answers = CALLS[call]
-    met, whole = swept(refuses, mode, "call", [program("ucl_hostile"), "refused", call], text_of(name))
+    text = text_of(name) if name is not None else "ucl_night night --group C --readings 3 --order away-in-tie"
+    met, whole = swept(refuses, mode, "call", [program("ucl_hostile"), "refused", call], text)
     right = "kept true\n" + text_of(*gives)
     assert whole.output == "first None\n" + right
     allowed = [f"first {answer}\n{right}" for answer in answers]
-    assert [run for run in met if run.output not in allowed + [whole.output] * (mode == "one")] == []
-    assert any(run.output in allowed for run in met)
+    assert [run for run, asks_again in met if run.output not in allowed + [whole.output] * asks_again] == []
+    assert any(run.output in allowed for run, _ in met)
 
 
 ROWS = "two_matches.csv", "screen,,,\nwords,,,\nmatches,,,\n"
@@ -90,8 +94,8 @@ RUNS = {
     "ucl_live": (ROWS, 0, [0, 10, 28]),
     "ucl_live --screens": (ROWS, 0, [0, 7, 16, 23, 30, 37, 45, 52, 70]),
     "ucl_live --format json": (ROWS, 0, range(13)),
-    "ucl_live --format text": (MORE_ROWS, 0, [0, 3]),
-    "ucl_live --format json --screens": (MORE_ROWS, 0, [0, 2, 4, 6, 7]),
+    "ucl_live --format text": (MORE_ROWS, 0, [0, 5]),
+    "ucl_live --format json --screens": (MORE_ROWS, 0, [0, 2, 4, 5, 7, 8, 9]),
 }
 
 
@@ -103,6 +107,5 @@ def test_a_run_of_a_program(program, refuses, line, mode):
     assert whole.status == status and (not whole.errors if status == 0 else not whole.output)
     told = ["out of memory 23\n"] + ["no thread 27\n"] * ("night" in words)
     allowed = [(5, "".join(whole.output.splitlines(True)[:place]), fault) for place in places for fault in told]
-    spared = [whole] * (mode == "one")
-    assert [run for run in met if run not in allowed + spared] == []
-    assert any(run in allowed for run in met)
+    assert [run for run, asks_again in met if run not in allowed + [whole] * asks_again] == []
+    assert any(run in allowed for run, _ in met)

@@ -17,13 +17,16 @@ import conftest
 import model
 import pytest
 from conftest import EXAMPLES, TOP, command, needs, text_of
+from test_serve import Socket, free_port
 
+# The last commit before there was one server: its package has a unit for each group and one for the page.
+BEFORE = "2c9dd9f4"
 PROGRAMS = "ucl_live ucl_follow ucl_night".split()
-PACKAGES = "ucl-board libuclboard1 libuclboard-dev python3-uclboard".split()
+PACKAGES = "ucl-board ucl-board-hall libuclboard1 libuclboard-dev python3-uclboard".split()
 DOC = "/usr/share/doc/ucl-board/examples"
 NIGHT = f"python3 /usr/share/doc/python3-uclboard/examples/night.py A <{DOC}/first_night.csv"
 # What the roots have: nothing, and what the packages and these tests recommend.
-ROOTS = {"bare": [], "full": ["--include=python3,mosquitto-clients,man-db,bash-completion,zsh,gcc,libc6-dev,pkg-config"]}
+ROOTS = {"bare": [], "full": ["--include=python3,python3-aiohttp,python3-paho-mqtt,python3-prompt-toolkit,mosquitto-clients,man-db,bash-completion,zsh,gcc,libc6-dev,pkg-config"]}
 
 pytestmark = pytest.mark.limit(600)
 
@@ -103,17 +106,15 @@ def test_lintian_finds_nothing(dist):
 
 
 def test_units(tree, tmp_path):
-    """What systemd says of them by its own units, beside which they stand; and that it starts a board and a page that ended again."""
+    """What systemd says of it by its own units, beside which it stands; and that it starts a server that ended again."""
     needs("systemd-analyze")
-    assert ["Restart=always\n" in text_of(path) for path in tree.glob("usr/lib/systemd/system/ucl-*.service")] == [True, True]
+    assert ["Restart=always\n" in text_of(path) for path in tree.glob("usr/lib/systemd/system/ucl-*")] == [True]
     root = tmp_path / "root"
     shutil.copytree(tree, root, symlinks=True)
     shutil.copytree("/usr/lib/systemd/system", root / "usr/lib/systemd/system", symlinks=True, dirs_exist_ok=True)
-    shutil.copy("/bin/true", root / "usr/bin/websocketd")
-    units = ["ucl-board@a.service", "ucl-page.service"]
-    assert command(["systemd-analyze", "verify", "--man=no", f"--root={root}", *units, "ucl-matchday.target"]) == (0, "", "")
-    run = command(["systemd-analyze", "security", "--offline=true", f"--root={root}", "--threshold=20", *units])
-    assert run.status == 0 and run.output.count("Overall exposure level") == 2, run
+    assert command(["systemd-analyze", "verify", "--man=no", f"--root={root}", "ucl-serve.service"]) == (0, "", "")
+    run = command(["systemd-analyze", "security", "--offline=true", f"--root={root}", "--threshold=20", "ucl-serve.service"])
+    assert run.status == 0 and run.output.count("Overall exposure level") == 1, run
 
 
 def test_archive(dist, tmp_path):
@@ -188,7 +189,7 @@ def roots(dist):
 
 
 def test_where_nothing_is(roots, dist, place):
-    """Installed, an evening, a follower, a program in C that was compiled before; removed with what users wrote kept, and purged with nothing left."""
+    """Installed, an evening, a follower, a program in C that was compiled before; removed and purged with nothing left."""
     needs("cc")
     root, library = roots["bare"], TOP / "library"
     assert command(["cc", EXAMPLES / "c/feed.c", "-I", library, "-L", library, "-luclboard", "-o", root.path / "usr/local/bin/feed"]) == (0, "", "")
@@ -199,22 +200,43 @@ def test_where_nothing_is(roots, dist, place):
     evening = f"(cat {DOC}/two_matches.csv; echo screen,,,) | ucl_live --format json | ucl_follow 2>/dev/null | tail -n 6"
     assert root.needs(evening) == text_of(EXAMPLES / "two_matches_sheet.expected")
     assert root.needs(f"feed <{DOC}/one_goal.csv") == text_of(EXAMPLES / "one_goal.expected")
-    if shutil.which("systemd-sysusers"):
-        assert command(["systemd-sysusers", f"--root={root.path}", "ucl-board.conf"]).status == 0
-        assert "ucl-board" in root.needs("getent passwd ucl-board")
-    kept = ["/var/lib/ucl-board/a/a.rows", "/etc/ucl-board/a.csv"]
-    root.needs(f"mkdir -p /var/lib/ucl-board/a && touch {' '.join(kept)}")
     root.needs("dpkg -r ucl-board libuclboard1")
-    assert root.run("command -v ucl_live").status == 1 and root.needs(f"ls {' '.join(kept)}")
+    assert root.run("command -v ucl_live").status == 1
     root.needs("dpkg -P ucl-board libuclboard1")
-    assert root.files() == before and root.run("getent passwd ucl-board").status == 2
+    assert root.files() == before
 
 
 @pytest.fixture(scope="session")
-def full(roots, dist):
-    """A root with a compiler, Python, the manual and clients of a broker, in which all packages are installed."""
-    roots["full"].install(dist, *PACKAGES)
-    return roots["full"]
+def before(dist, tmp_path_factory):
+    """The package of before there was one server, with programs of now."""
+    folder = tmp_path_factory.mktemp("before")
+    assert command(["git", "clone", "-q", "--shared", TOP, folder / "top"]).status == 0 and command(["git", "checkout", "-q", BEFORE], cwd=folder / "top").status == 0
+    for name in [*(f"crates/{name}/out/{name}" for name in PROGRAMS), "library"]:
+        (folder / "top" / name).parent.mkdir(parents=True, exist_ok=True)
+        (shutil.copytree if (TOP / name).is_dir() else shutil.copy2)(TOP / name, folder / "top" / name)
+    script = folder / "top/packaging/package"
+    script.write_text(re.sub("^missing=.*$", ":", text_of(script), flags=re.M))
+    return packed(folder / "top", folder / "dist")
+
+
+# What the version before had: a group that was begun, and one that was not.
+OLD_PAGE, OLD_UNITS = "GROUP=a\nADDRESS=127.0.0.1\nPORT=8123\n", "/etc/systemd/system/ucl-matchday.target.wants"
+OLD_ROWS = f"group,A,uefa,0\n{model.CLUBS}screen,,,\n1,1,0,kickoff\n1,1,1,goal-home\n"
+
+
+@pytest.fixture(scope="session")
+def full(roots, dist, before):
+    """A root with a compiler, Python, the manual and clients of a broker, in which all packages are installed, over the package of before."""
+    root = roots["full"]
+    root.install(before, "ucl-board")
+    (root.path / "etc/ucl-board/page").write_text(OLD_PAGE)
+    for group in "ac":
+        (root.path / f"etc/ucl-board/{group}.csv").write_text(model.CLUBS)
+    root.needs(f"mkdir -p /var/lib/ucl-board/a {OLD_UNITS} && ln -s /usr/lib/systemd/system/ucl-board@.service {OLD_UNITS}/ucl-board@a.service")
+    (root.path / "var/lib/ucl-board/a/a.rows").write_text(OLD_ROWS)
+    assert "1 kickoff" in root.needs("echo 1 yellow away | ucl_reporter /var/lib/ucl-board/a/a.rows; echo 1 kickoff")
+    root.install(dist, *PACKAGES)
+    return root
 
 
 def test_examples_where_they_are_installed(full):
@@ -227,9 +249,9 @@ def test_examples_where_they_are_installed(full):
 
 def test_manual(full):
     """Each page is there, is found by its name, has what the help has, and is laid out without a warning but of long lines of JSON."""
-    pages = full.needs("dpkg -L ucl-board libuclboard-dev | grep '/man[135]/.'").split()
+    pages = full.needs("dpkg -L ucl-board ucl-board-hall libuclboard-dev | grep '/man[135]/.'").split()
     assert {pathlib.Path(page).name for page in pages} == {
-        *(f"{name}.1.gz" for name in [*PROGRAMS, "ucl_reporter", "ucl_night-feed", "ucl_night-show", "ucl_night-night"]), "ucl_rows.5.gz", "uclboard.3.gz"}
+        *(f"{name}.1.gz" for name in [*PROGRAMS, "ucl_reporter", "ucl_serve", "ucl_night-feed", "ucl_night-show", "ucl_night-night"]), "ucl_rows.5.gz", "uclboard.3.gz"}
     for page in pages:
         run = full.run(f"man --warnings {page} >/dev/null")
         assert (run.status, re.sub(r".*can.t break line\n", "", run.errors)) == (0, ""), page
@@ -294,44 +316,58 @@ def calls_of(unit):
     return allowed
 
 
+def test_what_an_upgrade_takes_over(full):
+    """Records and clubs stay where they are, and become arguments; the old units are gone, and what was enabled is."""
+    assert text_of(full.path / "etc/ucl-board/serve").splitlines()[-1] == (
+        "ARGUMENTS=--listen 127.0.0.1:8123 a/a.rows c/c.rows --clubs /etc/ucl-board/a.csv --group A --clubs /etc/ucl-board/c.csv --group C --broker /etc/ucl-board/address")
+    assert text_of(full.path / "var/lib/ucl-board/a/a.rows") == f"{OLD_ROWS}1,1,2,yellow-away\n" and text_of(full.path / "etc/ucl-board/c.csv") == model.CLUBS
+    assert [path.name for path in (full.path / "usr/lib/systemd/system").glob("ucl-*")] == ["ucl-serve.service"]
+    assert [path.name for path in (full.path / "etc/systemd/system").glob("*.wants/ucl-*")] == ["ucl-serve.service"]
+    assert not (full.path / "etc/ucl-board/page").exists() and full.run("ls /run/ucl-board.ran").status
+
+
 def test_services(full, tmp_path):
-    """What the unit of a board starts, with the system calls that it allows: rows come in by the broker, a second board ends at the lock, a killed one goes
-    on, a card is left out of the next edition meanwhile, the desk has a pulse, and a follower shows all events."""
+    """What the unit starts, with the system calls that it allows, goes on with the table of before: rows come in by the broker and by a link, a second one
+    ends at the lock, and a killed one goes on."""
     needs("systemd-analyze")
-    (full.path / "etc/ucl-board/a.csv").write_text(model.CLUBS)
-    full.needs("mkdir -p /var/lib/ucl-board/a")
-    client = "export XDG_CONFIG_HOME=/usr/share/ucl-board/broker; "
-    unit = text_of(full.path / "usr/lib/systemd/system/ucl-board@.service").replace("%i", "a").replace("%S", "/var/lib")
+    unit = text_of(full.path / "usr/lib/systemd/system/ucl-serve.service").replace("%S", "/var/lib")
     folder, started = (re.search(f"^{name}=(.*)$", unit, re.M)[1] for name in ("WorkingDirectory", "ExecStart"))
-    filtered, matches = shlex.join(["python3", "-c", FILTERED, ",".join(calls_of(unit))]), model.fresh()
-    board = f"{client}cd {folder} && exec {filtered} {started}"
-
-    def enter(*rows):
-        """Reporter 1 enters rows."""
-        lines = [f"1,{match},{expected},{event}\n" for match, expected, event in rows]
-        run = full.run(f"{client}ucl_reporter --broker a", "".join(lines))
-        assert (run.status, run.output.count(" entered, row "), run.errors) == (0, len(rows), ""), run
-        for match, _, event in rows:
-            matches[match - 1].enter(1, event)
-
+    filtered = shlex.join(["python3", "-c", FILTERED, ",".join(calls_of(unit))])
     with broker(tmp_path) as address, contextlib.ExitStack() as running:
         (full.path / "etc/ucl-board/address").write_text(address)
-        begin = lambda: running.enter_context(conftest.Started(full.words(board)))
+        (full.path / "etc/ucl-board/serve").write_text(re.sub(r"127.0.0.1:\d+", f"127.0.0.1:{free_port()}", text_of(full.path / "etc/ucl-board/serve")))
+        arguments = text_of(full.path / "etc/ucl-board/serve").split("ARGUMENTS=")[1].strip()
+        port = int(re.search(r"127.0.0.1:(\d+)", arguments)[1])
+        server = f"cd {folder} && exec {filtered} {started.replace('$ARGUMENTS', arguments)}"
+
+        def begin():
+            """Starts the server, and waits until it listens."""
+            process = running.enter_context(conftest.Started(full.words(server)))
+            assert process.lines(1) == f"Screens: http://127.0.0.1:{port}/\n"
+            return process
+
+        def phone():
+            """A phone of reporter 1 of group A."""
+            key = full.needs(f"cd {folder} && ucl_serve --links a/a.rows").split("/")[-1].strip()
+            it = Socket(port, f"/report/{key}/taps")
+            assert it.until("recent")
+            return it
+
         first = begin()
-        enter((1, 0, "kickoff"), (1, 1, "goal-home"))
-        full.needs(f"{client}mosquitto_pub -q 1 -t ucl/a/0/rows/1 -m 1,2,0,kickoff")
-        matches[1].enter(1, "kickoff")
-        second = full.run(board)
-        assert second.status == 1 and "another board" in second.errors
+        screen = Socket(port, "/lines")
+        matches = model.fresh()
+        for word in "kickoff", "goal-home", "yellow-away":
+            matches[0].enter(1, word)
+        assert screen.until("screen", group="A")["words"] == [match.word() for match in matches]
+        assert phone().answer(1, 3, "goal-away") == "entered"
+        second = full.run(server)
+        assert second.status == 1 and "a/a.rows is served already" in second.errors
         first.kill()
         first.wait()
         begin()
-        enter((1, 2, "goal-away"), (2, 1, "red-home"), (1, 3, "fulltime"))
-        row = full.needs(f"grep -n 1,2,1,red-home {folder}/a.rows").split(":")[0]
-        full.needs(f"ucl_reporter {folder}/a.rows --mend {row} --yes")
-        matches[1] = model.Match()
-        matches[1].enter(1, "kickoff")
-        desk = full.needs(f"{client}mosquitto_sub -q 1 -C 4 -t ucl/a/desk")
-    assert full.run("ucl_follow", desk).output.endswith(model.screen(matches)) and desk.count('"pulse":') >= 2
-    full.needs("dpkg -P ucl-board python3-uclboard libuclboard-dev libuclboard1")
+        (full.path / "address").write_text(address)
+        run = full.run("mkdir -p /c && cp /address /c/mosquitto_sub && XDG_CONFIG_HOME=/c ucl_reporter --broker a --number 2", "1 fulltime\n")
+        assert (run.status, run.output.count(" entered")) == (0, 1), run
+        assert text_of(full.path / "var/lib/ucl-board/a/a.rows").endswith("1,1,3,goal-away\n2,1,4,fulltime\n")
+    full.needs("rm -rf /c /address; dpkg -P ucl-board-hall ucl-board python3-uclboard libuclboard-dev libuclboard1")
     assert not (full.path / "var/lib/ucl-board").exists() and not (full.path / "etc/ucl-board").exists()

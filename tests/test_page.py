@@ -1,4 +1,4 @@
-"""The page in a browser without a window: by lines that it is given, how it looks at each size; and over a broker, while a reporter enters events.
+"""The screens' page in a browser without a window: by lines that it is given, how it looks at each size; and with a server, while events are entered.
 
 What the page shows, and what a screen reader is told, is that of the rules. At each size no text is cut, overlaps or leaves the window, and columns are
 as wide as in every other group. With `--picture FILE` the test of letters also writes a picture of the page, as PNG.
@@ -7,17 +7,20 @@ as wide as in every other group. With `--picture FILE` the test of letters also 
 import base64
 import itertools
 import json
+import os
 import pathlib
+import signal
+import socket
 import time
 from typing import NamedTuple
 
 import conftest
 import model
 import pytest
-from test_broker import LINES, free_port, is_reached, site, until  # noqa: F401, a fixture
+from test_serve import free_port, hall, until  # noqa: F401, a fixture
 
 pytestmark = pytest.mark.limit(200)
-PAGE = conftest.EXAMPLES / "broker/page/index.html"
+PAGE = conftest.TOP / "hall/pages/index.html"
 SILENCE = 4
 LARGE = (1920, 1080)
 # How large names, figures and scores of the season are at least at each size: of one group, and on the wall.
@@ -26,9 +29,10 @@ FONTS = ["DejaVu Sans", "Noto Sans"]
 STATES = {model.IN_PLAY: "In play", model.FINISHED: "Full time"}
 FIGURES = ["played", "won", "drawn", "lost", "goals_for", "goals_against"]
 HEADS = ["Place", "Certain", "Plays now", "Club", "Played", "Won", "Drawn", "Lost", "Goals for", "Goals against", "Goal difference", "Points"]
-MEANINGS = {"+": "certain to be among the first two", "-": "certain not to be among the first two", "": ""}
-LEGEND = "+ certain to be among the first two, \u2212 certain not to be; a blank promises nothing"
+MEANINGS = {"+": "certain to be first or second", "-": "certain not to be first or second", "": ""}
+LEGEND = "+ certain to be first or second, \u2212 certain not to be, by points alone"
 # Ten matches that are finished: the first and the last club are certain then, and two are level.
+HALL = '{"reply":"hall","title":"%s","groups":"%s","tonight":%s}'
 FINISHED = {1: (2, 0), 2: (1, 1), 3: (1, 2), 4: (0, 3), 5: (0, 2), 6: (4, 0), 7: (3, 0), 8: (0, 1), 9: (1, 1), 10: (1, 2)}
 WORDS = ["--headless=new", "--no-sandbox", "--disable-gpu", "--disable-dev-shm-usage", "--hide-scrollbars", "--window-size=1920,1080"]
 # By the letter of each group what the page shows of it; the signs of a cell are those that are seen, and that are heard.
@@ -55,7 +59,7 @@ const inksOf = (node) => {
   const parent = node.parentElement, text = node.data.trim(), range = document.createRange();
   if (!text || parent.closest(".heard, script, template")) return [];
   range.selectNodeContents(node);
-  const ink = drawn(text, parent), cell = parent.closest("td, th, .match > span, li, h1, p, footer"), row = parent.closest("tr, li, header, footer");
+  const ink = drawn(text, parent), cell = parent.closest("td, th, .match > span, li, h1, p, footer"), row = parent.closest("tr, li, header, footer, #title");
   return [...range.getClientRects()].filter((rect) => rect.width > 0).map((rect, line) => {
     const base = rect.top + ink.fontBoundingBoxAscent, top = base - ink.actualBoundingBoxAscent, bottom = base + ink.actualBoundingBoxDescent;
     return { text, parent, cell, row, line, left: rect.left, right: rect.right, top, bottom };
@@ -212,7 +216,7 @@ class Sheet:
     def open(self, words, size=LARGE):
         """Opens the page with these words, in a browser that knows nothing of an evening."""
         self.resize(size)
-        self.browser.get(f"{PAGE.as_uri()}?lines=ws://127.0.0.1:9/&{words}")
+        self.browser.get(f"{PAGE.as_uri()}?details&{words}")
         self.run("localStorage.clear()")
         self.reload()
 
@@ -310,7 +314,7 @@ def test_long_names_large_figures_and_no_signal(sheet, name, words):
     moments = [moment.of(edition=12345, clubs=NAMES[name]) for moment in [large(), *season[1:]]]
     before, after = sheet.rounds([[it.line() for it in season], [it.line() for it in moments]])
     assert after["shown"] == {it.group: it.shown() for it in moments} and after["columns"] == before["columns"]
-    sheet.run("ahead = 8; other = {letter: 'B', heardAt: Date.now()}; tell()")
+    sheet.run("ahead = 8; tell()")
     assert sheet.run("return shown().A.signal").startswith("No signal")
     for *_, font in sheet.looks():
         faults = lambda: sheet.run("const it = look(); return it.fill < 0.85 ? ['letters are too small'] : it.faults")
@@ -339,6 +343,9 @@ def test_letters_for_twenty_metres_and_the_picture(sheet, pytestconfig):
     assert sheet.rounds([[moments[0].line()]])[0]["letters"][1] >= 24
     assert sheet.run("return document.querySelector('footer').textContent") == LEGEND
     if pytestconfig.getoption("--picture", None):
+        sheet.browser.get(f"{PAGE.as_uri()}?group=A")
+        tonight = sorted(moments[0].games)
+        sheet.run("for (const line of arguments[0]) take(line)", [HALL % ("Champions League 2021/22, matchday 6", "A", json.dumps({"A": tonight})), moments[0].line()])
         picture = sheet.browser.execute_cdp_cmd("Page.captureScreenshot", {"format": "png"})["data"]
         pathlib.Path(pytestconfig.getoption("--picture")).write_bytes(base64.b64decode(picture))
 
@@ -352,7 +359,7 @@ def test_lines_of_other_groups(sheet):
     for words, lines, moment in [("group=B", [a, b, a], b), ("group=b", [b, a], b), ("", [a, b], a), ("x", [b, a], b)]:
         sheet.open(words)
         assert sheet.take(*(it.line() for it in lines)) == {moment.group: moment.shown()}
-        assert sheet.run("return document.title") == f"Group {moment.group}, {moment.shown()['version']}"
+        assert sheet.run("return document.title") == f"Group {moment.group}"
     sheet.open("wall")
     shown = sheet.take(b.line())
     assert [*shown] == [*"ABCDEFGH"] and shown["B"] == b.shown() and [it["rows"] for group, it in shown.items() if group != "B"] == [[]] * 7
@@ -381,7 +388,7 @@ def test_a_board_that_is_begun_again_takes_back_a_kick_off_and_brings_its_own_cl
     sheet.open("group=A")
     assert [sheet.take(it.line(row))["A"] for row, it in enumerate([wrong, mended, wrong], 1)] == [it.shown() for it in (wrong, mended, mended)]
     home, away = (mended.roster[slot - 1][0] for slot in model.FIXTURES[0])
-    assert sheet.run("return document.getElementById('news').textContent") == f"Corrected. Not begun: {home} 0, {away} 0."
+    assert sheet.run("return document.getElementById('news').textContent") == f"Corrected. To come: {home} 0, {away} 0."
 
 
 @pytest.mark.quick
@@ -399,33 +406,76 @@ def test_lines_that_tell_no_screen(sheet):
 
 
 @pytest.mark.quick
-def test_no_signal_where_nothing_comes_or_lines_of_another_group_or_the_line_that_the_broker_keeps(sheet):
-    """Where lines come but no table of this group, the page tells of which group they are. A line again is a sign, but not as the first of a WebSocket."""
+def test_no_signal_where_nothing_comes_or_no_word_of_the_group(sheet):
+    """A screen is a sign of its group, and so is a pulse that names it, once its screen has come."""
     a, b = (SEASON[group][0] for group in "AB")
+    pulse = lambda letters: json.dumps({"reply": "pulse", "groups": letters}, separators=(",", ":"))
     sheet.open("group=A")
     signal = lambda: sheet.run("tell(); return shown()")["A"]["signal"]
     wait = lambda seconds: sheet.run(f"ahead += {seconds}")
-    assert signal() == "No signal: no table comes"
-    sheet.take(b.line())
-    assert signal() == "No signal: tables of group B come"
-    sheet.take(a.line())
-    assert signal() == ""
-    wait(6)
-    assert signal() == ""
-    wait(2)
-    assert signal() == "No signal: no table comes"
-    for told in ["No signal: no table comes", ""]:
-        sheet.run("opened += 1" if told else "")
-        sheet.take(a.line())
+    assert signal() == "No signal"
+    for line, told in (b.line(), "No signal"), (pulse("AB"), "No signal"), (a.line(), ""):
+        sheet.take(line)
         assert signal() == told
-    wait(8)
-    sheet.run("opened += 1")
-    sheet.take("x", '{"reply":"refused"}', b.line())
-    assert signal() == "No signal: tables of group B come"
-    sheet.take(a.line(2))
-    assert signal() == ""
+    for line, told in (pulse("AB"), ""), (pulse("B"), "No signal"), (b.line(), "No signal"), (pulse("A"), ""):
+        wait(4)
+        sheet.take(line)
+        wait(2)
+        assert signal() == told
     sheet.open("wall")
     assert [group for group, it in sheet.take(b.line()).items() if it["signal"] == "No signal"] == [*"ACDEFGH"]
+
+
+@pytest.mark.quick
+def test_what_the_server_has(sheet):
+    """A title; the matches of the evening, also those to come; one group, or a wall of several, unless one is asked for."""
+    hall = lambda groups, tonight={}: HALL % ("Finals", groups, json.dumps(tonight))
+    a, c = SEASON["A"][0], SEASON["C"][0]
+    sheet.open("")
+    assert [*sheet.take(hall("A"))] == ["A"] and sheet.run("return document.title") == "Finals: Group A"
+    games = [*a.games, next(game for game in range(1, 13) if a.matches[game - 1].state == model.SCHEDULED)]
+    shown = sheet.take(hall("A", tonight={"A": sorted(games)}), a.line())["A"]["matches"]
+    home, away = (a.roster[slot - 1][0] for slot in model.FIXTURES[games[-1] - 1])
+    assert sorted(shown) == sorted([*a.shown()["matches"], f"To come|{home}|v|{away}"])
+    assert sheet.run("return [document.getElementById('title').textContent, document.querySelector('.standing').textContent]") == ["Finals", "as it stands"]
+    assert [*sheet.take(hall("ABC"), c.line())] == [*"ABC"] and sheet.run("return document.title") == "Finals: Groups A to C"
+    for _, size, font in sheet.looks():
+        assert sheet.run("return look().faults.filter((it) => !/a table has 0 rows|lines over|sizes/.test(it))") == [], font
+    sheet.open("group=C")
+    assert sheet.take(hall("ABC"), a.line(), c.line()) == {"C": c.shown()}
+    sheet.open("wall")
+    assert [*sheet.take(hall("AC"))] == [*"AC"]
+
+
+@pytest.mark.quick
+def test_no_word_of_ours_on_a_public_screen_and_a_final_table(sheet):
+    """Edition and version are shown to who asks; a group that is over is final."""
+    sheet.open("group=A")
+    sheet.browser.get(f"{PAGE.as_uri()}?group=A")
+    sheet.run(SHOWN)
+    before, last = SEASON["A"][-3], SEASON["A"][-1].of(edition=3)
+    assert sheet.run("take(arguments[0]); take(arguments[1]); return shown()", before.line(), last.line())["A"] == {**last.shown(), "version": ""}
+    assert sheet.run("return document.querySelector('.standing').textContent") == "final"
+    words = sheet.run("return document.body.innerText + document.title").lower()
+    assert not [word for word in ("edition", "version", "board", "row") if word in words.split()]
+
+
+@pytest.mark.quick
+def test_an_overlay_is_the_table_alone_on_a_transparent_ground(sheet, tmp_path):
+    image = pytest.importorskip("PIL.Image", reason="no Pillow: python3-pil has it")
+    sheet.open("group=A&overlay")
+    sheet.take(SEASON["A"][0].line())
+    sheet.browser.execute_cdp_cmd("Emulation.setDefaultBackgroundColorOverride", {"color": {"r": 0, "g": 0, "b": 0, "a": 0}})
+    try:
+        picture = base64.b64decode(sheet.browser.execute_cdp_cmd("Page.captureScreenshot", {"format": "png"})["data"])
+    finally:
+        sheet.browser.execute_cdp_cmd("Emulation.setDefaultBackgroundColorOverride", {})
+    (tmp_path / "overlay.png").write_bytes(picture)
+    alpha = image.open(tmp_path / "overlay.png").convert("RGBA").getchannel("A")
+    left, top, right, bottom = (round(it) for it in sheet.run("const it = document.querySelector('table').getBoundingClientRect(); return [it.left, it.top, it.right, it.bottom]"))
+    assert alpha.getextrema() == (0, 255) and alpha.getbbox() == (left, top, right, bottom)
+    assert alpha.getpixel((left + 60, top + 8)) > 200 and bottom < LARGE[1] / 2
+    assert sheet.run("return [...document.querySelectorAll('header, footer, .matches, #title')].every((it) => it.offsetHeight === 0)")
 
 
 @pytest.mark.quick
@@ -478,9 +528,9 @@ def test_a_matchday_that_is_replayed(browser):
     assert conftest.text_of(PAGE.parent / "replay.jsonl") == replayed()
     port = free_port()
     with conftest.Started(["/usr/bin/python3", "-m", "http.server", "--bind", "127.0.0.1", str(port)], cwd=PAGE.parent) as server:
-        until(lambda: is_reached(port))
+        until(lambda: not socket.socket().connect_ex(("127.0.0.1", port)))
         for words, letters in ("wall", "ABCDEFGH"), ("group=C", "C"), ("", "A"):
-            browser.get(f"http://127.0.0.1:{port}/?replay&pace=1&{words}")
+            browser.get(f"http://127.0.0.1:{port}/?replay&pace=1&details&{words}")
             shown = lambda: browser.execute_script(SHOWN + "return shown()")
             wanted = {letter: {**SEASON[letter][-1].shown(), "signal": "Replay"} for letter in letters}
             until(lambda: shown() == wanted, 20)
@@ -488,19 +538,23 @@ def test_a_matchday_that_is_replayed(browser):
         server.kill()
 
 
-# ---- over a broker
+# ---- with a server
 
 
 class Page:
-    """A page in a browser, over a board behind a broker, and the board by the rules."""
+    """A page in a browser, with a server of a record, and the board by the rules."""
 
-    def __init__(self, site, browser):
-        self.site, self.browser, self.matches, port = site, browser, model.fresh(), free_port()
-        self.parts = [site.begin()]
-        self.socket = site.line(LINES["A page"].replace("8080", str(port)))
-        until(lambda: is_reached(port))
+    def __init__(self, hall, browser):
+        self.browser, self.matches, self.hall = browser, model.fresh(), hall()
         Sheet(browser).resize(LARGE)
-        browser.get(f"http://127.0.0.1:{port}/?silence={SILENCE}")
+        browser.get(f"http://127.0.0.1:{self.hall.port}/?silence={SILENCE}&details")
+        browser.execute_script("localStorage.clear()")
+        browser.refresh()
+
+    def append(self, rows):
+        """Appends rows to the record, as a reporter at a terminal does."""
+        with open(self.hall.folder / "a.csv", "a") as record:
+            record.write(rows)
 
     def enter(self, *events):
         """Has a reporter enter events, each a match and a word."""
@@ -508,7 +562,7 @@ class Page:
         for number, word in events:
             rows.append(f"1,{number},{self.matches[number - 1].number},{word}\n")
             self.matches[number - 1].enter(1, word)
-        self.site.done("./ucl_reporter --broker a --again 1 --limit 40", "".join(rows))
+        self.append("".join(rows))
 
     def play(self):
         """Ten matches that are finished, and two in play."""
@@ -536,10 +590,9 @@ class Page:
 
 
 @pytest.fixture
-def page(site, browser):
-    """A page in a browser."""
-    conftest.needs("websocketd")
-    return Page(site, browser)
+def page(hall, browser):
+    """A page in a browser, with a server."""
+    return Page(hall, browser)
 
 
 def test_goals(page):
@@ -549,19 +602,6 @@ def test_goals(page):
     for match, word in (11, "goal-home"), (12, "goal-away"), (11, "goal-home"):
         page.enter((match, word))
         page.shows(news=page.news(match))
-
-
-def test_lines_that_are_old_doubled_cut_or_foreign_and_a_page_that_is_opened_late(page):
-    page.play()
-    page.shows()
-    answers = page.site.done("./ucl_live --format json --screens <a.rows").splitlines()
-    screens = [line for line in answers if '"reply":"screen"' in line]
-    page.browser.execute_script(NOTED)
-    for line in [screens[1], screens[-1], "x", "{}", '{"reply":"screen"}', "[" * 500, screens[-1][:-20], answers[-2]]:
-        page.site.done("mosquitto_pub -q 1 -t ucl/a/desk -s", line)
-    page.enter((11, "yellow-home"))
-    page.shows()
-    assert page.browser.execute_script("return noted") == [f"version {model.version(page.matches)}"]
     page.browser.refresh()
     page.shows()
 
@@ -578,31 +618,55 @@ def test_what_a_screen_reader_is_told(page):
     assert page.browser.execute_script("return document.getElementById('news').getAttribute('aria-live')") == "polite"
 
 
-def test_a_board_that_is_begun_again(page):
-    """Without a kick-off, and with another name; the page shows nothing between."""
+def test_a_mend(page):
+    """Without a kick-off, and with another name: each is one moment, and the page shows nothing between."""
     page.enter((1, "kickoff"), (2, "kickoff"), (2, "goal-home"))
     page.shows()
     page.browser.execute_script(NOTED)
-    page.matches = page.site.mend("a", 8, "club,1,Alfa,60000\n")
-    page.shows(**shown_of(page.matches, [("Alfa", 60_000), *model.ROSTER[1:]], [1], 1), news="Corrected. Not begun: Delta 0, Alfa 0.")
-    assert page.browser.execute_script("return noted") == ["edition 1, version 1"]
+    page.append("mend,6,,\n")
+    page.matches[0] = model.Match()
+    page.shows(**shown_of(page.matches, model.ROSTER, [2], 1), news="Corrected. To come: Bravo 0, Charlie 0.")
+    page.append('club,1,Alfa,"60000"\n')
+    page.shows(**shown_of(page.matches, [("Alfa", 60_000), *model.ROSTER[1:]], [2], 2))
+    assert page.browser.execute_script("return noted") == ["edition 1, version 2", "edition 2, version 2"]
 
 
-@pytest.mark.parametrize("part", ["the board", "the broker", "the server"])
-def test_no_signal_where_a_part_is_gone_and_a_page_that_goes_on_by_itself(page, part):
-    lines = {"the board": page.parts, "the broker": [page.site.broker], "the server": [page.socket]}[part]
+@pytest.mark.parametrize("part", ["the program", "the server", "the server, stopped"])
+def test_what_is_shown_where_a_part_is_gone_and_a_page_that_goes_on_by_itself(page, part):
     page.enter((1, "kickoff"))
     page.shows()
-    for line in lines:
-        line.kill()
-    page.shows(signal="No signal: no table comes")
-    end = time.monotonic() + (2 * SILENCE if part == "the board" else 0)
-    while time.monotonic() < end:
-        assert page.got()["signal"] == "No signal: no table comes"
-        time.sleep(0.1)
-    for line in lines:
-        line.start()
-    if part == "the broker":
-        page.site.await_broker()
+    if part == "the program":
+        for child in page.hall.live():
+            os.kill(child, signal.SIGKILL)
+    else:
+        page.hall.process.send_signal(signal.SIGKILL if part == "the server" else signal.SIGSTOP)
+        page.shows(signal="No signal")
+        time.sleep(2)
+        assert page.got()["signal"] == "No signal"
+        if part == "the server":
+            page.hall.process.wait()
+            page.hall.start()
+        else:
+            page.hall.process.send_signal(signal.SIGCONT)
     page.enter((1, "goal-home"))
     page.shows()
+
+
+def test_a_wall_of_eight(hall, browser):
+    """Each group has its own record, and the page of the server is their wall."""
+    one = hall("--title", "Matchday 6", records=[f"{letter}.csv" for letter in "abcdefgh"])
+    browser.get(f"http://127.0.0.1:{one.port}/?details")
+    matches = {letter: model.fresh() for letter in "ABCDEFGH"}
+    for at, letter in enumerate(matches):
+        events = [(number, word) for number in range(1, 3) for word in ["kickoff", *["goal-home"] * at]]
+        with open(one.folder / f"{letter.lower()}.csv", "a") as record:
+            for number, word in events:
+                record.write(f"1,{number},{matches[letter][number - 1].number},{word}\n")
+                matches[letter][number - 1].enter(1, word)
+    wanted = {letter: shown_of(them, model.ROSTER, [1, 2]) for letter, them in matches.items()}
+    shown = lambda: browser.execute_script(SHOWN + "return shown()")
+    until(lambda: shown() == wanted, 20)
+    assert shown() == wanted and browser.title == "Matchday 6: Groups A to H"
+    browser.get(f"http://127.0.0.1:{one.port}/?details&group=h")
+    until(lambda: shown() == {"H": wanted["H"]}, 20)
+    assert shown() == {"H": wanted["H"]}

@@ -118,6 +118,7 @@ def test_scripts_and_sheets(program, data):
 
 ODD_ROWS = ["screen,,,", "words,,,", "matches,,,", "", "\r", "x", "1,1,0", "screen,1,,", "y" * 257, "z" * 700, "word,1,,", '1,1,0,"kickoff', 'word,1,2000000000000000,"', "1,13,0,goal", '1,1,"0', "\ufeff1,1,0,kickoff"]
 ODD_ROWS += [f"group,{title}" for title in ("A,uefa,0", "A,uefa,1", "A,uefa,2", "B,uefa,1", "H,uefa,1", "A,away-in-tie,1")] + ["club,2,Echo,5", "club,3,,5"]
+ODD_ROWS += ["mend,5,,", "mend,6,,", "mend,7,,", '"mend","09","",""', "mend,12,,", "mend,,3,", "mend,,65535,", "mend,0,,", 'club,2,Real Madrid,"95000"']
 
 
 @given(st.data())

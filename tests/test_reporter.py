@@ -1,141 +1,42 @@
 """`ucl_reporter`: the record that a person keeps at a terminal, alone and with others, through mistakes, crashes and what else is written into it."""
 
-import concurrent.futures
 import contextlib
 import fcntl
 import os
 import pathlib
-import pty
 import random
 import re
-import select
 import signal
-import struct
 import subprocess
 import termios
-import threading
 import time
 
 import model
 import pytest
-from conftest import TOP, Run, command, encoded, text_of
-from model import ROSTER, Session
-from test_broker import random_rows
+from conftest import TOP, Run, command, encoded, needs, text_of
+from model import ROSTER, Session, random_rows
+from terminals import Terminal
 
 pytestmark = pytest.mark.limit(100)
 TITLE = "group,B,uefa,0\n"
 BEGUN = TITLE + model.CLUBS
 STARTED = BEGUN + "1,1,0,kickoff\n1,1,1,goal-home\n1,1,2,goal-away\n"
-# Has the program note what it does with the lock, the record, the disk and its output, in turn, a line each.
-LOG = """import fcntl, os, sys
-if sys.argv[0].endswith("ucl_reporter"):
-    log = open("calls", "a")
-    def noted(name, call):
-        def made(file, *more):
-            if name != "write" or os.path.isfile(f"/proc/self/fd/{file}"):
-                print(name, *(map(len, more) if name == "write" else more), file=log, flush=True)
-            return call(file, *more)
-        return made
-    os.write, os.fsync, fcntl.flock = noted("write", os.write), noted("fsync", os.fsync), noted("flock", fcntl.flock)
-    class Output:
-        def write(self, text):
-            print("show", file=log, flush=True)
-            return sys.__stdout__.write(text)
-        def __getattr__(self, name):
-            return getattr(sys.__stdout__, name)
-    sys.stdout = Output()
-"""
-
-
-class Terminal:
-    """The program at a terminal of its own: what is typed there, all lines that stood there, and the screen at its end."""
-
-    def __init__(self, folder, *words, size=(60, 150)):
-        self.master, slave = pty.openpty()
-        fcntl.ioctl(slave, termios.TIOCSWINSZ, struct.pack("4H", *size, 0, 0))
-        self.process = subprocess.Popen(["./ucl_reporter", *words], cwd=folder, stdin=slave, stdout=slave, stderr=slave, start_new_session=True)
-        os.close(slave)
-        self.lines, self.at, self.column, self.raw = [""], 0, 0, ""
-
-    def type(self, text):
-        """Types letters."""
-        os.write(self.master, text.encode())
-
-    def enter(self, line, answer):
-        """Types a line, and awaits what is told of it."""
-        before = self.text().count(answer)
-        self.type(line + "\n")
-        return self.sees(answer, before + 1)
-
-    def text(self):
-        """All that stands there."""
-        return "\n".join(self.lines)
-
-    def board(self):
-        """The table and what stands below it, once nothing more comes."""
-        while self.read(0.15):
-            pass
-        return self.text()[self.text().rindex("GROUP ") :]
-
-    def sees(self, text, count=1, seconds=20):
-        """Waits until this text stands there so often."""
-        end = time.monotonic() + seconds
-        while self.text().count(text) < count:
-            assert self.read(end - time.monotonic()), f"{text!r} is not there: {self.text()[-3000:]}"
-        return self
-
-    def read(self, seconds):
-        """Takes what comes next; False where nothing comes."""
-        if not select.select([self.master], [], [], max(0, seconds))[0]:
-            return False
-        try:
-            piece = os.read(self.master, 1 << 16).decode()
-        except OSError:
-            return False
-        self.raw += piece
-        for up, what, text in re.findall(r"\x1b\[(\d*)([AHJK])|([\r\n]|[^\x1b\r\n]+)", piece):
-            self.draw(int(up or 0), what or text)
-        return piece != ""
-
-    def draw(self, up, what):
-        """Does what a terminal does."""
-        line = self.lines[self.at]
-        if what in ("A", "H", "\r", "\n") and (up or what != "A"):
-            self.at = {"A": self.at - up, "H": 0, "\r": self.at, "\n": self.at + 1}[what]
-            self.column = self.column if what == "A" else 0
-            self.lines += [""] * (self.at == len(self.lines))
-        elif what in ("J", "K"):
-            self.lines[self.at] = line[: self.column]
-            self.lines = self.lines[: self.at + 1] if what == "J" else self.lines
-        else:
-            self.lines[self.at] = line[: self.column].ljust(self.column) + what + line[self.column + len(what) :]
-            self.column += len(what)
-
-    def end(self, keys="\x04"):
-        """Types Ctrl-D, and awaits the end."""
-        self.type(keys)
-        while self.read(20):
-            pass
-        return self.process.wait(20)
-
-    def kill(self):
-        """Ends it at once."""
-        self.process.kill()
-        self.process.wait()
-        os.close(self.master)
 
 
 class Hall:
     """A folder with the programs and a record."""
 
-    def __init__(self, path, record=None):
+    def __init__(self, path, live, record=None):
         self.path, self.record, self.terminals = path, path / "evening.csv", []
+        # What stands before the program on its line, and what is around it.
+        self.before, self.env = [], {**os.environ, "UCL_LIVE": live}
         if record is not None:
             self.record.write_bytes(encoded(record))
 
     def terminal(self, *words, **how):
         """The program at a terminal, with these words more."""
-        self.terminals.append(Terminal(self.path, *words, "evening.csv", **how))
+        env, shell = {**self.env, "TERM": "xterm", **how.pop("env", {})}, how.pop("shell", "").split()
+        self.terminals.append(Terminal(shell or [*self.before, "./ucl_reporter", *words, "evening.csv"], cwd=self.path, env=env, **how))
         return self.terminals[-1]
 
     def reporter(self, *words, **how):
@@ -144,7 +45,7 @@ class Hall:
 
     def run(self, *words, input="", env=None):
         """The program without a terminal, to its end."""
-        return command(["./ucl_reporter", *words, "evening.csv"], input, cwd=self.path, **({"env": {**os.environ, **env}} if env else {}))
+        return command([*self.before, "./ucl_reporter", "evening.csv", *words], input, cwd=self.path, env={**self.env, **(env or {})})
 
     def rows(self):
         """The rows of the record."""
@@ -160,7 +61,7 @@ class Hall:
 
     def watched(self):
         """The table that is shown first, to who only looks; `seconds` is what a processor took until then."""
-        with subprocess.Popen(["./ucl_reporter", "--watch", "evening.csv"], cwd=self.path, stdin=subprocess.DEVNULL, stdout=subprocess.PIPE) as watch:
+        with subprocess.Popen(["./ucl_reporter", "--watch", "evening.csv"], cwd=self.path, env=self.env, stdin=subprocess.DEVNULL, stdout=subprocess.PIPE) as watch:
             lines = "".join(watch.stdout.readline().decode() for _ in range(6))
             ticks = text_of(pathlib.Path(f"/proc/{watch.pid}/stat")).rpartition(")")[2].split()[11:13]
             watch.kill()
@@ -182,14 +83,14 @@ def shown(evening):
 
 
 @pytest.fixture
-def hall(tmp_path, program):
-    """A function that makes a folder with the programs and a record."""
-    (tmp_path / "ucl_live").symlink_to(program("ucl_live"))
+def hall(tmp_path, live):
+    """A function that makes a folder with the program and a record."""
     (tmp_path / "ucl_reporter").symlink_to(TOP / "ucl_reporter")
     halls = []
-    yield lambda record=None: halls.append(Hall(tmp_path, record)) or halls[-1]
+    yield lambda record=None: halls.append(Hall(tmp_path, live, record)) or halls[-1]
     for terminal in (it for hall in halls for it in hall.terminals):
         terminal.kill()
+
 
 
 # ---- one reporter
@@ -204,11 +105,11 @@ def test_the_first_evening(hall):
                ("", "", "slot 4"), ("", "Delta", "coefficient"), ("", "81500", "Ctrl-D ends")]
     for question, typed, answer in answers:
         one.sees(question).enter(typed, answer)
-    assert text_of(first.record) == TITLE + model.CLUBS.replace("Charlie,60000", '"Char, ""lie""",0') and [*first.path.glob("evening*")] == [first.record]
-    one.enter("1 kickoff", "1 kickoff               entered, row 6: Bravo 0-0 Char, \"lie\", in play, event 1 by 1")
+    assert text_of(first.record) == TITLE + model.CLUBS.replace("Charlie,60000", '"Char, ""lie""",0') and [*first.path.glob("*evening*")] == [first.record]
+    one.sees("12 Delta").enter("1 kickoff", "1 kickoff               entered, row 6: Bravo 0-0 Char, \"lie\", in play, event 1 by 1")
     one.enter("1 Goal HOME", "entered, row 7: Bravo 1-0")
-    assert one.board().startswith(first.table()) and " 2 Delta v Alpha, to come\n" in one.board() and one.board().endswith("\n> ")
-    assert one.end() == 0 and first.rows()[5:] == ["1,1,0,kickoff\n", "1,1,1,goal-home\n"]
+    assert one.board().startswith(first.table()) and " 2 Delta v Alpha, to come\n" in one.board() and one.board().endswith("\n>")
+    assert one.end() == 0 and first.rows()[5:] == ["1,1,0,kickoff\n", "1,1,1,goal-home\n"] and one.is_as_before()
     again = first.reporter("--number", "7", "--matches", "1,2")
     again.enter("1 second-yellow home", "the home side of match 1 has no yellow; type 1 yellow home before it, or 1 red home in its place")
     again.enter("1 yellow home", "entered, row 9").enter("1 second yellow home", "entered, row 10: Bravo 1-0 Char, \"lie\", in play, event 4 by 7, E 1-0")
@@ -217,11 +118,13 @@ def test_the_first_evening(hall):
 
 
 def test_a_record_that_another_begins_meanwhile_stays(hall):
+    """Who is second is told."""
     both = hall()
     one = both.terminal().sees("group").enter("A", "Order").enter("", "slot 1")
     both.record.write_text(STARTED)
     for name in "KLMN":
-        one.enter(name, "coefficient").enter("", "slot" if name != "N" else "Ctrl-D ends")
+        one.enter(name, "coefficient").enter("", "slot" if name != "N" else "Another has begun evening.csv meanwhile: it stays as it is")
+    one.sees("12 Delta")
     assert text_of(both.record) == STARTED and one.board().startswith(both.table())
 
 
@@ -231,10 +134,10 @@ REFUSALS = {
     "3 result 1-0": "match 3 has events", "1 disallow away": "the away side of match 1 has no goal", "4 red home": "has as many as a board counts", "1 gaol home": "1 goal home?", "1 goal hoem": "1 goal home or 1 goal away?",
     "3 disallow away 3 goal home": "; 3 disallow away?", "7 disallow": "7 disallow home or 7 disallow away?",
     "1 kick off": "1 kickoff?", "2 resutl 1-0": "2 result?", "1 corner flag": "help shows them all", "goal home": "help shows them all", "mned 17": "mend?", "clbu 2 X": "club?",
-    "13 goal home": "there is no match 13: they are 1 to 12", "0": "there is no match 0", "5 result 2-x": "a result is 1 result 2-1", "5 result 64-0": "a result is 1 result 2-1",
-    "5 result 1-0 reds 0-32": "a result is 1 result 2-1", "mend 99": "row 99 is no event accepted in edition 0", "mend 5": "row 5 is no event", "mend edition 4": "this record has no edition 4",
-    "mend it": "the clubs are 1 Alpha 60000, 2 Bravo 95000", "club 2 Málaga": "without accents", "club 5 X": "club 2 Real Madrid", "coefficient 1 1000000": "at most 999999", "1,1,2,goal-home": "no event of reporter 7",
-    "7,1,9,goal-home": "match 1 has event number 2 by now, and you had seen 9", "help": "--mend takes what stands above",
+    "13 goal home": "there is no such match: they are 1 to 12", "0": "there is no such match", "5 result 2-x": "a result is 1 result 2-1", "5 result 64-0": "a result is 1 result 2-1",
+    "5 result 1-0 reds 0-32": "a result is 1 result 2-1", "mend 99": "it is no event that stands", "mend 5": "it is no event that stands", "mend edition 4": "type mend 17 with the row of an event, or mend alone",
+    "club 2 Málaga": "without accents", "club 5 X": "club 2 Real Madrid", "coefficient 1 1000000": "at most 999999", "1,1,2,goal-home": "no event of reporter 7",
+    "7,1,9,goal-home": "match 1 has event number 2 by now, and you had seen 9", "help": "with another coefficient in slot 1", "1" * 90: "there is no such match",
 }
 LIMIT = STARTED.splitlines(True)[:5] + ["7,1,0,kickoff\n", "7,1,1,goal-home\n", "7,3,0,kickoff\n", "7,3,1,fulltime\n", "7,4,0,kickoff\n", *(f"7,4,{n},red-home\n" for n in range(1, 32))]
 
@@ -249,32 +152,93 @@ def test_what_is_refused_is_told_with_what_to_do(hall):
     assert shown(evening) == shown(evening_of("".join(LIMIT))[0]) and all("refused" in it for it in answers[len(LIMIT) - 5 :])
 
 
+def test_keys(hall):
+    """Letters are taken back, a line is emptied, the cursor moves, a line is recalled, Tab completes events and clubs; an empty Enter enters nothing."""
+    keys = hall(STARTED)
+    one = keys.reporter().sees("12 Delta")
+    one.type("1 goal awway\x7f\x7f\x7fay\r").sees("1 goal away             entered, row 9")
+    one.type("rubbish\x15\r1 rd home" + "\x1b[D" * 6 + "e\x05\r").sees("1 red home              entered, row 10")
+    one.type("\x1b[A").sees("> 1 red home").type("\x1b[A").sees("> 1 goal away").type("\r").sees("entered, row 11")
+    one.type("1 yel\t").sees("> 1 yellow").type("\t").sees("> 1 yellow home").type("\t\r").sees("1 yellow away           entered, row 12")
+    one.type("club 3 C\t").sees("> club 3 Charlie").type("\x15\x1b[A\x1b[Z\r\r\r").sees("entered, row 13")
+    assert one.end("\r\r\x04") == 0 and len(keys.rows()) == 13 and one.is_as_before()
+
+
+def test_what_is_entered_goes_with_what_was_seen(hall):
+    """A line goes with the moment at its first letter, also if it was recalled or completed; one that was emptied begins anew."""
+    seen = hall(STARTED)
+    one, two = seen.reporter().sees("12 Delta"), seen.reporter("--number", "2").sees("12 Delta")
+    two.enter("1 red away", "entered, row 9")
+    one.sees("row 9")
+    two.type("\x1b[A").sees("> 1 red away")
+    one.enter("1 goal home", "entered, row 10")
+    two.sees("row 10").type("\r").sees("1 red away              refused: match 1 has event number 5 by now, and you had seen 4")
+    two.type("1 goal").sees("> 1 goal")
+    one.enter("1 goal away", "entered, row 12")
+    two.sees("row 12").type("\x15").sees(">").type("1 goal home\r").sees("1 goal home             entered, row 13")
+    two.type("1 y\t").sees("> 1 yellow").type("\t").sees("> 1 yellow home")
+    one.enter("1 goal away", "entered, row 14")
+    two.sees("row 14").type("\r").sees("1 yellow home           refused: match 1 has event number 8 by now, and you had seen 7")
+
+
+def test_what_waits_at_the_terminal_is_taken_before_a_newer_moment_is_drawn(hall):
+    """A line is typed while the program is stopped, and an event comes before it goes on: it was typed at the moment that stood there."""
+    waits = hall(STARTED)
+    for count in range(8):
+        one = waits.reporter().sees("12 Delta")
+        one.board()
+        rows = len(waits.rows())
+        number = waits.evening()[0].matches[0].number
+        one.process.send_signal(signal.SIGSTOP)
+        with open(waits.record, "a") as file:
+            file.write(f"2,1,{number},goal-home\n")
+        one.type("1 goal home\r")
+        time.sleep(0.1)
+        one.process.send_signal(signal.SIGCONT)
+        one.sees(f"refused: match 1 has event number {number + 1} by now, and you had seen {number}", 1)
+        assert one.end() == 0 and len(waits.rows()) == rows + 2
+
+
 def test_lines_that_are_pasted(hall):
-    """Rows of one's own on the way count; letters may be taken back."""
+    """Each is a line of its own, as seen at the paste, with the own rows that wait; the last has no end and stays; without marks of a paste too."""
     pasted = hall(BEGUN)
-    pasted.reporter().type("1 kickoff\n1 goal home\n1 goal awway\x7f\x7f\x7fay\nrubbish\x151 red home\n\x1b[A1 fulltime\n")
-    pasted.terminals[0].sees("1 fulltime              entered, row 10")
+    one = pasted.reporter().sees("12 Delta").paste("1 kickoff\r\n1 goal home\n\n1 goal away\nrubbish\n1 red home\n1 fullt")
+    one.sees("1 red home              entered, row 9").sees("> 1 fullt").type("ime\r").sees("1 fulltime              entered, row 10")
     assert [row[4:] for row in pasted.rows()[5:]] == ["0,kickoff\n", "1,goal-home\n", "2,goal-away\n", "3,red-home\n", "4,fulltime\n"]
+    one.type("2 kickoff\r2 goal home\r2 goal away\r").sees("2 goal away             entered, row 13")
+    assert [row[4:] for row in pasted.rows()[10:]] == ["0,kickoff\n", "1,goal-home\n", "2,goal-away\n"] and one.end() == 0
+
+
+def test_a_question_is_in_no_history(hall):
+    """What answers it is not recalled; an empty Enter answers nothing; what was typed before it stays."""
+    asked = hall(STARTED)
+    one = asked.reporter().sees("12 Delta").enter("mend 7", "would begin").sees("append it?")
+    one.type("\r").board()
+    one.enter("n", "Nothing is appended").type("\x1b[A").sees("> mend 7").type("\x15").enter("mend 8", "would begin").enter("y", "Edition 1 has begun")
+    one.type("\x1b[A").sees("> mend 8")
+    assert asked.rows()[8:] == ["mend,8,,\n"] and one.end() == 0
 
 
 def test_whatever_is_typed(hall):
     """Nothing that is typed ends it, and no row that comes of it is a bad one."""
     odd, chance = hall(STARTED), random.Random(11)
-    words = "1 2 3 13 999999999999 kickoff goal home away yellow red second-yellow fulltime reopen result 2-1 1-1 yellows mend 7 9 12 edition 0 club coefficient 61000 X".split()
-    words += ["", "y", "n", "y", "help", "1,1,3,red-home", "1,1,70000,red-home", "1,13,0,x", "\x1b[A", "\x7f", "\x15", "\t", "é", "²", "٣", ",", '"']
-    one = odd.reporter()
+    words = "1 2 3 13 999999999999 kickoff goal home away yellow red second-yellow fulltime reopen result 2-1 1-1 yellows mend 7 9 12 club coefficient 61000 X".split()
+    words += ["", "y", "n", "y", "help", "1,1,3,red-home", "1,1,70000,red-home", "1,13,0,x", "\x1b[A", "\x7f", "\x15", "\t", "é", "²", "٣", ",", '"', "\x1b", "\x00", "\x18", "\x1b[200~1 goal\nhome\n\x1b[201~"]
+    one = odd.reporter().sees("12 Delta")
     for number in range(120):
-        one.type("n\nmend\ny\n" if number % 40 == 20 else " ".join(chance.choices(words, k=chance.choice([1, 1, 2, 3, 3, 3, 4, 5]))) + "\n")
-        one.read(0.02)
-    assert one.end("n\n\x04") == 0 and "Traceback" not in one.text()
+        one.type(" ".join(chance.choices(words, k=chance.choice([1, 1, 2, 3, 3, 3, 4, 5]))) + "\r")
+        one.read(0.05)
+    one.type("\x15\rn\r\x15").board()
+    one.enter("mend", "would begin").enter("y", " has begun")
+    assert one.end() == 0 and "Traceback" not in one.text() and one.is_as_before()
     evening, answers = odd.evening()
     assert not any("bad-row" in it for it in answers) and evening.style.edition > 0 and odd.watched() == odd.table()
 
 
 def test_a_result(hall):
-    """The fewest events, in one block of rows; cards too."""
+    """The fewest events, by one write; cards too."""
     taken = hall(BEGUN)
-    one = taken.reporter("--number", "4")
+    one = taken.reporter("--number", "4").sees("12 Delta")
     one.enter("3 result 2-1 yellows 0-1 reds 1-0", "entered, row 12: Alpha 2-1 Bravo, finished, event 7 by 4, Y 0-1, E 1-0")
     one.enter("12 result 0-0", "entered, row 14: Delta 0-0 Charlie, finished, event 2 by 4")
     assert "".join(taken.rows()[5:12]) == "".join(f"4,3,{n},{it}\n" for n, it in enumerate("kickoff goal-home goal-home goal-away yellow-away red-home fulltime".split()))
@@ -282,12 +246,15 @@ def test_a_result(hall):
     assert one.board().startswith(taken.table())
 
 
-def test_a_small_terminal(hall):
-    """What does not fit is cut, and the line that is typed stays."""
+def test_a_small_terminal_and_another_size(hall):
+    """What does not fit is cut, and the line that is typed stays, at once also where the size changes; COLUMNS counts for nothing."""
     small = hall(STARTED)
-    one = small.reporter(size=(9, 40)).enter("1 red home", "entered, row 9")
+    one = small.terminal(size=(9, 40), env={"COLUMNS": "200", "LINES": "3"}).sees("GROUP B v00003").enter("1 red home", "entered, row 9")
     lines = one.board().split("\n")
-    assert len(lines) == 8 and max(map(len, lines)) < 40 and lines[-1] == "> "
+    assert len(lines) == 8 and max(map(len, lines)) < 40 and lines[-1] == ">"
+    one.type("1 goal").sees("> 1 goal").resize(30, 100)
+    one.sees("12 Delta v Charlie, to come").sees("1 Bravo 1-1 Charlie, in play, event 4 by 1, E 1-0")
+    assert one.board().endswith("\n> 1 goal")
 
 
 # ---- several reporters
@@ -296,8 +263,8 @@ def test_a_small_terminal(hall):
 def test_two_who_type_one_goal(hall):
     """The number is that of the first letter: the second is refused, whoever presses Enter when."""
     both = hall(STARTED)
-    one, two = both.reporter(), both.reporter("--number", "2")
-    two.type("1 g")
+    one, two = both.reporter().sees("12 Delta"), both.reporter("--number", "2").sees("12 Delta")
+    two.type("1 g").sees("> 1 g")
     one.enter("1 goal home", "entered, row 9")
     two.sees("row 9: 1 goal home by reporter 1: Bravo 2-1 Charlie")
     two.enter("oal home", "refused: match 1 has event number 4 by now, and you had seen 3: look at it, and type yours again if it is not there")
@@ -310,63 +277,78 @@ def test_two_who_type_one_goal(hall):
 def test_a_goal_that_is_typed_while_another_mends(hall):
     """Its number fits by chance; it is dropped, and not counted twice."""
     both = hall(STARTED + "2,1,3,goal-home\n")
-    one, two = both.reporter(), both.reporter("--number", "2")
-    two.type("1 goal home")
-    one.enter("mend 7", "would be this").enter("y", "Edition 1 has begun")
+    one, two = both.reporter().sees("12 Delta"), both.reporter("--number", "2").sees("12 Delta")
+    two.type("1 goal home").sees("> 1 goal home")
+    one.enter("mend 7", "would begin").enter("y", "Edition 1 has begun")
     one.enter("1 yellow home", "entered")
     two.sees("Edition 1 has begun")
     two.enter("", "1 goal home             dropped: edition 1 has begun; look at the match, and type it again if it still holds")
-    assert both.rows()[9:] == [TITLE.replace("0", "1"), "1,1,0,kickoff\n", "1,1,1,goal-away\n", "2,1,2,goal-home\n", "screen,,,\n", "1,1,3,yellow-home\n"]
+    assert both.rows()[9:] == ["mend,7,,\n", "1,1,3,yellow-home\n"]
     assert two.board().startswith(both.table()) and "Bravo 1-1 Charlie" in two.board()
 
 
-def test_an_edition_of_which_no_screen_has_come(hall):
-    """It is seen in the record itself, however its row is written, and also by who has not read it yet."""
-    for row in "group,B,uefa,1\n", '"group","B",uefa,"1"\r\n', '"gro"up,B,uefa,00001\n', "\r\rgroup,B,uefa,1\n":
-        late = hall(STARTED)
-        one = late.reporter()
-        one.process.send_signal(signal.SIGSTOP)
-        one.type("1 goal home\n")
-        with open(late.record, "a") as file:
-            file.write(row)
-        one.process.send_signal(signal.SIGCONT)
-        one.sees("Edition 1 has begun").sees("EDITION 1").sees("1 goal home             dropped: edition 1 has begun").end()
-        assert late.rows()[8:] == [row]
-    for row in "group,B,uefa,0\n", "group,A,uefa,1\n", "group,B,away-in-tie,1\n", "group,B,uefa,65536\n", "group,B,uefa,1,\n", "club,1,Other,1\n":
-        other = hall(STARTED + row)
-        one = other.reporter().enter("1 red away", "entered, row 10")
-        assert one.board().startswith(other.table()) and "EDITION" not in one.board()
-        one.end()
+@pytest.mark.parametrize("row", ["mend,7,,\n", '"mend","007","",""\r\n', '"me"nd,7,,\n', "\r\rmend,7,,\n", "mend,,1,\n", 'club,1,Other,"1"\n'])
+def test_an_edition_of_which_no_screen_has_come(hall, row):
+    """It is seen under the lock, however its row is written: a row that was typed before it is not entered."""
+    late = hall(STARTED)
+    one = late.reporter().sees("12 Delta")
+    one.board()
+    one.process.send_signal(signal.SIGSTOP)
+    one.type("1 goal home\r")
+    with open(late.record, "a") as file:
+        file.write(row)
+    one.process.send_signal(signal.SIGCONT)
+    one.sees("Edition 1 has begun").sees("EDITION 1").sees("1 goal home             dropped: edition 1 has begun").end()
+    assert late.rows()[8:] == [row]
+
+
+@pytest.mark.parametrize("row", ["group,B,uefa,0\n", "group,A,uefa,1\n", "group,B,away-in-tie,1\n", "group,B,uefa,65536\n", "group,B,uefa,1,\n", "club,5,Other,1\n", "mend,0,,\n", "mend,7\n"])
+def test_rows_that_begin_no_edition(hall, row):
+    """They are bad rows, and nobody is hindered."""
+    other = hall(STARTED + row)
+    one = other.reporter().sees("12 Delta").enter("1 red away", "entered, row 10")
+    assert one.board().startswith(other.table()) and "EDITION" not in one.board()
 
 
 def test_two_who_mend_at_once(hall):
     """The second is shown what it would be by now, and asked again."""
     both = hall(STARTED)
-    one, two, three = both.reporter(), both.reporter("--number", "2"), both.reporter("--number", "3")
-    one.enter("mend 7", "would be this")
-    two.enter("club 2 Real Madrid", "would be this")
-    three.enter("mend 7", "would be this")
+    one, two, three = (both.reporter("--number", number).sees("12 Delta") for number in "123")
+    one.enter("mend 7", "would begin")
+    two.enter("club 2 Real Madrid", "would begin")
+    three.enter("mend 7", "would begin")
     one.enter("y", "Edition 1 has begun")
-    two.enter("y", "rows have come since, so look at it again").sees("Edition 2 would be this")
+    two.enter("y", "rows have come since, so look at it again").sees("edition 2 would begin")
     assert "Real Madrid" not in text_of(both.record)
-    three.enter("y", "row 7 is no event accepted in edition 1")
+    three.enter("y", "it is no event that stands")
     two.enter("y", "Edition 2 has begun")
-    assert [*map(str.strip, both.rows()[8:])] == ["group,B,uefa,1", "1,1,0,kickoff", "1,1,1,goal-away", "screen,,,", "group,B,uefa,2", "club,2,Real Madrid,95000", *"1,1,0,kickoff 1,1,1,goal-away screen,,,".split()]
+    assert both.rows()[8:] == ["mend,7,,\n", 'club,2,Real Madrid,"95000"\n']
     one.sees("Edition 2 has begun")
     assert one.board() == two.board() and one.board().startswith(both.table())
 
 
 def test_a_goal_that_comes_while_it_is_asked(hall):
-    """The block is worked out again, and shown again, so the goal is in it; n leaves all as it is."""
+    """No answered row is lost: what the mend leaves out is as it was asked about, so it is appended; and what came is on the board."""
     both = hall(STARTED)
-    one, two = both.reporter(), both.reporter("--number", "2")
-    one.enter("mend 7", "would be this").sees("append it? y or n> ")
+    one, two = both.reporter().sees("12 Delta"), both.reporter("--number", "2").sees("12 Delta")
+    one.enter("mend 7", "would begin").sees("append it? y or n>")
     assert shown(evening_of("".join(both.rows()))[0]) in one.text() and "GROUP B v00002 IN PLAY 1 EDITION 1" in one.text()
     two.enter("1 goal away", "entered, row 9")
-    one.enter("y", "rows have come since")
+    one.enter("y", "mend 7                  entered, row 10")
+    assert both.rows()[8:] == ["2,1,3,goal-away\n", "mend,7,,\n"] and "Bravo 0-2 Charlie" in one.board()
+
+
+def test_a_goal_that_a_mend_would_leave_out_comes_while_it_is_asked(hall):
+    """It is asked again, with that event named; what was left out is told as lines that bring it back."""
+    both = hall(STARTED)
+    one, two = both.reporter().sees("12 Delta"), both.reporter("--number", "2").sees("12 Delta")
+    one.enter("mend 7", "would begin").sees("append it? y or n>")
+    two.enter("1 disallow home", "entered, row 9")
+    one.enter("y", "rows have come since").sees("left out too, no-goal: row 9: 1 disallow home by 2")
     assert len(both.rows()) == 9
-    one.enter("n", "Nothing is appended").enter("mend 7", "would be this").enter("yes", "Edition 1 has begun")
-    assert both.rows()[9:] == ["group,B,uefa,1\n", "1,1,0,kickoff\n", "1,1,1,goal-away\n", "2,1,2,goal-away\n", "screen,,,\n"]
+    one.enter("yes", "mend 7                  entered, row 10").sees("To have back what was left out too")
+    two.sees("Edition 1 has begun").sees("1 disallow home\n")
+    assert both.rows()[9:] == ["mend,7,,\n"] and one.board().startswith(both.table())
 
 
 MISTAKES = [
@@ -376,11 +358,11 @@ MISTAKES = [
 
 
 def test_a_matchday_with_mistakes(hall):
-    """Each is seen by who made it within a row, and mended without a stop, while a screen and a follower look on."""
+    """Each is seen by who made it within a row, and mended without a stop, while a screen looks on that no moment passes twice."""
     day = hall(BEGUN)
-    watch, one = day.terminal("--watch").sees("GROUP B"), day.reporter("--number", "5")
+    watch, one = day.terminal("--watch").sees("GROUP B"), day.reporter("--number", "5").sees("12 Delta")
     meant = [f"{match} {event}" for match in (1, 2) for event in ("kickoff", "goal home", "yellow away", "second yellow away")]
-    one.type("".join(f"{line}\n" for line in meant))
+    one.paste("".join(f"{line}\n" for line in meant))
     one.sees("2 second yellow away    entered, row 13")
     for wrong, mend, right in MISTAKES:
         count = len(day.rows())
@@ -388,7 +370,7 @@ def test_a_matchday_with_mistakes(hall):
             one.enter(wrong, f"entered, row {count + 1}: ")
         edition = day.evening()[0].style.edition + 1
         if mend.split()[0] in ("mend", "club", "coefficient"):
-            one.enter(mend.format(row=count + 1), "would be this").enter("y", f"Edition {edition} has begun")
+            one.enter(mend.format(row=count + 1), "would begin").enter("y", f"Edition {edition} has begun")
         else:
             one.enter(mend, f"entered, row {count + 2}")
         if right:
@@ -398,78 +380,26 @@ def test_a_matchday_with_mistakes(hall):
     assert one.board().startswith(shown(evening)) and watch.board().startswith(shown(evening)) and evening.style.edition == 5
     assert evening.roster == [("Alpha", 61_000), ROSTER[1], ("Charlie FC", 60_000), ROSTER[3]]
     m = evening.matches
-    assert [(m[i].goals, m[i].yellows, m[i].expulsions, m[i].state) for i in (0, 1, 8)] == [([1, 0], [0, 0], [1, 1], 1), ([1, 1], [0, 1], [0, 1], 1), ([0, 0], [0, 0], [0, 0], 0)]
-    versions = [(int(edition or 0), int(version)) for version, edition in re.findall(r"GROUP B v(\d+) IN PLAY \d(?: EDITION (\d+))?", watch.raw)]
-    assert all(not (late[0] == 1 and late[1] < 8) for late in versions), "a screen showed an edition before it was whole"
-    ran = command(["./ucl_live", "--format", "json", "--screens"], "".join(day.rows()), cwd=day.path)
-    assert model.followed([], ran.output)[1].endswith(evening.style.screen(evening.matches, evening.roster))
-
-
-# ---- the next edition
-
-
-def test_mend_without_a_terminal(hall):
-    """What needs what is left out is left out too, and named; another name, another number; as it is; and back to an edition before."""
-    cards = BEGUN + "".join(f"3,1,{n},{it}\n" for n, it in enumerate("kickoff yellow-home second-yellow-home goal-home second-yellow-home".split())) + "3,2,0,kickoff\n3,1,4,fulltime\n"
-    mend = hall(cards)
-    asked = mend.run("--mend", "7")
-    assert asked.status == 1 and asked.errors == "ucl_reporter: nothing is appended; with --yes it is, without a question\n" and text_of(mend.record) == cards
-    assert "left out: row 7: 1 yellow home by reporter 3\nleft out too, since it needs what is left out: row 8: 1 second yellow home by reporter 3\n" in asked.output
-    ran = mend.run("--mend", "7", "--yes")
-    rows = ["group,B,uefa,1\n", "3,1,0,kickoff\n", "3,1,1,goal-home\n", "3,2,0,kickoff\n", "3,1,2,fulltime\n", "screen,,,\n"]
-    assert ran.output == asked.output + "It has begun\n" and mend.rows()[12:] == rows
-    before, after = evening_of(cards)[0], mend.evening()[0]
-    clubs = "1 Alpha 60000, 2 Bravo 95000, 3 Charlie 60000, 4 Delta 81500\n"
-    assert ran.output.endswith(f"Before: {clubs}{shown(before)}After: {clubs}{shown(after)}It has begun\n")
-    mend.run("--mend", 'club 2 A, "b"', "--yes"), mend.run("--mend", "coefficient 4 0", "--yes"), mend.run("--mend", "--yes"), mend.run("--mend", "edition 0", "--yes")
-    titles = [f"group,B,uefa,{edition}\n" for edition in range(2, 6)]
-    assert mend.rows()[18:] == [
-        titles[0], 'club,2,"A, ""b""",95000\n', *rows[1:], titles[1], "club,4,Delta,0\n", *rows[1:], titles[2], *rows[1:],
-        titles[3], "club,2,Bravo,95000\n", "club,4,Delta,81500\n", *(row for n, row in enumerate(cards.splitlines(True)[5:]) if n != 4), "screen,,,\n"]
-    assert mend.run("--mend", "7", "--yes").errors.startswith("ucl_reporter: row 7 is no event accepted in edition 5;") and mend.run("--mend", "8x").status == 1
-    last = hall(STARTED.replace("uefa,0", "uefa,65535"))
-    assert last.run("--mend", "7", "--yes") == Run(1, "", "ucl_reporter: edition 65535 is the last that there is\n")
-
-
-@pytest.mark.parametrize("seed", range(6))
-def test_a_board_that_is_mended_is_the_one_without_the_mistake(hall, seed):
-    """Of a random evening an event is left out: the board has those that still hold, and no row of its edition is refused."""
-    chance = random.Random(seed)
-    rows = random_rows(chance, 150)
-    mend, at = hall(BEGUN + "".join(rows)), chance.randrange(150)
-    assert mend.run("--mend", str(at + 6), "--yes").status == 0
-    wanted = model.fresh()
-    for reporter, game, _, event in (row.strip().split(",") for row in rows[:at] + rows[at + 1 :]):
-        if wanted[int(game) - 1].refusal(wanted[int(game) - 1].number, event) is None:
-            wanted[int(game) - 1].enter(int(reporter), event)
-    evening, answers = mend.evening()
-    assert [m.word() for m in evening.matches] == [m.word() for m in wanted] and not any("refused" in it for it in answers)
-
-
-def test_an_edition_that_ucl_live_refuses_is_not_appended(hall, program):
-    """What this program takes to hold is tried by `ucl_live` before: one that refuses a row of it stands in its place."""
-    mend = hall(STARTED)
-    (mend.path / "ucl_live").unlink()
-    (mend.path / "ucl_live").write_text(f"#!/bin/sh\nsed -u '/^group,B,uefa,1/{{n;s/kickoff/fulltime/}}' | {program('ucl_live')} \"$@\"\n")
-    (mend.path / "ucl_live").chmod(0o755)
-    assert mend.run("--mend", "7", "--yes").errors == "ucl_reporter: ucl_live refuses rows [2, 3] of the edition, so nothing is appended\n" and text_of(mend.record) == STARTED
+    assert [(it.state, it.goals, it.yellows, it.expulsions) for it in (m[0], m[1], m[8])] == [(1, [1, 0], [0, 0], [1, 1]), (1, [1, 1], [0, 1], [0, 1]), (0, [0, 0], [0, 0], [0, 0])]
 
 
 # ---- without a terminal
 
 
-def test_without_a_terminal(hall):
-    """Rows have their numbers or not; what the board has is passed over; the first that is refused ends the run."""
+def test_rows_with_their_numbers(hall):
+    """What the board has is passed over, so the same rows may be given again; the first that is refused ends the run, and nothing after it is entered."""
     rows = hall(STARTED)
-    ran = rows.run(input="1,1,0,kickoff\n1,1,2,goal-away\n1,1,3,red-home\n2 kickoff\n\n2 goal away\n3 result 1-0\n")
-    assert (ran.status, ran.errors) == (0, "") and ran.output.count("passed over: the board has it\n") == 2 and rows.rows()[8:11] == ["1,1,3,red-home\n", "1,2,0,kickoff\n", "1,2,1,goal-away\n"]
+    ran = rows.run(input="1,1,0,kickoff\n\n  1,1,3,red-home \n2 kickoff\n2 goal away")
+    assert ran.output.splitlines() == [
+        "1,1,0,kickoff           passed over: the board has it", "1,1,3,red-home          entered, row 9: Bravo 1-1 Charlie, in play, event 4 by 1, E 1-0",
+        "2 kickoff               entered, row 10: Delta 0-0 Alpha, in play, event 1 by 1", "2 goal away             entered, row 11: Delta 0-1 Alpha, in play, event 2 by 1"]
     for typed, told in [
         ("1,1,2,goal-home\n1,1,4,goal-home", "1,1,2,goal-home: refused: match 1 has event number 4 by now, and you had seen 2"), ("2 gaol home\n2 fulltime", "this is no event and no command; 2 goal home?"),
         ("1,1,7,red-home\n2 fulltime", "1,1,7,red-home: refused: match 1 has event number 4"), ("2,1,4,red-home\n2 fulltime", "2,1,4,red-home: no event of reporter 1"), ("mend 7\ny\n", "without one it is --mend WHAT --yes"),
-        ("1,1,4,corner\n2 fulltime", "no event of reporter 1")]:
+        ("1,1,4,corner\n2 fulltime", "this is no row of an event"), ("1" * 5_000 + " kickoff\n", "there is no such match"), ("\x1b[2J\n", "?[2J: this is no event and no command")]:
         count = len(rows.evening()[1])
         ran = rows.run(input=typed)
-        assert (ran.status, ran.output) == (1, "") and told in ran.errors and ran.errors.startswith("ucl_reporter: ")
+        assert (ran.status, ran.output) == (1, "") and told in ran.errors and ran.errors.startswith("ucl_reporter: ") and ran.errors.count("\n") == 1, ran
         assert all("refused" in it for it in rows.evening()[1][count:])
     assert rows.run("--mend", "7", "--yes").status == 0
     assert "this is of edition 0, and the board of edition 1: look at the matches" in rows.run(input="1,1,3,yellow-home\n").errors
@@ -478,117 +408,170 @@ def test_without_a_terminal(hall):
 
 
 def test_command_lines_and_files(hall):
-    """What is no command line; no record, none that begins a board; a `ucl_live` that is not there, or not built."""
+    """What is no command line; no record, none that begins a board; a `ucl_live` that is not there, or not built; letters that the output lacks."""
     words = hall()
-    assert words.run("--help").output.startswith("usage: ./ucl_reporter RECORD [--number N]") and words.run("--number", "256").status == 2 and words.run("--matches", "0").status == 2
+    assert words.run("--help").output.startswith("usage: ucl_reporter RECORD [--number N]") and words.run("--number", "256").status == 2 and words.run("--matches", "0").status == 2
+    for line in (
+        "--yes", "--watch --mend 7", "--watch --number 3", "--again 2", "--limit 2", "--broker a", "--watch --yes", "--mend 7 --number 2", "--number 0", "--number " + "1" * 5_000, "--matches 1,,2", "--edition 65536", "--edition x",
+        "--watch --edition 1"):
+        ran = words.run(*line.split())
+        assert ran.status == 2 and ran.errors.startswith("usage: ") and "Traceback" not in ran.errors, line
+    for line in "--broker a --again 0", "--broker a --limit nan", "--broker a --watch", "--broker i", "--broker a --mend 7", "":
+        assert command(["./ucl_reporter", *line.split()], cwd=words.path).status == 2
     assert words.run() == words.run("--mend", "7") == Run(1, "", "ucl_reporter: there is no evening.csv; type ./ucl_reporter evening.csv at a terminal to begin it\n")
     for text, fault in ("", "row 1"), (TITLE + "1,1,0,kickoff\n", "row 2"), ("not a record\n", "row 1"), ("\0\xff\n", "row 1"):
         assert hall(text).run().errors == f"ucl_reporter: evening.csv has no board, or ucl_live failed: input refused 20: {fault}\n"
-    (words.path / "build").write_text("#!/bin/sh\nexit 1\n")
-    (words.path / "build").chmod(0o755)
-    (words.path / "start").touch()
-    for make in (lambda: (words.path / "ucl_live").unlink(), lambda: (words.path / "ucl_live").symlink_to(words.path / "start")):
-        make()
-        (words.path / "ucl_reporter").unlink()
-        (words.path / "ucl_reporter").write_text(text_of(TOP / "ucl_reporter"))
-        (words.path / "ucl_reporter").chmod(0o755)
-        assert words.run() == Run(1, "", "ucl_reporter: ucl_live is not built; type ./build, and then this line again\n")
+    assert "line 9 begins another edition by a row of the group" in hall(STARTED + "group,B,uefa,1\n").run(input="1 red home\n").errors
+    assert hall(STARTED).run(env={"UCL_LIVE": "/none/ucl_live"}).errors == "ucl_reporter: evening.csv has no board, or ucl_live failed: /none/ucl_live: No such file or directory\n"
+    ascii_alone = hall(STARTED).run(input="club é\n", env={"PYTHONIOENCODING": "ascii"})
+    assert ascii_alone.status == 1 and "Traceback" not in ascii_alone.errors
 
 
-@pytest.mark.parametrize("change", ["shorter", "another", "other rows", "gone"])
-def test_a_record_that_does_not_only_grow(hall, change):
-    """It says so, and ends."""
-    hurt = hall(STARTED + "1,1,3,red-home\n")
-    one = hurt.reporter()
-    if change == "shorter":
-        hurt.record.write_text(STARTED)
-    elif change == "other rows":
-        with open(hurt.record, "r+") as file:
-            file.write(BEGUN + "1,1,0,kickoff\n1,1,1,goal-away\n1,1,2,goal-away\n1,1,3,red-home\n1,1,4,red-home\n")
-    else:
-        hurt.record.rename(hurt.path / "before.csv")
-        if change == "another":
-            hurt.record.write_text(text_of(hurt.path / "before.csv"))
-    one.sees("ucl_reporter: evening.csv has become another file, or shorter; a record only grows")
-    assert one.process.wait(10) == 1
+def test_a_sheet(hall):
+    """The clubs and words of the board, after mends too; of a file that may only be read."""
+    saved = hall(STARTED + 'mend,8,,\nclub,2,"Br""avo,",7\n')
+    evening, _ = saved.evening()
+    assert saved.run("--sheet") == Run(0, model.CLUBS.replace("Bravo,95000", '"Br""avo,",7') + model.sheet(evening.matches), "")
+
+
+def test_without_the_libraries(hall):
+    """Where no terminal and no broker is asked for, neither is needed; else one line says what to install."""
+    lacks = hall(STARTED)
+    for name in "prompt_toolkit", "paho":
+        (lacks.path / "lib" / name).mkdir(parents=True)
+        (lacks.path / "lib" / name / "__init__.py").write_text("raise ImportError('not here')\n")
+    env = {"PYTHONPATH": str(lacks.path / "lib")}
+    assert lacks.run(input="1 red home\n", env=env).output.startswith("1 red home              entered, row 9")
+    assert lacks.run("--mend", "7", "--yes", env=env).status == 0
+    one = lacks.terminal(env=env).sees("there is no prompt_toolkit: apt install python3-prompt-toolkit")
+    assert one.ends() == 1 and "Traceback" not in one.text() and one.is_as_before()
+    told = command(["./ucl_reporter", "--broker", "a"], cwd=lacks.path, env={**lacks.env, **env})
+    assert told == Run(1, "", "there is no paho-mqtt: apt install python3-paho-mqtt\n")
 
 
 def test_mend_at_a_terminal(hall):
     """It asks there too, and nothing but y is yes."""
     mend = hall(STARTED)
-    for typed, told in ("no", "nothing is appended"), ("y", "It has begun"):
-        mend.terminal("--mend", "7").sees("append it? y or n> ").enter(typed, told)
-    assert mend.rows()[8:] == ["group,B,uefa,1\n", "1,1,0,kickoff\n", "1,1,1,goal-away\n", "screen,,,\n"]
+    for typed, told in ("no", "nothing is appended"), ("y", "mend 7                  entered, row 9"):
+        mend.terminal("--mend", "7").sees("append it? y or n>").enter(typed, told)
+    assert mend.rows()[8:] == ["mend,7,,\n"]
+
+
+def test_the_edition_after_a_machine_went_down(hall):
+    """It is ten further than that which stands, or the last that there is."""
+    after = hall(STARTED)
+    assert after.run("--mend", "--yes").output.endswith("GROUP B v00003 IN PLAY 1 EDITION 10\n")
+    after = hall(STARTED.replace("uefa,0", "uefa,65530"))
+    assert after.run("--mend", "", "--yes").output.endswith("GROUP B v00003 IN PLAY 1 EDITION 65535\n")
+    assert "the edition is not later than that which stands, or there is none any more" in after.run("--mend", "--yes").errors
 
 
 def test_watch_waits_for_its_record(hall):
-    """A screen may be started first; it takes no input."""
+    """A screen may be started first; it takes no input, needs no more than to read, and asks for no lock."""
     late = hall()
     watch = late.terminal("--watch", "--matches", "1")
     time.sleep(0.3)
     late.record.write_text(STARTED)
-    watch.sees("Bravo 1-1 Charlie").type("1 goal home\n")
     with open(late.record, "a") as file:
+        fcntl.flock(file, fcntl.LOCK_EX)
+        watch.sees("Bravo 1-1 Charlie").type("1 goal home\r\x1b[200~x\ny\n\x1b[201~")
         file.write("1,1,3,goal-home\n")
-    watch.sees("Bravo 2-1 Charlie")
-    assert late.rows()[8:] == ["1,1,3,goal-home\n"] and watch.board() == late.table() + " 1 Bravo 2-1 Charlie, in play, event 4 by 1\n" and late.watched() == late.table()
+        file.flush()
+        watch.sees("Bravo 2-1 Charlie")
+    assert late.rows()[8:] == ["1,1,3,goal-home\n"] and watch.board() == late.table() + " 1 Bravo 2-1 Charlie, in play, event 4 by 1" and late.watched() == late.table()
+    watch.type("\x03")
+    assert watch.ends() == 130 and watch.is_as_before()
+
+
+def test_who_may_only_read_looks_on(hall):
+    """A file of mode 0444 of another user, and a lock that is held for ever."""
+    if os.geteuid() != 0:
+        pytest.skip("another user needs root")
+    mine = hall(STARTED)
+    mine.record.chmod(0o444)
+    for folder in [mine.path, *mine.path.parents][:-2]:
+        if folder.stat().st_mode & 0o055 != 0o055:
+            folder.chmod(folder.stat().st_mode | 0o055)
+    with open(mine.record) as file:
+        fcntl.flock(file, fcntl.LOCK_EX)
+        mine.before = ["setpriv", "--reuid=65534", "--clear-groups"]
+        needs("setpriv")
+        for words, wanted in (["--watch"], mine.table()), ([], "Permission denied"):
+            ran = command(["timeout", "5", *mine.before, "./ucl_reporter", "evening.csv", *words], cwd=mine.path, env=mine.env)
+            assert wanted in ran.output + ran.errors, ran
 
 
 # ---- the lock, the disk, and what else is written into a record
 
 
-def calls(hall, *words, input=""):
-    """What the program does with files, in turn: lines of the lock, of writes with their lengths, of the disk and of what is shown."""
-    (hall.path / "sitecustomize.py").write_text(LOG)
-    assert hall.run(*words, input=input, env={"PYTHONPATH": str(hall.path)}).status == 0
-    return text_of(hall.path / "calls").splitlines()
+def test_who_appends_waits_for_the_lock_and_is_told(hall):
+    """Nothing is appended while another has the lock; after two seconds that is told; nothing that is asked holds it, and Ctrl-D ends meanwhile."""
+    held = hall(STARTED)
+    one = held.reporter().sees("12 Delta")
+    with open(held.record) as file:
+        fcntl.flock(file, fcntl.LOCK_EX)
+        one.type("1 goal home\r")
+        time.sleep(0.5)
+        assert text_of(held.record) == STARTED
+        fcntl.flock(file, fcntl.LOCK_UN)
+        one.sees("entered, row 9")
+        one.enter("mend 7", "would begin")
+        fcntl.flock(file, fcntl.LOCK_EX | fcntl.LOCK_NB)
+        one.enter("y", "another program holds the lock of evening.csv")
+        one.enter("1 goal home", "another program holds the lock of evening.csv").type("1 goal away\r")
+        begun = time.monotonic()
+        assert one.end() == 0 and time.monotonic() - begun < 5 and len(held.rows()) == 9 and one.is_as_before()
+
+
+def traced(hall, inject, *words, input=""):
+    """A run in which calls of the system fail, and the calls that it made for its files."""
+    needs("strace")
+    calls = hall.path / "calls"
+    hall.before = ["strace", "-f", "-y", "-o", str(calls), "-e", "trace=write,fsync,flock,fallocate", *inject]
+    ran = hall.run(*words, input=input)
+    hall.before = []
+    return ran, [line.split(maxsplit=1)[1] for line in text_of(calls).splitlines() if "evening.csv" in line or "write(1" in line]
 
 
 def test_rows_are_forced_to_the_disk_under_the_lock_before_they_are_answered(hall):
-    """Each typed line, and each edition, by one write."""
-    typed = calls(hall(STARTED), input="1 red home\n3 result 1-0\n")
-    writes = [place for place, it in enumerate(typed) if it.startswith("write")]
-    assert [typed[at] for at in writes] == ["write 15", "write 45"]
-    for at in writes:
-        assert typed[at - 1] == f"flock {fcntl.LOCK_EX}" and typed[at + 1 : at + 3] == ["fsync", f"flock {fcntl.LOCK_UN}"] and typed[at + 3] == "show"
+    """Each typed line, and each mend, by one write, whose space is reserved before."""
+    for words, input, sizes in ([], "1 red home\n3 result 1-0\n", [15, 45]), (["--mend", "7", "--yes"], "", [9]):
+        ran, calls = traced(hall(STARTED), [], *words, input=input)
+        assert ran.status == 0, ran
+        kinds = ["show" if it.startswith("write(1") else it.split("(")[0] for it in calls]
+        writes = [place for place, kind in enumerate(kinds) if kind == "write"]
+        assert [int(calls[place].rsplit("=", 1)[1]) for place in writes] == sizes
+        for place in writes:
+            assert kinds[place - 1 : place + 2] == ["fallocate", "write", "fsync"] and "LOCK_UN" in calls[place + 2] and "LOCK_EX" in [it for it in calls[:place] if it.startswith("flock")][-1]
+            assert "show" not in kinds[place : place + 3]
 
 
-def test_an_edition_is_one_write(hall):
-    mended = hall(STARTED)
-    told = calls(mended, "--mend", "7", "--yes")
-    at = next(place for place, it in enumerate(told) if it.startswith("write"))
-    assert [it for it in told if it.startswith("write")] == [f"write {len(''.join(mended.rows()[8:]))}"] and told[at + 1] == "fsync" and told[at - 1] == f"flock {fcntl.LOCK_EX}"
+def test_a_disk_that_fails(hall):
+    """`fsync` fails: it may be in the record. The write fails: nothing was entered. The call that reserves space is not there: the row is written."""
+    failed = hall(STARTED)
+    ran, _ = traced(failed, ["-e", "inject=fsync:error=EIO:when=1"], input="1 red home\n2 kickoff\n")
+    assert ran.status == 1 and ran.errors.startswith("ucl_reporter: 1 red home: the disk fails: Input/output error: it may be in the record: look at the match before you type again"), ran
+    assert failed.rows()[8:] == ["1,1,3,red-home\n"]
+    failed = hall(STARTED)
+    ran, _ = traced(failed, ["-e", "inject=fallocate:error=ENOSPC"], input="1 red home\n")
+    assert ran.status == 1 and "1 red home: the disk is full: nothing was entered" in ran.errors and text_of(failed.record) == STARTED
+    for fault in "ENOSYS", "EOPNOTSUPP":
+        ran, _ = traced(hall(STARTED), ["-e", f"inject=fallocate:error={fault}"], input="1 red home\n")
+        assert ran.output.startswith("1 red home              entered, row 9"), ran
 
 
-def test_who_appends_waits_for_the_lock(hall):
-    """Nothing is appended while another has the lock; and nothing that is asked holds it."""
-    held = hall(STARTED)
-    one = held.reporter()
-    with open(held.record) as file:
-        fcntl.flock(file, fcntl.LOCK_EX)
-        one.type("1 goal home\n")
-        time.sleep(0.5)
-        assert text_of(held.record) == STARTED
-    one.sees("entered, row 9")
-    one.enter("mend 7", "would be this")
-    with open(held.record) as file:
-        fcntl.flock(file, fcntl.LOCK_EX | fcntl.LOCK_NB)
-
-
-def test_many_who_append_at_once(hall):
-    """Rows stay whole, each in the record once and with its own answer."""
-    many = hall(BEGUN)
-    with contextlib.ExitStack() as stack:
-        for number in range(1, 7):
-            rows = f"{number} kickoff\n" + "".join(f"{number} goal home\n{number} disallow home\n" for _ in range(10))
-            words = ["./ucl_reporter", "--number", str(number), "evening.csv"]
-            started = subprocess.Popen(words, cwd=many.path, stdin=subprocess.PIPE, stdout=subprocess.DEVNULL)
-            stack.enter_context(started)
-            started.stdin.write(rows.encode())
-            started.stdin.close()
-    assert started.returncode == 0
-    evening, answers = many.evening()
-    assert len(answers) == 126 and all(" ok " in it for it in answers) and [m.number for m in evening.matches] == [21] * 6 + [0] * 6
+@pytest.mark.parametrize("when", [1, 2])
+def test_a_new_record_is_forced_to_the_disk_with_its_folder(hall, when):
+    """If that fails it is told, in a line."""
+    needs("strace")
+    new = hall()
+    new.before = ["strace", "-f", "-o", str(new.path / "calls"), "-e", "trace=fsync", "-e", f"inject=fsync:error=EIO:when={when}"]
+    one = new.terminal().sees("group").enter("", "Order").enter("", "slot 1")
+    for name in "KLMN":
+        one.enter(name, "coefficient").enter("", "slot" if name != "N" else "ucl_reporter: ")
+    one.ends()
+    assert "Input/output error" in one.text() and "Traceback" not in one.text() and text_of(new.path / "calls").count("fsync(") == when
+    assert not [*new.path.glob(".evening*")] and new.record.exists() is (when == 2)
 
 
 def test_a_last_line_that_was_cut_off(hall):
@@ -602,27 +585,11 @@ def test_a_last_line_that_was_cut_off(hall):
         assert torn.run("--mend", "7", "--yes").status == 0 and torn.evening()[0].matches[0].number == count - 1
 
 
-def test_a_block_that_was_cut_off(hall):
-    """At each of its lines, and within: the reporter is told, and goes back to the edition before; who looks on shows the table of the record."""
-    whole = hall(STARTED + "2,5,0,kickoff\n")
-    before = shown(whole.evening()[0])
-    whole.run("--mend", "coefficient 1 7", "--yes")
-    rows = whole.rows()
-    for kept in range(1, len(rows) - 9):
-        for cut in ["", rows[9 + kept][:5]][kept % 2 :]:
-            torn = hall("".join(rows[: 9 + kept]) + cut)
-            one = torn.reporter().sees("Edition 1 was cut off while it was written, or begun by hand; to go back to the one before type mend edition 0")
-            assert one.board().startswith(shown(evening_of("".join(rows[: 9 + kept]))[0]))
-            one.enter("mend edition 0", "would be this").enter("y", "Edition 2 has begun").end()
-            assert shown(torn.evening()[0]) == before.replace("\n", " EDITION 2\n", 1) and torn.evening()[0].roster == ROSTER
-    assert "cut off" not in hall("".join(rows)).reporter().text()
-
-
 def test_what_else_stands_in_a_record(hall):
     """Bytes that are no text, rows in quotes, long lines, readings, empty lines: they are as `ucl_live` has them."""
     odd = '\xff\xfe\n"1","1",3,"goal-home"\n\n\r\n' + "x" * 9000 + '\nscreen,,,\nmatches,,,\n1,1,4,"goal-home\n001,01,00004,red-home\r\n"row":9,"reply":"ok"\n'
     other = hall(STARTED + odd)
-    one = other.reporter().enter("1 red home", "entered, row 19: Bravo 2-1 Charlie, in play, event 6 by 1, E 2-0")
+    one = other.reporter().sees("12 Delta").enter("1 red home", "entered, row 19: Bravo 2-1 Charlie, in play, event 6 by 1, E 2-0")
     with open(other.record, "ab") as file:
         file.write(b"\xff\x00\n1,1,6,goal-away\n")
     one.sees("row 21: 1 goal away by reporter 1").enter("1 red away", "entered, row 22")
@@ -630,107 +597,139 @@ def test_what_else_stands_in_a_record(hall):
     assert other.run("--mend", "7", "--yes").status == 0 and one.sees("EDITION 1").board().startswith(other.table())
 
 
-def test_bytes_written_beside(hall):
-    """Whoever appends without the lock may come between; the number of a row is that of its line."""
-    beside = hall(BEGUN)
-    one = beside.reporter()
-    is_over = threading.Event()
+def test_a_record_that_becomes_another(hall):
+    """It says so, and ends, with the terminal as it was."""
+    hurt = hall(STARTED + "1,1,3,red-home\n")
+    one = hurt.reporter().sees("12 Delta")
+    hurt.record.write_text(STARTED)
+    one.sees("ucl_reporter: evening.csv has become another file, or shorter; a record only grows")
+    assert one.ends() == 1 and one.is_as_before()
 
-    def append():
-        while not is_over.is_set():
-            with open(beside.record, "ab") as file:
-                file.write(b"bad\n")
-            time.sleep(0.001)
 
-    with contextlib.ExitStack() as stack:
-        stack.callback(lambda: (is_over.set(), thread.join()))
-        thread = threading.Thread(target=append)
-        thread.start()
-        for line in ["1 kickoff", *["1 goal home", "1 disallow home"] * 10]:
-            one.enter(line, "entered, row")
-    found = re.findall(r"entered, row (\d+)", one.text())
-    assert len(found) == 21 and [beside.rows()[int(row) - 1] for row in found] == [row for row in beside.rows() if row.startswith("1,")]
+# ---- signals
+
+
+@pytest.mark.parametrize("sent, status", [(signal.SIGINT, 130), (signal.SIGTERM, 143), ("\x03", 130), ("\x04", 0)])
+@pytest.mark.parametrize("typed", ["", "1 goal ho", "mend 7\r"])
+def test_it_is_ended_in_the_middle_of_a_line_or_a_question(hall, sent, status, typed):
+    """The terminal is as it was, and nothing was appended."""
+    ended = hall(STARTED)
+    one = ended.reporter().sees("12 Delta").type(typed)
+    one.sees("append it?" if "mend" in typed else f"> {typed}".rstrip())
+    one.type(sent) if isinstance(sent, str) else one.process.send_signal(sent)
+    assert one.ends() == status and one.is_as_before() and text_of(ended.record) == STARTED and "Traceback" not in one.text()
+
+
+@pytest.mark.parametrize("sent, status", [(signal.SIGINT, 130), (signal.SIGTERM, 143)])
+def test_it_is_ended_in_the_middle_of_an_append(hall, sent, status):
+    """While another has the lock, and while the disk is busy: what came of the row is told, and the terminal is as it was."""
+    needs("strace")
+    busy = hall(STARTED)
+    busy.before = ["strace", "-f", "-o", "/dev/null", "-e", "trace=fsync", "-e", "inject=fsync:delay_enter=1000000"]
+    one = busy.reporter().sees("12 Delta").type("1 goal home\r").sees("1 goal home .. >")
+    time.sleep(0.3)
+    os.kill(child_named(one.process.pid, "ucl_reporter"), sent)
+    one.sees("1 goal home             entered, row 9")
+    one.ends()
+    assert one.is_as_before() and busy.rows()[8:] == ["1,1,3,goal-home\n"]
+    busy.before = []
+    with open(busy.record) as file:
+        fcntl.flock(file, fcntl.LOCK_EX)
+        one = busy.reporter().sees("12 Delta").type("1 goal away\r").sees("1 goal away .. >")
+        one.process.send_signal(sent)
+        one.sees("another program holds the lock")
+        assert one.ends() == status and one.is_as_before() and len(busy.rows()) == 9
+
+
+@pytest.mark.parametrize("sent", ["\x1a", signal.SIGTSTP])
+def test_it_is_suspended(hall, sent):
+    """By Ctrl-Z and by a signal, with nothing held: the terminal is as it was, and once it goes on it shows what came since."""
+    held = hall(STARTED)
+    one = held.terminal(shell="bash --norc --noprofile -i")
+    one.type("stty -a >before; echo re''ady\r").sees("ready").type("./ucl_reporter evening.csv; stty -a >stopped; echo stop''ped\r")
+    one.sees("12 Delta").enter("1 goal home", "entered, row 9").type("1 red").sees("> 1 red")
+    one.type(sent) if isinstance(sent, str) else os.kill(child_named(one.process.pid, "ucl_reporter"), sent)
+    one.sees("stopped\n")
+    with open(held.record, "a") as file:
+        fcntl.flock(file, fcntl.LOCK_EX | fcntl.LOCK_NB)
+        file.write("2,1,4,goal-away\n")
+    one.type("fg; stty -a >after; echo ov''er\r").sees("row 10: 1 goal away by reporter 2").sees("event 5 by 2").type("\x15").enter("1 red home", "entered, row 11").type("\x04").sees("over\n")
+    assert len({text_of(held.path / name) for name in ("before", "stopped", "after")}) == 1 and len(held.rows()) == 11
+
+
+def child_named(parent, name):
+    """The process that this one has started, of a command line with this name."""
+    return next(pid for pid in pids_below(parent) if name in text_of(f"/proc/{pid}/cmdline"))
+
+
+# ---- a full board, and kills
 
 
 def test_a_full_board(hall):
-    """49,140 events: a start takes less than two seconds of a processor; the table is that of the record, and so is the one after a mend."""
+    """49,140 events: a start takes less than a second of a processor; the table is that of the record, and so is the one after a mend."""
     events = [["kickoff", *["goal-home", "disallow-home"] * 2046, "goal-home", "fulltime"] for _ in range(12)]
     full = hall(BEGUN + "".join(f"1,{game},{number},{it}\n" for number in range(4095) for game, it in ((game, events[game - 1][number]) for game in range(1, 13))))
+    if "stand_in" in full.env["UCL_LIVE"]:
+        pytest.skip("a stand-in takes too long")
     taken = []
     for _ in range(3):
         assert full.watched().startswith("GROUP B v49140 IN PLAY 0\n")
         taken.append(full.seconds)
-    assert min(taken) < 2, taken
-    assert full.run("--mend", "7", "--yes").status == 0 and full.rows()[-1] == "screen,,,\n"
-
-
-# ---- kills
+    assert min(taken) < 1, taken
+    assert full.run("--mend", "7", "--yes").status == 0 and full.rows()[-1] == "mend,7,,\n"
 
 
 def pids_below(process):
     """The processes that a process has started."""
-    with contextlib.suppress(OSError):
-        return [int(pid) for pid in pathlib.Path(f"/proc/{process}/task/{process}/children").read_text().split()]
-    return []
+    found = []
+    for task in pathlib.Path(f"/proc/{process}/task").glob("*"):
+        with contextlib.suppress(OSError):
+            found += [int(pid) for pid in (task / "children").read_text().split()]
+    return found
 
 
 def killed_once(hall, chance, rows, start):
     """Gives rows to the program, and kills it, or its `ucl_live` first, in about the time that a start takes. What it wrote and told."""
     pipes = dict.fromkeys(("stdin", "stdout", "stderr"), subprocess.PIPE)
-    with subprocess.Popen(["./ucl_reporter", "evening.csv"], cwd=hall.path, bufsize=0, **pipes) as started:
+    with subprocess.Popen(["./ucl_reporter", "evening.csv"], cwd=hall.path, env=hall.env, bufsize=0, **pipes) as started:
         started.stdin.write("".join(rows).encode())
-        time.sleep(chance.uniform(0, 1.5 * start))
+        time.sleep(chance.uniform(0.3, 1.5) * start)
         for pid in pids_below(started.pid) if chance.random() < 0.5 else []:
             with contextlib.suppress(OSError):
                 os.kill(pid, signal.SIGKILL)
             time.sleep(chance.uniform(0, 0.5 * start))
-        started.kill()
+        started.send_signal(chance.choice([signal.SIGKILL, signal.SIGKILL, signal.SIGHUP]))
         return started.stdout.read().decode(), started.stderr.read().decode()
 
 
-def night_of_kills(hall, seed, end):
-    """Enters an evening through as many kills as there is time for, 250 at most. How many there were, and how many rows were answered."""
-    chance, kills, answered = random.Random(seed), 0, {}
+@pytest.mark.parametrize("part", range(4))
+def test_kills(hall, part, seed, kills):
+    """A hundred kills in all, of four records: no answered row is lost, none is entered twice, and after each start the table is that of the record."""
+    killed, chance, answered = hall(BEGUN), random.Random(f"{seed} {part}"), {}
     rows = [re.sub("^2", "1", row) for row in random_rows(chance, 4000)]
     begun = time.monotonic()
-    assert hall.run(input=rows[0]).status == 0
+    assert killed.run(input=rows[0]).status == 0
     start = time.monotonic() - begun
-    while time.monotonic() < end and kills < 250:
-        accepted = len(hall.rows()) - 5
-        output, errors = killed_once(hall, chance, rows[max(0, accepted - 5) : accepted + 60], start)
-        assert errors == "" and "refused" not in output
+    for number in range(1, kills // 4 + 1):
+        accepted = len([it for it in killed.evening()[1] if " ok " in it])
+        output, errors = killed_once(killed, chance, rows[max(0, accepted - 5) : accepted + 60], start)
+        assert errors == "" and "refused" not in output, (seed, output[-500:], errors)
         answered.update({int(row): text for text, row in re.findall(r"^(\S+) +entered, row (\d+):", output, re.M)})
-        kills += 1
-        assert kills % 25 or hall.watched() == hall.table()
-    lines, accepted = hall.rows(), {int(it.split()[0]) for it in hall.evening()[1] if " ok " in it}
-    assert all(lines[row - 1].strip() == text and row in accepted for row, text in answered.items()) and hall.watched() == hall.table()
-    return kills, len(answered)
-
-
-@pytest.mark.limit(200)
-def test_kills(hall, tmp_path):
-    """A thousand kills, or as many as a minute has: no answered row is lost, and after each start the table is that of the record."""
-    hall()
-    for seed in range(4):
-        (tmp_path / str(seed)).mkdir()
-        for name in "ucl_live", "ucl_reporter":
-            (tmp_path / str(seed) / name).symlink_to(tmp_path / name)
-    with concurrent.futures.ThreadPoolExecutor() as all_at_once:
-        end = time.monotonic() + 45
-        nights = [*all_at_once.map(lambda seed: night_of_kills(Hall(tmp_path / str(seed), BEGUN), seed, end), range(4))]
-    print(nights)
-    assert all(kills > 2 and answered > 10 for kills, answered in nights)
+        assert number % 25 or killed.watched() == killed.table(), seed
+    lines, accepted = killed.rows(), {int(it.split()[0]) for it in killed.evening()[1] if " ok " in it}
+    assert all(lines[row - 1].strip() == text and row in accepted for row, text in answered.items()) and killed.watched() == killed.table(), seed
+    print(f"seed {seed}: {kills // 4} kills, {len(answered)} rows answered")
+    assert len(answered) > kills // 8
 
 
 def test_ucl_live_is_killed_at_a_terminal(hall):
     """It is started again, nothing is missing, and no table is shown that is older than one before."""
     shot = hall(BEGUN + "".join(random_rows(random.Random(3), 200)))
-    one = shot.reporter("--number", "9")
+    one = shot.reporter("--number", "9").sees("12 Delta")
     for number in range(206, 211):
         for pid in pids_below(one.process.pid):
             os.kill(pid, signal.SIGKILL)
         one.enter("result", "this is no event")
         shot.run("--number", "8", input="12 disallow home\n" if number % 2 else "12 goal home\n")
         one.sees(f"row {number}: 12 ")
-    versions = re.findall(r"GROUP B v(\d+)", one.raw)
-    assert one.board().startswith(shot.table()) and versions == sorted(versions) and versions[-1] > "00203"
+    assert one.board().startswith(shot.table()) and one.drawn == sorted(one.drawn) and one.drawn[-1] > "00203"

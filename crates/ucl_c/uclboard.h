@@ -12,8 +12,10 @@
  * status. No call keeps a pointer to the caller's memory.
  *
  * Any thread may make any call at any time, but a handle is in one call at a time. Make no call in a signal handler,
- * or in the forked child of a process with threads. uclboard_script takes up to 64 KiB of stack, each other call
- * less than 8 (measured).
+ * or in the forked child of a process with threads. A call has to return: do not leave it by longjmp, and do not cancel
+ * a thread in it by pthread_cancel with PTHREAD_CANCEL_ASYNCHRONOUS, or the pass of its handle is lost. No call is a
+ * cancellation point of the deferred type. uclboard_script takes up to 64 KiB of stack, each other call less than 8
+ * (measured).
  *
  * uclboard_screen, uclboard_screen_length, uclboard_screen_json and uclboard_script ask malloc for memory, and give
  * back all of it. uclboard_open, uclboard_pass_split and uclboard_pass_enlist ask for what a board and a pass take,
@@ -111,9 +113,12 @@ enum { UCLBOARD_SCHEDULED = 0, UCLBOARD_IN_PLAY = 1, UCLBOARD_ENDED = 2 };
 /* The mark of a club: none, certain to be among the first two, certain not to be. */
 enum { UCLBOARD_BLANK = 0, UCLBOARD_PLUS = 1, UCLBOARD_MINUS = 2 };
 
-/* The word of a match before its kick-off. A new board is twelve of them, not twelve zeros, which are words of the
-   first layout. */
+/* The word of a match before its kick-off. A new board is twelve of them. */
 #define UCLBOARD_SCHEDULED_WORD UINT64_C(0x2000000000000000)
+
+/* A board of twelve zeros: each is the word of the first layout of a match before its kick-off. Calls on twelve words
+   read it so; uclboard_next_word and uclboard_match_of refuse a zero as UCLBOARD_BAD_WORD, until uclboard_read_word
+   has read it. */
 
 /* How many words a board has, how many clubs a group, and how many bytes a name at most. */
 #define UCLBOARD_WORDS 12
@@ -168,26 +173,28 @@ uint32_t uclboard_version(void);
 /* Gives the word of a match after an event, in `next`, or the rule that refuses the event. `word` is of today's
    layout. `expected` is the event number of the match that the reporter last saw.
    Errors: UCLBOARD_NO_REPORTER, UCLBOARD_NO_KIND, UCLBOARD_BAD_WORD, and the rules in their order.
-   UCLBOARD_STALE gives the match's event number in `found`, and no other status writes there. */
+   UCLBOARD_STALE gives the match's event number in `found`, and no other status writes there. Neither `next` nor
+   `found` may be null. */
 UCLBOARD_NEEDS_LOOK uclboard_status uclboard_next_word(uint64_t word, uint32_t reporter, uint32_t expected, uint32_t kind, uint64_t *next,
                                                        uint32_t *found);
 
 /* Reads a word that was saved, of today's layout or of the first: the word of the same record in today's goes to
-   `read`. Errors: UCLBOARD_BAD_WORD. */
+   `read`, which may not be null. Errors: UCLBOARD_BAD_WORD. */
 UCLBOARD_NEEDS_LOOK uclboard_status uclboard_read_word(uint64_t word, uint64_t *read);
 
-/* Gives the record of a word of today's layout, in `match`. Errors: UCLBOARD_BAD_WORD. */
+/* Gives the record of a word of today's layout, in `match`, which may not be null. Errors: UCLBOARD_BAD_WORD. */
 UCLBOARD_NEEDS_LOOK uclboard_status uclboard_match_of(uint64_t word, uclboard_match *match);
 
 /* Gives the version of a board, in `version`: the sum of the event numbers of its twelve words, which may be of both
-   layouts. Errors: UCLBOARD_NOT_TWELVE, UCLBOARD_BAD_WORD, which gives the word in `at`. */
+   layouts. Errors: UCLBOARD_NOT_TWELVE, UCLBOARD_BAD_WORD, which gives the word in `at`. Neither `version` nor `at`
+   may be null. */
 UCLBOARD_NEEDS_LOOK uclboard_status uclboard_board_version(const uint64_t *words, size_t words_length, uint32_t *version, uint32_t *at);
 
 /* Gives the table of twelve words, which may be of both layouts, and of the coefficients of four clubs, by slots:
    four `rows`, by places. Names change no table.
    Errors: UCLBOARD_NO_PROFILE, UCLBOARD_NOT_TWELVE, UCLBOARD_BAD_WORD, UCLBOARD_NOT_FOUR, UCLBOARD_BAD_ROSTER,
    UCLBOARD_NOT_FOUR_ROWS. A bad word and a bad roster give the word or the slot in `at`; no other status writes
-   there. */
+   there. Neither `rows` nor `at` may be null. */
 UCLBOARD_NEEDS_LOOK uclboard_status uclboard_standings(const uint64_t *words, size_t words_length, const uint32_t *coefficients,
                                                        size_t coefficients_length, uint32_t profile, uclboard_row *rows, size_t rows_length,
                                                        uint32_t *at);
@@ -195,18 +202,20 @@ UCLBOARD_NEEDS_LOOK uclboard_status uclboard_standings(const uint64_t *words, si
 /* Writes the screen of twelve words, which may be of both layouts, and of four clubs: six lines of ASCII and a zero
    at the front of `out`, and the number of bytes before the zero in `length`. `group` is a letter from 'A' to 'H'.
    Errors: UCLBOARD_NO_PROFILE, UCLBOARD_NO_GROUP, UCLBOARD_NOT_TWELVE, UCLBOARD_BAD_WORD, UCLBOARD_NOT_FOUR,
-   UCLBOARD_BAD_ROSTER (`at` as above), UCLBOARD_NO_ROOM, which gives `length` too; or UCLBOARD_OUT_OF_MEMORY. */
+   UCLBOARD_BAD_ROSTER (`at` as above), UCLBOARD_NO_ROOM, which gives `length` too; or UCLBOARD_OUT_OF_MEMORY.
+   None of `out`, `length` and `at` may be null. */
 UCLBOARD_NEEDS_LOOK uclboard_status uclboard_screen(const uint64_t *words, size_t words_length, const uclboard_club *clubs, size_t clubs_length,
                                                     uint32_t group, uint32_t profile, char *out, size_t out_length, size_t *length,
                                                     uint32_t *at);
 
-/* Gives the length of that screen, without the zero. Errors: those of uclboard_screen, but UCLBOARD_NO_ROOM. */
+/* Gives the length of that screen, without the zero. Errors: those of uclboard_screen, but UCLBOARD_NO_ROOM. Neither
+   `length` nor `at` may be null. */
 UCLBOARD_NEEDS_LOOK uclboard_status uclboard_screen_length(const uint64_t *words, size_t words_length, const uclboard_club *clubs,
                                                            size_t clubs_length, uint32_t group, uint32_t profile, size_t *length, uint32_t *at);
 
 /* Writes that screen as one line of JSON, with its line feed and a zero: the line by which `ucl_live --format json`
    answers a row `screen,,,` of this number, but without the members `edition` and `matches`. Output and errors are
-   those of uclboard_screen. */
+   those of uclboard_screen. None of `out`, `length` and `at` may be null. */
 UCLBOARD_NEEDS_LOOK uclboard_status uclboard_screen_json(uint64_t row, const uint64_t *words, size_t words_length, const uclboard_club *clubs,
                                                          size_t clubs_length, uint32_t group, uint32_t profile, char *out, size_t out_length,
                                                          size_t *length, uint32_t *at);
@@ -218,14 +227,14 @@ UCLBOARD_NEEDS_LOOK uclboard_status uclboard_screen_json(uint64_t row, const uin
    Errors: UCLBOARD_NOT_TWELVE and UCLBOARD_NOT_FOUR, the room for words and for clubs; UCLBOARD_TOO_LONG;
    UCLBOARD_BAD_ROW of rows 1 to 4; UCLBOARD_BAD_ROSTER; UCLBOARD_BAD_ROW of rows from 5 on; UCLBOARD_NO_ROOM, which
    gives `count` too; or UCLBOARD_OUT_OF_MEMORY. A bad row and a bad roster give the row or the slot in `at`; no other
-   status writes there. */
+   status writes there. None of `clubs`, `words`, `replies`, `count` and `at` may be null. */
 UCLBOARD_NEEDS_LOOK uclboard_status uclboard_script(const char *script, size_t script_length, uclboard_club *clubs, size_t clubs_length,
                                                     uint64_t *words, size_t words_length, uclboard_reply *replies, size_t replies_length,
                                                     size_t *count, uint32_t *at);
 
 /* Writes the name of a status and a zero at the front of `out`, and the number of bytes before the zero in `length`.
    The name of a refusal is that which ucl_night prints. Errors: UCLBOARD_NO_STATUS, UCLBOARD_NO_ROOM, which gives the
-   length in `length`. */
+   length in `length`. Neither `out` nor `length` may be null. */
 UCLBOARD_NEEDS_LOOK uclboard_status uclboard_text_of_status(uint32_t status, char *out, size_t out_length, size_t *length);
 
 /* A board that threads share, behind handles. A handle is a pointer that begins as NULL and then holds a pass: a
@@ -243,35 +252,38 @@ UCLBOARD_NEEDS_LOOK uclboard_status uclboard_text_of_status(uint32_t status, cha
    handles of one board are used at once, each in a thread of its own. */
 typedef struct uclboard_pass uclboard_pass;
 
-/* Opens a new board, and puts its first pass, a reader's, into `pass`, which was NULL. Errors: UCLBOARD_IN_USE, or
-   UCLBOARD_OUT_OF_MEMORY. */
+/* Opens a new board, and puts its first pass, a reader's, into the handle at `pass`, which was NULL. Errors:
+   UCLBOARD_IN_USE, or UCLBOARD_OUT_OF_MEMORY. `pass` itself, where the handle is, may not be null. */
 UCLBOARD_NEEDS_LOOK uclboard_status uclboard_open(uclboard_pass **pass);
 
-/* Puts a second reader's pass of the same board into `other`, which was NULL. It has seen all that the first has seen.
-   Errors: UCLBOARD_IN_USE, UCLBOARD_NO_PASS, UCLBOARD_NOT_A_READER, or UCLBOARD_OUT_OF_MEMORY. */
+/* Puts a second reader's pass of the same board into the handle at `other`, which was NULL. It has seen all that the
+   first has seen. Errors: UCLBOARD_IN_USE, UCLBOARD_NO_PASS, UCLBOARD_NOT_A_READER, or UCLBOARD_OUT_OF_MEMORY.
+   Neither `pass` nor `other`, where the handles are, may be null. */
 UCLBOARD_NEEDS_LOOK uclboard_status uclboard_pass_split(uclboard_pass **pass, uclboard_pass **other);
 
-/* Puts a reporter's pass of the same board into `other`, which was NULL; `pass` stays a reader's. No other pass of the
-   board has its number, 1 to 255, or ever gets it. Errors: UCLBOARD_IN_USE, UCLBOARD_NO_PASS, UCLBOARD_NOT_A_READER,
-   UCLBOARD_OUT_OF_MEMORY, which spends no number, UCLBOARD_FULL_BOARD, after which `pass` can do what it could. */
+/* Puts a reporter's pass of the same board into the handle at `other`, which was NULL; `pass` stays a reader's. No other
+   pass of the board has its number, 1 to 255, or ever gets it. Errors: UCLBOARD_IN_USE, UCLBOARD_NO_PASS,
+   UCLBOARD_NOT_A_READER, UCLBOARD_OUT_OF_MEMORY, which spends no number, UCLBOARD_FULL_BOARD, after which `pass` can do
+   what it could. Neither `pass` nor `other`, where the handles are, may be null. */
 UCLBOARD_NEEDS_LOOK uclboard_status uclboard_pass_enlist(uclboard_pass **pass, uclboard_pass **other);
 
 /* Enters an event of a match, 1 to 12, under the number of a reporter's pass. `expected` is the event number of the
    match that the reporter last saw. `number` is the match's event number after the event, at UCLBOARD_STALE the number
    found; no other status writes there. Errors: UCLBOARD_NO_KIND, UCLBOARD_NO_MATCH, UCLBOARD_NO_PASS,
-   UCLBOARD_NOT_A_REPORTER, and the rules in their order. */
+   UCLBOARD_NOT_A_REPORTER, and the rules in their order. Neither `pass` nor `number` may be null. */
 UCLBOARD_NEEDS_LOOK uclboard_status uclboard_pass_report(uclboard_pass **pass, uint32_t match, uint32_t expected, uint32_t kind, uint32_t *number);
 
 /* Gives the number of a reporter's pass, 1 to 255, in `number`: words have it as the reporter of its events. Errors:
-   UCLBOARD_NO_PASS, UCLBOARD_NOT_A_REPORTER. */
+   UCLBOARD_NO_PASS, UCLBOARD_NOT_A_REPORTER. Neither `pass` nor `number` may be null. */
 UCLBOARD_NEEDS_LOOK uclboard_status uclboard_pass_number(uclboard_pass **pass, uint32_t *number);
 
 /* Reads the board by a pass of either kind: a snapshot of twelve words at one point of the call, and their version, how
-   many events had been entered by then. Errors: UCLBOARD_NOT_TWELVE, UCLBOARD_NO_PASS. */
+   many events had been entered by then. Errors: UCLBOARD_NOT_TWELVE, UCLBOARD_NO_PASS. None of `pass`, `words` and
+   `version` may be null. */
 UCLBOARD_NEEDS_LOOK uclboard_status uclboard_pass_read(uclboard_pass **pass, uint64_t *words, size_t words_length, uint32_t *version);
 
 /* Drops the pass of a handle, and with the last pass of a board the board. The handle is NULL then; one that was stays
-   so. */
+   so. `pass`, where the handle is, may not be null. */
 void uclboard_pass_drop(uclboard_pass **pass);
 
 #ifdef __cplusplus

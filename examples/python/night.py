@@ -1,4 +1,5 @@
-"""A night in Python: a whole script is played, and the closing screen written as `ucl_night night` writes it.
+"""A night in Python: a whole script is played, and the closing screen written as `ucl_night night`
+writes it.
 
     UCLBOARD_LIBRARY=FOLDER/libuclboard.so python3 night.py A < ../first_night.csv
 """
@@ -8,7 +9,7 @@ import sys
 import uclboard
 
 
-def main():
+def main() -> None:
     group, order = (sys.argv[1:] + ["A", "uefa"][len(sys.argv[1:]) :])[:2]
     board, clubs, replies = uclboard.play(sys.stdin.buffer.read())
     if board.version() != sum(reply.status == 0 for reply in replies):

@@ -165,16 +165,22 @@ shorter (x ∷ a) (y ∷ b) (z ∷ log) p q le =
     let same : x ≡ y = head_x ∙ sym head_y in
     (t.0, λ i. same i ∷ t.1 i)
 
+-- a beginning of the log that has all steps of a seat has each of them at its place
+pub knows_step : (known log : Log) (k : ℕ) (x : Logged) → IsLog log → IsPrefix known log → taken_by x.seat known ≡ taken_by x.seat log → slice_get log k ≡ Some x
+    → k < length known
+knows_step known log k x is p same at =
+    let t = in_taken log k x at in
+    let u = of_taken x.seat known t.0 x.step (ap (λ (l : List Taken). slice_get l t.0) same ∙ t.1) in
+    let place = place_is log u.0 x is (at_beginning known log u.0 x p u.1) in
+    let last = place_is log k x is at in
+    let below = at_below known u.0 x u.1 in
+    omega arith
+
 -- a beginning with all steps of the seat that took the last one is the whole log
 pub knows_all : (v before : Log) (x : Logged) → IsLog (before ++ x ∷ []) → IsPrefix v (before ++ x ∷ []) → taken_by x.seat v ≡ taken_by x.seat (before ++ x ∷ [])
     → v ≡ before ++ x ∷ []
 knows_all v before x is p same =
-    let log = before ++ x ∷ [] in
-    let t = in_taken log (length before) x (at_end before x) in
-    let u = of_taken x.seat v t.0 x.step (ap (λ (l : List Taken). slice_get l t.0) same ∙ t.1) in
-    let place = place_is log u.0 x is (at_beginning v log u.0 x p u.1) in
-    let last = place_is log (length before) x is (at_end before x) in
-    let below = at_below v u.0 x u.1 in
+    let below = knows_step v (before ++ x ∷ []) (length before) x is p same (at_end before x) in
     let long = ap length p.1 in
     sym (append-nil v) ∙ (ap (λ (l : Log). v ++ l) (sym (nothing p.0 (omega (arith, long, length-append v p.0, length-append before (x ∷ []))))) ∙ p.1)
   where

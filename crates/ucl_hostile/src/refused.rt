@@ -9,6 +9,7 @@ use std::io;
 use std::sync::Wait;
 use std::thread::Threads;
 use ucl_board::Board;
+use ucl_command::line_of;
 use ucl_order::Profile::Uefa;
 use ucl_pass::{CellBoard, LiveBoard};
 use ucl_rows::RunFault;
@@ -86,8 +87,26 @@ fn sheets<R: Print>(rt: &R, alloc: Global, input: &[u8]) -> anyhow::Result<()> {
     tell(rt, first.err(), is_kept, text.as_str())
 }
 
-/// A reporter kicks match 1 off, and a reader reads.
-fn short_run(alloc: Global) -> anyhow::Result<Vec<Step>> {
+/// The words of a line of the input, one after the other.
+fn lines<R: Print>(rt: &R, alloc: Global, input: &[u8]) -> anyhow::Result<()> {
+    let mut words = Vec::new(alloc);
+    for word in std::str::from_utf8(input)?.split_whitespace() {
+        words.push(String::from_str(alloc, word)?)?;
+    }
+    mark(alloc, BEGINS)?;
+    let first = line_of(alloc, &words);
+    mark(alloc, ENDS)?;
+    let second = line_of(alloc, &words);
+    let is_kept = match (&first, &second) {
+        (Ok(done), Ok(line)) => done == line,
+        _ => first.is_err(),
+    };
+    let text = format!(in alloc; "{second:?}\n")?;
+    tell(rt, first.err(), is_kept, text.as_str())
+}
+
+/// A reporter kicks match 1 off, and a reader reads so often.
+fn run_of(alloc: Global, readings: usize) -> anyhow::Result<Vec<Step>> {
     let reporter = Caller::Reporter(ReporterNo::new(1).context("no such reporter")?);
     let kick_off = EventCall {
         game: MatchNo::new(1).context("no such match")?,
@@ -101,20 +120,23 @@ fn short_run(alloc: Global) -> anyhow::Result<Vec<Step>> {
         Step::Look(reporter),
         Step::Swap(reporter),
         Step::End(reporter),
-        Step::Begin(reader, Call::Reading),
     ])?;
-    steps.extend_from_slice(&[Step::First(reader); 12])?;
-    steps.extend_from_slice(&[Step::Second(reader); 12])?;
-    steps.push(Step::End(reader))?;
+    for _ in 0..readings {
+        steps.push(Step::Begin(reader, Call::Reading))?;
+        steps.extend_from_slice(&[Step::First(reader); 12])?;
+        steps.extend_from_slice(&[Step::Second(reader); 12])?;
+        steps.push(Step::End(reader))?;
+    }
     Ok(steps)
 }
 
-fn steps<R: Print>(rt: &R, alloc: Global) -> anyhow::Result<()> {
+/// A run of one reading, and of one more for each byte of the input.
+fn steps<R: Print>(rt: &R, alloc: Global, input: &[u8]) -> anyhow::Result<()> {
     let cast = Cast {
         reporters: 1,
         readers: 1,
     };
-    let steps = short_run(alloc)?;
+    let steps = run_of(alloc, input.len().saturating_add(1))?;
     mark(alloc, BEGINS)?;
     let first = run_steps(alloc, &cast, &steps);
     mark(alloc, ENDS)?;
@@ -276,7 +298,8 @@ pub fn run<R: Print + Threads + Wait + Sync>(
             let (first, second) = (CellBoard::open(rt, alloc)?, CellBoard::open(rt, alloc)?);
             nights(rt, alloc, first, second, &night)
         }
-        "run_steps" => steps(rt, alloc),
+        "run_steps" => steps(rt, alloc, input),
+        "line_of" => lines(rt, alloc, input),
         "CellBoard::open" => cells(rt, alloc),
         "WordBoard::open" => tables(rt, alloc),
         _ => anyhow::bail!("no such call"),

@@ -1,7 +1,7 @@
 -- Lines that a handler has answered, one after the other, and what a run comes to.
 use Rattle.std.proofs.Common.{◌≡◌, ℕ, ◌+◌, List, [], ◌∷◌, ◌++◌, length, refl, sym, ap, ◌∙◌, subst, append_assoc, arith, ◌-◌, ◌^◌, ◌≤◌, inl, inr, append-nil}
 use Rattle.std.proofs.Common.{length-append, ◌<◌, take, drop}
-use Rattle.ucl_io.specs.Turns.{AreTurns, Turn, lines_in, state_after, text_in, AreAnswered, Closed, FallShort, Progress, Rules, Turned, WhyShort}
+use Rattle.ucl_io.specs.Turns.{AreTurns, Turn, lines_in, state_after, text_in, AreAnswered, Closed, FallShort, IsLeftAfter, Progress, Rules, StopsNext, Turned, WhyShort}
 use Rattle.ucl_io.specs.declared.fault.ServeFault.{ServeFault}
 use Rattle.ucl_io.specs.declared.fault.ServeFault.TheVariants.{Handler, WriteFailed, ReadFailed, TooLong}
 use Rattle.std.specs.Prelude.{⊤, Result, Ok, Err, OnOk}
@@ -74,15 +74,15 @@ module _ (M F : Type 0) (R : Rules M F) where
       put = put_flushed a.outlet b.outlet c.outlet (text_in turns) p.put q;
     }
 
-    pub answered_cut : (f : ServeFault F) → PutsOrStops {V = ⊤} b.outlet c.outlet [] (Err f) → FallShort R a c lines f
-    answered_cut (WriteFailed written) s = record {
+    pub answered_cut : (f : ServeFault F) → c.handler ≡ b.handler → PutsOrStops {V = ⊤} b.outlet c.outlet [] (Err f) → FallShort R a c lines f
+    answered_cut (WriteFailed written) same s = record {
       turns = turns;
       rest = [];
       turned = p.turned;
       lines_are = p.lines_are ∙ sym (append-nil (lines_in turns));
-      why = put_cut a.outlet b.outlet c.outlet (text_in turns) written p.put s;
+      why = (put_cut a.outlet b.outlet c.outlet (text_in turns) written p.put s, inl (same ∙ p.handler));
     }
-    answered_cut _ s = absurd s
+    answered_cut _ _ s = absurd s
 
     module _ (more : List (List ℕ)) where
       pub more_lines : (later : List (Turn M)) (rest : List (List ℕ)) → more ≡ lines_in later ++ rest → lines ++ more ≡ lines_in (turns ++ later) ++ rest
@@ -106,21 +106,27 @@ module _ (M F : Type 0) (R : Rules M F) where
         put = rw (text_then M turns later) (put_then a.outlet b.outlet c.outlet (text_in turns) (text_in later) p.put q.put);
       }
 
+      stops_then : (later : List (Turn M)) (rest : List (List ℕ)) (fault : F) → StopsNext R.Stops b.row b.handler c.handler later rest fault
+          → StopsNext R.Stops a.row a.handler c.handler (turns ++ later) rest fault
+      stops_then later rest fault s = record {
+        line = s.line;
+        later = s.later;
+        next = s.next;
+        stops = (let long = length-append turns later in let x = p.row in
+            subst (λ (n : ℕ). R.Stops (state_after a.handler (turns ++ later)) n s.line c.handler fault) (omega arith)
+            (subst (λ (m : M). R.Stops m (b.row + length later) s.line c.handler fault) (reached later) s.stops));
+      }
+
+      left_then : (later : List (Turn M)) (rest : List (List ℕ)) → IsLeftAfter R.Stops b.row b.handler c.handler later rest
+          → IsLeftAfter R.Stops a.row a.handler c.handler (turns ++ later) rest
+      left_then later rest (inl same) = inl (same ∙ reached later)
+      left_then later rest (inr (fault, s)) = inr (fault, stops_then later rest fault s)
+
       pub why_then : (f : ServeFault F) (later : List (Turn M)) (rest : List (List ℕ)) → WhyShort R b c later rest f → WhyShort R a c (turns ++ later) rest f
-      why_then (WriteFailed written) later rest s =
-          rw (text_then M turns later) (put_stops a.outlet b.outlet c.outlet (text_in turns) (text_in later) written p.put s)
-      why_then (Handler fault) later rest (s, put, none) = (
-        record {
-          line = s.line;
-          later = s.later;
-          next = s.next;
-          stops = (let long = length-append turns later in let x = p.row in
-              subst (λ (n : ℕ). R.Stops (state_after a.handler (turns ++ later)) n s.line c.handler fault) (omega arith)
-              (subst (λ (m : M). R.Stops m (b.row + length later) s.line c.handler fault) (reached later) s.stops));
-        },
-        rw (text_then M turns later) (put_then a.outlet b.outlet c.outlet (text_in turns) (text_in later) p.put put),
-        none,
-      )
+      why_then (WriteFailed written) later rest (s, left) =
+          (rw (text_then M turns later) (put_stops a.outlet b.outlet c.outlet (text_in turns) (text_in later) written p.put s), left_then later rest left)
+      why_then (Handler fault) later rest (s, put, none) =
+          (stops_then later rest fault s, rw (text_then M turns later) (put_then a.outlet b.outlet c.outlet (text_in turns) (text_in later) p.put put), none)
       why_then _ _ _ s = absurd s
 
       -- some were not
@@ -134,26 +140,36 @@ module _ (M F : Type 0) (R : Rules M F) where
       }
 
   -- one line was not answered
+  stops_one : (a b : Progress M) (line : List ℕ) (fault : F) → R.Stops a.handler a.row line b.handler fault → StopsNext R.Stops a.row a.handler b.handler [] (line ∷ []) fault
+  unfolding state_after
+  stops_one a b line fault s =
+      record { line = line; later = []; next = refl; stops = subst (λ (n : ℕ). R.Stops a.handler n line b.handler fault) (omega arith) s }
+
   pub short_one : (a b : Progress M) (line : List ℕ) (f : ServeFault F) → Turned {V = ⊤} R a b line (Err f) → FallShort R a b (line ∷ []) f
   unfolding lines_in text_in state_after AreTurns
   short_one a b line (WriteFailed written) (inl s) =
       let t : Turn M = record { line = line; text = s.0; after = b.handler } in
-      record { turns = t ∷ []; rest = []; turned = (s.1, tt); lines_are = refl; why = rw append-nil s.2 }
-  short_one a b line (WriteFailed written) (inr s) = record { turns = []; rest = line ∷ []; turned = tt; lines_are = refl; why = s }
-  short_one a b line (Handler fault) s = record {
-    turns = [];
-    rest = line ∷ [];
-    turned = tt;
-    lines_are = refl;
-    why = (record { line = line; later = []; next = refl; stops = subst (λ (n : ℕ). R.Stops a.handler n line b.handler fault) (omega arith) s.0 }, s.1, s.2);
-  }
+      record { turns = t ∷ []; rest = []; turned = (s.1, tt); lines_are = refl; why = (rw append-nil s.2, inl refl) }
+  short_one a b line (WriteFailed written) (inr (fault, s, short)) =
+      record { turns = []; rest = line ∷ []; turned = tt; lines_are = refl; why = (short, inr (fault, stops_one a b line fault s)) }
+  short_one a b line (Handler fault) s =
+      record { turns = []; rest = line ∷ []; turned = tt; lines_are = refl; why = (stops_one a b line fault s.0, s.1, s.2) }
   short_one _ _ _ _ s = absurd s
 
   -- of more lines
+  stops_more : (a b : Progress M) (turns : List (Turn M)) (rest more : List (List ℕ)) (fault : F) → StopsNext R.Stops a.row a.handler b.handler turns rest fault
+      → StopsNext R.Stops a.row a.handler b.handler turns (rest ++ more) fault
+  stops_more a b turns rest more fault s =
+      record { line = s.line; later = s.later ++ more; next = ap (λ (l : List (List ℕ)). l ++ more) s.next; stops = s.stops }
+
+  left_more : (a b : Progress M) (turns : List (Turn M)) (rest more : List (List ℕ)) → IsLeftAfter R.Stops a.row a.handler b.handler turns rest
+      → IsLeftAfter R.Stops a.row a.handler b.handler turns (rest ++ more)
+  left_more a b turns rest more (inl same) = inl same
+  left_more a b turns rest more (inr (fault, s)) = inr (fault, stops_more a b turns rest more fault s)
+
   why_more : (a b : Progress M) (turns : List (Turn M)) (rest more : List (List ℕ)) (f : ServeFault F) → WhyShort R a b turns rest f → WhyShort R a b turns (rest ++ more) f
-  why_more a b turns rest more (WriteFailed written) s = s
-  why_more a b turns rest more (Handler fault) (s, put, none) =
-      (record { line = s.line; later = s.later ++ more; next = ap (λ (l : List (List ℕ)). l ++ more) s.next; stops = s.stops }, put, none)
+  why_more a b turns rest more (WriteFailed written) (s, left) = (s, left_more a b turns rest more left)
+  why_more a b turns rest more (Handler fault) (s, put, none) = (stops_more a b turns rest more fault s, put, none)
   why_more _ _ _ _ _ _ s = absurd s
 
   pub short_more : (a b : Progress M) (lines more : List (List ℕ)) (f : ServeFault F) → FallShort R a b lines f → FallShort R a b (lines ++ more) f
@@ -173,9 +189,10 @@ module _ (M F : Type 0) (R : Rules M F) where
   turned_by a b line text (Err (WriteFailed n)) h p = inl (text, h, p)
   turned_by _ _ _ _ _ _ p = absurd p
 
-  pub turned_cut : (a b : Progress M) (line : List ℕ) (f : ServeFault F) → PutsOrStops {V = ⊤} a.outlet b.outlet [] (Err f) → Turned {V = ⊤} R a b line (Err f)
-  turned_cut a b line (WriteFailed n) p = inr p
-  turned_cut _ _ _ _ p = absurd p
+  pub turned_cut : (a b : Progress M) (line : List ℕ) (fault : F) (f : ServeFault F) → R.Stops a.handler a.row line b.handler fault
+      → PutsOrStops {V = ⊤} a.outlet b.outlet [] (Err f) → Turned {V = ⊤} R a b line (Err f)
+  turned_cut a b line fault (WriteFailed n) s p = inr (fault, s, p)
+  turned_cut _ _ _ _ _ _ p = absurd p
 
   pub closed_cut : (a b : Progress M) (line text : List ℕ) (f : ServeFault F) → R.Answers a.handler a.row line b.handler text → PutsOrStops {V = ⊤} a.outlet b.outlet text (Err f)
       → Closed {V = ⊤} R a b line (Err f)
@@ -345,7 +362,7 @@ module _ {M F T : Type 0} {D : LineRules M F} {cap : ℕ} {at : T → Seen M} {c
 
   -- more bytes came than any input has
   pub run_too_long : 2 ^ 62 < length s.bytes → Served D cap (at start) (at now) (Err TooLong) (Logged log2 now)
-  run_too_long long = served now [] (Err TooLong) s.consumed s.logged (rw append-nil gone, s.answered.put.sound) (long, refl, refl)
+  run_too_long long = served now [] (Err TooLong) s.consumed s.logged (rw append-nil gone, s.answered.put.sound) (long, refl, refl, s.answered.handler)
 
   -- the source is called once more
   module _ (new : T) {log3 : List T} (logs : log3 ≡ log2 ++ now ∷ []) (counts : count new ≡ count now + 1) where
@@ -370,10 +387,10 @@ module _ {M F T : Type 0} {D : LineRules M F} {cap : ℕ} {at : T → Seen M} {c
 
     -- the source failed
     pub run_read_failed : (read : ℕ) → Keeps (at now).device.left (at new).device.left → (at new).device.taken ≡ (at now).device.taken → (at new).device.failed ≡ (at now).device.failed
-        → read ≡ length s.bytes → Served D cap (at start) (at new) (Err (ReadFailed read)) (Logged log3 new)
-    run_read_failed read kept same sound is =
+        → (at new).handler ≡ (at now).handler → read ≡ length s.bytes → Served D cap (at start) (at new) (Err (ReadFailed read)) (Logged log3 new)
+    run_read_failed read kept same sound left is =
         served new [] (Err (ReadFailed read)) (consumes-kept (at start).device.left (at now).device.left (at new).device.left s.bytes s.consumed kept)
-        asked (all_text same sound) (is, refl, refl)
+        asked (all_text same sound) (is, refl, refl, left ∙ s.answered.handler)
 
     module _ (row2 : ℕ) (held2 : List ℕ) (out2 : ℕ) (more : List ℕ) (moved : Consumes (at now).device.left (at new).device.left more) where
       abbrev there : Progress M
@@ -403,7 +420,7 @@ module _ {M F T : Type 0} {D : LineRules M F} {cap : ℕ} {at : T → Seen M} {c
 
       why : (all : List (Turn M)) (rest : List (List ℕ)) (f : ServeFault F) → WhyShort D.line (first_of (at start)) there all rest f
           → IsOut (at start).device (at new).device (text_in all ++ []) (Err f) × ServeEnds D cap (at start) (at new) (longer all rest) (Err f)
-      why all rest (WriteFailed count) w = (rw append-nil w, inl refl)
+      why all rest (WriteFailed count) (w, left) = (rw append-nil w, inl (refl, left))
       why all rest (Handler fault) (w, put, none2) =
           ((rw append-nil (all_out (first_of (at start)).outlet there.outlet (text_in all) put refl none2), put.sound), (inl w, refl))
       why _ _ _ w = absurd w

@@ -8,7 +8,7 @@ use Rattle.ucl_io.specs.declared.fault.ServeFault.TheVariants.{Handler, ReadFail
 use Rattle.ucl_io.specs.Calls.{Device, HasEnded, device}
 use Rattle.ucl_io.specs.Lines.{begun_line, ended_lines}
 use Rattle.ucl_io.specs.Output.{StoppedShort}
-use Rattle.ucl_io.specs.Turns.{AreTurns, Rules, StopsNext, Turn, lines_in, rules, state_after, text_in}
+use Rattle.ucl_io.specs.Turns.{AreTurns, IsLeftAfter, Rules, StopsNext, Turn, lines_in, rules, state_after, text_in}
 
 -- the rules of a handler: what it does with a line, and, when the input has ended, with the bytes after the last line feed
 pub record LineRules (M F : Type 0) : Type 1 where
@@ -60,12 +60,16 @@ pub record StopsLast {M F : Type 0} (D : LineRules M F) (cap : ℕ) (old new : S
   pub stops : D.last.Stops (state_after old.handler run.turns) (1 + length run.turns) (begun_line cap [] run.bytes) new.handler fault
 
 -- why a run ended, by its result: the input has ended; the source failed, or more bytes came than any input has, when all lines that had an
--- end were answered; the sink failed in the answers; or the handler has no answer to the next line, or to the bytes after the last one
+-- end were answered; the sink failed in the answers; or the handler has no answer to the next line, or to the bytes after the last one.
+-- In each case it says how the handler is left
 abbrev pub ServeEnds : {M F : Type 0} → LineRules M F → ℕ → Seen M → Seen M → Run M → Result ℕ (ServeFault F) → Type 0
 ServeEnds D cap old new run (Ok count) = (count ≡ length run.turns) × HasClosed D cap old new run
-ServeEnds D cap old new run (Err (ReadFailed count)) = (count ≡ length run.bytes) × (run.rest ≡ []) × (run.last ≡ [])
-ServeEnds D cap old new run (Err TooLong) = (2 ^ 62 < length run.bytes) × (run.rest ≡ []) × (run.last ≡ [])
-ServeEnds D cap old new run (Err (WriteFailed written)) = (run.last ≡ []) ⊎ HasClosed D cap old new run
+ServeEnds D cap old new run (Err (ReadFailed count)) =
+    (count ≡ length run.bytes) × (run.rest ≡ []) × (run.last ≡ []) × (new.handler ≡ state_after old.handler run.turns)
+ServeEnds D cap old new run (Err TooLong) =
+    (2 ^ 62 < length run.bytes) × (run.rest ≡ []) × (run.last ≡ []) × (new.handler ≡ state_after old.handler run.turns)
+ServeEnds D cap old new run (Err (WriteFailed written)) =
+    ((run.last ≡ []) × IsLeftAfter D.line.Stops 1 old.handler new.handler run.turns run.rest) ⊎ HasClosed D cap old new run
 ServeEnds D cap old new run (Err (Handler fault)) =
     (StopsNext D.line.Stops 1 old.handler new.handler run.turns run.rest fault ⊎ StopsLast D cap old new run fault) × (run.last ≡ [])
 

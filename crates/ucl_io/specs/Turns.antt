@@ -26,11 +26,13 @@ pub record Progress (M : Type 0) : Type 0 where
 abbrev pub progress : {W M : Type 0} → (W → Option (List ℕ)) → (W → Bool) → ℕ → M → Waiting → W → Progress M
 progress taken failed row handler waiting sink = record { row = row; handler = handler; outlet = outlet taken failed waiting sink }
 
--- a line was answered and the answer put; or the sink failed in this or in what waited; or the handler has no answer, and nothing waits
+-- a line was answered and the answer put; or the sink failed in this, or, if the handler has no answer, in what waited; or the handler has no
+-- answer, and nothing waits
 abbrev pub Turned : {V M F : Type 0} → Rules M F → Progress M → Progress M → List ℕ → Result V (ServeFault F) → Type 0
 Turned R a b line (Ok done) = (text : List ℕ) × R.Answers a.handler a.row line b.handler text × HasPut a.outlet b.outlet text
-Turned R a b line (Err (WriteFailed written)) =
-    ((text : List ℕ) × R.Answers a.handler a.row line b.handler text × StopsIn a.outlet b.outlet text written) ⊎ StopsIn a.outlet b.outlet [] written
+Turned {F = F} R a b line (Err (WriteFailed written)) =
+    ((text : List ℕ) × R.Answers a.handler a.row line b.handler text × StopsIn a.outlet b.outlet text written)
+    ⊎ ((fault : F) × R.Stops a.handler a.row line b.handler fault × StopsIn a.outlet b.outlet [] written)
 Turned R a b line (Err (Handler fault)) = R.Stops a.handler a.row line b.handler fault × HasPut a.outlet b.outlet [] × (b.outlet.held ≡ [])
 Turned R a b line (Err _) = ⊥
 
@@ -84,9 +86,14 @@ pub record StopsNext {M F : Type 0} (Stops : M → ℕ → List ℕ → M → F 
   pub next : rest ≡ line ∷ later
   pub stops : Stops (state_after m turns) (row + length turns) line m2 fault
 
+-- when the sink fails the handler is as these turns left it; or, if it has no answer to the next line, as it is after that
+abbrev pub IsLeftAfter : {M F : Type 0} → (M → ℕ → List ℕ → M → F → Type 0) → ℕ → M → M → List (Turn M) → List (List ℕ) → Type 0
+IsLeftAfter {F = F} Stops row m m2 turns rest = (m2 ≡ state_after m turns) ⊎ ((fault : F) × StopsNext Stops row m m2 turns rest fault)
+
 -- why lines were left: the sink failed in the answers of the turns; or these were put, and the handler has no answer to the next line
 abbrev pub WhyShort : {M F : Type 0} → Rules M F → Progress M → Progress M → List (Turn M) → List (List ℕ) → ServeFault F → Type 0
-WhyShort R a b turns rest (WriteFailed written) = StopsIn a.outlet b.outlet (text_in turns) written
+WhyShort R a b turns rest (WriteFailed written) =
+    StopsIn a.outlet b.outlet (text_in turns) written × IsLeftAfter R.Stops a.row a.handler b.handler turns rest
 WhyShort R a b turns rest (Handler fault) =
     StopsNext R.Stops a.row a.handler b.handler turns rest fault × HasPut a.outlet b.outlet (text_in turns) × (b.outlet.held ≡ [])
 WhyShort R a b turns rest _ = ⊥

@@ -1,3 +1,4 @@
 pub mod Places
 pub mod OneLine
 pub mod Members
+pub mod MendedFlat

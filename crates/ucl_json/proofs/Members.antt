@@ -1,5 +1,5 @@
 -- What the members of a value tell.
-use Rattle.std.proofs.Common.{rules, Bool, List, None, Option, Some, [], ap, append_assoc, arith, cond, drop, false, get_or, inl, inr, le-leb, length, refl, sym, take}
+use Rattle.std.proofs.Common.{rules, Bool, List, None, Option, Some, [], ap, append_assoc, arith, cond, drop, false, get_or, inl, inr, le-leb, length, refl, sym}
 use Rattle.std.proofs.Common.{true, ℕ, ◌&&◌, ◌++◌, ◌+◌, ◌<◌, ◌∙◌, ◌∷◌, ◌≡◌, ◌≤◌}
 use Rattle.std.specs.Result.{result_ok}
 use Rattle.std.specs.Prelude.{Err, IfOk, IsOk, IsUtf8, Ok, Result, map, nat_le, option_and_then}

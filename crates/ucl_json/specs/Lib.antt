@@ -1,3 +1,4 @@
 pub mod Values
+pub mod Mended
 pub mod Lines
 pub mod BoardLines

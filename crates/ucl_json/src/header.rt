@@ -9,6 +9,6 @@ pub struct BoardHeader {
     pub group: u8,
     /// The tie-break order of the clubs.
     pub profile: Profile,
-    /// How many times the board was begun again to put a mistake right. A board of a later edition is newer, however few events it has.
+    /// The edition, from 0: it rises with each mend, which puts a mistake right. A board of a later edition is newer, however few events it has.
     pub edition: u16,
 }

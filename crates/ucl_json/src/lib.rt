@@ -7,11 +7,13 @@ mod board_line;
 mod board_state;
 mod header;
 mod line;
+mod mended;
 mod reply;
 mod screen;
 
 pub use board_line::parse_board_line;
 pub use board_state::BoardState;
 pub use header::BoardHeader;
+pub use mended::{MendReply, left_out_json, mend_refused_json, mended_json};
 pub use reply::{EventReply, bad_row_json, matches_json, reply_json, words_json};
 pub use screen::{edition_screen_json, screen_json};

@@ -14,8 +14,8 @@ pub use Rattle.ucl_board.specs.Log.{enlists, entry_list, history_of, logged_by, 
 pub use Rattle.ucl_board.specs.Words.{max_version}
 pub use Rattle.ucl_board.specs.declared.entry.Entry.{Entry}
 pub use Rattle.ucl_live_board.specs.CallSteps.{EnlistSteps, IsOnEnlisted}
-pub use Rattle.ucl_live_board.specs.OneHistory.{BoardsOpenFresh, DidAllAlone, ViewInvariant, HoldersDidAll, IsHeld, BoardInvariant, LastStepsSeeAll, Covers}
-pub use Rattle.ucl_live_board.specs.OneHistory.{NumbersAreApart, StepsComeLast, WholeIsAlone}
+pub use Rattle.ucl_live_board.specs.BoardInvariant.{BoardsOpenFresh, DidAllAlone, ViewInvariant, HoldersDidAll, IsHeld, BoardInvariant, LastStepsSeeAll, Covers}
+pub use Rattle.ucl_live_board.specs.BoardInvariant.{NumbersAreApart, StepsComeLast, WholeIsAlone}
 pub use Rattle.ucl_live_board.specs.Passes.{AcceptedReport, Continues, IsSound, Meeting, PassView, SeesOn, SharedReading, entries_by}
 pub use Rattle.ucl_live_board.specs.Shares.{Overlap, Share, first_half, half_of, second_half, whole}
 pub use Rattle.ucl_live_board.specs.Steps.{BoardStep, stepped_to}

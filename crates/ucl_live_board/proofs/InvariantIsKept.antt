@@ -5,9 +5,11 @@ use Rattle.ucl_live_board.proofs.Common.{nat_lt, ltb-true, begins_same, begins_t
 use Rattle.ucl_live_board.proofs.Common.{may_none, Entry, Target, Taken, Logged, logged_by, Log, taken_by, entry_list, history_of, enlists, enlisted_by}
 use Rattle.ucl_live_board.proofs.Common.{MayBeTaken, View, Share, Overlap, new_pass, first_pass, left_pass, second_pass, note_pass, told_pass, ViewInvariant}
 use Rattle.ucl_live_board.proofs.Common.{BoardInvariant, BoardStep, stepped_to}
+use Rattle.atomic_table.proofs.Lists as lists
 use Rattle.ucl_word.proofs.Sequences.{may_next}
 use Rattle.ucl_board.proofs.Logs.{history_more, history_same, enlisted_more, taken_append, taken_own, taken_other, taken_none, below_more, nil_front, between}
 use Rattle.ucl_board.proofs.Logs.{shorter}
+use Rattle.ucl_live_board.specs.PossibleViews.{OccursSomewhere, BothOccur}
 use Rattle.ucl_live_board.proofs.Halves.{overlap_swap, half_overlaps, halves_apart, half_none, acts_some}
 
 -- views by their places
@@ -286,3 +288,28 @@ module _ (words_after : List Entry → ℕ → List ℕ) (May : Log → Logged �
       only : (i : ℕ) (v : View) → get_elem? (first_pass ∷ []) i ≡ some v → i ≡ 0
       only zero v e = refl
       only (suc i) v e = absurd (some-ne-none v (sym e))
+
+-- a pass that another was split off still occurs, beside that one
+pub split_occurs : (words_after : List Entry → ℕ → List ℕ) (May : Log → Logged → Type 0) (v : View) → BothOccur words_after May v (left_pass v) (second_pass v)
+split_occurs words_after May v seat was =
+    let left = set was.views seat (left_pass v) in
+    let here = set_here was.views seat (left_pass v) (place_below was.views seat v was.here) in
+    let below = place_below left seat (left_pass v) here in
+    record {
+      words = was.words;
+      views = left ++ second_pass v ∷ [];
+      rule = seconds_keep words_after May was.words was.views was.rule seat v was.here;
+      here = lists.at_longer left (second_pass v ∷ []) seat (left_pass v) here;
+      other = length left;
+      apart = λ e. omega arith;
+      there = lists.at_last left (second_pass v) (length left) refl;
+    }
+
+-- and so do both
+pub both_occur : (words_after : List Entry → ℕ → List ℕ) (May : Log → Logged → Type 0) (v left second : View) → BothOccur words_after May v left second
+    → OccursSomewhere words_after May v → OccursSomewhere words_after May left × OccursSomewhere words_after May second
+both_occur words_after May v left second split was =
+    let both = split was.0 was.1 in (
+      (was.0, record { words = both.words; views = both.views; rule = both.rule; here = both.here }),
+      (both.other, record { words = both.words; views = both.views; rule = both.rule; here = both.there }),
+    )

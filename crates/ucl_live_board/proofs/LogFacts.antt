@@ -5,7 +5,10 @@ use Rattle.ucl_live_board.proofs.Common.{ℕ_discrete, set_here, set_else, Entry
 use Rattle.ucl_live_board.proofs.Common.{IsLog, IsLegalRule, View, Overlap, first_pass, BoardInvariant, BoardsOpenFresh, StepsComeLast, LastStepsSeeAll}
 use Rattle.ucl_live_board.proofs.Common.{NumbersAreApart, IsHeld, Covers, HoldersDidAll}
 use Rattle.ucl_board.proofs.Logs.{taken_append, log_begins, knows_all}
-use Rattle.ucl_board.proofs.Logs.{legal_history, log_facts}
+use Rattle.std.proofs.Common.{◌≤◌}
+use Rattle.std.proofs.lemmas.List.Elements.{All-weaker}
+use Rattle.ucl_live_board.specs.BoardInvariant.{PassesSeePrefixes, WordsCountReporters}
+use Rattle.ucl_board.proofs.Logs.{enlisted_on, history_on, legal_history, log_facts}
 use Rattle.ucl_live_board.proofs.Halves.{in_whole, on_a_side}
 use Rattle.ucl_live_board.proofs.Alone.{taken_else, some_here, only_own, view_at, none_beyond, number_some, seat_there}
 use Rattle.ucl_live_board.proofs.InvariantIsKept.{place_below}
@@ -54,6 +57,22 @@ opens_fresh words_after May words r =
 
 pub board_facts : (words_after : List Entry → ℕ → List ℕ) (May : Log → Logged → Type 0) → IsLegalRule May → NumbersAreApart words_after May
 board_facts words_after May legal words views r = let steps = legal r.log r.is_log r.follows in (legal_history r.log steps, log_facts r.log r.is_log steps)
+
+pub see_prefixes : (words_after : List Entry → ℕ → List ℕ) (May : Log → Logged → Type 0) → PassesSeePrefixes words_after May
+see_prefixes words_after May words views r seat v here = history_on v.log r.log (r.fits seat v here).knows
+
+pub count_reporters : (words_after : List Entry → ℕ → List ℕ) (May : Log → Logged → Type 0) → IsLegalRule May → WordsCountReporters words_after May
+count_reporters words_after May legal words views r =
+    let facts = log_facts r.log r.is_log (legal r.log r.is_log r.follows) in
+    record {
+      enlisted = enlisted_by r.log;
+      words_are = r.words_are;
+      few = facts.few;
+      numbers = λ seat v here. subst (λ (own : List Taken). number_of own ≤ enlisted_by r.log) (sym (r.fits seat v here).own.1) (facts.low seat);
+      listed = λ seat v here. enlisted_on v.log r.log (r.fits seat v here).knows;
+      reporters = All-weaker (λ (entry : Entry). (0 < entry.reporter) × (entry.reporter ≤ enlisted_by r.log)) (λ (entry : Entry). entry.reporter ≤ enlisted_by r.log)
+          (λ entry ranked. ranked.1) (history_of r.log) facts.ranked;
+    }
 
 -- who holds the whole did all
 

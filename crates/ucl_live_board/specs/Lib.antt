@@ -3,7 +3,7 @@ pub mod Passes
 pub mod LiveRecords
 pub mod Settling
 pub mod Views
-pub mod OneHistory
+pub mod BoardInvariant
 pub mod Steps
 pub mod CallSteps
 pub mod PossibleViews

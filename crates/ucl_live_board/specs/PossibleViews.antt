@@ -7,7 +7,7 @@ use lib.ListN.{get_elem?}
 use Rattle.ucl_board.specs.declared.entry.Entry.{Entry}
 use Rattle.ucl_board.specs.Log.{Logged, Log}
 use Rattle.ucl_live_board.specs.declared.view.View.{View}
-use Rattle.ucl_live_board.specs.OneHistory.{BoardInvariant}
+use Rattle.ucl_live_board.specs.BoardInvariant.{BoardInvariant}
 
 -- a view occurs at a seat: there are words and views of all passes that meet the invariant of the board, with this view at this seat
 pub record OccursIn (words_after : List Entry → ℕ → List ℕ) (May : Log → Logged → Type 0) (seat : ℕ) (view : View) : Type 0 where
@@ -15,6 +15,10 @@ pub record OccursIn (words_after : List Entry → ℕ → List ℕ) (May : Log �
   pub views : List View
   pub rule : BoardInvariant words_after May words views
   pub here : get_elem? views seat ≡ some view
+
+-- a view occurs: some words and views of all passes meet the invariant of the board, with this view at some seat
+abbrev pub OccursSomewhere : (List Entry → ℕ → List ℕ) → (Log → Logged → Type 0) → View → Type 0
+OccursSomewhere words_after May view = (seat : ℕ) × OccursIn words_after May seat view
 
 -- two views occur together: there are words and views of all passes that meet the invariant, with v at this seat and w at another
 pub record OccurTogether (words_after : List Entry → ℕ → List ℕ) (May : Log → Logged → Type 0) (seat : ℕ) (v w : View) : Type 0 where
@@ -25,3 +29,8 @@ pub record OccurTogether (words_after : List Entry → ℕ → List ℕ) (May : 
   pub other : ℕ
   pub apart : other ≢ seat
   pub there : get_elem? views other ≡ some w
+
+-- if a pass occurs with the view `old`, two passes occur together with the views `left`, at the same seat, and `second`: a split makes them
+-- of it
+abbrev pub BothOccur : (List Entry → ℕ → List ℕ) → (Log → Logged → Type 0) → View → View → View → Type 0
+BothOccur words_after May old left second = (seat : ℕ) → OccursIn words_after May seat old → OccurTogether words_after May seat left second

@@ -14,7 +14,7 @@ pub use errors::{Strangers, TooManyReporters};
 pub use live_board::{LiveBoard, MAX_REPORTERS};
 pub use settling::settle;
 pub use theorems::{
-    BoardRule, holders_did_all, last_steps_see_all, numbers_are_apart, steps_come_last,
-    whole_is_alone,
+    BoardRule, holders_did_all, last_steps_see_all, numbers_are_apart, passes_see_prefixes,
+    steps_come_last, whole_is_alone, words_count_reporters,
 };
 pub use view::View;

@@ -1,7 +1,10 @@
 //! What every board is that threads share. A thread holds a pass, its permission on the board; to enlist a reader's pass is to make it a
 //! reporter's, under a number of its own. What a pass has seen is a prefix of the board's history, the list of accepted events.
 
-ghost use Rattle.std.specs.Prelude.{◌≡◌, MatchResult};
+ghost use Rattle.std.specs.Prelude.{◌≡◌, MatchResult, Result};
+ghost use Rattle.ucl_word.specs.declared.event.EventCall.{EventCall};
+ghost use Rattle.ucl_word.specs.declared.event.Accepted.{Accepted};
+ghost use Rattle.ucl_word.specs.declared.refusal.Refusal.{Refusal};
 ghost use Rattle.ucl_live_board.specs.LiveRecords.{LiveReported, LiveRead, LiveSplit, LiveFull, LiveMet};
 ghost use Rattle.ucl_live_board.specs.Passes.{PassView, Enlistment, reporter_figures};
 
@@ -25,10 +28,10 @@ pub trait LiveBoard: Sync {
     /// The pass of a reporter: it enters events under its own number, and reads.
     type ReporterPass: Send + Drop;
 
-    // A reader's pass is one of this board.
+    // A reader's pass is one of this board, and some state that satisfies the invariant of such boards has it.
     ghost is_reader: { Self → Self.ReaderPass → Type 0 };
 
-    // A reporter's pass is one of this board.
+    // A reporter's pass is one of this board, and some state that satisfies the invariant of such boards has it.
     ghost is_reporter: { Self → Self.ReporterPass → Type 0 };
 
     // What contracts know of a reader's pass.
@@ -36,6 +39,9 @@ pub trait LiveBoard: Sync {
 
     // What contracts know of a reporter's pass.
     ghost reporter: { Self.ReporterPass → PassView };
+
+    // What this kind of board promises of one report: the pass before it, the event, the reply, and the pass after it.
+    ghost reported: { Self.ReporterPass → EventCall → Result Accepted Refusal → Self.ReporterPass → Type 0 };
 
     /// Enters an event under the number of the pass. An accepted event is the last that the pass has then seen.
     ///
@@ -62,7 +68,8 @@ pub trait LiveBoard: Sync {
     ) -> Result<Accepted, Refusal>
         requires { is_reporter self.now pass.old }
         ensures own { is_reporter self.now pass.new }
-        ensures says { LiveReported (reporter pass.old) call.now result (reporter pass.new) };
+        ensures says { LiveReported (reporter pass.old) call.now result (reporter pass.new) }
+        ensures reported { reported pass.old call.now result pass.new };
 
     /// Reads the board after a prefix of the history, no shorter than what the pass had seen, with the prefix's length as its version.
     ///

@@ -3,7 +3,7 @@
 //! enlist a pass is to give it a reporter's number. The functions do nothing: each is there for its contract.
 
 ghost use Rattle.ucl_board.specs.Log.{IsLegalRule};
-ghost use Rattle.ucl_live_board.specs.OneHistory.{StepsComeLast, LastStepsSeeAll, NumbersAreApart, HoldersDidAll, WholeIsAlone};
+ghost use Rattle.ucl_live_board.specs.BoardInvariant.{StepsComeLast, LastStepsSeeAll, PassesSeePrefixes, NumbersAreApart, WordsCountReporters, HoldersDidAll, WholeIsAlone};
 
 /// What makes a kind of shared board: its words after a history, and the rule by which steps come one after another in its log.
 pub trait BoardRule {
@@ -32,6 +32,17 @@ pub fn last_steps_see_all<B: BoardRule>()
 /// pass, and that a pass has added the entries of its number, and no others.
 pub fn numbers_are_apart<B: BoardRule>()
     ensures { IsLegalRule B.may → NumbersAreApart B.words_after B.may }
+{}
+
+/// States that what each pass has seen is a prefix of the history of the board.
+pub fn passes_see_prefixes<B: BoardRule>()
+    ensures { PassesSeePrefixes B.words_after B.may }
+{}
+
+/// States that the words of a board count the reporters that are enlisted, at most 255, and that no number is above that count: not that
+/// of a pass, not how many reporters a pass has seen enlisted, not that of an entry in the history.
+pub fn words_count_reporters<B: BoardRule>()
+    ensures { IsLegalRule B.may → WordsCountReporters B.words_after B.may }
 {}
 
 /// States that passes whose shares make up the whole board took all steps that were taken, and have all numbers that were given: no other

@@ -11,7 +11,7 @@ use Rattle.ucl_live_runs.proofs.Common.{mark_name, match_items, match_value, mat
 use Rattle.ucl_live_runs.proofs.Common.{number_text, number_valid, number_value, object, option_and_then, parse_board, parse_board_state, parse_club}
 use Rattle.ucl_live_runs.proofs.Common.{parse_clubs, parse_each, parse_edition, parse_group, parse_order, parse_roster, parse_word, place_items, place_value}
 use Rattle.ucl_live_runs.proofs.Common.{pos, profile_name, profile_named, record_at, refl, reporter_valid, screen_value, serde_json_on_literals, sides_value}
-use Rattle.ucl_live_runs.proofs.Common.{slice_index_or, string, suc, sum_by-le, text_at, true, unsigned, version_of, word_at, word_items, word_valid, zero, ℕ}
+use Rattle.ucl_live_runs.proofs.Common.{IfSome, slice_index_or, string, suc, sum_by-le, text_at, true, unsigned, version_of, word_at, word_items, word_valid, zero, ℕ}
 use Rattle.ucl_live_runs.proofs.Common.{ℤ, ◌%◌, ◌&&◌, ◌*◌, ◌+◌, ◌-ℤ◌, ◌-◌, ◌/◌, ◌<◌, ◌^◌, ◌∙◌, ◌∷◌, ◌≡◌, ◌≤◌}
 use Rattle.serde_json.specs.Data.{number}
 use Rattle.serde_json.specs.Find.{get, of_integer}
@@ -19,6 +19,7 @@ use Rattle.std.proofs.Math.Nat.{pow-suc}
 use Rattle.std.proofs.lemmas.Int.{ints}
 use Rattle.std.specs.Fmt.{digit_glyph}
 use Rattle.ucl_board.specs.Fixtures.{IsSlot, match_numbers}
+use Rattle.ucl_json.specs.Mended.{mended_value, mended_with}
 use Rattle.ucl_order.proofs.KeysFit.{words_valid}
 use Rattle.ucl_order.proofs.Limits.{rows_within}
 use Rattle.ucl_order.specs.Rows.{IsWithinTable, row_of, rows_of}
@@ -147,11 +148,21 @@ screen-has : (row : ℕ) (m : BoardState) → Has (edition_screen_value row m.he
 unfolding edition_screen_value screen_value serde_json_on_literals
 screen-has row m = (refl, refl, refl, refl, refl)
 
+mended-has : (without : Option ℕ) (row left_out : ℕ) (m : BoardState) → Has (mended_with without (mended_value row left_out m.header m.board m.roster)) m
+unfolding mended_value serde_json_on_literals
+mended-has None row left_out m = (refl, refl, refl, refl, refl)
+mended-has (Some n) row left_out m = (refl, refl, refl, refl, refl)
+
+mended-told : (without : Option ℕ) (row left_out : ℕ) (m : BoardState) → IsBoardState m
+    → parse_board_state (mended_with without (mended_value row left_out m.header m.board m.roster)) ≡ Some m
+mended-told without row left_out m is = tells (mended_with without (mended_value row left_out m.header m.board m.roster)) m is (mended-has without row left_out m)
+
 pub answered : AnswersTellTheirBoardState
 unfolding AnswersTellTheirBoardState
 answered row event event_number m is = record {
   reply = tells (accepted_value row event event_number m.header m.board m.roster) m is (reply-has row event event_number m);
   screen = tells (edition_screen_value row m.header m.board m.roster) m is (screen-has row m);
+  mended = λ without left_out. mended-told without row left_out m is;
 }
 
 -- ==== What a session answers in JSON is plain, and short: so each of its lines carries what its value carries
@@ -290,6 +301,28 @@ accepted-plain row event event_number m is r fits n =
       size = omega (arith, digits-20, words.1, clubs.1, kind.1, order.1, is.words.twelve, fits.expected, fits.game, fits.reporter);
     }
 
+mended-plain : (without : Option ℕ) (row left_out : ℕ) (m : BoardState) → IsBoardState m → row < 2 ^ 64 → IfSome without (λ n. n < 2 ^ 64) → left_out < 2 ^ 64
+    → IsShortPlain (mended_with without (mended_value row left_out m.header m.board m.roster))
+unfolding mended_value serde_json_on_literals
+mended-plain None row left_out m is r w l =
+    let words = words-plain m.board is.bits in
+    let clubs = clubs-plain m.roster is.clubs in
+    let order = order-text m.header.profile in
+    let version : version_of m.board < 2 ^ 64 = let v = version-fits m.board is.words in omega arith in
+    let edition : m.header.edition < 2 ^ 64 = let e = is.edition in omega (arith, e) in record {
+      plain = ((refl, refl), (clubs.0, (edition, (group-text m.header.group is.letter, (l, (order.0, (refl, (r, (version, (words.0, tt))))))))));
+      size = omega (arith, digits-20, words.1, clubs.1, order.1, is.words.twelve);
+    }
+mended-plain (Some n) row left_out m is r w l =
+    let words = words-plain m.board is.bits in
+    let clubs = clubs-plain m.roster is.clubs in
+    let order = order-text m.header.profile in
+    let version : version_of m.board < 2 ^ 64 = let v = version-fits m.board is.words in omega arith in
+    let edition : m.header.edition < 2 ^ 64 = let e = is.edition in omega (arith, e) in record {
+      plain = ((refl, refl), (clubs.0, (edition, (group-text m.header.group is.letter, (l, (order.0, (refl, (r, (version, (w, (words.0, tt)))))))))));
+      size = omega (arith, digits-20, words.1, clubs.1, order.1, is.words.twelve);
+    }
+
 -- ---- matches
 
 state-text : (s : State) → IsText (state_name s) × (length (state_name s) ≤ 9)
@@ -409,4 +442,6 @@ told-lines row event event_number m is r fits n =
     let told = answered row event event_number m is in record {
       reply = parsed-line (accepted_value row event event_number m.header m.board m.roster) (accepted-plain row event event_number m is r fits n) ∙ told.reply;
       screen = parsed-line (edition_screen_value row m.header m.board m.roster) (screen-plain row m is r) ∙ told.screen;
+      mended = λ without left_out w l. parsed-line (mended_with without (mended_value row left_out m.header m.board m.roster))
+          (mended-plain without row left_out m is r w l) ∙ told.mended without left_out;
     }

@@ -1,130 +1,79 @@
--- The board of a session, and how a row begins it again.
-use Rattle.ucl_live_runs.proofs.Common.{Accepted, All, All-append, All-cons, All-get_or, All-head, All-nil, All-set, AreWords, Attempt, AwaitingClubs, Bad}
-use Rattle.ucl_live_runs.proofs.Common.{BeginsAgain, BoardHeader, BoardsTakeEvents, Bool, Entry, Err, Event, Format, FourFields, IsAttempt, IsClub, IsLegal}
-use Rattle.ucl_live_runs.proofs.Common.{IsRoster, IsValid, IsWord, Json, Kind, List, LiveArgs, MatchRecord, Matches, MayFollow, NamedClub, NeedsMemory}
-use Rattle.ucl_live_runs.proofs.Common.{NewBoard, NightEvent, None, Nothing, Ok, Open, Option, OtherGroup, Reached, Refusal, RefusedSessionsAreSilent}
-use Rattle.ucl_live_runs.proofs.Common.{RepliesAreThoseOfFeed, Request, RequestNeedsMemory, Result, Said, Screen, Session, SessionsAreSequential, Some}
-use Rattle.ucl_live_runs.proofs.Common.{StayOnTheBoard, Words, [], after, after_attempt, after_beginning, after_club, after_header, after_lines, again}
-use Rattle.ucl_live_runs.proofs.Common.{again_at, again_on, and_parts, answer_at, answer_by_history, answer_of, answer_on, answer_said, answers}
-use Rattle.ucl_live_runs.proofs.Common.{answers_by_history, ap, append-nil, ap₂, arith, asked_by, attempt_board, attempt_of, attempts_from, attempts_in}
-use Rattle.ucl_live_runs.proofs.Common.{attempts_of, bad_field, bad_slot, bad_slot_from, board_after, board_of, by_edition, cases_Bool, club_said, clubs_said}
-use Rattle.ucl_live_runs.proofs.Common.{codes, cond_both, cond_some, edition_said, eqb-true, event_of, event_or_bad, false, fields_seen, fold, game_at}
-use Rattle.ucl_live_runs.proofs.Common.{get_or, header_by, header_said, if◌then◌else◌, in_range, inl, inr, is_asked, is_bad, is_club}
-use Rattle.ucl_live_runs.proofs.Common.{is_group_row, is_later_edition, kind_named, later_header, length, length-set, line_by_history, moved, nat_le, nat_lt}
-use Rattle.ucl_live_runs.proofs.Common.{nat_tests, new_board, next, next_at, next_board, next_on, open_at, record_at, record_back, refl, refusal_of}
-use Rattle.ucl_live_runs.proofs.Common.{reply_answer, reply_by_history, reply_of, request_of, said_on, same_Some, screen_after, sequential_reply, session_at}
-use Rattle.ucl_live_runs.proofs.Common.{set, shown_by, shown_text, slot_in, subst, sum_by-set, sym, true, version_of, versions, with_club_in, with_roster}
-use Rattle.ucl_live_runs.proofs.Common.{word_of, word_valid, ℕ, ⊤, ◌&&◌, ◌++◌, ◌+◌, ◌-◌, ◌<◌, ◌==◌, ◌>>=◌, ◌∙◌, ◌∷◌, ◌≡◌, ◌≤◌, ◌⊎◌}
+-- The events that stand on the board of a session, and what it answers to its lines.
+use Rattle.ucl_live_runs.proofs.Common.{All, All-append, All-cons, All-get_or, All-nil, All-set, AreWords, Attempt, AwaitingClubs, Bad}
+use Rattle.ucl_live_runs.proofs.Common.{BoardHeader, BoardsTakeEvents, Entry, Err, Event, Format, FourFields, IsAttempt, IsClub, IsLegal}
+use Rattle.ucl_live_runs.proofs.Common.{IsRoster, IsValid, IsWord, Json, Kind, List, LiveArgs, MatchRecord, Matches, MayFollow, Mends}
+use Rattle.ucl_live_runs.proofs.Common.{NamedClub, NightEvent, None, NoneMends, Nothing, Ok, Open, Option, OtherGroup, Reached, Refusal}
+use Rattle.ucl_live_runs.proofs.Common.{RefusedSessionsAreSilent, RepliesAreThoseOfFeed, Request, Said, Screen, Session}
+use Rattle.ucl_live_runs.proofs.Common.{SessionsAreSequential, Some, Words, [], after, after_attempt, after_beginning, after_club}
+use Rattle.ucl_live_runs.proofs.Common.{after_header, after_lines, answer_at, answer_by_history, answer_of, answer_said, answers}
+use Rattle.ucl_live_runs.proofs.Common.{answers_by_history, ap, ap₂, arith, asked_by, attempt_of, attempts_from, attempts_in, attempts_of}
+use Rattle.ucl_live_runs.proofs.Common.{bad_field, bad_slot, bad_slot_from, board_after, board_of, cases_Bool, club_said, codes}
+use Rattle.ucl_live_runs.proofs.Common.{cond_both, cond_some, eqb-true, event_of, event_or_mend, events_in, false, fold, fold-append}
+use Rattle.ucl_live_runs.proofs.Common.{game_at, get_or, header_said, if◌then◌else◌, in_range, inl, inr, is_asked, is_club, is_group_row}
+use Rattle.ucl_live_runs.proofs.Common.{is_mend, kind_named, length, length-set, line_by_history, mend_by, mend_or_bad, moved, nat_le}
+use Rattle.ucl_live_runs.proofs.Common.{nat_tests, next, open_at, record_at, record_back, refl, refusal_of, reply_answer}
+use Rattle.ucl_live_runs.proofs.Common.{reply_by_history, request_of, said_on, same_Some, screen_after, sequential_reply, set, shown_by}
+use Rattle.ucl_live_runs.proofs.Common.{shown_text, slot_in, subst, sum_by-set, sym, version_of, with_roster, word_of, word_valid, ℕ, ⊤}
+use Rattle.ucl_live_runs.proofs.Common.{◌&&◌, ◌++◌, ◌+◌, ◌-◌, ◌<◌, ◌==◌, ◌>>=◌, ◌∙◌, ◌∷◌, ◌≡◌, ◌≤◌}
+use Rattle.std.specs.Prelude.{IfErr, IfOk, IfSome, Result, nat_lt, not, option_map, true}
+use Rattle.std.specs.Result.{is_ok}
+use Rattle.ucl_live_runs.proofs.Common.{leb-true}
+use Rattle.ucl_live_runs.proofs.Common.{and_parts}
 use Rattle.std.specs.Str.{bytes_eq}
-use Rattle.ucl_board.proofs.HistoryTheorems.{board_words, reply_is}
+use Rattle.std.proofs.lemmas.List.{length-map}
 use Rattle.ucl_command.specs.declared.options.Format.TheVariants.{Text}
-use Rattle.ucl_live_runs.specs.declared.header.HeaderState.{HeaderState}
-use Rattle.ucl_live_runs.specs.declared.phase.OpenBoard.{OpenBoard}
-use Rattle.ucl_rows.specs.Lines.{line_of_reply, reply_line}
+use Rattle.ucl_rows.specs.Lines.{reply_line}
 use Rattle.ucl_rows.specs.Rows.{Row}
-use Rattle.ucl_rows.specs.declared.row.RowFields.{RowFields}
 use Rattle.ucl_screen.specs.Numbers.{number}
 use Rattle.ucl_screen.specs.Script.{club_of}
 use Rattle.ucl_word.proofs.AcceptedEvents.{accepts, after_number, after_valid}
 use Rattle.ucl_word.proofs.Sequences.{may_none}
 use Rattle.ucl_word.specs.declared.event.EventCall.{EventCall}
-use Rattle.std.specs.Prelude.{option_and_then, option_map}
-use Rattle.ucl_live_runs.proofs.FollowShown.{IsOfSame, asked-same}
-use Rattle.ucl_live_runs.proofs.Lines.{is_open, silent}
-use Rattle.ucl_rows.specs.declared.row.RowFields.TheVariants as seen
+use Rattle.ucl_live_runs.specs.LiveText.{request_stage, stage}
+use Rattle.ucl_live_runs.specs.LiveTheorems.{entered_by}
+use Rattle.ucl_live_runs.specs.Mended.{has_row, history_in}
+use Rattle.ucl_live_runs.specs.Requests.{edition_by, named_mend, names_club, named_row}
+use Rattle.ucl_live_runs.specs.Mends.{clubs_after, edition_after, edition_reply, events_after, put_at, put_in}
+unfoldable use Rattle.ucl_live_runs.specs.MendTheorems.{MendsAreLegal}
+use Rattle.ucl_live_runs.specs.declared.request.Mend.{Mend}
+use Rattle.ucl_live_runs.specs.declared.request.Mend.TheVariants.{As, Club, Without}
+use Rattle.ucl_live_runs.specs.declared.standing.StandingEvent.{StandingEvent}
+use Rattle.ucl_live_runs.proofs.Entered.{entered-history}
+use Rattle.ucl_live_runs.proofs.Lines.{is_open, on-board, silent}
+use Rattle.ucl_live_runs.proofs.Mends.{mends_legal}
 
--- ==== A row that begins the board again: what its header and its clubs are
+-- ==== The clubs after a mend
 
--- the second header is of a later edition of the first's group and order
-pub record IsLaterHeader (header later : BoardHeader) : Type 0 where
-  pub same : IsOfSame header later
-  pub edition : header.edition < later.edition
+good-put : (slot : ℕ) (clubs : List NamedClub) (o : Option NamedClub) → IsRoster clubs → IsRoster (put_in slot clubs o)
+good-put slot clubs None roster = roster
+good-put slot clubs (Some club) roster = cond_both (is_club club) (set clubs (slot - 1) club) clubs IsRoster
+    (λ y. record { four = length-set clubs (slot - 1) club ∙ roster.four; each = All-set IsClub clubs (slot - 1) club y roster.each }) (λ _. roster)
 
-is-later : (header later : BoardHeader) → is_later_edition header later ≡ true → IsLaterHeader header later
-is-later header later h =
-    let p = and_parts (is_asked (Some header.group) (Some header.profile) later) (nat_lt header.edition later.edition) h in
-    let less = p.1 in record { same = asked-same header later p.0; edition = grind (arith, nat_tests) }
+good-at : (clubs : List NamedClub) (f : FourFields) (o : Option ℕ) → IsRoster clubs → IsRoster (put_at clubs f o)
+good-at clubs f None roster = roster
+good-at clubs f (Some slot) roster = good-put slot clubs (club_of slot f) roster
 
-by-header : (header : BoardHeader) (o : Option BoardHeader) (later : BoardHeader) → later_header header o ≡ Some later → IsLaterHeader header later × (o ≡ Some later)
-by-header header (Some other) later h =
-    let p = cond_some (is_later_edition header other) other later h in
-    (subst (IsLaterHeader header) p.1 (is-later header other p.0), ap (λ (t : BoardHeader). Some t) p.1)
-by-header header None later h = cc
+pub good-clubs : (clubs : List NamedClub) (r : Said) (mend : Mend) → IsRoster clubs → IsRoster (clubs_after clubs r mend)
+good-clubs clubs (Row f) Club roster = good-at clubs f (slot_in f.second) roster
+good-clubs _ _ _ roster = roster
 
-edition-is : (header : BoardHeader) (f : FourFields) (later : BoardHeader) → edition_said header (Row f) ≡ Some later → IsLaterHeader header later × (header_by f ≡ Some later)
-edition-is header f later h = by-header header (header_by f) later (if-some (is_group_row (Row f)) (later_header header (header_by f)) later h)
-  where
-    if-some : (b : Bool) (o : Option BoardHeader) (t : BoardHeader) → (if b then o else None) ≡ Some t → o ≡ Some t
-    if-some true o t h = h
-    if-some false o t h = cc
+-- a club that a roster takes four times over is a club
 
-good-put : (slot : ℕ) (clubs : List NamedClub) (o : Option NamedClub) (more : List NamedClub) → with_club_in slot clubs o ≡ Some more → IsRoster clubs → IsRoster more
-good-put slot clubs (Some club) more h roster =
-    let p = cond_some (is_club club) (set clubs (slot - 1) club) more h in
-    subst IsRoster p.1 (record {
-      four = length-set clubs (slot - 1) club ∙ roster.four;
-      each = All-set IsClub clubs (slot - 1) club p.0 roster.each;
-    })
-good-put slot clubs None more h roster = cc
+four-good : (club : NamedClub) → bad_slot (club ∷ club ∷ club ∷ club ∷ []) ≡ None → is_club club ≡ true
+unfolding bad_slot_from
+four-good club h = elim (cases_Bool (is_club club)) [ inl y ↦ y | inr n ↦ cc (rw n at h) ]
 
-good-clubs : (o : Option ℕ) (clubs : List NamedClub) (f : FourFields) (more : List NamedClub)
-    → option_and_then (λ slot. with_club_in slot clubs (club_of slot f)) o ≡ Some more → IsRoster clubs → IsRoster more
-good-clubs (Some slot) clubs f more h roster = good-put slot clubs (club_of slot f) more h roster
-good-clubs None clubs f more h roster = cc
+four-bad : (club : NamedClub) (slot : ℕ) → bad_slot (club ∷ club ∷ club ∷ club ∷ []) ≡ Some slot → is_club club ≡ false
+unfolding bad_slot_from
+four-bad club slot h = elim (cases_Bool (is_club club)) [ inl y ↦ cc (rw y at h) | inr n ↦ n ]
 
-pub record Renews (header : BoardHeader) (is_new : Bool) (clubs : List NamedClub) (new : NewBoard) : Type 0 where
-  pub has_header : (IsLaterHeader header new.header × (f : FourFields) × (header_by f ≡ Some new.header)) ⊎ ((is_new ≡ true) × (new.header ≡ header))
-  pub good : IsRoster clubs → IsRoster new.clubs
+abbrev four : NamedClub → List NamedClub
+four club = club ∷ club ∷ club ∷ club ∷ []
 
-of-clubs : (header : BoardHeader) (clubs : List NamedClub) (f : FourFields) (o : Option (List NamedClub)) (new : NewBoard) → clubs_said clubs f ≡ o → option_map (new_board header) o ≡ Some new
-    → Renews header true clubs new
-of-clubs header clubs f (Some more) new said h =
-    let same = same_Some (new_board header more) new h in record {
-      has_header = inr (refl, ap (λ (n : NewBoard). n.header) (sym same));
-      good = λ roster. subst IsRoster (ap (λ (n : NewBoard). n.clubs) same) (good-clubs (slot_in f.second) clubs f more said roster);
-    }
-of-clubs header clubs f None new said h = cc
-
-by-edition : (header : BoardHeader) (is_new : Bool) (clubs : List NamedClub) (f : FourFields) (o : Option BoardHeader) (new : NewBoard) → edition_said header (Row f) ≡ o
-    → by_edition header is_new clubs f o ≡ Some new → Renews header is_new clubs new
-by-edition header is_new clubs f (Some later) new is h =
-    let same = same_Some (new_board later clubs) new h in
-    let p = edition-is header f later is in
-    subst (Renews header is_new clubs) same (record { has_header = inl (p.0, f, p.1); good = λ roster. roster })
-by-edition header true clubs f None new is h = of-clubs header clubs f (clubs_said clubs f) new refl h
-by-edition header false clubs f None new is h = cc
-
-pub renewed : (header : BoardHeader) (is_new : Bool) (clubs : List NamedClub) (r : Said) (new : NewBoard) → again_on header is_new clubs r ≡ Some new → Renews header is_new clubs new
-renewed header is_new clubs (Row f) new h = by-edition header is_new clubs f (edition_said header (Row f)) new refl h
-renewed header is_new clubs r new h = cc
-
--- ---- what the code does
-
-pub not-begun : (o : Option NewBoard) (done : Bool) (head head2 : HeaderState) (old new : OpenBoard) → BeginsAgain o done head head2 old new → done ≡ false
-    → (o ≡ None) × (head2 ≡ head) × (new ≡ old)
-not-begun None done head head2 old new h is_not = (refl, h.1, h.2)
-not-begun (Some again) done head head2 old new h is_not = cc (h.0, is_not)
-
-module _ (options : LiveArgs) (head : HeaderState) (row : ℕ) (table : OpenBoard) where
-  abbrev e : Session
-  e = session_at options head row (Open table)
-
-  pub answered-next : (said : RowFields) (head2 : HeaderState) (table2 : OpenBoard) → again_on head.header head.is_new table.roster (fields_seen said) ≡ None
-      → head2.header ≡ head.header → head2.is_new ≡ (is_bad (request_of (fields_seen said)) && head.is_new)
-      → table2 ≡ record table { board = next_board table.board (request_of (fields_seen said)) }
-      → session_at options head2 (row + 1) (Open table2) ≡ next e (fields_seen said)
-  answered-next (seen.Four f) head2 table2 none t n b = rw (none, t, n, b) refl
-  answered-next seen.Other head2 table2 none t n b = rw (t, n, b) refl
-
-  pub answered-text : (said : RowFields) (shown : List ℕ) → again_on head.header head.is_new table.roster (fields_seen said) ≡ None
-      → answer_of options head.header row table.roster table.board (request_of (fields_seen said)) shown ≡ answer_said e (fields_seen said) shown
-  answered-text (seen.Four f) shown none = rw none refl
-  answered-text seen.Other shown none = refl
-
-  pub answered-asks : (said : RowFields) → again_on head.header head.is_new table.roster (fields_seen said) ≡ None
-      → RequestNeedsMemory options table.board (request_of (fields_seen said)) → NeedsMemory e (fields_seen said)
-  answered-asks (seen.Four f) none asks = (none, asks)
-  answered-asks seen.Other none asks = (none, asks)
+pub by-four : {B : Type 0} (r : Result (List NamedClub) B) (club : NamedClub) (slot_of : B → ℕ) → IfOk r (λ roster. (roster ≡ four club) × (bad_slot (four club) ≡ None))
+    → IfErr r (λ bad. bad_slot (four club) ≡ Some (slot_of bad)) → is_ok r ≡ is_club club
+by-four (Ok roster) club slot_of good bad = sym (four-good club good.1)
+by-four (Err b) club slot_of good bad = sym (four-bad club (slot_of b) bad)
 
 -- ==== Boards of valid words, through a session
 
@@ -157,9 +106,6 @@ module _ (words : List ℕ) (a : Attempt) (w : AreWords words) (is : IsAttempt a
       let more : (record_at (word_of n)).number ≡ (game_at words a.call.game).number + 1 =
       ap (λ (r : MatchRecord). r.number) (record_back n (valid-after e)) ∙ after_number (game_at words a.call.game) a.reporter a.call.kind in
       rw e (omega (arith, sum, more))
-
-pub fresh-good : AreWords (board_of [])
-fresh-good = board_words [] (may_none MayFollow)
 
 -- ==== The board of a session as that of a legal history
 
@@ -202,22 +148,59 @@ event-numbers f e h =
 -- an event is of a reporter and a match that there are, and of a number of 16 bits
 abbrev pub IsPossible : Request → Type 0
 IsPossible (Event e) = IsAttempt (attempt_of e) × (e.call.expected ≤ 65535)
+IsPossible (Mends (As edition)) = edition ≤ 65535
+IsPossible (Mends (Without row)) = row ≤ 4294967295
 IsPossible _ = ⊤
 
 -- what holds of each request that a row can ask for
 module _ (P : Request → Type 0) where
-  pub asked-by : (f : FourFields) → P Screen → P Words → P Matches → P (Bad (bad_field f)) → P (event_or_bad f (event_of f)) → P (asked_by f)
+  pub asked-by : (f : FourFields) → P Screen → P Words → P Matches → P (Bad (bad_field f)) → P (event_or_mend f (event_of f)) → P (asked_by f)
   unfolding asked_by
   asked-by f screen words matches bad event =
       let or_bad = if bytes_eq f.first (codes "matches") then Matches else Bad (bad_field f) in
       let others = if bytes_eq f.first (codes "words") then Words else or_bad in
-      cond_both ((length f.second == 0) && (length f.third == 0) && (length f.fourth == 0)) (shown_by f) (event_or_bad f (event_of f)) P
+      cond_both ((length f.second == 0) && (length f.third == 0) && (length f.fourth == 0)) (shown_by f) (event_or_mend f (event_of f)) P
       (λ _. cond_both (bytes_eq f.first (codes "screen")) Screen others P (λ _. screen)
       (λ _. cond_both (bytes_eq f.first (codes "words")) Words or_bad P (λ _. words)
       (λ _. cond_both (bytes_eq f.first (codes "matches")) Matches (Bad (bad_field f)) P (λ _. matches) (λ _. bad)))) (λ _. event)
 
-possible-event : (f : FourFields) (o : Option NightEvent) → event_of f ≡ o → IsPossible (event_or_bad f o)
-possible-event f None is = tt
+abbrev IsNamed : Option Mend → Type 0
+IsNamed None = ⊤
+IsNamed (Some mend) = IsPossible (Mends mend)
+
+small-in : (low high : ℕ) (o : Option ℕ) → IfSome (in_range low high o) (λ n. n ≤ high)
+small-in low high None = tt
+small-in low high (Some n) = cond_both (nat_le low n && nat_le n high) (Some n) None (λ (x : Option ℕ). IfSome x (λ k. k ≤ high))
+    (λ y. leb-true n high (and_parts (nat_le low n) (nat_le n high) y).1) (λ _. tt)
+
+named-row : (o : Option ℕ) → IfSome o (λ n. n ≤ 4294967295) → IsNamed (option_map Without o)
+named-row None h = tt
+named-row (Some n) h = h
+
+named-edition : (o : Option ℕ) → IfSome o (λ n. n ≤ 65535) → IsNamed (option_map As o)
+named-edition None h = tt
+named-edition (Some n) h = h
+
+named : (f : FourFields) → IsNamed (named_mend f)
+named f =
+    let to_edition = if length f.second == 0 then option_map As (edition_by f.third) else None in
+    cond_both (length f.third == 0) (option_map Without (named_row f.second)) to_edition IsNamed
+    (λ _. named-row (named_row f.second) (small-in 1 4294967295 (number 10 f.second)))
+    (λ _. cond_both (length f.second == 0) (option_map As (edition_by f.third)) None IsNamed (λ _. named-edition (edition_by f.third) (small-in 0 65535 (number 5 f.third))) (λ _. tt))
+
+named-by : (f : FourFields) → IsNamed (mend_by f)
+named-by f =
+    let club : Option Mend = if names_club f then Some Club else None in
+    let mend = if bytes_eq f.first (codes "mend") && (length f.fourth == 0) then named_mend f else None in
+    cond_both (bytes_eq f.first (codes "club")) club mend IsNamed (λ _. cond_both (names_club f) (Some Club) None IsNamed (λ _. tt) (λ _. tt))
+    (λ _. cond_both (bytes_eq f.first (codes "mend") && (length f.fourth == 0)) (named_mend f) None IsNamed (λ _. named f) (λ _. tt))
+
+possible-mend : (f : FourFields) (o : Option Mend) → IsNamed o → IsPossible (mend_or_bad f o)
+possible-mend f None h = tt
+possible-mend f (Some mend) h = h
+
+possible-event : (f : FourFields) (o : Option NightEvent) → event_of f ≡ o → IsPossible (event_or_mend f o)
+possible-event f None is = possible-mend f (mend_by f) (named-by f)
 possible-event f (Some e) is = event-numbers f e is
 
 pub possible : (r : Said) → IsPossible (request_of r)
@@ -236,36 +219,41 @@ unfolding attempts_in
 all-attempts row [] = All-nil IsAttempt
 all-attempts row (line ∷ lines) = All-append IsAttempt (attempts_of (request_of (said_on row line))) (attempts_in (row + 1) lines) (of-request (said_on row line)) (all-attempts (row + 1) lines)
 
--- the board
+-- the events that stand
 
-fold-request : (board : List ℕ) (r : Request) (more : List Attempt) → fold board_after board (attempts_of r ++ more) ≡ fold board_after (next_board board r) more
-fold-request board (Event e) more = refl
-fold-request _ _ _ = refl
+no-mend : (header : BoardHeader) (row : ℕ) (clubs : List NamedClub) (events : List StandingEvent) (r : Said) (q : Request) → is_mend q ≡ false
+    → request_stage header row clubs events r q ≡ stage header (open_at clubs (entered_by row events q))
+no-mend header row clubs events r (Mends mend) h = cc
+no-mend _ _ _ _ _ _ h = refl
 
--- a line that does not begin the board again
-pub on-board : (e : Session) (r : Said) (clubs : List NamedClub) (board : List ℕ) → e.phase ≡ open_at clubs board → again e r ≡ None → next e r ≡ moved e (next_on e clubs board r None)
-on-board e Nothing clubs board h none = rw h refl
-on-board e r clubs board h none = ap (moved e) (at e.phase h none)
-  where
-    at : (s : Reached) → s ≡ open_at clubs board → again_at e s r ≡ None → next_at e s r ≡ next_on e clubs board r None
-    at s is none = rw is (ap (next_on e clubs board r) (rw is at none))
+pub no-mend-on : (e : Session) (r : Said) (clubs : List NamedClub) (events : List StandingEvent) → e.phase ≡ open_at clubs events → is_mend (request_of r) ≡ false
+    → next e r ≡ moved e (stage e.header (open_at clubs (entered_by e.row events (request_of r))))
+no-mend-on e r clubs events h none = on-board e r clubs events h ∙ ap (moved e) (no-mend e.header e.row clubs events r (request_of r) none)
 
-pub answer-at : (e : Session) (s : Reached) (r : Said) (shown : List ℕ) (clubs : List NamedClub) (board : List ℕ) → s ≡ open_at clubs board → again_at e s r ≡ None
-    → answer_at e s r shown ≡ answer_of e.options e.header e.row clubs board (request_of r) shown
-answer-at e s r shown clubs board is none = rw is (ap (answer_on e clubs board r shown) (rw is at none))
+pub entered-by-history : (row : ℕ) (events : List StandingEvent) (q : Request) → history_in (entered_by row events q) ≡ fold after_attempt (history_in events) (attempts_of q)
+entered-by-history row events (Event event) = entered-history row events event
+entered-by-history _ _ _ = refl
+
+lines-history : (row : ℕ) (events : List StandingEvent) (lines : List (List ℕ)) → history_in (events_in row events lines) ≡ fold after_attempt (history_in events) (attempts_in row lines)
+unfolding events_in attempts_in
+lines-history row events [] = refl
+lines-history row events (line ∷ lines) =
+    let q = request_of (said_on row line) in
+    lines-history (row + 1) (entered_by row events q) lines
+    ∙ ap (λ (h : List Entry). fold after_attempt h (attempts_in (row + 1) lines)) (entered-by-history row events q)
+    ∙ sym (fold-append after_attempt (history_in events) (attempts_of q) (attempts_in (row + 1) lines))
 
 pub boards : BoardsTakeEvents
-unfolding after_lines attempts_in StayOnTheBoard BoardsTakeEvents
-boards e [] clubs board h stay = h
-boards e (line ∷ lines) clubs board h stay =
+unfolding after_lines events_in NoneMends BoardsTakeEvents
+boards e [] clubs events h none = h
+boards e (line ∷ lines) clubs events h none =
     let r = said_on e.row line in
-    boards (next e r) lines clubs (next_board board (request_of r)) (ap (λ (k : Session). k.phase) (on-board e r clubs board h stay.0)) stay.1
-    ∙ ap (open_at clubs) (sym (fold-request board (request_of r) (attempts_in (e.row + 1) lines)))
+    let step = no-mend-on e r clubs events h none.0 in
+    boards (next e r) lines clubs (entered_by e.row events (request_of r)) (ap (λ (k : Session). k.phase) step) none.1
 
 pub replies : RepliesAreThoseOfFeed
 unfolding reply_line RepliesAreThoseOfFeed
-replies header clubs board history row event legal game =
-    ap₂ (λ (before : ℕ) (reply : Result Accepted Refusal). line_of_reply row event.call.game before reply) (versions history legal).0 (reply_is history (board_of history) event.call legal refl game)
+replies header clubs board history row event = refl
 
 reply-answer : (format : Format) (header : BoardHeader) (row : ℕ) (clubs : List NamedClub) (history : List Entry) (event : NightEvent)
     → reply_answer format header row clubs event (length history) (sequential_reply history event.call) (board_of (after_attempt history (attempt_of event)))
@@ -276,59 +264,50 @@ reply-answer Json header row clubs history event = refl
 
 -- ---- answers
 
-event-answer : (options : LiveArgs) (header : BoardHeader) (row : ℕ) (clubs : List NamedClub) (history : List Entry) (event : NightEvent) (shown : List ℕ) →
-    IsLegal history → IsAttempt (attempt_of event)
-    → answer_of options header row clubs (board_of history) (Event event) shown ≡ answer_by_history options header row clubs history (Event event) shown
-event-answer options header row clubs history event shown legal is =
-    let call = event.call in
-    let reply : reply_of (game_at (board_of history) call.game) call ≡ sequential_reply history call = reply_is history (board_of history) call legal refl is.1 in
-    let after = attempt_board history (attempt_of event) legal is in
-    let told =
-    ap₂ (λ (before : ℕ) (r : Result Accepted Refusal). reply_answer options.format header row clubs event before r (next_board (board_of history) (Event event)))
-    (versions history legal).0 reply in
-    let stands = ap (λ (board : List ℕ). reply_answer options.format header row clubs event (length history) (sequential_reply history call) board) after in
-    let line = told ∙ stands ∙ reply-answer options.format header row clubs history event in
-    let screen = ap₂ (λ (r : Result Accepted Refusal) (board : List ℕ). screen_after options header row clubs r board) reply after in
-    ap₂ (λ (a b : List ℕ). a ++ b) line screen
+event-answer : (options : LiveArgs) (header : BoardHeader) (row : ℕ) (clubs : List NamedClub) (events : List StandingEvent) (r : Said) (event : NightEvent) (shown : List ℕ)
+    → answer_of options header row clubs events r (Event event) shown ≡ answer_by_history options header row clubs (history_in events) (Event event) shown
+event-answer options header row clubs events r event shown =
+    let history = history_in events in
+    let reply = sequential_reply history event.call in
+    let after = ap board_of (entered-history row events event) in
+    let long = sym (length-map events (λ (event : StandingEvent). event.entry)) in
+    let line = ap₂ (λ (n : ℕ) (board : List ℕ). reply_answer options.format header row clubs event n reply board) long after
+    ∙ reply-answer options.format header row clubs history event in
+    ap₂ (λ (a b : List ℕ). a ++ b) line (ap (screen_after options header row clubs reply) after)
 
-request-answer : (options : LiveArgs) (header : BoardHeader) (row : ℕ) (clubs : List NamedClub) (history : List Entry) (request : Request) (shown : List ℕ) → IsLegal history
-    → All IsAttempt (attempts_of request)
-    → answer_of options header row clubs (board_of history) request shown ≡ answer_by_history options header row clubs history request shown
-request-answer options header row clubs history (Event event) shown legal all = event-answer options header row clubs history event shown legal (All-head IsAttempt (attempt_of event) [] all)
-request-answer _ _ _ _ _ _ _ _ _ = refl
+request-answer : (options : LiveArgs) (header : BoardHeader) (row : ℕ) (clubs : List NamedClub) (events : List StandingEvent) (r : Said) (q : Request) (shown : List ℕ) → is_mend q ≡ false
+    → answer_of options header row clubs events r q shown ≡ answer_by_history options header row clubs (history_in events) q shown
+request-answer options header row clubs events r (Event event) shown h = event-answer options header row clubs events r event shown
+request-answer options header row clubs events r (Mends mend) shown h = cc
+request-answer _ _ _ _ _ _ _ _ h = refl
 
-said-answer : (e : Session) (clubs : List NamedClub) (history : List Entry) (r : Said) (shown : List ℕ) → IsLegal history → e.phase ≡ open_at clubs (board_of history) → again e r ≡ None
-    → answer_said e r shown ≡ line_by_history e.options e.header e.row clubs history r shown
-said-answer e clubs history Nothing shown legal h stays = refl
-said-answer e clubs history r shown legal h stays =
-    answer-at e e.phase r shown clubs (board_of history) h stays ∙ request-answer e.options e.header e.row clubs history (request_of r) shown legal (of-request r)
+said-answer : (e : Session) (clubs : List NamedClub) (events : List StandingEvent) (r : Said) (shown : List ℕ) → e.phase ≡ open_at clubs events → is_mend (request_of r) ≡ false
+    → answer_said e r shown ≡ line_by_history e.options e.header e.row clubs (history_in events) r shown
+said-answer e clubs events Nothing shown h none = refl
+said-answer e clubs events r shown h none =
+    ap (λ (s : Reached). answer_at e s r shown) h ∙ request-answer e.options e.header e.row clubs events r (request_of r) shown none
 
-said-phase : (e : Session) (clubs : List NamedClub) (history : List Entry) (r : Said) → IsLegal history → e.phase ≡ open_at clubs (board_of history) → again e r ≡ None
-    → (next e r).phase ≡ open_at clubs (board_of (fold after_attempt history (attempts_of (request_of r))))
-said-phase e clubs history r legal h none =
-    let made = attempts_of (request_of r) in
-    ap (λ (k : Session). k.phase) (on-board e r clubs (board_of history) h none)
-    ∙ ap (open_at clubs) (sym (fold-request (board_of history) (request_of r) []) ∙ ap (fold board_after (board_of history)) (append-nil made) ∙ (attempts_from history made legal (of-request r)).1)
-
-text-by-history : (e : Session) (lines : List (List ℕ)) (clubs : List NamedClub) (history : List Entry) → IsLegal history → e.phase ≡ open_at clubs (board_of history)
-    → StayOnTheBoard e lines → answers e lines ≡ answers_by_history e.options e.header e.row clubs history lines
-unfolding answers answers_by_history StayOnTheBoard
-text-by-history e [] clubs history legal h stay = refl
-text-by-history e (line ∷ lines) clubs history legal h stay =
+text-by-history : (e : Session) (lines : List (List ℕ)) (clubs : List NamedClub) (events : List StandingEvent) → e.phase ≡ open_at clubs events → NoneMends e.row lines
+    → answers e lines ≡ answers_by_history e.options e.header e.row clubs (history_in events) lines
+unfolding answers answers_by_history NoneMends
+text-by-history e [] clubs events h none = refl
+text-by-history e (line ∷ lines) clubs events h none =
     let r = said_on e.row line in
-    let later = fold after_attempt history (attempts_of (request_of r)) in
-    let one = said-answer e clubs history r (shown_text line) legal h stay.0 in
-    ap₂ (λ (a b : List ℕ). a ++ b) one
-    (text-by-history (next e r) lines clubs later (attempts_from history (attempts_of (request_of r)) legal (of-request r)).0 (said-phase e clubs history r legal h stay.0) stay.1
-    ∙ ap (λ (t : BoardHeader). answers_by_history e.options t (e.row + 1) clubs later lines) (ap (λ (k : Session). k.header) (on-board e r clubs (board_of history) h stay.0)))
+    let q = request_of r in
+    let later = entered_by e.row events q in
+    let step = no-mend-on e r clubs events h none.0 in
+    let rest = text-by-history (next e r) lines clubs later (ap (λ (k : Session). k.phase) step) none.1 in
+    ap₂ (λ (a b : List ℕ). a ++ b) (said-answer e clubs events r (shown_text line) h none.0)
+    (rest ∙ ap₂ (λ (t : BoardHeader) (h : List Entry). answers_by_history e.options t (e.row + 1) clubs h lines) (ap (λ (k : Session). k.header) step) (entered-by-history e.row events q))
 
 pub sequential : SessionsAreSequential
 unfolding SessionsAreSequential BoardsTakeEvents
-sequential e lines clubs history legal h stay =
-    let from = attempts_from history (attempts_in e.row lines) legal (all-attempts e.row lines) in record {
-      legal = from.0;
-      phase = boards e lines clubs (board_of history) h stay ∙ ap (open_at clubs) from.1;
-      text = text-by-history e lines clubs history legal h stay;
+sequential e lines clubs events legal h none =
+    let history = lines-history e.row events lines in record {
+      legal = subst IsLegal (sym history) (attempts_from (history_in events) (attempts_in e.row lines) legal (all-attempts e.row lines)).0;
+      history = history;
+      phase = boards e lines clubs events h none;
+      text = text-by-history e lines clubs events h none;
     }
 
 pub silence : RefusedSessionsAreSilent
@@ -338,7 +317,7 @@ silence e lines fault h = silent e lines (ap is_open h)
 -- ==== The stages of a session: rosters and boards that there are
 
 abbrev pub IsGood : Reached → Type 0
-IsGood (Ok (Open table)) = IsRoster table.roster × AreWords table.board
+IsGood (Ok (Open table)) = IsRoster table.roster × IsLegal (history_in table.events)
 IsGood _ = ⊤
 
 all-clubs : (slot : ℕ) (clubs : List NamedClub) → bad_slot_from slot clubs ≡ None → All IsClub clubs
@@ -350,7 +329,7 @@ all-clubs slot (club ∷ clubs) h = elim (cases_Bool (is_club club)) [
 ]
 
 good-roster : (clubs : List NamedClub) (slot : Option ℕ) → length clubs ≡ 4 → bad_slot clubs ≡ slot → IsGood (with_roster clubs slot)
-good-roster clubs None four e = (record { four = four; each = all-clubs 1 clubs e }, fresh-good)
+good-roster clubs None four e = (record { four = four; each = all-clubs 1 clubs e }, may_none MayFollow)
 good-roster clubs (Some slot) four e = tt
 
 pub good-club : (row : ℕ) (clubs : List NamedClub) (club : Option NamedClub) → IsGood (after_club row clubs club)
@@ -360,9 +339,42 @@ good-club row clubs (Some club) =
     cond_both (length all == 4) (with_roster all (bad_slot all)) (Ok (AwaitingClubs all)) IsGood
     (λ e. good-roster all (bad_slot all) (eqb-true (length all) 4 e) refl) (λ _. tt)
 
-pub good-board : (board : List ℕ) (request : Request) → AreWords board → All IsAttempt (attempts_of request) → AreWords (next_board board request)
-good-board board (Event event) w all = good-after board (attempt_of event) w (All-head IsAttempt (attempt_of event) [] all)
-good-board _ _ w _ = w
+pub good-events : (row : ℕ) (events : List StandingEvent) (r : Said) → IsLegal (history_in events) → IsLegal (history_in (entered_by row events (request_of r)))
+good-events row events r legal =
+    let q = request_of r in subst IsLegal (sym (entered-by-history row events q)) (attempts_from (history_in events) (attempts_of q) legal (of-request r)).0
+
+-- the edition after a mend is later, and one that there can be
+
+after-edition : (edition later : ℕ) → edition ≤ 65535 → edition_after edition ≡ Ok later → (edition < later) × (later ≤ 65535)
+after-edition edition later most h = elim (cases_Bool (edition == 65535)) [
+  | inl y ↦ cc (rw y at h)
+  | inr n ↦
+      let k = rw n at h in
+      let same : edition + 1 ≡ later = cc k in
+      let less : edition < 65535 = grind (arith, nat_tests) in (omega (arith, same), omega (arith, same, less))
+]
+
+pub later-edition : (edition : ℕ) (events : List StandingEvent) (mend : Mend) (later : ℕ) → edition ≤ 65535 → IsPossible (Mends mend) → edition_reply edition events mend ≡ Ok later
+    → (edition < later) × (later ≤ 65535)
+later-edition edition events Club later most p h = after-edition edition later most h
+later-edition edition events (As named) later most p h = elim (cases_Bool (nat_lt edition named)) [
+  | inl y ↦ let k = rw y at h in let same : named ≡ later = cc k in let less : edition < named = grind (arith, nat_tests) in (omega (arith, same, less), omega (arith, same, p))
+  | inr n ↦ cc (rw n at h)
+]
+later-edition edition events (Without row) later most p h = elim (cases_Bool (edition == 65535)) [
+  | inl y ↦ cc (rw y at h)
+  | inr n ↦
+      let k = rw n at h in
+      let less : edition < 65535 = grind (arith, nat_tests) in elim (cases_Bool (not (row == 0) && has_row row events)) [
+        | inl y ↦ let q = rw y at k in let same : edition + 1 ≡ later = cc q in (omega (arith, same), omega (arith, same, less))
+        | inr m ↦ cc (rw m at k)
+      ]
+]
+
+pub good-mend : (events : List StandingEvent) (mend : Mend) → IsLegal (history_in events) → IsLegal (history_in (events_after events mend))
+unfolding MendsAreLegal
+good-mend events (Without row) legal = mends_legal row events legal
+good-mend _ _ legal = legal
 
 good-header : (options : LiveArgs) (row : ℕ) (header : Option BoardHeader) → IsGood (after_header options row header)
 good-header options row None = tt

@@ -1,9 +1,25 @@
 -- The words and lemmas from elsewhere that the proofs of this crate share.
-pub use Rattle.ucl_live_runs.specs.Names.{All, AreLinesOfValues, AwayInTie, Bad, BoardHeader, BoardState, Entry, Err, Event, FollowArgs, FourFields, IfSome}
-pub use Rattle.ucl_live_runs.specs.Names.{Input, LiveArgs, LiveFault, Matches, NightEvent, Ok, OtherGroup, OutOfMemory, Profile, Request, Result, Screen}
-pub use Rattle.ucl_live_runs.specs.Names.{Uefa, Words, attempt_of, decimal, event_of, flat_map, json_line, last_lines, lines_of, map, nat_le, nat_lt}
-pub use Rattle.ucl_live_runs.specs.Names.{option_and_then, option_map, option_to_list, profile_name, profile_named, reply_answer, screen_answer, unwrap_or, ⊤}
-pub use Rattle.ucl_live_runs.specs.Names.{◌>>=◌}
+pub use Rattle.std.specs.Prelude.{All, Err, IfSome, Ok, Result, decimal, flat_map, map, nat_le, nat_lt, option_and_then, option_map, option_to_list, unwrap_or, ⊤}
+pub use Rattle.ucl_board.specs.declared.entry.Entry.{Entry}
+pub use Rattle.ucl_command.specs.declared.follow.FollowArgs.{FollowArgs}
+pub use Rattle.ucl_command.specs.declared.live.LiveArgs.{LiveArgs}
+pub use Rattle.ucl_json.specs.Lines.{AreLinesOfValues, json_line}
+pub use Rattle.ucl_json.specs.declared.board_state.BoardState.{BoardState}
+pub use Rattle.ucl_json.specs.declared.header.BoardHeader.{BoardHeader}
+pub use Rattle.ucl_live_runs.specs.declared.request.Request.{Request}
+pub use Rattle.ucl_live_runs.specs.declared.request.Request.TheVariants.{Bad, Event, Matches, Mends, Screen, Words}
+pub use Rattle.ucl_order.specs.Names.{profile_name, profile_named}
+pub use Rattle.ucl_order.specs.declared.profile.Profile.{Profile}
+pub use Rattle.ucl_order.specs.declared.profile.Profile.TheVariants.{AwayInTie, Uefa}
+pub use Rattle.ucl_rows.specs.Answers.{reply_answer, screen_answer}
+pub use Rattle.ucl_rows.specs.InputLines.{last_lines, lines_of}
+pub use Rattle.ucl_live_runs.specs.declared.live_fault.LiveFault.{LiveFault}
+pub use Rattle.ucl_live_runs.specs.declared.live_fault.LiveFault.TheVariants.{OtherGroup, Run}
+pub use Rattle.ucl_rows.specs.declared.fault.RunFault.{RunFault}
+pub use Rattle.ucl_rows.specs.declared.fault.RunFault.TheVariants.{Input, OutOfMemory}
+pub use Rattle.ucl_screen.specs.Events.{attempt_of, event_of, ◌>>=◌}
+pub use Rattle.ucl_screen.specs.Rows.{FourFields}
+pub use Rattle.ucl_screen.specs.declared.night.NightEvent.{NightEvent}
 pub use Rattle.std.specs.Prelude.{if◌then◌else◌, ◌||◌}
 unfoldable pub use Rattle.serde_json.proofs.OnLiterals.{serde_json_on_literals}
 pub use Rattle.serde_json.specs.Data.{Data, Items, Members, Num, array, boolean, float, item, member, negative, no_items, no_members, null, object, put}
@@ -39,27 +55,26 @@ unfoldable pub use Rattle.ucl_json.specs.BoardLines.{parse_board_state, parse_ea
 pub use Rattle.ucl_json.specs.Values.{bad_row_value, club_items, club_value, coded_value, mark_name, match_items, match_value, number_value, numbered_value}
 pub use Rattle.ucl_json.specs.Values.{place_items, refused_by, refused_value, reply_value, sides_value, word_items, words_value}
 unfoldable pub use Rattle.ucl_json.specs.Values.{accepted_value, edition_screen_value, matches_value, place_value, screen_value}
-pub use Rattle.ucl_live_runs.specs.Follow.{HasNumbers, IsBoardState, IsCarriedIn, IsFollowed, IsLatest, IsNoNewer, IsOlder, IsRecord, IsShownLast}
+pub use Rattle.ucl_live_runs.specs.Follow.{HasNumbers, IsBoardState, IsCarriedIn, IsFollowed, IsLatest, IsNoFall, IsNoNewer, IsOlder, IsRecord, IsShownLast}
 pub use Rattle.ucl_live_runs.specs.Follow.{LeaveTheSame, RiseAbove, WasAccepted, after_line, after_record, after_shown, answer_lines, board_state_at}
 pub use Rattle.ucl_live_runs.specs.Follow.{board_state_now, board_state_with, follow_text, is_later, is_newer, is_shown, line_output, shown_if, shown_of}
 pub use Rattle.ucl_live_runs.specs.Follow.{shown_output, unseen}
 unfoldable pub use Rattle.ucl_live_runs.specs.Follow.{AnswersTellTheirBoardState, FollowersEndWithTheBoard, HasRepeats, LatestIsShownLast}
 unfoldable pub use Rattle.ucl_live_runs.specs.Follow.{LinesTellTheirBoardState, MatchesFitTheirLine, OthersDoNotMatter, RepeatedRowsChangeNothing}
-unfoldable pub use Rattle.ucl_live_runs.specs.Follow.{SameRowsSameTable, ShownVersionsRise, board_states_shown, follow_outputs, followed}
-pub use Rattle.ucl_live_runs.specs.LiveText.{Session, again, again_at, answer_at, answer_of, answer_on, answer_said, begun_again, live_text, missing_after}
-pub use Rattle.ucl_live_runs.specs.LiveText.{missing_now, moved, next, next_at, next_on, screen_after, start_of}
+unfoldable pub use Rattle.ucl_live_runs.specs.Follow.{AnswersNeverFall, NeverFall, SameRowsSameTable, ShownVersionsRise, board_states_shown, follow_outputs, followed}
+pub use Rattle.ucl_live_runs.specs.LiveText.{Session, answer_at, answer_of, answer_said, live_text, missing_after}
+pub use Rattle.ucl_live_runs.specs.LiveText.{missing_now, moved, next, next_at, screen_after, start_of}
 unfoldable pub use Rattle.ucl_live_runs.specs.LiveText.{after_lines, answers}
 pub use Rattle.ucl_live_runs.specs.LiveTheorems.{answer_by_history, attempts_of, ended, line_by_history, reply_by_history, uncut_lines}
-unfoldable pub use Rattle.ucl_live_runs.specs.LiveTheorems.{BeginningsAreAnswered, BoardsBeginAgain, BoardsTakeEvents, JsonAnswersAreLines, LinesAreReadWhole}
-unfoldable pub use Rattle.ucl_live_runs.specs.LiveTheorems.{RefusedSessionsAreSilent, RepliesAreThoseOfFeed, SessionsAreSequential, StayOnTheBoard}
-unfoldable pub use Rattle.ucl_live_runs.specs.LiveTheorems.{answers_by_history, attempts_in, uncut_after}
-pub use Rattle.ucl_live_runs.specs.NewBoards.{BeginsAgain, NewBoard, again_on, by_edition, clubs_said, new_board, slot_in, with_club_in}
-pub use Rattle.ucl_live_runs.specs.Phases.{Reached, StopsBy, after_beginning, after_club, after_header, bad_row, club_said, fault_row, missing, next_board}
+unfoldable pub use Rattle.ucl_live_runs.specs.LiveTheorems.{BeginningsAreAnswered, BoardsTakeEvents, JsonAnswersAreLines, LinesAreReadWhole, MendsAreDone}
+unfoldable pub use Rattle.ucl_live_runs.specs.LiveTheorems.{NoneMends, RefusedSessionsAreSilent, RepliesAreThoseOfFeed, SessionsAreSequential}
+unfoldable pub use Rattle.ucl_live_runs.specs.LiveTheorems.{answers_by_history, attempts_in, events_in, uncut_after}
+pub use Rattle.ucl_live_runs.specs.Phases.{Reached, after_beginning, after_club, after_header, bad_row, club_said, fault_row, missing}
 pub use Rattle.ucl_live_runs.specs.Phases.{open_at, with_roster}
-pub use Rattle.ucl_live_runs.specs.Requests.{asked_header, edition_by, edition_said, event_or_bad, header_by, header_said, is_asked, is_bad}
-pub use Rattle.ucl_live_runs.specs.Requests.{is_group_row, is_later_edition, is_same_order, later_header, request_of, shown_by}
+pub use Rattle.ucl_live_runs.specs.Requests.{asked_header, edition_by, event_or_mend, header_by, header_said, is_asked, is_mend, mend_by, mend_or_bad}
+pub use Rattle.ucl_live_runs.specs.Requests.{is_group_row, is_same_order, request_of, shown_by, slot_in}
 unfoldable pub use Rattle.ucl_live_runs.specs.Requests.{asked_by}
-pub use Rattle.ucl_live_runs.specs.SessionRuns.{Closes, HasNoAnswer, HasNoEnd, IsRejected, NeedsMemory, RanOutOfMemory, RequestNeedsMemory, after_bytes}
+pub use Rattle.ucl_live_runs.specs.SessionRuns.{Closes, HasNoAnswer, HasNoEnd, IsOutInPart, IsRejected, after_bytes}
 pub use Rattle.ucl_live_runs.specs.SessionRuns.{answers_to, end_of, missing_at, session_at, session_due, session_of}
 pub use Rattle.ucl_live_runs.specs.declared.follower.FollowState.{FollowState}
 pub use Rattle.ucl_live_runs.specs.declared.phase.Phase.TheVariants.{AwaitingClubs, AwaitingHeader, Open}

@@ -2,10 +2,15 @@ pub mod Common
 pub mod Boards
 pub mod Lines
 pub mod FollowShown
+pub mod Mends
+pub mod Entered
+pub mod LeftOuts
 pub mod Runs
 pub mod AnswerValues
 pub mod ReadBack
-pub mod Repeats
 pub mod AnswerLines
+pub mod MendLines
+pub mod Told
 pub mod RecordEnds
+pub mod Repeats
 pub mod Theorems

@@ -1,19 +1,29 @@
 -- The lines of a session, one after the other.
-use Rattle.ucl_live_runs.proofs.Common.{Accepted, AreLinesOfValues, AwaitingClubs, AwaitingHeader, Bad, BeginningsAreAnswered, BoardHeader, BoardsBeginAgain}
+use Rattle.ucl_live_runs.proofs.Common.{Accepted, AreLinesOfValues, Bad, BeginningsAreAnswered, BoardHeader}
 use Rattle.ucl_live_runs.proofs.Common.{Bool, Err, Event, HasNoAnswer, HasNoEnd, Input, Json, JsonAnswersAreLines, LinesAreReadWhole, List, LiveArgs}
-use Rattle.ucl_live_runs.proofs.Common.{LiveFault, Matches, NamedClub, NewBoard, None, Nothing, Ok, Open, Option, Other, OutOfMemory, Reached}
-use Rattle.ucl_live_runs.proofs.Common.{Refusal, Request, Result, Said, Screen, Session, Some, StopsBy, Words, [], after_bytes, after_lines, again, again_at}
-use Rattle.ucl_live_runs.proofs.Common.{again_on, answer_at, answer_of, answer_on, answer_said, answers, answers_to, ap, append-nil, append_assoc, ap₂, arith}
-use Rattle.ucl_live_runs.proofs.Common.{bad_row, bad_row_value, begun_again, begun_append, begun_ended, begun_line, cases_Bool, cond_both}
-use Rattle.ucl_live_runs.proofs.Common.{edition_screen_value, end_of, ended, ended_append, ended_lines, false, fault_row, field_name, fits, game_at, get_or}
+use Rattle.ucl_live_runs.proofs.Common.{LiveFault, Matches, NamedClub, Nothing, Ok, Open, Other, Reached}
+use Rattle.ucl_live_runs.proofs.Common.{Refusal, Request, Result, Run, Said, Screen, Session, Some, Words, [], after_bytes, after_lines}
+use Rattle.ucl_live_runs.proofs.Common.{answer_at, answer_of, answer_said, answers, answers_to, ap, append-nil, append_assoc, arith}
+use Rattle.ucl_live_runs.proofs.Common.{bad_row_value, begun_append, begun_ended, begun_line, cases_Bool, cond_both}
+use Rattle.ucl_live_runs.proofs.Common.{edition_screen_value, end_of, ended, ended_append, ended_lines, false, fault_row, field_name, fits, get_or}
 use Rattle.ucl_live_runs.proofs.Common.{inl, inr, last_lines, length, length-append, line_of_value, lines_of, lines_then, live_text, longer, lt-leb}
 use Rattle.ucl_live_runs.proofs.Common.{matches_value, min, missing, missing_after, missing_at, missing_now, moved, nat_le, nat_tests, next, next_at}
-use Rattle.ucl_live_runs.proofs.Common.{next_board, next_on, no_lines, open_at, printed, refl, reply_answer, reply_of, reply_value, request_of, row_by_text}
-use Rattle.ucl_live_runs.proofs.Common.{said_on, same_Some, screen_after, screen_answer, shown_text, subst, sym, take, take-append-le, true, uncut_after}
-use Rattle.ucl_live_runs.proofs.Common.{uncut_lines, version_of, words_value, ℕ, ⊤, ◌++◌, ◌+◌, ◌-◌, ◌<◌, ◌==◌, ◌^◌, ◌∙◌, ◌∷◌, ◌≡◌, ◌≤◌, ◌⊎◌}
-use Rattle.ucl_live_runs.specs.declared.live_fault.LiveFault.TheVariants.{Run}
-use Rattle.ucl_live_runs.specs.declared.phase.Phase.{Phase}
+use Rattle.ucl_live_runs.proofs.Common.{no_lines, open_at, printed, refl, reply_answer, reply_value, request_of, row_by_text}
+use Rattle.ucl_live_runs.proofs.Common.{said_on, screen_after, screen_answer, shown_text, subst, sym, take, take-append-le, true, uncut_after}
+use Rattle.ucl_live_runs.proofs.Common.{uncut_lines, words_value, ℕ, ⊤, ◌++◌, ◌+◌, ◌-◌, ◌<◌, ◌==◌, ◌^◌, ◌∙◌, ◌∷◌, ◌≡◌, ◌≤◌, ◌⊎◌}
 use Rattle.ucl_rows.specs.Rows.{Row}
+use Rattle.ucl_board.specs.History.{sequential_reply}
+use Rattle.ucl_json.specs.Mended.{left_out_value, mend_refused_value, mended_value, mended_with}
+use Rattle.ucl_live_runs.proofs.Common.{MendsAreDone, Mends, json_line}
+use Rattle.ucl_live_runs.specs.LiveText.{mend_answer, mended_stage, request_stage, screen_if, stage}
+use Rattle.ucl_live_runs.specs.LiveTheorems.{IsMended}
+use Rattle.ucl_live_runs.specs.MendNames.{mend_refusal_code, mend_refusal_name}
+use Rattle.ucl_live_runs.specs.Mended.{entered, history_in}
+use Rattle.ucl_live_runs.specs.Mends.{board_in, clubs_after, edition_reply, events_after, left_out_by, left_out_lines, mended_answer, row_named}
+use Rattle.ucl_live_runs.specs.declared.mend_refusal.MendRefusal.{MendRefusal}
+use Rattle.ucl_live_runs.specs.declared.request.Mend.{Mend}
+use Rattle.ucl_live_runs.specs.declared.standing.LeftOut.{LeftOut}
+use Rattle.ucl_live_runs.specs.declared.standing.StandingEvent.{StandingEvent}
 use Rattle.ucl_screen.specs.declared.fault.InputFault.TheVariants.{BadRow}
 
 -- ==== A session whose board is not open has answered nothing, and one that is refused stays so
@@ -24,12 +34,18 @@ is_open _ = false
 
 -- an open board stays open
 
-open-on : (e : Session) (clubs : List NamedClub) (board : List ℕ) (r : Said) (o : Option NewBoard) → is_open (next_on e clubs board r o).phase ≡ true
-open-on e clubs board r None = refl
-open-on e clubs board r (Some new) = refl
+open-reply : (header : BoardHeader) (clubs : List NamedClub) (events : List StandingEvent) (r : Said) (mend : Mend) (reply : Result ℕ MendRefusal)
+    → is_open (mended_stage header clubs events r mend reply).phase ≡ true
+open-reply header clubs events r mend (Ok edition) = refl
+open-reply header clubs events r mend (Err refusal) = refl
+
+open-request : (header : BoardHeader) (row : ℕ) (clubs : List NamedClub) (events : List StandingEvent) (r : Said) (q : Request)
+    → is_open (request_stage header row clubs events r q).phase ≡ true
+open-request header row clubs events r (Mends mend) = open-reply header clubs events r mend (edition_reply header.edition events mend)
+open-request _ _ _ _ _ _ = refl
 
 open-at : (e : Session) (s : Reached) (r : Said) → is_open s ≡ true → is_open (next_at e s r).phase ≡ true
-open-at e (Ok (Open table)) r h = open-on e table.roster table.board r (again_on e.header e.is_new table.roster r)
+open-at e (Ok (Open table)) r h = open-request e.header e.row table.roster table.events r (request_of r)
 open-at e s r h = cc
 
 open-next : (e : Session) (r : Said) → is_open e.phase ≡ true → is_open (next e r).phase ≡ true
@@ -41,31 +57,49 @@ unfolding after_lines
 stays-open e [] h = h
 stays-open e (line ∷ lines) h = stays-open (next e (said_on e.row line)) lines (open-next e (said_on e.row line) h)
 
--- a line is answered by an open board alone, that it does not begin again
+-- a line is answered by an open board alone
 module _ (P : Session → List ℕ → Type 0) where
   pub by-line : (e : Session) (r : Said) (shown : List ℕ) → ((after : Session) → P after [])
-      → ((clubs : List NamedClub) (board : List ℕ) → e.phase ≡ open_at clubs board
-      → P (moved e (next_on e clubs board r None)) (answer_of e.options e.header e.row clubs board (request_of r) shown)) → P (next e r) (answer_said e r shown)
+      → ((clubs : List NamedClub) (events : List StandingEvent) → e.phase ≡ open_at clubs events
+      → P (moved e (request_stage e.header e.row clubs events r (request_of r))) (answer_of e.options e.header e.row clubs events r (request_of r) shown))
+      → P (next e r) (answer_said e r shown)
   by-line e Nothing shown silent answered = silent (next e Nothing)
   by-line e r shown silent answered = at e.phase refl
     where
-      on : (clubs : List NamedClub) (board : List ℕ) → e.phase ≡ open_at clubs board → (o : Option NewBoard) → P (moved e (next_on e clubs board r o)) (answer_on e clubs board r shown o)
-      on clubs board is None = answered clubs board is
-      on clubs board is (Some new) = silent (begun_again e new)
-
       at : (s : Reached) → e.phase ≡ s → P (moved e (next_at e s r)) (answer_at e s r shown)
-      at (Ok (Open table)) is = on table.roster table.board is (again_on e.header e.is_new table.roster r)
+      at (Ok (Open table)) is = answered table.roster table.events is
       at s is = silent (moved e (next_at e s r))
+
+-- a line on an open board
+pub on-board : (e : Session) (r : Said) (clubs : List NamedClub) (events : List StandingEvent) → e.phase ≡ open_at clubs events
+    → next e r ≡ moved e (request_stage e.header e.row clubs events r (request_of r))
+on-board e Nothing clubs events h = ap (λ (s : Reached). moved e (stage e.header s)) h
+on-board e r clubs events h = ap (λ (s : Reached). moved e (next_at e s r)) h
+
+pub mends-done : MendsAreDone
+unfolding MendsAreDone
+mends-done e r clubs events mend h q =
+    let same = on-board e r clubs events h ∙ ap (λ (x : Request). moved e (request_stage e.header e.row clubs events r x)) q in
+    subst (λ (n : Session). IsMended e n clubs events r mend (edition_reply e.header.edition events mend)) (sym same) (by (edition_reply e.header.edition events mend))
+  where
+    by : (reply : Result ℕ MendRefusal) → IsMended e (moved e (mended_stage e.header clubs events r mend reply)) clubs events r mend reply
+    by (Ok edition) = (refl, refl)
+    by (Err refusal) = (refl, refl)
 
 pub shut-lines : (e : Session) (lines : List (List ℕ)) → is_open (after_lines e lines).phase ≡ false → is_open e.phase ≡ false
 shut-lines e lines h = elim (cases_Bool (is_open e.phase)) [ inl y ↦ cc (stays-open e lines y) | inr n ↦ n ]
+
+no-both : (b : Bool) → b ≡ true → b ≡ false → ⊥
+no-both true h k = cc
+no-both false h k = cc
 
 pub silent : (e : Session) (lines : List (List ℕ)) → is_open (after_lines e lines).phase ≡ false → answers e lines ≡ []
 unfolding answers after_lines
 silent e [] h = refl
 silent e (line ∷ lines) h =
     let r = said_on e.row line in
-    let a = by-line (λ after text. is_open after.phase ≡ false → text ≡ []) e r (shown_text line) (λ _ _. refl) (λ _ _ _ k. cc) (shut-lines (next e r) lines h) in
+    let a = by-line (λ after text. is_open after.phase ≡ false → text ≡ []) e r (shown_text line) (λ _ _. refl)
+    (λ clubs events _ k. absurd (no-both _ (open-request e.header e.row clubs events r (request_of r)) k)) (shut-lines (next e r) lines h) in
     let b = silent (next e r) lines h in rw (a, b) refl
 
 -- a refused session stays refused
@@ -84,11 +118,6 @@ stays-refused e (line ∷ lines) fault h =
 pub missing-shut : (row : ℕ) (s : Reached) (fault : LiveFault) → missing row s ≡ Some fault → is_open s ≡ false
 missing-shut row (Ok (Open table)) fault h = cc
 missing-shut _ _ _ _ = refl
-
--- the same of weaker facts
-pub stops-with : (A B C D : Type 0) → (A → C) → (B → D) → (fault : LiveFault) → StopsBy A B fault → StopsBy C D fault
-stops-with A B C D f g (Run OutOfMemory) h = f h
-stops-with A B C D f g _ h = g h
 
 -- ==== Lines that are answered one after the other
 
@@ -154,54 +183,50 @@ some-missing e f begun some is =
     ∙ told-alike (e.row + 1) (min (e.row + 1) (2 ^ 64 - 1)) f.phase (omega arith)
 
 pub some-stops : (e : Session) (begun : List ℕ) (fault : LiveFault) → (begun ≡ [] → ⊥) → HasNoAnswer e (said_on e.row begun) fault → HasNoEnd e begun fault
-some-stops e begun fault some h =
-    stops-with _ _ _ _ (λ asks. asks)
-    (λ refused. ap missing_now (some-end e begun some) ∙ ap (missing (e.row + 1)) refused) fault h
-
--- a club that is missing is no lack of memory
-pub misses : (row : ℕ) (s : Phase) (fault : LiveFault) (A B : Type 0) → missing row (Ok s) ≡ Some fault → B → StopsBy A B fault
-misses row (Open table) fault A B e b = absurd (cc)
-misses row AwaitingHeader fault A B e b = subst (StopsBy A B) (same_Some (bad_row row) fault e) b
-misses row (AwaitingClubs clubs) fault A B e b = subst (StopsBy A B) (same_Some (bad_row row) fault e) b
-
-new-at : (e : Session) (s : Reached) (r : Said) (shown : List ℕ) (new : NewBoard) → again_at e s r ≡ Some new → (moved e (next_at e s r) ≡ begun_again e new) × (answer_at e s r shown ≡ [])
-new-at e (Ok (Open table)) r shown new h = rw h (refl, refl)
-new-at e s r shown new h = cc
-
-pub begun : (e : Session) (r : Said) (shown : List ℕ) (new : NewBoard) → again e r ≡ Some new → (next e r ≡ begun_again e new) × (answer_said e r shown ≡ [])
-begun e Nothing shown new h = absurd (none e.phase h)
-  where
-    none : (s : Reached) → again_at e s Nothing ≡ Some new → ⊥
-    none (Ok (Open table)) h = cc
-    none s h = cc
-begun e r shown new h = new-at e e.phase r shown new h
-
-pub begins-again : BoardsBeginAgain
-unfolding answers after_lines BoardsBeginAgain
-begins-again e line lines new is =
-    let b = begun e (said_on e.row line) (shown_text line) new is in
-    record { text = ap₂ (λ (text : List ℕ) (k : Session). text ++ answers k lines) b.1 b.0; after = ap (λ (k : Session). after_lines k lines) b.0 }
+some-stops e begun fault some (inl none) = inl none
+some-stops e begun fault some (inr refused) = inr (ap missing_now (some-end e begun some) ∙ ap (missing (e.row + 1)) refused)
 
 -- ==== In JSON a session answers by lines of values
 
-after-line : (options : LiveArgs) (header : BoardHeader) (row : ℕ) (clubs : List NamedClub) (reply : Result Accepted Refusal) (board : List ℕ)
-    → options.format ≡ Json → AreLinesOfValues (screen_after options header row clubs reply board)
-after-line options header row clubs (Ok accepted) board h =
-    cond_both options.screens (screen_answer options.format header row clubs board) [] AreLinesOfValues
-    (λ _. rw h (line_of_value (edition_screen_value row header board clubs))) (λ _. no_lines)
-after-line options header row clubs (Err refusal) board h = no_lines
+module _ (options : LiveArgs) (header : BoardHeader) (row : ℕ) (clubs : List NamedClub) (json : options.format ≡ Json) where
+  screen-lines : (board : List ℕ) → AreLinesOfValues (screen_answer options.format header row clubs board)
+  screen-lines board = rw json (line_of_value (edition_screen_value row header board clubs))
 
-request-lines : (options : LiveArgs) (header : BoardHeader) (row : ℕ) (clubs : List NamedClub) (board : List ℕ) (request : Request) (shown : List ℕ) → options.format ≡ Json
-    → AreLinesOfValues (answer_of options header row clubs board request shown)
-request-lines options header row clubs board (Event event) shown h =
-    let reply = reply_of (game_at board event.call.game) event.call in
-    let after = next_board board (Event event) in
-    lines_then (reply_answer options.format header row clubs event (version_of board) reply after) (screen_after options header row clubs reply after)
-    (rw h (line_of_value (reply_value row event reply header after clubs))) (after-line options header row clubs reply after h)
-request-lines options header row clubs board (Bad field) shown h = rw h (line_of_value (bad_row_value row (field_name field) shown))
-request-lines options header row clubs board Screen shown h = rw h (line_of_value (edition_screen_value row header board clubs))
-request-lines options header row clubs board Words shown h = rw h (line_of_value (words_value row board))
-request-lines options header row clubs board Matches shown h = rw h (line_of_value (matches_value row board clubs))
+  if-lines : (board : List ℕ) → AreLinesOfValues (screen_if options header row clubs board)
+  if-lines board = cond_both options.screens (screen_answer options.format header row clubs board) [] AreLinesOfValues (λ _. screen-lines board) (λ _. no_lines)
+
+  after-lines : (reply : Result Accepted Refusal) (board : List ℕ) → AreLinesOfValues (screen_after options header row clubs reply board)
+  after-lines (Ok accepted) board = if-lines board
+  after-lines (Err refusal) board = no_lines
+
+left-lines : (left : List LeftOut) → AreLinesOfValues (left_out_lines left)
+left-lines [] = no_lines
+left-lines (out ∷ left) =
+    lines_then (json_line (left_out_value out.event.row out.event.entry out.refusal)) (left_out_lines left) (line_of_value (left_out_value out.event.row out.event.entry out.refusal)) (left-lines left)
+
+module _ (options : LiveArgs) (header : BoardHeader) (row : ℕ) (clubs : List NamedClub) (events : List StandingEvent) (said : Said) (json : options.format ≡ Json) where
+  mend-lines : (mend : Mend) (reply : Result ℕ MendRefusal) → AreLinesOfValues (mend_answer options header row clubs events said mend reply)
+  mend-lines mend (Err refusal) = rw json (line_of_value (mend_refused_value row (mend_refusal_code refusal) (mend_refusal_name refusal)))
+  mend-lines mend (Ok edition) =
+      let later = record header { edition = edition } in
+      let all = clubs_after clubs said mend in
+      let stand = events_after events mend in
+      let left = left_out_by events mend in
+      let value = mended_with (row_named mend) (mended_value row (length left) later (board_in stand) all) in
+      lines_then (mended_answer options.format row later all left (row_named mend) stand) (screen_if options later row all (board_in stand))
+      (rw json (lines_then (left_out_lines left) (json_line value) (left-lines left) (line_of_value value))) (if-lines options later row all json (board_in stand))
+
+  request-lines : (request : Request) (shown : List ℕ) → AreLinesOfValues (answer_of options header row clubs events said request shown)
+  request-lines (Event event) shown =
+      let reply = sequential_reply (history_in events) event.call in
+      let after = board_in (entered row events event) in
+      lines_then (reply_answer options.format header row clubs event (length events) reply after) (screen_after options header row clubs reply after)
+      (rw json (line_of_value (reply_value row event reply header after clubs))) (after-lines options header row clubs json reply after)
+  request-lines (Bad field) shown = rw json (line_of_value (bad_row_value row (field_name field) shown))
+  request-lines Screen shown = screen-lines options header row clubs json (board_in events)
+  request-lines Words shown = rw json (line_of_value (words_value row (board_in events)))
+  request-lines Matches shown = rw json (line_of_value (matches_value row (board_in events) clubs))
+  request-lines (Mends mend) shown = mend-lines mend (edition_reply header.edition events mend)
 
 pub json-lines : JsonAnswersAreLines
 unfolding answers JsonAnswersAreLines
@@ -210,7 +235,7 @@ json-lines e (line ∷ lines) h =
     let said = said_on e.row line in
     let shown = shown_text line in
     let one = by-line (λ _ text. AreLinesOfValues text) e said shown (λ _. no_lines)
-    (λ clubs board _. request-lines e.options e.header e.row clubs board (request_of said) shown h) in
+    (λ clubs events _. request-lines e.options e.header e.row clubs events said h (request_of said) shown) in
     lines_then (answer_said e said shown) (answers (next e said) lines) one (json-lines (next e said) lines h)
 
 -- ==== The lines as they are read, and as they came

@@ -1,6 +1,6 @@
 -- Whole runs of handlers whose text is a function of the lines, and of sessions and followers, from what the driver says of them.
-use Rattle.ucl_live_runs.proofs.Common.{Bool, Closes, Err, FollowArgs, FollowState, HasNoAnswer, HasNoEnd, IsRejected, List, LiveFault, NeedsMemory, None, Ok}
-use Rattle.ucl_live_runs.proofs.Common.{Option, OutOfMemory, RanOutOfMemory, Result, Session, Some, [], after_bytes, after_line, after_lines, answer_said}
+use Rattle.ucl_live_runs.proofs.Common.{Closes, Err, FollowArgs, FollowState, HasNoAnswer, HasNoEnd, IsRejected, List, LiveFault, None, Ok}
+use Rattle.ucl_live_runs.proofs.Common.{OutOfMemory, IsOutInPart, Result, Session, Some, [], RunFault, after_bytes, after_line, after_lines, answer_said}
 use Rattle.ucl_live_runs.proofs.Common.{answers, answers_to, ap, append-nil, append_assoc, ap₂, arith, begun_line, cut_at, ended_lines, false, follow_outputs}
 use Rattle.ucl_live_runs.proofs.Common.{follow_text, followed, inl, inr, last_lines, length, line_output, live_text, missing_after, missing_at, next, refl}
 use Rattle.ucl_live_runs.proofs.Common.{said_on, session_due, session_of, shown_text, sym, unseen, ℕ, ◌++◌, ◌+◌, ◌∙◌, ◌∷◌, ◌≡◌, ◌≤◌, ◌⊎◌}
@@ -20,8 +20,7 @@ use Rattle.ucl_live_runs.specs.Driven.{Due, FailsAfter, IsDriven, IsOutSoFar, Si
 use Rattle.ucl_live_runs.specs.FollowerRuns.{IsHandled, counts_of, follow_due}
 use Rattle.ucl_live_runs.specs.declared.follower.Follower.{Follower}
 use Rattle.ucl_live_runs.specs.declared.session.Session.{Session as Held}
-use Rattle.ucl_rows.specs.declared.fault.RunFault.{RunFault}
-use Rattle.ucl_live_runs.proofs.Lines.{after-append, answers-append, is_open, missing-shut, shut-lines, silent, stays-refused, stops-with, whole-missing}
+use Rattle.ucl_live_runs.proofs.Lines.{after-append, answers-append, is_open, missing-shut, shut-lines, silent, stays-refused, whole-missing}
 use Rattle.ucl_live_runs.proofs.Lines.{whole-text}
 use Rattle.ucl_io.specs.declared.stream.Sink as writes
 use Rattle.ucl_io.specs.declared.stream.Source as reads
@@ -84,9 +83,9 @@ module _ {M V F S W : Type 0} {R : LineRules M F} {cap : ℕ} {D : Due V F} {m :
         let first = turns_front M R.line.Answers 1 m u.first u.later (rw u.among at p.turned) in
         (u.bytes, u.consumed, rw (d.turns u.first first ∙ ap d.text u.lines ∙ sym (d.so_far u.bytes)) at u.out)) p.prompt
 
-    cut : {written : ℕ} → (run.last ≡ []) ⊎ HasClosed R cap old new run → StoppedShort 0 after.failed before.taken after.taken (text_in run.turns ++ run.last) written
+    cut : {X : Type 0} {written : ℕ} → ((run.last ≡ []) × X) ⊎ HasClosed R cap old new run → StoppedShort 0 after.failed before.taken after.taken (text_in run.turns ++ run.last) written
         → StopsInText D run.bytes before after written
-    cut {written} (inl none) s =
+    cut {written} (inl (none, _)) s =
         let more = d.parts (lines_in run.turns) run.rest in record {
           text = D.so_far run.bytes;
           text_is = inl refl;
@@ -174,16 +173,10 @@ module _ (m : Held) where
       abbrev then : Session
       then = next reached (said_on reached.row line)
 
-      asks : NeedsMemory reached (said_on reached.row line) → RanOutOfMemory start bytes before after
-      asks h =
-          let at = cut_at 258 [] bytes (lines_in turns) line later next_is in record {
-            front = at.front;
-            rest = 10 ∷ at.more;
-            parts = at.parts;
-            out = rw (shows turns p, ← at.before) at out;
-            line = inl (at.more, refl);
-            asks = rw (at.begun, at.before, ← reaches) h;
-          }
+      in_part : IsOutInPart start bytes before after
+      in_part =
+          let at = cut_at 258 [] bytes (lines_in turns) line later next_is in
+          record { front = at.front; rest = 10 ∷ at.more; parts = at.parts; out = rw (shows turns p, ← at.before) at out }
 
       rejects : (fault : LiveFault) → then.phase ≡ Err fault → IsRejected start bytes before after fault
       unfolding after_lines
@@ -202,9 +195,8 @@ module _ (m : Held) where
       here : reached ≡ after_bytes start bytes
       here = reaches ∙ ap (after_lines start) lines
 
-      asks_last : NeedsMemory reached (said_on reached.row (begun_line 258 [] bytes)) → RanOutOfMemory start bytes before after
-      asks_last h =
-          record { front = bytes; rest = []; parts = sym (append-nil bytes); out = rw whole_text at out; line = inr (refl, ended); asks = rw (← here) h }
+      in_part_last : IsOutInPart start bytes before after
+      in_part_last = record { front = bytes; rest = []; parts = sym (append-nil bytes); out = rw whole_text at out }
 
       rejects_last : (fault : LiveFault) → missing_at reached (begun_line 258 [] bytes) ≡ Some fault → IsRejected start bytes before after fault
       rejects_last fault h =
@@ -220,10 +212,14 @@ module _ (m : Held) where
     parts = λ a b. (answers (after_lines start a) b, answers-append start a b);
     turns = shows;
     closes = λ bytes last turns n p. closes bytes turns p last;
-    stops_next = λ bytes turns line later n fault before after p lines s out.
-        stops-with _ _ _ _ (asks bytes turns p line later lines before after out) (rejects bytes turns p line later lines before after out fault) fault s;
-    stops_last = λ bytes turns n fault before after p lines ended s out.
-        stops-with _ _ _ _ (asks_last bytes turns p lines before after ended out) (rejects_last bytes turns p lines before after ended out fault) fault s;
+    stops_next = λ bytes turns line later n fault before after p lines s out. elim s [
+      | inl none ↦ inl (none, in_part bytes turns p line later lines before after out)
+      | inr refused ↦ inr (rejects bytes turns p line later lines before after out fault refused)
+    ];
+    stops_last = λ bytes turns n fault before after p lines ended s out. elim s [
+      | inl none ↦ inl (none, in_part_last bytes turns p lines before after ended out)
+      | inr missing ↦ inr (rejects_last bytes turns p lines before after ended out fault missing)
+    ];
   }
 
 -- ==== Followers

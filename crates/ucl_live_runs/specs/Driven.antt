@@ -1,7 +1,10 @@
 -- Runs of a driver, which takes bytes from a source, hands each line to a handler (a session, or a follower), and gives its answer to a
 -- sink. A `Device` is both at one time: what the source has left and the sink has taken, each if known, and whether the sink has failed.
-use Rattle.ucl_live_runs.specs.Names.{Appends, Bool, Consumes, Device, Err, HasEnded, IfErr, IfOk, IfSome, List, LoggedIo, LogsCalls, OnOk, Option, Result}
-use Rattle.ucl_live_runs.specs.Names.{ServeFault, device, length, true, ℕ}
+use Rattle.std.specs.Io.KnownBytes.{Appends, Consumes}
+use Rattle.std.specs.Prelude.{Bool, Err, IfErr, IfOk, IfSome, List, OnOk, Option, Result, length, true, ℕ}
+use Rattle.ucl_io.specs.Calls.{Device, HasEnded, LogsCalls, device}
+use Rattle.ucl_io.specs.declared.fault.ServeFault.{ServeFault}
+use Rattle.ucl_io.specs.declared.logged_io.LoggedIo.{LoggedIo}
 use Rattle.std.specs.Prelude.{◌<◌, ◌^◌, ◌≡◌, ◌⊎◌}
 use Rattle.ucl_io.specs.declared.fault.ServeFault.TheVariants.{Handler, ReadFailed, TooLong, WriteFailed}
 use Rattle.ucl_io.specs.Output.{StoppedShort}

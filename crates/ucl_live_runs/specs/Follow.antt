@@ -1,18 +1,34 @@
 -- What a follower (`ucl_follow`) shows of the lines that it reads, of which each may carry a board state: a header (group, tie-break order,
--- edition), a roster and the twelve words of a board. It shows each that is newer than all before: of a later edition (a number from 0;
--- each later one begins a fresh board), or of the same edition and a higher version (number of events). A record is the rows of a session,
--- a run of `ucl_live`, whose answers a follower reads.
-use Rattle.ucl_live_runs.specs.Names.{All, AreWords, Attempt, BoardHeader, BoardState, Bool, Contains, Entry, FollowArgs, FollowShape, IsAttempt, IsGroup}
-use Rattle.ucl_live_runs.specs.Names.{IsLegal, IsRoster, List, LiveArgs, NamedClub, NightEvent, None, Ok, Option, Some, [], accepted_value, after_attempt}
-use Rattle.ucl_live_runs.specs.Names.{board_after, board_of, edition_screen_value, ended_lines, false, flat_map, fold, is_ok, json_line, length, lines_of}
-use Rattle.ucl_live_runs.specs.Names.{map, matches_value, min, nat_lt, option_to_list, parse_board_line, parse_board_state, screen_text, sequential_reply}
-use Rattle.ucl_live_runs.specs.Names.{true, version_of, ℕ, ⊤}
+-- edition), a roster and the twelve words of a board. It shows each that is newer than all before: of a later edition (a number from 0,
+-- which rises with each mend), or of the same edition and a higher version (number of events). A record is the rows of a session, a run of
+-- `ucl_live`, whose answers a follower reads.
+use Rattle.std.specs.List.{Contains, fold}
+use Rattle.std.specs.Prelude.{All, Bool, IfSome, List, None, Ok, Option, Some, [], false, flat_map, length, map, min, nat_lt, option_to_list, true, ℕ, ⊤}
+use Rattle.std.specs.Result.{is_ok}
+use Rattle.ucl_board.specs.History.{Attempt, IsAttempt, IsLegal, after_attempt, board_after, board_of, sequential_reply}
+use Rattle.ucl_board.specs.Words.{AreWords, version_of}
+use Rattle.ucl_board.specs.declared.entry.Entry.{Entry}
+use Rattle.ucl_command.specs.declared.follow.FollowArgs.{FollowArgs}
+use Rattle.ucl_command.specs.declared.follow.FollowShape.{FollowShape}
+use Rattle.ucl_command.specs.declared.live.LiveArgs.{LiveArgs}
+use Rattle.ucl_io.specs.Lines.{ended_lines}
+use Rattle.ucl_json.specs.BoardLines.{parse_board_line, parse_board_state}
+use Rattle.ucl_json.specs.Lines.{json_line}
+use Rattle.ucl_json.specs.Mended.{mended_value, mended_with}
+use Rattle.ucl_json.specs.Values.{accepted_value, edition_screen_value, matches_value}
+use Rattle.ucl_json.specs.declared.board_state.BoardState.{BoardState}
+use Rattle.ucl_json.specs.declared.header.BoardHeader.{BoardHeader}
+use Rattle.ucl_order.specs.Roster.{IsRoster, NamedClub}
+use Rattle.ucl_rows.specs.InputLines.{lines_of}
+use Rattle.ucl_screen.specs.Screen.{IsGroup, screen_text}
+use Rattle.ucl_screen.specs.declared.night.NightEvent.{NightEvent}
 use Rattle.std.specs.Prelude.{if◌then◌else◌, ◌&&◌, ◌++◌, ◌+◌, ◌-◌, ◌<◌, ◌==◌, ◌^◌, ◌||◌, ◌∷◌, ◌≡◌, ◌≤◌, ◌⊎◌}
 use Rattle.ucl_screen.specs.Matches.{matches_text}
 use Rattle.ucl_command.specs.declared.follow.FollowShape.TheVariants.{Json, Matches, Text}
 use Rattle.serde_json.specs.Written.{compact_text}
 use Rattle.ucl_live_runs.specs.Requests.{is_asked}
 use Rattle.ucl_live_runs.specs.declared.follower.FollowState.{FollowState}
+use Rattle.ucl_live_runs.specs.Mends.{board_in}
 use Rattle.ucl_live_runs.specs.Phases.{Reached}
 use Rattle.ucl_live_runs.specs.declared.phase.Phase.TheVariants.{Open}
 use Rattle.ucl_live_runs.specs.LiveText.{Session, after_lines, live_text, start_of}
@@ -169,12 +185,15 @@ pub record IsBoardState (board_state : BoardState) : Type 0 where
   pub words : AreWords board_state.board
   pub bits : All (λ word. word < 2 ^ 64) board_state.board
 
--- the JSON value of the answer to this accepted event, and that of a screen, parse to just the board state that they are made from
+-- the JSON values of the answers to this accepted event and to a mend, and that of a screen, parse to just the board state that they are
+-- made from
 pub record CarriesItsBoardState (row : ℕ) (event : NightEvent) (number : ℕ) (board_state : BoardState) : Type 0 where
   pub reply : parse_board_state (accepted_value row event number board_state.header board_state.board board_state.roster) ≡ Some board_state
   pub screen : parse_board_state (edition_screen_value row board_state.header board_state.board board_state.roster) ≡ Some board_state
+  pub mended : (without : Option ℕ) (left_out : ℕ)
+      → parse_board_state (mended_with without (mended_value row left_out board_state.header board_state.board board_state.roster)) ≡ Some board_state
 
--- theorem: the JSON value of the answer to an accepted event, and that of a screen, parse to just the board state that they are made from
+-- theorem: the JSON values of the answers to an accepted event and to a mend, and that of a screen, parse to just their board state
 unfoldable pub AnswersTellTheirBoardState : Type 0
 AnswersTellTheirBoardState = (row : ℕ) (event : NightEvent) (number : ℕ) (board_state : BoardState) → IsBoardState board_state → CarriesItsBoardState row event number board_state
 
@@ -184,12 +203,16 @@ pub record HasNumbers (event : NightEvent) : Type 0 where
   pub game : event.call.game < 2 ^ 64
   pub expected : event.call.expected < 2 ^ 64
 
--- the JSON line of the answer to this accepted event, and that of a screen, parse to just the board state that they are made from
+-- the JSON lines of the answers to this accepted event and to a mend, and that of a screen, parse to just the board state that they are
+-- made from
 pub record CarriesOnItsLine (row : ℕ) (event : NightEvent) (number : ℕ) (board_state : BoardState) : Type 0 where
   pub reply : parse_board_line (compact_text (accepted_value row event number board_state.header board_state.board board_state.roster)) ≡ Some board_state
   pub screen : parse_board_line (compact_text (edition_screen_value row board_state.header board_state.board board_state.roster)) ≡ Some board_state
+  pub mended : (without : Option ℕ) (left_out : ℕ) → IfSome without (λ n. n < 2 ^ 64) → left_out < 2 ^ 64
+      → parse_board_line (compact_text (mended_with without (mended_value row left_out board_state.header board_state.board board_state.roster))) ≡ Some board_state
 
--- theorem: the JSON line of the answer to an accepted event, and that of a screen, parse to their board state, if all numbers have 64 bits
+-- theorem: the JSON lines of the answers to an accepted event and to a mend, and that of a screen, parse to their board state, if all
+-- numbers have 64 bits
 unfoldable pub LinesTellTheirBoardState : Type 0
 LinesTellTheirBoardState = (row : ℕ) (event : NightEvent) (number : ℕ) (board_state : BoardState) → IsBoardState board_state → row < 2 ^ 64 → HasNumbers event → number < 2 ^ 64
     → CarriesOnItsLine row event number board_state
@@ -198,7 +221,7 @@ LinesTellTheirBoardState = (row : ℕ) (event : NightEvent) (number : ℕ) (boar
 unfoldable pub MatchesFitTheirLine : Type 0
 MatchesFitTheirLine = (row : ℕ) (board_state : BoardState) → IsBoardState board_state → row < 2 ^ 64 → length (compact_text (matches_value row board_state.board board_state.roster)) ≤ 4096
 
--- ---- events that are entered again, and change nothing
+-- ---- events that are entered again in one edition, and change nothing
 
 -- among attempts (events, each with its reporter) that were made one after the other, from this history on, this one was accepted
 pub record WasAccepted (history : List Entry) (made : List Attempt) (attempt : Attempt) : Type 0 where
@@ -225,7 +248,7 @@ unfoldable pub RepeatedRowsChangeNothing : Type 0
 RepeatedRowsChangeNothing = (history : List Entry) (longer shorter : List Attempt) → IsLegal history → All IsAttempt longer → HasRepeats history [] longer shorter
     → LeaveTheSame history longer shorter
 
--- ---- a record: the rows of a session, in one edition or several, and its answers in JSON
+-- ---- a record: the rows of a session, with its mends, and its answers in JSON
 
 -- the board state with this header, these clubs and this board
 abbrev pub board_state_with : BoardHeader → List NamedClub → List ℕ → BoardState
@@ -233,7 +256,7 @@ board_state_with header clubs board = record { header = header; roster = clubs; 
 
 -- the board state, with this header, of a session in this phase; None if its board is not open, or it is refused
 abbrev pub board_state_at : BoardHeader → Reached → Option BoardState
-board_state_at header (Ok (Open table)) = Some (board_state_with header table.roster table.board)
+board_state_at header (Ok (Open table)) = Some (board_state_with header table.roster (board_in table.events))
 board_state_at header _ = None
 
 -- the board state of a session; None if its board is not open
@@ -248,6 +271,21 @@ after_record options rows = after_lines (start_of options) (lines_of rows)
 abbrev pub answer_lines : LiveArgs → List ℕ → List (List ℕ)
 answer_lines options rows = whole_lines (live_text (start_of options) rows)
 
+-- the second of these is none, or the same board state as the first, or a newer one of its group and its tie-break order
+abbrev pub IsNoFall : Option BoardState → Option BoardState → Type 0
+IsNoFall None later = ⊤
+IsNoFall (Some earlier) None = ⊤
+IsNoFall (Some earlier) (Some later) = (earlier ≡ later) ⊎ IsOlder later earlier
+
+-- none of these board states is older than one before it, and two of the same edition and version are the same
+unfoldable pub NeverFall : List (Option BoardState) → Type 0
+NeverFall [] = ⊤
+NeverFall (first ∷ rest) = All (IsNoFall first) rest × NeverFall rest
+
+-- theorem: the board states that the answers to a record carry, one after the other, never fall, also when it mends
+unfoldable pub AnswersNeverFall : Type 0
+AnswersNeverFall = (options : LiveArgs) (rows : List ℕ) → options.format ≡ format.Json → length rows ≤ 2 ^ 62 → NeverFall (map parse_board_line (answer_lines options rows))
+
 -- a session answers these rows in JSON and ends with this board state, of a group and a tie-break order as `args` asks a follower for
 pub record IsRecord (options : LiveArgs) (rows : List ℕ) (args : FollowArgs) (board_state : BoardState) : Type 0 where
   pub json : options.format ≡ format.Json
@@ -255,10 +293,10 @@ pub record IsRecord (options : LiveArgs) (rows : List ℕ) (args : FollowArgs) (
   pub ends : board_state_now (after_record options rows) ≡ Some board_state
   pub asked : is_asked args.group args.profile board_state.header ≡ true
 
--- theorem: the board state at the end of a record is the latest that the answers carry, if one of them carries one of its edition
+-- theorem: the board state at the end of a record, after all its mends, is the latest that the answers carry, if they carry any
 unfoldable pub FollowersEndWithTheBoard : Type 0
 FollowersEndWithTheBoard = (options : LiveArgs) (rows : List ℕ) (args : FollowArgs) (board_state other : BoardState) → IsRecord options rows args board_state
-    → IsCarriedIn (answer_lines options rows) other → other.header.edition ≡ board_state.header.edition → IsLatest args board_state (answer_lines options rows)
+    → IsCarriedIn (answer_lines options rows) other → IsLatest args board_state (answer_lines options rows)
 
 -- a follower shows this board state last of these lines, and, as text, writes its screen, which is its table, last
 pub record EndsWithTable (args : FollowArgs) (board_state : BoardState) (lines : List (List ℕ)) : Type 0 where

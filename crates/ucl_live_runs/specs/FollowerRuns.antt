@@ -1,10 +1,25 @@
 -- A follower (`ucl_follow`) as a handler of lines: what it writes for a line, what it reports to the sink `others`, what a whole run comes
 -- to, and how the program ends. A line may carry a board state: a header (group, tie-break order, edition), clubs and a board. It is shown
 -- if it is newer than all before (of a later edition, or of more events); every other line is passed over.
-use Rattle.ucl_live_runs.specs.Names.{AnsweredAlone, Appends, AwayInTie, BoardHeader, BoardState, Bool, Ended, Err, FollowArgs, FollowShape, IsOfDriver}
-use Rattle.ucl_live_runs.specs.Names.{LineFault, List, LoggedIo, None, Ok, Option, OutOfMemory, Prints, Profile, Result, ServeFault, Some, Uefa, []}
-use Rattle.ucl_live_runs.specs.Names.{begun_line, codes, decimal, false, fault_line, get_or, length, parse_board_line, profile_name, set, status}
-use Rattle.ucl_live_runs.specs.Names.{string_bytes, true, ℕ}
+use Rattle.std.specs.Io.KnownBytes.{Appends}
+use Rattle.std.specs.Prelude.{Bool, Err, List, None, Ok, Option, Result, Some, [], codes, decimal, false, get_or, length, set, string_bytes, true, ℕ}
+use Rattle.ucl_command.specs.declared.fault.LineFault.{LineFault}
+use Rattle.ucl_command.specs.declared.follow.FollowArgs.{FollowArgs}
+use Rattle.ucl_command.specs.declared.follow.FollowShape.{FollowShape}
+use Rattle.ucl_io.specs.Lines.{begun_line}
+use Rattle.ucl_io.specs.declared.fault.ServeFault.{ServeFault}
+use Rattle.ucl_io.specs.declared.logged_io.LoggedIo.{LoggedIo}
+use Rattle.ucl_json.specs.BoardLines.{parse_board_line}
+use Rattle.ucl_json.specs.declared.board_state.BoardState.{BoardState}
+use Rattle.ucl_json.specs.declared.header.BoardHeader.{BoardHeader}
+use Rattle.ucl_order.specs.Names.{profile_name}
+use Rattle.ucl_order.specs.declared.profile.Profile.{Profile}
+use Rattle.ucl_order.specs.declared.profile.Profile.TheVariants.{AwayInTie, Uefa}
+use Rattle.ucl_rows.specs.Ending.{AnsweredAlone, Ended}
+use Rattle.ucl_rows.specs.Faults.{status}
+use Rattle.ucl_rows.specs.Printing.{Prints, fault_line}
+use Rattle.ucl_rows.specs.Run.{IsOfDriver}
+use Rattle.ucl_rows.specs.declared.fault.RunFault.TheVariants.{OutOfMemory}
 use Rattle.std.specs.Prelude.{if◌then◌else◌, ◌++◌, ◌+◌, ◌-◌, ◌∷◌, ◌≡◌, ◌≤◌}
 use Rattle.ucl_rows.specs.declared.fault.RunFault.{RunFault}
 use Rattle.ucl_live_runs.specs.declared.follower.Follower.{Follower}

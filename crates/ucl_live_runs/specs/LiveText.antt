@@ -1,69 +1,103 @@
 -- The text of a session of `ucl_live`: what it answers to its lines. A line says (`Said`) a row of four fields, something else, or nothing.
--- A row names a club or the header of the board (group, tie-break order, edition), or makes a request: to enter an event or show the board.
--- A row of a later edition puts a fresh board in place of the open one. The answer to a bad row has its text, `shown`.
-use Rattle.ucl_live_runs.specs.Names.{Bad, BoardHeader, Bool, Err, Event, List, LiveArgs, LiveFault, Matches, NamedClub, NightEvent, None, Nothing, Ok}
-use Rattle.ucl_live_runs.specs.Names.{Option, Request, Result, Said, Screen, Some, Words, [], bad_answer, board_of, game_at, length, lines_of, matches_answer}
-use Rattle.ucl_live_runs.specs.Names.{reply_answer, reply_of, said_on, screen_answer, shown_text, true, unwrap_or, version_of, words_answer, ℕ}
-use Rattle.std.specs.Prelude.{if◌then◌else◌, ◌&&◌, ◌++◌, ◌+◌, ◌∷◌}
+-- A row names a club or the header of the board (group, tie-break order, edition), or makes a request: to enter an event, to show the board,
+-- or to mend it. The answer to a bad row has its text, `shown`. A session keeps the events that stand, and its board is always theirs.
+use Rattle.std.specs.Prelude.{if◌then◌else◌, ◌++◌, ◌+◌, ◌∷◌, Err, List, Ok, Option, Result, [], length, unwrap_or, ℕ}
+use Rattle.ucl_board.specs.History.{sequential_reply}
+use Rattle.ucl_command.specs.declared.live.LiveArgs.{LiveArgs}
+use Rattle.ucl_json.specs.declared.header.BoardHeader.{BoardHeader}
+use Rattle.ucl_order.specs.Roster.{NamedClub}
+use Rattle.ucl_rows.specs.Answers.{bad_answer, matches_answer, reply_answer, screen_answer, words_answer}
+use Rattle.ucl_rows.specs.BadRows.{shown_text}
+use Rattle.ucl_rows.specs.InputLines.{lines_of}
+use Rattle.ucl_rows.specs.Rows.{Nothing, Said, said_on}
+use Rattle.ucl_live_runs.specs.declared.live_fault.LiveFault.{LiveFault}
+use Rattle.ucl_screen.specs.declared.night.NightEvent.{NightEvent}
 use Rattle.ucl_word.specs.declared.event.Accepted.{Accepted}
 use Rattle.ucl_word.specs.declared.refusal.Refusal.{Refusal}
-use Rattle.ucl_live_runs.specs.NewBoards.{NewBoard, again_on}
-use Rattle.ucl_live_runs.specs.Requests.{asked_header, header_said, is_bad, is_group_row, request_of}
-use Rattle.ucl_live_runs.specs.Phases.{Reached, after_beginning, after_club, club_said, missing, next_board, open_at}
+use Rattle.ucl_live_runs.specs.Mended.{entered, history_in}
+use Rattle.ucl_live_runs.specs.Mends.{board_in, clubs_after, edition_reply, events_after, left_out_by, mend_refused_answer, mended_answer, row_named}
+use Rattle.ucl_live_runs.specs.Phases.{Reached, after_beginning, after_club, club_said, missing, open_at}
+use Rattle.ucl_live_runs.specs.Requests.{asked_header, header_said, is_group_row, request_of}
+use Rattle.ucl_live_runs.specs.declared.mend_refusal.MendRefusal.{MendRefusal}
 use Rattle.ucl_live_runs.specs.declared.phase.Phase.TheVariants.{AwaitingClubs, AwaitingHeader, Open}
+use Rattle.ucl_live_runs.specs.declared.request.Mend.{Mend}
+use Rattle.ucl_live_runs.specs.declared.request.Request.{Request}
+use Rattle.ucl_live_runs.specs.declared.request.Request.TheVariants.{Bad, Event, Matches, Mends, Screen, Words}
+use Rattle.ucl_live_runs.specs.declared.standing.StandingEvent.{StandingEvent}
 
--- a session between two lines: its options, the header of its board, the number of the next line, its phase or the fault that it is refused
--- for, and whether its edition is new: neither an event nor a request to show the board has come in it
+-- a session between two lines: its options, the header of its board, the number of the next line, and its phase or the fault that it is
+-- refused for
 pub record Session : Type 0 where
   pub options : LiveArgs
   pub header : BoardHeader
   pub row : ℕ
   pub phase : Reached
-  pub is_new : Bool
 
 -- the session with these options before the first line
 abbrev pub start_of : LiveArgs → Session
-start_of options = record { options = options; header = asked_header options; row = 1; phase = Ok AwaitingHeader; is_new = true }
+start_of options = record { options = options; header = asked_header options; row = 1; phase = Ok AwaitingHeader }
+
+-- ---- what a request does
+
+-- header and phase of a session
+pub record Stage : Type 0 where
+  pub header : BoardHeader
+  pub phase : Reached
+
+-- this header and this phase
+abbrev pub stage : BoardHeader → Reached → Stage
+stage header phase = record { header = header; phase = phase }
+
+-- header and phase after a mend of a row that says this, by the reply to it: a later edition, or why it is refused
+abbrev pub mended_stage : BoardHeader → List NamedClub → List StandingEvent → Said → Mend → Result ℕ MendRefusal → Stage
+mended_stage header clubs events said mend (Ok edition) = stage (record header { edition = edition }) (open_at (clubs_after clubs said mend) (events_after events mend))
+mended_stage header clubs events said mend (Err refusal) = stage header (open_at clubs events)
+
+-- header and phase after a request of row number `row`: an accepted event stands; a mend changes both, if it is not refused
+abbrev pub request_stage : BoardHeader → ℕ → List NamedClub → List StandingEvent → Said → Request → Stage
+request_stage header row clubs events said (Event event) = stage header (open_at clubs (entered row events event))
+request_stage header row clubs events said (Mends mend) = mended_stage header clubs events said mend (edition_reply header.edition events mend)
+request_stage header row clubs events said request = stage header (open_at clubs events)
 
 -- ---- the answer to a line
 
+-- the screen that follows an answer, if the options ask for screens; else nothing
+abbrev pub screen_if : LiveArgs → BoardHeader → ℕ → List NamedClub → List ℕ → List ℕ
+screen_if options header row clubs board = if options.screens then screen_answer options.format header row clubs board else []
+
 -- the screen that follows the reply to an event, if this was accepted and the options ask for screens; else nothing
 abbrev pub screen_after : LiveArgs → BoardHeader → ℕ → List NamedClub → Result Accepted Refusal → List ℕ → List ℕ
-screen_after options header row clubs (Ok accepted) board = if options.screens then screen_answer options.format header row clubs board else []
+screen_after options header row clubs (Ok accepted) board = screen_if options header row clubs board
 screen_after options header row clubs (Err refusal) board = []
 
--- the answer to an event on this board: its reply, and then the screen, if the event is accepted and the options ask for screens
-abbrev pub event_answer : LiveArgs → BoardHeader → ℕ → List NamedClub → List ℕ → NightEvent → List ℕ
-event_answer options header row clubs board event =
-    let reply = reply_of (game_at board event.call.game) event.call in
-    let after = next_board board (Event event) in
-    reply_answer options.format header row clubs event (version_of board) reply after ++ screen_after options header row clubs reply after
+-- the answer to an event: its reply, and then the screen, if the event is accepted and the options ask for screens
+abbrev pub event_answer : LiveArgs → BoardHeader → ℕ → List NamedClub → List StandingEvent → NightEvent → List ℕ
+event_answer options header row clubs events event =
+    let reply = sequential_reply (history_in events) event.call in
+    let after = board_in (entered row events event) in
+    reply_answer options.format header row clubs event (length events) reply after ++ screen_after options header row clubs reply after
+
+-- the answer to a mend, by the reply to it; and then the screen, if it is not refused and the options ask for screens
+abbrev pub mend_answer : LiveArgs → BoardHeader → ℕ → List NamedClub → List StandingEvent → Said → Mend → Result ℕ MendRefusal → List ℕ
+mend_answer options header row clubs events said mend (Err refusal) = mend_refused_answer options.format row refusal
+mend_answer options header row clubs events said mend (Ok edition) =
+    let later = record header { edition = edition } in
+    let all = clubs_after clubs said mend in
+    let stand = events_after events mend in
+    mended_answer options.format row later all (left_out_by events mend) (row_named mend) stand ++ screen_if options later row all (board_in stand)
 
 -- what an open board answers to the request of row number `row`; the answer to a bad row has its text, `shown`
-abbrev pub answer_of : LiveArgs → BoardHeader → ℕ → List NamedClub → List ℕ → Request → List ℕ → List ℕ
-answer_of options header row clubs board (Event event) shown = event_answer options header row clubs board event
-answer_of options header row clubs board (Bad field) shown = bad_answer options.format row field shown
-answer_of options header row clubs board Screen shown = screen_answer options.format header row clubs board
-answer_of options header row clubs board Words shown = words_answer options.format row board
-answer_of options header row clubs board Matches shown = matches_answer options.format row clubs board
-
--- the fresh board, its header and clubs, that a line puts in place of the open one; None if it does not, or in this phase none is open
-abbrev pub again_at : Session → Reached → Said → Option NewBoard
-again_at session (Ok (Open table)) said = again_on session.header session.is_new table.roster said
-again_at session reached said = None
-
--- the fresh board, its header and clubs, that a line puts in place of the open one of a session; None if it does not, or none is open
-abbrev pub again : Session → Said → Option NewBoard
-again session said = again_at session session.phase said
-
--- what an open board answers to a line: nothing if it puts a fresh board in its place, else the answer to its request
-abbrev pub answer_on : Session → List NamedClub → List ℕ → Said → List ℕ → Option NewBoard → List ℕ
-answer_on session clubs board said shown (Some fresh) = []
-answer_on session clubs board said shown None = answer_of session.options session.header session.row clubs board (request_of said) shown
+abbrev pub answer_of : LiveArgs → BoardHeader → ℕ → List NamedClub → List StandingEvent → Said → Request → List ℕ → List ℕ
+answer_of options header row clubs events said (Event event) shown = event_answer options header row clubs events event
+answer_of options header row clubs events said (Bad field) shown = bad_answer options.format row field shown
+answer_of options header row clubs events said Screen shown = screen_answer options.format header row clubs (board_in events)
+answer_of options header row clubs events said Words shown = words_answer options.format row (board_in events)
+answer_of options header row clubs events said Matches shown = matches_answer options.format row clubs (board_in events)
+answer_of options header row clubs events said (Mends mend) shown = mend_answer options header row clubs events said mend (edition_reply header.edition events mend)
 
 -- what a session in this phase answers to a line: nothing before its board is open, or if it is refused
 abbrev pub answer_at : Session → Reached → Said → List ℕ → List ℕ
-answer_at session (Ok (Open table)) said shown = answer_on session table.roster table.board said shown (again_on session.header session.is_new table.roster said)
+answer_at session (Ok (Open table)) said shown = answer_of session.options session.header session.row table.roster table.events said (request_of said) shown
 answer_at session reached said shown = []
 
 -- what a session answers to a line: nothing if it is empty, or before the board is open
@@ -73,44 +107,25 @@ answer_said session said shown = answer_at session session.phase said shown
 
 -- ---- the session after a line
 
--- what a line changes in a session, except the number of the next line: header, phase, and whether the edition is new
-pub record Stage : Type 0 where
-  pub header : BoardHeader
-  pub phase : Reached
-  pub is_new : Bool
-
--- what a line leads to (`Stage`): this header, this phase, and `is_new`, whether the edition is new
-abbrev pub stage : BoardHeader → Reached → Bool → Stage
-stage header phase is_new = record { header = header; phase = phase; is_new = is_new }
-
--- the session after one more line, with the header, the phase and the newness of its edition as in this stage
-abbrev pub moved : Session → Stage → Session
-moved session stage = record { options = session.options; header = stage.header; row = session.row + 1; phase = stage.phase; is_new = stage.is_new }
-
--- the header of the board after the first row: the one that this names as the row of a group, else the one before
+-- the header after the first row: that which it names, if it is the row of a group that names one; else the one before
 abbrev pub first_header : BoardHeader → Said → BoardHeader
 first_header header said = if is_group_row said then unwrap_or (header_said said) header else header
 
--- the session after a line that puts this fresh board in place of the open one
-abbrev pub begun_again : Session → NewBoard → Session
-begun_again session fresh = moved session (stage fresh.header (open_at fresh.clubs (board_of [])) true)
-
--- header, phase and newness of the edition (`Stage`) after a line on an open board: on a fresh one if it begins one, or after its request
-abbrev pub next_on : Session → List NamedClub → List ℕ → Said → Option NewBoard → Stage
-next_on session clubs board said (Some fresh) = stage fresh.header (open_at fresh.clubs (board_of [])) true
-next_on session clubs board said None = stage session.header (open_at clubs (next_board board (request_of said))) (is_bad (request_of said) && session.is_new)
-
--- header, phase and newness of the edition (`Stage`) of a session, in this phase or refused, after a line that is not empty
+-- header and phase of a session, in this phase or refused, after a line that is not empty
 abbrev pub next_at : Session → Reached → Said → Stage
-next_at session (Ok AwaitingHeader) said = stage (first_header session.header said) (after_beginning session.options session.row said) session.is_new
-next_at session (Ok (AwaitingClubs clubs)) said = stage session.header (after_club session.row clubs (club_said (length clubs + 1) said)) session.is_new
-next_at session (Ok (Open table)) said = next_on session table.roster table.board said (again_on session.header session.is_new table.roster said)
-next_at session (Err fault) said = stage session.header (Err fault) session.is_new
+next_at session (Ok AwaitingHeader) said = stage (first_header session.header said) (after_beginning session.options session.row said)
+next_at session (Ok (AwaitingClubs clubs)) said = stage session.header (after_club session.row clubs (club_said (length clubs + 1) said))
+next_at session (Ok (Open table)) said = request_stage session.header session.row table.roster table.events said (request_of said)
+next_at session (Err fault) said = stage session.header (Err fault)
 
--- header, phase and newness of the edition (`Stage`) of a session after a line; an empty line changes none of them
+-- header and phase of a session after a line; an empty line changes neither
 abbrev pub stage_after : Session → Said → Stage
-stage_after session Nothing = stage session.header session.phase session.is_new
+stage_after session Nothing = stage session.header session.phase
 stage_after session said = next_at session session.phase said
+
+-- a session with this header and this phase, before the next line
+abbrev pub moved : Session → Stage → Session
+moved session to = record { options = session.options; header = to.header; row = session.row + 1; phase = to.phase }
 
 -- the session after a line
 abbrev pub next : Session → Said → Session

@@ -1,18 +1,35 @@
 -- What holds of all sessions of `ucl_live`. `Session` is one between two lines, `after_lines` the session after lines, `answers` their
 -- answers. A line says (`Said`) a row of four fields, something else, or nothing. A request enters an event or shows the board; an attempt
 -- is an event with its reporter; a history is a list of accepted events, legal if each is accepted after those before it.
-use Rattle.ucl_live_runs.specs.Names.{AreLinesOfValues, Attempt, Bad, BoardHeader, Entry, Err, Event, IsLegal, List, LiveArgs, LiveFault, Matches, NamedClub}
-use Rattle.ucl_live_runs.specs.Names.{NightEvent, None, Nothing, Request, Said, Screen, Some, Words, [], after_attempt, attempt_of, bad_answer, board_after}
-use Rattle.ucl_live_runs.specs.Names.{board_of, fold, game_at, json_line, last_lines, lines_of, matches_answer, reply_answer, reply_of, reply_value, said_on}
-use Rattle.ucl_live_runs.specs.Names.{screen_answer, sequential_reply, shown_text, version_of, words_answer, ℕ, ⊤}
+use Rattle.std.specs.List.{fold}
+use Rattle.std.specs.Prelude.{Err, List, Ok, Result, [], false, length, ℕ, ⊤}
+use Rattle.ucl_board.specs.History.{Attempt, IsLegal, after_attempt, board_of, sequential_reply}
+use Rattle.ucl_board.specs.declared.entry.Entry.{Entry}
+use Rattle.ucl_command.specs.declared.live.LiveArgs.{LiveArgs}
+use Rattle.ucl_json.specs.Lines.{AreLinesOfValues, json_line}
+use Rattle.ucl_json.specs.Values.{reply_value}
+use Rattle.ucl_json.specs.declared.header.BoardHeader.{BoardHeader}
+use Rattle.ucl_live_runs.specs.declared.request.Request.{Request}
+use Rattle.ucl_live_runs.specs.declared.request.Request.TheVariants.{Bad, Event, Matches, Mends, Screen, Words}
+use Rattle.ucl_live_runs.specs.declared.request.Mend.{Mend}
+use Rattle.ucl_live_runs.specs.declared.mend_refusal.MendRefusal.{MendRefusal}
+use Rattle.ucl_live_runs.specs.declared.standing.StandingEvent.{StandingEvent}
+use Rattle.ucl_live_runs.specs.Mended.{entered, history_in}
+use Rattle.ucl_live_runs.specs.Mends.{clubs_after, edition_reply, events_after}
+use Rattle.ucl_order.specs.Roster.{NamedClub}
+use Rattle.ucl_rows.specs.Answers.{bad_answer, matches_answer, reply_answer, screen_answer, words_answer}
+use Rattle.ucl_rows.specs.BadRows.{shown_text}
+use Rattle.ucl_rows.specs.InputLines.{last_lines, lines_of}
+use Rattle.ucl_rows.specs.Rows.{Nothing, Said, said_on}
+use Rattle.ucl_live_runs.specs.declared.live_fault.LiveFault.{LiveFault}
+use Rattle.ucl_screen.specs.Events.{attempt_of}
+use Rattle.ucl_screen.specs.declared.night.NightEvent.{NightEvent}
 use Rattle.std.specs.Prelude.{if◌then◌else◌, ◌++◌, ◌+◌, ◌==◌, ◌∷◌, ◌≡◌}
 use Rattle.ucl_rows.specs.Lines.{reply_line}
 use Rattle.ucl_command.specs.declared.options.Format.{Format}
 use Rattle.ucl_command.specs.declared.options.Format.TheVariants.{Json, Text}
-use Rattle.ucl_board.specs.Fixtures.{IsMatch}
-use Rattle.ucl_live_runs.specs.Requests.{request_of}
-use Rattle.ucl_live_runs.specs.LiveText.{Session, after_lines, again, answers, begun_again, live_text, next, screen_after}
-use Rattle.ucl_live_runs.specs.NewBoards.{NewBoard}
+use Rattle.ucl_live_runs.specs.Requests.{is_mend, request_of}
+use Rattle.ucl_live_runs.specs.LiveText.{Session, after_lines, answers, live_text, next, screen_after}
 use Rattle.ucl_live_runs.specs.Phases.{open_at}
 
 -- the lines of some bytes, of any length, cut at line feeds; the first begins with `line`, and the last needs no line feed
@@ -36,6 +53,16 @@ unfoldable pub attempts_in : ℕ → List (List ℕ) → List Attempt
 attempts_in row [] = []
 attempts_in row (line ∷ lines) = attempts_of (request_of (said_on row line)) ++ attempts_in (row + 1) lines
 
+-- the events that stand after a request of row number `row` that is no mend: with an accepted event at their end
+abbrev pub entered_by : ℕ → List StandingEvent → Request → List StandingEvent
+entered_by row events (Event event) = entered row events event
+entered_by row events _ = events
+
+-- the events that stand after these lines, of which none mends; the first is line number `row`
+unfoldable pub events_in : ℕ → List StandingEvent → List (List ℕ) → List StandingEvent
+events_in row events [] = events
+events_in row events (line ∷ lines) = events_in (row + 1) (entered_by row events (request_of (said_on row line))) lines
+
 -- the reply to an event after a history: as text the line that `ucl_night feed` writes, in JSON one with the board after the event
 abbrev pub reply_by_history : Format → BoardHeader → ℕ → List NamedClub → List Entry → NightEvent → List ℕ
 reply_by_history Text header row clubs history event = reply_line row history event.call
@@ -51,6 +78,7 @@ answer_by_history options header row clubs history (Bad field) shown = bad_answe
 answer_by_history options header row clubs history Screen shown = screen_answer options.format header row clubs (board_of history)
 answer_by_history options header row clubs history Words shown = words_answer options.format row (board_of history)
 answer_by_history options header row clubs history Matches shown = matches_answer options.format row clubs (board_of history)
+answer_by_history options header row clubs history (Mends mend) shown = []
 
 -- the answer to a line on the board of a history; an empty line has none
 abbrev pub line_by_history : LiveArgs → BoardHeader → ℕ → List NamedClub → List Entry → Said → List ℕ → List ℕ
@@ -75,42 +103,45 @@ unfoldable pub BeginningsAreAnswered : Type 0
 BeginningsAreAnswered = (session : Session) (bytes more : List ℕ)
     → live_text session (ended bytes ++ more) ≡ live_text session (ended bytes) ++ live_text (after_lines session (lines_of (ended bytes))) more
 
--- none of these lines puts a fresh board in place of the open one
-unfoldable pub StayOnTheBoard : Session → List (List ℕ) → Type 0
-StayOnTheBoard session [] = ⊤
-StayOnTheBoard session (line ∷ lines) = (again session (said_on session.row line) ≡ None) × StayOnTheBoard (next session (said_on session.row line)) lines
+-- none of these lines, of which the first is line number `row`, mends or puts a club in its slot
+unfoldable pub NoneMends : ℕ → List (List ℕ) → Type 0
+NoneMends row [] = ⊤
+NoneMends row (line ∷ lines) = (is_mend (request_of (said_on row line)) ≡ false) × NoneMends (row + 1) lines
 
--- theorem: after lines that put no fresh board in its place, an open board is the board after the attempts that they make, in their order
+-- theorem: after lines of which none mends, the events that stand are those of before and those that the lines enter, in their order
 unfoldable pub BoardsTakeEvents : Type 0
-BoardsTakeEvents = (session : Session) (lines : List (List ℕ)) (clubs : List NamedClub) (board : List ℕ) → session.phase ≡ open_at clubs board → StayOnTheBoard session lines
-    → (after_lines session lines).phase ≡ open_at clubs (fold board_after board (attempts_in session.row lines))
+BoardsTakeEvents = (session : Session) (lines : List (List ℕ)) (clubs : List NamedClub) (events : List StandingEvent) → session.phase ≡ open_at clubs events
+    → NoneMends session.row lines → (after_lines session lines).phase ≡ open_at clubs (events_in session.row events lines)
 
--- a session on the board of this history is sequential: the history with the events that these lines add is legal, the board after them is
--- its board, and each reply and each screen is that of the board of the history as it was when its line came
-pub record IsSequential (session : Session) (lines : List (List ℕ)) (clubs : List NamedClub) (history : List Entry) : Type 0 where
-  pub legal : IsLegal (fold after_attempt history (attempts_in session.row lines))
-  pub phase : (after_lines session lines).phase ≡ open_at clubs (board_of (fold after_attempt history (attempts_in session.row lines)))
-  pub text : answers session lines ≡ answers_by_history session.options session.header session.row clubs history lines
+-- a session is sequential: the events that stand after these lines are a legal history, which is that of before with the accepted ones of
+-- the lines; and each reply and each screen is that of the board of the history as it was when its line came
+pub record IsSequential (session : Session) (lines : List (List ℕ)) (clubs : List NamedClub) (events : List StandingEvent) : Type 0 where
+  pub legal : IsLegal (history_in (events_in session.row events lines))
+  pub history : history_in (events_in session.row events lines) ≡ fold after_attempt (history_in events) (attempts_in session.row lines)
+  pub phase : (after_lines session lines).phase ≡ open_at clubs (events_in session.row events lines)
+  pub text : answers session lines ≡ answers_by_history session.options session.header session.row clubs (history_in events) lines
 
--- theorem: a session on the board of a legal history is sequential, for any lines that put no fresh board in its place
+-- theorem: a session in which the events that stand are a legal history is sequential, for any lines of which none mends
 unfoldable pub SessionsAreSequential : Type 0
-SessionsAreSequential = (session : Session) (lines : List (List ℕ)) (clubs : List NamedClub) (history : List Entry) → IsLegal history → session.phase ≡ open_at clubs (board_of history)
-    → StayOnTheBoard session lines → IsSequential session lines clubs history
+SessionsAreSequential = (session : Session) (lines : List (List ℕ)) (clubs : List NamedClub) (events : List StandingEvent) → IsLegal (history_in events)
+    → session.phase ≡ open_at clubs events → NoneMends session.row lines → IsSequential session lines clubs events
 
--- this line puts a fresh board in place of the open one: it has no answer, and the lines after it are answered as on the fresh board
-pub record GoesOnAgain (session : Session) (line : List ℕ) (lines : List (List ℕ)) (fresh : NewBoard) : Type 0 where
-  pub text : answers session (line ∷ lines) ≡ answers (begun_again session fresh) lines
-  pub after : after_lines session (line ∷ lines) ≡ after_lines (begun_again session fresh) lines
+-- a session has gone on from these clubs and these events by a mend of a row that says this: in a later edition with what the mend makes
+-- of both, or, if it is refused, as before
+abbrev pub IsMended : Session → Session → List NamedClub → List StandingEvent → Said → Mend → Result ℕ MendRefusal → Type 0
+IsMended old new clubs events said mend (Ok edition) =
+    (new.header ≡ record old.header { edition = edition }) × (new.phase ≡ open_at (clubs_after clubs said mend) (events_after events mend))
+IsMended old new clubs events said mend (Err refusal) = (new.header ≡ old.header) × (new.phase ≡ open_at clubs events)
 
--- theorem: a line that puts a fresh board in place of the open one has no answer, and those after it are answered as on the fresh board
-unfoldable pub BoardsBeginAgain : Type 0
-BoardsBeginAgain = (session : Session) (line : List ℕ) (lines : List (List ℕ)) (fresh : NewBoard) → again session (said_on session.row line) ≡ Some fresh → GoesOnAgain session line lines fresh
+-- theorem: after a mend an open board is that of the events that the mend makes of those that stand, or it stays, if the mend is refused
+unfoldable pub MendsAreDone : Type 0
+MendsAreDone = (session : Session) (said : Said) (clubs : List NamedClub) (events : List StandingEvent) (mend : Mend) → session.phase ≡ open_at clubs events
+    → request_of said ≡ Mends mend → IsMended session (next session said) clubs events said mend (edition_reply session.header.edition events mend)
 
--- theorem: on the board of a legal history the reply to an event, as text, is the line that `ucl_night feed` writes for it
+-- theorem: the reply to an event after a history, as text, is the line that `ucl_night feed` writes for it
 unfoldable pub RepliesAreThoseOfFeed : Type 0
 RepliesAreThoseOfFeed = (header : BoardHeader) (clubs : List NamedClub) (board : List ℕ) (history : List Entry) (row : ℕ) (event : NightEvent)
-    → IsLegal history → IsMatch event.call.game
-    → reply_answer Text header row clubs event (version_of (board_of history)) (reply_of (game_at (board_of history) event.call.game) event.call) board ≡ reply_line row history event.call
+    → reply_answer Text header row clubs event (length history) (sequential_reply history event.call) board ≡ reply_line row history event.call
 
 -- theorem: if the format is JSON, the answers are JSON values, each on a line of its own
 unfoldable pub JsonAnswersAreLines : Type 0

@@ -1,10 +1,17 @@
 -- How far a session of `ucl_live` is (its phase), what a row makes of it, and the faults by which it ends. Its first rows name its clubs,
 -- by slots 1 to 4; before them may come the row of a group, which names a header: group, tie-break order, edition. Then the board is open.
 -- `Said` is what a line says: a row of four fields, something else, or nothing. A roster takes names of 1 to 20 bytes.
-use Rattle.ucl_live_runs.specs.Names.{BoardHeader, Err, Event, Input, List, LiveArgs, LiveFault, NamedClub, None, Ok, Option, OtherGroup, OutOfMemory}
-use Rattle.ucl_live_runs.specs.Names.{Request, Result, Row, Run, Said, Some, [], attempt_of, bad_slot, board_after, board_of, club_of, codes, length, min, ℕ}
-use Rattle.ucl_live_runs.specs.Names.{⊤}
-use Rattle.std.specs.Prelude.{if◌then◌else◌, ◌++◌, ◌+◌, ◌-◌, ◌==◌, ◌^◌, ◌∷◌, ◌≡◌}
+use Rattle.std.specs.Prelude.{Err, List, None, Ok, Option, Result, Some, [], codes, length, min, ℕ}
+use Rattle.ucl_command.specs.declared.live.LiveArgs.{LiveArgs}
+use Rattle.ucl_json.specs.declared.header.BoardHeader.{BoardHeader}
+use Rattle.ucl_live_runs.specs.declared.standing.StandingEvent.{StandingEvent}
+use Rattle.ucl_order.specs.Roster.{NamedClub, bad_slot}
+use Rattle.ucl_rows.specs.Rows.{Row, Said}
+use Rattle.ucl_live_runs.specs.declared.live_fault.LiveFault.{LiveFault}
+use Rattle.ucl_live_runs.specs.declared.live_fault.LiveFault.TheVariants.{OtherGroup, Run}
+use Rattle.ucl_rows.specs.declared.fault.RunFault.TheVariants.{Input, OutOfMemory}
+use Rattle.ucl_screen.specs.Script.{club_of}
+use Rattle.std.specs.Prelude.{if◌then◌else◌, ◌++◌, ◌-◌, ◌==◌, ◌^◌, ◌∷◌, ◌≡◌, ◌⊎◌}
 use Rattle.ucl_screen.specs.declared.fault.InputFault.TheVariants.{BadRoster, BadRow}
 use Rattle.ucl_live_runs.specs.declared.phase.Phase.{Phase}
 use Rattle.ucl_live_runs.specs.declared.phase.Phase.TheVariants.{AwaitingClubs, Open}
@@ -14,9 +21,9 @@ use Rattle.ucl_live_runs.specs.Requests.{header_said, is_asked, is_group_row}
 abbrev pub Reached : Type 0
 Reached = Result Phase LiveFault
 
--- a session has reached the phase in which its board is open, with these clubs and the words of this board
-abbrev pub open_at : List NamedClub → List ℕ → Reached
-open_at clubs board = Ok (Open (record { roster = clubs; board = board }))
+-- a session has reached the phase in which its board is open, with these clubs, and these events stand
+abbrev pub open_at : List NamedClub → List StandingEvent → Reached
+open_at clubs events = Ok (Open (record { roster = clubs; events = events }))
 
 -- the number of a row as a fault reports it: at most the greatest of 32 bits
 abbrev pub fault_row : ℕ → ℕ
@@ -35,7 +42,7 @@ club_said slot _ = None
 
 -- what a session reaches with these four clubs: the fresh board is open, or it is refused for the slot whose club no roster takes, if any
 abbrev pub with_roster : List NamedClub → Option ℕ → Reached
-with_roster clubs None = open_at clubs (board_of [])
+with_roster clubs None = open_at clubs []
 with_roster clubs (Some slot) = Err (Run (Input (BadRoster slot)))
 
 -- what a session reaches with these clubs: if they are four, the fresh board is open, or no roster takes them; if fewer, it awaits the next
@@ -56,28 +63,16 @@ after_header options row (Some header) = if is_asked options.group options.profi
 abbrev pub after_beginning : LiveArgs → ℕ → Said → Reached
 after_beginning options row said = if is_group_row said then after_header options row (header_said said) else after_club row [] (club_said 1 said)
 
--- the board after a request: it takes an event, if this is accepted; no other request changes it
-abbrev pub next_board : List ℕ → Request → List ℕ
-next_board board (Event event) = board_after board (attempt_of event)
-next_board board _ = board
-
 -- the fault of a session whose input ends before the line of this number: its own, or a club is missing; None if the board is open
 abbrev pub missing : ℕ → Reached → Option LiveFault
 missing row (Ok (Open table)) = None
 missing row (Ok _) = Some (bad_row row)
 missing row (Err fault) = Some fault
 
--- ---- the faults of a session
-
--- a session stops by this fault: if it is out of memory, A holds, else B
-abbrev pub StopsBy : Type 0 → Type 0 → LiveFault → Type 0
-StopsBy A B (Run OutOfMemory) = A
-StopsBy A B fault = B
-
 -- a call returns what the session reaches (`reached`), unless it is out of memory
 abbrev pub IsIfMemory : Reached → Reached → Type 0
 IsIfMemory reached (Ok phase) = reached ≡ Ok phase
-IsIfMemory reached (Err fault) = StopsBy ⊤ (reached ≡ Err fault) fault
+IsIfMemory reached (Err fault) = (fault ≡ Run OutOfMemory) ⊎ (reached ≡ Err fault)
 
 -- what is printed if the first row names another group or tie-break order than the options ask for
 abbrev pub other_group_text : List ℕ

@@ -1,18 +1,29 @@
 -- What a row of `ucl_live` asks for, and the header that it names. A row has four fields: an event (`3,7,0,kickoff`: reporter, match,
--- expected event number, kind), what to show of the board (`screen,,,`, `words,,,`, `matches,,,`), a club (`club,1,Alpha,60000`), or the
--- header of a board (`group,B,uefa,0`: group, tie-break order, edition; each later edition begins a fresh board).
-use Rattle.ucl_live_runs.specs.Names.{AwayInTie, Bad, BoardHeader, Bool, Event, FourFields, List, LiveArgs, Matches, NightEvent, None, Option, Profile}
-use Rattle.ucl_live_runs.specs.Names.{Request, Row, Said, Screen, Some, Uefa, Words, bad_field, codes, event_of, false, length, letter_in, nat_lt}
-use Rattle.ucl_live_runs.specs.Names.{profile_named, true, unwrap_or, ℕ, ◌>>=◌}
-use Rattle.std.specs.Prelude.{if◌then◌else◌, ◌&&◌, ◌==◌}
+-- expected event number, kind), what to show of the board (`screen,,,`, `words,,,`, `matches,,,`), a mend (`mend,17,,`, which takes the
+-- event of a row back; `mend,,15,`, which names a later edition; `club,1,Alpha,60000`, which puts a club in its slot), or the header of a
+-- board (`group,B,uefa,0`: group, tie-break order, edition).
+use Rattle.std.specs.Prelude.{Bool, List, None, Option, Some, [], codes, false, length, nat_le, option_map, true, unwrap_or, ℕ}
+use Rattle.ucl_command.specs.declared.live.LiveArgs.{LiveArgs}
+use Rattle.ucl_json.specs.declared.header.BoardHeader.{BoardHeader}
+use Rattle.ucl_live_runs.specs.declared.request.Request.{Request}
+use Rattle.ucl_live_runs.specs.declared.request.Request.TheVariants.{Bad, Event, Matches, Mends, Screen, Words}
+use Rattle.ucl_live_runs.specs.declared.request.Mend.{Mend}
+use Rattle.ucl_live_runs.specs.declared.request.Mend.TheVariants.{As, Club, Without}
+use Rattle.ucl_order.specs.Roster.{NamedClub, is_club}
+use Rattle.ucl_screen.specs.Script.{club_of}
+use Rattle.ucl_order.specs.Names.{profile_named}
+use Rattle.ucl_order.specs.declared.profile.Profile.{Profile}
+use Rattle.ucl_order.specs.declared.profile.Profile.TheVariants.{AwayInTie, Uefa}
+use Rattle.ucl_rows.specs.BadRows.{bad_field}
+use Rattle.ucl_rows.specs.Rows.{Row, Said}
+use Rattle.ucl_screen.specs.Events.{event_of, ◌>>=◌}
+use Rattle.ucl_screen.specs.Rows.{FourFields}
+use Rattle.ucl_screen.specs.Screen.{letter_in}
+use Rattle.ucl_screen.specs.declared.night.NightEvent.{NightEvent}
+use Rattle.std.specs.Prelude.{if◌then◌else◌, ◌&&◌, ◌-◌, ◌==◌, ◌∷◌}
 use Rattle.std.specs.Str.{bytes_eq}
 use Rattle.ucl_rows.specs.declared.bad_row.BadField.TheVariants.{Count}
 use Rattle.ucl_screen.specs.Numbers.{in_range, number}
-
--- the request to enter this event; for None, which is a row that has no event, `Bad` with the first wrong field
-abbrev pub event_or_bad : FourFields → Option NightEvent → Request
-event_or_bad fields None = Bad (bad_field fields)
-event_or_bad fields (Some event) = Event event
 
 -- the request of a row whose other fields are empty, by its first: to show the screen, the words or the matches; else `Bad`
 abbrev pub shown_by : FourFields → Request
@@ -20,26 +31,71 @@ shown_by fields =
     if bytes_eq fields.first (codes "screen") then Screen
     else (if bytes_eq fields.first (codes "words") then Words else (if bytes_eq fields.first (codes "matches") then Matches else Bad (bad_field fields)))
 
--- the request of a row of four fields: to show the board, if all but the first are empty, else to enter an event; `Bad` if it is neither
+-- the slot that a field names, which is one digit, `1` to `4`; else None
+abbrev pub slot_in : List ℕ → Option ℕ
+slot_in (digit ∷ []) = if nat_le 49 digit && nat_le digit 52 then Some (digit - 48) else None
+slot_in _ = None
+
+-- the number of a row that a field names, 1 to 4,294,967,295 in one to ten digits; else None
+abbrev pub named_row : List ℕ → Option ℕ
+named_row text = in_range 1 4294967295 (number 10 text)
+
+-- the edition that a field names: 0 to 65,535, in one to five digits; else None
+abbrev pub edition_by : List ℕ → Option ℕ
+edition_by text = in_range 0 65535 (number 5 text)
+
+-- whether there is a club, and a roster takes it
+abbrev pub is_good : Option NamedClub → Bool
+is_good None = false
+is_good (Some club) = is_club club
+
+-- whether there is a slot, and a row names a club for it that a roster takes
+abbrev pub names_good : FourFields → Option ℕ → Bool
+names_good fields None = false
+names_good fields (Some slot) = is_good (club_of slot fields)
+
+-- whether a row names a slot and a club that a roster takes
+abbrev pub names_club : FourFields → Bool
+names_club fields = names_good fields (slot_in fields.second)
+
+-- the mend of a row whose first field is `mend` and whose last is empty: of a row, or to an edition; None if it names neither, or both
+abbrev pub named_mend : FourFields → Option Mend
+named_mend fields =
+    if length fields.third == 0 then option_map Without (named_row fields.second)
+    else (if length fields.second == 0 then option_map As (edition_by fields.third) else None)
+
+-- the mend that a row of four fields names; None if it names none
+abbrev pub mend_by : FourFields → Option Mend
+mend_by fields =
+    if bytes_eq fields.first (codes "club") then (if names_club fields then Some Club else None)
+    else (if bytes_eq fields.first (codes "mend") && (length fields.fourth == 0) then named_mend fields else None)
+
+-- the request to do this mend; for None, which is a row that names no mend, `Bad` with the first wrong field
+abbrev pub mend_or_bad : FourFields → Option Mend → Request
+mend_or_bad fields None = Bad (bad_field fields)
+mend_or_bad fields (Some mend) = Mends mend
+
+-- the request to enter this event; for None, which is a row that has no event, to mend, or `Bad`
+abbrev pub event_or_mend : FourFields → Option NightEvent → Request
+event_or_mend fields None = mend_or_bad fields (mend_by fields)
+event_or_mend fields (Some event) = Event event
+
+-- the request of a row of four fields: to show the board, if all but the first are empty, else to enter an event, or a mend; else `Bad`
 unfoldable pub asked_by : FourFields → Request
 asked_by fields =
-    if (length fields.second == 0) && (length fields.third == 0) && (length fields.fourth == 0) then shown_by fields else event_or_bad fields (event_of fields)
+    if (length fields.second == 0) && (length fields.third == 0) && (length fields.fourth == 0) then shown_by fields else event_or_mend fields (event_of fields)
 
 -- the request of a line; `Bad` if it is no row of four fields
 abbrev pub request_of : Said → Request
 request_of (Row fields) = asked_by fields
 request_of _ = Bad Count
 
--- whether a request is bad: neither to enter an event nor to show the board
-abbrev pub is_bad : Request → Bool
-is_bad (Bad field) = true
-is_bad _ = false
+-- whether a request is a mend
+abbrev pub is_mend : Request → Bool
+is_mend (Mends mend) = true
+is_mend _ = false
 
 -- ---- headers
-
--- the edition that a field names: 0 to 65,535, in one to five digits; else None
-abbrev pub edition_by : List ℕ → Option ℕ
-edition_by text = in_range 0 65535 (number 5 text)
 
 -- the header that the last three fields of a row name: group, tie-break order and edition; None if one of them is bad
 abbrev pub header_by : FourFields → Option BoardHeader
@@ -74,18 +130,3 @@ is_asked group profile header = (unwrap_or group header.group == header.group) &
 -- the header of a session if no row names one: group and tie-break order of the options, else group A and `uefa`; edition 0
 abbrev pub asked_header : LiveArgs → BoardHeader
 asked_header options = record { group = unwrap_or options.group 65; profile = unwrap_or options.profile Uefa; edition = 0 }
-
--- ---- a later edition
-
--- whether `other` has the group and the tie-break order of `header`, and a later edition
-abbrev pub is_later_edition : BoardHeader → BoardHeader → Bool
-is_later_edition header other = is_asked (Some header.group) (Some header.profile) other && nat_lt header.edition other.edition
-
--- the second header, if it has the group and the tie-break order of the first and a later edition; else None
-abbrev pub later_header : BoardHeader → Option BoardHeader → Option BoardHeader
-later_header header None = None
-later_header header (Some other) = if is_later_edition header other then Some other else None
-
--- the header that the row of a group names, if it is of the same group and tie-break order and a later edition; else None
-abbrev pub edition_said : BoardHeader → Said → Option BoardHeader
-edition_said header said = if is_group_row said then later_header header (header_said said) else None

@@ -1,9 +1,9 @@
 //! Theorems on what a follower (`ucl_follow`) shows; the functions do nothing, their contracts state the theorems. Lines carry board
-//! states: group, tie-break order, edition (from 0; each later one begins a fresh board), clubs, words. One is newer than another if its
+//! states: group, tie-break order, edition (from 0; it rises with each mend), clubs, words. One is newer than another if its
 //! edition is later, or the same and its version (its number of events) is higher. A record is the input of a session, a run of `ucl_live`.
 #![tactic(auto, using(crate::proofs::Theorems::follow_theorems))]
 
-ghost use Rattle.ucl_live_runs.specs.Follow.{AnswersTellTheirBoardState, FollowersEndWithTheBoard, LatestIsShownLast, LinesTellTheirBoardState, MatchesFitTheirLine, OthersDoNotMatter, RepeatedRowsChangeNothing, SameRowsSameTable, ShownVersionsRise};
+ghost use Rattle.ucl_live_runs.specs.Follow.{AnswersNeverFall, AnswersTellTheirBoardState, FollowersEndWithTheBoard, LatestIsShownLast, LinesTellTheirBoardState, MatchesFitTheirLine, OthersDoNotMatter, RepeatedRowsChangeNothing, SameRowsSameTable, ShownVersionsRise};
 
 /// States that each board state that is shown is carried by a line and newer than all before, and that the text is that of their screens.
 pub fn versions_rise()
@@ -15,13 +15,14 @@ pub fn latest_is_shown_last()
     ensures { LatestIsShownLast }
 {}
 
-/// States that the JSON value of the answer to an accepted event, or of a screen, parses to just the board state that it was made from.
+/// States that the JSON value of the answer to an accepted event or to a mend, or of a screen, parses to just the board state that it was
+/// made from.
 pub fn answers_tell_their_board_state()
     ensures { AnswersTellTheirBoardState }
 {}
 
-/// States that the JSON line of the answer to an accepted event, or of a screen, parses to the board state that it was made from: it has at
-/// most the 4,096 bytes that a follower reads of a line.
+/// States that the JSON line of the answer to an accepted event or to a mend, or of a screen, parses to the board state that it was made
+/// from: it has at most the 4,096 bytes that a follower reads of a line.
 pub fn lines_tell_their_board_state()
     ensures { LinesTellTheirBoardState }
 {}
@@ -36,13 +37,19 @@ pub fn others_do_not_matter()
     ensures { OthersDoNotMatter }
 {}
 
-/// States that accepted events which are entered again, at any later places and any number of times, change nothing: the history (the list
-/// of accepted events) and the board are those without them.
+/// States that accepted events which are entered again in the same edition, at any later places and any number of times, change nothing:
+/// the history (the list of accepted events) and the board are those without them.
 pub fn repeated_rows_change_nothing()
     ensures { RepeatedRowsChangeNothing }
 {}
 
-/// States that the board state at the end of a record is the latest that its answers carry, if one of them carries one of its edition.
+/// States that of the board states that the answers to a record carry each is the same as each one before it, or newer, also when the record
+/// mends: edition and version never fall, and two answers with the same edition and version carry the same board state.
+pub fn answers_never_fall()
+    ensures { AnswersNeverFall }
+{}
+
+/// States that the board state at the end of a record, after all its mends, is the latest that its answers carry, if they carry any.
 pub fn followers_end_with_the_board()
     ensures { FollowersEndWithTheBoard }
 {}

@@ -1,13 +1,12 @@
 //! The header of a board, as the row `group,B,uefa,0` names it: its group (A to H), its tie-break order (a profile: `uefa` or
-//! `away-in-tie`), and its edition, a number from 0: each later edition begins a fresh board. A row is what one line of the input says.
+//! `away-in-tie`), and its edition, a number from 0 that rises with each mend. A row is what one line of the input says.
 
-ghost use Rattle.std.specs.Prelude.{◌≡◌, IfSome, ◌&&◌};
+ghost use Rattle.std.specs.Prelude.{◌≡◌, IfSome};
 ghost use Rattle.ucl_screen.specs.Rows.{four_seen};
 ghost use Rattle.ucl_screen.specs.Screen.{IsGroup};
-ghost use Rattle.ucl_rows.specs.Rows.{Row, fields_seen};
-ghost use Rattle.ucl_live_runs.specs.Requests.{asked_header, edition_said, header_by, header_said, is_asked, is_bad, is_group_row};
+ghost use Rattle.ucl_rows.specs.Rows.{fields_seen};
+ghost use Rattle.ucl_live_runs.specs.Requests.{asked_header, header_by, header_said, is_asked, is_group_row};
 
-use crate::request::Request;
 use ucl_command::LiveArgs;
 use ucl_json::BoardHeader;
 use ucl_order::Profile;
@@ -72,39 +71,9 @@ pub(crate) fn asked_header(options: &LiveArgs) -> BoardHeader
     }
 }
 
-/// Returns the header that a `group` row names, if it has the group and tie-break order of `header` and a later edition; else None.
-pub(crate) fn later_edition(header: BoardHeader, four: &Four<'_>) -> Option<BoardHeader>
-    ensures told { result ≡ edition_said header (Row (four_seen four.now)) }
-    ensures letter { IfSome result (λ later. IsGroup later.group) }
-{
-    if four.first != b"group".as_slice() {
-        return None;
-    }
-    let later = header_by(four)?;
-    if is_asked(Some(header.group), Some(header.profile), later) && header.edition < later.edition {
-        Some(later)
-    } else {
-        None
-    }
-}
-
-/// The header of a session's board, whose group is one from A to H, and whether its edition is new.
+/// The header of a session's board, whose group is one from A to H.
 #[derive(Clone, Copy)]
 pub(crate) struct HeaderState {
     pub(crate) header: BoardHeader,
-    /// Whether neither an event nor a request to show the board has come in the edition: bad rows do not count.
-    pub(crate) is_new: bool,
     pub ghost letter: { IsGroup header.group },
-}
-
-impl HeaderState {
-    /// Updates `is_new` after a row that made this request: any request that is not bad makes it false.
-    pub(crate) fn note_request(&mut self, request: &Request)
-        ensures header { self.new.header ≡ self.old.header }
-        ensures new { self.new.is_new ≡ (is_bad request.now && self.old.is_new) }
-    {
-        if !request.is_bad() {
-            self.is_new = false;
-        }
-    }
 }

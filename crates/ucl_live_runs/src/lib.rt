@@ -3,6 +3,8 @@
 //! for. Scripts, sheets and nights are in `ucl_runs`.
 #![tactic(auto)]
 
+mod clubs;
+mod config;
 mod follow_program;
 mod follow_theorems;
 mod follower;
@@ -10,26 +12,32 @@ mod header;
 mod live_fault;
 mod live_program;
 mod live_theorems;
-mod new_board;
+mod mend_answer;
+mod mend_refusal;
+mod mend_theorems;
 mod open_board;
-mod parts;
 mod phase;
 mod request;
 mod session;
+mod standing;
 
 pub use follow_program::run_following;
 pub use follow_theorems::{
-    answers_tell_their_board_state, followers_end_with_the_board, latest_is_shown_last,
-    lines_tell_their_board_state, matches_fit_their_line, others_do_not_matter,
-    repeated_rows_change_nothing, same_rows_same_table, versions_rise,
+    answers_never_fall, answers_tell_their_board_state, followers_end_with_the_board,
+    latest_is_shown_last, lines_tell_their_board_state, matches_fit_their_line,
+    others_do_not_matter, repeated_rows_change_nothing, same_rows_same_table, versions_rise,
 };
 pub use follower::{FollowOutput, FollowSummary, Follower, follow_run};
 pub use live_fault::LiveFault;
 pub use live_program::run_session;
 pub use live_theorems::{
-    beginnings_are_answered, boards_begin_again, boards_take_events, json_answers_are_lines,
-    lines_are_read_whole, refused_sessions_are_silent, replies_are_those_of_feed,
+    beginnings_are_answered, boards_take_events, json_answers_are_lines, lines_are_read_whole,
+    mends_are_done, refused_sessions_are_silent, replies_are_those_of_feed,
     sessions_are_sequential,
 };
-pub use parts::Parts;
+pub use mend_refusal::MendRefusal;
+pub use mend_theorems::{
+    later_events_go_on, mends_are_legal, other_matches_stay, whole_histories_are_kept,
+};
 pub use session::{Session, live_run};
+pub use standing::{Fate, LeftOut, LeftOutEvents, StandingEvent, StandingEvents};

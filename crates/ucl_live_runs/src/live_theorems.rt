@@ -1,9 +1,9 @@
 //! Theorems on all sessions (runs of `ucl_live`); the functions do nothing, their contracts state the theorems. A session reads rows: four
-//! clubs, then events and requests to show the board, which it answers; the row of a later edition begins a fresh board. A history is a
-//! list of accepted events, legal if each is accepted after those before it.
+//! clubs, then events, mends and requests to show the board, which it answers. A history is a list of accepted events, legal if each is
+//! accepted after those before it.
 #![tactic(auto, using(crate::proofs::Theorems::live_theorems))]
 
-ghost use Rattle.ucl_live_runs.specs.LiveTheorems.{BeginningsAreAnswered, BoardsBeginAgain, BoardsTakeEvents, SessionsAreSequential, JsonAnswersAreLines, LinesAreReadWhole, RefusedSessionsAreSilent, RepliesAreThoseOfFeed};
+ghost use Rattle.ucl_live_runs.specs.LiveTheorems.{BeginningsAreAnswered, BoardsTakeEvents, SessionsAreSequential, JsonAnswersAreLines, LinesAreReadWhole, MendsAreDone, RefusedSessionsAreSilent, RepliesAreThoseOfFeed};
 
 /// States that the answers to an input that is cut after a line feed are those to its first part, then those to the rest, from the session
 /// that the first part leads to.
@@ -11,21 +11,22 @@ pub fn beginnings_are_answered()
     ensures { BeginningsAreAnswered }
 {}
 
-/// States that lines of which none begins a fresh board turn an open board into the board after the events that they enter, in order.
+/// States that, after lines of which none mends, the events that stand on a board are those of before and those that the lines enter.
 pub fn boards_take_events()
     ensures { BoardsTakeEvents }
 {}
 
-/// States that a session is sequential: on the board of a legal history, after lines of which none begins a fresh board, the history with
-/// the accepted events is legal and the board is its board. Each reply and each screen is that of a board used by one thread alone, after
-/// the events accepted so far.
+/// States that a session is sequential: if the events that stand are a legal history, then after lines of which none mends they are too,
+/// with the accepted events of the lines. Each reply and each screen is that of a board used by one thread alone, after the events accepted
+/// so far.
 pub fn sessions_are_sequential()
     ensures { SessionsAreSequential }
 {}
 
-/// States that a row which begins a fresh board has no answer, and that the lines after it are answered as on the fresh board.
-pub fn boards_begin_again()
-    ensures { BoardsBeginAgain }
+/// States that after a mend the board is that of the events that the mend makes of those that stand, in a later edition, or that all stays,
+/// if the mend is refused.
+pub fn mends_are_done()
+    ensures { MendsAreDone }
 {}
 
 /// States that, if the format is JSON, the answers are JSON values, each on a line of its own.
@@ -38,7 +39,7 @@ pub fn lines_are_read_whole()
     ensures { LinesAreReadWhole }
 {}
 
-/// States that, on the board of a legal history, each reply in text is the line that `ucl_night feed` writes after this history.
+/// States that each reply in text after a history is the line that `ucl_night feed` writes after this history.
 pub fn replies_are_those_of_feed()
     ensures { RepliesAreThoseOfFeed }
 {}

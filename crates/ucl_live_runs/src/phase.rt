@@ -2,18 +2,19 @@
 //! come the row that names its header (`group,B,uefa,0`: group, tie-break order, edition). Then its board is open. Else it is refused. A
 //! roster takes a club with a name of 1 to 20 printable bytes and a coefficient of at most 999,999.
 
-ghost use Rattle.std.specs.Prelude.{◌≡◌, ◌+◌, ◌-◌, ◌^◌, ◌<◌, ◌≤◌, ◌++◌, [], ◌∷◌, IfOk, Ok, OnOk, length, map, option_map};
+ghost use Rattle.std.specs.Prelude.{◌≡◌, ◌+◌, ◌-◌, ◌<◌, ◌≤◌, ◌++◌, [], ◌∷◌, IfOk, Ok, OnOk, length, map, option_map};
 ghost use Rattle.ucl_order.specs.Roster.{bad_slot, club_seen};
 ghost use Rattle.ucl_rows.specs.Rows.{fields_seen};
 ghost use Rattle.ucl_live_runs.specs.Phases.{IsIfMemory, after_beginning, after_club, bad_row, club_said, missing, fault_row, with_clubs, with_roster};
 ghost use Rattle.ucl_live_runs.specs.LiveText.{first_header};
 
+use crate::config::{Config, Line};
 use crate::header::{HeaderState, header_said, is_asked, is_group_row};
 use crate::live_fault::LiveFault;
+use crate::open_board::OpenBoard;
+use crate::standing::StandingEvents;
 use std::alloc::{AllocError, Global};
 use std::marker::Model;
-use ucl_board::Board;
-use ucl_command::LiveArgs;
 use ucl_order::{Club, Roster};
 use ucl_rows::{RowFields, RunFault};
 use ucl_screen::{InputFault, club_of_fields};
@@ -41,13 +42,6 @@ impl Model for Clubs {
     ghost Value = { List NamedClub };
 
     ghost view = { λ c. clubs_in c.named };
-}
-
-/// The board of a session whose four clubs are named, and their roster.
-#[derive(Drop)]
-pub(crate) struct OpenBoard {
-    pub(crate) roster: Roster,
-    pub(crate) board: Board,
 }
 
 /// How far a session is in its first rows.
@@ -116,73 +110,71 @@ impl Clubs {
         }
     }
 
-    /// Returns the phase after one club more. With the fourth the board is open, or the session is refused, if no roster takes the clubs.
-    fn with(self, club: Club) -> Result<Phase, LiveFault>
-        ensures { result ≡ with_clubs (self ++ club_seen club ∷ []) }
+    /// Returns the phase after one club more. With the fourth the board is open, or the session is refused, if no roster takes the clubs, or
+    /// if out of memory.
+    fn with(self, alloc: Global, club: Club) -> Result<Phase, LiveFault>
+        ensures { IsIfMemory (with_clubs (self ++ club_seen club ∷ [])) result }
     {
         let Clubs { named } = self;
         let named = match named {
             NamedSoFar::NoClub => NamedSoFar::One(club),
             NamedSoFar::One(first) => NamedSoFar::Two(first, club),
             NamedSoFar::Two(first, second) => NamedSoFar::Three(first, second, club),
-            NamedSoFar::Three(first, second, third) => return opened([first, second, third, club]),
+            NamedSoFar::Three(first, second, third) => return opened(
+                alloc,
+                [first, second, third, club],
+            ),
         };
         Ok(Phase::AwaitingClubs(Clubs { named }))
     }
 }
 
-/// Returns the phase in which the fresh board of these clubs is open, or the fault of the first slot whose club no roster takes.
-fn opened(clubs: [Club; 4]) -> Result<Phase, LiveFault>
-    ensures { result ≡ with_roster (map club_seen clubs) (bad_slot (map club_seen clubs)) }
+/// Returns the phase in which the fresh board of these clubs is open. Fails with the first slot whose club no roster takes, or if out of
+/// memory.
+fn opened(alloc: Global, clubs: [Club; 4]) -> Result<Phase, LiveFault>
+    ensures { IsIfMemory (with_roster (map club_seen clubs) (bad_slot (map club_seen clubs))) result }
 {
     match Roster::new(clubs) {
         Ok(roster) => Ok(Phase::Open(OpenBoard {
             roster,
-            board: Board::fresh(),
+            events: StandingEvents::none(alloc)?,
         })),
         Err(bad) => Err(LiveFault::Run(RunFault::Input(InputFault::BadRoster { slot: bad.slot }))),
     }
 }
 
-/// Returns the phase after row `row`, which names the club after `clubs`. Fails if it does not, no roster takes it, or out of memory.
+/// Returns the phase after a line, which names the club after `clubs`. Fails if it does not, no roster takes it, or out of memory.
 pub(crate) fn with_club(
     alloc: Global,
-    row: u64,
+    line: &Line<'_, '_>,
     clubs: Clubs,
-    said: &RowFields<'_>,
 ) -> Result<Phase, LiveFault>
-    ensures { IsIfMemory (after_club row clubs (club_said (length clubs + 1) (fields_seen said.now)))
+    ensures { IsIfMemory (after_club line.now.row clubs (club_said (length clubs + 1) (fields_seen line.now.said)))
         result }
 {
-    match club_said(alloc, clubs.next_slot(), said)? {
-        None => Err(bad_row(row)),
-        Some(club) => clubs.with(club),
+    match club_said(alloc, clubs.next_slot(), &line.said)? {
+        None => Err(bad_row(line.row)),
+        Some(club) => clubs.with(alloc, club),
     }
 }
 
-/// Returns the phase after the first row, whose number is `row`: it names the first club, or a header, which replaces that in `heading`.
+/// Returns the phase after the first row: it names the first club, or a header, which replaces that in `heading`.
 /// Fails if it names neither, if it names another group or tie-break order than the options ask for, or if out of memory.
 pub(crate) fn with_first(
-    alloc: Global,
-    options: &LiveArgs,
-    row: u64,
-    said: &RowFields<'_>,
+    config: &Config,
+    line: &Line<'_, '_>,
     heading: &mut HeaderState,
 ) -> Result<Phase, LiveFault>
-    ensures phase { IsIfMemory (after_beginning options.now row (fields_seen said.now)) result }
-    ensures header { OnOk result (heading.new.header ≡ first_header heading.old.header (fields_seen said.now)) }
-    ensures new { OnOk result (heading.new.is_new ≡ heading.old.is_new) }
+    ensures phase { IsIfMemory (after_beginning config.now.options line.now.row (fields_seen line.now.said)) result }
+    ensures header { OnOk result (heading.new.header ≡ first_header heading.old.header (fields_seen line.now.said)) }
 {
-    if !is_group_row(said) {
-        return with_club(alloc, row, Clubs::none(), said);
+    if !is_group_row(&line.said) {
+        return with_club(config.alloc, line, Clubs::none());
     }
-    match header_said(said) {
-        None => Err(bad_row(row)),
-        Some(other) if is_asked(options.group, options.profile, other) => {
-            *heading = HeaderState {
-                header: other,
-                is_new: heading.is_new,
-            };
+    match header_said(&line.said) {
+        None => Err(bad_row(line.row)),
+        Some(other) if is_asked(config.options.group, config.options.profile, other) => {
+            *heading = HeaderState { header: other };
             Ok(Phase::AwaitingClubs(Clubs::none()))
         }
         Some(_) => Err(LiveFault::OtherGroup),

@@ -1,18 +1,34 @@
 //! What a row of `ucl_live` asks for: to enter an event (`3,7,0,kickoff`: reporter, match, the number of events that the reporter expects
-//! the match to have, kind), or to show the board (`screen,,,`, `words,,,`, `matches,,,`).
+//! the match to have, kind), to show the board (`screen,,,`, `words,,,`, `matches,,,`), or a mend: to take the event of a row back
+//! (`mend,17,,`), to go on in a later edition (`mend,,15,`), or to put a club in its slot (`club,2,Bravo,95000`).
 
 ghost use Rattle.std.specs.Prelude.{◌≡◌};
+ghost use Rattle.ucl_order.specs.Roster.{club_lent, is_club};
+ghost use Rattle.ucl_screen.specs.Numbers.{number};
 ghost use Rattle.ucl_screen.specs.Rows.{four_seen};
-ghost use Rattle.ucl_live_runs.specs.Requests.{asked_by, is_bad, request_of};
+ghost use Rattle.ucl_live_runs.specs.Requests.{asked_by, mend_by, names_club, request_of, named_row};
 ghost use Rattle.ucl_rows.specs.Rows.{fields_seen};
 
+use crate::clubs::slot_in;
+use ucl_order::{LentClub, Roster};
 use ucl_rows::{BadField, RowFields, bad_field};
-use ucl_screen::{Four, NightEvent, event_of_fields};
+use ucl_screen::{Four, NightEvent, event_of_fields, expected_of_field, lent_club};
+
+/// What a mend does. The edition rises with it.
+#[derive(Clone, Copy, Debug, PartialEq, Eq)]
+pub enum Mend {
+    /// The board becomes that of the events that stand without the one of this row.
+    Without(u32),
+    /// The board stays, in this edition.
+    As(u16),
+    /// The club that the row names takes its slot, and the board stays.
+    Club,
+}
 
 /// What a row asks for, once the board is open.
 #[derive(Clone, Copy, Debug, PartialEq, Eq)]
 pub enum Request {
-    /// Neither to enter an event nor to show the board: this is the first field that is wrong.
+    /// Nothing that there is: this is the first field that no row of an event can have.
     Bad(BadField),
     /// To enter this event, with its reporter.
     Event(NightEvent),
@@ -22,24 +38,88 @@ pub enum Request {
     Words,
     /// To show the twelve matches of the board.
     Matches,
+    /// To mend the board.
+    Mends(Mend),
 }
 
-impl Request {
-    /// Returns whether the request is bad: neither to enter an event nor to show the board.
-    pub(crate) fn is_bad(&self) -> bool
-        ensures { result ≡ is_bad self.now }
-    {
-        matches!(self, Request::Bad(_))
+/// Returns the number that at most ten decimal digits spell, of which there is at least one; else None.
+fn number(text: &[u8]) -> Option<u64>
+    ensures { result ≡ number 10 text.now }
+{
+    if text.is_empty() || text.len() > 10 {
+        return None;
+    }
+    let mut n: u64 = 0;
+    for b in text {
+        if *b < b'0' || *b > b'9' {
+            return None;
+        }
+        n = 10 * n + u64::from(*b - b'0');
+    }
+    Some(n)
+}
+
+/// Returns the number of a row that a field names, 1 to 4,294,967,295 in one to ten digits; else None.
+fn named_row(text: &[u8]) -> Option<u32>
+    ensures { result ≡ named_row text.now }
+{
+    let row = number(text)?;
+    if row == 0 || row > u64::from(u32::MAX) {
+        return None;
+    }
+    Some(row as u32)
+}
+
+/// Returns whether a row names a slot and a club that a roster takes.
+fn names_club(four: &Four<'_>) -> bool
+    ensures { result ≡ names_club (four_seen four.now) }
+{
+    let Some(slot) = slot_in(four.second) else {
+        return false;
+    };
+    match lent_club(slot, four) {
+        None => false,
+        Some(club) => is_good(&club),
     }
 }
 
-/// Returns what a row of four fields asks for; `Bad` with the first wrong field if it is neither to enter an event nor to show the board.
+/// Returns whether a roster takes a club.
+fn is_good(club: &LentClub<'_>) -> bool
+    ensures { result ≡ is_club (club_lent club.now) }
+{
+    Roster::of_lent(&[*club, *club, *club, *club]).is_ok()
+}
+
+/// Returns the mend that a row of four fields names; None if it names none.
+fn mend_by(four: &Four<'_>) -> Option<Mend>
+    ensures { result ≡ mend_by (four_seen four.now) }
+{
+    if four.first == b"club".as_slice() {
+        return if names_club(four) {
+            Some(Mend::Club)
+        } else {
+            None
+        };
+    }
+    if four.first != b"mend".as_slice() || !four.fourth.is_empty() {
+        return None;
+    }
+    if four.third.is_empty() {
+        Some(Mend::Without(named_row(four.second)?))
+    } else if four.second.is_empty() {
+        Some(Mend::As(expected_of_field(four.third)?))
+    } else {
+        None
+    }
+}
+
+/// Returns what a row of four fields asks for; `Bad` with the first wrong field if it asks for nothing that there is.
 #[tactic(auto, unfolding(crate::specs::Requests::asked_by))]
 fn asked_by(four: &Four<'_>) -> Request
     ensures { result ≡ asked_by (four_seen four.now) }
 {
     if four.second.is_empty() && four.third.is_empty() && four.fourth.is_empty() {
-        if four.first == b"screen".as_slice() {
+        return if four.first == b"screen".as_slice() {
             Request::Screen
         } else if four.first == b"words".as_slice() {
             Request::Words
@@ -47,16 +127,18 @@ fn asked_by(four: &Four<'_>) -> Request
             Request::Matches
         } else {
             Request::Bad(bad_field(four))
-        }
-    } else {
-        match event_of_fields(four) {
-            None => Request::Bad(bad_field(four)),
-            Some(event) => Request::Event(event),
-        }
+        };
+    }
+    if let Some(event) = event_of_fields(four) {
+        return Request::Event(event);
+    }
+    match mend_by(four) {
+        Some(mend) => Request::Mends(mend),
+        None => Request::Bad(bad_field(four)),
     }
 }
 
-/// Returns what a row asks for; `Bad` if it has not four fields, or asks neither to enter an event nor to show the board.
+/// Returns what a row asks for; `Bad` if it has not four fields, or asks for nothing that there is.
 pub(crate) fn request_of(row: &RowFields<'_>) -> Request
     ensures { result ≡ request_of (fields_seen row.now) }
 {

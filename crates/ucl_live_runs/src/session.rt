@@ -1,99 +1,61 @@
 //! A session of `ucl_live`, which answers the row on each line of its input. Its first rows name its header (group, tie-break order,
-//! edition) and its four clubs; then its board is open. The row of a later edition begins a fresh board.
+//! edition) and its four clubs; then its board is open. A mend takes an accepted event back, or puts a club in its slot, in a later edition.
 
 ghost use Rattle.std.specs.Prelude.{◌≡◌, ◌+◌, ⊤, IfErr, OnOk};
+ghost use Rattle.ucl_rows.specs.Answers.{bytes_of};
 ghost use Rattle.ucl_rows.specs.BadRows.{shown_text};
-ghost use Rattle.ucl_live_runs.specs.SessionRuns.{Closes, HasNoAnswer, HasNoEnd, NeedsMemory, parts_bytes, session_at, session_due, session_of};
-ghost use Rattle.ucl_rows.specs.Rows.{fields_seen, said_on};
+ghost use Rattle.ucl_rows.specs.Rows.{said_on, fields_seen};
+ghost use Rattle.ucl_live_runs.specs.SessionRuns.{Closes, HasNoAnswer, HasNoEnd, session_at, session_due, session_of};
 ghost use Rattle.ucl_live_runs.specs.LiveText.{answer_said, next, start_of};
 ghost use Rattle.ucl_live_runs.specs.Driven.{IsDriven};
-ghost use Rattle.ucl_live_runs.specs.declared.phase.Phase.TheVariants.{Open};
 
+use crate::config::{Config, Line};
 use crate::header::{HeaderState, asked_header};
 use crate::live_fault::LiveFault;
-use crate::parts::Parts;
-use crate::phase::{OpenBoard, Phase, with_club, with_first};
-use crate::request::request_of;
+use crate::phase::{Phase, with_club, with_first};
 use std::alloc::Global;
 use std::mem;
 use ucl_command::LiveArgs;
 use ucl_io::{LineHandler, LoggedIo, ServeFault, serve_lines};
-use ucl_rows::{LineReader, MAX_ROW_LINE_BYTES, RowCount, RowFields, plain_row};
+use ucl_rows::{Answer, LineReader, MAX_ROW_LINE_BYTES, RowCount, RowFields, plain_row};
 use ucl_screen::{Sink, Source};
-use ucl_word::OutOfMemory;
 
 /// A session between two lines: its options, the header of its board, its phase (how far its first rows are), and the reader of its lines.
 #[derive(Drop)]
 pub struct Session {
-    alloc: Global,
-    options: LiveArgs,
+    config: Config,
     heading: HeaderState,
     phase: Phase,
     reader: LineReader,
 }
 
-impl OpenBoard {
-    /// Puts the answer to row number `row` on the open board in `parts`: none if the row begins a fresh board. `said` are the fields of the
-    /// row, `text` is its line. Fails only if out of memory.
-    fn answer_row(
-        &mut self,
-        alloc: Global,
-        options: &LiveArgs,
-        heading: &mut HeaderState,
-        row: u64,
-        said: &RowFields<'_>,
-        text: &[u8],
-        parts: &mut Parts,
-    ) -> Result<(), OutOfMemory>
-        ensures next { OnOk result (session_at options.now heading.new (row + 1) (Open self.new)
-            ≡ next (session_at options.now heading.old row (Open self.old)) (fields_seen said.now)) }
-        ensures text { OnOk result (parts_bytes parts.new
-            ≡ answer_said (session_at options.now heading.old row (Open self.old))
-            (fields_seen said.now) (shown_text text.now)) }
-        ensures memory { IfErr result (λ _. NeedsMemory
-            (session_at options.now heading.old row (Open self.old)) (fields_seen said.now)) }
-    {
-        if self.begin_again(heading, said) {
-            parts.put_nothing();
-            return Ok(());
-        }
-        let request = request_of(said);
-        self.answer_request(alloc, options, heading.header, row, &request, text, parts)?;
-        heading.note_request(&request);
-        Ok(())
-    }
-}
-
 impl Phase {
-    /// Puts the answer to row number `row` in `parts`: none if the board is not open yet. `said` are the fields of the row, `text` is its
-    /// line. Fails if out of memory, or if the row has to name the group or a club and does not.
-    fn answer_row(
+    /// Puts the answer to a row in `answer`: none if the board is not open yet. Fails if out of memory, or if the row has to name the
+    /// group or a club and does not.
+    fn answer(
         &mut self,
-        alloc: Global,
-        options: &LiveArgs,
+        config: &Config,
         heading: &mut HeaderState,
-        row: u64,
-        said: &RowFields<'_>,
-        text: &[u8],
-        parts: &mut Parts,
+        line: &Line<'_, '_>,
+        answer: &mut Answer,
     ) -> Result<(), LiveFault>
-        ensures next { OnOk result (session_at options.now heading.new (row + 1) self.new
-            ≡ next (session_at options.now heading.old row self.old) (fields_seen said.now)) }
-        ensures text { OnOk result (parts_bytes parts.new
-            ≡ answer_said (session_at options.now heading.old row self.old)
-            (fields_seen said.now) (shown_text text.now)) }
+        ensures next { OnOk result (session_at config.now.options heading.new (line.now.row + 1) self.new
+            ≡ next (session_at config.now.options heading.old line.now.row self.old) (fields_seen line.now.said)) }
+        ensures text { OnOk result (bytes_of answer.new
+            ≡ answer_said (session_at config.now.options heading.old line.now.row self.old)
+            (fields_seen line.now.said) (shown_text line.now.text.now)) }
         ensures stops { IfErr result
-            (HasNoAnswer (session_at options.now heading.old row self.old)
-            (fields_seen said.now)) }
+            (HasNoAnswer (session_at config.now.options heading.old line.now.row self.old)
+            (fields_seen line.now.said)) }
     {
         if let Phase::Open(table) = self {
-            table.answer_row(alloc, options, heading, row, said, text, parts)?;
+            table.answer(config, heading, line, answer)?;
             return Ok(());
         }
-        parts.put_nothing();
+        *answer = Answer::nothing();
         *self = match mem::replace(self, Phase::AwaitingHeader) {
-            Phase::AwaitingHeader => with_first(alloc, options, row, said, heading)?,
-            Phase::AwaitingClubs(clubs) => with_club(alloc, row, clubs, said)?,
+            Phase::AwaitingHeader => with_first(config, line, heading)?,
+            Phase::AwaitingClubs(clubs) => with_club(config.alloc, line, clubs)?,
             Phase::Open(table) => Phase::Open(table),
         };
         Ok(())
@@ -107,11 +69,9 @@ impl Session {
     {
         let heading = HeaderState {
             header: asked_header(&options),
-            is_new: true,
         };
         Session {
-            alloc,
-            options,
+            config: Config { alloc, options },
             heading,
             phase: Phase::AwaitingHeader,
             reader: LineReader::new(),
@@ -121,7 +81,7 @@ impl Session {
 
 impl LineHandler for Session {
     /// The answer to a line.
-    type Answer = Parts;
+    type Answer = Answer;
 
     /// Why there is no answer to a line: out of memory, or a club or the group is not named as it has to be.
     type Fault = LiveFault;
@@ -139,57 +99,44 @@ impl LineHandler for Session {
     ghost stops_at_end = { λ m row begun _ fault. HasNoEnd (session_of m row) begun fault };
 
     /// Answers the row on the line: none is an empty answer, and several, or one that is too long, are a bad row.
-    fn answer(&mut self, row: u64, line: &[u8], text: &mut Parts) -> Result<(), LiveFault> {
-        if let Some(four) = plain_row(row, line) {
-            return self.phase.answer_row(
-                self.alloc,
-                &self.options,
-                &mut self.heading,
-                row,
-                &RowFields::Four(four),
-                line,
-                text,
-            );
+    fn answer(&mut self, row: u64, text: &[u8], answer: &mut Answer) -> Result<(), LiveFault> {
+        if let Some(four) = plain_row(row, text) {
+            let said = RowFields::Four(four);
+            let line = Line { row, said, text };
+            return self
+                .phase
+                .answer(&self.config, &mut self.heading, &line, answer);
         }
-        match self.reader.read(row, line) {
+        match self.reader.read(row, text) {
             RowCount::Nothing => {
-                text.put_nothing();
+                *answer = Answer::nothing();
                 Ok(())
             }
-            RowCount::More => self.phase.answer_row(
-                self.alloc,
-                &self.options,
-                &mut self.heading,
-                row,
-                &RowFields::Other,
-                line,
-                text,
-            ),
+            RowCount::More => {
+                let said = RowFields::Other;
+                let line = Line { row, said, text };
+                self.phase
+                    .answer(&self.config, &mut self.heading, &line, answer)
+            }
             RowCount::One => {
                 let said = self.reader.row();
-                self.phase.answer_row(
-                    self.alloc,
-                    &self.options,
-                    &mut self.heading,
-                    row,
-                    &said,
-                    line,
-                    text,
-                )
+                let line = Line { row, said, text };
+                self.phase
+                    .answer(&self.config, &mut self.heading, &line, answer)
             }
         }
     }
 
     /// Answers `begun`, a last line without a line feed, if it has a byte. Fails if a club is missing at the end.
-    fn end(&mut self, row: u64, begun: &[u8], text: &mut Parts) -> Result<(), LiveFault> {
+    fn end(&mut self, row: u64, begun: &[u8], answer: &mut Answer) -> Result<(), LiveFault> {
         if begun.is_empty() {
-            text.put_nothing();
+            *answer = Answer::nothing();
             return match self.phase.missing(row) {
                 Some(fault) => Err(fault),
                 None => Ok(()),
             };
         }
-        self.answer(row, begun, text)?;
+        self.answer(row, begun, answer)?;
         match self.phase.missing(row.saturating_add(1)) {
             Some(fault) => Err(fault),
             None => Ok(()),
@@ -200,7 +147,7 @@ impl LineHandler for Session {
 /// Answers the rows of a source until it ends: each at once, before it asks for more.
 ///
 /// The first four lines that are not empty name the clubs; the row of a group may come before them. Then come events and requests to show
-/// the board, in any order and without an end. The row of a later edition puts a fresh board in place of the present one.
+/// the board, in any order and without an end, and mends.
 ///
 /// # Errors
 ///

@@ -9,13 +9,14 @@ use ucl_command::words_of;
 pub use ucl_command::{Line, LineFault, line_of};
 pub use ucl_rows::{RunFault, status_of};
 pub use ucl_runs::{
-    Gate, NightEnd, OpenGate, feed_run, night_run, put_night, run, schedule_does_not_matter,
-    show_run,
+    Gate, NightEnd, OpenGate, feed_run, night_run, put_night, run, run_night,
+    schedule_does_not_matter, show_run,
 };
 use ucl_screen::{FromRead, ToWrite};
 use ucl_words::WordBoard;
 
-/// Runs the program over its arguments and the standard streams. Standard output has no buffer, so that nothing is left to flush.
+/// Runs the program over its arguments and the standard streams. Only a night takes the handle of the run, so nothing else can wait.
+/// Standard output has no buffer, so that nothing is left to flush.
 fn main(rt: HostRuntime) -> ExitCode {
     let alloc = rt.alloc();
     let mut source = FromRead::new(rt.stdin());
@@ -25,14 +26,25 @@ fn main(rt: HostRuntime) -> ExitCode {
         Ok(words) => line_of(alloc, &words),
         Err(fault) => Err(fault),
     };
-    let status = run(
-        &rt,
-        alloc,
-        asked,
-        || WordBoard::open(&rt, alloc),
-        &mut source,
-        &mut sink,
-        &mut errors,
-    );
+    let status = match asked {
+        Ok(
+            Line::Night {
+                group,
+                readings,
+                profile,
+            },
+        ) => run_night(
+            &rt,
+            alloc,
+            group,
+            readings,
+            profile,
+            || WordBoard::open(&rt, alloc),
+            &mut source,
+            &mut sink,
+            &mut errors,
+        ),
+        asked => run(alloc, asked, &mut source, &mut sink, &mut errors),
+    };
     ExitCode::from(status)
 }

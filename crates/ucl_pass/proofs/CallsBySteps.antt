@@ -15,6 +15,13 @@ use Rattle.ucl_board.proofs.Logs.{history_on}
 use Rattle.ucl_live_board.proofs.CallsBySteps.{adds_continue, enlists, hears, meets, stays_continue}
 use Rattle.ucl_live_board.proofs.StepFacts as facts
 use Rattle.ucl_live_board.proofs.StepFacts.{Goes, Sees, Adds, GivesNumber, sound}
+use Rattle.std.proofs.Common.{append-nil, suc, zero, ◌≢◌}
+use Rattle.std.specs.Prelude.{IsOk}
+use Rattle.ucl_live_board.proofs.InvariantIsKept.{both_occur, split_occurs}
+use Rattle.ucl_live_board.specs.Views.{left_pass, second_pass, steps_of}
+use Rattle.ucl_live_board.specs.PossibleViews.{BothOccur}
+use Rattle.ucl_pass.specs.CellCalls.{Accepts, HasNumberLeft, LoadsAtLast, LostTries}
+use Rattle.ucl_pass.specs.CellRecords.{CellSplit, IsCellPassOf}
 use Rattle.ucl_pass.proofs.InvariantIsKept.{match_words, last_word}
 
 -- just after a step
@@ -55,34 +62,44 @@ module _ (target : Target) (entry : Option Entry) (v w : View) (x y : List ℕ) 
   pub now_is : entry ≡ None → s.steps.step.at ≡ length (history_of w.log)
   now_is none = facts.at_is words_after IsLegalStep s.seat target v w s.steps (λ log is legal. legal) (s.entry_is ∙ none)
 
--- a pass, after tries in vain
-pub record Tried (v w : View) : Type 0 where
+-- a pass, after loads of words and exchanges that were missed
+pub record Looked (v w : View) : Type 0 where
   pub stays : Stays v w
   pub shown : versions_loaded w.own ≡ versions_loaded v.own
   pub acts : count_of v ≤ count_of w
   pub share : IsSome w.share
 
-pub tried_none : (v : View) → IsSome v.share → Tried v v
-tried_none v share = record { stays = stays_none v; shown = refl; acts = le_refl (count_of v); share = share }
-
 -- one load more, or an exchange that was missed
-module _ (v w u : View) (x : List ℕ) (tried : Tried v w) (looked : LooksOnly w x x u) where
+module _ (v w u : View) (x : List ℕ) (before : Looked v w) (looked : LooksOnly w x x u) where
   looks : Sees (Whole false) w u
   looks = sees (Whole false) None w u x x looked refl refl
 
   acts_more : count_of v < count_of u
-  acts_more = let a = tried.acts in let b = one_act (Whole false) None w u x x looked in omega arith
+  acts_more = let a = before.acts in let b = one_act (Whole false) None w u x x looked in omega arith
 
-  pub tried_more : Tried v u
-  tried_more = record {
-    stays = stays_more v w u (Whole false) tried.stays looks;
-    shown = shown_then (Whole false) None w u x x looked ∙ tried.shown;
+  pub looked_more : Looked v u
+  looked_more = record {
+    stays = stays_more v w u (Whole false) before.stays looks;
+    shown = shown_then (Whole false) None w u x x looked ∙ before.shown;
     acts = (let a = acts_more in omega arith);
     share = looks.goes.acts;
   }
 
   look_continues : Continues (cell_pass_view v) (cell_pass_view u)
-  look_continues = stays_continue versions_loaded v w u tried_more.stays looks.goes
+  look_continues = stays_continue versions_loaded v w u looked_more.stays looks.goes
+
+-- a pass, after tries that were lost
+pub record Tried (GoesOn : View → Type 0) (v w : View) : Type 0 where
+  pub looked : Looked v w
+  pub lost : ℕ
+  pub tries : LostTries GoesOn lost v w
+
+pub tried_none : (GoesOn : View → Type 0) (v : View) → IsSome v.share → Tried GoesOn v v
+tried_none GoesOn v share = record {
+  looked = record { stays = stays_none v; shown = refl; acts = le_refl (count_of v); share = share };
+  lost = zero;
+  tries = refl;
+}
 
 -- it replies as a board of one thread
 abbrev Replies : EventCall → List ℕ → Result Accepted Refusal → Type 0
@@ -93,105 +110,143 @@ module _ (Stores : View → List ℕ → List ℕ → View → Type 0) (v w : Vi
   won : Exchanges Stores v x next r w → is_ok r ≡ true → Stores v x next w
   won m is = search (arith, true≢false)
 
-  missed : Exchanges Stores v x next r w → is_ok r ≡ false → (y : List ℕ) × LooksOnly v y y w
+  missed : Exchanges Stores v x next r w → is_ok r ≡ false → (y : List ℕ) × (y ≢ x) × LooksOnly v y y w
   missed m is = search (arith, true≢false)
 
 pub reporter_number : (v w : View) (x next : List ℕ) (r : Result (List ℕ) (List ℕ)) → Exchanges StoresReporter v x next r w → is_ok r ≡ true → number_of w.own ≡ slice_index x 12 + 1
 reporter_number v w x next r m ok =
     let s = won StoresReporter v w x next r m ok in (facts.enlisted words_after IsLegalStep s.seat (slice_index x 12) v w s.steps (λ log is legal. legal)).number
 
--- the last try of a pass of this board: a load of the words x
-module _ (board same : TableId) (own : same ≡ board) (v w u : View) (x : List ℕ) (before : Tried v w) (looked : LooksOnly w x x u) where
-  tried : Tried v u
-  tried = tried_more v w u x before looked
+-- a try whose exchange is missed is one more that was lost
+pub tries_again : (GoesOn : View → Type 0) (Stores : View → List ℕ → List ℕ → View → Type 0) (v w u z : View) (x next : List ℕ) (r : Result (List ℕ) (List ℕ))
+    → Tried GoesOn v w → LooksOnly w x x u → GoesOn u → Exchanges Stores u x next r z → is_ok r ≡ false → Tried GoesOn v z
+tries_again GoesOn Stores v w u z x next r tried looked goes_on exchanged not =
+    let one = missed Stores u z x next r exchanged not in
+    record {
+      looked = looked_more v u z one.0 (looked_more v w u x tried.looked looked) one.2;
+      lost = suc tried.lost;
+      tries = (w, tried.tries, record { words = x; looked = u; loads = looked; goes_on = goes_on; found = one.0; others = one.1; missed = one.2 });
+    }
 
+-- a load of the words x: the reply of the rules after it, and whether a number is left
+module _ (w u : View) (x : List ℕ) (looked : LooksOnly w x x u) where
+  pub replied : (call : EventCall) (reply : Result Accepted Refusal) → Replies call x reply → sequential_reply (history_of u.log) call ≡ reply
+  replied call reply said =
+      sym (said (history_of u.log) (goes (Whole false) None w u x x looked).legal (sym (board_seen (Whole false) None w u x x looked)))
+
+  pub accepts : (call : EventCall) (reply : Accepted) → Replies call x (Ok reply) → Accepts call u
+  accepts call reply said = subst (λ (r : Result Accepted Refusal). IsOk r) (sym (replied call (Ok reply) said)) refl
+
+  pub enlisted_seen : slice_index x 12 ≡ enlisted_by u.log
+  enlisted_seen = ap (λ (ws : List ℕ). slice_index ws 12) looked.left ∙ last_word (history_of u.log) (enlisted_by u.log)
+
+  pub number_left : slice_index x 12 < 255 → HasNumberLeft u
+  number_left room = subst (λ (n : ℕ). n < 255) enlisted_seen room
+
+-- the last load of a call, after the tries that were lost
+at_last : (GoesOn : View → Type 0) (v w u : View) (x : List ℕ) → Tried GoesOn v w → LooksOnly w x x u → LoadsAtLast GoesOn v x u
+at_last GoesOn v w u x tried looked = record { lost = tried.lost; between = w; tries = tried.tries; loads = looked }
+
+-- the last try of a report by a pass of this board: a load of the words x
+module _ (board same : TableId) (own : same ≡ board) (call : EventCall) (v w u : View) (x : List ℕ) (tried : Tried (Accepts call) v w) (looked : LooksOnly w x x u) where
   -- the rules refuse
-  pub refused_report : (call : EventCall) (refusal : Refusal) → Replies call x (Err refusal)
+  pub refused_report : (refusal : Refusal) → Replies call x (Err refusal)
       → CellReported (record { board = board; view = v }) call (Err refusal) (record { board = same; view = u })
-  refused_report call refusal said = record {
-    own = own;
-    says = record {
-      always = look_continues v w u x before looked;
-      accepted = tt;
-      refused = record {
-        answer = sym (said (history_of u.log) (goes (Whole false) None w u x x looked).legal (sym (board_seen (Whole false) None w u x x looked)));
-        mine = tried.stays.mine;
-        shown = tried.shown;
-      };
-    };
-    acts = acts_more v w u x before looked;
-    up_to_date = up_to_date (Whole false) None w u x x looked;
-  }
-
-  -- as many are enlisted as there are numbers
-  pub was_full : 255 ≤ slice_index x 12 → CellFull (record { board = board; view = v }) (record { board = same; view = u })
-  was_full many =
-      let few = (goes (Whole false) None w u x x looked).few in
-      let last : slice_index x 12 ≡ enlisted_by u.log = ap (λ (ws : List ℕ). slice_index ws 12) looked.left ∙ last_word (history_of u.log) (enlisted_by u.log) in
+  refused_report refusal said =
+      let was = looked_more v w u x tried.looked looked in
+      let answer = replied w u x looked call (Err refusal) said in
       record {
         own = own;
         says = record {
-          always = look_continues v w u x before looked;
-          full = record { listed = omega arith; mine = tried.stays.mine; shown = tried.shown };
+          always = look_continues v w u x tried.looked looked;
+          accepted = tt;
+          refused = record { answer = answer; mine = was.stays.mine; shown = was.shown };
         };
-        acts = acts_more v w u x before looked;
+        steps = record { words = x; looked = u; loads = at_last (Accepts call) v w u x tried looked; answer = answer; ends = refl };
+        acts = acts_more v w u x tried.looked looked;
         up_to_date = up_to_date (Whole false) None w u x x looked;
+        occurs = (looked.seat, looked.steps.occurs);
       }
 
-  -- an exchange comes after the load
-  module _ (z : View) (next : List ℕ) (r : Result (List ℕ) (List ℕ)) where
-    -- and is missed: a try in vain more
-    pub tries_again : (Stores : View → List ℕ → List ℕ → View → Type 0) → Exchanges Stores u x next r z → is_ok r ≡ false → Tried v z
-    tries_again Stores exchanged not =
-        let one = missed Stores u z x next r exchanged not in
-        tried_more v u z one.0 tried one.1
-
-    -- or is won, by a report that the rules accept
-    pub accepted_report : (call : EventCall) (reply : Accepted) → Exchanges (StoresEvent call) u x next r z → is_ok r ≡ true
-        → Replies call x (Ok reply) → CellReported (record { board = board; view = v }) call (Ok reply) (record { board = same; view = z })
-    accepted_report call reply exchanged ok said =
-        let e : Entry = entry_of (number_of v.own) call in
-        let stored : CellStep (Whole false) (Some e) u x next z =
-        subst (λ (n : ℕ). CellStep (Whole false) (Some (entry_of n call)) u x next z) tried.stays.number (won (StoresEvent call) u z x next r exchanged ok) in
-        let adds : Adds (Whole false) e u z = facts.adds words_after IsLegalStep stored.seat (Whole false) u z stored.steps (λ log is legal. legal) e stored.entry_is refl in
-        let acts = one_act (Whole false) (Some e) u z x next stored in
-        let most = tried.acts in
-        let since = begins_through (history_of v.log) (history_of u.log) (history_of stored.steps.before) tried.stays.seen (history_on u.log stored.steps.before stored.steps.since) in
-        let board_is = sym (ap (take 12) stored.found ∙ match_words (history_of stored.steps.before) (enlisted_by stored.steps.before)) in
-        record {
-          own = own;
-          says = record {
-            always = adds_continue versions_loaded v u z (Whole false) e tried.stays adds;
-            accepted = record {
-              before = history_of stored.steps.before;
-              last = facts.history_is words_after IsLegalStep stored.seat (Whole false) u z stored.steps
-                  ∙ ap (λ (o : Option Entry). history_of stored.steps.before ++ Rattle.ucl_board.specs.Log.entry_list o) stored.entry_is;
-              since = since;
-              answer = sym (said (history_of stored.steps.before) (legal_history stored.steps.before stored.steps.follows) board_is);
-              mine = adds.mine ∙ ap (λ (l : List Entry). followed_by l e) tried.stays.mine;
-              shown = shown_then (Whole false) (Some e) u z x next stored ∙ tried.shown;
-            };
-            refused = tt;
+  -- they accept, and the exchange after the load is won
+  pub accepted_report : (z : View) (next : List ℕ) (r : Result (List ℕ) (List ℕ)) (reply : Accepted) → Exchanges (StoresEvent call) u x next r z → is_ok r ≡ true
+      → Replies call x (Ok reply) → CellReported (record { board = board; view = v }) call (Ok reply) (record { board = same; view = z })
+  accepted_report z next r reply exchanged ok said =
+      let was = looked_more v w u x tried.looked looked in
+      let e : Entry = entry_of (number_of v.own) call in
+      let stores = won (StoresEvent call) u z x next r exchanged ok in
+      let stored : CellStep (Whole false) (Some e) u x next z =
+      subst (λ (n : ℕ). CellStep (Whole false) (Some (entry_of n call)) u x next z) was.stays.number stores in
+      let adds : Adds (Whole false) e u z = facts.adds words_after IsLegalStep stored.seat (Whole false) u z stored.steps (λ log is legal. legal) e stored.entry_is refl in
+      let acts = one_act (Whole false) (Some e) u z x next stored in
+      let most = was.acts in
+      let since = begins_through (history_of v.log) (history_of u.log) (history_of stored.steps.before) was.stays.seen (history_on u.log stored.steps.before stored.steps.since) in
+      let board_is = sym (ap (take 12) stored.found ∙ match_words (history_of stored.steps.before) (enlisted_by stored.steps.before)) in
+      record {
+        own = own;
+        says = record {
+          always = adds_continue versions_loaded v u z (Whole false) e was.stays adds;
+          accepted = record {
+            before = history_of stored.steps.before;
+            last = facts.history_is words_after IsLegalStep stored.seat (Whole false) u z stored.steps
+                ∙ ap (λ (o : Option Entry). history_of stored.steps.before ++ Rattle.ucl_board.specs.Log.entry_list o) stored.entry_is;
+            since = since;
+            answer = sym (said (history_of stored.steps.before) (legal_history stored.steps.before stored.steps.follows) board_is);
+            mine = adds.mine ∙ ap (λ (l : List Entry). followed_by l e) was.stays.mine;
+            shown = shown_then (Whole false) (Some e) u z x next stored ∙ was.shown;
           };
-          acts = omega arith;
-          up_to_date = up_to_date (Whole false) (Some e) u z x next stored;
-        }
+          refused = tt;
+        };
+        steps = record {
+          words = x;
+          looked = u;
+          loads = at_last (Accepts call) v w u x tried looked;
+          answer = replied w u x looked call (Ok reply) said;
+          ends = (next, stores);
+        };
+        acts = omega arith;
+        up_to_date = up_to_date (Whole false) (Some e) u z x next stored;
+        occurs = (stored.seat, stored.steps.occurs);
+      }
 
-    -- or by an enlistment
-    pub was_enlisted : Exchanges StoresReporter u x next r z → is_ok r ≡ true
-        → CellEnlisted (record { board = board; view = v }) (record { board = same; view = z })
-    was_enlisted exchanged ok =
-        let n = slice_index x 12 in
-        let stored = won StoresReporter u z x next r exchanged ok in
-        let gives : GivesNumber n u z = facts.enlisted words_after IsLegalStep stored.seat n u z stored.steps (λ log is legal. legal) in
-        let acts = one_act (Enlists n) None u z x next stored in
-        let most = tried.acts in
-        record {
-          own = own;
-          enlisted = enlists versions_loaded v u z n tried.stays gives (shown_then (Enlists n) None u z x next stored);
-          acts = omega arith;
-          up_to_date = up_to_date (Enlists n) None u z x next stored;
-        }
+-- and of an enlistment
+module _ (board same : TableId) (own : same ≡ board) (v w u : View) (x : List ℕ) (tried : Tried HasNumberLeft v w) (looked : LooksOnly w x x u) where
+  -- as many are enlisted as there are numbers
+  pub was_full : 255 ≤ slice_index x 12 → CellFull (record { board = board; view = v }) (record { board = same; view = u })
+  was_full many =
+      let was = looked_more v w u x tried.looked looked in
+      let few = (goes (Whole false) None w u x x looked).few in
+      let last = enlisted_seen w u x looked in
+      record {
+        own = own;
+        says = record {
+          always = look_continues v w u x tried.looked looked;
+          full = record { listed = omega arith; mine = was.stays.mine; shown = was.shown };
+        };
+        steps = (x, at_last HasNumberLeft v w u x tried looked);
+        acts = acts_more v w u x tried.looked looked;
+        up_to_date = up_to_date (Whole false) None w u x x looked;
+        occurs = (looked.seat, looked.steps.occurs);
+      }
+
+  -- the exchange after the load is won
+  pub was_enlisted : (z : View) (next : List ℕ) (r : Result (List ℕ) (List ℕ)) → Exchanges StoresReporter u x next r z → is_ok r ≡ true
+      → CellEnlisted (record { board = board; view = v }) (record { board = same; view = z })
+  was_enlisted z next r exchanged ok =
+      let was = looked_more v w u x tried.looked looked in
+      let n = slice_index x 12 in
+      let stored = won StoresReporter u z x next r exchanged ok in
+      let gives : GivesNumber n u z = facts.enlisted words_after IsLegalStep stored.seat n u z stored.steps (λ log is legal. legal) in
+      let acts = one_act (Enlists n) None u z x next stored in
+      let most = was.acts in
+      record {
+        own = own;
+        enlisted = enlists versions_loaded v u z n was.stays gives (shown_then (Enlists n) None u z x next stored);
+        steps = record { words = x; looked = u; loads = at_last HasNumberLeft v w u x tried looked; ends = (next, stored) };
+        acts = omega arith;
+        up_to_date = up_to_date (Enlists n) None u z x next stored;
+        occurs = (stored.seat, stored.steps.occurs);
+      }
 
 -- the words of the next board, with the number of the enlisted
 pub next_words : (x board next : List ℕ) (e : Entry)
@@ -232,9 +287,11 @@ module _ (v w : View) (x : List ℕ) (reading : Reading) (shows : LooksAndShows 
       always = stays_continue versions_loaded v v w (stays_more v v w (Whole true) (stays_none v) loads) loads.goes;
       reading = read_says;
     };
+    step = (x, shows);
     version = version_seen;
     acts = one_act (Whole true) None v w x x shows;
     up_to_date = up_to_date (Whole true) None v w x x shows;
+    occurs = (shows.seat, shows.steps.occurs);
   }
 
 -- a note of a pass was joined to another, which then loaded the words
@@ -252,7 +309,31 @@ was_met a b k m x same own sound_first looked =
         unchanged = ap (λ (c : CellPass). cell_pass_view c.view) same;
         meeting = meets versions_loaded a.view v w (Whole false) loads (shown_then (Whole false) None told w x x looked);
       };
+      step = (x, looked);
       unchanged = same;
       acts = one_act (Whole false) None told w x x looked;
       up_to_date = up_to_date (Whole false) None told w x x looked;
+      occurs = (looked.seat, looked.steps.occurs);
     }
+
+-- a second pass was split off
+pub was_split : (k m n : CellPass) → IsSound (cell_pass_view k.view) → m.board ≡ k.board → n.board ≡ k.board → m.view ≡ left_pass k.view
+    → n.view ≡ second_pass k.view → CellSplit k m n
+was_split k m n sound own other left given = record {
+  own = (own, other);
+  says = record { sound = sound; kept = ap (λ (u : View). cell_pass_view u) left; given = ap (λ (u : View). cell_pass_view u) given };
+  kept = left;
+  acts = ap (λ (u : View). count_of u) given ∙ ap length (append-nil (steps_of k.view));
+  occurs = subst (λ (u : View). BothOccur words_after IsLegalStep k.view u n.view) (sym left)
+      (subst (λ (u : View). BothOccur words_after IsLegalStep k.view (left_pass k.view) u) (sym given) (split_occurs words_after IsLegalStep k.view));
+}
+
+-- and both are passes of the board
+pub split_own : (board : TableId) (k m n : CellPass) → CellSplit k m n → IsCellPassOf board k → IsCellPassOf board m × IsCellPassOf board n
+split_own board k m n split is =
+    let both = both_occur words_after IsLegalStep k.view m.view n.view split.occurs is.1 in
+    ((split.own.0 ∙ is.0, both.0), (split.own.1 ∙ is.0, both.1))
+
+-- so are two that met
+pub met_own : (board : TableId) (a b k m : CellPass) → CellMet a b k m → IsCellPassOf board a × IsCellPassOf board k → IsCellPassOf board b × IsCellPassOf board m
+met_own board a b k m met is = (subst (λ (c : CellPass). IsCellPassOf board c) (sym met.unchanged) is.0, (met.own.1 ∙ is.1.0, met.occurs))

@@ -11,6 +11,7 @@ use Rattle.ucl_board.specs.Log.{Enlists, Whole, step_taken, logged_by, IsThere, 
 use Rattle.ucl_board.proofs.Logs.{legal_history}
 use Rattle.ucl_live_board.proofs.InvariantIsKept.{step_keeps, step_tells, words_stay, words_entered, words_enlisted, seconds_keep, notes_keep, joins_keep}
 use Rattle.ucl_live_board.proofs.InvariantIsKept.{opens_keep}
+use Rattle.ucl_pass.specs.CellInvariants.{CellOccurs}
 
 -- the thirteen words
 
@@ -113,6 +114,9 @@ enlists seat v current next acts reader room is x views r here =
 -- a board may open with the words of no event and no reporter
 pub begins : (words : List ℕ) → words ≡ words_after [] 0 → CellInvariant words (first_pass ∷ [])
 begins words are = opens_keep words_after IsLegalStep words are
+
+pub opened_occurs : CellOccurs first_pass
+opened_occurs = (0, record { words = words_after [] 0; views = first_pass ∷ []; rule = begins (words_after [] 0) refl; here = refl })
 
 pub seconds : (seat : ℕ) (v : View) → Forks CellInvariant seat v (left_pass v) (second_pass v)
 seconds seat v x views r here = seconds_keep words_after IsLegalStep x views r seat v here

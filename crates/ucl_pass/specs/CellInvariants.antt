@@ -1,5 +1,6 @@
 -- The thirteen words of a cell board, a board that threads share as one cell, which is loaded and exchanged as a whole; its invariant; and
--- what contracts read off the view of a pass, that is, of what they know of a thread's permission on the board. The log has all steps of
+-- what contracts read off the view of a pass, that is, of what they know of a thread's permission on the board. A state is the words and the
+-- views of all passes at one moment. The log has all steps of
 -- all passes; its history is the accepted events. A reading is a load that shows the version, the length of the history.
 use Rattle.std.specs.Prelude.{◌≡◌, ℕ, Bool, true, List, [], ◌∷◌, ◌++◌}
 use Rattle.std.specs.List.{fold}
@@ -7,7 +8,8 @@ use Rattle.ucl_board.specs.declared.entry.Entry.{Entry}
 use Rattle.ucl_board.specs.History.{board_of}
 use Rattle.ucl_board.specs.Log.{Target, Enlists, Whole, Taken, Log, logged_by, IsLegalStep}
 use Rattle.ucl_live_board.specs.declared.view.View.{View}
-use Rattle.ucl_live_board.specs.OneHistory.{BoardInvariant}
+use Rattle.ucl_live_board.specs.BoardInvariant.{BoardInvariant}
+use Rattle.ucl_live_board.specs.PossibleViews.{OccursSomewhere}
 use Rattle.ucl_live_board.specs.Passes.{PassView}
 use Rattle.ucl_live_board.specs.Views.{pass_view_by}
 
@@ -22,6 +24,10 @@ CellInvariant = BoardInvariant words_after IsLegalStep
 -- A predicate on words and views is at least as strong as the invariant of the board: if it holds, the invariant holds.
 abbrev pub ImpliesInvariant : (List ℕ → List View → Type 0) → Type 0
 ImpliesInvariant holds = (words : List ℕ) (views : List View) → holds words views → CellInvariant words views
+
+-- Some state that satisfies the invariant has a pass with this view.
+abbrev pub CellOccurs : View → Type 0
+CellOccurs = OccursSomewhere words_after IsLegalStep
 
 -- The versions that a pass has read after a step on this target at the length `at` of the history, if they were `shown` before: a reading
 -- (`Whole true`) adds the length, and an enlistment empties the list.

@@ -1,3 +1,4 @@
 pub mod CellInvariants
 pub mod CellSteps
+pub mod CellCalls
 pub mod CellRecords

@@ -6,15 +6,15 @@ ghost use Rattle.std.specs.Prelude.{◌≡◌, ◌<◌, ◌++◌, ◌∷◌, [],
 ghost use Rattle.atomic_table.specs.Seated.{TableId};
 ghost use Rattle.crossbeam_utils.specs.Seq.{cell_view};
 ghost use Rattle.ucl_board.specs.Words.{AreWords};
-ghost use Rattle.ucl_live_board.specs.OneHistory.{BoardsOpenFresh};
+ghost use Rattle.ucl_live_board.specs.BoardInvariant.{BoardsOpenFresh};
 ghost use Rattle.ucl_live_board.specs.Passes.{reporter_figures};
 ghost use Rattle.ucl_board.specs.Log.{IsLegalStep};
 ghost use Rattle.ucl_pass.specs.CellInvariants.{words_after, ImpliesInvariant, cell_pass_view};
 ghost use Rattle.ucl_pass.specs.CellSteps.{LooksOnly, Exchanges, StoresEvent, IsNextBoard, entry_at, with_one_more};
-ghost use Rattle.ucl_pass.specs.CellRecords.{cell_pass_of, CellOpened, CellReported, CellRead, CellSplit, CellEnlisted, CellFull, CellMet};
+ghost use Rattle.ucl_pass.specs.CellRecords.{cell_pass_of, CellOpened, CellReported, CellRead, CellSplit, CellEnlisted, CellFull, CellMet, IsCellPassOf};
 
 use crate::passes::{CellReaderPass, CellReporterPass};
-use crate::rule::{Adds, Asking, Cell, Enlists, Looks, Note, OneHistory, Reads, Seat, SecondPass};
+use crate::rule::{Adds, Asking, Cell, CellRule, Enlists, Looks, Note, Reads, Seat, SecondPass};
 use crossbeam_utils::rule::Protocol;
 use std::alloc::Global;
 use std::marker::{Brand, Model};
@@ -79,10 +79,10 @@ impl CellBoard {
     /// assert_eq!(rt; reading.version, 0);
     /// ```
     pub fn open<R>(_rt: &R, alloc: Global) -> Result<(CellBoard, CellReaderPass), OutOfMemory>
-        ensures own { IfOk result (λ opened. opened.1.board ≡ opened.0) }
+        ensures own { IfOk result (λ opened. IsCellPassOf opened.0 opened.1) }
         ensures opened { IfOk result (λ opened. CellOpened opened.1) }
         ensures rule { BoardsOpenFresh words_after IsLegalStep }
-        ensures tied { ImpliesInvariant ⟦<OneHistory as Protocol<[u64; 13], View>>⟧.holds }
+        ensures tied { ImpliesInvariant ⟦<CellRule as Protocol<[u64; 13], View>>⟧.holds }
     {
         let (cell, seat) = Cell::ruled(alloc, words_with(&Board::fresh(), 0))?;
         Ok((CellBoard { cell }, CellReaderPass { seat }))
@@ -132,21 +132,23 @@ impl CellBoard {
     }
 }
 
-/// Each call promises one record (`CellReported` and others): in `says` what every `LiveBoard` does, in `acts` how many steps it takes, and
-/// in `up_to_date` that the pass has then seen the whole history, up to its last step. The calls may wait inside the cell. A report or an
-/// enlistment is tried again, without a bound, but only if another pass changed a word between the load and the exchange.
+/// Each call promises one record (`CellReported` and others): in `says` what every `LiveBoard` does, in `steps` which steps it takes and in
+/// `acts` how many, and in `up_to_date` that the pass has then seen the whole history, up to its last step. The calls may wait inside the
+/// cell. A report or an enlistment is tried again, without a bound, but only if another pass changed a word between the load and the exchange.
 impl LiveBoard for CellBoard {
     type ReaderPass = CellReaderPass;
 
     type ReporterPass = CellReporterPass;
 
-    ghost is_reader = { λ board pass. pass.board ≡ board };
+    ghost is_reader = { IsCellPassOf };
 
-    ghost is_reporter = { λ board pass. pass.board ≡ board };
+    ghost is_reporter = { IsCellPassOf };
 
     ghost reader = { λ pass. cell_pass_view pass.view };
 
     ghost reporter = { λ pass. cell_pass_view pass.view };
+
+    ghost reported = { CellReported };
 
     /// Enters the event `call` under the number of the pass: loads the words, and answers the refusal if the rules refuse the event; else
     /// stores the words after it if none has changed since the load, and begins anew if one has.
@@ -192,8 +194,9 @@ impl LiveBoard for CellBoard {
 
     /// Splits a second reader's pass, for another thread, off `pass`: it has seen the same events as `pass`.
     fn split<R: Wait>(&self, _rt: &R, pass: &mut CellReaderPass) -> CellReaderPass
-        requires { pass.old.board ≡ self.now }
-        ensures { CellSplit pass.old pass.new result }
+        requires { IsCellPassOf self.now pass.old }
+        ensures own { IsCellPassOf self.now pass.new × IsCellPassOf self.now result }
+        ensures split { CellSplit pass.old pass.new result }
     {
         let seat = self.cell.split_pass::<SecondPass>(&mut pass.seat);
         CellReaderPass { seat }
@@ -235,8 +238,9 @@ impl LiveBoard for CellBoard {
 
     /// Tells the second pass all events that the first has seen, by a note (what the first knows, which the second takes in) and one load.
     fn meet<R: Wait>(&self, rt: &R, first: &mut CellReporterPass, second: &mut CellReporterPass)
-        requires { (first.old.board ≡ self.now) × (second.old.board ≡ self.now) }
-        ensures { CellMet first.old first.new second.old second.new }
+        requires { IsCellPassOf self.now first.old × IsCellPassOf self.now second.old }
+        ensures own { IsCellPassOf self.now first.new × IsCellPassOf self.now second.new }
+        ensures met { CellMet first.old first.new second.old second.new }
     {
         let note = self.cell.split_pass::<Note>(&mut first.seat);
         self.cell.join_pass::<Note>(&mut second.seat, note);

@@ -20,8 +20,9 @@ mod theorems;
 
 pub use cell_board::CellBoard;
 pub use passes::{CellReaderPass, CellReporterPass};
-pub use theorems::each_cell_step_is_logged;
+pub use theorems::{each_cell_step_is_logged, the_rule_of_cells_is_legal};
 pub use ucl_live_board::{
     LiveBoard, MAX_REPORTERS, Strangers, TooManyReporters, View, holders_did_all,
-    last_steps_see_all, numbers_are_apart, settle, steps_come_last, whole_is_alone,
+    last_steps_see_all, numbers_are_apart, passes_see_prefixes, settle, steps_come_last,
+    whole_is_alone, words_count_reporters,
 };

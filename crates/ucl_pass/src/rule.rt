@@ -16,15 +16,15 @@ use ucl_live_board::{BoardRule, View};
 
 /// The invariant of the cell: there is one log of all steps, each as the rules allow; its history, the accepted events, gives the twelve
 /// match words, and its enlistments are as many as the thirteenth word says.
-pub struct OneHistory;
+pub struct CellRule;
 
-impl Protocol<[u64; 13], View> for OneHistory {
+impl Protocol<[u64; 13], View> for CellRule {
     ghost holds = { CellInvariant };
 
     ghost first = { first_pass };
 }
 
-impl BoardRule for OneHistory {
+impl BoardRule for CellRule {
     ghost words_after = { words_after };
 
     ghost may = { IsLegalStep };
@@ -83,7 +83,7 @@ impl Join<View> for Note {
 }
 
 /// The cell of words that threads share: the words of matches 1 to 12, then the number of enlisted reporters.
-pub type Cell = RuledSeqCell<[u64; 13], View, OneHistory, 13>;
+pub type Cell = RuledSeqCell<[u64; 13], View, CellRule, 13>;
 
 /// A seat at the cell: the identity of a pass, by which it takes steps.
 pub type Seat = Pass<[u64; 13], View>;

@@ -1,6 +1,7 @@
-//! A theorem on every cell board, a board that threads share in one cell. The function does nothing: it is there for its contract. A step
+//! Theorems on every cell board, a board that threads share in one cell. The functions do nothing: they are there for their contracts. A step
 //! is one load or one compare and exchange of the cell; the log has all steps. A pass is a thread's permission on the board.
 
+ghost use Rattle.ucl_board.specs.Log.{IsLegalRule, IsLegalStep};
 ghost use Rattle.ucl_pass.specs.CellSteps.{LogsOneStep};
 
 use crate::rule::{Adds, Asking, Enlists, Looks, Reads};
@@ -14,4 +15,9 @@ pub fn each_cell_step_is_logged<K: Asking>()
     ensures reads { LogsOneStep ⟦<Reads as Outcome<[u64; 13], View>>⟧.then }
     ensures adds { LogsOneStep ⟦<Adds<K> as Outcome<[u64; 13], View>>⟧.then }
     ensures enlists { LogsOneStep ⟦<Enlists as Outcome<[u64; 13], View>>⟧.then }
+{}
+
+/// Shows that the rule of the log of a cell board is legal, so that the theorems on every shared board hold of it.
+pub fn the_rule_of_cells_is_legal()
+    ensures { IsLegalRule IsLegalStep }
 {}

@@ -1,5 +1,5 @@
 -- The answers to single rows of an input, as text or as a line of JSON; `row` is the number of the row. A board is given as twelve words,
--- its matches packed into 64 bits each. A header names the group, the tie-break order (profile) and the edition, which counts fresh boards.
+-- its matches packed into 64 bits each. A header names the group, the tie-break order (profile) and the edition, which rises with mends.
 use Rattle.std.specs.Prelude.{ℕ, List, ◌++◌, codes, decimal, string_bytes, Result}
 use Rattle.ucl_word.specs.declared.event.Accepted.{Accepted}
 use Rattle.ucl_word.specs.declared.refusal.Refusal.{Refusal}
@@ -15,13 +15,14 @@ use Rattle.ucl_command.specs.declared.options.Format.TheVariants.{Text, Json}
 use Rattle.ucl_rows.specs.BadRows.{field_name}
 use Rattle.ucl_rows.specs.Lines.{line_of_reply, word_lines}
 use Rattle.ucl_rows.specs.declared.answer.Answer.{Answer}
-use Rattle.ucl_rows.specs.declared.answer.Answer.TheVariants.{Short, Long}
+use Rattle.ucl_rows.specs.declared.answer.Answer.TheVariants.{Short, Long, Words}
 use Rattle.ucl_rows.specs.declared.bad_row.BadField.{BadField}
 
 -- the bytes of an answer to a row
 abbrev pub bytes_of : Answer → List ℕ
 bytes_of (Short line) = line.bytes
 bytes_of (Long text) = string_bytes text
+bytes_of (Words lines) = lines.items
 
 -- the answer to an event, if `before` events were accepted before it: `reply` is what the board replied, and `board` the board after it
 abbrev pub reply_answer : Format → BoardHeader → ℕ → List NamedClub → NightEvent → ℕ → Result Accepted Refusal → List ℕ → List ℕ

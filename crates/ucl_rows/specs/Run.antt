@@ -47,11 +47,6 @@ is_read_failed _ = false
 abbrev pub WritesAll : {U : Type 0} → (List ℕ → List ℕ → Type 0) → Option (List ℕ) → Option (List ℕ) → Option (List ℕ) → Result U RunFault → Type 0
 WritesAll CallsFor known old new result = OnOk result (TextHas CallsFor known (Appends old new))
 
--- a run that failed for its output wrote the first bytes of the text, as many as the fault has
-abbrev pub WritesFirst : {U : Type 0} → (List ℕ → List ℕ → Type 0) → Option (List ℕ) → Option (List ℕ) → Option (List ℕ) → Result U RunFault → Type 0
-WritesFirst CallsFor known old new result =
-    IfErr result (λ f. IfWriteFailed f (λ written. TextHas CallsFor known (WroteFirst old new written)))
-
 -- a run that failed for anything but its output wrote nothing
 abbrev pub WritesNothing : {U A : Type 0} → A → A → Result U RunFault → Type 0
 WritesNothing old new result = IfErr result (λ f. UnlessWriteFailed f (new ≡ old))
@@ -59,11 +54,6 @@ WritesNothing old new result = IfErr result (λ f. UnlessWriteFailed f (new ≡ 
 -- a run fails for its output only if that has failed
 abbrev pub BlamesOutput : {U : Type 0} → Bool → Result U RunFault → Type 0
 BlamesOutput failed result = IfErr result (λ f. IfWriteFailed f (λ written. failed ≡ true))
-
--- a run that failed for its input has a fault that the input has: by `Means`, the input was read with that fault
-abbrev pub BlamesInput : {V E U : Type 0} → (List ℕ → Result E InputFault → Type 0) → (V → E) → Option (List ℕ) → Option (List ℕ) → Bool
-    → Result U RunFault → Type 0
-BlamesInput Means view old new failed result = IfErr result (λ f. IfInput f (λ e. Reads Means view old new failed (Err e)))
 
 -- a run does not report lack of memory as a fault of the input
 abbrev pub DistinguishesMemory : {U : Type 0} → Result U RunFault → Type 0

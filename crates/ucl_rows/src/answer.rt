@@ -1,23 +1,27 @@
 //! The answers to single rows of an input, as text or as a line of JSON; `row` is the number of the row. A board is the twelve matches of a
-//! group, a roster its four clubs; a header names the group, the tie-break order (profile), and the edition, which counts fresh boards.
+//! group, a roster its four clubs; a header names the group, the tie-break order (profile), and the edition, which rises with mends.
 //! A bad row is neither an event nor a request. An event is refused as stale if its match has another event number than it expects.
 
-ghost use Rattle.std.specs.Prelude.{◌≡◌, ◌<◌, ◌≤◌, ◌-◌, ◌^◌, ◌++◌, [], IfErr, IfOk};
+ghost use Rattle.std.specs.Prelude.{◌≡◌, ◌<◌, ◌≤◌, ◌-◌, ◌^◌, ◌++◌, [], IfOk, string_bytes};
 ghost use Rattle.arrayvec.specs.ArrayString.{array_string_len};
 ghost use Rattle.ucl_word.specs.Names.{refusal_text};
 ghost use Rattle.ucl_screen.specs.Screen.{IsGroup};
 ghost use Rattle.ucl_rows.specs.Lines.{line_of_reply};
 ghost use Rattle.ucl_rows.specs.BadRows.{shown_text};
-ghost use Rattle.ucl_rows.specs.Answers.{bytes_of, bad_answer, matches_answer, screen_answer};
+ghost use Rattle.ucl_rows.specs.Answers.{bytes_of, bad_answer, matches_answer, reply_answer, screen_answer, words_answer};
 
 use crate::bad_row::{BadField, shown_text};
+use crate::words::{WordLines, word_lines};
 use arrayvec::ArrayString;
 use itoa::Buffer;
 use std::alloc::{AllocError, Global};
 use ucl_board::Board;
 use ucl_command::Format;
 use ucl_io::Text;
-use ucl_json::{BoardHeader, bad_row_json, edition_screen_json, matches_json};
+use ucl_json::{
+    BoardHeader, EventReply, bad_row_json, edition_screen_json, matches_json, reply_json,
+    words_json,
+};
 use ucl_order::Roster;
 use ucl_screen::{matches, screen};
 use ucl_word::{Accepted, OutOfMemory, Refusal};
@@ -32,6 +36,8 @@ pub enum Answer {
     Short(ReplyLine),
     /// Any text.
     Long(String),
+    /// The twelve lines of the words of a board.
+    Words(WordLines),
 }
 
 impl Text for Answer {
@@ -44,7 +50,11 @@ impl Text for Answer {
 
     /// Returns the bytes of the answer.
     fn text(&self) -> &[u8] {
-        self.as_str().as_bytes()
+        match self {
+            Answer::Short(line) => line.as_str().as_bytes(),
+            Answer::Long(text) => text.as_str().as_bytes(),
+            Answer::Words(lines) => lines.as_slice(),
+        }
     }
 }
 
@@ -54,30 +64,6 @@ impl Answer {
         ensures { bytes_of result ≡ [] }
     {
         Answer::Short(ReplyLine::new())
-    }
-
-    /// Returns the answer as text.
-    fn as_str(&self) -> &str
-        ensures { result.now ≡ bytes_of self.now }
-    {
-        match self {
-            Answer::Short(line) => line.as_str(),
-            Answer::Long(text) => text.as_str(),
-        }
-    }
-
-    /// Returns an answer with the text of this one and then that of `other`.
-    ///
-    /// # Errors
-    ///
-    /// If there is no memory.
-    pub fn then(&self, alloc: Global, other: &Answer) -> Result<Answer, AllocError>
-        ensures { IfOk result (λ both. bytes_of both ≡ bytes_of self.now ++ bytes_of other.now) }
-    {
-        let mut both = String::new(alloc);
-        both.push_str(self.as_str())?;
-        both.push_str(other.as_str())?;
-        Ok(Answer::Long(both))
     }
 }
 
@@ -123,6 +109,59 @@ pub fn reply_line(row: u64, game: u8, before: u16, reply: Result<Accepted, Refus
     }
 }
 
+/// Returns the answer that is this line and then a text, which may be empty. Only a text that is not empty needs memory.
+///
+/// # Errors
+///
+/// If there is no memory.
+pub fn line_answer(alloc: Global, line: ReplyLine, more: &str) -> Result<Answer, AllocError>
+    ensures { IfOk result (λ answer. bytes_of answer ≡ line.bytes ++ more.now) }
+{
+    if more.is_empty() {
+        return Ok(Answer::Short(line));
+    }
+    let mut text = String::new(alloc);
+    text.push_str(line.as_str())?;
+    text.push_str(more)?;
+    Ok(Answer::Long(text))
+}
+
+/// Returns the answer to an event, before which `before` events were accepted: its reply, and then `screen`, which may be empty.
+///
+/// # Errors
+///
+/// If there is no memory. As text, an answer without a screen needs none.
+pub fn reply_answer(
+    alloc: Global,
+    format: Format,
+    before: u16,
+    reply: &EventReply<'_>,
+    screen: &str,
+) -> Result<Answer, AllocError>
+    requires before { before < 2 ^ 16 - 1 }
+    requires header { IsGroup reply.now.header.group }
+    ensures { IfOk result (λ answer. bytes_of answer
+        ≡ reply_answer format reply.now.header reply.now.row reply.now.roster.now reply.now.event.now before reply.now.outcome reply.now.board.now
+        ++ screen.now) }
+{
+    match format {
+        Format::Text => {
+            let line = reply_line(
+                reply.row,
+                reply.event.call.game.get(),
+                before,
+                reply.outcome,
+            );
+            line_answer(alloc, line, screen)
+        }
+        Format::Json => {
+            let mut text = reply_json(alloc, reply)?;
+            text.push_str(screen)?;
+            Ok(Answer::Long(text))
+        }
+    }
+}
+
 /// Returns the answer to a bad row: as text a line with its number, in JSON also its first bad field and the start of its text.
 ///
 /// # Errors
@@ -135,9 +174,8 @@ pub fn bad_answer(
     field: BadField,
     text: &[u8],
 ) -> Result<Answer, AllocError>
-    ensures text { IfOk result
+    ensures { IfOk result
         (λ answer. bytes_of answer ≡ bad_answer format row field (shown_text text.now)) }
-    ensures memory { IfErr result (λ _. format ≡ Format.Json) }
 {
     match format {
         Format::Text => {
@@ -150,28 +188,27 @@ pub fn bad_answer(
     }
 }
 
-/// Returns the answer that is the screen of a board: the table of the group as it stands.
+/// Returns the text that is the screen of a board, the table of the group as it stands, as text or as a line of JSON.
 ///
 /// # Errors
 ///
 /// If there is no memory.
-pub fn screen_answer(
+pub fn screen_text(
     alloc: Global,
     format: Format,
     header: BoardHeader,
     row: u64,
     board: &Board,
     roster: &Roster,
-) -> Result<Answer, OutOfMemory>
+) -> Result<String, OutOfMemory>
     requires { IsGroup header.group }
-    ensures { IfOk result (λ answer.
-        bytes_of answer ≡ screen_answer format header row roster.now board.now) }
+    ensures { IfOk result (λ text.
+        string_bytes text ≡ screen_answer format header row roster.now board.now) }
 {
-    let text = match format {
-        Format::Text => screen(alloc, board, roster, header.group, header.profile)?,
-        Format::Json => edition_screen_json(alloc, row, board, roster, header)?,
-    };
-    Ok(Answer::Long(text))
+    match format {
+        Format::Text => screen(alloc, board, roster, header.group, header.profile),
+        Format::Json => Ok(edition_screen_json(alloc, row, board, roster, header)?),
+    }
 }
 
 /// Returns the answer that lists the twelve matches of a board as they stand.
@@ -194,4 +231,23 @@ pub fn matches_answer(
         Format::Json => matches_json(alloc, row, board, roster)?,
     };
     Ok(Answer::Long(text))
+}
+
+/// Returns the answer that lists the twelve words of a board.
+///
+/// # Errors
+///
+/// If there is no memory for an answer in JSON.
+pub fn words_answer(
+    alloc: Global,
+    format: Format,
+    row: u64,
+    board: &Board,
+) -> Result<Answer, OutOfMemory>
+    ensures { IfOk result (λ answer. bytes_of answer ≡ words_answer format row board.now) }
+{
+    match format {
+        Format::Text => Ok(Answer::Words(word_lines(board))),
+        Format::Json => Ok(Answer::Long(words_json(alloc, row, board)?)),
+    }
 }

@@ -13,7 +13,10 @@ mod plain;
 mod row;
 mod words;
 
-pub use answer::{Answer, ReplyLine, bad_answer, matches_answer, reply_line, screen_answer};
+pub use answer::{
+    Answer, ReplyLine, bad_answer, line_answer, matches_answer, reply_answer, reply_line,
+    screen_text, words_answer,
+};
 pub use bad_row::{BadField, bad_field};
 pub use ending::{ended, exit_without_command, print_fault, print_refusal};
 pub use fault::{RunFault, of_driver, status_of};

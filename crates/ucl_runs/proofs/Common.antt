@@ -21,7 +21,7 @@ pub use Rattle.ucl_io.specs.Output.{StoppedShort}
 pub use Rattle.ucl_live_board.specs.Passes.{Continues, PassView, SharedReading, entries_by}
 pub use Rattle.ucl_order.specs.declared.profile.Profile.{Profile}
 pub use Rattle.ucl_runs.specs.Feed.{IsFed}
-pub use Rattle.ucl_runs.specs.Nights.{ComesFirst, EachMatchHasOneReporter, HasEntered, HasShown, IsEnteredAt, IsInterleaving, IsOnDuty, IsRefusedAt}
+pub use Rattle.ucl_runs.specs.Nights.{ComesFirst, EachMatchHasOneReporter, HasShown, IsEnteredAt, IsInterleaving, IsOnDuty, IsRefusedAt}
 pub use Rattle.ucl_runs.specs.Nights.{HasLinearizationPoint, attempt_by, last_shown, number_of_two}
 pub use Rattle.ucl_rows.specs.Run.{IsStopped, TextHas}
 pub use Rattle.ucl_runs.specs.Show.{IsShown, styled}

@@ -1,19 +1,21 @@
--- The points of rows in a history and in one that goes on from it; what a reporter's worker has entered; two reporters' rows in one history.
+-- The points of rows in one history: each row of two reporters, who report theirs in turn, each on a pass, a thread's permission, of its own.
 use Rattle.ucl_runs.proofs.Common.{Attempt, Bool, ComesFirst, Entry, EventCall, IsEnteredAt, IsPrefix, List, Some, HasLinearizationPoint}
-use Rattle.ucl_runs.proofs.Common.{[], ap, arith, at_below, begins_length, cases_lt, cond, entries_by, eq-eqb, false, false≢true, inl, inr}
+use Rattle.ucl_runs.proofs.Common.{[], ap, arith, at_below, begins_length, cases_eq, cases_lt, cond, entries_by, eq-eqb, false, false≢true, inl, inr}
 use Rattle.ucl_runs.proofs.Common.{is_ok, length, length-append, none-some, refl, same_Some, sequential_reply, slice_get, suc, sym, take}
-use Rattle.ucl_runs.proofs.Common.{take_beginning, true, zero, ℕ, ◌++◌, ◌<◌, ◌==◌, ◌∙◌, ◌∷◌, ◌≡◌, ◌≢◌, ◌≤◌, Accepted, Continues, HasEntered}
-use Rattle.ucl_runs.proofs.Common.{IsRefusedAt, NightEvent, PassView, Refusal, at_within, attempted, begins_through, entry_of, followed_by}
-use Rattle.ucl_runs.proofs.Common.{if◌then◌else◌, ne_eqb, take-length, ◌⊎◌, All, All-get_or, IsLegal, IsInterleaving, IsOnDuty, None}
-use Rattle.ucl_runs.proofs.Common.{Option, attempt_by, begins_take, get_or, number_of_two, subst, take_more, ◌+◌}
+use Rattle.ucl_runs.proofs.Common.{take_beginning, true, zero, ℕ, ◌++◌, ◌<◌, ◌==◌, ◌∙◌, ◌∷◌, ◌≡◌, ◌≢◌, ◌≤◌, Accepted, Continues}
+use Rattle.ucl_runs.proofs.Common.{NightEvent, PassView, Refusal, at_within, attempted, begins_through, entry_of, followed_by}
+use Rattle.ucl_runs.proofs.Common.{if◌then◌else◌, ne_eqb, take-length, ◌⊎◌, All, All-get_or, IsLegal, IsInterleaving, IsOnDuty}
+use Rattle.ucl_runs.proofs.Common.{attempt_by, begins_take, number_of_two, subst}
 use Rattle.std.proofs.lemmas.List.{nil_from_length, same_from_push}
 use Rattle.ucl_board.proofs.HistoryTheorems.{at_beginning}
 use Rattle.ucl_live_board.proofs.Lists.{by_more, by_own, goes_on, unchanged}
-use Rattle.std.proofs.Common.{Result, Ok, Err, IfOk, IfErr, le_refl}
+use Rattle.std.proofs.Common.{Result, Ok, Err, le_refl}
 use Rattle.std.proofs.Math.Seq.{take-append_seam}
-use Rattle.ucl_word.proofs.Sequences.{at_longer, at_end, at_either}
-use Rattle.ucl_live_board.specs.Passes.{IsSound, AcceptedReport, RefusedReport}
-use Rattle.ucl_runs.specs.Nights.{IsOwnRow, IsOfRow}
+use Rattle.ucl_word.proofs.Sequences.{at_end, at_either}
+use Rattle.ucl_live_board.specs.Passes.{IsSound}
+use Rattle.ucl_live_board.specs.LiveRecords.{LiveReported}
+use Rattle.ucl_live_board.specs.declared.live_board.LiveBoard as boards
+use Rattle.ucl_runs.specs.Nights.{HasEnteredAll, HasReported, IsFresh, IsFreshOn, IsOfRow, IsOneOfTwo, calls_of}
 use Rattle.std.proofs.lemmas.Bool.{cases_order}
 use Rattle.std.proofs.lemmas.Option.{get_or_from_slice_get}
 use Rattle.ucl_board.proofs.HistoryTheorems.{legal_take}
@@ -41,9 +43,6 @@ module _ (s h : List Entry) (on : IsPrefix s h) where
   pub entered_before : {a : Attempt} {p : ℕ} → HasLinearizationPoint s a p → IsEnteredAt h a p → IsEnteredAt s a p
   entered_before {a} {p} (inl r) is = absurd (false≢true (sym (reply_on a.call p r.within ∙ r.reply) ∙ is.reply))
   entered_before (inr e) is = e
-
-  pub first_on : {a : Attempt} {p q : ℕ} → HasLinearizationPoint s a p → ComesFirst s a p q → ComesFirst h a p q
-  first_on place first = record { never_falls = first.never_falls; rises = λ is. first.rises (entered_before place is) }
 
 pub entered_within : {h : List Entry} {a : Attempt} {p : ℕ} → IsEnteredAt h a p → p < length h
 entered_within {h} {p = p} is = at_below h p _ is.entry
@@ -81,167 +80,6 @@ stands_before n s h on same {p} {e} at is = elim (cases_lt p (length s)) [
       absurd (none_by n on.0 t.0 e none t.1 is)
 ]
 
--- ---- what a reporter's worker has entered: no row yet, and one row more
-
--- a pass that has no entry of its own has entered no row
-pub entered_none : (k : PassView) (reporter : ℕ) → IsSound k → k.mine ≡ [] → HasEntered k k reporter []
-entered_none k reporter sound none = record {
-  always = unchanged k k sound refl;
-  shown = refl;
-  point = λ i. 0;
-  each = λ i row at. absurd (none-some row at);
-  in_order = λ i j row next at. absurd (none-some row at);
-  entries = λ p e at is. absurd (none_by k.number k.seen p e (sym sound.own ∙ none) at is);
-}
-
--- a row of the other reporter
-pub next_skipped : {k m : PassView} {reporter : ℕ} {rows : List NightEvent} (row : NightEvent) → HasEntered k m reporter rows
-    → row.reporter ≢ reporter
-    → HasEntered k m reporter (rows ++ row ∷ [])
-next_skipped {reporter = reporter} {rows} row e other =
-    let theirs_not : (x : NightEvent) → row ≡ x → x.reporter ≡ reporter → ⊥ = (λ x same is. other (rw same is)) in
-    record {
-      always = e.always;
-      shown = e.shown;
-      point = e.point;
-      each = λ i x at is. elim (at_either rows row i x at) [ inl old ↦ e.each i x old.1 is | inr new ↦ absurd (theirs_not x new.1 is) ];
-      in_order = λ i j x y at_x at_y below is_x is_y. elim (at_either rows row i x at_x) [
-        | inl old ↦ elim (at_either rows row j y at_y) [
-          | inl next ↦ e.in_order i j x y old.1 next.1 below is_x is_y
-          | inr new ↦ absurd (theirs_not y new.1 is_y)
-        ]
-        | inr new ↦ absurd (theirs_not x new.1 is_x)
-      ];
-      entries = λ p x at is. let o = e.entries p x at is in record {
-        index = o.index;
-        row = o.row;
-        here = at_longer rows (row ∷ []) o.index o.row o.here;
-        theirs = o.theirs;
-        point_is = o.point_is;
-        entered = o.entered;
-      };
-    }
-
--- one row more of a reporter, whose point q is past all that its pass m had seen
-module _ {k m : PassView} (z : PassView) {reporter : ℕ} {rows : List NightEvent} (row : NightEvent) {q : ℕ}
-    (e : HasEntered k m reporter rows)
-    (on : IsPrefix m.seen z.seen) (past : length m.seen ≤ q) (place : HasLinearizationPoint z.seen (attempted k.number row.call) q) where
-  abbrev points : ℕ → ℕ
-  points i = if i == length rows then q else e.point i
-
-  old_point : (i : ℕ) → i < length rows → points i ≡ e.point i
-  old_point i below = rw (ne_eqb i (length rows) (λ same. omega arith))
-
-  new_point : (i : ℕ) → i ≡ length rows → points i ≡ q
-  new_point i is = rw (eq-eqb i (length rows) is)
-
-  each_place : (i : ℕ) (x : NightEvent) → slice_get (rows ++ row ∷ []) i ≡ Some x → x.reporter ≡ reporter
-      → HasLinearizationPoint z.seen (attempted k.number x.call) (points i)
-  each_place i x at is = elim (at_either rows row i x at) [
-    | inl old ↦ rw (old_point i old.0) (place_on m.seen z.seen on (e.each i x old.1 is))
-    | inr new ↦ rw (new_point i new.0, ← new.1) place
-  ]
-
-  before_new : (i : ℕ) (x : NightEvent) → slice_get rows i ≡ Some x → x.reporter ≡ reporter
-      → ComesFirst z.seen (attempted k.number x.call) (e.point i) q
-  before_new i x at is =
-      let there = e.each i x at is in
-      let low = place_within there in
-      record {
-        never_falls = omega arith;
-        rises = λ entered.
-            (let below = entered_within (entered_before m.seen z.seen on there entered) in omega arith);
-      }
-
-  each_order : (i j : ℕ) (x y : NightEvent) → slice_get (rows ++ row ∷ []) i ≡ Some x → slice_get (rows ++ row ∷ []) j ≡ Some y → i < j
-      → x.reporter ≡ reporter → y.reporter ≡ reporter → ComesFirst z.seen (attempted k.number x.call) (points i) (points j)
-  each_order i j x y at_x at_y below is_x is_y =
-      let long = at_below (rows ++ row ∷ []) j y at_y in
-      let n = length-append rows (row ∷ []) in
-      let old = at_within rows (rows ++ row ∷ []) i x (row ∷ [], refl) (omega arith) at_x in
-      rw (old_point i (omega arith)) (elim (at_either rows row j y at_y) [
-        | inl next ↦ rw (old_point j next.0) (first_on m.seen z.seen on (e.each i x old is_x)
-            (e.in_order i j x y old next.1 below is_x is_y))
-        | inr last ↦ rw (new_point j last.0) (before_new i x old is_x)
-      ])
-
-  -- each entry of the reporter stands in what m had seen, or is the new row's
-  abbrev OldOrNew : ℕ → Type 0
-  OldOrNew p = (p < length m.seen) ⊎ ((p ≡ q) × IsEnteredAt z.seen (attempted k.number row.call) q)
-
-  each_entry : row.reporter ≡ reporter → (p : ℕ) (x : Entry) → slice_get z.seen p ≡ Some x → x.reporter ≡ k.number → OldOrNew p
-      → IsOwnRow k.number reporter (rows ++ row ∷ []) points z.seen p
-  each_entry theirs p x at is (inl below) =
-      let o = e.entries p x (at_within m.seen z.seen p x on below at) is in record {
-        index = o.index;
-        row = o.row;
-        here = at_longer rows (row ∷ []) o.index o.row o.here;
-        theirs = o.theirs;
-        point_is = old_point o.index (at_below rows o.index o.row o.here) ∙ o.point_is;
-        entered = entered_on m.seen z.seen on o.entered;
-      }
-  each_entry theirs p x at is (inr new) = record {
-    index = length rows;
-    row = row;
-    here = at_end rows row;
-    theirs = theirs;
-    point_is = new_point (length rows) refl ∙ sym new.0;
-    entered = rw new.0 new.1;
-  }
-
-  next_row : Continues k z → z.shown ≡ k.shown → row.reporter ≡ reporter
-      → ((p : ℕ) (x : Entry) → slice_get z.seen p ≡ Some x → x.reporter ≡ k.number → OldOrNew p)
-      → HasEntered k z reporter (rows ++ row ∷ [])
-  next_row always shown theirs either = record {
-    always = always;
-    shown = shown;
-    point = points;
-    each = each_place;
-    in_order = each_order;
-    entries = λ p x at is. each_entry theirs p x at is (either p x at is);
-  }
-
-module _ {k m z : PassView} {reporter : ℕ} {rows : List NightEvent} (row : NightEvent) (e : HasEntered k m reporter rows)
-    (theirs : row.reporter ≡ reporter) (always : Continues m z) where
-  -- a row of the reporter that was accepted: its point is that of its entry
-  row_accepted : {reply : Accepted} → AcceptedReport m row.call reply z → HasEntered k z reporter (rows ++ row ∷ [])
-  row_accepted a =
-      let q : ℕ = length a.before in
-      let new : Entry = entry_of m.number row.call in
-      let on : IsPrefix m.seen z.seen = begins_through m.seen a.before z.seen a.since (new ∷ [], sym a.last) in
-      let front : take q z.seen ≡ a.before = ap (take q) a.last ∙ take-append_seam a.before (new ∷ []) in
-      let entered : IsEnteredAt z.seen (attempted k.number row.call) q = record {
-        entry = rw (a.last, ← e.always.number) (at_end a.before new);
-        reply = rw (front, a.answer);
-      } in
-      let all : followed_by (entries_by m.number a.before) new ≡ followed_by m.mine new =
-      sym (by_own m.number a.before new refl) ∙ (rw (← a.last, ← always.number) (sym always.sound.own) ∙ a.mine) in
-      let none_more = (same_from_push (entries_by m.number a.before) m.mine new new all).0 ∙ e.always.sound.own in
-      next_row z row e on (begins_length m.seen a.before a.since) (inr entered) (goes_on k m z e.always always) (a.shown ∙ e.shown) theirs
-      (λ p x at is. elim (at_either a.before new p x (rw a.last at at)) [
-        | inl old ↦ inl (stands_before m.number m.seen a.before a.since none_more old.1 (is ∙ sym e.always.number))
-        | inr last ↦ inr (last.0, entered)
-      ])
-
-  -- a row of the reporter that was refused: its point is the end of what was seen
-  row_refused : {refusal : Refusal} → RefusedReport m row.call refusal z → HasEntered k z reporter (rows ++ row ∷ [])
-  row_refused r =
-      let on = always.on.seen in
-      let refused : IsRefusedAt z.seen (attempted k.number row.call) (length z.seen) =
-      record { within = le_refl _; reply = rw (take-length z.seen, r.answer) } in
-      let none_more : entries_by m.number z.seen ≡ entries_by m.number m.seen =
-      rw (← always.number) (sym always.sound.own) ∙ (r.mine ∙ e.always.sound.own) in
-      next_row z row e on (begins_length m.seen z.seen on) (inl refused) (goes_on k m z e.always always) (r.shown ∙ e.shown) theirs
-      (λ p x at is. inl (stands_before m.number m.seen z.seen on none_more at (is ∙ sym e.always.number)))
-
-  -- a row of the reporter, whatever the answer
-  pub next_entered : (answer : Result Accepted Refusal) → IfOk answer (λ reply. AcceptedReport m row.call reply z)
-      → IfErr answer (λ refusal. RefusedReport m row.call refusal z) → HasEntered k z reporter (rows ++ row ∷ [])
-  next_entered (Ok reply) accepted refused = row_accepted accepted
-  next_entered (Err refusal) accepted refused = row_refused refused
-
--- ---- two reporters' rows in one history that has the entries of both and no other: a merge
-
 -- all rows of a script are of reporters 1 and 2
 abbrev pub AllOnDuty : List NightEvent → Type 0
 AllOnDuty rows = (i : ℕ) (row : NightEvent) → slice_get rows i ≡ Some row → IsOnDuty row
@@ -249,86 +87,315 @@ AllOnDuty rows = (i : ℕ) (row : NightEvent) → slice_get rows i ≡ Some row 
 pub each_on_duty : (rows : List NightEvent) → All IsOnDuty rows → AllOnDuty rows
 each_on_duty rows all i row at = subst IsOnDuty (get_or_from_slice_get rows i row row at) (All-get_or IsOnDuty rows i row (at_below rows i row at) all)
 
--- a reporter's rows in a history h that goes on from its pass m: its numbers there, and their points, are those of its pass
-module _ {k m : PassView} {rows : List NightEvent} {h : List Entry} {who : ℕ} (e : HasEntered k m who rows) (on : IsPrefix m.seen h)
-    (number point_at : ℕ → ℕ) (number_is : (r : ℕ) → r ≡ who → number r ≡ k.number)
-    (points_are : (i : ℕ) (row : NightEvent) → slice_get rows i ≡ Some row → row.reporter ≡ who → point_at i ≡ e.point i) where
-  their_place : (i : ℕ) (row : NightEvent) → slice_get rows i ≡ Some row → row.reporter ≡ who
-      → HasLinearizationPoint h (attempt_by number row) (point_at i)
-  their_place i row at is = rw (number_is row.reporter is, points_are i row at is) (place_on m.seen h on (e.each i row at is))
+-- ---- one report
 
-  their_order : (i j : ℕ) (row next : NightEvent) → slice_get rows i ≡ Some row → slice_get rows j ≡ Some next → i < j
-      → row.reporter ≡ who → next.reporter ≡ who → ComesFirst h (attempt_by number row) (point_at i) (point_at j)
-  their_order i j row next at_i at_j below is is_next =
-      rw (number_is row.reporter is, points_are i row at_i is, points_are j next at_j is_next)
-      (first_on m.seen h on (e.each i row at_i is) (e.in_order i j row next at_i at_j below is is_next))
+pub report_shown : (old new : PassView) (call : EventCall) (reply : Result Accepted Refusal) → LiveReported old call reply new → new.shown ≡ old.shown
+report_shown old new call (Ok accepted) says = says.accepted.shown
+report_shown old new call (Err refusal) says = says.refused.shown
 
-  their_row : entries_by m.number h ≡ m.mine → (p : ℕ) (x : Entry) → slice_get h p ≡ Some x → x.reporter ≡ m.number
-      → (i : ℕ) × IsOfRow number rows point_at h p i
-  their_row all p x at is =
-      let below = stands_before m.number m.seen h on (all ∙ e.always.sound.own) at is in
-      let o = e.entries p x (at_within m.seen h p x on below at) (is ∙ e.always.number) in (
-        o.index,
-        record {
-          row = o.row;
-          here = o.here;
-          point_is = points_are o.index o.row o.here o.theirs ∙ o.point_is;
-          entered = rw (number_is o.row.reporter o.theirs) (entered_on m.seen h on o.entered);
-        },
-      )
+-- the point of a report, in what its pass has then seen: past all that it had seen; its pass has no other new entry
+record HasPoint (old new : PassView) (call : EventCall) : Type 0 where
+  point : ℕ
+  place : HasLinearizationPoint new.seen (attempted old.number call) point
+  low : length old.seen ≤ point
+  alone : (p : ℕ) (e : Entry) → slice_get new.seen p ≡ Some e → e.reporter ≡ old.number → length old.seen ≤ p
+      → (p ≡ point) × IsEnteredAt new.seen (attempted old.number call) point
 
--- the passes k and l of two reporters, which are m and n after they have entered their rows, and a history that goes on from both
-module _ {k l m n : PassView} {rows : List NightEvent} {h : List Entry} (first : HasEntered k m 1 rows) (second : HasEntered l n 2 rows)
-    (apart : m.number ≢ n.number) (duty : AllOnDuty rows) (legal : IsLegal h) (on_first : IsPrefix m.seen h) (on_second : IsPrefix n.seen h)
-    (both : IsOfBoth m n h) where
+point_of : (old new : PassView) (call : EventCall) (reply : Result Accepted Refusal) → IsSound old → LiveReported old call reply new → HasPoint old new call
+point_of old new call (Ok accepted) sound says =
+    let a = says.accepted in
+    let entry : Entry = entry_of old.number call in
+    let entered : IsEnteredAt new.seen (attempted old.number call) (length a.before) = record {
+      entry = rw a.last (at_end a.before entry);
+      reply = rw (ap (take (length a.before)) a.last ∙ take-append_seam a.before (entry ∷ []), a.answer);
+    } in
+    let all : followed_by (entries_by old.number a.before) entry ≡ followed_by old.mine entry =
+    sym (by_own old.number a.before entry refl) ∙ (rw (← a.last, ← says.always.number) (sym says.always.sound.own) ∙ a.mine) in
+    let none_more = (same_from_push (entries_by old.number a.before) old.mine entry entry all).0 ∙ sound.own in
+    record {
+      point = length a.before;
+      place = inr entered;
+      low = begins_length old.seen a.before a.since;
+      alone = λ p e at is past. elim (at_either a.before entry p e (rw a.last at at)) [
+        | inl before ↦ (let below = stands_before old.number old.seen a.before a.since none_more before.1 is in absurd (omega arith))
+        | inr last ↦ (last.0, entered)
+      ];
+    }
+point_of old new call (Err refusal) sound says =
+    let r = says.refused in
+    let on = says.always.on.seen in
+    let none_more : entries_by old.number new.seen ≡ entries_by old.number old.seen =
+    rw (← says.always.number) (sym says.always.sound.own) ∙ (r.mine ∙ sound.own) in
+    record {
+      point = length new.seen;
+      place = inl (record { within = le_refl _; reply = rw (take-length new.seen, r.answer) });
+      low = begins_length old.seen new.seen on;
+      alone = λ p e at is past. (let below = stands_before old.number old.seen new.seen on none_more at is in absurd (omega arith));
+    }
+
+-- ---- reports in turn, of the rows of each reporter
+
+pub own_calls : (r : ℕ) (row : NightEvent) (rows : List NightEvent) → row.reporter ≡ r → calls_of r (row ∷ rows) ≡ row.call ∷ calls_of r rows
+own_calls r row rows is = rw (eq-eqb row.reporter r is) refl
+
+pub other_calls : (r : ℕ) (row : NightEvent) (rows : List NightEvent) → row.reporter ≢ r → calls_of r (row ∷ rows) ≡ calls_of r rows
+other_calls r row rows other = rw (ne_eqb row.reporter r other) refl
+
+-- the one of two for reporter 1, and the other one for reporter 2
+abbrev pub of_two : {A : Type 0} → A → A → ℕ → A
+of_two one two reporter = if reporter == 1 then one else two
+
+-- another value for one reporter
+abbrev changed : {A : Type 0} → (ℕ → A) → ℕ → A → ℕ → A
+changed f who new reporter = if reporter == who then new else f reporter
+
+abbrev point_more : ℕ → (ℕ → ℕ) → ℕ → ℕ
+point_more q points zero = q
+point_more q points (suc i) = points i
+
+module _ {B R P : Type 0} (live : boards.Ghosts B R P) where
+  pub reported_on : (calls : List EventCall) (old new : P) → HasReported live calls old new → IsSound (live.reporter old)
+      → Continues (live.reporter old) (live.reporter new) × ((live.reporter new).shown ≡ (live.reporter old).shown)
+  reported_on [] old new same sound = (unchanged _ _ sound (ap live.reporter same), ap (λ (pass : P). (live.reporter pass).shown) same)
+  reported_on (call ∷ calls) old new reported sound =
+      let says = reported.1.says in
+      let rest = reported_on calls reported.0 new reported.2 says.always.sound in
+      (goes_on _ _ _ says.always rest.0, rest.1 ∙ report_shown _ _ call reported.1.reply says)
+
+  -- a history h in which all that the passes `new` of both reporters have seen is a beginning, with no more entries under their numbers
+  module _ (h : List Entry) (number : ℕ → ℕ) (new : ℕ → P)
+      (on : (r : ℕ) → IsOneOfTwo r → IsPrefix (live.reporter (new r)).seen h)
+      (within : (r : ℕ) → IsOneOfTwo r → (p : ℕ) (e : Entry) → slice_get h p ≡ Some e → e.reporter ≡ number r → p < length (live.reporter (new r)).seen) where
+    abbrev seen_of : P → List Entry
+    seen_of pass = (live.reporter pass).seen
+
+    -- the passes have still to report these rows
+    record Reports (rows : List NightEvent) (old : ℕ → P) : Type 0 where
+      reported : (r : ℕ) → IsOneOfTwo r → HasReported live (calls_of r rows) (old r) (new r)
+      sound : (r : ℕ) → IsOneOfTwo r → IsSound (live.reporter (old r))
+      number_is : (r : ℕ) → IsOneOfTwo r → (live.reporter (old r)).number ≡ number r
+
+    -- the points of these rows in the history: each past what its reporter's pass had seen, which has no other entry there
+    record ArePlaced (rows : List NightEvent) (old : ℕ → P) : Type 0 where
+      point : ℕ → ℕ
+      each : (i : ℕ) (row : NightEvent) → slice_get rows i ≡ Some row → HasLinearizationPoint h (attempt_by number row) (point i)
+      low : (i : ℕ) (row : NightEvent) → slice_get rows i ≡ Some row → length (seen_of (old row.reporter)) ≤ point i
+      in_order : (i j : ℕ) (row next : NightEvent) → slice_get rows i ≡ Some row → slice_get rows j ≡ Some next → i < j → row.reporter ≡ next.reporter
+          → ComesFirst h (attempt_by number row) (point i) (point j)
+      some_row : (r : ℕ) → IsOneOfTwo r → (p : ℕ) (e : Entry) → slice_get h p ≡ Some e → e.reporter ≡ number r → length (seen_of (old r)) ≤ p
+          → (i : ℕ) × IsOfRow number rows point h p i
+
+    -- the first of the rows, which its reporter's pass reported, and is then `next`
+    module _ (row : NightEvent) (rows : List NightEvent) (old : ℕ → P) (duty : IsOnDuty row) (reports : Reports (row ∷ rows) old) where
+      step : HasReported live (row.call ∷ calls_of row.reporter rows) (old row.reporter) (new row.reporter)
+      step = subst (λ (calls : List EventCall). HasReported live calls (old row.reporter) (new row.reporter)) (own_calls row.reporter row rows refl)
+          (reports.reported row.reporter duty)
+
+      says : LiveReported (live.reporter (old row.reporter)) row.call step.1.reply (live.reporter step.0)
+      says = step.1.says
+
+      abbrev later : ℕ → P
+      later = changed old row.reporter step.0
+
+      later_next : (r : ℕ) → r ≡ row.reporter → later r ≡ step.0
+      later_next r is = rw (eq-eqb r row.reporter is) refl
+
+      later_old : (r : ℕ) → r ≢ row.reporter → later r ≡ old r
+      later_old r other = rw (ne_eqb r row.reporter other) refl
+
+      rest : Reports rows later
+      rest = record {
+        reported = λ r duty_r. elim (cases_eq r row.reporter) [
+          | inl is ↦ rw (later_next r is, is) step.2
+          | inr other ↦ rw (later_old r other, ← other_calls r row rows (λ same. other (sym same))) (reports.reported r duty_r)
+        ];
+        sound = λ r duty_r. elim (cases_eq r row.reporter) [
+          | inl is ↦ rw (later_next r is) says.always.sound
+          | inr other ↦ rw (later_old r other) (reports.sound r duty_r)
+        ];
+        number_is = λ r duty_r. elim (cases_eq r row.reporter) [
+          | inl is ↦ rw (later_next r is, is) (says.always.number ∙ reports.number_is row.reporter duty)
+          | inr other ↦ rw (later_old r other) (reports.number_is r duty_r)
+        ];
+      }
+
+      -- the point of the row, in what its pass has then seen
+      spot : HasPoint (live.reporter (old row.reporter)) (live.reporter step.0) row.call
+      spot = point_of _ _ row.call step.1.reply (reports.sound row.reporter duty) says
+
+      seen_on : IsPrefix (seen_of step.0) h
+      seen_on = begins_through _ _ h (reported_on (calls_of row.reporter rows) step.0 (new row.reporter) step.2 says.always.sound).0.on.seen (on row.reporter duty)
+
+      number_was : (live.reporter (old row.reporter)).number ≡ number row.reporter
+      number_was = reports.number_is row.reporter duty
+
+      place_here : HasLinearizationPoint h (attempt_by number row) spot.point
+      place_here = rw (← number_was) (place_on (seen_of step.0) h seen_on spot.place)
+
+      -- what a reporter's pass had seen before the row is no longer than what it has seen afterwards
+      longer : (r : ℕ) → length (seen_of (old r)) ≤ length (seen_of (later r))
+      longer r = elim (cases_eq r row.reporter) [
+        | inl is ↦ rw (later_next r is, is) (begins_length _ _ says.always.on.seen)
+        | inr other ↦ rw (later_old r other) (le_refl _)
+      ]
+
+      module _ (tail : ArePlaced rows later) where
+        abbrev points : ℕ → ℕ
+        points = point_more spot.point tail.point
+
+        -- a later row of the same reporter
+        comes_first : (j : ℕ) (x : NightEvent) → slice_get rows j ≡ Some x → row.reporter ≡ x.reporter
+            → ComesFirst h (attempt_by number row) spot.point (tail.point j)
+        comes_first j x at same =
+            let low = subst (λ (pass : P). length (seen_of pass) ≤ tail.point j) (later_next x.reporter (sym same)) (tail.low j x at) in
+            let within = place_within spot.place in
+            record {
+              never_falls = omega arith;
+              rises = λ entered.
+                  (let below = entered_within (entered_before (seen_of step.0) h seen_on spot.place (rw number_was entered)) in omega arith);
+            }
+
+        shifted : (p i : ℕ) → IsOfRow number rows tail.point h p i → IsOfRow number (row ∷ rows) points h p (suc i)
+        shifted p i is = record { row = is.row; here = is.here; point_is = is.point_is; entered = is.entered }
+
+        -- an entry of the row's reporter
+        own_row : (p : ℕ) (e : Entry) → slice_get h p ≡ Some e → e.reporter ≡ number row.reporter → length (seen_of (old row.reporter)) ≤ p
+            → (i : ℕ) × IsOfRow number (row ∷ rows) points h p i
+        own_row p e at is past = elim (cases_lt p (length (seen_of step.0))) [
+          | inl below ↦
+              let it = spot.alone p e (at_within (seen_of step.0) h p e seen_on below at) (is ∙ sym number_was) past in
+              (0, record { row = row; here = refl; point_is = sym it.0; entered = rw (← number_was, it.0) (entered_on (seen_of step.0) h seen_on it.1) })
+          | inr after ↦
+              let there = tail.some_row row.reporter duty p e at is (rw (later_next row.reporter refl) after) in
+              (suc there.0, shifted p there.0 there.1)
+        ]
+
+        first_placed : ArePlaced (row ∷ rows) old
+        first_placed = record {
+          point = points;
+          each = each_place;
+          low = each_low;
+          in_order = each_order;
+          some_row = λ r duty_r p e at is past. elim (cases_eq r row.reporter) [
+            | inl same ↦ own_row p e at (rw same at is) (rw same at past)
+            | inr other ↦ (let there = tail.some_row r duty_r p e at is (rw (later_old r other) past) in (suc there.0, shifted p there.0 there.1))
+          ];
+        }
+          where
+            each_place : (i : ℕ) (x : NightEvent) → slice_get (row ∷ rows) i ≡ Some x → HasLinearizationPoint h (attempt_by number x) (points i)
+            each_place zero x at = subst (λ (y : NightEvent). HasLinearizationPoint h (attempt_by number y) spot.point) (same_Some row x at) place_here
+            each_place (suc i) x at = tail.each i x at
+
+            each_low : (i : ℕ) (x : NightEvent) → slice_get (row ∷ rows) i ≡ Some x → length (seen_of (old x.reporter)) ≤ points i
+            each_low zero x at = subst (λ (y : NightEvent). length (seen_of (old y.reporter)) ≤ spot.point) (same_Some row x at) spot.low
+            each_low (suc i) x at = let a = longer x.reporter in let b = tail.low i x at in omega arith
+
+            each_order : (i j : ℕ) (x y : NightEvent) → slice_get (row ∷ rows) i ≡ Some x → slice_get (row ∷ rows) j ≡ Some y → i < j
+                → x.reporter ≡ y.reporter → ComesFirst h (attempt_by number x) (points i) (points j)
+            each_order i zero x y at_x at_y below same = absurd (omega arith)
+            each_order zero (suc j) x y at_x at_y below same =
+                subst (λ (z : NightEvent). ComesFirst h (attempt_by number z) spot.point (tail.point j)) (same_Some row x at_x)
+                (comes_first j y at_y (ap (λ (z : NightEvent). z.reporter) (same_Some row x at_x) ∙ same))
+            each_order (suc i) (suc j) x y at_x at_y below same = tail.in_order i j x y at_x at_y (omega arith) same
+
+    placed : (rows : List NightEvent) (old : ℕ → P) → AllOnDuty rows → Reports rows old → ArePlaced rows old
+    placed [] old duty reports = record {
+      point = λ i. 0;
+      each = λ i row at. absurd (none-some row at);
+      low = λ i row at. absurd (none-some row at);
+      in_order = λ i j row next at. absurd (none-some row at);
+      some_row = λ r duty_r p e at is past.
+          (let below = within r duty_r p e at is in let same = ap (λ (pass : P). length (seen_of pass)) (reports.reported r duty_r) in absurd (omega arith));
+    }
+    placed (row ∷ rows) old duty reports =
+        first_placed row rows old (duty 0 row refl) reports
+        (placed rows (later row rows old (duty 0 row refl) reports) (λ i x at. duty (suc i) x at) (rest row rows old (duty 0 row refl) reports))
+
+-- a pass that has reported its rows has entered them, and has entered no more if it is then `end`
+pub entered_all : {B R P : Type 0} (live : boards.Ghosts B R P) (board : B) (rows : List NightEvent) (reporter : ℕ) {before : P} (pass : P) (end : PassView)
+    → live.is_reporter board pass → IsFreshOn live board before → HasReported live (calls_of reporter rows) before pass
+    → Continues (live.reporter pass) end → end.mine ≡ (live.reporter pass).mine → HasEnteredAll live board rows reporter end
+entered_all live board rows reporter {before} pass end own fresh reported always mine = record {
+  pass = pass;
+  rows_entered = record { own = own; before = before; fresh = fresh; entered = reported };
+  always = always;
+  mine = mine;
+}
+
+-- ---- two reporters' rows in one history that has the entries of both and no other: a merge
+
+-- the passes k and l of two reporters, which are m and n after they have reported their rows, and a history that goes on from both
+module _ {B R P : Type 0} (live : boards.Ghosts B R P) (k l m n : P) (rows : List NightEvent) (h : List Entry)
+    (first : HasReported live (calls_of 1 rows) k m) (second : HasReported live (calls_of 2 rows) l n)
+    (fresh_1 : IsFresh (live.reporter k)) (fresh_2 : IsFresh (live.reporter l))
+    (apart : (live.reporter m).number ≢ (live.reporter n).number) (duty : AllOnDuty rows) (legal : IsLegal h)
+    (on_first : IsPrefix (live.reporter m).seen h) (on_second : IsPrefix (live.reporter n).seen h)
+    (both : IsOfBoth (live.reporter m) (live.reporter n) h) where
   abbrev number : ℕ → ℕ
-  number reporter = number_of_two k.number l.number reporter
+  number = number_of_two (live.reporter k).number (live.reporter l).number
 
-  abbrev point_of : Option NightEvent → ℕ → ℕ → ℕ
-  point_of None p q = p
-  point_of (Some row) p q = if row.reporter == 1 then p else q
+  abbrev old : ℕ → P
+  old = of_two k l
 
-  -- the point of a row is that which its reporter's pass gave it
-  abbrev point_at : ℕ → ℕ
-  point_at i = point_of (slice_get rows i) (first.point i) (second.point i)
+  abbrev new : ℕ → P
+  new = of_two m n
 
-  number_1 : (r : ℕ) → r ≡ 1 → number r ≡ k.number
-  number_1 r is = rw (eq-eqb r 1 is)
+  went_1 : Continues (live.reporter k) (live.reporter m)
+  went_1 = (reported_on live (calls_of 1 rows) k m first fresh_1.0).0
 
-  number_2 : (r : ℕ) → r ≡ 2 → number r ≡ l.number
-  number_2 r is = rw (ne_eqb r 1 (λ same. omega arith))
+  went_2 : Continues (live.reporter l) (live.reporter n)
+  went_2 = (reported_on live (calls_of 2 rows) l n second fresh_2.0).0
 
-  numbers_apart : k.number ≢ l.number
-  numbers_apart same = apart (first.always.number ∙ (same ∙ sym second.always.number))
+  -- what holds of both reporters
+  each_of_two : (Q : ℕ → Type 0) → Q 1 → Q 2 → (r : ℕ) → IsOneOfTwo r → Q r
+  each_of_two Q one two r (inl is) = subst Q (sym is) one
+  each_of_two Q one two r (inr is) = subst Q (sym is) two
 
-  points_1 : (i : ℕ) (row : NightEvent) → slice_get rows i ≡ Some row → row.reporter ≡ 1 → point_at i ≡ first.point i
-  points_1 i row at is = rw (at, eq-eqb row.reporter 1 is)
+  -- all entries of a reporter stand in what its pass has seen, and none in what it had seen at first
+  stands : (a b : P) → entries_by (live.reporter b).number h ≡ (live.reporter b).mine → IsPrefix (live.reporter b).seen h
+      → Continues (live.reporter a) (live.reporter b) → (p : ℕ) (e : Entry) → slice_get h p ≡ Some e → e.reporter ≡ (live.reporter a).number
+      → p < length (live.reporter b).seen
+  stands a b all on always p e at is =
+      stands_before (live.reporter b).number (live.reporter b).seen h on (all ∙ always.sound.own) at (is ∙ sym always.number)
 
-  points_2 : (i : ℕ) (row : NightEvent) → slice_get rows i ≡ Some row → row.reporter ≡ 2 → point_at i ≡ second.point i
-  points_2 i row at is = rw (at, ne_eqb row.reporter 1 (λ same. omega arith))
-
-  place_of_each : (i : ℕ) (row : NightEvent) → slice_get rows i ≡ Some row → HasLinearizationPoint h (attempt_by number row) (point_at i)
-  place_of_each i row at = elim (duty i row at) [
-    | inl is ↦ their_place first on_first number point_at number_1 points_1 i row at is
-    | inr is ↦ their_place second on_second number point_at number_2 points_2 i row at is
+  comes_later : (a b : P) → IsFresh (live.reporter a) → IsPrefix (live.reporter b).seen h → Continues (live.reporter a) (live.reporter b)
+      → (p : ℕ) (e : Entry) → slice_get h p ≡ Some e → e.reporter ≡ (live.reporter a).number → length (live.reporter a).seen ≤ p
+  comes_later a b fresh on always p e at is = elim (cases_lt p (length (live.reporter a).seen)) [
+    | inl below ↦ absurd (none_by (live.reporter a).number (live.reporter a).seen p e (sym fresh.0.own ∙ fresh.1)
+        (at_within _ h p e (begins_through _ _ h always.on.seen on) below at) is)
+    | inr after ↦ after
   ]
 
-  order_of_each : (i j : ℕ) (row next : NightEvent) → slice_get rows i ≡ Some row → slice_get rows j ≡ Some next → i < j
-      → row.reporter ≡ next.reporter → ComesFirst h (attempt_by number row) (point_at i) (point_at j)
-  order_of_each i j row next at_i at_j below same = elim (duty i row at_i) [
-    | inl is ↦ their_order first on_first number point_at number_1 points_1 i j row next at_i at_j below is (sym same ∙ is)
-    | inr is ↦ their_order second on_second number point_at number_2 points_2 i j row next at_i at_j below is (sym same ∙ is)
-  ]
+  on_each : (r : ℕ) → IsOneOfTwo r → IsPrefix (live.reporter (new r)).seen h
+  on_each = each_of_two (λ r. IsPrefix (live.reporter (new r)).seen h) on_first on_second
+
+  within_each : (r : ℕ) → IsOneOfTwo r → (p : ℕ) (e : Entry) → slice_get h p ≡ Some e → e.reporter ≡ number r → p < length (live.reporter (new r)).seen
+  within_each = each_of_two (λ r. (p : ℕ) (e : Entry) → slice_get h p ≡ Some e → e.reporter ≡ number r → p < length (live.reporter (new r)).seen)
+      (stands k m both.first on_first went_1) (stands l n both.second on_second went_2)
+
+  later_each : (r : ℕ) → IsOneOfTwo r → (p : ℕ) (e : Entry) → slice_get h p ≡ Some e → e.reporter ≡ number r → length (live.reporter (old r)).seen ≤ p
+  later_each = each_of_two (λ r. (p : ℕ) (e : Entry) → slice_get h p ≡ Some e → e.reporter ≡ number r → length (live.reporter (old r)).seen ≤ p)
+      (comes_later k m fresh_1 on_first went_1) (comes_later l n fresh_2 on_second went_2)
+
+  placing : ArePlaced live h number new on_each within_each rows old
+  placing = placed live h number new on_each within_each rows old duty (record {
+    reported = each_of_two (λ r. HasReported live (calls_of r rows) (old r) (new r)) first second;
+    sound = each_of_two (λ r. IsSound (live.reporter (old r))) fresh_1.0 fresh_2.0;
+    number_is = each_of_two (λ r. (live.reporter (old r)).number ≡ number r) refl refl;
+  })
+
+  numbers_apart : (live.reporter k).number ≢ (live.reporter l).number
+  numbers_apart same = apart (went_1.number ∙ (same ∙ sym went_2.number))
 
   -- reporters on duty with one number are one
-  one_reporter : (a b : ℕ) → (a ≡ 1) ⊎ (a ≡ 2) → (b ≡ 1) ⊎ (b ≡ 2) → number a ≡ number b → a ≡ b
+  one_reporter : (a b : ℕ) → IsOneOfTwo a → IsOneOfTwo b → number a ≡ number b → a ≡ b
   one_reporter a b (inl x) (inl y) same = x ∙ sym y
-  one_reporter a b (inl x) (inr y) same = absurd (numbers_apart (sym (number_1 a x) ∙ (same ∙ number_2 b y)))
-  one_reporter a b (inr x) (inl y) same = absurd (numbers_apart (sym (number_1 b y) ∙ (sym same ∙ number_2 a x)))
+  one_reporter a b (inl x) (inr y) same = absurd (numbers_apart (sym (ap number x) ∙ (same ∙ ap number y)))
+  one_reporter a b (inr x) (inl y) same = absurd (numbers_apart (sym (ap number y) ∙ (sym same ∙ ap number x)))
   one_reporter a b (inr x) (inr y) same = x ∙ sym y
 
   abbrev IsRowAt : ℕ → ℕ → Type 0
-  IsRowAt p i = IsOfRow number rows point_at h p i
+  IsRowAt p i = IsOfRow number rows placing.point h p i
 
   -- an entry is not that of an earlier row and of a later one
   not_both : (p i j : ℕ) → IsRowAt p i → IsRowAt p j → i < j → ⊥
@@ -338,7 +405,7 @@ module _ {k l m n : PassView} {rows : List NightEvent} {h : List Entry} (first :
       let same : number a.row.reporter ≡ number b.row.reporter =
       ap (λ (e : Entry). e.reporter) (same_Some here there (sym a.entered.entry ∙ b.entered.entry)) in
       let one : a.row.reporter ≡ b.row.reporter = one_reporter _ _ (duty i a.row a.here) (duty j b.row b.here) same in
-      let rises = (order_of_each i j a.row b.row a.here b.here below one).rises (rw a.point_is a.entered) in
+      let rises = (placing.in_order i j a.row b.row a.here b.here below one).rises (rw a.point_is a.entered) in
       let x = a.point_is in
       let y = b.point_is in
       omega arith
@@ -349,36 +416,36 @@ module _ {k l m n : PassView} {rows : List NightEvent} {h : List Entry} (first :
     | inr other ↦ elim other [ inl below ↦ absurd (not_both p j i b a below) | inr above ↦ absurd (not_both p i j a b above) ]
   ]
 
-  of_either : (p : ℕ) → p < length h → (e : Entry) → slice_get h p ≡ Some e → (e.reporter ≡ m.number) ⊎ (e.reporter ≡ n.number)
-  of_either p below e at = subst (λ (x : Entry). (x.reporter ≡ m.number) ⊎ (x.reporter ≡ n.number)) (get_or_from_slice_get h p e e at)
-      (All-get_or (λ (x : Entry). (x.reporter ≡ m.number) ⊎ (x.reporter ≡ n.number)) h p e below both.no_other)
+  of_either : (p : ℕ) → p < length h → (e : Entry) → slice_get h p ≡ Some e → (e.reporter ≡ (live.reporter m).number) ⊎ (e.reporter ≡ (live.reporter n).number)
+  of_either p below e at = subst (λ (x : Entry). (x.reporter ≡ (live.reporter m).number) ⊎ (x.reporter ≡ (live.reporter n).number)) (get_or_from_slice_get h p e e at)
+      (All-get_or (λ (x : Entry). (x.reporter ≡ (live.reporter m).number) ⊎ (x.reporter ≡ (live.reporter n).number)) h p e below both.no_other)
 
   some_row : (p : ℕ) → p < length h → (i : ℕ) × IsRowAt p i
   some_row p below =
       let t = get_some h p below in
       elim (of_either p below t.0 t.1) [
-        | inl is ↦ their_row first on_first number point_at number_1 points_1 both.first p t.0 t.1 is
-        | inr is ↦ their_row second on_second number point_at number_2 points_2 both.second p t.0 t.1 is
+        | inl is ↦ (let it = is ∙ went_1.number in placing.some_row 1 (inl refl) p t.0 t.1 it (later_each 1 (inl refl) p t.0 t.1 it))
+        | inr is ↦ (let it = is ∙ went_2.number in placing.some_row 2 (inr refl) p t.0 t.1 it (later_each 2 (inr refl) p t.0 t.1 it))
       ]
 
-  pub merged : IsInterleaving (number_of_two k.number l.number) rows h
+  pub merged : IsInterleaving number rows h
   merged = record {
     legal = legal;
-    point = point_at;
-    each = place_of_each;
-    in_order = order_of_each;
+    point = placing.point;
+    each = placing.each;
+    in_order = placing.in_order;
     one_row = λ p below. (let r = some_row p below in record { index = r.0; is = r.1; alone = λ other o. alone p r.0 other r.1 o });
   }
 
 -- what settling answered for the two passes, which are c and d afterwards: the entries that it read are a merge
-pub merged_by_settlers : {k l m n c d : PassView} {rows : List NightEvent} {version : ℕ} → HasEntered k m 1 rows → HasEntered l n 2 rows
-    → Continues m c → Continues n d → m.number ≢ n.number → AllOnDuty rows → Settled m n c d version → IsOfBoth m n (take version d.seen)
+pub merged_by_settlers : {B R P : Type 0} (live : boards.Ghosts B R P) {k l m n : P} {c d : PassView} {rows : List NightEvent} {version : ℕ}
+    → HasReported live (calls_of 1 rows) k m → HasReported live (calls_of 2 rows) l n → IsFresh (live.reporter k) → IsFresh (live.reporter l)
+    → Continues (live.reporter m) c → Continues (live.reporter n) d → (live.reporter m).number ≢ (live.reporter n).number → AllOnDuty rows
+    → Settled (live.reporter m) (live.reporter n) c d version → IsOfBoth (live.reporter m) (live.reporter n) (take version d.seen)
     → IsInterleaving (number_of_two c.number d.number) rows (take version d.seen)
-merged_by_settlers {m = m} {n} {d = d} {version = version} first second on_c on_d apart duty s both =
-    rw (on_c.number, first.always.number, on_d.number, second.always.number)
-    (merged first second apart duty (legal_take d.seen version s.legal) (begins_take m.seen d.seen version s.first s.low_first)
-    (begins_take n.seen d.seen version s.second s.low_second) both)
-
--- the rows up to the next one
-pub next_rows : (i : ℕ) (rows : List NightEvent) (row : NightEvent) → i < length rows → row ≡ get_or rows i row → take (i + 1) rows ≡ take i rows ++ row ∷ []
-next_rows i rows row below is = take_more rows i row below ∙ ap (λ (x : NightEvent). take i rows ++ x ∷ []) (sym is)
+merged_by_settlers live {k} {l} {m} {n} {c} {d} {rows} {version} first second fresh_1 fresh_2 on_c on_d apart duty s both =
+    let went_1 = (reported_on live (calls_of 1 rows) k m first fresh_1.0).0 in
+    let went_2 = (reported_on live (calls_of 2 rows) l n second fresh_2.0).0 in
+    rw (on_c.number, went_1.number, on_d.number, went_2.number)
+    (merged live k l m n rows (take version d.seen) first second fresh_1 fresh_2 apart duty (legal_take d.seen version s.legal)
+    (begins_take (live.reporter m).seen d.seen version s.first s.low_first) (begins_take (live.reporter n).seen d.seen version s.second s.low_second) both)

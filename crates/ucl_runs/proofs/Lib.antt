@@ -3,3 +3,4 @@ pub mod Elements
 pub mod RunFacts
 pub mod EnteredRows
 pub mod Merges
+pub mod NightOutput

@@ -14,10 +14,8 @@ use Rattle.ucl_rows.specs.Faults.{handed_on}
 use Rattle.ucl_io.specs.Stream.{WroteFirst}
 use Rattle.ucl_io.specs.Output.{StoppedShort}
 use Rattle.ucl_rows.specs.Run.{CallsWithin, DistinguishesMemory, IfInput, IfWriteFailed, IsCutShort, is_read_failed}
-use Rattle.ucl_command.specs.declared.night.Line.TheVariants.{Night}
-use Rattle.ucl_runs.specs.declared.night.NightEnd.{NightEnd}
-use Rattle.ucl_runs.specs.Nights.{IsDutyTold, IsFirstOffDuty, IsNightEnd, IsWhyNoNight, night_output}
-use Rattle.ucl_runs.specs.Program.{IsFaultOfNight, IsOfScript, IsPlayed, IsRun, Streams, Task, task_of}
+use Rattle.ucl_runs.specs.Nights.{IsDutyTold, IsFirstOffDuty, IsWhyNoNight}
+use Rattle.ucl_runs.specs.Program.{IsFaultOfNight, IsOfScript, IsOutputOfNight, IsPlayed, IsRun, Streams, Task, night_task}
 use Rattle.std.proofs.lemmas.List.{append-nil}
 use Rattle.ucl_screen.proofs.EventsInTurn.{past}
 use Rattle.ucl_rows.specs.Lines.{reply_line}
@@ -128,16 +126,13 @@ pub scripted : (known : Option (List ℕ)) (night : Script) (Q : List NightEvent
 scripted None night Q means h = tt
 scripted (Some bytes) night Q means h = (night, means, h)
 
+pub played : (profile : Profile) (group readings : ℕ) (known : Option (List ℕ)) (night : Script) (text : List ℕ) → IfSome known (λ bytes. MeansNight bytes (Ok night))
+    → IsOutputOfNight night.events (styled profile night.clubs group) readings text → IfSome known (λ bytes. IsPlayed profile group readings bytes text)
+played profile group readings None night text means is = tt
+played profile group readings (Some bytes) night text means is = record { night = night; means = means; output = is }
+
 module _ {B R P X : Type 0} (live : boards.Ghosts B R P) (Opens : Result (B × R) X → Type 0) (profile : Profile) (group readings : ℕ)
     (known : Option (List ℕ)) (night : Script) (means : IfSome known (λ bytes. MeansNight bytes (Ok night))) (board : B) (pass : R) (on_it : Opens (Ok (board, pass))) where
-  pub played : (end : NightEnd R P) → All IsOnDuty night.events → IsNightEnd live board pass night.events (styled profile night.clubs group) readings end
-      → IfSome known (λ bytes. IsPlayed live Opens profile group readings bytes (night_output end.last end.closing))
-  played end duty ends = by known means
-    where
-      by : (o : Option (List ℕ)) → IfSome o (λ bytes. MeansNight bytes (Ok night)) → IfSome o (λ bytes. IsPlayed live Opens profile group readings bytes (night_output end.last end.closing))
-      by None is = tt
-      by (Some bytes) is = record { night = night; means = is; duty = duty; board = board; pass = pass; on_it = on_it; end = end; ends = ends; text_is = refl }
-
   abbrev IsWhy : RunFault → Type 0
   IsWhy f = IsWhyNoNight live board night.events f
 
@@ -159,11 +154,11 @@ module _ {B R P X : Type 0} (live : boards.Ghosts B R P) (Opens : Result (B × R
   -- a night that failed has written nothing
   pub failed_night : {W : Type 0} (sink : writes.Ghosts W) (w : W) (k : ℕ) (b : Bool) (after : Streams W) (f : RunFault) → CallsWithin k after.calls → after.sink ≡ w
       → after.read_failed ≡ false → IsWhy f → IsDutyTold night.events f
-      → IsRun sink (task_of live Opens (Night group readings profile)) (record { left = known; calls = k; read_failed = b; sink = w }) after (Err f)
+      → IsRun sink (night_task live Opens profile group readings) (record { left = known; calls = k; read_failed = b; sink = w }) after (Err f)
   failed_night sink w k b after (Input e) calls same reads why duty = absurd why
   failed_night sink w k b after (WriteFailed n) calls same reads why duty = absurd why
   failed_night sink w k b after f calls same reads why duty =
-      stopped sink (task_of live Opens (Night group readings profile)) (record { left = known; calls = k; read_failed = b; sink = w }) after calls f tt same reads
+      stopped sink (night_task live Opens profile group readings) (record { left = known; calls = k; read_failed = b; sink = w }) after calls f tt same reads
       (fault_of f why duty) tt (λ bad. absurd (cc))
 
 -- ---- the text of `feed`, one reply line more
@@ -218,6 +213,7 @@ pub shown_more : (style : Style) (k m z : PassView) (reading : Reading) (reading
 shown_more style k m z reading readings last text h on read is =
     let longer = begins_length k.seen m.seen h.on.seen in
     record {
+      legal = on.sound.legal;
       on = record {
         seen = begins_through k.seen m.seen z.seen h.on.seen on.on.seen;
         listed = (let a = h.on.listed in let b = on.on.listed in omega arith);

@@ -3,15 +3,19 @@
 -- that it has `seen`, its reporter's `number` on the board, the entries under that, `mine`, the versions that it has read, `shown`, and its
 -- `share` of the whole permission. An attempt is a call to enter an event under a number. A row is on duty if it is of reporter 1 or 2.
 use Rattle.std.specs.Prelude.{◌≡◌, ◌≢◌, ◌⊎◌, ℕ, ◌+◌, ◌<◌, ◌≤◌, ◌==◌, true, false, List, [], ◌∷◌, ◌++◌, All, length, map, take, slice_get, slice_index_or, Option}
-use Rattle.std.specs.Prelude.{Some, None, option_map, if◌then◌else◌, codes, String, string_bytes, ⊤, Result, IfErr, IfOk, MatchResult}
+use Rattle.std.specs.Prelude.{Some, None, filter, option_map, if◌then◌else◌, codes, String, string_bytes, ⊤, Result, IfErr, IfOk, MatchResult}
 use mathlib.Core.List.{IsPrefix}
 use Rattle.std.specs.List.Sorted.{IsNonDecreasing}
 use Rattle.std.specs.Result.{is_ok}
+use Rattle.ucl_word.specs.declared.event.EventCall.{EventCall}
+use Rattle.ucl_word.specs.declared.event.Accepted.{Accepted}
+use Rattle.ucl_word.specs.declared.refusal.Refusal.{Refusal}
 use Rattle.ucl_board.specs.declared.entry.Entry.{Entry}
 use Rattle.ucl_board.specs.History.{IsLegal, Attempt, attempted, entry_of, sequential_reply, accepted_of, board_of, snapshot_at}
 use Rattle.ucl_screen.specs.declared.night.NightEvent.{NightEvent}
 use Rattle.ucl_screen.specs.Script.{first_event_row}
 use Rattle.ucl_live_board.specs.declared.live_board.LiveBoard as boards
+use Rattle.ucl_live_board.specs.LiveRecords.{LiveReported}
 use Rattle.ucl_live_board.specs.Passes.{PassView, IsSound, SeesOn, Continues, kept_pass, split_pass}
 use Rattle.ucl_live_board.specs.Settling.{AreAlone}
 use Rattle.ucl_live_board.specs.Shares.{first_half, second_half}
@@ -32,9 +36,17 @@ number_of_two first second reporter = if reporter == 1 then first else second
 abbrev pub attempt_by : (ℕ → ℕ) → NightEvent → Attempt
 attempt_by number row = attempted (number row.reporter) row.call
 
+-- this is reporter 1 or 2
+abbrev pub IsOneOfTwo : ℕ → Type 0
+IsOneOfTwo reporter = (reporter ≡ 1) ⊎ (reporter ≡ 2)
+
 -- a row of the script is of reporter 1 or 2
 abbrev pub IsOnDuty : NightEvent → Type 0
-IsOnDuty row = (row.reporter ≡ 1) ⊎ (row.reporter ≡ 2)
+IsOnDuty row = IsOneOfTwo row.reporter
+
+-- the events of a reporter's rows, in script order
+abbrev pub calls_of : ℕ → List NightEvent → List EventCall
+calls_of reporter rows = map (λ (row : NightEvent). row.call) (filter (λ (row : NightEvent). row.reporter == reporter) rows)
 
 -- an attempt is refused after the first `point` entries of a history
 pub record IsRefusedAt (history : List Entry) (attempt : Attempt) (point : ℕ) : Type 0 where
@@ -91,15 +103,6 @@ abbrev pub ScheduleDoesNotMatter : Type 0
 ScheduleDoesNotMatter = (number : ℕ → ℕ) (rows : List NightEvent) (history : List Entry) → IsInterleaving number rows history → EachMatchHasOneReporter rows →
     board_of history ≡ night_board number rows
 
--- the entry of a history at this position is that of a row of this reporter of the script, who has this number on the board
-pub record IsOwnRow (number reporter : ℕ) (rows : List NightEvent) (point : ℕ → ℕ) (history : List Entry) (position : ℕ) : Type 0 where
-  pub index : ℕ
-  pub row : NightEvent
-  pub here : slice_get rows index ≡ Some row
-  pub theirs : row.reporter ≡ reporter
-  pub point_is : point index ≡ position
-  pub entered : IsEnteredAt history (attempted number row.call) position
-
 -- the passes of two reporters, `one` and `two`, and two readers have the share of the pass that a night was given, halved three times
 pub record HaveShares (lent one two left right : PassView) : Type 0 where
   pub reporter_2 : two.share ≡ second_half lent.share
@@ -111,20 +114,9 @@ pub record HaveShares (lent one two left right : PassView) : Type 0 where
 abbrev pub IsFresh : PassView → Type 0
 IsFresh pass = IsSound pass × (pass.mine ≡ [])
 
--- a reader's pass has read nothing yet
+-- a reader's pass has read nothing yet, and has seen a legal history
 abbrev pub IsNew : PassView → Type 0
-IsNew pass = pass.shown ≡ []
-
--- a reporter's pass, `old` and now `new`, has entered the reporter's rows in their order: each has its linearization point in the history
--- that the pass has seen, and each entry under the pass's number there is one of these rows
-pub record HasEntered (old new : PassView) (reporter : ℕ) (rows : List NightEvent) : Type 0 where
-  pub always : Continues old new
-  pub shown : new.shown ≡ old.shown
-  pub point : ℕ → ℕ
-  pub each : (i : ℕ) (row : NightEvent) → slice_get rows i ≡ Some row → row.reporter ≡ reporter → HasLinearizationPoint new.seen (attempted old.number row.call) (point i)
-  pub in_order : (i j : ℕ) (row next : NightEvent) → slice_get rows i ≡ Some row → slice_get rows j ≡ Some next → i < j → row.reporter ≡ reporter → next.reporter ≡ reporter
-      → ComesFirst new.seen (attempted old.number row.call) (point i) (point j)
-  pub entries : (position : ℕ) (e : Entry) → slice_get new.seen position ≡ Some e → e.reporter ≡ old.number → IsOwnRow old.number reporter rows point new.seen position
+IsNew pass = (pass.shown ≡ []) × IsLegal pass.seen
 
 -- a text is the screen, in this style, of the board after as many first entries of a history as the last of these versions says
 pub record IsScreenOfLast (style : Style) (history : List Entry) (versions text : List ℕ) : Type 0 where
@@ -138,10 +130,11 @@ abbrev pub IsLastScreen : Style → List Entry → List ℕ → Option (List ℕ
 IsLastScreen style history versions None = versions ≡ []
 IsLastScreen style history versions (Some text) = IsScreenOfLast style history versions text
 
--- a reader's pass, `old` and now `new`, has taken so many readings: their versions never fall, none is below what the pass had seen before
--- or above what it has seen now, and `last` is its last screen
+-- a reader's pass, `old` and now `new`, has taken so many readings of a legal history: their versions never fall, none is below what the pass
+-- had seen before or above what it has seen now, and `last` is its last screen
 pub record HasShown (style : Style) (old new : PassView) (readings : ℕ) (last : Option (List ℕ)) : Type 0 where
   pub on : SeesOn old new
+  pub legal : IsLegal new.seen
   pub many : length new.shown ≡ readings
   pub rises : IsNonDecreasing new.shown
   pub low : All (λ version. length old.seen ≤ version) new.shown
@@ -171,16 +164,31 @@ abbrev pub last_text : List ℕ → Option (List ℕ) → List ℕ
 last_text heading None = []
 last_text heading (Some text) = heading ++ text
 
--- the output of a night: the last screens of both readers, if there are any, and the screen of the board at the end
+-- the text of a night: the last screens of both readers, if there are any, and the screen of the board at the end
+abbrev pub night_text : Option (List ℕ) → Option (List ℕ) → List ℕ → List ℕ
+night_text one two closing = (last_text (codes "READER 1\n") one ++ last_text (codes "READER 2\n") two) ++ (codes "FINAL\n" ++ closing)
+
+-- the output of a night, whose readers had these last screens, of which the screen of the board at the end is this
 abbrev pub night_output : {Y Z : Type 0} → List (Option (String Y)) → String Z → List ℕ
-night_output last closing = (last_text (codes "READER 1\n") (last_shown last 0) ++ last_text (codes "READER 2\n") (last_shown last 1))
-    ++ (codes "FINAL\n" ++ string_bytes closing)
+night_output last closing = night_text (last_shown last 0) (last_shown last 1) (string_bytes closing)
 
 -- the style of the screens of a night: its tie-break rules, clubs and group
 abbrev pub style_of : {G : Type 0} → NightConfig G → Style
 style_of config = styled config.profile config.night.now.roster config.group
 
 -- What the workers of a night are lent and hand back: a worker is a reporter or a reader, in a thread of its own. --
+
+module _ {B R P : Type 0} (live : boards.Ghosts B R P) where
+  -- one report of an event by a reporter's pass, `old` and then `new`: what every board that threads share promises of it, and what this one does
+  pub record IsOneReport (old : P) (call : EventCall) (new : P) : Type 0 where
+    pub reply : Result Accepted Refusal
+    pub says : LiveReported (live.reporter old) call reply (live.reporter new)
+    pub once : live.reported old call reply new
+
+  -- a reporter's pass, `old` and then `new`, has reported these events, one after another and each once, whatever the replies
+  abbrev pub HasReported : List EventCall → P → P → Type 0
+  HasReported [] old new = new ≡ old
+  HasReported (call ∷ calls) old new = (next : P) × IsOneReport old call next × HasReported calls next new
 
 module _ {B R P : Type 0} (live : boards.Ghosts B R P) (board : B) where
   -- a reporter's pass of the board that has entered nothing yet
@@ -193,16 +201,16 @@ module _ {B R P : Type 0} (live : boards.Ghosts B R P) (board : B) where
 
   -- the pass of a reporter, before and after, has entered the reporter's rows of the script
   abbrev pub HasEnteredOn : {G : Type 0} → NightConfig G → P → ℕ → P → Type 0
-  HasEnteredOn config old reporter new = live.is_reporter board new × HasEntered (live.reporter old) (live.reporter new) reporter config.night.now.events.items
+  HasEnteredOn config old reporter new = live.is_reporter board new × HasReported live (calls_of reporter config.night.now.events.items) old new
 
   -- the pass of a reader, before and after, has shown its readings; beside it is its last screen
   abbrev pub HasShownOn : {G Z : Type 0} → NightConfig G → R → R × Option (String Z) → Type 0
   HasShownOn config old end = live.is_reader board end.0
       × HasShown (style_of config) (live.reader old) (live.reader end.0) config.readings (option_map string_bytes end.1)
 
-  -- the four passes that the workers are lent are new
+  -- the four passes that the workers are lent are of the board, and the readers' are new
   abbrev pub AreReady : Workers P R → Type 0
-  AreReady lent = IsFreshOn lent.reporter_1 × IsFreshOn lent.reporter_2 × IsNewOn lent.reader_1 × IsNewOn lent.reader_2
+  AreReady lent = live.is_reporter board lent.reporter_1 × live.is_reporter board lent.reporter_2 × IsNewOn lent.reader_1 × IsNewOn lent.reader_2
 
   -- the workers handed back what they were lent: the reporters have entered their rows, and each reader that found memory has shown its readings
   pub record HaveWorked {G Z E : Type 0} (config : NightConfig G) (lent : Workers P R) (back : Workers P (Result (R × Option (String Z)) E)) : Type 0 where
@@ -214,12 +222,19 @@ module _ {B R P : Type 0} (live : boards.Ghosts B R P) (board : B) where
 -- Why a night fails, and what it promises. --
 
 module _ {B R P : Type 0} (live : boards.Ghosts B R P) (board : B) where
-  -- the pass of a reporter has entered the reporter's rows of a night, and nothing else
+  -- the pass of a reporter was new, and has entered the reporter's rows of a night, each once, and nothing else
   pub record EnteredRowsOf (rows : List NightEvent) (reporter : ℕ) (pass : P) : Type 0 where
     pub own : live.is_reporter board pass
-    pub before : PassView
-    pub fresh : IsFresh before
-    pub entered : HasEntered before (live.reporter pass) reporter rows
+    pub before : P
+    pub fresh : IsFreshOn live board before
+    pub entered : HasReported live (calls_of reporter rows) before pass
+
+  -- a pass that entered a reporter's rows of a night is at its end this one: it has perhaps seen more, and has entered nothing more
+  pub record HasEnteredAll (rows : List NightEvent) (reporter : ℕ) (end : PassView) : Type 0 where
+    pub pass : P
+    pub rows_entered : EnteredRowsOf rows reporter pass
+    pub always : Continues (live.reporter pass) end
+    pub mine : end.mine ≡ (live.reporter pass).mine
 
   -- two reporters have entered the rows of a night, and then one of them has read this version, which is not that of their events only
   pub record FoundStrangers (rows : List NightEvent) (version : ℕ) : Type 0 where
@@ -266,6 +281,9 @@ module _ {B R P : Type 0} (live : boards.Ghosts B R P) (lent : B) (pass : R) (ro
     pub readers : live.is_reader lent end.reader_1 × live.is_reader lent end.reader_2
     pub reporters : live.is_reporter lent end.reporter_1 × live.is_reporter lent end.reporter_2
     pub apart : (pass_of_reporter_1 end).number ≢ (pass_of_reporter_2 end).number
+    -- each reporter's pass has entered the reporter's rows, each once, and nothing else
+    pub entered_1 : HasEnteredAll live lent rows 1 (pass_of_reporter_1 end)
+    pub entered_2 : HasEnteredAll live lent rows 2 (pass_of_reporter_2 end)
     -- the settled history is an interleaving of the rows, the settled reading is of it, and the closing screen is of that
     pub merge : IsInterleaving (numbers_of end) rows (settled_history end)
     pub settled : end.settled ≡ snapshot_at (pass_of_reporter_2 end).seen end.settled.version

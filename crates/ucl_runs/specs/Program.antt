@@ -1,7 +1,9 @@
 -- What a run of `feed`, of `show` or of a night promises, and what `ucl_night` does for its arguments. A task is what a run is to do with
 -- its input. Streams are a sink, and what is known of a source, at one moment of a run. A script has rows of clubs and then of events; in
 -- a night two reporters enter those on a board that threads share, while two readers show it.
-use Rattle.std.specs.Prelude.{◌≡◌, ℕ, ⊤, Bool, List, All, Option, IfSome, Result, Ok, Err, IfErr, OnOk}
+use Rattle.std.specs.Prelude.{◌≡◌, ◌≢◌, ℕ, ◌≤◌, ⊤, Bool, List, All, length, take, Option, Some, None, IfSome, Result, Ok, Err, IfErr, OnOk}
+use Rattle.ucl_board.specs.declared.entry.Entry.{Entry}
+use Rattle.ucl_board.specs.History.{board_of}
 use Rattle.ucl_order.specs.declared.profile.Profile.{Profile}
 use Rattle.ucl_screen.specs.declared.fault.InputFault.{InputFault}
 use Rattle.ucl_screen.specs.declared.night.NightEvent.{NightEvent}
@@ -18,10 +20,9 @@ use Rattle.ucl_rows.specs.declared.fault.RunFault.TheVariants.{Input, OutOfMemor
 use Rattle.ucl_rows.specs.Ending.{Ended, Ends, ExitsWithoutCommand}
 use Rattle.ucl_rows.specs.Faults.{IsOfOneThread}
 use Rattle.ucl_runs.specs.Feed.{IsFed}
-use Rattle.ucl_runs.specs.Show.{IsShown, styled}
+use Rattle.ucl_runs.specs.Show.{IsShown, Style, styled, styled_screen}
 use Rattle.ucl_live_board.specs.declared.live_board.LiveBoard as boards
-use Rattle.ucl_runs.specs.declared.night.NightEnd.{NightEnd}
-use Rattle.ucl_runs.specs.Nights.{IsFirstOffDuty, IsNightEnd, IsOnDuty, IsWhyNoNight, night_output}
+use Rattle.ucl_runs.specs.Nights.{EachMatchHasOneReporter, IsFirstOffDuty, IsInterleaving, IsOnDuty, IsWhyNoNight, night_board, night_text}
 use Rattle.ucl_io.specs.Stream.{WroteFirst}
 use Rattle.ucl_io.specs.Output.{StoppedShort}
 use Rattle.ucl_rows.specs.Run.{BlamesOutput, CallsWithin, IfInput, IfWriteFailed, DistinguishesMemory, TextHas, WritesAll, WritesNothing, is_read_failed}
@@ -91,21 +92,44 @@ show_task profile group = record {
 abbrev pub IsOfScript : Option (List ℕ) → (List NightEvent → Type 0) → Type 0
 IsOfScript known Q = IfSome known (λ bytes. (night : Script) × MeansNight bytes (Ok night) × Q night.events)
 
+-- The text of a night. --
+
+-- a text is the screen, in this style, of the board after some number of first entries of a history
+pub record IsScreenWithin (style : Style) (history : List Entry) (text : List ℕ) : Type 0 where
+  pub version : ℕ
+  pub within : version ≤ length history
+  pub text_is : text ≡ styled_screen style (board_of (take version history))
+
+-- this is the last screen of a reader that has taken so many readings of a history; there is none exactly if it was to take none
+abbrev pub HasLooked : Style → List Entry → ℕ → Option (List ℕ) → Type 0
+HasLooked style history readings None = readings ≡ 0
+HasLooked style history readings (Some text) = (1 ≤ readings) × IsScreenWithin style history text
+
+-- a text is the output of a night of these rows, of reporters 1 and 2: one history is an interleaving of the rows, the last screens of both
+-- readers are of the board after beginnings of it, and the closing screen is of the board after all of it
+pub record IsOutputOfNight (rows : List NightEvent) (style : Style) (readings : ℕ) (text : List ℕ) : Type 0 where
+  pub duty : All IsOnDuty rows
+  pub number : ℕ → ℕ
+  pub apart : number 1 ≢ number 2
+  pub history : List Entry
+  pub merge : IsInterleaving number rows history
+  pub last_1 : Option (List ℕ)
+  pub last_2 : Option (List ℕ)
+  pub looked_1 : HasLooked style history readings last_1
+  pub looked_2 : HasLooked style history readings last_2
+  pub text_is : text ≡ night_text last_1 last_2 (styled_screen style (board_of history))
+  -- without readings the text is the closing screen; if each match has one reporter, that is of the rows in script order
+  pub unwatched : readings ≡ 0 → text ≡ night_text None None (styled_screen style (board_of history))
+  pub board : EachMatchHasOneReporter rows → board_of history ≡ night_board number rows
+
+-- the input is a script of reporters 1 and 2, and this is the output of a night of it
+pub record IsPlayed (profile : Profile) (group readings : ℕ) (bytes text : List ℕ) : Type 0 where
+  pub night : Script
+  pub means : MeansNight bytes (Ok night)
+  pub output : IsOutputOfNight night.events (styled profile night.clubs group) readings text
+
 -- a night over a live board, which was opened with its first pass: `Opens` is what is known of how that ended
 module _ {B R P X : Type 0} (live : boards.Ghosts B R P) (Opens : Result (B × R) X → Type 0) where
-  -- the input is a script of reporters 1 and 2, and this is the output of a night of it on the board that was opened: all that a night promises
-  -- holds of its end, and the text has the last screens of its readers, reader 1's under `READER 1`, and its closing screen
-  pub record IsPlayed (profile : Profile) (group readings : ℕ) (bytes text : List ℕ) : Type 0 where
-    pub night : Script
-    pub means : MeansNight bytes (Ok night)
-    pub duty : All IsOnDuty night.events
-    pub board : B
-    pub pass : R
-    pub on_it : Opens (Ok (board, pass))
-    pub end : NightEnd R P
-    pub ends : IsNightEnd live board pass night.events (styled profile night.clubs group) readings end
-    pub text_is : text ≡ night_output end.last end.closing
-
   -- the input is a script of reporters 1 and 2, and a night of it on the board that was opened ends with this fault for its cause
   pub record FailsOnBoard (known : Option (List ℕ)) (fault : RunFault) : Type 0 where
     pub rows : List NightEvent
@@ -125,20 +149,31 @@ module _ {B R P X : Type 0} (live : boards.Ghosts B R P) (Opens : Result (B × R
   IsFaultOfNight known (WriteFailed written) = IsOfScript known (All IsOnDuty)
   IsFaultOfNight known fault = FailsOnBoard known fault
 
-  -- the task of the arguments of `ucl_night`, which name a subcommand and its options
-  abbrev pub task_of : Line → Task
-  task_of Feed = feed_task
-  task_of (Show group profile) = show_task profile group
-  task_of (Night group readings profile) = record {
+  -- the task of a night, with its options
+  abbrev pub night_task : Profile → ℕ → ℕ → Task
+  night_task profile group readings = record {
     calls_for = IsPlayed profile group readings;
     may_fail = IsFaultOfNight;
     refuses = feed_task.refuses;
     stops = λ failed old new count text. StoppedShort 0 failed old new text count;
   }
 
-  -- what the program does if its arguments ask for a line; or if they ask for help, are refused, or could not be read for lack of memory, when the
-  -- source is as it was; and its exit status, and what it prints on the error sink
-  abbrev pub Runs : {W : Type 0} → writes.Ghosts W → Result Line LineFault → Streams W → Streams W → Ended → Type 0
-  Runs known (Ok line) before after e = (r : Result ⊤ RunFault) × IsRun known (task_of line) before after r × Ends r e
-  Runs known (Err fault) before after e = (after ≡ record before { sink = after.sink })
-      × ExitsWithoutCommand known.failed known.taken fault before.sink after.sink e
+-- What `ucl_night` does for its arguments. --
+
+-- a run of this task: its exit status, and what it prints on the error sink
+abbrev pub RunsTask : {W : Type 0} → writes.Ghosts W → Task → Streams W → Streams W → Ended → Type 0
+RunsTask known task before after e = (r : Result ⊤ RunFault) × IsRun known task before after r × Ends r e
+
+-- these arguments ask for `feed` or `show`, which are runs of one thread
+abbrev pub IsNoNight : Line → Type 0
+IsNoNight (Night group readings profile) = ⊥
+IsNoNight _ = ⊤
+
+-- what the program does if its arguments ask for `feed` or `show`; or if they ask for help, are refused, or could not be read for lack of
+-- memory, when the source is as it was; and its exit status, and what it prints on the error sink
+abbrev pub Runs : {W : Type 0} → writes.Ghosts W → Result Line LineFault → Streams W → Streams W → Ended → Type 0
+Runs known (Ok Feed) before after e = RunsTask known feed_task before after e
+Runs known (Ok (Show group profile)) before after e = RunsTask known (show_task profile group) before after e
+Runs known (Ok (Night group readings profile)) before after e = ⊥
+Runs known (Err fault) before after e = (after ≡ record before { sink = after.sink })
+    × ExitsWithoutCommand known.failed known.taken fault before.sink after.sink e

@@ -1,41 +1,40 @@
 //! What `ucl_night` does with its arguments, and with what stands for its standard streams: `source`, `sink` and `errors`.
 
-ghost use Rattle.std.specs.Prelude.{IfOk};
+ghost use Rattle.std.specs.Prelude.{IfOk, MatchResult};
 ghost use Rattle.ucl_command.specs.Arguments.{IsInRange};
 ghost use Rattle.ucl_rows.specs.Ending.{ended_with};
-ghost use Rattle.ucl_runs.specs.Program.{Runs, streams_at};
+ghost use Rattle.ucl_screen.specs.Screen.{IsGroup};
+ghost use Rattle.ucl_runs.specs.Nights.{IsDutyTold, IsWhyNoNight, night_output};
+ghost use Rattle.ucl_runs.specs.Program.{IsNoNight, IsOutputOfNight, Runs, RunsTask, night_task, streams_at};
+ghost use Rattle.ucl_runs.specs.Show.{styled};
 
 use crate::feed::feed_run;
 use crate::gate::OpenGate;
-use crate::night::{night_run, put_night};
+use crate::night::{NightEnd, night_run, put_night};
 use crate::show::show_run;
 use std::alloc::Global;
 use std::sync::Wait;
 use std::thread::Threads;
 use ucl_command::{Line, LineFault};
 use ucl_live_board::LiveBoard;
+use ucl_order::Profile;
 use ucl_rows::{RunFault, ended, exit_without_command};
-use ucl_screen::{Sink, Source, read_night};
+use ucl_screen::{Night, Sink, Source, read_night};
 use ucl_word::OutOfMemory;
 
-/// Runs what the arguments ask for, `asked`: `feed`, `show`, or a night, for which `opening` opens a board with its first pass. Returns the
-/// exit status: 0 if it was done or help was asked for, which goes to `sink`; 2 if the arguments are refused, with the text of `clap` on
-/// `errors`; and otherwise that of the fault, with its line on `errors`.
-pub fn run<B: LiveBoard + Drop, O, S: Source, W: Sink, E: Sink, R: Threads + Wait + Sync>(
-    rt: &R,
+/// Runs what the arguments ask for, `asked`: `feed` or `show`, in one thread, without waiting. Returns the exit status: 0 if it was done or
+/// help was asked for, which goes to `sink`; 2 if the arguments are refused, with the text of `clap` on `errors`; and otherwise that of the
+/// fault, with its line on `errors`.
+pub fn run<S: Source, W: Sink, E: Sink>(
     alloc: Global,
     asked: Result<Line, LineFault>,
-    opening: O,
     source: &mut S,
     sink: &mut W,
     errors: &mut E,
 ) -> u8
-where
-    O: FnOnce() -> Result<(B, B::ReaderPass), OutOfMemory> + Drop,
-    requires callable { O.pre opening }
-    requires own { (r : _) → O.post opening r → IfOk r (λ it. B.is_reader it.0 it.1) }
     requires in_range { IfOk asked IsInRange }
-    ensures { Runs B.LiveBoard (O.post opening) W.Sink asked (streams_at S.Source source.old sink.old)
+    requires one_thread { IfOk asked IsNoNight }
+    ensures { Runs W.Sink asked (streams_at S.Source source.old sink.old)
         (streams_at S.Source source.new sink.new)
         (ended_with E.failed E.taken result errors.old errors.new) }
 {
@@ -48,26 +47,99 @@ where
         Line::Show { group, profile } => {
             ended(errors, show_run(alloc, source, sink, group, profile))
         }
-        Line::Night {
-            group,
-            readings,
-            profile,
-        } => {
-            let night = match read_night(alloc, source) {
-                Ok(night) => night,
-                Err(fault) => return ended(errors, Err(RunFault::from(fault))),
-            };
-            let (board, pass) = match opening() {
-                Ok(opened) => opened,
-                Err(_) => return ended(errors, Err(RunFault::OutOfMemory)),
-            };
-            let gate = &OpenGate;
-            match night_run(
-                rt, alloc, &board, pass, &night, group, readings, gate, profile,
-            ) {
-                Ok(end) => ended(errors, put_night(&end, sink)),
-                Err(fault) => ended(errors, Err(fault)),
-            }
-        }
+        Line::Night { .. } => unreachable!(),
+    }
+}
+
+/// Runs a night on a live board, and makes sure that what its readers showed is of the history that was settled. Only reporters' passes can
+/// meet, so the readers' passes become such; reporter 2 is told what they have seen, and reads the board again.
+///
+/// # Errors
+///
+/// Those of `night_run`; then `TooManyReporters` if the board has no two more numbers, and `Strangers` if another version is read.
+fn play<B: LiveBoard, R: Threads + Wait + Sync>(
+    rt: &R,
+    alloc: Global,
+    board: &B,
+    pass: B::ReaderPass,
+    night: &Night,
+    group: u8,
+    readings: u32,
+    profile: Profile,
+) -> Result<NightEnd<B::ReporterPass, B::ReporterPass>, RunFault>
+    requires own { B.is_reader board.now pass }
+    requires group { IsGroup group }
+    ensures { MatchResult result
+        (λ end. IsOutputOfNight night.entry.now.events.items
+        (styled profile night.entry.now.roster group) readings
+        (night_output end.last end.closing))
+        (λ f. IsWhyNoNight B.LiveBoard board.entry.now night.entry.now.events.items f
+        × IsDutyTold night.entry.now.events.items f) }
+{
+    let gate = &OpenGate;
+    let NightEnd {
+        last,
+        settled,
+        closing,
+        reader_1,
+        reader_2,
+        reporter_1,
+        mut reporter_2,
+    } = night_run(
+        rt, alloc, board, pass, night, group, readings, gate, profile,
+    )?;
+    let mut reader_1 = board.enlist(rt, reader_1)?;
+    let mut reader_2 = board.enlist(rt, reader_2)?;
+    board.meet(rt, &mut reader_1, &mut reporter_2);
+    board.meet(rt, &mut reader_2, &mut reporter_2);
+    let version = board.read_own(rt, &mut reporter_2).version;
+    if version != settled.version {
+        return Err(RunFault::Strangers { version });
+    }
+    Ok(NightEnd {
+        last,
+        settled,
+        closing,
+        reader_1,
+        reader_2,
+        reporter_1,
+        reporter_2,
+    })
+}
+
+/// Reads a script, runs a night of it on a board that `opening` opens with its first pass, and writes the output: the last screens of both
+/// readers, which take `readings` readings each, and the closing screen. Returns the exit status: 0 if it was done, and otherwise that of
+/// the fault, with its line on `errors`. Of all that `ucl_night` runs this alone may wait.
+pub fn run_night<B: LiveBoard + Drop, O, S: Source, W: Sink, E: Sink, R: Threads + Wait + Sync>(
+    rt: &R,
+    alloc: Global,
+    group: u8,
+    readings: u32,
+    profile: Profile,
+    opening: O,
+    source: &mut S,
+    sink: &mut W,
+    errors: &mut E,
+) -> u8
+where
+    O: FnOnce() -> Result<(B, B::ReaderPass), OutOfMemory> + Drop,
+    requires callable { O.pre opening }
+    requires own { (r : _) → O.post opening r → IfOk r (λ it. B.is_reader it.0 it.1) }
+    requires group { IsGroup group }
+    ensures { RunsTask W.Sink (night_task B.LiveBoard (O.post opening) profile group readings)
+        (streams_at S.Source source.old sink.old) (streams_at S.Source source.new sink.new)
+        (ended_with E.failed E.taken result errors.old errors.new) }
+{
+    let night = match read_night(alloc, source) {
+        Ok(night) => night,
+        Err(fault) => return ended(errors, Err(RunFault::from(fault))),
+    };
+    let (board, pass) = match opening() {
+        Ok(opened) => opened,
+        Err(_) => return ended(errors, Err(RunFault::OutOfMemory)),
+    };
+    match play(rt, alloc, &board, pass, &night, group, readings, profile) {
+        Ok(end) => ended(errors, put_night(&end, sink)),
+        Err(fault) => ended(errors, Err(fault)),
     }
 }

@@ -5,7 +5,7 @@
 ghost use Rattle.std.specs.Prelude.{◌≡◌, IfOk, MatchResult};
 ghost use Rattle.ucl_screen.specs.Screen.{IsGroup};
 ghost use Rattle.ucl_rows.specs.declared.fault.RunFault.TheVariants as RunFault;
-ghost use Rattle.ucl_runs.specs.Nights.{AreReady, HasEnteredOn, HasShownOn, HaveWorked, IsFreshOn, IsNewOn};
+ghost use Rattle.ucl_runs.specs.Nights.{AreReady, HasEnteredOn, HasShownOn, HaveWorked, IsNewOn};
 
 use crate::config::NightConfig;
 use crate::gate::Gate;
@@ -56,7 +56,7 @@ fn start_reporter<'s, E, B: LiveBoard, G: Gate, R: Wait + Sync>(
 ) -> Result<PromisedHandle<B::ReporterPass, Entering<'s, B, G>>, RunFault>
 where
     B::ReporterPass: 's,
-    requires fresh { IsFreshOn B.LiveBoard board.now pass }
+    requires own { B.is_reporter board.now pass }
     ensures board { IfOk result (λ worker. worker.promise.board.value ≡ board.now) }
     ensures config { IfOk result (λ worker. worker.promise.config.value ≡ config.now) }
     ensures before { IfOk result (λ worker. worker.promise.before.value ≡ pass) }
@@ -71,7 +71,7 @@ where
     let started = scope.spawn_with(
         promise,
         move || -> B::ReporterPass
-            requires { IsFreshOn B.LiveBoard board.now pass }
+            requires { B.is_reporter board.now pass }
             ensures { HasEnteredOn B.LiveBoard board.entry.now config.entry.now pass reporter result }
         {
             enter_rows(

@@ -4,7 +4,7 @@
 
 ghost use Rattle.std.specs.Prelude.{IfOk, option_map, string_bytes};
 ghost use Rattle.ucl_screen.specs.Screen.{IsGroup};
-ghost use Rattle.ucl_runs.specs.Nights.{IsFresh, IsNew, HasEntered, HasShown, style_of};
+ghost use Rattle.ucl_runs.specs.Nights.{IsNew, HasReported, HasShown, calls_of, style_of};
 
 use crate::config::{NightConfig, NightGate};
 use crate::gate::Gate;
@@ -14,7 +14,7 @@ use ucl_live_board::LiveBoard;
 use ucl_screen::{NightEvent, screen};
 use ucl_word::OutOfMemory;
 
-/// Enters the rows that are of this reporter, in order, by a pass that has entered nothing yet; ignores replies, and returns the pass.
+/// Enters the rows that are of this reporter, in order and each once; ignores replies, and returns the pass.
 pub fn enter_rows<B: LiveBoard, G: Gate, R: Wait>(
     rt: &R,
     board: &B,
@@ -24,9 +24,8 @@ pub fn enter_rows<B: LiveBoard, G: Gate, R: Wait>(
     night_gate: &NightGate<'_, G>,
 ) -> B::ReporterPass
     requires own { B.is_reporter board.now pass }
-    requires fresh { IsFresh (B.reporter pass) }
     ensures own { B.is_reporter board.entry.now result }
-    ensures entered { HasEntered (B.reporter pass) (B.reporter result) reporter rows.entry.now }
+    ensures entered { HasReported B.LiveBoard (calls_of reporter rows.entry.now) pass result }
 {
     let mut call: u32 = 0;
     for row in rows {

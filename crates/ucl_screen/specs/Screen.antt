@@ -8,7 +8,7 @@ use Rattle.ucl_order.specs.declared.profile.Profile.{Profile}
 use Rattle.ucl_order.specs.declared.table.Row.{Row}
 use Rattle.ucl_order.specs.Roster.{NamedClub, name_of}
 use Rattle.ucl_order.specs.Rows.{rows_of}
-use Rattle.ucl_screen.specs.Lines.{header, place_line}
+use Rattle.ucl_screen.specs.Lines.{header, left, place_line, right}
 
 -- the byte is the letter of a group, A to H
 abbrev pub IsGroup : ℕ → Type 0
@@ -23,9 +23,11 @@ letter_in _ = None
 abbrev pub in_play : List ℕ → ℕ
 in_play board = count_by (λ word. is_in_play (record_at word).state) board
 
--- the second line of the screen: the names of the columns
+-- the second line of the screen: the names of the columns, each at the side of what stands below it, and as wide
 abbrev pub columns : List ℕ
-columns = codes "    Club                  P  W  D  L  GF  GA   GD Pts\n"
+columns =
+    codes "    " ++ left 20 (codes "Club") ++ right 3 (codes "P") ++ right 3 (codes "W") ++ right 3 (codes "D") ++ right 3 (codes "L")
+    ++ right 4 (codes "GF") ++ right 4 (codes "GA") ++ right 5 (codes "GD") ++ right 4 (codes "Pts") ++ codes "\n"
 
 -- the line of a row of the table, with the name of the club in its slot
 abbrev pub row_line : List NamedClub → Row → List ℕ

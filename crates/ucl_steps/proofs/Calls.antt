@@ -3,12 +3,12 @@ use Rattle.ucl_steps.proofs.Common.{IfSome, slice_get, Entry, board_of, entry_of
 use Rattle.ucl_steps.proofs.Common.{Refused, Copied, CallRecord, ◌≡◌, ℕ, ◌+◌, ◌<◌, ◌≤◌, List, take, length, Option, Some, None, sym, ap, ◌∙◌, arith, get_or}
 use Rattle.ucl_steps.proofs.Common.{le_refl, IsSome, IsPrefix, EventCall, refusal_of, after, word_of, record_at, match_after, at_beginning, begins_length}
 use Rattle.ucl_steps.proofs.Common.{take_beginning, NoCall, Holding, Collecting, Checking, CallerState, Idle, Wanting, Within, Answered, refl, subst, ◌↔◌}
-use Rattle.ucl_steps.proofs.Common.{false≢true, Refusal, snapshot_at, PointWithinCall, IsDecided, IsEntry, AcceptedIsEntry, IsRefused, RefusedAtPoint}
-use Rattle.ucl_steps.proofs.Common.{ReadingIsSnapshot, ◌≢◌, true, false, ◌∷◌, ◌++◌, inl, inr, [], IsSomeAnd, none-some, same_Some, map, slice_get-map}
-use Rattle.ucl_steps.proofs.Common.{cases_eq, length_push, at_longer, at_either, change_at, is_accepted, Makes, EntryHasOneCall}
+use Rattle.ucl_steps.proofs.Common.{false≢true, snapshot_at}
+use Rattle.ucl_steps.proofs.Common.{◌≢◌, true, false, ◌∷◌, ◌++◌, inl, inr, [], IsSomeAnd, none-some, same_Some, map, slice_get-map}
+use Rattle.ucl_steps.proofs.Common.{cases_eq, length_push, at_longer, at_either, change_at, Bool, ◌⊎◌, IsLegal, accepts}
+use Rattle.ucl_steps.proofs.Common.{FinishedCall, GoesBefore, IsExplained, IsLinearizable, MadeBy, MakesEntry, caller_number, sequential_answer, Reader}
 use Rattle.std.specs.Prelude.{Ok, Err}
 use Rattle.ucl_steps.proofs.Histories.{get-change_at, change_at_here, change_at_else, map_unseen}
-use Rattle.ucl_word.specs.declared.event.Accepted as word
 use Rattle.ucl_board.specs.declared.reading.Reading as board
 
 -- what the board of one thread replies to a call of this caller after the first k entries, and the entry that it makes
@@ -24,10 +24,10 @@ LiesWithin c k (Accepted a) len = (c.begun ≤ k) × (k < len) × IfSome c.ended
 LiesWithin c k reply len = (c.begun ≤ k) × (k ≤ len) × IfSome c.ended (λ ended. k ≤ ended)
 
 -- the call has a reply at a point between its beginning and its end, and it is the sequential one; or it has neither, and goes on
-abbrev pub IsExplained : List Entry → CallRecord → Option ℕ → Option Reply → Type 0
-IsExplained history c (Some k) (Some reply) = LiesWithin c k reply (length history) × IsSequential history k c.caller c.call reply
-IsExplained history c None None = c.ended ≡ None
-IsExplained history c point reply = ⊥
+abbrev pub Explains : List Entry → CallRecord → Option ℕ → Option Reply → Type 0
+Explains history c (Some k) (Some reply) = LiesWithin c k reply (length history) × IsSequential history k c.caller c.call reply
+Explains history c None None = c.ended ≡ None
+Explains history c point reply = ⊥
 
 -- a reporter asks for an event of a match
 pub record Asks (a : CallRecord) (e : EventCall) : Type 0 where
@@ -122,51 +122,109 @@ module _ (h h' : List Entry) (b : IsPrefix h h') where
   within_later : (c : CallRecord) (k : ℕ) (r : Reply) → LiesWithin c k r (length h) → (k ≤ length h) × LiesWithin c k r (length h')
   within_later c k r s = search (arith, begins_length)
 
-  explained_at : (c : CallRecord) (p : Option ℕ) (r : Option Reply) → IsExplained h c p r → IsExplained h' c p r
+  explained_at : (c : CallRecord) (p : Option ℕ) (r : Option Reply) → Explains h c p r → Explains h' c p r
   explained_at c p r s = search (arith, within_later, sequential_later)
 
-  pub explained_later : (c : CallRecord) → IsExplained h c c.point c.reply → IsExplained h' c c.point c.reply
+  pub explained_later : (c : CallRecord) → Explains h c c.point c.reply → Explains h' c c.point c.reply
   explained_later c = explained_at c c.point c.reply
 
-if_below : (o : Option ℕ) (k : ℕ) → IfSome o (λ n. k < n) → IfSome o (λ n. k ≤ n)
-if_below o k l = search arith
+-- the point and the reply of a call are decided
+abbrev pub IsDecided : CallRecord → ℕ → Reply → Type 0
+IsDecided call k reply = (call.point ≡ Some k) × (call.reply ≡ Some reply)
 
--- the parts of `PointWithinCall`, of any point and reply
-abbrev IsWithin : List Entry → CallRecord → Option ℕ → Option Reply → Type 0
-IsWithin history c point reply = (IsSome c.ended → IsSome reply) × (IsSome point ↔ IsSome reply) × IfSome point (λ k. (c.begun ≤ k) × (k ≤ length history) × IfSome c.ended (λ ended. k ≤ ended))
+-- a call that has ended has its reply, and it has a point exactly if it has one
+abbrev IsWhole : CallRecord → Option ℕ → Option Reply → Type 0
+IsWhole c point reply = (IsSome c.ended → IsSome reply) × (IsSome point ↔ IsSome reply)
 
-within_parts : (history : List Entry) (c : CallRecord) (point : Option ℕ) (reply : Option Reply) → IsExplained history c point reply → IsWithin history c point reply
-within_parts history c point reply s = search (arith, if_below, false≢true)
+whole_by : (history : List Entry) (c : CallRecord) (point : Option ℕ) (reply : Option Reply) → Explains history c point reply → IsWhole c point reply
+whole_by history c point reply s = search (arith, false≢true)
 
-module _ (history : List Entry) (c : CallRecord) (explained : IsExplained history c c.point c.reply) where
-  pub point_within : PointWithinCall history c
-  point_within = let w = within_parts history c c.point c.reply explained in record { replied = w.0; pointed = w.1; within = w.2 }
+decided_by : (history : List Entry) (c : CallRecord) (point : Option ℕ) (reply : Option Reply) → Explains history c point reply → IsSome reply
+    → (k : ℕ) × (r : Reply) × (point ≡ Some k) × (reply ≡ Some r)
+decided_by history c point reply s some = search (arith, false≢true)
 
-  pub decided : (k : ℕ) (reply : Reply) → IsDecided c k reply → IsExplained history c (Some k) (Some reply)
-  decided k reply is = subst (λ (p : Option ℕ). IsExplained history c p (Some reply)) is.0 (subst (λ (r : Option Reply). IsExplained history c c.point r) is.1 explained)
+module _ (history : List Entry) (c : CallRecord) (explained : Explains history c c.point c.reply) where
+  pub whole : IsWhole c c.point c.reply
+  whole = whole_by history c c.point c.reply explained
 
-  entry_of_reporter : (k : ℕ) (a : word.Accepted) (caller : Caller) (call : Call) → c.caller ≡ caller → c.call ≡ call → IfSome c.ended (λ ended. k < ended)
-      → IsSequential history k caller call (Accepted a) → IsEntry history c k a
-  entry_of_reporter k a caller call is_caller is_call before s = search arith
+  pub has_reply : IsSome c.reply → (k : ℕ) × (r : Reply) × IsDecided c k r
+  has_reply some = let d = decided_by history c c.point c.reply explained some in (d.0, d.1, (d.2, d.3))
 
-  pub accepted_entry : AcceptedIsEntry history c
-  accepted_entry k a is = let s = decided k (Accepted a) is in entry_of_reporter k a c.caller c.call refl refl s.0.2 s.1
+  pub decided : (k : ℕ) (reply : Reply) → IsDecided c k reply → Explains history c (Some k) (Some reply)
+  decided k reply is = subst (λ (p : Option ℕ). Explains history c p (Some reply)) is.0 (subst (λ (r : Option Reply). Explains history c c.point r) is.1 explained)
 
-  refused_event : (k : ℕ) (refusal : Refusal) (caller : Caller) (call : Call) → c.call ≡ call → IsSequential history k caller call (Refused refusal) → IsRefused history c k refusal
-  refused_event k refusal caller call is_call s = search arith
+-- calls that have their replies, in time
 
-  pub refused_there : RefusedAtPoint history c
-  refused_there k refusal is = refused_event k refusal c.caller c.call refl (decided k (Refused refusal) is).1
+-- the reply to a call is that of the board of one thread at its point
+abbrev pub IsSettled : List Entry → FinishedCall → Type 0
+IsSettled history c = (c.point ≤ length history) × IsSequential history c.point (Reporter c.number) c.call c.reply
 
-  snapshot : (k : ℕ) (reading : board.Reading) → reading.board ≡ board_of (take k history) → reading.version ≡ k → reading ≡ snapshot_at history k
-  snapshot k reading same is = ap (λ (z : List ℕ). record { board = z; version = reading.version }) same ∙ ap (λ (z : ℕ). record { board = board_of (take k history); version = z }) is
+pub by_number : (h : List Entry) (k : ℕ) (c : Caller) (call : Call) (reply : Reply) → IsSequential h k c call reply
+    → IsSequential h k (Reporter (caller_number c)) call reply
+by_number h k (Reporter number) call reply s = s
+by_number h k (Reader number) call reply s = search arith
 
-  copied : (k : ℕ) (reading : board.Reading) (caller : Caller) (call : Call) → c.call ≡ call → IsSequential history k caller call (Copied reading)
-      → (c.call ≡ Reading) × (reading ≡ snapshot_at history k)
-  copied k reading caller call is_call s = search (arith, snapshot)
+pub lies : (c : CallRecord) (k n ended : ℕ) (reply : Reply) → LiesWithin c k reply n → (c.ended ≡ Some ended) ⊎ (ended ≡ n)
+    → (c.begun ≤ k) × (k ≤ ended) × (accepts reply ≡ true → k < ended)
+lies c k n ended reply s is = search (arith, false≢true)
 
-  pub reading_snapshot : ReadingIsSnapshot history c
-  reading_snapshot k reading is = copied k reading c.caller c.call refl (decided k (Copied reading) is).1
+answered_by : (h : List Entry) (k number : ℕ) (call : Call) (reply : Reply) → IsSequential h k (Reporter number) call reply
+    → reply ≡ sequential_answer h k call
+answered_by h k number call reply s = search arith
+
+made_by : (h : List Entry) (c : FinishedCall) → c.point < c.ended → (call : Call) (reply : Reply) → c.call ≡ call → accepts reply ≡ true
+    → IsSequential h c.point (Reporter c.number) call reply → MakesEntry h c
+made_by h c end call reply is made s = search (arith, false≢true)
+
+pub explained_by : (h : List Entry) (c : FinishedCall) → IsSettled h c → c.first ≤ c.last → (c.begun ≤ c.point) × (c.point ≤ c.ended) × (c.ended ≤ length h)
+    → (accepts c.reply ≡ true → c.point < c.ended) → IsExplained h c
+explained_by h c s turn within by_end = record {
+  turn = turn;
+  within = within;
+  answer = answered_by h c.point c.number c.call c.reply s.1;
+  makes = λ made. made_by h c (by_end made) c.call c.reply refl made s.1;
+}
+
+-- a reading is the snapshot at its point
+
+copied_by : (h : List Entry) (k : ℕ) (call : Call) (read : board.Reading) → Copied read ≡ sequential_answer h k call → read ≡ snapshot_at h k
+copied_by h k call read is = search arith
+
+version_is : (h : List Entry) (c : FinishedCall) (read : board.Reading) → IsExplained h c → c.reply ≡ Copied read → read.version ≡ c.point
+version_is h c read s copied = ap (λ (r : board.Reading). r.version) (copied_by h c.point c.call read (sym copied ∙ s.answer))
+
+-- calls that are explained, of which those that end before others begin have all their entries by then, are linearizable if each entry is of one
+
+goes_before : (h : List Entry) (a b : FinishedCall) → IsExplained h a → IsExplained h b → a.last < b.first → a.ended ≤ b.begun → GoesBefore a b
+goes_before h a b x y turn le = grind arith
+
+module _ {I : Type 0} (h : List Entry) (IsCall : I → FinishedCall → Type 0) where
+  pub linear : IsLegal h → ((i : I) (c : FinishedCall) → IsCall i c → IsExplained h c)
+      → ((place : ℕ) → place < length h → (i : I) × MadeBy IsCall place i × ((j : I) → MadeBy IsCall place j → j ≡ i))
+      → ((i j : I) (a b : FinishedCall) → IsCall i a → IsCall j b → a.last < b.first → a.ended ≤ b.begun) → IsLinearizable h IsCall
+  linear legal explained once real = record {
+    legal = legal;
+    explained = explained;
+    once = once;
+    order = λ i j a b at bt turn. goes_before h a b (explained i a at) (explained j b bt) turn (real i j a b at bt turn);
+    versions = λ i j a b read again at bt turn is_read is_again.
+        grind (arith, version_is h a read (explained i a at) is_read, version_is h b again (explained j b bt) is_again, real i j a b at bt turn, (explained i a at).within, (explained j b bt).within);
+  }
+
+-- which call made an entry
+
+-- whether a call has a reply, and it is that its event was accepted
+abbrev pub is_accepted : Option Reply → Bool
+is_accepted (Some reply) = accepts reply
+is_accepted None = false
+
+-- call i made entry k of the history: it was accepted, and k is its point
+abbrev pub Makes : List CallRecord → ℕ → ℕ → Type 0
+Makes calls i k = IsSomeAnd (slice_get calls i) (λ c. (is_accepted c.reply ≡ true) × (c.point ≡ Some k))
+
+-- each entry of the history was made by exactly one call
+abbrev pub EntryHasOneCall : List Entry → List CallRecord → Type 0
+EntryHasOneCall history calls = (k : ℕ) → k < length history → (i : ℕ) × Makes calls i k × ((j : ℕ) → Makes calls j k → j ≡ i)
 
 pub and_some : {A : Type 0} (o : Option A) (P : A → Type 0) → IsSomeAnd o P → (x : A) × (o ≡ Some x) × P x
 and_some o P p = search arith
@@ -174,7 +232,7 @@ and_some o P p = search arith
 pub some_and : {A : Type 0} (o : Option A) (P : A → Type 0) (x : A) → o ≡ Some x → P x → IsSomeAnd o P
 some_and {A = A} o P x e p = subst (λ (z : Option A). IsSomeAnd z P) (sym e) p
 
-abbrev IsMaker : ℕ → CallRecord → Type 0
+abbrev pub IsMaker : ℕ → CallRecord → Type 0
 IsMaker m c = (is_accepted c.reply ≡ true) × (c.point ≡ Some m)
 
 abbrev pub decision : CallRecord → Option Reply × Option ℕ
@@ -228,8 +286,8 @@ once_begun h xs new none = once_same h xs (xs ++ new ∷ [])
     (λ i m made. let t = and_some (slice_get xs i) (IsMaker m) made in some_and (slice_get (xs ++ new ∷ []) i) (IsMaker m) t.0 (at_longer xs (new ∷ []) i t.0 t.1) t.2)
     (λ i m made. search (arith, and_some, at_either, some_and, undecided))
 
-accepted_within : (h : List Entry) (c : CallRecord) (p : Option ℕ) (r : Option Reply) (m : ℕ) → IsExplained h c p r → is_accepted r ≡ true → p ≡ Some m → m < length h
+accepted_within : (h : List Entry) (c : CallRecord) (p : Option ℕ) (r : Option Reply) (m : ℕ) → Explains h c p r → is_accepted r ≡ true → p ≡ Some m → m < length h
 accepted_within h c p r m s made is = search (arith, same_Some, false≢true, none-some)
 
-pub made_within : (h : List Entry) (xs : List CallRecord) → ((i : ℕ) (a : CallRecord) → slice_get xs i ≡ Some a → IsExplained h a a.point a.reply) → (i m : ℕ) → Makes xs i m → m < length h
+pub made_within : (h : List Entry) (xs : List CallRecord) → ((i : ℕ) (a : CallRecord) → slice_get xs i ≡ Some a → Explains h a a.point a.reply) → (i m : ℕ) → Makes xs i m → m < length h
 made_within h xs each i m made = let t = and_some (slice_get xs i) (IsMaker m) made in accepted_within h t.0 t.0.point t.0.reply m (each i t.0 t.1) t.2.0 t.2.1

@@ -2,18 +2,18 @@
 use Rattle.ucl_steps.proofs.Common.{◌≡◌, ◌≢◌, inl, inr, ℕ, ◌+◌, ◌<◌, ◌≤◌, ◌==◌, Bool, true, false, cond, List, ◌∷◌, ◌++◌, length, take, Option, Some, None}
 use Rattle.ucl_steps.proofs.Common.{refl, sym, ap, ◌∙◌, subst, arith, [], le_refl, length-append, cases_eq, length_push, slice_get, slice_index, none-some}
 use Rattle.ucl_steps.proofs.Common.{false≢true, same_Some, take-append-le, take-append-drop, take-take, take-length, at_below, at_longer, at_end, at_either}
-use Rattle.ucl_steps.proofs.Common.{begins_length, IsPrefix, Entry, EventCall, Refusal, Stale, refusal_of, record_at, entry_of, reading_of, IsLegal}
-use Rattle.ucl_steps.proofs.Common.{MayFollow, Reply, Accepted, Refused, Copied, Pending, NoCall, Holding, Collecting, Checking, Outcome, GoesOn, Answers}
-use Rattle.ucl_steps.proofs.Common.{by_rules, drop}
+use Rattle.ucl_steps.proofs.Common.{begins_length, IsPrefix, Entry, EventCall, Refusal, Stale, refusal_of, record_at, entry_of, reading_of}
+use Rattle.ucl_steps.proofs.Common.{Reply, Accepted, Refused, Copied, Pending, NoCall, Holding, Collecting, Checking, Outcome, GoesOn, Answers}
+use Rattle.ucl_steps.proofs.Common.{by_rules, drop, FinishedCall, MadeBy, accepts}
 use Rattle.std.specs.List.{fold}
 use Rattle.std.proofs.lemmas.List.Sums.{fold-append}
 use Rattle.ucl_word.proofs.Sequences.{may_induction, may_begin, may_last}
 use Rattle.ucl_board.specs.Log.{Enlisted, Enlists, First, IsLog, Log, Logged, Look, Match, MayBeTaken, Second, Swap, Taken, Target, Whole, entry_list}
-use Rattle.ucl_board.specs.Log.{history_of, taken_by, enlisted_by, number_by, number_of, MayAdd, MayEnlist, LogFacts}
+use Rattle.ucl_board.specs.Log.{history_of, taken_by, enlisted_by, number_by, number_of, MayEnlist, LogFacts}
 use Rattle.ucl_board.proofs.Logs.{history_append, history_more, history_same, taken_own, taken_other}
-use Rattle.ucl_steps.specs.ClientState.{FinishedCall, ClientState, FollowsProtocol, IsNextFor, IsNextOfProtocol, with_outcome, with_target, with_step}
+use Rattle.ucl_steps.specs.ClientState.{ClientState, FollowsProtocol, IsNextFor, IsNextOfProtocol, with_outcome, with_target, with_step}
 use Rattle.ucl_steps.specs.ClientState.{call_answered, client_at, client_of, entry_by, first_place, new_client, outcome, point_of}
-use Rattle.ucl_steps.specs.LogHistory.{MadeBy, accepts, entries_before}
+use Rattle.ucl_steps.specs.LogHistory.{IsCall, entries_before}
 
 -- one step more
 
@@ -92,22 +92,6 @@ numbers_apart log facts i j pos same = let n = client_number (taken_by i log) in
 
 -- each step is legal
 
-abbrev pub EntryOf : ℕ → Option Entry → Type 0
-EntryOf number None = Unit {0}
-EntryOf number (Some e) = e.reporter ≡ number
-
-pub entry_is : (number : ℕ) (h : Pending) (target : Target) → EntryOf number (entry_by number h target)
-entry_is number (Holding e old new) (Match Swap game found) = by (found == old)
-  where
-    by : (b : Bool) → EntryOf number (cond b (Some (entry_of number e)) None)
-    by true = refl
-    by false = tt
-entry_is number h target = search arith
-
-pub may_add : (h : List Entry) (n number : ℕ) (o : Option Entry) → n ≡ number → IsLegal (h ++ entry_list o) → EntryOf n o → MayAdd h number o
-may_add h n number None same legal of = tt
-may_add h n number (Some e) same legal of = (may_last MayFollow h e legal, of ∙ same)
-
 pub may_enlist : (d : ClientState) (number : ℕ) (t : Target) (entry : Option Entry) → d.number ≡ number → IsNextFor d t → entry ≡ entry_by d.number d.held t → MayEnlist number t entry
 may_enlist d number t entry same next is = search (arith, enlist_none)
 
@@ -168,31 +152,43 @@ first_after h first place last now was = search (arith, holding, collecting, che
 first_low : (h : Pending) (first place : ℕ) → (h ≢ NoCall → first < place) → first_place h first place ≤ place
 first_low h first place was = search (arith, le_refl, holding, collecting, checking)
 
+begun_by : (log : Log) (h : Pending) (begun first place now : ℕ) → now ≡ length (history_of log) → place ≡ length log
+    → (h ≢ NoCall → begun ≡ entries_before log first) → first_place h begun now ≡ entries_before log (first_place h first place)
+begun_by log h begun first place now is here was = search (arith, holding, collecting, checking, entries_all)
+
 point_within : (log : Log) (h : Pending) (first place now : ℕ) → now ≡ length (history_of log) → Noted log first h
     → (entries_before log (first_place h first place) ≤ point_of h now) × (point_of h now ≤ now)
 point_within log h first place now is s = search (arith, entries_low, le_refl)
 
--- the last step of a call is of its pass, and its point comes between its first step and its last
+-- the step at this place of the log is of the pass of this seat
+abbrev IsOwnStep : Log → ℕ → ℕ → Type 0
+IsOwnStep log seat place = (x : Logged) × (slice_get log place ≡ Some x) × (x.seat ≡ seat)
+
+-- the first step of a call and its last are of its pass, and its point comes between them
 pub record IsTimed (log : Log) (seat : ℕ) (c : FinishedCall) : Type 0 where
-  step : Logged
-  there : slice_get log c.last ≡ Some step
-  own : step.seat ≡ seat
+  pub begins : IsOwnStep log seat c.first
+  ends : IsOwnStep log seat c.last
   pub first : c.first ≤ c.last
-  pub within : (entries_before log c.first ≤ c.point) × (c.point ≤ entries_before log c.last)
-  pub by_end : accepts c.reply ≡ true → (c.point ≡ entries_before log c.last) × (c.point < entries_before log (c.last + 1))
+  pub entries : (c.begun ≡ entries_before log c.first) × (c.ended ≡ entries_before log (c.last + 1))
+  pub within : (c.begun ≤ c.point) × (c.point ≤ entries_before log c.last)
+  pub by_end : accepts c.reply ≡ true → (c.point ≡ entries_before log c.last) × (c.point < c.ended)
+
+first_own : (log : Log) (seat : ℕ) (h : Pending) (first place : ℕ) → IsOwnStep log seat place → (h ≢ NoCall → IsOwnStep log seat first)
+    → IsOwnStep log seat (first_place h first place)
+first_own log seat h first place here was = search (arith, holding, collecting, checking)
 
 -- the finished calls of a pass come one after another, and before the one under way
 pub record InTurn (log : Log) (seat : ℕ) (d : ClientState) : Type 0 where
   pub timed : (k : ℕ) (a : FinishedCall) → slice_get d.calls k ≡ Some a → IsTimed log seat a
   pub turns : (k l : ℕ) (a b : FinishedCall) → slice_get d.calls k ≡ Some a → slice_get d.calls l ≡ Some b → k < l → a.last < b.first
-  pub under : d.held ≢ NoCall → (d.first < length log) × ((k : ℕ) (a : FinishedCall) → slice_get d.calls k ≡ Some a → a.last < d.first)
+  pub under : d.held ≢ NoCall → IsOwnStep log seat d.first × ((k : ℕ) (a : FinishedCall) → slice_get d.calls k ≡ Some a → a.last < d.first)
+  begun : d.held ≢ NoCall → d.begun ≡ entries_before log d.first
   noted : Noted log d.first d.held
 
 -- an entry is of a call
 pub record IsMade (log : Log) (place : ℕ) : Type 0 where
-  pub seat : ℕ
-  pub call : ℕ
-  pub by : MadeBy log place seat call
+  pub call : ℕ × ℕ
+  pub by : MadeBy (λ (i : ℕ × ℕ). IsCall log i.0 i.1) place call
 
 pub record AllInTurn (log : Log) : Type 0 where
   pub turn : (seat : ℕ) → InTurn log seat (client_at seat log)
@@ -200,13 +196,17 @@ pub record AllInTurn (log : Log) : Type 0 where
 
 -- the step in which a call ended is one of the log
 pub last_below : (log : Log) (seat : ℕ) (c : FinishedCall) → IsTimed log seat c → c.last < length log
-last_below log seat c t = at_below log c.last t.step t.there
+last_below log seat c t = at_below log c.last t.ends.0 t.ends.1
 
 -- two calls that end with one step are of one pass
 pub one_seat : (log : Log) (i j : ℕ) (a b : FinishedCall) → IsTimed log i a → IsTimed log j b → a.last ≡ b.last → i ≡ j
 one_seat log i j a b s t is =
-    let same : s.step ≡ t.step = same_Some s.step t.step (sym s.there ∙ (ap (slice_get log) is ∙ t.there)) in
-    sym s.own ∙ (ap (λ (y : Logged). y.seat) same ∙ t.own)
+    let same : s.ends.0 ≡ t.ends.0 = same_Some s.ends.0 t.ends.0 (sym s.ends.1 ∙ (ap (slice_get log) is ∙ t.ends.1)) in
+    sym s.ends.2 ∙ (ap (λ (y : Logged). y.seat) same ∙ t.ends.2)
+
+-- a call that is under way began with a step of the log
+under_below : (log : Log) (seat : ℕ) (d : ClientState) → InTurn log seat d → d.held ≢ NoCall → d.first < length log
+under_below log seat d t some = let own = (t.under some).0 in at_below log d.first own.0 own.1
 
 module _ (log : Log) (x : Logged) where
   pub begins : IsPrefix (history_of log) (history_of (log ++ x ∷ []))
@@ -215,22 +215,24 @@ module _ (log : Log) (x : Logged) where
   grown : (e : Entry) → x.step.entry ≡ Some e → length (history_of (log ++ x ∷ [])) ≡ length (history_of log) + 1
   grown e is = ap length (history_more log x ∙ ap (λ (o : Option Entry). history_of log ++ entry_list o) is) ∙ length_push (history_of log) e
 
+  own_later : (seat place : ℕ) → IsOwnStep log seat place → IsOwnStep (log ++ x ∷ []) seat place
+  own_later seat place own = (own.0, at_longer log (x ∷ []) place own.0 own.1, own.2)
+
   timed_later : (seat : ℕ) (c : FinishedCall) → IsTimed log seat c → IsTimed (log ++ x ∷ []) seat c
   timed_later seat c t =
       let below = last_below log seat c t in
       let first = t.first in
-      let low = t.within.0 in
       let high = t.within.1 in
       let same_first = entries_same log (x ∷ []) c.first (omega arith) in
       let same_last = entries_same log (x ∷ []) c.last (omega arith) in
       let same_end = entries_same log (x ∷ []) (c.last + 1) (omega arith) in
       record {
-        step = t.step;
-        there = at_longer log (x ∷ []) c.last t.step t.there;
-        own = t.own;
+        begins = own_later seat c.first t.begins;
+        ends = own_later seat c.last t.ends;
         first = t.first;
-        within = (omega arith, omega arith);
-        by_end = λ made. let at = (t.by_end made).0 in let end = (t.by_end made).1 in (omega arith, omega arith);
+        entries = (t.entries.0 ∙ sym same_first, t.entries.1 ∙ sym same_end);
+        within = (t.within.0, omega arith);
+        by_end = λ made. ((t.by_end made).0 ∙ sym same_last, (t.by_end made).1);
       }
 
   noted_later : (first : ℕ) (h : Pending) → (h ≢ NoCall → first < length log) → Noted log first h → Noted (log ++ x ∷ []) first h
@@ -240,8 +242,9 @@ module _ (log : Log) (x : Logged) where
   turn_later seat d t = record {
     timed = λ k a at. timed_later seat a (t.timed k a at);
     turns = t.turns;
-    under = λ some. let low = (t.under some).0 in let long = length_push log x in (omega arith, (t.under some).1);
-    noted = noted_later d.first d.held (λ some. (t.under some).0) t.noted;
+    under = λ some. (own_later seat d.first (t.under some).0, (t.under some).1);
+    begun = λ some. let low = under_below log seat d t some in t.begun some ∙ sym (entries_same log (x ∷ []) d.first (omega arith));
+    noted = noted_later d.first d.held (under_below log seat d t) t.noted;
   }
 
   -- a step of one seat
@@ -250,11 +253,19 @@ module _ (log : Log) (x : Logged) where
     log' = log ++ x ∷ []
 
     first_is : first_place d.held d.first x.step.place ≤ x.step.place
-    first_is = first_low d.held d.first x.step.place (λ some. let low = (t.under some).0 in omega arith)
+    first_is = first_low d.held d.first x.step.place (λ some. let low = under_below log x.seat d t some in omega arith)
+
+    begins_here : IsOwnStep (log ++ x ∷ []) x.seat (first_place d.held d.first x.step.place)
+    begins_here = first_own (log ++ x ∷ []) x.seat d.held d.first x.step.place (x, ap (slice_get (log ++ x ∷ [])) place_is ∙ at_end log x, refl)
+        (λ some. own_later x.seat d.first (t.under some).0)
 
     after_all : (k : ℕ) (a : FinishedCall) → slice_get d.calls k ≡ Some a → a.last < first_place d.held d.first x.step.place
     after_all k a at = let below = last_below log x.seat a (t.timed k a at) in
         first_after d.held d.first x.step.place a.last (omega arith) (λ some. (t.under some).1 k a at)
+
+    since : first_place d.held d.begun x.step.at ≡ entries_before (log ++ x ∷ []) (first_place d.held d.first x.step.place)
+    since = let low = first_is in begun_by log d.held d.begun d.first x.step.place x.step.at at_is place_is t.begun
+        ∙ sym (entries_same log (x ∷ []) (first_place d.held d.first x.step.place) (omega arith))
 
     added : (reply : Reply) → AddsBy d.held x.step.at x.step.entry (Answers reply) → accepts reply ≡ true
         → ((e : Entry) × (x.step.entry ≡ Some e)) × (point_of d.held x.step.at ≡ x.step.at)
@@ -271,28 +282,27 @@ module _ (log : Log) (x : Logged) where
         let late = point.1 in
         let same = entries_same log (x ∷ []) first (omega arith) in
         let now = entries_same log (x ∷ []) x.step.place (omega arith) ∙ (ap (entries_before log) place_is ∙ entries_all log) in
+        let end : x.step.place + 1 ≡ length (log ++ x ∷ []) = omega arith in
+        let all = ap (entries_before (log ++ x ∷ [])) end ∙ entries_all (log ++ x ∷ []) in
+        let more = ap length (history_more log x) ∙ length-append (history_of log) (entry_list x.step.entry) in
+        let begun = since in
         record {
-          step = x;
-          there = ap (slice_get (log ++ x ∷ [])) place_is ∙ at_end log x;
-          own = refl;
+          begins = begins_here;
+          ends = (x, ap (slice_get (log ++ x ∷ [])) place_is ∙ at_end log x, refl);
           first = first_is;
+          entries = (since, omega arith);
           within = (omega arith, omega arith);
           by_end = λ made.
               let t = added reply adds made in
-              let e = t.0 in
               let is = t.1 in
-              let more = grown e.0 e.1 in
-              let end : x.step.place + 1 ≡ length (log ++ x ∷ []) = omega arith in
-              let all = ap (entries_before (log ++ x ∷ [])) end ∙ entries_all (log ++ x ∷ []) in
+              let one = ap (λ (o : Option Entry). length (entry_list o)) t.0.1 in
               (omega arith, omega arith);
         }
 
     outcome_in_turn : (o : Outcome) → NotedBy (log ++ x ∷ []) (first_place d.held d.first x.step.place) o → AddsBy d.held x.step.at x.step.entry o
         → InTurn (log ++ x ∷ []) x.seat (with_outcome o x.step d)
     outcome_in_turn (GoesOn held) noted adds =
-        let low = first_is in
-        let long = length_push log x in
-        record { timed = λ k a at. timed_later x.seat a (t.timed k a at); turns = t.turns; under = λ _. (omega arith, after_all); noted = noted }
+        record { timed = λ k a at. timed_later x.seat a (t.timed k a at); turns = t.turns; under = λ _. (begins_here, after_all); begun = λ _. since; noted = noted }
     outcome_in_turn (Answers reply) noted adds =
         let c = call_answered reply x.step d in
         record {
@@ -308,6 +318,7 @@ module _ (log : Log) (x : Logged) where
             ]
           ];
           under = λ some. absurd (some refl);
+          begun = λ some. absurd (some refl);
           noted = tt;
         }
 
@@ -332,7 +343,7 @@ module _ (log : Log) (x : Logged) where
         let adds : AddsBy d.held x.step.at x.step.entry o = subst (λ (z : Option Entry). AddsBy d.held x.step.at z o) (sym is)
         (adds_by d.number d.held target x.step.at) in (
           outcome_in_turn o (noted_by (log ++ x ∷ []) d.first x.step.place d.number x.step.at d.held target (omega arith) (omega arith)
-              (noted_later d.first d.held (λ some. (t.under some).0) t.noted)) adds,
+              (noted_later d.first d.held (under_below log x.seat d t) t.noted)) adds,
           made_by o adds,
         )
 
@@ -341,10 +352,10 @@ module _ (log : Log) (x : Logged) where
     step_in_turn (Enlisted found) next is = by_outcome (Enlisted found) is
     step_in_turn (Enlists found) next is =
         let u = turn_later x.seat d t in
-        (record { timed = u.timed; turns = u.turns; under = u.under; noted = u.noted }, λ e some. absurd (none-some e (sym (is ∙ enlist_none d.held d.number found) ∙ some)))
+        (record { timed = u.timed; turns = u.turns; under = u.under; begun = u.begun; noted = u.noted }, λ e some. absurd (none-some e (sym (is ∙ enlist_none d.held d.number found) ∙ some)))
     step_in_turn (Whole shown) next is = absurd next
 
-calls_kept : (target : Target) (y : Taken) (d : ClientState) (k : ℕ) (a : FinishedCall) → slice_get d.calls k ≡ Some a → slice_get (with_target target y d).calls k ≡ Some a
+pub calls_kept : (target : Target) (y : Taken) (d : ClientState) (k : ℕ) (a : FinishedCall) → slice_get d.calls k ≡ Some a → slice_get (with_target target y d).calls k ≡ Some a
 calls_kept target y d k a at = search (arith, at_longer)
 
 next_in_turn : (log : Log) (x : Logged) → AllInTurn log → MayBeTaken log x → IsNextOfProtocol log x → AllInTurn (log ++ x ∷ [])
@@ -356,9 +367,10 @@ next_in_turn log x r may next =
     old : (place : ℕ) → place < length (history_of log) → IsMade (log ++ x ∷ []) place
     old place low =
         let m = r.made place low in
-        let on = by_seat log x (λ seat y. slice_get (client_at seat log).calls m.call ≡ Some m.by.0 → slice_get y.calls m.call ≡ Some m.by.0)
-        (with_step (client_at x.seat log) x.step) refl (calls_kept x.step.target x.step (client_at x.seat log) m.call m.by.0) (λ seat not at. at) in
-        record { seat = m.seat; call = m.call; by = (m.by.0, on m.seat m.by.1, m.by.2, m.by.3) }
+        let k = m.call.1 in
+        let on = by_seat log x (λ seat y. slice_get (client_at seat log).calls k ≡ Some m.by.0 → slice_get y.calls k ≡ Some m.by.0)
+        (with_step (client_at x.seat log) x.step) refl (calls_kept x.step.target x.step (client_at x.seat log) k m.by.0) (λ seat not at. at) in
+        record { call = m.call; by = (m.by.0, on m.call.0 m.by.1, m.by.2, m.by.3) }
 
     made : ((e : Entry) → x.step.entry ≡ Some e → (c : FinishedCall) × (slice_get (with_step (client_at x.seat log) x.step).calls (length (client_at x.seat log).calls) ≡ Some c)
         × (accepts c.reply ≡ true) × (c.point ≡ length (history_of log))) → (place : ℕ) → place < length (history_of (log ++ x ∷ [])) → IsMade (log ++ x ∷ []) place
@@ -372,7 +384,7 @@ next_in_turn log x r may next =
               | inl last ↦
                   let m = new e is in
                   let n = length (client_at x.seat log).calls in
-                  record { seat = x.seat; call = n; by = (m.0, ap (λ (y : ClientState). slice_get y.calls n) (client_own log x) ∙ m.1, m.2, m.3 ∙ sym last) }
+                  record { call = (x.seat, n); by = (m.0, ap (λ (y : ClientState). slice_get y.calls n) (client_own log x) ∙ m.1, m.2, m.3 ∙ sym last) }
               | inr other ↦ old place (omega arith)
             ]
 
@@ -383,6 +395,7 @@ all_in_turn log = may_induction MayBeTaken (λ l. FollowsProtocol l → AllInTur
         timed = λ k a at. absurd (none-some a at);
         turns = λ k l a b at bt less. absurd (none-some a at);
         under = λ some. absurd (some refl);
+        begun = λ some. absurd (some refl);
         noted = tt;
       };
       made = λ place low. absurd (omega arith);

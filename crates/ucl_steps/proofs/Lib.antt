@@ -6,6 +6,7 @@ pub mod Runs
 pub mod Accesses
 pub mod Reachable
 pub mod Clients
-pub mod LogRuns
 pub mod LogFacts
+pub mod LogRuns
 pub mod LogHistory
+pub mod LaterLogs

@@ -1,16 +1,118 @@
--- What holds of each log that follows the protocol: its steps are legal ones, and no call has a number that its pass did not have.
-use Rattle.ucl_steps.proofs.Common.{◌≤◌, ◌∷◌, [], arith, le_refl, All, All-append, All-cons, All-nil, Outcome, GoesOn, Answers, ℕ, refl}
+-- What holds of each log that follows the protocol, by induction over its steps: they are legal ones, and what a pass holds of an event it
+-- rightly holds; and no call has a number that its pass did not have.
+use Rattle.ucl_steps.proofs.Common.{◌≡◌, ◌≤◌, ◌==◌, ◌+◌, ◌++◌, ◌∷◌, ◌∙◌, [], ap, arith, cond, eqb-true, length, le_refl, refl, slice_index, subst, sym, ℕ, Bool, true, false}
+use Rattle.ucl_steps.proofs.Common.{Option, Some, None, All, All-append, All-cons, All-nil, may_none, may_next, EventCall, Refusal, IsMatch, IsReporter}
+use Rattle.ucl_steps.proofs.Common.{IsLegal, after, attempted, entry_of, match_after, may_attempt, record_at, refusal_of, word_of, MatchRecord}
+use Rattle.ucl_steps.proofs.Common.{FinishedCall, Outcome, GoesOn, Answers, Pending, Holding, Collecting, Checking, Copied, by_rules, reading_of}
+use Rattle.ucl_steps.proofs.Histories.{read_back}
 use Rattle.ucl_word.proofs.Sequences.{may_induction, may_begin, may_last}
-use Rattle.ucl_board.specs.Log.{Enlisted, Enlists, Whole, IsLog, Log, Match, MayBeTaken, Taken, Target, IsLegalRule, LogFacts}
-use Rattle.ucl_board.proofs.Logs.{log_facts}
-pub use Rattle.ucl_steps.proofs.Clients.{client_number, numbers_apart}
-use Rattle.ucl_steps.proofs.Clients.{by_seat}
-use Rattle.ucl_steps.proofs.LogRuns.{run_of}
-use Rattle.ucl_steps.specs.ClientState.{ClientState, FinishedCall, FollowsProtocol, IsNextFor, IsNextOfProtocol, call_answered, client_at, outcome}
-use Rattle.ucl_steps.specs.ClientState.{with_outcome, with_step, with_target}
+use Rattle.ucl_board.specs.Log.{AccessKind, Look, Swap, First, Second, Enlisted, Enlists, Whole, IsLog, Log, Logged, Match, MayBeTaken, Taken, Target, IsThere, MayAdd}
+use Rattle.ucl_board.specs.Log.{IsLegalStep, HasLegalSteps, IsLegalRule, LogFacts, history_of, number_of, taken_by}
+use Rattle.ucl_board.proofs.Logs.{log_facts, legal_history}
+use Rattle.ucl_steps.proofs.Clients.{by_seat, client_number, count_none, enlist_none, first_none, look_none, may_enlist, second_none}
+use Rattle.ucl_steps.specs.ClientState.{ClientState, FollowsProtocol, IsNextFor, IsNextOfProtocol, call_answered, client_at, entry_by, next_game}
+use Rattle.ucl_steps.specs.ClientState.{outcome, with_outcome, with_step, with_target}
+
+-- what a pass knows of the event that it holds: the rules accept it on the word that it found, and make of that the next one
+pub record Offers (number : ℕ) (e : EventCall) (old new : ℕ) : Type 0 where
+  pub reporter : IsReporter number
+  pub game : IsMatch e.game
+  pub accepted : refusal_of (record_at old) e.expected e.kind ≡ None
+  pub next : new ≡ word_of (after (record_at old) number e.kind)
+
+abbrev pub Sees : ℕ → Pending → Type 0
+Sees number (Holding e old new) = Offers number e old new
+Sees number held = Unit {0}
+
+pub record IsSound (log : Log) : Type 0 where
+  pub steps : HasLegalSteps log
+  pub sees : (seat : ℕ) → Sees (client_at seat log).number (client_at seat log).held
+
+-- the entry of a step may come next
+
+swap_adds : (log : Log) (number : ℕ) (h : Pending) (game found : ℕ) → IsLegal (history_of log) → Sees number h
+    → found ≡ word_of (match_after (history_of log) game) → game ≡ next_game Swap h → MayAdd (history_of log) number (entry_by number h (Match Swap game found))
+swap_adds log number (Holding e old new) game found legal o there next = by (found == old) refl
+  where
+    by : (b : Bool) → (found == old) ≡ b → MayAdd (history_of log) number (cond b (Some (entry_of number e)) None)
+    by true is =
+        let h = history_of log in
+        let word : old ≡ word_of (match_after h e.game) = sym (eqb-true found old is) ∙ (there ∙ ap (λ (g : ℕ). word_of (match_after h g)) next) in
+        let match_is : record_at old ≡ match_after h e.game = ap record_at word ∙ read_back h e.game legal in
+        (may_attempt h (attempted number e) legal (o.reporter, o.game) (ap (λ (m : MatchRecord). refusal_of m e.expected e.kind) (sym match_is) ∙ o.accepted), refl)
+    by false is = tt
+swap_adds log number h game found legal sees there next = search arith
+
+may_add : (log : Log) (d : ClientState) (t : Target) → IsLegal (history_of log) → Sees d.number d.held → IsThere log t → IsNextFor d t
+    → MayAdd (history_of log) d.number (entry_by d.number d.held t)
+may_add log d (Match Swap game found) legal sees there next = swap_adds log d.number d.held game found legal sees there.1 next
+may_add log d t legal sees there next = search (arith, look_none, first_none, second_none, count_none, enlist_none)
+
+-- what is held after it
+
+abbrev SeesBy : ℕ → Outcome → Type 0
+SeesBy number (GoesOn held) = Sees number held
+SeesBy number (Answers reply) = Unit {0}
+
+-- a report is a reporter's, of a match
+abbrev IsAsked : ℕ → Target → Type 0
+IsAsked number (Match (Look e) game found) = IsReporter number × IsMatch e.game
+IsAsked number target = Unit {0}
+
+sees_by : (number : ℕ) (h : Pending) (t : Target) (now : ℕ) → Sees number h → IsAsked number t → SeesBy number (outcome number h t now)
+sees_by number h (Match (Look e) game found) now sees asked = by (refusal_of (record_at found) e.expected e.kind) refl
+  where
+    by : (o : Option Refusal) → refusal_of (record_at found) e.expected e.kind ≡ o → SeesBy number (by_rules number e found o)
+    by (Some refusal) is = tt
+    by None is = record { reporter = asked.0; game = asked.1; accepted = is; next = refl }
+sees_by number (Collecting words) (Match First game found) now sees asked = by (length (words ++ found ∷ []) == 12)
+  where
+    by : (b : Bool) → Sees number (cond b (Checking (words ++ found ∷ []) 0 now) (Collecting (words ++ found ∷ [])))
+    by b = search arith
+sees_by number (Checking words checked point) (Match Second game found) now sees asked = by (found == slice_index words checked) (checked == 11)
+  where
+    by : (a b : Bool) → SeesBy number (cond a (cond b (Answers (Copied (reading_of words))) (GoesOn (Checking words (checked + 1) point))) (GoesOn (Collecting [])))
+    by a b = search arith
+sees_by number h t now sees asked = search arith
+
+sees_then : (o : Outcome) (y : Taken) (d : ClientState) → SeesBy d.number o → Sees (with_outcome o y d).number (with_outcome o y d).held
+sees_then o y d sees = search arith
+
+is_asked : (log : Log) (d : ClientState) (kind : AccessKind) (game found : ℕ) → IsThere log (Match kind game found) → IsNextFor d (Match kind game found)
+    → IsAsked d.number (Match kind game found)
+is_asked log d kind game found there next = search arith
+
+sees_next : (log : Log) (y : Taken) (d : ClientState) (t : Target) → Sees d.number d.held → IsThere log t → IsNextFor d t
+    → Sees (with_target t y d).number (with_target t y d).held
+sees_next log y d (Match kind game found) sees there next = search (arith, sees_then, sees_by, is_asked log d kind game found there next)
+sees_next log y d t sees there next = search (arith, sees_then, sees_by)
+
+sound_next : (log : Log) (x : Logged) → MayBeTaken log x → IsNextOfProtocol log x → IsSound log → IsSound (log ++ x ∷ [])
+sound_next log x may next was =
+    let d = client_at x.seat log in
+    let given = number_of (taken_by x.seat log) in
+    let number = client_number (taken_by x.seat log) in
+    let entry = may_add log d x.step.target (legal_history log was.steps) (was.sees x.seat) may.there next.next in
+    record {
+      steps = may_next IsLegalStep log x was.steps (record {
+        adds = subst (λ (n : ℕ). MayAdd (history_of log) n x.step.entry) number (subst (MayAdd (history_of log) d.number) (sym next.entry) entry);
+        enlists = may_enlist d given x.step.target x.step.entry number next.next next.entry;
+      });
+      sees = by_seat log x (λ seat y. Sees y.number y.held) (with_step d x.step) refl
+          (sees_next log x.step d x.step.target (was.sees x.seat) may.there next.next) (λ seat not. was.sees seat);
+    }
+
+pub logs_sound : (log : Log) → IsLog log → FollowsProtocol log → IsSound log
+logs_sound log = may_induction MayBeTaken (λ l. FollowsProtocol l → IsSound l)
+    (λ f. record { steps = may_none IsLegalStep; sees = λ seat. tt })
+    (λ xs x before may was f. sound_next xs x may (may_last IsNextOfProtocol xs x f) (was (may_begin IsNextOfProtocol xs (x ∷ []) f)))
+    log
 
 pub legal_steps : IsLegalRule IsNextOfProtocol
-legal_steps log is follows = (run_of log 0 is follows).1
+legal_steps log is follows = (logs_sound log is follows).steps
+
+pub logs_legal : (log : Log) → IsLog log → FollowsProtocol log → IsLegal (history_of log)
+logs_legal log is follows = legal_history log (legal_steps log is follows)
 
 pub logs_facts : (log : Log) → IsLog log → FollowsProtocol log → LogFacts log
 logs_facts log is follows = log_facts log is (legal_steps log is follows)

@@ -8,8 +8,8 @@ use Rattle.ucl_steps.proofs.Common.{max_version, match_after, board_of, reading_
 use Rattle.ucl_steps.proofs.Common.{Accepted, Copied, CallRecord, Collecting, Checking, CallerState, Idle, Wanting, Within, Callers, MachineState}
 use Rattle.ucl_steps.proofs.Common.{initial_state, held_by, with_held, after_reply, stored, state_after_first, change_at, caller_of, after_step_holding}
 use Rattle.ucl_steps.proofs.Common.{after_step, after_steps, Entry, holds_of, IsReachable, Takes, at_below}
-use Rattle.ucl_steps.specs.declared.machine.Pending.{Pending}
-use Rattle.ucl_steps.specs.declared.machine.Pending.TheVariants as has
+use Rattle.ucl_steps.specs.declared.machine.Held.{Held}
+use Rattle.ucl_steps.specs.declared.machine.Held.TheVariants as has
 use Rattle.ucl_steps.proofs.Runs.{Keeps, word_now, kept_at_start, run_kept}
 use Rattle.ucl_steps.proofs.Calls.{in_call}
 
@@ -39,21 +39,21 @@ held_reporter cs r l = search arith
 pub held_reader : (cs : Callers) (r : ℕ) → 1 ≤ r → held_by cs (Reader r) ≡ slice_get cs.readers (r - 1)
 held_reader cs r l = search arith
 
-pub held_at : (hs : List Pending) (k : ℕ) (x d : Pending) → k < length hs → x ≡ get_or hs k d → Some (holds_of x) ≡ slice_get (map holds_of hs) k
-held_at hs k x d l e = sym (slice_get-map holds_of hs k ∙ (ap (option_map holds_of) (slice_get-get_or hs k d l) ∙ ap (λ (z : Pending). Some (holds_of z)) (sym e)))
+pub held_at : (hs : List Held) (k : ℕ) (x d : Held) → k < length hs → x ≡ get_or hs k d → Some (holds_of x) ≡ slice_get (map holds_of hs) k
+held_at hs k x d l e = sym (slice_get-map holds_of hs k ∙ (ap (option_map holds_of) (slice_get-get_or hs k d l) ∙ ap (λ (z : Held). Some (holds_of z)) (sym e)))
 
-pub held_past : (hs : List Pending) (k : ℕ) → length hs ≤ k → None ≡ slice_get (map holds_of hs) k
+pub held_past : (hs : List Held) (k : ℕ) → length hs ≤ k → None ≡ slice_get (map holds_of hs) k
 held_past hs k l = sym (slice_get-map holds_of hs k ∙ ap (option_map holds_of) (slice_get_past hs k l))
 
 abbrev state : List ℕ → List Entry → List CallRecord → List CallerState → List CallerState → MachineState
 state words history calls reporters readers = record { words = words; history = history; calls = calls; callers = record { reporters = reporters; readers = readers } }
 
 module _ (words : List ℕ) (history : List Entry) (calls : List CallRecord) where
-  pub hold_reporter : (hs : List Pending) (readers : List CallerState) (c : Caller) (r k : ℕ) (y : Pending) → c ≡ Reporter r → k ≡ r - 1
+  pub hold_reporter : (hs : List Held) (readers : List CallerState) (c : Caller) (r k : ℕ) (y : Held) → c ≡ Reporter r → k ≡ r - 1
       → state words history calls (map holds_of (set hs k y)) readers ≡ with_held (holds_of y) c (state words history calls (map holds_of hs) readers)
   hold_reporter hs readers c r k y is at = search (arith, map-set)
 
-  pub hold_reader : (hs : List Pending) (reporters : List CallerState) (c : Caller) (r k : ℕ) (y : Pending) → c ≡ Reader r → k ≡ r - 1
+  pub hold_reader : (hs : List Held) (reporters : List CallerState) (c : Caller) (r k : ℕ) (y : Held) → c ≡ Reader r → k ≡ r - 1
       → state words history calls reporters (map holds_of (set hs k y)) ≡ with_held (holds_of y) c (state words history calls reporters (map holds_of hs))
   hold_reader hs reporters c r k y is at = search (arith, map-set)
 
@@ -85,11 +85,11 @@ start_is cast words history calls reporters readers w a b c d = search (arith, b
 pub step_is : (s : Step) (w w' : MachineState) (x : CallerState) → held_by w.callers (caller_of s) ≡ Some x → after_step_holding s (Some x) w ≡ Some w' → after_step w s ≡ Some w'
 step_is s w w' x holds e = ap (λ (o : Option CallerState). after_step_holding s o w) holds ∙ e
 
-module _ (w : MachineState) (r : IsReachable w) (c : Caller) (o : Option Pending) (told : option_map holds_of o ≡ held_by w.callers c) where
-  pub holds : (h : Pending) → o ≡ Some h → held_by w.callers c ≡ Some (holds_of h)
+module _ (w : MachineState) (r : IsReachable w) (c : Caller) (o : Option Held) (told : option_map holds_of o ≡ held_by w.callers c) where
+  pub holds : (h : Held) → o ≡ Some h → held_by w.callers c ≡ Some (holds_of h)
   holds h is = sym told ∙ ap (option_map holds_of) is
 
-  pub call_below : (h : Pending) (k : ℕ) → o ≡ Some h → in_call (holds_of h) ≡ Some k → k < length w.calls
+  pub call_below : (h : Held) (k : ℕ) → o ≡ Some h → in_call (holds_of h) ≡ Some k → k < length w.calls
   call_below h k is within = let t = (reached_kept w r).knows c (holds_of h) k (holds h is) within in at_below w.calls k t.call t.at
 
   pub checked_few : (k : ℕ) (ws : List ℕ) (n p : ℕ) → o ≡ Some (has.Checking k ws n p) → n < 12

@@ -3,22 +3,22 @@ use Rattle.ucl_steps.proofs.Common.{◌≡◌, ◌≢◌, ℕ, zero, suc, List, 
 use Rattle.ucl_steps.proofs.Common.{[], slice_get, IsSome, option_map, none-some, same_Some, slice_get-map, false≢true, map-append, length-map, Entry}
 use Rattle.ucl_steps.proofs.Common.{board_of, IsLegal, IsPrefix, at_below, at_longer, at_end, at_either, begins_length, begins_same, Caller, Call, Step}
 use Rattle.ucl_steps.proofs.Common.{Begin, End, CallRecord, Reply, CallerState, Idle, Answered, Callers, MachineState, held_by, set_held, with_held}
-use Rattle.ucl_steps.proofs.Common.{change_at, with_end, EntryHasOneCall, legal_take, versions, word_after, ◌+◌, ◌-◌, ◌<◌, ◌≤◌, ◌==◌, Bool, true, false, cond}
+use Rattle.ucl_steps.proofs.Common.{change_at, with_end, legal_take, versions, word_after, ◌+◌, ◌-◌, ◌<◌, ◌≤◌, ◌==◌, Bool, true, false, cond}
 use Rattle.ucl_steps.proofs.Common.{take, Err, le_refl, get_or, slice_index, slice_set, cond_some, cases_lt, eqb-true, eqb-false, and_parts, leb-true}
 use Rattle.ucl_steps.proofs.Common.{length_push, get_or_append_left, get_or_push, length-take-le, take-append_seam, take-length, MatchRecord, EventCall}
 use Rattle.ucl_steps.proofs.Common.{Refusal, Stale, refusal_of, after, word_of, record_at, word_at, version_of, match_after, MayFollow, sequential_reply}
 use Rattle.ucl_steps.proofs.Common.{attempted, reading_of, same_number, may_attempt, Reporter, Event, Reading, Look, Swap, First, Second, Accepted, Refused}
 use Rattle.ucl_steps.proofs.Common.{Copied, Holding, Collecting, Checking, GoesOn, Answers, by_rules, may_begin, after_begin, after_step_holding, caller_of}
 use Rattle.ucl_steps.proofs.Common.{Wanting, Within, with_reply, after_outcome, stored, state_after_first, after_reply, may_none, append_assoc, append-nil}
-use Rattle.ucl_steps.proofs.Common.{◌↔◌, All, IfSome, replicate, slice_get-get_or, option_and_then_some, Cast, initial_state, after_step, after_steps, EndsAt}
-use Rattle.ucl_steps.proofs.Common.{EndedBySteps, PointWithinCall, AcceptedIsEntry, is_accepted, RefusedAtPoint, ReadingIsSnapshot, Precedes, caller_and_call}
-use Rattle.ucl_steps.proofs.Common.{RealTimeOrder, version_read, VersionsRise, IsLinearizable, RunsAreLinearizable, WordsAreOfTheHistory}
+use Rattle.ucl_steps.proofs.Common.{◌↔◌, IfSome, replicate, option_and_then_some, Cast, initial_state, after_step, after_steps, EndsAt}
+use Rattle.ucl_steps.proofs.Common.{BeginsAt, EndedBySteps, EndsAs, FinishedCall, IsReplied, accepts, IsExplained, MadeBy, caller_and_call, caller_number, cases_order}
+use Rattle.ucl_steps.proofs.Common.{IsLinearizableRun, RunsAreLinearizable, WordsAreOfTheHistory}
 use Rattle.ucl_steps.proofs.Histories.{get_some, get-change_at, change_at_here, change_at_else, map_unseen, map-change_at, same_caller, held_here, held_else}
 use Rattle.ucl_steps.proofs.Histories.{if_some, number_expected, legal_snoc, read_back, number_next, squeezed, board_get, board_next, board_from}
-use Rattle.ucl_steps.proofs.Calls.{IsExplained, IsSequential, in_call, Sees, Knows, sees_later, explained_later, Asks, Offers, Loaded, AreAt, Checks}
-use Rattle.ucl_steps.proofs.Calls.{once_kept, once_begun, once_refused, once_accepted, made_within, point_within, accepted_entry, refused_there}
-use Rattle.ucl_steps.proofs.Calls.{reading_snapshot}
-use Rattle.ucl_steps.proofs.Turns.{Time, Turns, IsInner, turns_inner, turns_begin, turns_end, ended_at, told, EndedBy, turns_none, earlier_call}
+use Rattle.ucl_steps.proofs.Calls.{Explains, IsSequential, in_call, Sees, Knows, sees_later, explained_later, Asks, Offers, Loaded, AreAt, Checks}
+use Rattle.ucl_steps.proofs.Calls.{EntryHasOneCall, IsDecided, IsMaker, and_some, by_number, decided, explained_by, has_reply, is_accepted, lies, linear}
+use Rattle.ucl_steps.proofs.Calls.{made_within, once_accepted, once_begun, once_kept, once_refused, some_and, whole}
+use Rattle.ucl_steps.proofs.Turns.{Time, Turns, IsInner, turns_inner, turns_begin, turns_end, ended_at, told, EndedBy, turns_none, earlier_place, one_place, place_of}
 use Rattle.ucl_board.proofs.HistoryTheorems.{is_stale}
 use Rattle.ucl_board.proofs.HistoryTheorems.{board_none}
 use Rattle.ucl_steps.specs.declared.trace.Trace.{Trace}
@@ -36,7 +36,7 @@ pub record IsHeld (cs : Callers) (c : Caller) (k : ℕ) : Type 0 where
 pub record Keeps (steps : List Step) (w : MachineState) : Type 0 where
   pub legal : IsLegal w.history
   pub words : w.words ≡ board_of w.history
-  pub explained : (i : ℕ) (a : CallRecord) → slice_get w.calls i ≡ Some a → IsExplained w.history a a.point a.reply
+  pub explained : (i : ℕ) (a : CallRecord) → slice_get w.calls i ≡ Some a → Explains w.history a a.point a.reply
   pub once : EntryHasOneCall w.history w.calls
   pub turns : Turns steps (length w.history) (map time_of w.calls)
   pub knows : (c : Caller) (x : CallerState) (k : ℕ) → held_by w.callers c ≡ Some x → in_call x ≡ Some k → Knows w.history w.calls c x k
@@ -51,7 +51,7 @@ some_or_none : (o : Option ℕ) → IsSome o ⊎ (o ≡ None)
 some_or_none o = search arith
 
 -- a call that has its reply may end now
-explained_closed : (h : List Entry) (c : CallRecord) (p : Option ℕ) (r : Option Reply) → IsExplained h c p r → IsSome r → IsExplained h (with_end (length h) c) p r
+explained_closed : (h : List Entry) (c : CallRecord) (p : Option ℕ) (r : Option Reply) → Explains h c p r → IsSome r → Explains h (with_end (length h) c) p r
 explained_closed h c p r s some = search (arith, false≢true)
 
 module _ (steps : List Step) (w : MachineState) (kept : Keeps steps w) (c : Caller) (x : CallerState) (holds : held_by w.callers c ≡ Some x) where
@@ -81,7 +81,7 @@ module _ (steps : List Step) (w : MachineState) (kept : Keeps steps w) (c : Call
 
     pub moved : (s : Step) (y : CallerState) (h' : List Entry) (words' : List ℕ) (f : CallRecord → CallRecord) → IsInner s → IsPrefix w.history h' → IsLegal h' → words' ≡ board_of h'
         → ((a : CallRecord) → time_of (f a) ≡ time_of a) → EntryHasOneCall h' (change_at k f w.calls)
-        → IsExplained h' (f mine.call) (f mine.call).point (f mine.call).reply × Sees h' (f mine.call) y → in_call y ≡ Some k
+        → Explains h' (f mine.call) (f mine.call).point (f mine.call).reply × Sees h' (f mine.call) y → in_call y ≡ Some k
         → Keeps (steps ++ s ∷ []) (with_held y c (record w { words = words'; history = h'; calls = change_at k f w.calls }))
     moved s y h' words' f inner b legal words timed once told inside =
         let m = kept.knows c x k holds within in
@@ -187,7 +187,7 @@ module _ (steps : List Step) (w : MachineState) (kept : Keeps steps w) where
       let f = with_reply now (Refused refusal) in
       let base : sequential_reply (take now h) e ≡ Err refusal = search (arith, take-length, refuses) in
       let early = begun_before k m.call m.at in
-      let told : IsExplained h (f m.call) (Some now) (Some (Refused refusal)) = search (arith, early, le_refl, base, m.unended, asks) in
+      let told : Explains h (f m.call) (Some now) (Some (Refused refusal)) = search (arith, early, le_refl, base, m.unended, asks) in
       moved steps w kept c x holds k within s (Answered k) h w.words f inner (begins_same h) kept.legal kept.words (λ a. refl)
       (once_refused w.calls k f m.call m.at asks.reply h refl kept.once) (told, refl) refl
 
@@ -258,7 +258,7 @@ module _ (steps : List Step) (w : MachineState) (kept : Keeps steps w) where
           search (arith, take-append_seam, accepted_now, new_number, at_end) in
           let long = length_push h (entered e n) in
           let early = begun_before k m.call m.at in
-          let told : IsExplained h' (f m.call) (Some now) (Some reply) = search (arith, early, long, base, m.unended, m.caller, o.asks) in
+          let told : Explains h' (f m.call) (Some now) (Some reply) = search (arith, early, long, base, m.unended, m.caller, o.asks) in
           moved steps w kept (Reporter n) (Within k (Holding e old new)) holds k refl (Swap (Reporter n)) (Answered k) h' (slice_set w.words (g - 1) new) f tt (entered e n ∷ [], refl) legal words
           (λ a. refl)
           (once_accepted w.calls k f m.call m.at o.asks.reply h (entered e n) refl refl (made_within h w.calls kept.explained) kept.once) (told, refl) refl
@@ -332,7 +332,7 @@ module _ (steps : List Step) (w : MachineState) (kept : Keeps steps w) where
           let h = w.history in
           let r = Copied (reading_of words) in
           let f = with_reply point r in
-          let told : IsExplained h (f m.call) (Some point) (Some r) = search (arith, o.early, o.late, m.unended, sequential_reading, copied_board, copied_version) in
+          let told : Explains h (f m.call) (Some point) (Some r) = search (arith, o.early, o.late, m.unended, sequential_reading, copied_board, copied_version) in
           moved steps w kept c (Within k (Checking words checked point)) holds k refl (Second c) (Answered k) h w.words f tt (begins_same h) kept.legal kept.words (λ a. refl)
           (once_refused w.calls k f m.call m.at o.reads.reply h refl kept.once) (told, refl) refl
 
@@ -372,31 +372,12 @@ run_kept (s ∷ steps) done w w' kept e = option_and_then_some (after_steps step
     subst (λ (z : List Step). Keeps z w') (append_assoc done (s ∷ []) steps)
     (run_kept steps (done ++ s ∷ []) v w' (step_kept done w kept s (held_by w.callers (caller_of s)) v refl is) then))
 
--- the place of a call is after its beginning, and before its end
-placed_late : (h : List Entry) (c : CallRecord) (p : ℕ) (r : Option Reply) → IsExplained h c (Some p) r → c.begun ≤ p
-placed_late h c p r s = search arith
-
-by_end : (o : Option ℕ) (p n : ℕ) → IfSome o (λ e. p ≤ e) → EndedBy o n → p ≤ n
-by_end o p n s e = search arith
-
-before_end : (o : Option ℕ) (p n : ℕ) → IfSome o (λ e. p < e) → EndedBy o n → p < n
-before_end o p n s e = search arith
-
-placed_early : (h : List Entry) (c : CallRecord) (p n : ℕ) (r : Option Reply) → IsExplained h c (Some p) r → EndedBy c.ended n → (p < n) ⊎ ((p ≤ n) × (is_accepted r ≡ false))
-placed_early h c p n r s e = search (arith, before_end, by_end)
-
-stands_before : (h : List Entry) (i j : ℕ) (a b : CallRecord) → IsExplained h a a.point a.reply → IsExplained h b b.point b.reply → EndedBy a.ended b.begun → i < j → Precedes i a j b
-stands_before h i j a b ea eb by l = search (arith, if_some, placed_late, placed_early, cases_lt)
-
-pub version_point : (h : List Entry) (c : CallRecord) (p : Option ℕ) (r : Option Reply) (v : ℕ) → IsExplained h c p r → version_read r ≡ Some v → p ≡ Some v
-version_point h c p r v s e = search (arith, same_Some, none-some)
-
-versions_rise : (h : List Entry) (a b : CallRecord) (p q n : ℕ) → IsExplained h a (Some p) a.reply → IsExplained h b (Some q) b.reply → EndedBy a.ended b.begun → p ≤ q
-versions_rise h a b p q n ea eb by = let late = placed_late h b q b.reply eb in elim (placed_early h a p b.begun a.reply ea by) [ inl less ↦ omega arith | inr t ↦ let le = t.0 in omega arith ]
-
 told_caller_and_call : (xs : List CallRecord) → map told (map time_of xs) ≡ map caller_and_call xs
 told_caller_and_call [] = refl
 told_caller_and_call (a ∷ xs) = ap (λ (z : List (Caller × Call)). caller_and_call a ∷ z) (told_caller_and_call xs)
+
+accepted_some : (o : Option Reply) → is_accepted o ≡ true → IsSome o
+accepted_some o made = search (arith, false≢true)
 
 module _ (steps : List Step) (w : MachineState) (kept : Keeps steps w) where
   timed : (i : ℕ) (a : CallRecord) → slice_get w.calls i ≡ Some a → slice_get (map time_of w.calls) i ≡ Some (time_of a)
@@ -406,41 +387,105 @@ module _ (steps : List Step) (w : MachineState) (kept : Keeps steps w) where
   calls_ended i = if_some (slice_get w.calls i) (λ c. IsSome c.ended ↔ ((p : ℕ) × EndsAt steps p i c.caller)) (λ a at.
       (λ some. kept.turns.closed i (time_of a) (timed i a at) some, λ e. kept.turns.finished e.0 i a.caller (time_of a) e.1 (timed i a at)))
 
-  each_call : (P : CallRecord → Type 0) → ((a : CallRecord) → IsExplained w.history a a.point a.reply → P a) → All P w.calls
-  each_call P f k d l = f (get_or w.calls k d) (kept.explained k (get_or w.calls k d) (slice_get-get_or w.calls k d l))
+  abbrev Is : ℕ → FinishedCall → Type 0
+  Is i c = IsReplied steps w.history w.calls i c
 
-  real_time : RealTimeOrder steps w.calls
-  real_time i j p q c d e b l =
-      let turn = earlier_call steps e.begun q i j c d e.begins b (omega arith) in
-      if_some (slice_get w.calls i) (λ a. IfSome (slice_get w.calls j) (λ b. Precedes i a j b)) (λ x at_x.
-      if_some (slice_get w.calls j) (λ b. Precedes i x j b) (λ y at_y.
-      stands_before w.history i j x y (kept.explained i x at_x) (kept.explained j y at_y) (kept.turns.real p q i j c d (time_of x) (time_of y) e b l (timed i x at_x) (timed j y at_y)) turn))
+  -- a call that has its reply, as it is recorded
+  answered : (i : ℕ) (r : CallRecord) → slice_get w.calls i ≡ Some r → (k : ℕ) (reply : Reply) → IsDecided r k reply → (c : FinishedCall) × Is i c × (c.reply ≡ reply) × (c.point ≡ k)
+  answered i r at k reply is = by r.ended refl
+    where
+      start : (p : ℕ) × BeginsAt steps p i r.caller
+      start = place_of steps i r.caller r.call (ap (λ (z : List (Caller × Call)). slice_get z i) kept.turns.same
+          ∙ (slice_get-map told (map time_of w.calls) i ∙ ap (option_map told) (timed i r at)))
 
-  never_fall : VersionsRise w.calls
-  never_fall i j l =
-      if_some (slice_get w.calls i) (λ a. IfSome (slice_get w.calls j) (λ b. a.caller ≡ b.caller → IfSome (version_read a.reply) (λ v. IfSome (version_read b.reply) (λ u. v ≤ u)))) (λ x at_x.
-      if_some (slice_get w.calls j) (λ b. x.caller ≡ b.caller → IfSome (version_read x.reply) (λ v. IfSome (version_read b.reply) (λ u. v ≤ u))) (λ y at_y same.
-      if_some (version_read x.reply) (λ v. IfSome (version_read y.reply) (λ u. v ≤ u)) (λ v is_v.
-      if_some (version_read y.reply) (λ u. v ≤ u) (λ u is_u.
-      let ex = kept.explained i x at_x in
-      let ey = kept.explained j y at_y in
-      versions_rise w.history x y v u 0
-      (subst (λ (z : Option ℕ). IsExplained w.history x z x.reply) (version_point w.history x x.point x.reply v ex is_v) ex)
-      (subst (λ (z : Option ℕ). IsExplained w.history y z y.reply) (version_point w.history y y.point y.reply u ey is_u) ey)
-      (kept.turns.turns i j (time_of x) (time_of y) l (timed i x at_x) (timed j y at_y) same)))))
+      finished : ℕ → ℕ → FinishedCall
+      finished last ended = record { number = caller_number r.caller; call = r.call; reply = reply; point = k; first = start.0; last = last; begun = r.begun; ended = ended }
 
-  pub linearizable : IsLinearizable steps w.history w.calls
+      by : (o : Option ℕ) → r.ended ≡ o → (c : FinishedCall) × Is i c × (c.reply ≡ reply) × (c.point ≡ k)
+      by None none =
+          let c = finished (length steps) (length w.history) in
+          let ends = subst (λ (o : Option ℕ). EndsAs steps w.history i r.caller o c) (sym none) (refl, refl) in
+          (c, record { recorded = r; at = at; asked = (refl, refl); decided = is; begins = (refl, start.1); ends = ends }, refl, refl)
+      by (Some n) some =
+          let t = kept.turns.closed i (time_of r) (timed i r at) (subst (λ (o : Option ℕ). IsSome o) (sym some) refl) in
+          let c = finished t.0 n in
+          let ends = subst (λ (o : Option ℕ). EndsAs steps w.history i r.caller o c) (sym some) (refl, t.1) in
+          (c, record { recorded = r; at = at; asked = (refl, refl); decided = is; begins = (refl, start.1); ends = ends }, refl, refl)
+
+  end_of : (i : ℕ) (c : FinishedCall) (r : CallRecord) → slice_get w.calls i ≡ Some r → BeginsAt steps c.first i r.caller
+      → (o : Option ℕ) → r.ended ≡ o → EndsAs steps w.history i r.caller o c
+      → ((r.ended ≡ Some c.ended) ⊎ (c.ended ≡ length w.history)) × (c.ended ≤ length w.history) × (c.first ≤ c.last)
+  end_of i c r at b None is e = let below = at_below steps c.first (Begin r.caller b.call) b.begins in search (arith, le_refl, e.0, e.1)
+  end_of i c r at b (Some n) is e =
+      let late : n ≤ length w.history = subst (λ (o : Option ℕ). IfSome o (λ e. e ≤ length w.history)) is (kept.turns.past i (time_of r) (timed i r at)).1 in
+      search (arith, one_place steps c.first e.1.begun i r.caller r.caller b e.1.begins, e.0, e.1.before)
+
+  explained_call : (i : ℕ) (c : FinishedCall) → Is i c → IsExplained w.history c
+  explained_call i c a =
+      let r = a.recorded in
+      let s = decided w.history r (kept.explained i r a.at) c.point c.reply a.decided in
+      let e = end_of i c r a.at a.begins.1 r.ended refl a.ends in
+      let l = lies r c.point (length w.history) c.ended c.reply s.0 e.0 in
+      explained_by w.history c (grind (arith, l, e), search (arith, by_number w.history c.point r.caller c.call c.reply, s.1, a.asked)) e.2 (grind (arith, l, e, a.begins.0)) l.2
+
+  real : (i j : ℕ) (a b : FinishedCall) → Is i a → Is j b → a.last < b.first → a.ended ≤ b.begun
+  real i j a b x y turn = by x.recorded.ended refl x.ends
+    where
+      by : (o : Option ℕ) → x.recorded.ended ≡ o → EndsAs steps w.history i x.recorded.caller o a → a.ended ≤ b.begun
+      by None is e = grind (arith, at_below steps b.first (Begin y.recorded.caller y.begins.1.call) y.begins.1.begins, e.1)
+      by (Some n) is e =
+          let late : n ≤ y.recorded.begun = subst (λ (o : Option ℕ). EndedBy o y.recorded.begun) is
+          (kept.turns.real a.last b.first i j x.recorded.caller y.recorded.caller (time_of x.recorded) (time_of y.recorded) e.1 y.begins.1 turn
+          (timed i x.recorded x.at) (timed j y.recorded y.at)) in
+          grind (arith, e.0, y.begins.0)
+
+  in_turn : (i j : ℕ) (a b : FinishedCall) (x : Is i a) (y : Is j b) → x.recorded.caller ≡ y.recorded.caller → i < j → a.last < b.first
+  in_turn i j a b x y same less = by x.recorded.ended refl x.ends
+    where
+      over : EndedBy x.recorded.ended y.recorded.begun
+      over = kept.turns.turns i j (time_of x.recorded) (time_of y.recorded) less (timed i x.recorded x.at) (timed j y.recorded y.at) same
+
+      there : slice_get steps b.first ≡ Some (Begin x.recorded.caller y.begins.1.call)
+      there = y.begins.1.begins ∙ ap (λ (c : Caller). Some (Begin c y.begins.1.call)) (sym same)
+
+      apart : a.last ≡ b.first → slice_get steps a.last ≢ Some (End x.recorded.caller)
+      apart here e = absurd (cc (sym e ∙ (ap (slice_get steps) here ∙ there)))
+
+      by : (o : Option ℕ) → x.recorded.ended ≡ o → EndsAs steps w.history i x.recorded.caller o a → a.last < b.first
+      by None is e = absurd (subst (λ (o : Option ℕ). EndedBy o y.recorded.begun) is over)
+      by (Some n) is e =
+          let early = earlier_place steps e.1.begun b.first i j x.recorded.caller y.recorded.caller e.1.begins y.begins.1 less in
+          elim (cases_order a.last b.first) [
+            | inl here ↦ absurd (apart here e.1.ends)
+            | inr not ↦ elim not [ inl after ↦ after | inr before ↦ absurd (e.1.last b.first y.begins.1.call early before there) ]
+          ]
+
+  once : (place : ℕ) → place < length w.history → (i : ℕ) × MadeBy Is place i × ((j : ℕ) → MadeBy Is place j → j ≡ i)
+  once place low =
+      let t = kept.once place low in
+      let m = and_some (slice_get w.calls t.0) (IsMaker place) t.1 in
+      let d = has_reply w.history m.0 (kept.explained t.0 m.0 m.1) (accepted_some m.0.reply m.2.0) in
+      let a = answered t.0 m.0 m.1 d.0 d.1 d.2 in
+      let accepted : accepts d.1 ≡ true = ap is_accepted (sym d.2.1) ∙ m.2.0 in (
+        t.0,
+        (a.0, a.1, ap accepts a.2 ∙ accepted, a.3 ∙ same_Some d.0 place (sym d.2.0 ∙ m.2.1)),
+        λ j made. t.2 j
+            (some_and (slice_get w.calls j) (IsMaker place) made.1.recorded made.1.at (ap is_accepted made.1.decided.1 ∙ made.2, made.1.decided.0 ∙ ap Some made.3)),
+      )
+
+  pub linearizable : IsLinearizableRun steps w.history w.calls
   linearizable = record {
     calls_begun = sym (kept.turns.same ∙ told_caller_and_call w.calls);
     calls_ended = calls_ended;
-    history_legal = kept.legal;
-    point_within_call = each_call (PointWithinCall w.history) (point_within w.history);
-    accepted_is_entry = each_call (AcceptedIsEntry w.history) (accepted_entry w.history);
-    entry_has_one_call = kept.once;
-    refused_at_point = each_call (RefusedAtPoint w.history) (refused_there w.history);
-    reading_is_snapshot = each_call (ReadingIsSnapshot w.history) (reading_snapshot w.history);
-    real_time_order = real_time;
-    versions_rise = never_fall;
+    recorded = λ i r at.
+        let p = whole w.history r (kept.explained i r at) in
+        record {
+          replied = p.0;
+          pointed = p.1;
+          answered = λ some. let d = has_reply w.history r (kept.explained i r at) some in let a = answered i r at d.0 d.1 d.2 in (a.0, a.1);
+        };
+    linearizable = linear w.history Is kept.legal explained_call once real;
+    in_turn = in_turn;
   }
 
 -- one history of the board of one thread explains every run
@@ -452,7 +497,7 @@ words_of_run cast steps w e = (run_kept steps [] (initial_state cast) w (kept_at
 
 -- so of every trace
 module _ (cast : Cast) (steps : List Step) (w : MachineState) (trace : Trace) (last : after_steps steps (initial_state cast) ≡ Some w) (left : IsLeftBy w trace) where
-  pub linearizable_trace : IsLinearizable steps trace.history.items trace.calls.items
+  pub linearizable_trace : IsLinearizableRun steps trace.history.items trace.calls.items
   linearizable_trace = search (arith, linearizable_run cast steps w last)
 
   pub words_of_trace : trace.words ≡ board_of trace.history.items

@@ -38,6 +38,16 @@ pub earlier_call : (steps : List Step) (p q i j : ℕ) (c d : Caller) → Begins
 earlier_call steps p q i j c d a b l =
     search (arith, begun_more steps (suc p) q (omega arith), take_one steps p (Begin c a.call) a.begins, begun_in-append, length-append, a.call, a.begins, a.number, b.number)
 
+-- a call is begun at one place
+pub one_place : (steps : List Step) (p q i : ℕ) (c d : Caller) → BeginsAt steps p i c → BeginsAt steps q i d → p ≡ q
+one_place steps p q i c d a b = elim (cases_order p q) [
+  | inl same ↦ same
+  | inr not ↦ elim not [
+    | inl less ↦ let l = earlier_call steps p q i i c d a b less in absurd (omega arith)
+    | inr more ↦ let l = earlier_call steps q p i i d c b a more in absurd (omega arith)
+  ]
+]
+
 module _ (steps : List Step) (s : Step) where
   pub back_begins : (p i : ℕ) (c : Caller) → p < length steps → BeginsAt (steps ++ s ∷ []) p i c → BeginsAt steps p i c
   back_begins p i c l b = search (arith, get_back, take-append-le)

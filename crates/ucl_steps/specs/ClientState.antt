@@ -11,30 +11,22 @@ use Rattle.ucl_board.specs.History.{entry_of}
 use Rattle.ucl_steps.specs.declared.step.Call.{Call}
 use Rattle.ucl_steps.specs.declared.step.Call.TheVariants.{Event, Reading}
 use Rattle.ucl_steps.specs.declared.trace.Reply.{Reply}
+use Rattle.ucl_steps.specs.Linearizable.{FinishedCall}
 use Rattle.ucl_steps.specs.Protocol.{Pending, NoCall, Holding, Collecting, Checking, Outcome, GoesOn, Answers, looked, swapped, loaded, compared}
-use Rattle.ucl_board.specs.Log.{AccessKind, Look, Swap, First, Second, Target, Match, Enlists, Whole, Taken, Logged, Log, taken_by}
+use Rattle.ucl_board.specs.Log.{AccessKind, Look, Swap, First, Second, Target, Match, Enlists, Whole, Taken, Logged, Log, entry_list, taken_by}
 
--- a finished call of a pass: the number of the pass (0 for a reader), the call and its reply, the places in the log of the call's first
--- step and of its last, and its linearization point: it takes effect after the first `point` entries of the history
-pub record FinishedCall : Type 0 where
-  pub number : ℕ
-  pub call : Call
-  pub reply : Reply
-  pub first : ℕ
-  pub last : ℕ
-  pub point : ℕ
-
--- what a pass has done: its number (0 for a reader), its finished calls, oldest first, what it holds of the call under way (NoCall if there
--- is none), and the place in the log of the first step of its latest call
+-- what a pass has done: its number (0 for a reader), its finished calls, oldest first, and what it holds of the call under way (NoCall if
+-- there is none); the place in the log of the first step of its latest call, and how many entries there were then
 pub record ClientState : Type 0 where
   pub number : ℕ
   pub calls : List FinishedCall
   pub held : Pending
   pub first : ℕ
+  pub begun : ℕ
 
 -- the state of a pass that has taken no step: a reader's, without a call
 abbrev pub new_client : ClientState
-new_client = record { number = 0; calls = []; held = NoCall; first = 0 }
+new_client = record { number = 0; calls = []; held = NoCall; first = 0; begun = 0 }
 
 -- the call of a step on this target, by what its pass held before: the entering of an event for a Look or a Swap, else a reading
 abbrev pub call_asked : Pending → Target → Call
@@ -52,11 +44,11 @@ outcome number (Collecting words) (Match First game found) now = loaded words fo
 outcome number (Checking words checked point) (Match Second game found) now = compared words checked point found
 outcome number held target now = GoesOn held
 
--- the place in the log of the first step of the call to which the step at `place` belongs: `place` itself if the pass held no call before
--- it, else `first`, the place of the first step of the pass's latest call
+-- of the first step of the call to which a step belongs what `now` is of that step itself: that is `now` if the pass held no call before
+-- the step, else `first`, what was kept of the first step of the pass's latest call
 abbrev pub first_place : Pending → ℕ → ℕ → ℕ
-first_place NoCall first place = place
-first_place held first place = first
+first_place NoCall first now = now
+first_place held first now = first
 
 -- the linearization point of a call that gets its reply by a step before which the history had `now` entries, by what its pass held then: a
 -- report takes effect at this step, a reading at the last load of its first collect
@@ -70,14 +62,20 @@ call_answered reply step client = record {
   number = client.number;
   call = call_asked client.held step.target;
   reply = reply;
+  point = point_of client.held step.at;
   first = first_place client.held client.first step.place;
   last = step.place;
-  point = point_of client.held step.at;
+  begun = first_place client.held client.begun step.at;
+  ended = step.at + length (entry_list step.entry);
 }
 
 -- the state of a pass after a step with this outcome, by its state `old` before: its call goes on, or is added to the finished calls
 abbrev pub with_outcome : Outcome → Taken → ClientState → ClientState
-with_outcome (GoesOn held) step old = record old { held = held; first = first_place old.held old.first step.place }
+with_outcome (GoesOn held) step old = record old {
+  held = held;
+  first = first_place old.held old.first step.place;
+  begun = first_place old.held old.begun step.at;
+}
 with_outcome (Answers reply) step old = record old { calls = old.calls ++ call_answered reply step old ∷ []; held = NoCall }
 
 -- the state of a pass after a step on this target: an enlistment gives it the number after those found; else by the protocol's outcome

@@ -1,6 +1,7 @@
 pub mod Trails
 pub mod Machine
 pub mod Linearizable
+pub mod RunHistory
 pub mod Traces
 pub mod Theorems
 pub mod Running

@@ -3,14 +3,14 @@
 use Rattle.std.specs.Prelude.{◌≡◌, Bool, List, map, take, Some, None, MatchBool}
 use Rattle.ucl_steps.specs.declared.step.Cast.{Cast}
 use Rattle.ucl_steps.specs.declared.step.Step.{Step}
-use Rattle.ucl_steps.specs.declared.machine.Pending.{Pending}
-use Rattle.ucl_steps.specs.declared.machine.Pending.TheVariants as has
+use Rattle.ucl_steps.specs.declared.machine.Held.{Held}
+use Rattle.ucl_steps.specs.declared.machine.Held.TheVariants as has
 use Rattle.ucl_steps.specs.declared.machine.Machine.{Machine}
 use Rattle.ucl_steps.specs.Protocol.{Holding, Collecting, Checking}
 use Rattle.ucl_steps.specs.Machine.{CallerState, Idle, Wanting, Within, Answered, MachineState, initial_state, after_step, after_steps}
 
 -- what a caller holds, from the program's value for it; of that value's twelve words in a first collect only the first `loaded` count
-abbrev pub holds_of : Pending → CallerState
+abbrev pub holds_of : Held → CallerState
 holds_of has.Idle = Idle
 holds_of (has.Wanting call event) = Wanting call event
 holds_of (has.Holding call event old new) = Within call (Holding event old new)

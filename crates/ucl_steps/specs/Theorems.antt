@@ -13,13 +13,13 @@ use Rattle.ucl_board.specs.History.{board_of, IsLegal, sequential_reply, snapsho
 use Rattle.ucl_steps.specs.declared.step.Cast.{Cast}
 use Rattle.ucl_steps.specs.declared.step.Step.{Step}
 use Rattle.ucl_steps.specs.Machine.{MachineState, initial_state, after_steps}
-use Rattle.ucl_steps.specs.Linearizable.{IsLinearizable}
+use Rattle.ucl_steps.specs.RunHistory.{IsLinearizableRun}
 use Rattle.ucl_board.specs.Log.{Access}
 use Rattle.ucl_steps.specs.Trails.{Follows, ReportAccesses, decided_at, max_tries, max_loads, IsUnclean, accesses_of, ReadingAccesses}
 
 -- every list of enabled steps of any reporters and readers, cut off anywhere, is linearizable: its history explains its calls
 abbrev pub RunsAreLinearizable : Type 0
-RunsAreLinearizable = (cast : Cast) (steps : List Step) (state : MachineState) → after_steps steps (initial_state cast) ≡ Some state → IsLinearizable steps state.history state.calls
+RunsAreLinearizable = (cast : Cast) (steps : List Step) (state : MachineState) → after_steps steps (initial_state cast) ≡ Some state → IsLinearizableRun steps state.history state.calls
 
 -- after every list of enabled steps the match words are those of the board of the history
 abbrev pub WordsAreOfTheHistory : Type 0

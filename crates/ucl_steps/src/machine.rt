@@ -19,7 +19,7 @@ use ucl_word::{Accepted, EventCall, Refusal, next_word, number_of};
 
 /// What a caller holds between two of its steps. `call` is the place of its call in the machine's list of calls.
 #[derive(Clone, Copy)]
-enum Pending {
+enum Held {
     /// The caller has no call.
     Idle,
     /// The caller has begun a report of this event.
@@ -53,12 +53,12 @@ enum Pending {
     },
 }
 
-impl Pending {
+impl Held {
     /// Returns what a caller holds whose reading, the call at place `call` in the list of calls, has loaded no word yet.
-    fn collecting(call: usize) -> Pending
+    fn collecting(call: usize) -> Held
         ensures { holds_of result ≡ Within call (Collecting []) }
     {
-        Pending::Collecting {
+        Held::Collecting {
             call,
             words: [0; 12],
             loaded: 0,
@@ -73,8 +73,8 @@ pub(crate) struct Machine {
     words: [u64; 12],
     history: Vec<Entry>,
     calls: Vec<CallRecord>,
-    reporters: Vec<Pending>,
-    readers: Vec<Pending>,
+    reporters: Vec<Held>,
+    readers: Vec<Held>,
 }
 
 impl Machine {
@@ -82,8 +82,8 @@ impl Machine {
     pub(crate) fn new(alloc: Global, cast: &Cast) -> Result<Machine, AllocError>
         ensures { IfOk result (λ machine. state_of machine ≡ initial_state cast.now) }
     {
-        let reporters = vec![in alloc; Pending::Idle; usize::from(cast.reporters)]?;
-        let readers = vec![in alloc; Pending::Idle; usize::from(cast.readers)]?;
+        let reporters = vec![in alloc; Held::Idle; usize::from(cast.reporters)]?;
+        let readers = vec![in alloc; Held::Idle; usize::from(cast.readers)]?;
         Ok(Machine {
             words: Board::fresh().words(),
             history: Vec::new(alloc),
@@ -135,19 +135,19 @@ impl Machine {
             (λ taken. Takes (state_of self.old) (Begin caller call) taken (state_of self.new)) }
     {
         let held = self.held(&caller);
-        let Some(Pending::Idle) = &held else {
+        let Some(Held::Idle) = &held else {
             return Ok(false);
         };
         let place = self.calls.len();
         let next = match &call {
             Call::Event(event) => match &caller {
                 Caller::Reader(_) => return Ok(false),
-                Caller::Reporter(_) => Pending::Wanting {
+                Caller::Reporter(_) => Held::Wanting {
                     call: place,
                     event: *event,
                 },
             },
-            Call::Reading => Pending::collecting(place),
+            Call::Reading => Held::collecting(place),
         };
         let begun = self.now();
         self.calls.push(CallRecord {
@@ -169,7 +169,7 @@ impl Machine {
         ensures { Takes (state_of self.old) (Look caller) result (state_of self.new) }
     {
         let held = self.held(&caller);
-        let Some(Pending::Wanting { call, event }) = &held else {
+        let Some(Held::Wanting { call, event }) = &held else {
             return false;
         };
         let Caller::Reporter(reporter) = &caller else {
@@ -179,7 +179,7 @@ impl Machine {
         match next_word(old, *reporter, event.expected, event.kind) {
             Ok(new) => self.hold(
                 caller,
-                Pending::Holding {
+                Held::Holding {
                     call: *call,
                     event: *event,
                     old,
@@ -200,7 +200,7 @@ impl Machine {
     {
         let held = self.held(&caller);
         let Some(
-            Pending::Holding {
+            Held::Holding {
                 call,
                 event,
                 old,
@@ -236,7 +236,7 @@ impl Machine {
     {
         let held = self.held(&caller);
         let Some(
-            Pending::Collecting {
+            Held::Collecting {
                 call,
                 words,
                 loaded,
@@ -248,14 +248,14 @@ impl Machine {
         let mut words = *words;
         words[*loaded] = self.words[*loaded];
         let next = if *loaded == 11 {
-            Pending::Checking {
+            Held::Checking {
                 call: *call,
                 words,
                 checked: 0,
                 point: self.now(),
             }
         } else {
-            Pending::Collecting {
+            Held::Collecting {
                 call: *call,
                 words,
                 loaded: *loaded + 1,
@@ -273,7 +273,7 @@ impl Machine {
     {
         let held = self.held(&caller);
         let Some(
-            Pending::Checking {
+            Held::Checking {
                 call,
                 words,
                 checked,
@@ -284,12 +284,12 @@ impl Machine {
             return false;
         };
         if self.words[*checked] != words[*checked] {
-            self.hold(caller, Pending::collecting(*call));
+            self.hold(caller, Held::collecting(*call));
         } else if *checked == 11 {
             let reading = Reading::of(&Board::of_packed(words));
             self.reply(caller, *call, *point, Reply::Copied(reading));
         } else {
-            let next = Pending::Checking {
+            let next = Held::Checking {
                 call: *call,
                 words: *words,
                 checked: *checked + 1,
@@ -306,18 +306,18 @@ impl Machine {
         ensures { Takes (state_of self.old) (End caller) result (state_of self.new) }
     {
         let held = self.held(&caller);
-        let Some(Pending::Answered { call }) = &held else {
+        let Some(Held::Answered { call }) = &held else {
             return false;
         };
         let mut record = self.calls[*call];
         record.ended = Some(self.now());
         self.calls[*call] = record;
-        self.hold(caller, Pending::Idle);
+        self.hold(caller, Held::Idle);
         true
     }
 
     /// Returns what a caller holds between two of its steps, or `None` if the cast has no such caller.
-    fn held(&self, caller: &Caller) -> Option<Pending>
+    fn held(&self, caller: &Caller) -> Option<Held>
         ensures { option_map holds_of result ≡ held_by (state_of self.now).callers caller.now }
     {
         match caller {
@@ -340,7 +340,7 @@ impl Machine {
     }
 
     /// Sets what a caller of the cast holds between two of its steps.
-    fn hold(&mut self, caller: Caller, next: Pending)
+    fn hold(&mut self, caller: Caller, next: Held)
         requires { IsSome (held_by (state_of self.old).callers caller) }
         ensures { state_of self.new ≡ with_held (holds_of next) caller (state_of self.old) }
     {
@@ -360,7 +360,7 @@ impl Machine {
         record.point = Some(point);
         record.reply = Some(reply);
         self.calls[call] = record;
-        self.hold(caller, Pending::Answered { call });
+        self.hold(caller, Held::Answered { call });
     }
 
     /// Returns the length of the history, which is the present place in time.

@@ -4,7 +4,7 @@
 ghost use Rattle.std.specs.Prelude.{◌≡◌, ℕ, IfOk, Err};
 ghost use Rattle.ucl_board.specs.History.{board_of};
 ghost use Rattle.ucl_steps.specs.declared.trace.StepFault.TheVariants.{NotEnabled};
-ghost use Rattle.ucl_steps.specs.Linearizable.{IsLinearizable};
+ghost use Rattle.ucl_steps.specs.RunHistory.{IsLinearizableRun};
 ghost use Rattle.ucl_steps.specs.Traces.{IsTraceOf, IsFirstDisabled};
 
 use crate::machine::Machine;
@@ -24,7 +24,7 @@ pub fn run_steps(alloc: Global, cast: &Cast, steps: &[Step]) -> Result<Trace, St
     ensures not_enabled { (at : ℕ) → result ≡ Err (NotEnabled at)
         → IsFirstDisabled cast.now steps.now at }
     ensures linearizable { IfOk result
-        (λ trace. IsLinearizable steps.now trace.history.items trace.calls.items) }
+        (λ trace. IsLinearizableRun steps.now trace.history.items trace.calls.items) }
     ensures words { IfOk result (λ trace. trace.words ≡ board_of trace.history.items) }
 {
     let mut machine = Machine::new(alloc, cast)?;

@@ -63,8 +63,8 @@ pub fn logs_have_facts()
 {}
 
 /// States that every log that follows the protocol is a run of the machine: each of its steps on a match word is one step of the machine,
-/// by a caller that stands for its pass, with the beginning of a call just before its first step and the end just after its last. The run
-/// leads to the history of the log and the words of its board; what each pass holds is what its callers there hold. A longer log is a
+/// by the caller that stands for its pass, with the beginning of a call just before its first step and the end just after its last. The run
+/// leads to the history of the log and the words of its board; what each pass holds is what its caller there holds. A longer log is a
 /// longer run.
 #[tactic(auto, using(crate::proofs::LogRuns::logs_run, crate::proofs::LogRuns::longer_logs))]
 pub fn logs_are_runs()

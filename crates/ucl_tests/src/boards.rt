@@ -295,15 +295,8 @@ fn enter_all<B: LiveBoard, R: Wait>(rt: &R, board: &B, pass: &mut B::ReporterPas
     (B::accepted_of(pass), board.read_own(rt, pass).version)
 }
 
-/// Events on a board that takes no more: the match, the kind and the refusal.
-static LATE_EVENTS: [(u8, Kind, Refusal); 4] = [
-    (1, KickOff, Refusal::Finished),
-    (6, Goal(Away), Refusal::Finished),
-    (12, FullTime, Refusal::Finished),
-    (1, Reopen, Refusal::NumberFull),
-];
-
-/// The first of the late events that gets another reply.
+/// On a board that takes no more, the first match and kind of which an event with the right number gets another reply: a match is finished,
+/// and has no number left for being reopened.
 fn first_late<B: LiveBoard, R: Wait>(
     rt: &R,
     board: &B,
@@ -311,10 +304,17 @@ fn first_late<B: LiveBoard, R: Wait>(
 ) -> Option<(u8, Kind)>
     requires { B.is_reporter board.now pass.old }
 {
-    for &(number, kind, refusal) in LATE_EVENTS.as_slice() {
-        let game = MatchNo::new(number)?;
-        if reply_to(rt, board, pass, (game, MOST, kind)) != Err(refusal) {
-            return Some((number, kind));
+    for number in 1..13u8 {
+        for code in 0..13u32 {
+            let (game, kind) = (MatchNo::new(number)?, Kind::from_code(code)?);
+            let refusal = if kind == Reopen {
+                Refusal::NumberFull
+            } else {
+                Refusal::Finished
+            };
+            if reply_to(rt, board, pass, (game, MOST, kind)) != Err(refusal) {
+                return Some((number, kind));
+            }
         }
     }
     None

@@ -1,6 +1,7 @@
 //! Scripts and sheets, taken in and refused.
 
 use std::alloc::{AllocError, Global};
+use std::io;
 use std::test::Fail;
 use ucl_board::Board;
 use ucl_screen::InputFault::{BadRoster, BadRow, BadWordAt};
@@ -32,6 +33,25 @@ fn joined(alloc: Global, parts: &[&[u8]]) -> Result<Vec<u8>, AllocError> {
         text.extend_from_slice(part)?;
     }
     Ok(text)
+}
+
+/// A reader that fills each buffer, and never ends.
+#[derive(Drop)]
+struct Endless;
+
+impl io::Read for Endless {
+    fn read(&mut self, buf: &mut [u8]) -> io::Result<usize> {
+        buf.fill(b'1');
+        Ok(buf.len())
+    }
+}
+
+#[test]
+fn reader_that_never_ends(rt: HostRuntime) {
+    let night = read_night(rt.alloc(), &mut FromRead::new(Endless));
+    assert_eq!(rt; night.err(), Some(InputFault::TooLong));
+    let sheet = read_words(rt.alloc(), &mut FromRead::new(Endless));
+    assert_eq!(rt; sheet.err(), Some(InputFault::TooLong));
 }
 
 fn night_of(alloc: Global, text: &[u8]) -> Result<Night, InputFault> {

@@ -10,6 +10,8 @@ mod devices;
 #[cfg(test)]
 mod input;
 #[cfg(test)]
+mod mends;
+#[cfg(test)]
 mod nights;
 #[cfg(test)]
 mod order;
@@ -23,5 +25,7 @@ mod sessions;
 mod steps;
 #[cfg(test)]
 mod stored;
+#[cfg(test)]
+mod texts;
 #[cfg(test)]
 mod word;

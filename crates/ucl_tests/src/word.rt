@@ -8,9 +8,7 @@ use ucl_word::Refusal::{
     Stale,
 };
 use ucl_word::Side::Home;
-use ucl_word::{
-    BadWord, Kind, OutOfMemory, Refusal, ReporterNo, State, apply, migrate, pack, unpack,
-};
+use ucl_word::{BadWord, Kind, Refusal, ReporterNo, State, apply, migrate, pack, unpack};
 
 /// The number, the state, then goals, yellows and expulsions, home side first, and the reporter. The states count from 0.
 fn fields_of(word: u64) -> Option<[u16; 9]> {
@@ -193,7 +191,7 @@ fn boards_of_words(rt: HostRuntime) {
     assert_eq!(rt; Board::of_words(&[0; 12]), Ok(Board::fresh()));
 }
 
-/// No refusal gives up when it is written. What it is written as is proved, but for the last three texts.
+/// No refusal gives up when it is written. What it is written as is proved; `texts` has the other texts.
 #[test]
 fn refusals_are_written(rt: HostRuntime) -> Result<(), Fail> {
     for found in 0..4096 {
@@ -204,14 +202,5 @@ fn refusals_are_written(rt: HostRuntime) -> Result<(), Fail> {
             }
         }
     }
-    let texts = [
-        BadWord.to_string(rt.alloc())?,
-        BadWordAt { index: 4 }.to_string(rt.alloc())?,
-        OutOfMemory.to_string(rt.alloc())?,
-    ];
-    let [word, at, memory] = &texts;
-    assert_eq!(rt; word.as_str(), "bad word 10");
-    assert_eq!(rt; at.as_str(), "bad word 10: word 4");
-    assert_eq!(rt; memory.as_str(), "out of memory 23");
     Ok(())
 }

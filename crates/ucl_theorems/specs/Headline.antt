@@ -2,14 +2,13 @@
 -- of every running word board (thirteen atomic words). An entry is an accepted event. A pass is a thread's permission on a board; its seat
 -- is its place in the list of all passes; the log has all atomic steps of all passes, oldest first. A call is a report or a reading; its
 -- point is how many entries of the history come before it takes effect. A profile is a choice of tie-break rules, a roster the four clubs.
-use Rattle.std.specs.Prelude.{◌≡◌, ℕ, ◌<◌, ◌++◌, List, All, length, take, drop, flat_map, Some}
+use Rattle.std.specs.Prelude.{◌≡◌, ℕ, ◌<◌, ◌≤◌, ◌++◌, List, All, length, take, drop, flat_map, Some}
 use mathlib.Core.List.{IsPrefix}
 use mathlib.Core.Option.{some}
 use lib.ListN.{get_elem?}
 use Rattle.atomic_table.specs.Table.{State}
 use Rattle.ucl_board.specs.declared.entry.Entry.{Entry}
-use Rattle.ucl_board.specs.declared.reading.Reading.{Reading}
-use Rattle.ucl_board.specs.History.{board_of}
+use Rattle.ucl_board.specs.History.{IsLegal, board_of, snapshot_at}
 use Rattle.ucl_order.specs.declared.profile.Profile.{Profile}
 use Rattle.ucl_order.specs.Roster.{NamedClub}
 use Rattle.ucl_order.specs.Rows.{rows_of}
@@ -17,12 +16,11 @@ use Rattle.ucl_screen.specs.Lines.{header}
 use Rattle.ucl_screen.specs.Screen.{columns, in_play, row_line, screen_text}
 use Rattle.ucl_steps.specs.declared.step.Cast.{Cast}
 use Rattle.ucl_steps.specs.declared.step.Step.{Step}
-use Rattle.ucl_steps.specs.declared.trace.CallRecord.{CallRecord}
-use Rattle.ucl_steps.specs.declared.trace.Reply.TheVariants.{Copied}
 use Rattle.ucl_steps.specs.Machine.{MachineState, initial_state, after_steps}
-use Rattle.ucl_steps.specs.Linearizable.{IsDecided, IsLinearizable}
+use Rattle.ucl_steps.specs.RunHistory.{IsLinearizableRun}
 use Rattle.ucl_board.specs.Log.{Logged, Log, taken_by, history_of, IsLog}
-use Rattle.ucl_steps.specs.ClientState.{FinishedCall, client_at, FollowsProtocol}
+use Rattle.ucl_steps.specs.ClientState.{client_at, FollowsProtocol}
+use Rattle.ucl_steps.specs.Linearizable.{FinishedCall, GoesBefore}
 use Rattle.ucl_steps.specs.LogHistory.{IsCall, IsLinearizableLog}
 use Rattle.ucl_live_board.specs.declared.view.View.{View}
 use Rattle.ucl_words.specs.LaterState.{LaterState}
@@ -34,28 +32,17 @@ screen_at profile history version roster group =
     let board = board_of (take version history) in
     header group version (in_play board) ++ columns ++ flat_map (row_line roster) (rows_of profile board roster)
 
--- If this call of a run of the machine is a reading, its screen, under each profile, roster and group, is that of the history at its point.
-abbrev pub ScreenIsOfItsPlace : List Entry → CallRecord → Type 0
-ScreenIsOfItsPlace history call =
-    (point : ℕ) (reading : Reading) → IsDecided call point (Copied reading) → (profile : Profile) (roster : List NamedClub) (group : ℕ)
-    → screen_text profile reading.board roster group ≡ screen_at profile history point roster group
+-- The screen of a snapshot of a legal history, under each profile, roster and group, is that of the history at its place.
+abbrev pub ScreensShowTheHistory : Type 0
+ScreensShowTheHistory =
+    (history : List Entry) (point : ℕ) → IsLegal history → point ≤ length history → (profile : Profile) (roster : List NamedClub) (group : ℕ)
+    → screen_text profile (snapshot_at history point).board roster group ≡ screen_at profile history point roster group
 
--- A run of the machine by these steps is linearizable: one history of a board of one thread holds each finished call once, with the reply
--- that it got, between its begin and its end. And the screen of each reading is that of the history at its point.
-pub record HasOneHistory (steps : List Step) (history : List Entry) (calls : List CallRecord) : Type 0 where
-  pub linearizable : IsLinearizable steps history calls
-  pub screens : All (ScreenIsOfItsPlace history) calls
-
--- Every run of the machine has one history, for any numbers of reporters and readers (`cast`), with calls left unfinished anywhere.
+-- Every run of the machine has one history, for any numbers of reporters and readers (`cast`), with calls left unfinished anywhere: it holds
+-- each call that has a reply once, with that reply, between its begin and its end.
 abbrev pub EveryRunHasOneHistory : Type 0
 EveryRunHasOneHistory = (cast : Cast) (steps : List Step) (state : MachineState) → after_steps steps (initial_state cast) ≡ Some state
-    → HasOneHistory steps state.history state.calls
-
--- If this call of a word board is a reading, its screen, under each profile, roster and group, is that of the history at its point.
-abbrev pub ScreenIsOfItsPoint : List Entry → FinishedCall → Type 0
-ScreenIsOfItsPoint history call =
-    (reading : Reading) → call.reply ≡ Copied reading → (profile : Profile) (roster : List NamedClub) (group : ℕ)
-    → screen_text profile reading.board roster group ≡ screen_at profile history call.point roster group
+    → IsLinearizableRun steps state.history state.calls
 
 -- The pass at a seat knows a prefix of the log, and its own steps are just those of its seat in the log.
 pub record IsOfLog (log : Log) (seat : ℕ) (pass : View) : Type 0 where
@@ -65,7 +52,7 @@ pub record IsOfLog (log : Log) (seat : ℕ) (pass : View) : Type 0 where
 -- A word board, between two steps of any threads, has one history. There is one log of all steps, each the next one of the protocol, whose
 -- history has the words that are there. Each pass knows a prefix of it, which has its own steps; no step is of a seat without a pass, and
 -- no two passes have one number. The history holds each finished call of each pass once, with the reply that it got, between its first step
--- and its last; and the screen of each reading is that of the history at its point.
+-- and its last.
 pub record IsOneHistory (state : State Entry View) : Type 0 where
   pub log : Log
   pub is_log : IsLog log
@@ -77,15 +64,25 @@ pub record IsOneHistory (state : State Entry View) : Type 0 where
   pub apart : (i j : ℕ)
       → 0 < (client_at i log).number → (client_at i log).number ≡ (client_at j log).number → i ≡ j
   pub linearizable : IsLinearizableLog log
-  pub screens : (seat k : ℕ) (call : FinishedCall)
-      → IsCall log seat k call → ScreenIsOfItsPoint (history_of log) call
 
 -- Each state that satisfies `rule`, the invariant of the board, has one history.
 abbrev pub BoardsHaveOneHistory : (State Entry View → Type 0) → Type 0
 BoardsHaveOneHistory rule = (state : State Entry View) → rule state → IsOneHistory state
 
--- The history of a board that satisfies `rule`, its invariant, only grows: the log of a later state begins with that of the earlier one,
--- whichever steps of whichever passes came between. So no entry and no call ever moves.
+-- The call of the pass at a seat began in this state or later: its first step came after all that the pass knew then.
+abbrev pub BeganSince : State Entry View → ℕ → FinishedCall → Type 0
+BeganSince state seat c = (pass : View) × (get_elem? state.views seat ≡ some pass) × (length pass.log ≤ c.first)
+
+-- The log of a state goes on in a later one: that begins with it, and each call that had finished is the same call there. In real time: of
+-- two calls, if one had ended in the earlier state, and the other began in it or later, the one goes before the other.
+pub record LogGoesOn (state : State Entry View) (log later : Log) : Type 0 where
+  pub begins : IsPrefix log later
+  pub calls : (seat k : ℕ) (c : FinishedCall) → IsCall log seat k c → IsCall later seat k c
+  pub real_time : (seat other k l : ℕ) (a b : FinishedCall)
+      → IsCall log seat k a → IsCall later other l b → BeganSince state other b → GoesBefore a b
+
+-- The history of a board that satisfies `rule`, its invariant, only grows, whichever steps of whichever passes come between two states: no
+-- entry and no call ever moves, and the order of calls is that of real time.
 pub record HistoriesGoOn (rule : State Entry View → Type 0) : Type 0 where
   pub boards : BoardsHaveOneHistory rule
-  pub later : (s t : State Entry View) (r : rule s) (q : rule t) → LaterState s t → IsPrefix (boards s r).log (boards t q).log
+  pub later : (s t : State Entry View) (r : rule s) (q : rule t) → LaterState s t → LogGoesOn s (boards s r).log (boards t q).log

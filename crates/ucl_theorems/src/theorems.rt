@@ -2,25 +2,27 @@
 //! there for their contracts. A word board has thirteen atomic words; a pass is a thread's permission on it; the log has all steps in
 //! order, its history the accepted events. The protocol's machine is a pure state machine of these steps (`ucl_steps`).
 
-ghost use Rattle.ucl_theorems.specs.Headline.{EveryRunHasOneHistory, BoardsHaveOneHistory, HistoriesGoOn};
+ghost use Rattle.ucl_theorems.specs.Headline.{EveryRunHasOneHistory, BoardsHaveOneHistory, HistoriesGoOn, ScreensShowTheHistory};
 
 use atomic_table::TableRule;
 use ucl_board::Entry;
 use ucl_words::View;
-use ucl_words::rule::OneHistory;
+use ucl_words::rule::WordRule;
 
 /// Shows that a word board has one history, in every state that satisfies its table's invariant, so between any two steps of any threads.
 /// One log has all steps, each the next one of the protocol; its history has the words that are there, and each pass has seen a prefix of
 /// it. It holds each finished call of each pass once, between its first step and its last. Each reading is the board after a prefix of it,
 /// no pass reads a lower version later, and the screen of each reading is the text of that board, with the clubs in the chosen order.
 pub fn boards_have_one_history()
-    ensures { BoardsHaveOneHistory (⟦<OneHistory as TableRule<Entry, View, ()>>⟧.holds tt) }
+    ensures history { BoardsHaveOneHistory (⟦<WordRule as TableRule<Entry, View, ()>>⟧.holds tt) }
+    ensures screens { ScreensShowTheHistory }
 {}
 
 /// Shows that the history of a word board only grows. After steps of any passes (`steps_are_monotone` of `ucl_words`) the log begins with
-/// what it was before. So the order of the calls, even of passes that told each other nothing, is that of real time, and never changes.
+/// what it was before, and no finished call moves. The order of calls, even of passes that told each other nothing, is that of real time: a
+/// call that had ended in some state goes before each call that began in that state or later.
 pub fn histories_go_on()
-    ensures { HistoriesGoOn (⟦<OneHistory as TableRule<Entry, View, ()>>⟧.holds tt) }
+    ensures { HistoriesGoOn (⟦<WordRule as TableRule<Entry, View, ()>>⟧.holds tt) }
 {}
 
 /// Shows that every run of the protocol's machine has one history, for every list of steps of any reporters and readers, with calls cut off
@@ -28,5 +30,6 @@ pub fn histories_go_on()
 /// invocation and its response. So no reading mixes two boards, no reader reads a lower version later, and each screen is the text of the
 /// board that its reading copied, with its clubs in order.
 pub fn every_run_has_one_history()
-    ensures { EveryRunHasOneHistory }
+    ensures history { EveryRunHasOneHistory }
+    ensures screens { ScreensShowTheHistory }
 {}

@@ -2,7 +2,7 @@
 -- then loads them again, and begins anew at a word that has changed. A pass is a thread's permission: `old` is what contracts know of it
 -- before, `new` afterwards. An access is one load or exchange of a match word, at a length of the history (the accepted events). The log
 -- has all steps of all passes. A `Pending` is what a pass keeps of its report or reading (its call) until that is answered.
-use Rattle.std.specs.Prelude.{◌≡◌, ℕ, ◌≤◌, List, [], ◌∷◌, ◌++◌, length, Some, None, slice_get}
+use Rattle.std.specs.Prelude.{◌≡◌, ℕ, ◌≤◌, List, [], length, Some, None, slice_get}
 use Rattle.ucl_word.specs.declared.event.EventCall.{EventCall}
 use Rattle.ucl_board.specs.Log.{First, Second, Access, added_by, history_of, number_of}
 use Rattle.ucl_steps.specs.declared.step.Call.{Call}

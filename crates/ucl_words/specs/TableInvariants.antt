@@ -10,8 +10,8 @@ use Rattle.ucl_board.specs.History.{board_of}
 use Rattle.ucl_board.specs.Log.{Look, Swap, First, Second, Target, Match, Enlisted, Enlists, Taken}
 use Rattle.ucl_steps.specs.ClientState.{IsNextOfProtocol}
 use Rattle.ucl_live_board.specs.declared.view.View.{View}
-use Rattle.ucl_live_board.specs.OneHistory.{BoardInvariant}
-use Rattle.ucl_live_board.specs.PossibleViews.{OccursIn, OccurTogether}
+use Rattle.ucl_live_board.specs.BoardInvariant.{BoardInvariant}
+use Rattle.ucl_live_board.specs.PossibleViews.{OccursIn, BothOccur}
 use Rattle.ucl_live_board.specs.Steps.{BoardStep}
 use Rattle.ucl_live_board.specs.Views.{Takes}
 
@@ -34,7 +34,7 @@ Occurs seat pass = OccursIn words_after IsNextOfProtocol seat pass
 -- If some state that satisfies the invariant has the pass `old` at a seat, some such state has `left` at that seat and `second` at another:
 -- the two passes that a split makes of `old`.
 abbrev pub OccurAfterSplit : View → View → View → Type 0
-OccurAfterSplit old left second = (seat : ℕ) → Occurs seat old → OccurTogether words_after IsNextOfProtocol seat left second
+OccurAfterSplit = BothOccur words_after IsNextOfProtocol
 
 -- The pass at a seat took one step on this target (which word, what was done and what was found), the next step of the protocol.
 abbrev pub Steps : ℕ → Target → View → View → Type 0

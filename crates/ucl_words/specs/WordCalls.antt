@@ -13,7 +13,8 @@ use Rattle.ucl_steps.specs.declared.step.Call.{Call}
 use Rattle.ucl_steps.specs.declared.step.Call.TheVariants as calls
 use Rattle.ucl_steps.specs.declared.trace.Reply.{Reply}
 use Rattle.ucl_steps.specs.Protocol.{MayAsk, NoCall}
-use Rattle.ucl_steps.specs.ClientState.{FinishedCall, client_of}
+use Rattle.ucl_steps.specs.Linearizable.{FinishedCall}
+use Rattle.ucl_steps.specs.ClientState.{client_of}
 use Rattle.ucl_steps.specs.Trails.{Follows, ReportAccesses, max_tries, ReadingAccesses}
 use Rattle.ucl_live_board.specs.declared.view.View.{View}
 use Rattle.ucl_live_board.specs.Passes.{IsSound}

@@ -3,6 +3,7 @@
 -- in the list of all passes, its share its fraction of the permission. A step is one load or one compare and exchange of a word. A pass has
 -- seen a prefix of the accepted events. By `occurs`, some state that satisfies the invariant of the board has the pass as it is then.
 use Rattle.std.specs.Prelude.{◌≡◌, ◌+◌, ◌≤◌, None, Some, Result}
+use Rattle.atomic_table.specs.Seated.{TableId}
 use Rattle.ucl_word.specs.declared.event.EventCall.{EventCall}
 use Rattle.ucl_word.specs.declared.event.Accepted.{Accepted}
 use Rattle.ucl_word.specs.declared.refusal.Refusal.{Refusal}
@@ -17,8 +18,14 @@ use Rattle.ucl_board.specs.Log.{number_of}
 use Rattle.ucl_live_board.specs.Views.{count_of, first_pass, left_pass, second_pass}
 use Rattle.ucl_live_board.specs.CallSteps.{MeetingSteps}
 use Rattle.ucl_words.specs.WordCalls.{CompletesCall, DoneAsBefore, EnlistTries, KeepsTrail, ReportSteps, ReadingSteps}
-use Rattle.ucl_words.specs.TableInvariants.{Occurs, OccurAfterSplit}
+use Rattle.ucl_live_board.specs.PossibleViews.{OccursSomewhere}
+use Rattle.ucl_steps.specs.ClientState.{IsNextOfProtocol}
+use Rattle.ucl_words.specs.TableInvariants.{Occurs, OccurAfterSplit, words_after}
 use Rattle.ucl_words.specs.WordViews.{WordPass, pass_view_of}
+
+-- A pass is of this board, and some state that satisfies the invariant has it.
+abbrev pub IsWordPassOf : TableId → WordPass → Type 0
+IsWordPassOf board pass = (pass.board ≡ board) × OccursSomewhere words_after IsNextOfProtocol pass.pass
 
 -- What `open` promises of the first pass of a new board: it has seen and done nothing, and has the whole board to itself.
 pub record WordOpened (new : WordPass) : Type 0 where
@@ -47,8 +54,8 @@ pub record WordRead (old : WordPass) (read : Reading) (new : WordPass) : Type 0 
   pub most : count_of new.pass ≤ count_of old.pass + max_loads
   pub occurs : Occurs new.seat new.pass
 
--- What a split promises of the pass that it splits, `old` and then `new`, and of the `second` pass that it returns: it takes no step, the
--- first keeps half of its share of the board, and the second knows as much and has the other half.
+-- What a split promises of the pass that it splits, `old` and then `new`, and of the `second` pass that it returns: it takes no step of the
+-- log, the first keeps half of its share of the board, and the second knows as much and has the other half.
 pub record WordSplit (old new second : WordPass) : Type 0 where
   pub own : (new.board ≡ old.board) × (second.board ≡ old.board)
   pub seat : new.seat ≡ old.seat
@@ -79,8 +86,8 @@ pub record WordFull (old new : WordPass) : Type 0 where
   pub most : count_of new.pass ≤ count_of old.pass + 255
   pub occurs : Occurs new.seat new.pass
 
--- What a meeting of two passes promises: the pass `old`, then `new`, has seen all events that either had seen, after one load of the number
--- of reporters; the other pass, `other_old` and then `other_new`, is as it was.
+-- What a meeting of two passes promises: the pass `old`, then `new`, has seen all events that either had seen, after one step, a load of
+-- the number of reporters; the other pass, `other_old` and then `other_new`, is as it was.
 pub record WordMet (other_old other_new old new : WordPass) : Type 0 where
   pub own : (other_new.board ≡ other_old.board) × (new.board ≡ old.board)
   pub seat : new.seat ≡ old.seat

@@ -10,9 +10,9 @@ ghost use Rattle.ucl_board.specs.History.{reading_of};
 ghost use Rattle.ucl_words.specs.TableInvariants.{words_after, ImpliesInvariant, Occurs, Steps};
 ghost use Rattle.ucl_words.specs.CollectSteps.{Collects, FindsAgain, FindsAnother, IsHoldingFor, MayCollect, StaysIn, Finishes};
 ghost use Rattle.ucl_words.specs.WordCalls.{IsConsistent};
-ghost use Rattle.ucl_words.specs.WordRecords.{WordOpened, WordReported, WordRead, WordSplit, WordEnlisted, WordFull, WordMet};
+ghost use Rattle.ucl_words.specs.WordRecords.{WordOpened, WordReported, WordRead, WordSplit, WordEnlisted, WordFull, WordMet, IsWordPassOf};
 ghost use Rattle.ucl_words.specs.WordViews.{pass_of};
-ghost use Rattle.ucl_live_board.specs.OneHistory.{BoardsOpenFresh};
+ghost use Rattle.ucl_live_board.specs.BoardInvariant.{BoardsOpenFresh};
 ghost use Rattle.ucl_word.specs.Record.{IsReporter};
 ghost use Rattle.ucl_steps.specs.Protocol.{NoCall, Collecting, Checking};
 ghost use Rattle.ucl_board.specs.Log as logs;
@@ -23,8 +23,8 @@ ghost use Rattle.ucl_steps.specs.declared.trace.Reply.TheVariants as replies;
 
 use crate::passes::{WordReaderPass, WordReporterPass};
 use crate::rule::{
-    Asking, CountEnlisted, Enlist, First, Look, Note, OneHistory, Seat, Second, SecondPass, Swap,
-    Table,
+    Asking, CountEnlisted, Enlist, First, Look, Note, Seat, Second, SecondPass, Swap, Table,
+    WordRule,
 };
 use atomic_table::TableRule;
 use std::alloc::Global;
@@ -80,10 +80,10 @@ impl WordBoard {
     /// assert_eq!(rt; reading.version, 0);
     /// ```
     pub fn open<R>(_rt: &R, alloc: Global) -> Result<(WordBoard, WordReaderPass), OutOfMemory>
-        ensures own { IfOk result (λ opened. opened.1.board ≡ opened.0) }
+        ensures own { IfOk result (λ opened. IsWordPassOf opened.0 opened.1) }
         ensures opened { IfOk result (λ opened. WordOpened opened.1) }
         ensures rule { BoardsOpenFresh words_after IsNextOfProtocol }
-        ensures tied { ImpliesInvariant (⟦<OneHistory as TableRule<Entry, View, ()>>⟧.holds tt) }
+        ensures tied { ImpliesInvariant (⟦<WordRule as TableRule<Entry, View, ()>>⟧.holds tt) }
     {
         let (table, seat) = Table::of_words(alloc, &fresh_words(), &())?;
         Ok((WordBoard { table }, WordReaderPass { seat }))
@@ -313,7 +313,8 @@ impl WordBoard {
         self.read_by(seat)
     }
 
-    /// Splits off a second reader's pass, for another thread: it has seen the same events as `pass`, and has, in contracts, its steps.
+    /// Splits off a second reader's pass, for another thread: it has seen the same events as `pass`, and has, in contracts, its steps. This
+    /// is one load of the number of reporters by the kit, which ignores what it finds; it is no step of the log, and no contract counts it.
     ///
     /// ```rust
     /// let (board, mut reader) = WordBoard::open(&rt, rt.alloc())?;
@@ -370,8 +371,8 @@ impl WordBoard {
         Err(TooManyReporters(WordReaderPass { seat }))
     }
 
-    /// Tells the second pass all events that the first has seen, by one load of the number of reporters: afterwards it has seen all that
-    /// either had seen. The first is as it was.
+    /// Tells the second pass all events that the first has seen: afterwards it has seen all that either had seen. The first is as it was.
+    /// This is one load of the number of reporters, after two by the kit, which ignores what they find: those are no steps of the log.
     ///
     /// ```rust
     /// let (board, mut pass) = WordBoard::open(&rt, rt.alloc())?;

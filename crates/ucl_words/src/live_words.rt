@@ -4,7 +4,7 @@
 ghost use Rattle.std.specs.Prelude.{◌≡◌, MatchResult};
 ghost use Rattle.ucl_live_board.specs.Passes.{reporter_figures};
 ghost use Rattle.ucl_words.specs.WordViews.{pass_view_of};
-ghost use Rattle.ucl_words.specs.WordRecords.{WordReported, WordRead, WordSplit, WordEnlisted, WordFull, WordMet};
+ghost use Rattle.ucl_words.specs.WordRecords.{WordReported, WordRead, WordSplit, WordEnlisted, WordFull, WordMet, IsWordPassOf};
 
 use crate::board::WordBoard;
 use crate::passes::{WordReaderPass, WordReporterPass};
@@ -19,13 +19,15 @@ impl LiveBoard for WordBoard {
 
     type ReporterPass = WordReporterPass;
 
-    ghost is_reader = { λ board pass. pass.board ≡ board };
+    ghost is_reader = { IsWordPassOf };
 
-    ghost is_reporter = { λ board pass. pass.board ≡ board };
+    ghost is_reporter = { IsWordPassOf };
 
     ghost reader = { λ pass. pass_view_of pass.pass };
 
     ghost reporter = { λ pass. pass_view_of pass.pass };
+
+    ghost reported = { WordReported };
 
     /// Enters the event `call` under the number of the pass, by `report_now`; answers the refusal if the rules of a match refuse it.
     fn report<R: Wait>(
@@ -35,7 +37,8 @@ impl LiveBoard for WordBoard {
         call: &EventCall,
     ) -> Result<Accepted, Refusal>
         requires { pass.old.board ≡ self.now }
-        ensures { WordReported pass.old call.now result pass.new }
+        ensures own { IsWordPassOf self.now pass.new }
+        ensures reported { WordReported pass.old call.now result pass.new }
     {
         self.report_now(pass, call)
     }
@@ -43,7 +46,8 @@ impl LiveBoard for WordBoard {
     /// Reads the board and its version by a reader's pass, by `read_now`.
     fn read<R: Wait>(&self, _rt: &R, pass: &mut WordReaderPass) -> Reading
         requires { pass.old.board ≡ self.now }
-        ensures { WordRead pass.old result pass.new }
+        ensures own { IsWordPassOf self.now pass.new }
+        ensures read { WordRead pass.old result pass.new }
     {
         self.read_now(pass)
     }
@@ -51,15 +55,17 @@ impl LiveBoard for WordBoard {
     /// Reads the board and its version by a reporter's pass, by `read_own_now`.
     fn read_own<R: Wait>(&self, _rt: &R, pass: &mut WordReporterPass) -> Reading
         requires { pass.old.board ≡ self.now }
-        ensures { WordRead pass.old result pass.new }
+        ensures own { IsWordPassOf self.now pass.new }
+        ensures read { WordRead pass.old result pass.new }
     {
         self.read_own_now(pass)
     }
 
     /// Splits a second reader's pass, for another thread, off `pass`, by `split_now`.
     fn split<R: Wait>(&self, _rt: &R, pass: &mut WordReaderPass) -> WordReaderPass
-        requires { pass.old.board ≡ self.now }
-        ensures { WordSplit pass.old pass.new result }
+        requires { IsWordPassOf self.now pass.old }
+        ensures own { IsWordPassOf self.now pass.new × IsWordPassOf self.now result }
+        ensures split { WordSplit pass.old pass.new result }
     {
         self.split_now(pass)
     }
@@ -71,15 +77,18 @@ impl LiveBoard for WordBoard {
         pass: WordReaderPass,
     ) -> Result<WordReporterPass, TooManyReporters<WordReaderPass>>
         requires { pass.board ≡ self.now }
-        ensures { MatchResult result (WordEnlisted pass) (λ full. WordFull pass full.0) }
+        ensures own { MatchResult result (λ enlisted. IsWordPassOf self.now enlisted)
+            (λ full. IsWordPassOf self.now full.0) }
+        ensures enlisted { MatchResult result (WordEnlisted pass) (λ full. WordFull pass full.0) }
     {
         self.enlist_now(pass)
     }
 
     /// Tells the second pass all events that the first has seen, by `meet_now`.
     fn meet<R: Wait>(&self, _rt: &R, first: &mut WordReporterPass, second: &mut WordReporterPass)
-        requires { (first.old.board ≡ self.now) × (second.old.board ≡ self.now) }
-        ensures { WordMet first.old first.new second.old second.new }
+        requires { IsWordPassOf self.now first.old × IsWordPassOf self.now second.old }
+        ensures own { IsWordPassOf self.now first.new × IsWordPassOf self.now second.new }
+        ensures met { WordMet first.old first.new second.old second.new }
     {
         self.meet_now(first, second);
     }

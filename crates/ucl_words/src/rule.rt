@@ -17,15 +17,15 @@ use ucl_live_board::{BoardRule, View};
 /// The invariant of the table: there is one log of all steps, each the next one of the protocol (`ucl_steps`); its history, the accepted
 /// events, gives the twelve match words, and its enlistments are as many as word 0 says.
 #[derive(Clone, Copy)]
-pub struct OneHistory;
+pub struct WordRule;
 
-impl TableRule<Entry, View, ()> for OneHistory {
+impl TableRule<Entry, View, ()> for WordRule {
     ghost holds = { λ _. TableInvariant };
 
     ghost first = { λ _. first_pass };
 }
 
-impl BoardRule for OneHistory {
+impl BoardRule for WordRule {
     ghost words_after = { words_after };
 
     ghost may = { IsNextOfProtocol };
@@ -98,7 +98,7 @@ impl Join<View> for Note {
 }
 
 /// The table of words that threads share: the number of enlisted reporters, then the words of matches 1 to 12. It is never closed.
-pub type Table = atomic_table::Table<Entry, View, (), OneHistory, Global>;
+pub type Table = atomic_table::Table<Entry, View, (), WordRule, Global>;
 
 /// A seat at the table: the identity of a pass, by which it takes atomic steps.
 pub type Seat = atomic_table::Seat<Entry, View>;

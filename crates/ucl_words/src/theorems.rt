@@ -26,7 +26,8 @@ pub fn boards_are_linearizable()
 {}
 
 /// Shows that each kind of step on the words of a board, whatever it finds, is one step in the log, of the pass that took it. So the bounds
-/// in contracts count all loads and exchanges of these kinds, and there are no others.
+/// in contracts count all loads and exchanges of these kinds. There are no others, but for a load by the kit in each split and each join of
+/// seats, which ignores what it finds.
 pub fn each_step_is_logged<K: Asking>()
     ensures looks { LogsOneStep ⟦<Look<K> as Play<Entry, View>>⟧.then }
     ensures first { LogsOneStep ⟦<First as Play<Entry, View>>⟧.then }

@@ -23,10 +23,11 @@ bytes; a line with nothing on it is passed over and counted
   screen,,,                      the table as it stands
   matches,,,                     the twelve matches as they stand, a line each
   words,,,                       the twelve words as they stand
-  group,GROUP,ORDER,EDITION      the same group and order in a later edition: the
-                                 fresh board takes the place of the old one, and
-                                 nothing is answered; rows of clubs right after it
-                                 put clubs in their slots
+  mend,LINE,,                    the events that stand, without that of this
+                                 line, as a later edition; as mend,17,,
+  mend,,EDITION,                 the events that stand, as this later edition
+  club,SLOT,NAME,COEFFICIENT     once the board is open: the club takes its slot,
+                                 the events stay, and the edition is one later
 
 Events:
   kickoff, goal-home, goal-away, disallow-home, disallow-away, yellow-home,
@@ -39,10 +40,14 @@ Output: once the clubs are named, each row is answered before the next is read
   LINE refused 1 stale NUMBER    the match has this event number by now: look at
                                  matches,,, first
   LINE refused 20 bad-row        the line asks for nothing that there is
+  LINE mended EDITION VERSION    the board is mended, or a club has taken its slot
+  LINE refused 11 no-event       no event that stands has this line
+  LINE refused 12 last-edition   65535 is reached, or the edition is not later
   the screen, matches or words   where they are asked for
 
 With --format json each answer is one object on one line, whose member reply is
-ok, refused, words, matches or screen.
+ok, refused, mended, left-out, words, matches or screen; a line left-out comes
+before mended for each event that a mend leaves out beside the one it names.
 
 Exit status, with a text on standard error where it is not 0:
   0  the input has ended, or help or the version was asked for
@@ -69,4 +74,4 @@ with away goals among tied clubs; uefa, where no first
 row says one";
 
 /// The help of the option `--screens`.
-pub(crate) const SCREENS: &str = "Writes the screen after each accepted event";
+pub(crate) const SCREENS: &str = "Writes the screen after each accepted event and mend";

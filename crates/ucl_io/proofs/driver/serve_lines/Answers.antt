@@ -26,7 +26,7 @@ returns-then-read-gt-MAX_READ-clause-served g c =
 pub returns-in-None-clause-served : goal.returns-in-None-clause-served
 returns-in-None-clause-served g c =
     run_read_failed c.pieces.invariant.so_far (c.take.new.self.source, c.take.new.self.sink, c.pieces.handler) c.take.ensures.log c.take.ensures.counts _
-    c.in-None.ensures.moves (ap g.W.Sink.taken c.take.ensures.sink) (ap g.W.Sink.failed c.take.ensures.sink) c.pieces.invariant.read
+    c.in-None.ensures.moves (ap g.W.Sink.taken c.take.ensures.sink) (ap g.W.Sink.failed c.take.ensures.sink) refl c.pieces.invariant.read
 
 pub returns-in_err-end-in-Some-eq0-clause-served : goal.returns-in_err-end-in-Some-eq0-clause-served
 returns-in_err-end-in-Some-eq0-clause-served g c =

@@ -3,7 +3,8 @@ use Rattle.ucl_runs.proofs.Common.{string_bytes, styled, subst, sym, ℕ, ◌++�
 use Rattle.std.proofs.Common.{true≢false}
 use Rattle.std.specs.Prelude.{take}
 use Rattle.ucl_live_board.specs.Passes.{kept_pass, split_pass}
-use Rattle.ucl_runs.proofs.EnteredRows.{each_on_duty, merged_by_settlers}
+use Rattle.ucl_runs.proofs.EnteredRows.{each_on_duty, entered_all, merged_by_settlers, reported_on}
+use Rattle.ucl_runs.specs.Nights.{calls_of}
 use Rattle.ucl_runs.proofs.Merges.{night_board_read}
 use Rattle.ucl_runs.proofs.night.night_run.Goals as goal
 
@@ -13,24 +14,24 @@ returns g c =
     let reader = g.B.LiveBoard.reader in
     let rows = c.args.night.now.events.items in
     let style = styled c.args.profile c.args.night.now.roster c.args.group in
-    let share = λ (k : PassView). k.share in
     let worked = c.in_ok-reporter_1.ensures in
     let settling = c.in_ok-settled.ensures.says in
     let settled = settling.settled in
     let version = c.in_ok-settled.settled.version in
-    let lent = reader c.args.pass in
     let one = c.in_ok-enlist.ensures.says in
     let two = c.in_ok-enlist-2.ensures.says in
     let enlisted = reporter c.in_ok-enlist.field-0 in
-    let a = reporter c.in_ok-reporter_1.field-0.reporter_1 in
+    let back = c.in_ok-reporter_1.field-0 in
+    let went_1 = reported_on g.B.LiveBoard (calls_of 1 rows) c.in_ok-enlist.field-0 back.reporter_1 worked.reporter_1.1 one.sound in
+    let went_2 = reported_on g.B.LiveBoard (calls_of 2 rows) c.in_ok-enlist-2.field-0 back.reporter_2 worked.reporter_2.1 two.sound in
+    let a = reporter back.reporter_1 in
     let d = reporter c.settle.new.second in
-    let given_1 = c.split-reader_1.ensures.says.given ∙ ap split_pass c.split-reporter_2.ensures.says.kept in
     let given_2 = c.split-reader_2.ensures.says.given ∙ ap split_pass (c.split-reader_1.ensures.says.kept ∙ ap kept_pass c.split-reporter_2.ensures.says.kept) in
     let halved = c.split-reader_2.ensures.says.kept ∙ ap kept_pass (c.split-reader_1.ensures.says.kept ∙ ap kept_pass c.split-reporter_2.ensures.says.kept) in
-    let merge = merged_by_settlers worked.reporter_1.1 worked.reporter_2.1 settling.always.0 settling.always.1 (settling.exactly.0 refl).0
+    let merge = merged_by_settlers g.B.LiveBoard worked.reporter_1.1 worked.reporter_2.1 (one.sound, one.mine) (two.sound, two.mine) settling.always.0 settling.always.1 (settling.exactly.0 refl).0
     (each_on_duty rows (rw (← c.deref.ensures.value) c.in_ok-check_duty.ensures)) settled settling.of_both in
     let shown_1 = subst (λ (k : PassView). HasShown style k (reader c.in_ok-reader_1.reader_1) c.args.readings (option_map string_bytes c.in_ok-reader_1.last_1))
-    given_1 (rw c.in_ok-reader_1.was at worked.reader_1).1 in
+    (c.split-reader_1.ensures.says.given ∙ ap split_pass c.split-reporter_2.ensures.says.kept) (rw c.in_ok-reader_1.was at worked.reader_1).1 in
     let shown_2 = subst (λ (k : PassView). HasShown style k (reader c.in_ok-reader_2.reader_2) c.args.readings (option_map string_bytes c.in_ok-reader_2.last_2))
     given_2 (rw c.in_ok-reader_2.was at worked.reader_2).1 in
     record {
@@ -40,24 +41,28 @@ returns g c =
         readers = ((rw c.in_ok-reader_1.was at worked.reader_1).0, (rw c.in_ok-reader_2.was at worked.reader_2).0);
         reporters = c.in_ok-settled.ensures.own;
         apart = λ same. (settling.exactly.0 refl).0 (sym settling.always.0.number ∙ same ∙ settling.always.1.number);
+        entered_1 = entered_all g.B.LiveBoard c.args.board.now rows 1 back.reporter_1 _ worked.reporter_1.0 (c.in_ok-enlist.ensures.own, (one.sound, one.mine))
+            worked.reporter_1.1 settling.always.0 settled.mine_first;
+        entered_2 = entered_all g.B.LiveBoard c.args.board.now rows 2 back.reporter_2 _ worked.reporter_2.0 (c.in_ok-enlist-2.ensures.own, (two.sound, two.mine))
+            worked.reporter_2.1 settling.always.1 settled.mine_second;
         merge = merge;
         settled = settling.reading;
         closing = c.in_ok-closing.ensures;
         count = (settled.high, rw (settled.mine_first, settled.mine_second) (sym (settling.exactly.0 refl).1));
         beginning = subst (λ (k : PassView). IsPrefix k.seen (take version d.seen)) (sym settling.unchanged)
             (begins_take a.seen d.seen version settled.first settled.low_first);
-        since = begins_through lent.seen enlisted.seen (take version d.seen) (subst (λ (k : PassView). IsPrefix k.seen enlisted.seen) halved one.on.seen)
-            (begins_through enlisted.seen a.seen (take version d.seen) worked.reporter_1.1.always.on.seen (begins_take a.seen d.seen version settled.first settled.low_first));
+        since = begins_through (reader c.args.pass).seen enlisted.seen (take version d.seen) (subst (λ (k : PassView). IsPrefix k.seen enlisted.seen) halved one.on.seen)
+            (begins_through enlisted.seen a.seen (take version d.seen) went_1.0.on.seen (begins_take a.seen d.seen version settled.first settled.low_first));
         readings = (
-          ap (λ (k : PassView). k.shown) settling.unchanged ∙ (worked.reporter_1.1.shown ∙ one.shown),
-          settling.shown ∙ ap (λ (shown : List ℕ). shown ++ version ∷ []) (worked.reporter_2.1.shown ∙ two.shown),
+          ap (λ (k : PassView). k.shown) settling.unchanged ∙ (went_1.1 ∙ one.shown),
+          settling.shown ∙ ap (λ (shown : List ℕ). shown ++ version ∷ []) (went_2.1 ∙ two.shown),
         );
         board = λ alone. night_board_read (number_of_two (reporter c.settle.new.first).number d.number) rows d.seen version c.in_ok-settled.settled merge alone settling.reading;
         shares = record {
-          reporter_2 = settling.always.1.on.share ∙ (worked.reporter_2.1.always.on.share ∙ (two.on.share ∙ ap share c.split-reporter_2.ensures.says.given));
+          reporter_2 = settling.always.1.on.share ∙ (went_2.0.on.share ∙ (two.on.share ∙ ap (λ (k : PassView). k.share) c.split-reporter_2.ensures.says.given));
           reader_1 = shown_1.on.share;
           reader_2 = shown_2.on.share;
-          reporter_1 = settling.always.0.on.share ∙ (worked.reporter_1.1.always.on.share ∙ (one.on.share ∙ ap share halved));
+          reporter_1 = settling.always.0.on.share ∙ (went_1.0.on.share ∙ (one.on.share ∙ ap (λ (k : PassView). k.share) halved));
         };
         shown_1 = shown_1;
         shown_2 = shown_2;
@@ -84,8 +89,18 @@ returns-in_err-settled g c =
         first = back.reporter_1;
         second = back.reporter_2;
         last = c.settle.new.second;
-        entered_1 = record { own = worked.reporter_1.0; before = _; fresh = (one.sound, one.mine); entered = worked.reporter_1.1 };
-        entered_2 = record { own = worked.reporter_2.0; before = _; fresh = (two.sound, two.mine); entered = worked.reporter_2.1 };
+        entered_1 = record {
+          own = worked.reporter_1.0;
+          before = c.in_ok-enlist.field-0;
+          fresh = (c.in_ok-enlist.ensures.own, (one.sound, one.mine));
+          entered = worked.reporter_1.1;
+        };
+        entered_2 = record {
+          own = worked.reporter_2.0;
+          before = c.in_ok-enlist-2.field-0;
+          fresh = (c.in_ok-enlist-2.ensures.own, (two.sound, two.mine));
+          entered = worked.reporter_2.1;
+        };
         own = c.in_err-settled.ensures.own.1;
         high = settled.high;
         met_1 = begins_take first.seen last.seen _ settled.first settled.low_first;

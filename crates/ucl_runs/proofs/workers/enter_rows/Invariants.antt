@@ -1,8 +1,12 @@
-use Rattle.ucl_runs.proofs.Common.{HasEntered, take}
+use Rattle.ucl_runs.proofs.Common.{drop}
+use Rattle.ucl_runs.specs.Nights.{HasReported, calls_of}
 use Rattle.ucl_runs.proofs.workers.enter_rows.Given as goal
 
 abbrev pub invariant-loop-row : goal.invariant-loop-row
-invariant-loop-row g l = record {
-  own : g.B.LiveBoard.is_reporter l.board l.pass;
-  entered : HasEntered (g.B.LiveBoard.reporter l.initial.pass) (g.B.LiveBoard.reporter l.pass) l.reporter (take l.row-index l.rows);
-}
+invariant-loop-row g l =
+    let live = g.B.LiveBoard in
+    record {
+      own : live.is_reporter l.board l.pass;
+      entered : (end : g.row.B-ReporterPass.Denot) → HasReported live (calls_of l.reporter (drop l.row-index l.rows)) l.pass end
+          → HasReported live (calls_of l.reporter l.rows) l.initial.pass end;
+    }

@@ -1,5 +1,6 @@
-use Rattle.ucl_theorems.proofs.Screens.{screens_of_run}
+use Rattle.ucl_steps.proofs.Runs.{linearizable_run}
+use Rattle.ucl_theorems.proofs.Screens.{screens_show}
 use Rattle.ucl_theorems.proofs.theorems.every_run_has_one_history.Goals as goal
 
 pub returns : goal.returns
-returns c = screens_of_run
+returns c = record { history = linearizable_run; screens = screens_show }

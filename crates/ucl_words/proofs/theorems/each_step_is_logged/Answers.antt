@@ -1,4 +1,4 @@
-use Rattle.ucl_words.proofs.BoardFacts.{words_after, IsNextOfProtocol}
+use Rattle.ucl_words.proofs.Common.{words_after, IsNextOfProtocol}
 use Rattle.ucl_live_board.proofs.StepFacts.{one_more}
 use Rattle.ucl_words.proofs.theorems.each_step_is_logged.Goals as goal
 

@@ -1,4 +1,4 @@
-use Rattle.ucl_words.proofs.BoardFacts.{counts_find, enlists_find}
+use Rattle.ucl_words.proofs.Boards.{counts_find, enlists_find}
 use Rattle.ucl_words.proofs.theorems.numbers_are_there.Goals as goal
 
 pub returns-clause-counts : goal.returns-clause-counts

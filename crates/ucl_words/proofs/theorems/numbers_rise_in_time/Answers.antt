@@ -1,4 +1,4 @@
-use Rattle.ucl_words.proofs.BoardFacts.{numbers_rise}
+use Rattle.ucl_words.proofs.Boards.{numbers_rise}
 use Rattle.ucl_words.proofs.theorems.numbers_rise_in_time.Goals as goal
 
 pub returns : goal.returns

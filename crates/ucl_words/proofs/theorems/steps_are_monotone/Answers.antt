@@ -1,4 +1,5 @@
-use Rattle.ucl_words.proofs.BoardFacts.{refl, steps_on, splits_on, left_acts, hears_on, compose, left_pass, second_pass, note_pass}
+use Rattle.ucl_words.proofs.Common.{refl, left_pass, second_pass, note_pass}
+use Rattle.ucl_words.proofs.Boards.{steps_on, splits_on, left_acts, hears_on, compose}
 use Rattle.ucl_words.proofs.theorems.steps_are_monotone.Goals as goal
 
 pub returns : goal.returns

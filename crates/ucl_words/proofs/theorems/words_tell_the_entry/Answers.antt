@@ -1,4 +1,4 @@
-use Rattle.ucl_words.proofs.BoardFacts.{ℕ, refl, sym, ap, ◌∙◌, word_at, board_of, followed_by, entry_known}
+use Rattle.ucl_words.proofs.Common.{ℕ, refl, sym, ap, ◌∙◌, word_at, board_of, followed_by, entry_known}
 use Rattle.ucl_words.proofs.theorems.words_tell_the_entry.Goals as goal
 
 pub returns : goal.returns

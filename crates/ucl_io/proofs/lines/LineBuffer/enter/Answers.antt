@@ -35,4 +35,4 @@ pub returns-in_err-flush-in-None-clause-answered : goal.returns-in_err-flush-in-
 returns-in_err-flush-in-None-clause-answered g c =
     let p = err_from_is_err_and c.from_residual-in_err-flush-in-None.result c.from_residual-in_err-flush-in-None.ensures.1 in
     let all = rest_answered c.lines.invariant.so_far c.requires.short (c.in-None.ensures.none refl) in
-    rw (p.1, p.2) (answered_cut _ _ _ _ _ _ _ _ all _ c.in_err-flush-in-None.ensures.put)
+    rw (p.1, p.2) (answered_cut _ _ _ _ _ _ _ _ all _ refl c.in_err-flush-in-None.ensures.put)

@@ -1,18 +1,18 @@
-use Rattle.ucl_live_runs.proofs.Common.{Ok, ap, err_from_is_err_and, missing, session_of, sym, ℕ, ◌∙◌}
-use Rattle.ucl_live_runs.proofs.Lines.{misses, none-answers, none-missing, some-answers, some-missing, some-stops}
+use Rattle.ucl_live_runs.proofs.Common.{Ok, ap, err_from_is_err_and, inr, missing, session_of, sym, ℕ, ◌∙◌}
+use Rattle.ucl_live_runs.proofs.Lines.{none-answers, none-missing, some-answers, some-missing, some-stops}
 use Rattle.ucl_rows.proofs.RowEnds.{empty-list, full-list}
 use Rattle.ucl_live_runs.proofs.session.SessionLineHandler.end.Goals as goal
 
 pub returns-in-Some-clause-stops : goal.returns-in-Some-clause-stops
 returns-in-Some-clause-stops c =
     let none = empty-list c.is_empty.result _ c.is_empty.ensures c.if-is_empty.true in
-    misses _ _ c.in-Some.fault _ _ (sym c.in-Some.ensures) (none-missing (session_of c.args.self.now c.args.row) c.args.begun.now none ∙ sym c.in-Some.ensures)
+    inr (none-missing (session_of c.args.self.now c.args.row) c.args.begun.now none ∙ sym c.in-Some.ensures)
 
 pub returns-in-None-clause-answers : goal.returns-in-None-clause-answers
 returns-in-None-clause-answers c =
     let none = empty-list c.is_empty.result _ c.is_empty.ensures c.if-is_empty.true in
     let e = session_of c.args.self.now c.args.row in
-    record { text_is = c.put_nothing.ensures ∙ sym (none-answers e c.args.begun.now none); complete = none-missing e c.args.begun.now none ∙ sym c.in-None.ensures }
+    record { text_is = c.nothing.ensures ∙ sym (none-answers e c.args.begun.now none); complete = none-missing e c.args.begun.now none ∙ sym c.in-None.ensures }
 
 pub returns-in_err-answer-clause-stops : goal.returns-in_err-answer-clause-stops
 returns-in_err-answer-clause-stops c =
@@ -23,8 +23,7 @@ returns-in_err-answer-clause-stops c =
 pub returns-in-Some-missing-clause-stops : goal.returns-in-Some-missing-clause-stops
 returns-in-Some-missing-clause-stops c =
     let some = full-list c.is_empty.result _ c.is_empty.ensures c.if-is_empty.false in
-    misses _ _ c.in-Some-missing.fault _ _ (sym c.in-Some-missing.ensures)
-    (some-missing (session_of c.args.self.now c.args.row) _ c.args.begun.now some c.in_ok-answer.ensures.answers.0
+    inr (some-missing (session_of c.args.self.now c.args.row) _ c.args.begun.now some c.in_ok-answer.ensures.answers.0
     ∙ ap (λ (n : ℕ). missing n (Ok c.answer.new.self.phase)) (sym c.saturating_add.ensures) ∙ sym c.in-Some-missing.ensures)
 
 pub returns-in-None-missing-clause-answers : goal.returns-in-None-missing-clause-answers

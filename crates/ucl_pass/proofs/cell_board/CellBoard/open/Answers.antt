@@ -1,6 +1,7 @@
-use Rattle.ucl_pass.proofs.Common.{rules, List, ℕ, ◌∷◌, ◌++◌, ap, ◌∙◌, [], words_after, IsLegalStep}
+use Rattle.ucl_pass.proofs.Common.{rules, subst, sym, List, ℕ, ◌∷◌, ◌++◌, ap, ◌∙◌, [], words_after, IsLegalStep}
 use Rattle.ucl_live_board.proofs.LogFacts.{opens_fresh}
-use Rattle.ucl_pass.proofs.InvariantIsKept.{begins}
+use Rattle.ucl_pass.specs.CellInvariants.{CellOccurs}
+use Rattle.ucl_pass.proofs.InvariantIsKept.{begins, opened_occurs}
 use Rattle.ucl_pass.proofs.cell_board.CellBoard.open.Goals as goal
 
 pub ruled-requires : goal.ruled-requires
@@ -11,3 +12,6 @@ returns-clause-rule g c = opens_fresh words_after IsLegalStep
 
 pub returns-in_err-cell-clause-rule : goal.returns-in_err-cell-clause-rule
 returns-in_err-cell-clause-rule g c = opens_fresh words_after IsLegalStep
+
+pub returns-clause-own : goal.returns-clause-own
+returns-clause-own g c = let made = c.in_ok-cell.ensures in (made.0, subst CellOccurs (sym made.1) opened_occurs)

@@ -1,6 +1,7 @@
 use Rattle.ucl_pass.proofs.Common.{rules, arith, ap, length, sym, ◌∙◌, cell_view, StoresReporter}
 use Rattle.ucl_pass.proofs.InvariantIsKept.{enlists, enlist_says}
-use Rattle.ucl_pass.proofs.CallsBySteps.{tried_more, tries_again, was_enlisted, was_full, reporter_number}
+use Rattle.ucl_pass.specs.CellCalls.{HasNumberLeft}
+use Rattle.ucl_pass.proofs.CallsBySteps.{number_left, looked_more, tries_again, was_enlisted, was_full, reporter_number}
 use Rattle.ucl_pass.proofs.cell_board.CellBoardLiveBoard.enlist.Goals as goal
 
 pub invariant_of-result : goal.invariant_of-result
@@ -17,8 +18,8 @@ returns-then-enlisted-ge-MAX_REPORTERS g c =
 
 pub compare_exchange_as-added-requires : goal.compare_exchange_as-added-requires
 compare_exchange_as-added-requires g c =
-    let more = tried_more (cell_view c.pass.inside.seat) (cell_view c.retry.seat) (cell_view c.load-words.new.seat) c.load-words.result
-    c.retry.invariant.tried c.load-words.ensures.looks in
+    let more = looked_more (cell_view c.pass.inside.seat) (cell_view c.retry.seat) (cell_view c.load-words.new.seat) c.load-words.result
+    c.retry.invariant.tried.looked c.load-words.ensures.looks in
     let kept = enlists _ _ c.load-words.result c.one_more_reporter-next.result more.share (more.stays.number ∙ c.pass.invariant.1)
     c.if-enlisted-ge-MAX_REPORTERS.false c.one_more_reporter-next.ensures in
     (search rules, (search rules, (search rules, kept)))
@@ -34,8 +35,9 @@ retry-preserved g c =
       can = tt;
       ends = tt;
       own = own;
-      tried = tries_again _ _ own (cell_view c.pass.inside.seat) (cell_view c.retry.seat) u c.load-words.result c.retry.invariant.tried
-          c.load-words.ensures.looks z c.one_more_reporter-next.result c.compare_exchange_as-added.result StoresReporter said
+      tried = tries_again HasNumberLeft StoresReporter (cell_view c.pass.inside.seat) (cell_view c.retry.seat) u z c.load-words.result
+          c.one_more_reporter-next.result c.compare_exchange_as-added.result c.retry.invariant.tried c.load-words.ensures.looks
+          (number_left (cell_view c.retry.seat) u c.load-words.result c.load-words.ensures.looks c.if-enlisted-ge-MAX_REPORTERS.false) said
           (sym c.is_ok.ensures.value ∙ c.if-is_ok.false);
     }
 

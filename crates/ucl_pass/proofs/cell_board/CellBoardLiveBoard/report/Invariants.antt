@@ -1,4 +1,5 @@
 use Rattle.ucl_pass.proofs.Common.{◌≡◌, cell_view}
+use Rattle.ucl_pass.specs.CellCalls.{Accepts}
 use Rattle.ucl_pass.proofs.CallsBySteps.{Tried}
 use Rattle.ucl_pass.proofs.cell_board.CellBoardLiveBoard.report.Given as goal
 
@@ -9,7 +10,7 @@ invariant-retry g l = record {
   own : l.pass-inside.seat.table_id ≡ l.initial.pass-inside.seat.table_id;
   number : l.pass-inside.number ≡ l.initial.pass-inside.number;
   accepted : l.pass-inside.accepted ≡ l.initial.pass-inside.accepted;
-  tried : Tried (cell_view l.initial.pass-inside.seat) (cell_view l.pass-inside.seat);
+  tried : Tried (Accepts l.call) (cell_view l.initial.pass-inside.seat) (cell_view l.pass-inside.seat);
 }
 
 abbrev pub ghosts-store_event : goal.ghosts-store_event

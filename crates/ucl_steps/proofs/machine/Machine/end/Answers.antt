@@ -1,6 +1,6 @@
 use Rattle.ucl_steps.proofs.Common.{◌≡◌, ℕ, Some, length, List, set, arith, refl, sym, ap, ◌∙◌, rules, End, CallRecord, Idle, Answered, with_held, with_end}
 use Rattle.ucl_steps.proofs.Common.{state_of}
-use Rattle.ucl_steps.specs.declared.machine.Pending.TheVariants as has
+use Rattle.ucl_steps.specs.declared.machine.Held.TheVariants as has
 use Rattle.ucl_steps.proofs.Reachable.{call_below, holds, step_is, set-change_at}
 use Rattle.ucl_steps.proofs.machine.Machine.end.Goals as goal
 

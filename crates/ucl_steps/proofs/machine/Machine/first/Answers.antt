@@ -1,5 +1,5 @@
 use Rattle.ucl_steps.proofs.Common.{◌≡◌, Some, length, arith, sym, ap, ◌∙◌, get_or, rules, First, state_of, holds_of}
-use Rattle.ucl_steps.specs.declared.machine.Pending.TheVariants as has
+use Rattle.ucl_steps.specs.declared.machine.Held.TheVariants as has
 use Rattle.ucl_steps.proofs.Reachable.{first_last, first_more, loaded_few, holds, step_is}
 use Rattle.ucl_steps.proofs.machine.Machine.first.Goals.{then-loaded-eq11, else-loaded-eq11}
 use Rattle.ucl_steps.proofs.machine.Machine.first.Goals as goal

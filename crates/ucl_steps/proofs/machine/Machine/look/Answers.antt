@@ -1,5 +1,5 @@
 use Rattle.ucl_steps.proofs.Common.{◌≡◌, ℕ, Some, ◌-◌, refl, sym, ap, ◌∙◌, subst, get_or, rules, IsWord, state_of}
-use Rattle.ucl_steps.specs.declared.machine.Pending.TheVariants as has
+use Rattle.ucl_steps.specs.declared.machine.Held.TheVariants as has
 use Rattle.ucl_steps.proofs.Reachable.{call_below, wanted_word}
 use Rattle.ucl_steps.proofs.machine.Machine.look.Goals as goal
 

@@ -1,5 +1,5 @@
 use Rattle.ucl_steps.proofs.Common.{ℕ, arith, map, ap, ◌∙◌, replicate, holds_of}
-use Rattle.ucl_steps.specs.declared.machine.Pending.TheVariants as has
+use Rattle.ucl_steps.specs.declared.machine.Held.TheVariants as has
 use Rattle.ucl_steps.proofs.Reachable.{idle_all, start_is}
 use Rattle.ucl_steps.proofs.machine.Machine.new.Goals as goal
 

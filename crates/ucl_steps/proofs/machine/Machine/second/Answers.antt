@@ -1,5 +1,5 @@
 use Rattle.ucl_steps.proofs.Common.{refl, arith, rules, state_of}
-use Rattle.ucl_steps.specs.declared.machine.Pending.TheVariants as has
+use Rattle.ucl_steps.specs.declared.machine.Held.TheVariants as has
 use Rattle.ucl_steps.proofs.Reachable.{call_below, checked_few, collected_words, clean_step}
 use Rattle.ucl_steps.proofs.machine.Machine.second.Goals as goal
 

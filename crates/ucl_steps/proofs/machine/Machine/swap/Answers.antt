@@ -1,5 +1,5 @@
 use Rattle.ucl_steps.proofs.Common.{◌≡◌, Some, length, refl, sym, ap, ◌∙◌, rules, record_at, word_at, Accepted, after_reply, stored, state_of}
-use Rattle.ucl_steps.specs.declared.machine.Pending.TheVariants as has
+use Rattle.ucl_steps.specs.declared.machine.Held.TheVariants as has
 use Rattle.ucl_steps.proofs.Reachable.{call_below, won_step}
 use Rattle.ucl_steps.proofs.machine.Machine.swap.Goals as goal
 

@@ -1,4 +1,5 @@
-use Rattle.ucl_words.proofs.BoardFacts.{ℕ, Bool, cond, sym, ◌∙◌, subst, arith, eq-eqb, ne_eqb, Steps, Enlisted, Enlists, enlisting}
+use Rattle.ucl_words.proofs.Common.{ℕ, Bool, cond, sym, ◌∙◌, subst, arith, eq-eqb, ne_eqb, Steps, Enlisted, Enlists}
+use Rattle.ucl_words.proofs.Steps.{enlisting}
 use Rattle.ucl_words.proofs.board.WordBoard.add_reporter.Goals as goal
 
 pub compare_exchange-requires : goal.compare_exchange-requires

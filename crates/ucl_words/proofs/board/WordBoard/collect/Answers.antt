@@ -1,5 +1,7 @@
-use Rattle.ucl_words.proofs.BoardFacts.{◌+◌, ◌∙◌, arith, length-set, First, firsts, collected_none, collected_set, first_next, first_on}
-use Rattle.ucl_words.proofs.BoardFacts.{first_loads, firsts_all}
+use Rattle.ucl_words.proofs.Common.{◌+◌, ◌∙◌, arith, length-set, First}
+use Rattle.ucl_words.proofs.Steps.{firsts}
+use Rattle.ucl_words.proofs.Clients.{first_next, first_on, first_loads, firsts_all}
+use Rattle.ucl_words.proofs.Readings.{collected_none, collected_set}
 use Rattle.ucl_words.proofs.board.WordBoard.collect.Goals as goal
 
 pub loop-i-init : goal.loop-i-init

@@ -1,4 +1,6 @@
-use Rattle.ucl_words.proofs.BoardFacts.{◌≡◌, length, First, Collected, Firsts}
+use Rattle.ucl_words.proofs.Common.{◌≡◌, length, First}
+use Rattle.ucl_words.proofs.Clients.{Firsts}
+use Rattle.ucl_words.proofs.Readings.{Collected}
 use Rattle.ucl_words.proofs.board.WordBoard.collect.Given as goal
 
 abbrev pub invariant-loop-i : goal.invariant-loop-i

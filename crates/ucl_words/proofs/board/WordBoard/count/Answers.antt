@@ -1,4 +1,5 @@
-use Rattle.ucl_words.proofs.BoardFacts.{ℕ, sym, ◌∙◌, subst, arith, Steps, Enlisted, counts}
+use Rattle.ucl_words.proofs.Common.{ℕ, sym, ◌∙◌, subst, arith, Steps, Enlisted}
+use Rattle.ucl_words.proofs.Steps.{counts}
 use Rattle.ucl_words.proofs.board.WordBoard.count.Goals as goal
 
 pub load-requires : goal.load-requires

@@ -1,6 +1,7 @@
-use Rattle.ucl_words.proofs.BoardFacts.{inl, inr, refl, sym, ap, ◌∙◌, arith, rules, length, Occurs, pass_of, missed_none, missed_higher}
-use Rattle.ucl_words.proofs.BoardFacts.{missed_more, won_consistent, won_number, loads_enlisted, enlist_won, counted_does, enlisted_does}
-use Rattle.ucl_words.proofs.BoardFacts.{was_enlisted, was_full}
+use Rattle.ucl_words.proofs.Common.{inl, inr, refl, sym, ap, ◌∙◌, arith, rules, length, Occurs, pass_of}
+use Rattle.ucl_words.proofs.Steps.{loads_enlisted, enlist_won}
+use Rattle.ucl_words.proofs.Clients.{counted_does, enlisted_does}
+use Rattle.ucl_words.proofs.Boards.{missed_none, missed_higher, missed_more, won_consistent, won_number, was_enlisted, was_full}
 use Rattle.ucl_words.proofs.board.WordBoard.enlist_now.Goals as goal
 
 pub tries-init : goal.tries-init

@@ -1,4 +1,5 @@
-use Rattle.ucl_words.proofs.BoardFacts.{◌≡◌, ◌-◌, ◌≤◌, ◌⊎◌, Occurs, DoneAsBefore, Missed}
+use Rattle.ucl_words.proofs.Common.{◌≡◌, ◌-◌, ◌≤◌, ◌⊎◌, Occurs, DoneAsBefore}
+use Rattle.ucl_words.proofs.Boards.{Missed}
 use Rattle.ucl_live_board.specs.Steps.{no_call}
 use Rattle.ucl_words.proofs.board.WordBoard.enlist_now.Given as goal
 

@@ -1,6 +1,6 @@
-use Rattle.ucl_words.proofs.BoardFacts.{arith, length, history_of, ap, sym, refl, ◌∙◌, ◌≡◌, next_game, slice_index, Second, ClientState}
-use Rattle.ucl_words.proofs.BoardFacts.{collected_none, seconds_none, collected_same, collected_other, finds_again, second_loads, second_on}
-use Rattle.ucl_words.proofs.BoardFacts.{second_last, second_other}
+use Rattle.ucl_words.proofs.Common.{arith, length, history_of, ap, sym, refl, ◌∙◌, ◌≡◌, next_game, slice_index, Second, ClientState}
+use Rattle.ucl_words.proofs.Clients.{seconds_none, second_loads, second_on, second_last, second_other}
+use Rattle.ucl_words.proofs.Readings.{collected_none, collected_same, collected_other, finds_again}
 use Rattle.ucl_words.proofs.board.WordBoard.is_clean.Goals as goal
 
 pub loop-checked-init : goal.loop-checked-init

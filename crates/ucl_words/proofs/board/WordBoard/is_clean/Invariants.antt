@@ -1,4 +1,6 @@
-use Rattle.ucl_words.proofs.BoardFacts.{◌≡◌, ◌<◌, length, Occurs, Second, Collected, Seconds, FindsAgain, Finishes, history_of, reading_of}
+use Rattle.ucl_words.proofs.Common.{◌≡◌, ◌<◌, length, Occurs, Second, FindsAgain, Finishes, history_of, reading_of}
+use Rattle.ucl_words.proofs.Clients.{Seconds}
+use Rattle.ucl_words.proofs.Readings.{Collected}
 use Rattle.ucl_live_board.specs.Steps.{no_call}
 use Rattle.ucl_steps.specs.declared.step.Call.TheVariants as calls
 use Rattle.ucl_steps.specs.declared.trace.Reply.TheVariants as replies

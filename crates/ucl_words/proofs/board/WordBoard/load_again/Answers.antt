@@ -1,4 +1,5 @@
-use Rattle.ucl_words.proofs.BoardFacts.{ℕ, sym, ◌∙◌, subst, arith, Steps, Match, Second, again}
+use Rattle.ucl_words.proofs.Common.{ℕ, sym, ◌∙◌, subst, arith, Steps, Match, Second}
+use Rattle.ucl_words.proofs.Steps.{again}
 use Rattle.ucl_words.proofs.board.WordBoard.load_again.Goals as goal
 
 pub load-requires : goal.load-requires

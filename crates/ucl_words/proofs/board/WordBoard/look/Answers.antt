@@ -1,4 +1,5 @@
-use Rattle.ucl_words.proofs.BoardFacts.{ℕ, ◌≤◌, ap, sym, ◌∙◌, subst, arith, EventCall, Steps, Match, Look, looks}
+use Rattle.ucl_words.proofs.Common.{ℕ, ◌≤◌, ap, sym, ◌∙◌, subst, arith, EventCall, Steps, Match, Look}
+use Rattle.ucl_words.proofs.Steps.{looks}
 use Rattle.ucl_words.proofs.board.WordBoard.look.Goals as goal
 
 pub load-requires : goal.load-requires

@@ -1,6 +1,7 @@
-use Rattle.ucl_words.proofs.BoardFacts.{ap, length, sym, ◌∙◌, ◌≡◌, subst, arith, rules, IsSome, View, Steps, Enlisted, Joins}
-use Rattle.ucl_words.proofs.BoardFacts.{TableInvariant, WordMet, IsConsistent, pass_of, told_pass, new_pass, notes, joins, met_consistent}
-use Rattle.ucl_words.proofs.BoardFacts.{was_met}
+use Rattle.ucl_words.proofs.Common.{ap, length, sym, ◌∙◌, ◌≡◌, subst, arith, rules, IsSome, View, Steps, Enlisted, Joins, TableInvariant}
+use Rattle.ucl_words.proofs.Common.{WordMet, IsConsistent, pass_of, told_pass, new_pass}
+use Rattle.ucl_words.proofs.Steps.{notes, joins}
+use Rattle.ucl_words.proofs.Boards.{met_consistent, was_met}
 use Rattle.ucl_words.proofs.board.WordBoard.meet_now.Goals as goal
 
 pub split_seat-note-requires : goal.split_seat-note-requires

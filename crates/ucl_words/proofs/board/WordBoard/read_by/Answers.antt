@@ -1,6 +1,6 @@
-use Rattle.ucl_words.proofs.BoardFacts.{history_of, inl, inr, ◌∙◌, refl, sym, ap, subst, arith, reading_of, Reading, length, CompletesCall}
-use Rattle.ucl_words.proofs.BoardFacts.{tried_none, tried_longer, tried_again, are_words, reads, tries_may, tries_on, tries_again}
-use Rattle.ucl_words.proofs.BoardFacts.{stays_answered, answered_shown}
+use Rattle.ucl_words.proofs.Common.{history_of, inl, inr, ◌∙◌, refl, sym, ap, subst, arith, reading_of, Reading, length, CompletesCall}
+use Rattle.ucl_words.proofs.Clients.{tries_may, tries_on, tries_again, stays_answered, answered_shown}
+use Rattle.ucl_words.proofs.Readings.{tried_none, tried_longer, tried_again, are_words, reads}
 use Rattle.ucl_steps.specs.declared.step.Call.TheVariants as calls
 use Rattle.ucl_steps.specs.declared.trace.Reply.TheVariants as replies
 use Rattle.ucl_words.proofs.board.WordBoard.read_by.Goals as goal

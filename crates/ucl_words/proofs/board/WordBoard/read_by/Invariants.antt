@@ -1,4 +1,6 @@
-use Rattle.ucl_words.proofs.BoardFacts.{history_of, ◌≡◌, ◌-◌, length, max_tries, Tried, Tries}
+use Rattle.ucl_words.proofs.Common.{history_of, ◌≡◌, ◌-◌, length, max_tries}
+use Rattle.ucl_words.proofs.Clients.{Tries}
+use Rattle.ucl_words.proofs.Readings.{Tried}
 use Rattle.ucl_words.proofs.board.WordBoard.read_by.Given as goal
 
 abbrev pub invariant-tries : goal.invariant-tries

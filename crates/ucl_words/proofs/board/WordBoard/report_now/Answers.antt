@@ -1,6 +1,7 @@
-use Rattle.ucl_words.proofs.BoardFacts.{added_by, number_of, ℕ, ◌+◌, sym, ap, ◌∙◌, subst, arith, rules, length, length-append, Ok, Err}
-use Rattle.ucl_words.proofs.BoardFacts.{Stale, Entry, Steps, pass_view_of, pass_of, IsHoldingFor, client_of, Match, Swap, found_word}
-use Rattle.ucl_words.proofs.BoardFacts.{Reported, refused_report, holding_for, accepted_report, missed_report, was_reported}
+use Rattle.ucl_words.proofs.Common.{added_by, ℕ, ◌+◌, sym, ap, ◌∙◌, subst, arith, rules, length, length-append, Ok, Err, Stale}
+use Rattle.ucl_words.proofs.Common.{Entry, Steps, pass_view_of, pass_of, IsHoldingFor, client_of, Match, Swap}
+use Rattle.ucl_words.proofs.Steps.{found_word}
+use Rattle.ucl_words.proofs.Reports.{Reported, refused_report, holding_for, accepted_report, missed_report, was_reported}
 use Rattle.ucl_live_board.proofs.Lists.{few_mine}
 use Rattle.ucl_words.proofs.board.WordBoard.report_now.Goals as goal
 

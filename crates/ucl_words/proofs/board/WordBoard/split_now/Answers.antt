@@ -1,5 +1,6 @@
-use Rattle.ucl_words.proofs.BoardFacts.{number_of, arith, rules, ◌≡◌, ap, refl, sym, subst, NoCall, View, IsConsistent, client_of, pass_of}
-use Rattle.ucl_words.proofs.BoardFacts.{seconds, left_consistent, second_consistent, was_split}
+use Rattle.ucl_words.proofs.Common.{number_of, arith, rules, ◌≡◌, ap, refl, sym, subst, NoCall, View, IsConsistent, client_of, pass_of}
+use Rattle.ucl_words.proofs.Steps.{seconds}
+use Rattle.ucl_words.proofs.Boards.{left_consistent, second_consistent, was_split}
 use Rattle.ucl_words.proofs.board.WordBoard.split_now.Goals as goal
 
 abbrev IsReader : View → Type 0

@@ -1,4 +1,5 @@
-use Rattle.ucl_words.proofs.BoardFacts.{ℕ, sym, ◌∙◌, subst, arith, Steps, Match, Swap, swaps}
+use Rattle.ucl_words.proofs.Common.{ℕ, sym, ◌∙◌, subst, arith, Steps, Match, Swap}
+use Rattle.ucl_words.proofs.Steps.{swaps}
 use Rattle.ucl_words.proofs.board.WordBoard.swap.Goals as goal
 
 pub compare_exchange_with-requires : goal.compare_exchange_with-requires

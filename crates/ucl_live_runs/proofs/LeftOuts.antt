@@ -1,0 +1,24 @@
+-- The events that a mend leaves out are at most as many as those that stand.
+use Rattle.std.proofs.Common.{arith, length, length-append, ℕ, List, [], ◌∷◌, ◌≤◌}
+use Rattle.ucl_live_runs.specs.Mended.{fate_of, kept_after, left_by, left_out}
+unfoldable use Rattle.ucl_live_runs.specs.Mended.{left_out_after}
+use Rattle.ucl_live_runs.specs.declared.standing.Fate.{Fate}
+use Rattle.ucl_live_runs.specs.declared.standing.Fate.TheVariants.{Refused}
+use Rattle.ucl_live_runs.specs.declared.standing.StandingEvent.{StandingEvent}
+
+at-most-one : (event : StandingEvent) (fate : Fate) → length (left_by event fate) ≤ 1
+at-most-one event (Refused refusal) = omega arith
+at-most-one event _ = omega arith
+
+few-after : (row : ℕ) (kept events : List StandingEvent) → length (left_out_after row kept events) ≤ length events
+unfolding left_out_after
+few-after row kept [] = omega arith
+few-after row kept (event ∷ events) =
+    let fate = fate_of row kept event in
+    let one = at-most-one event fate in
+    let more = few-after row (kept_after row kept event) events in
+    let both = length-append (left_by event fate) (left_out_after row (kept_after row kept event) events) in
+    omega (arith, one, more, both)
+
+pub few-left : (row : ℕ) (events : List StandingEvent) → length (left_out row events) ≤ length events
+few-left row events = few-after row [] events

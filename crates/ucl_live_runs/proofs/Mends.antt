@@ -1,0 +1,398 @@
+-- What a mend keeps of the events that stand, and what it leaves out.
+use Rattle.std.proofs.Common.{◌≡◌, ◌≢◌, ℕ, ◌+◌, ◌<◌, ◌≤◌, ◌==◌, ◌⊎◌, Bool, true, false, List, [], ◌∷◌, ◌++◌, length, map, Option, Ok, Err}
+use Rattle.std.proofs.Common.{drop, get_or, length-append, set, take}
+use Rattle.std.proofs.Common.{refl, sym, ap, ◌∙◌, subst, arith, append-nil, append_assoc, ne_eqb, inl, inr}
+use Rattle.std.specs.Prelude.{All, Result, if◌then◌else◌}
+use Rattle.std.specs.List.{fold}
+use Rattle.std.specs.Result.{is_ok}
+use Rattle.std.proofs.lemmas.Bool.{cases_Bool, cases_eq}
+use Rattle.std.proofs.lemmas.List.{append_cancel_left, drop-drop, drop-set-lt, drop_all, drop_more, get_or-drop, length-map, length-set, map-append, take_all, take_more}
+use Rattle.std.proofs.lemmas.List.{take_more_set}
+use Rattle.std.proofs.lemmas.List.Elements.{All-cons, All-head, All-nil, All-tail, filter-append}
+use Rattle.std.proofs.lemmas.List.Sums.{fold-append}
+use mathlib.Core.List.{IsPrefix}
+use Rattle.ucl_word.specs.declared.event.Accepted.{Accepted}
+use Rattle.ucl_word.specs.declared.event.EventCall.{EventCall}
+use Rattle.ucl_word.specs.declared.record.MatchRecord.{MatchRecord}
+use Rattle.ucl_word.specs.declared.refusal.Refusal.{Refusal}
+use Rattle.ucl_word.specs.Counts.{GainsOne, MatchEntry, counted_match}
+use Rattle.ucl_word.specs.Record.{IsReporter}
+use Rattle.ucl_word.specs.Rules.{answer, refusal_of}
+use Rattle.ucl_word.proofs.EntryCounts.{number_of_count}
+use Rattle.ucl_word.proofs.Sequences.{may_begin, may_last, may_none}
+use Rattle.ucl_board.specs.declared.entry.Entry.{Entry}
+use Rattle.ucl_board.specs.Fixtures.{IsMatch}
+use Rattle.ucl_board.specs.History.{IsAttempt, IsLegal, MayFollow, attempted, board_of, entries_of, followed_by, match_after}
+use Rattle.ucl_board.specs.History.{of_match, sequential_reply}
+use Rattle.ucl_board.specs.Words.{game_at, version_of}
+use Rattle.ucl_board.proofs.HistoryTheorems.{attempts_from, game_after, versions}
+use Rattle.ucl_live_runs.specs.declared.standing.Fate.{Fate}
+use Rattle.ucl_live_runs.specs.declared.standing.Fate.TheVariants.{Kept, Named, Refused}
+use Rattle.ucl_live_runs.specs.declared.standing.LeftOut.{LeftOut}
+use Rattle.ucl_live_runs.specs.declared.standing.StandingEvent.{StandingEvent}
+use Rattle.ucl_live_runs.specs.Mended.{call_again, fate_by, fate_of, history_in, kept_after, kept_by, left_by, left_out, mended}
+unfoldable pub use Rattle.ucl_live_runs.specs.Mended.{left_out_after}
+use Rattle.ucl_live_runs.specs.MendTheorems.{events_of}
+unfoldable pub use Rattle.ucl_live_runs.specs.MendTheorems.{LaterEventsGoOn, MendsAreLegal, OtherMatchesStay, WholeHistoriesAreKept}
+use Rattle.ucl_live_runs.specs.Standing.{MendsOneMore, IsMendedSoFar}
+
+pub history-more : (events more : List StandingEvent) → history_in (events ++ more) ≡ history_in events ++ history_in more
+history-more events more = map-append (λ (event : StandingEvent). event.entry) events more
+
+pub mended-more : (row : ℕ) (events : List StandingEvent) (event : StandingEvent) → mended row (events ++ event ∷ []) ≡ kept_after row (mended row events) event
+mended-more row events event = fold-append (kept_after row) [] events (event ∷ [])
+
+-- ---- an event that is entered again
+
+abbrev pub reply-again : List StandingEvent → StandingEvent → Result Accepted Refusal
+reply-again kept event = sequential_reply (history_in kept) (call_again (history_in kept) event.entry)
+
+fate-other : (row : ℕ) (kept : List StandingEvent) (event : StandingEvent) → (event.row == row) ≡ false → fate_of row kept event ≡ fate_by (reply-again kept event)
+fate-other row kept event n = ap (λ (b : Bool). if b then Named else fate_by (reply-again kept event)) n
+
+fate-named : (row : ℕ) (kept : List StandingEvent) (event : StandingEvent) → (event.row == row) ≡ true → fate_of row kept event ≡ Named
+fate-named row kept event y = ap (λ (b : Bool). if b then Named else fate_by (reply-again kept event)) y
+
+-- the history that is kept, by the reply
+kept-history : (kept : List StandingEvent) (event : StandingEvent) (reply : Result Accepted Refusal)
+    → history_in (kept_by kept event (fate_by reply)) ≡ (if is_ok reply then followed_by (history_in kept) event.entry else history_in kept)
+kept-history kept event (Ok accepted) = history-more kept (event ∷ [])
+kept-history kept event (Err refusal) = refl
+
+abbrev IsRanged : StandingEvent → Type 0
+IsRanged event = IsReporter event.entry.reporter × IsMatch event.entry.game
+
+step-legal : (row : ℕ) (kept : List StandingEvent) (event : StandingEvent) → IsLegal (history_in kept) → IsRanged event → IsLegal (history_in (kept_after row kept event))
+step-legal row kept event legal is = elim (cases_Bool (event.row == row)) [
+  | inl y ↦ subst (λ (f : Fate). IsLegal (history_in (kept_by kept event f))) (sym (fate-named row kept event y)) legal
+  | inr n ↦
+      let attempt = attempted event.entry.reporter (call_again (history_in kept) event.entry) in
+      let made = (attempts_from (history_in kept) (attempt ∷ []) legal (All-cons IsAttempt attempt [] (is.0, is.1) (All-nil IsAttempt))).0 in
+      subst IsLegal (sym (ap (λ (f : Fate). history_in (kept_by kept event f)) (fate-other row kept event n) ∙ kept-history kept event (reply-again kept event))) made
+]
+
+all-legal : (row : ℕ) (kept events : List StandingEvent) → IsLegal (history_in kept) → All IsRanged events → IsLegal (history_in (fold (kept_after row) kept events))
+all-legal row kept [] legal all = legal
+all-legal row kept (event ∷ events) legal all =
+    all-legal row (kept_after row kept event) events (step-legal row kept event legal (All-head IsRanged event events all)) (All-tail IsRanged event events all)
+
+-- ---- an event of a legal history may follow those before it
+
+may-at : (before : List StandingEvent) (event : StandingEvent) (more : List StandingEvent) → IsLegal (history_in (before ++ event ∷ more)) → MayFollow (history_in before) event.entry
+may-at before event more legal =
+    let parts = history-more before (event ∷ more) ∙ sym (append_assoc (history_in before) (event.entry ∷ []) (history_in more)) in
+    may_last MayFollow (history_in before) event.entry (may_begin MayFollow (followed_by (history_in before) event.entry) (history_in more) (subst IsLegal parts legal))
+
+one-on : (before : List StandingEvent) (event : StandingEvent) (more : List StandingEvent) → IsLegal (history_in (before ++ event ∷ more))
+    → IsLegal (history_in ((before ++ event ∷ []) ++ more))
+one-on before event more legal = subst (λ (l : List StandingEvent). IsLegal (history_in l)) (sym (append_assoc before (event ∷ []) more)) legal
+
+all-ranged : (before events : List StandingEvent) → IsLegal (history_in (before ++ events)) → All IsRanged events
+all-ranged before [] legal = All-nil IsRanged
+all-ranged before (event ∷ events) legal =
+    let may = may-at before event events legal in
+    All-cons IsRanged event events (may.accepted.reporter, may.game) (all-ranged (before ++ event ∷ []) events (one-on before event events legal))
+
+pub mends_legal : MendsAreLegal
+unfolding MendsAreLegal
+mends_legal row events legal = all-legal row [] events (may_none MayFollow) (all-ranged [] events legal)
+
+-- ---- an event is accepted again after a history with the same entries of its match
+
+abbrev pub IsOtherRow : ℕ → StandingEvent → Type 0
+IsOtherRow row event = event.row ≢ row
+
+same-accepted : (row : ℕ) (kept before : List StandingEvent) (event : StandingEvent)
+    → entries_of event.entry.game (history_in kept) ≡ entries_of event.entry.game (history_in before) → MayFollow (history_in before) event.entry
+    → IsOtherRow row event → fate_of row kept event ≡ Kept
+same-accepted row kept before event same may other =
+    let number = number_of_count (entries_of event.entry.game (history_in before)) in
+    let none = ap (λ (es : List MatchEntry). refusal_of (counted_match es) (counted_match es).number event.entry.kind) same
+    ∙ ap (λ (n : ℕ). refusal_of (match_after (history_in before) event.entry.game) n event.entry.kind) number ∙ may.accepted.accepted in
+    fate-other row kept event (ne_eqb event.row row other)
+    ∙ ap (λ (o : Option Refusal). fate_by (answer (match_after (history_in kept) event.entry.game).number o)) none
+
+-- ---- without a named row all are kept
+
+keeps-all : (row : ℕ) (kept events : List StandingEvent) → IsLegal (history_in (kept ++ events)) → All (IsOtherRow row) events
+    → (fold (kept_after row) kept events ≡ kept ++ events) × (left_out_after row kept events ≡ [])
+unfolding left_out_after
+keeps-all row kept [] legal all = (sym (append-nil kept), refl)
+keeps-all row kept (event ∷ events) legal all =
+    let fate = same-accepted row kept kept event refl (may-at kept event events legal) (All-head (IsOtherRow row) event events all) in
+    let is = ap (kept_by kept event) fate in
+    let rest = keeps-all row (kept ++ event ∷ []) events (one-on kept event events legal) (All-tail (IsOtherRow row) event events all) in (
+      ap (λ (l : List StandingEvent). fold (kept_after row) l events) is ∙ rest.0 ∙ append_assoc kept (event ∷ []) events,
+      ap (λ (f : Fate). left_by event f ++ left_out_after row (kept_after row kept event) events) fate
+          ∙ ap (λ (l : List StandingEvent). left_out_after row l events) is ∙ rest.1,
+    )
+
+pub whole : WholeHistoriesAreKept
+unfolding WholeHistoriesAreKept
+whole row events legal all = keeps-all row [] events legal all
+
+-- ---- the matches of which no event has the named row
+
+-- the entries of a match, by its events
+entries-in : (game : ℕ) (events : List StandingEvent) → entries_of game (history_in events) ≡ map (λ (event : StandingEvent). of_match event.entry) (events_of game events)
+entries-in game [] = refl
+entries-in game (event ∷ events) = elim (cases_Bool (event.entry.game == game)) [
+  | inl y ↦ rw y (ap (λ (es : List MatchEntry). of_match event.entry ∷ es) (entries-in game events))
+  | inr n ↦ rw n (entries-in game events)
+]
+
+pub same-entries : (game : ℕ) (kept before : List StandingEvent) → events_of game kept ≡ events_of game before
+    → entries_of game (history_in kept) ≡ entries_of game (history_in before)
+same-entries game kept before same =
+    entries-in game kept ∙ ap (map (λ (event : StandingEvent). of_match event.entry)) same ∙ sym (entries-in game before)
+
+events-more : (game : ℕ) (kept : List StandingEvent) (event : StandingEvent) → events_of game (kept ++ event ∷ []) ≡ events_of game kept ++ events_of game (event ∷ [])
+events-more game kept event = filter-append (λ (event : StandingEvent). event.entry.game == game) kept (event ∷ [])
+
+events-else : (game : ℕ) (kept : List StandingEvent) (event : StandingEvent) → event.entry.game ≢ game → events_of game (kept ++ event ∷ []) ≡ events_of game kept
+events-else game kept event not =
+    events-more game kept event ∙ ap (λ (b : Bool). events_of game kept ++ (if b then event ∷ [] else [])) (ne_eqb event.entry.game game not) ∙ append-nil (events_of game kept)
+
+fate-else : (game : ℕ) (kept : List StandingEvent) (event : StandingEvent) (fate : Fate) → event.entry.game ≢ game → events_of game (kept_by kept event fate) ≡ events_of game kept
+fate-else game kept event Kept not = events-else game kept event not
+fate-else game kept event Named not = refl
+fate-else game kept event (Refused refusal) not = refl
+
+abbrev IsOther : ℕ → ℕ → StandingEvent → Type 0
+IsOther row game event = event.row ≡ row → event.entry.game ≢ game
+
+-- one event more, with those of its match kept so far, stays
+pub one-event : (row game : ℕ) (kept before : List StandingEvent) (event : StandingEvent) → events_of game kept ≡ events_of game before
+    → MayFollow (history_in before) event.entry → IsOther row game event → events_of game (kept_after row kept event) ≡ events_of game (before ++ event ∷ [])
+one-event row game kept before event same may other = elim (cases_eq event.entry.game game) [
+  | inl e ↦
+      let here = same-entries event.entry.game kept before (subst (λ (g : ℕ). events_of g kept ≡ events_of g before) (sym e) same) in
+      let fate = same-accepted row kept before event here may (λ named. other named e) in
+      ap (λ (f : Fate). events_of game (kept_by kept event f)) fate ∙ events-more game kept event
+      ∙ ap (λ (l : List StandingEvent). l ++ events_of game (event ∷ [])) same ∙ sym (events-more game before event)
+  | inr not ↦ fate-else game kept event (fate_of row kept event) not ∙ same ∙ sym (events-else game before event not)
+]
+
+all-events : (row game : ℕ) (kept before events : List StandingEvent) → events_of game kept ≡ events_of game before
+    → IsLegal (history_in (before ++ events)) → All (IsOther row game) events
+    → events_of game (fold (kept_after row) kept events) ≡ events_of game (before ++ events)
+all-events row game kept before [] same legal all = same ∙ ap (events_of game) (sym (append-nil before))
+all-events row game kept before (event ∷ events) same legal all =
+    let one = one-event row game kept before event same (may-at before event events legal) (All-head (IsOther row game) event events all) in
+    all-events row game (kept_after row kept event) (before ++ event ∷ []) events one (one-on before event events legal) (All-tail (IsOther row game) event events all)
+    ∙ ap (events_of game) (append_assoc before (event ∷ []) events)
+
+pub other_matches : OtherMatchesStay
+unfolding OtherMatchesStay
+other_matches row game events legal all = all-events row game [] [] events refl legal all
+
+-- ---- with more events behind
+
+pub left-more : (row : ℕ) (kept events more : List StandingEvent)
+    → left_out_after row kept (events ++ more) ≡ left_out_after row kept events ++ left_out_after row (fold (kept_after row) kept events) more
+unfolding left_out_after
+left-more row kept [] more = refl
+left-more row kept (event ∷ events) more =
+    let here = left_by event (fate_of row kept event) in
+    let next = kept_after row kept event in
+    ap (λ (l : List LeftOut). here ++ l) (left-more row next events more)
+    ∙ sym (append_assoc here (left_out_after row next events) (left_out_after row (fold (kept_after row) next events) more))
+
+by-kept : (kept : List StandingEvent) (event : StandingEvent) (fate : Fate) → IsPrefix kept (kept_by kept event fate)
+by-kept kept event Kept = (event ∷ [], refl)
+by-kept kept event Named = ([], append-nil kept)
+by-kept kept event (Refused refusal) = ([], append-nil kept)
+
+kept-begins : (row : ℕ) (kept more : List StandingEvent) → IsPrefix kept (fold (kept_after row) kept more)
+kept-begins row kept [] = ([], append-nil kept)
+kept-begins row kept (event ∷ more) =
+    let here = by-kept kept event (fate_of row kept event) in
+    let rest = kept-begins row (kept_after row kept event) more in
+    (here.0 ++ rest.0, sym (append_assoc kept here.0 rest.0) ∙ ap (λ (l : List StandingEvent). l ++ rest.0) here.1 ∙ rest.1)
+
+-- an event that is not left out, and not named, is kept
+by-none : (event : StandingEvent) (reply : Result Accepted Refusal) (rest : List LeftOut) → left_by event (fate_by reply) ++ rest ≡ [] → (fate_by reply ≡ Kept) × (rest ≡ [])
+by-none event (Ok accepted) rest h = (refl, h)
+by-none event (Err refusal) rest h = absurd cc
+
+none-left : (row : ℕ) (kept more : List StandingEvent) → left_out_after row kept more ≡ [] → All (IsOtherRow row) more → fold (kept_after row) kept more ≡ kept ++ more
+unfolding left_out_after
+none-left row kept [] none all = sym (append-nil kept)
+none-left row kept (event ∷ more) none all =
+    let other = fate-other row kept event (ne_eqb event.row row (All-head (IsOtherRow row) event more all)) in
+    let by = by-none event (reply-again kept event) (left_out_after row (kept_after row kept event) more)
+    (ap (λ (f : Fate). left_by event f ++ left_out_after row (kept_after row kept event) more) (sym other) ∙ none) in
+    let is : kept_after row kept event ≡ kept ++ event ∷ [] = ap (kept_by kept event) (other ∙ by.0) in
+    ap (λ (l : List StandingEvent). fold (kept_after row) l more) is
+    ∙ none-left row (kept ++ event ∷ []) more (ap (λ (l : List StandingEvent). left_out_after row l more) (sym is) ∙ by.1) (All-tail (IsOtherRow row) event more all)
+    ∙ append_assoc kept (event ∷ []) more
+
+pub later_events : LaterEventsGoOn
+unfolding LaterEventsGoOn
+later_events row events more =
+    let parts = fold-append (kept_after row) [] events more in
+    let begins = kept-begins row (mended row events) more in
+    let outs = left-more row [] events more in record {
+      kept = (begins.0, begins.1 ∙ sym parts);
+      left = (left_out_after row (mended row events) more, sym outs);
+      same = λ is all. parts
+          ∙ none-left row (mended row events) more
+          (append_cancel_left (left_out row events) (left_out_after row (mended row events) more) [] (sym outs ∙ is ∙ sym (append-nil (left_out row events)))) all;
+    }
+
+-- ==== What the code does
+
+pub none-mended : (row : ℕ) (board : List ℕ) → board ≡ board_of [] → IsMendedSoFar row [] board
+none-mended row board is = record { legal = may_none MayFollow; board_is = sym is }
+
+module _ (row : ℕ) (event : StandingEvent) (board board2 : List ℕ) where
+  -- one event more, by what becomes of it
+  one-more : (fate : Fate) (events : List StandingEvent) → fate ≡ fate_of row (mended row events) event
+      → IsLegal (history_in (kept_by (mended row events) event fate)) → board_of (history_in (kept_by (mended row events) event fate)) ≡ board2
+      → (fate ≡ fate_of row (mended row events) event) × IsMendedSoFar row (events ++ event ∷ []) board2
+  one-more fate events is legal board_is =
+      let after = mended-more row events event ∙ ap (kept_by (mended row events) event) (sym is) in (
+        is,
+        record {
+          legal = subst (λ (l : List StandingEvent). IsLegal (history_in l)) (sym after) legal;
+          board_is = ap (λ (l : List StandingEvent). board_of (history_in l)) after ∙ board_is;
+        },
+      )
+
+  module _ (other : event.row ≢ row) (game : IsMatch event.entry.game) (call : EventCall)
+      (call_is : call ≡ record { game = event.entry.game; expected = (game_at board event.entry.game).number; kind = event.entry.kind }) where
+    -- the reply on the board is that after the history that is kept
+    fate-is : (events : List StandingEvent) (reply : Result Accepted Refusal) → IsMendedSoFar row events board
+        → ((history : List Entry) → IsLegal history → board_of history ≡ board → reply ≡ sequential_reply history call)
+        → fate_by reply ≡ fate_of row (mended row events) event
+    fate-is events reply s sequential =
+        let history = history_in (mended row events) in
+        let now : game_at board event.entry.game ≡ match_after history event.entry.game =
+        ap (λ (words : List ℕ). game_at words event.entry.game) (sym s.board_is) ∙ game_after history event.entry.game s.legal game in
+        let same_call : call ≡ call_again history event.entry =
+        call_is ∙ ap (λ (m : MatchRecord). record { game = event.entry.game; expected = m.number; kind = event.entry.kind }) now in
+        ap fate_by (sequential history s.legal s.board_is ∙ ap (sequential_reply history) same_call)
+        ∙ sym (fate-other row (mended row events) event (ne_eqb event.row row other))
+
+    pub goes-kept : (accepted : Accepted) → ((history : List Entry) → IsLegal history → board_of history ≡ board → Ok accepted ≡ sequential_reply history call)
+        → GainsOne IsLegal board_of event.entry board board2 → MendsOneMore row event Kept board board2
+    goes-kept accepted sequential gains events s =
+        let kept = mended row events in
+        let g = gains (history_in kept) s.legal s.board_is in
+        let more = history-more kept (event ∷ []) in
+        one-more Kept events (fate-is events (Ok accepted) s sequential) (subst IsLegal (sym more) g.1) (ap board_of more ∙ sym g.0)
+
+    pub goes-refused : (refusal : Refusal) → ((history : List Entry) → IsLegal history → board_of history ≡ board → Err refusal ≡ sequential_reply history call)
+        → board2 ≡ board → MendsOneMore row event (Refused refusal) board board2
+    goes-refused refusal sequential is events s = one-more (Refused refusal) events (fate-is events (Err refusal) s sequential) s.legal (s.board_is ∙ sym is)
+
+-- ---- one event more of a list
+
+module _ (row : ℕ) (events : List StandingEvent) (i : ℕ) (event : StandingEvent) (below : i < length events) (is : event ≡ get_or events i event) where
+  pub front-more : take (i + 1) events ≡ take i events ++ event ∷ []
+  front-more = take_more events i event below ∙ ap (λ (e : StandingEvent). take i events ++ e ∷ []) (sym is)
+
+  pub mended-front : mended row (take (i + 1) events) ≡ kept_after row (mended row (take i events)) event
+  mended-front = ap (mended row) front-more ∙ mended-more row (take i events) event
+
+  pub told-more : left_out_after row (mended row (take i events)) (drop i events)
+      ≡ left_by event (fate_of row (mended row (take i events)) event) ++ left_out_after row (mended row (take (i + 1) events)) (drop (i + 1) events)
+  unfolding left_out_after
+  told-more =
+      let kept = mended row (take i events) in
+      ap (left_out_after row kept) (drop_more events i event below ∙ ap (λ (e : StandingEvent). e ∷ drop (i + 1) events) (sym is))
+      ∙ ap (λ (l : List StandingEvent). left_by event (fate_of row kept event) ++ left_out_after row l (drop (i + 1) events)) (sym mended-front)
+
+  pub told-none : (fate : Fate) → left_by event fate ≡ [] → fate ≡ fate_of row (mended row (take i events)) event
+      → left_out_after row (mended row (take (i + 1) events)) (drop (i + 1) events) ≡ left_out_after row (mended row (take i events)) (drop i events)
+  told-none fate none by =
+      let rest = left_out_after row (mended row (take (i + 1) events)) (drop (i + 1) events) in
+      sym (told-more ∙ ap (λ (f : Fate). left_by event f ++ rest) (sym by) ∙ ap (λ (l : List LeftOut). l ++ rest) none)
+
+  pub told-one : (refusal : Refusal) → Refused refusal ≡ fate_of row (mended row (take i events)) event
+      → left_out_after row (mended row (take i events)) (drop i events)
+      ≡ record { event = event; refusal = refusal } ∷ left_out_after row (mended row (take (i + 1) events)) (drop (i + 1) events)
+  told-one refusal by =
+      told-more ∙ ap (λ (f : Fate). left_by event f ++ left_out_after row (mended row (take (i + 1) events)) (drop (i + 1) events)) (sym by)
+
+  pub so-far-more : (fate : Fate) (board board2 : List ℕ) → IsMendedSoFar row (take i events) board → MendsOneMore row event fate board board2
+      → IsMendedSoFar row (take (i + 1) events) board2
+  so-far-more fate board board2 s goes = subst (λ (l : List StandingEvent). IsMendedSoFar row l board2) (sym front-more) (goes (take i events) s).1
+
+pub not-left : (event : StandingEvent) (fate : Fate) → (fate ≡ Kept) ⊎ (fate ≡ Named) → left_by event fate ≡ []
+not-left event fate is = elim is [ inl k ↦ ap (left_by event) k | inr n ↦ ap (left_by event) n ]
+
+pub all-told : (row : ℕ) (events : List StandingEvent) (i : ℕ) → length events ≤ i → left_out_after row (mended row (take i events)) (drop i events) ≡ []
+unfolding left_out_after
+all-told row events i past = ap (left_out_after row (mended row (take i events))) (drop_all i events past)
+
+-- ---- a mend in place: `now` is `before` with what is kept of the first `at` events at its front
+
+pub record IsInPlace (row : ℕ) (before now : List StandingEvent) (kept at : ℕ) (board : List ℕ) : Type 0 where
+  pub front : take kept now ≡ mended row (take at before)
+  pub rest : drop at now ≡ drop at before
+  pub long : length now ≡ length before
+  pub behind : kept ≤ at
+  pub so_far : IsMendedSoFar row (take at before) board
+
+pub in-place-none : (row : ℕ) (events : List StandingEvent) (board : List ℕ) → board ≡ board_of [] → IsInPlace row events events 0 0 board
+in-place-none row events board is = record { front = refl; rest = refl; long = refl; behind = omega arith; so_far = none-mended row board is }
+
+module _ (row : ℕ) (before now : List StandingEvent) (kept at : ℕ) (event : StandingEvent) (board board2 : List ℕ) (s : IsInPlace row before now kept at board)
+    (below : at < length now) (is : event ≡ get_or now at event) where
+  in-before : at < length before
+  in-before = let long = s.long in omega arith
+
+  same-event : event ≡ get_or before at event
+  same-event =
+      let zero : at + 0 ≡ at = omega arith in
+      let same = sym (get_or-drop at now 0 event) ∙ ap (λ (l : List StandingEvent). get_or l 0 event) s.rest ∙ get_or-drop at before 0 event in
+      is ∙ (rw zero at same)
+
+  next-rest : drop (at + 1) now ≡ drop (at + 1) before
+  next-rest = sym (drop-drop 1 at now) ∙ ap (drop 1) s.rest ∙ drop-drop 1 at before
+
+  pub in-place-kept : (fate : Fate) → fate ≡ Kept → MendsOneMore row event fate board board2
+      → IsInPlace row before (set now kept event) (kept + 1) (at + 1) board2
+  in-place-kept fate is_kept goes =
+      let behind = s.behind in
+      let by = (goes (take at before) s.so_far).0 in record {
+        front = take_more_set now kept event (omega arith) ∙ ap (λ (l : List StandingEvent). l ++ event ∷ []) s.front
+            ∙ ap (kept_by (mended row (take at before)) event) (sym is_kept ∙ by) ∙ sym (mended-front row before at event in-before same-event);
+        rest = drop-set-lt (at + 1) now kept event (omega arith) ∙ next-rest;
+        long = length-set now kept event ∙ s.long;
+        behind = omega arith;
+        so_far = so-far-more row before at event in-before same-event fate board board2 s.so_far goes;
+      }
+
+  pub in-place-left : (fate : Fate) → ((l : List StandingEvent) → kept_by l event fate ≡ l) → MendsOneMore row event fate board board2
+      → IsInPlace row before now kept (at + 1) board2
+  in-place-left fate none goes =
+      let behind = s.behind in
+      let by = (goes (take at before) s.so_far).0 in record {
+        front = s.front ∙ sym (none (mended row (take at before))) ∙ ap (kept_by (mended row (take at before)) event) by
+            ∙ sym (mended-front row before at event in-before same-event);
+        rest = next-rest;
+        long = s.long;
+        behind = omega arith;
+        so_far = so-far-more row before at event in-before same-event fate board board2 s.so_far goes;
+      }
+
+pub in-place-all : (row : ℕ) (before now : List StandingEvent) (kept at : ℕ) (board : List ℕ) → IsInPlace row before now kept at board → length now ≤ at
+    → (take kept now ≡ mended row before) × IsMendedSoFar row before board
+in-place-all row before now kept at board s past =
+    let long = s.long in
+    let all : take at before ≡ before = take_all at before (omega arith) in
+    (s.front ∙ ap (mended row) all, subst (λ (l : List StandingEvent). IsMendedSoFar row l board) all s.so_far)
+
+-- ---- how many events stand
+
+pub few : (events : List StandingEvent) → IsLegal (history_in events) → (version_of (board_of (history_in events)) ≡ length events) × (length events ≤ 49140)
+few events legal = let v = versions (history_in events) legal in let long = length-map events (λ (event : StandingEvent). event.entry) in (v.0 ∙ long, omega arith)
+
+pub has-room : (events : List StandingEvent) (entry : Entry) → IsLegal (followed_by (history_in events) entry) → length events < 49140
+has-room events entry legal =
+    let v = versions (followed_by (history_in events) entry) legal in
+    let long = length-map events (λ (event : StandingEvent). event.entry) in
+    let more = length-append (history_in events) (entry ∷ []) in
+    omega arith

@@ -1,0 +1,36 @@
+use Rattle.std.proofs.Common.{◌<◌, ap, arith, length}
+use Rattle.ucl_live_runs.specs.declared.standing.StandingEvent.{StandingEvent}
+use Rattle.std.specs.Prelude.{List}
+use Rattle.ucl_live_runs.specs.Mended.{kept_by}
+use Rattle.ucl_live_runs.proofs.Mends.{in-place-kept, in-place-left}
+use Rattle.ucl_live_runs.proofs.standing.StandingEvents.mend.Goals as goal
+use Rattle.ucl_live_runs.proofs.standing.StandingEvents.mend.Goals.{in-Kept, in-Named, in-Refused}
+
+pub loop-at-preserved : goal.loop-at-preserved
+loop-at-preserved c =
+    let row = c.args.row in
+    let before = c.args.self.now in
+    let now = c.loop-at.self-inside.events.items in
+    let event = c.index.result.now in
+    let fate = c.enter_again.result in
+    let goes = c.enter_again.ensures in
+    let s = c.loop-at.invariant.in_place in
+    let whole = ap length c.self.view_is in
+    let long = s.long in
+    let below : c.loop-at.at < length now = omega arith in
+    elim c.match-enter_again.branch [
+      | in-Kept w ↦ rw (w.kept-is, w.self-inside-is) (record {
+        in_place = in-place-kept row before now c.loop-at.kept c.loop-at.at event c.loop-at.board c.enter_again.new.board s below c.index.ensures fate w.in-Kept.is goes;
+        enough = c.loop-at.invariant.enough;
+      })
+      | in-Named w ↦ rw (w.kept-is, w.self-inside-is) (record {
+        in_place = in-place-left row before now c.loop-at.kept c.loop-at.at event c.loop-at.board c.enter_again.new.board s below c.index.ensures fate
+            (λ (l : List StandingEvent). ap (kept_by l event) w.in-Named.is) goes;
+        enough = c.loop-at.invariant.enough;
+      })
+      | in-Refused w ↦ rw (w.kept-is, w.self-inside-is) (record {
+        in_place = in-place-left row before now c.loop-at.kept c.loop-at.at event c.loop-at.board c.enter_again.new.board s below c.index.ensures fate
+            (λ (l : List StandingEvent). ap (kept_by l event) w.in-Refused.is) goes;
+        enough = c.loop-at.invariant.enough;
+      })
+    ]

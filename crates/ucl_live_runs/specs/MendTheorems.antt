@@ -1,0 +1,38 @@
+-- What holds of all mends. The events that stand are a history, legal if each is accepted after those before it. A mend that names a row
+-- keeps each event that the rules accept after those kept before it, but for the one of this row, and leaves out those that they refuse.
+use Rattle.std.specs.Prelude.{◌≡◌, ◌≢◌, ℕ, ◌==◌, List, [], ◌++◌, All, filter}
+use mathlib.Core.List.{IsPrefix}
+use Rattle.ucl_board.specs.History.{IsLegal}
+use Rattle.ucl_live_runs.specs.declared.standing.StandingEvent.{StandingEvent}
+use Rattle.ucl_live_runs.specs.Mended.{history_in, left_out, mended}
+
+-- the events of one match among these
+abbrev pub events_of : ℕ → List StandingEvent → List StandingEvent
+events_of game events = filter (λ event. event.entry.game == game) events
+
+-- theorem: what a mend of a legal history keeps is a legal history
+unfoldable pub MendsAreLegal : Type 0
+MendsAreLegal = (row : ℕ) (events : List StandingEvent) → IsLegal (history_in events) → IsLegal (history_in (mended row events))
+
+-- theorem: if no event has the row that is named, a mend of a legal history keeps all, and leaves out none
+unfoldable pub WholeHistoriesAreKept : Type 0
+WholeHistoriesAreKept = (row : ℕ) (events : List StandingEvent) → IsLegal (history_in events) → All (λ event. event.row ≢ row) events
+    → (mended row events ≡ events) × (left_out row events ≡ [])
+
+-- theorem: a mend of a legal history keeps all events of each match of which no event has the row that is named
+unfoldable pub OtherMatchesStay : Type 0
+OtherMatchesStay = (row game : ℕ) (events : List StandingEvent) → IsLegal (history_in events)
+    → All (λ event. event.row ≡ row → event.entry.game ≢ game) events
+    → events_of game (mended row events) ≡ events_of game events
+
+-- with more events behind these, a mend keeps first those that it kept of these, and leaves out first those that it left out of these; if
+-- then it leaves out no more, and none of the later ones has the row that is named, it keeps all of them
+pub record GoesOn (row : ℕ) (events more : List StandingEvent) : Type 0 where
+  pub kept : IsPrefix (mended row events) (mended row (events ++ more))
+  pub left : IsPrefix (left_out row events) (left_out row (events ++ more))
+  pub same : left_out row (events ++ more) ≡ left_out row events → All (λ event. event.row ≢ row) more
+      → mended row (events ++ more) ≡ mended row events ++ more
+
+-- theorem: events that are entered later leave what a mend makes of those before as it was
+unfoldable pub LaterEventsGoOn : Type 0
+LaterEventsGoOn = (row : ℕ) (events more : List StandingEvent) → GoesOn row events more

@@ -1,0 +1,30 @@
+//! Theorems on all mends. The functions do nothing: each is there for its contract. The events that stand on a board are a history, *legal* if
+//! each is accepted after those before it. A mend names a row: it keeps each event that the rules accept after those kept before it, but
+//! for the one of this row, and leaves out those that they refuse.
+
+ghost use Rattle.ucl_live_runs.specs.MendTheorems.{LaterEventsGoOn, MendsAreLegal, OtherMatchesStay, WholeHistoriesAreKept};
+
+/// What a mend of a legal history keeps is a legal history.
+#[tactic(auto, using(crate::proofs::Mends::mends_legal))]
+pub fn mends_are_legal()
+    ensures { MendsAreLegal }
+{}
+
+/// If no event has the row that is named, a mend of a legal history keeps all, and leaves out none.
+#[tactic(auto, using(crate::proofs::Mends::whole))]
+pub fn whole_histories_are_kept()
+    ensures { WholeHistoriesAreKept }
+{}
+
+/// A mend of a legal history keeps all events of each match of which no event has the row that is named.
+#[tactic(auto, using(crate::proofs::Mends::other_matches))]
+pub fn other_matches_stay()
+    ensures { OtherMatchesStay }
+{}
+
+/// Events that are entered later leave what a mend makes of those before as it was; and if it leaves out no more than before, and none of
+/// the later ones has the row that is named, it keeps all of them.
+#[tactic(auto, using(crate::proofs::Mends::later_events))]
+pub fn later_events_go_on()
+    ensures { LaterEventsGoOn }
+{}

@@ -1,0 +1,266 @@
+//! The events that stand on an open board, in their order, and what a mend makes of them. A *history* is a list of accepted events, *legal* if
+//! each is accepted after those before it. A mend names a row: it keeps each event that the rules accept after those kept before it, but
+//! for the one of this row. An event that is entered again expects the event number that its match then has.
+
+ghost use Rattle.std.specs.Prelude.{◌≡◌, ◌≤◌, ℕ, List, [], IfOk, length};
+ghost use Rattle.std.specs.Iterator.{YieldsFirst, item_count};
+ghost use Rattle.ucl_board.specs.History.{IsLegal, board_of, sequential_reply};
+ghost use Rattle.ucl_board.specs.Words.{version_of};
+ghost use Rattle.ucl_live_runs.specs.Mended.{after_mend, entered, has_row, history_in, left_out, mend_reply, row_number};
+ghost use Rattle.ucl_live_runs.specs.Standing.{MendsOneMore};
+
+use crate::mend_refusal::MendRefusal;
+use std::alloc::{AllocError, Global};
+use std::marker::Model;
+use ucl_board::{Board, Entry};
+use ucl_screen::NightEvent;
+use ucl_word::{Accepted, EventCall, Refusal};
+
+/// How many events can stand on a board: 4095 of each of twelve matches.
+const MOST_EVENTS: usize = 49_140;
+
+/// The last edition of a board.
+const LAST_EDITION: u16 = u16::MAX;
+
+/// An accepted event that stands, with the number of the row that entered it.
+#[derive(Clone, Copy, Debug, PartialEq, Eq)]
+pub struct StandingEvent {
+    /// The number of its row, or 0 if that is past 4,294,967,295. No mend can name row 0.
+    pub row: u32,
+    /// The event, its match and its reporter.
+    pub entry: Entry,
+}
+
+/// An event that a mend leaves out, since the rules refuse it after those that are kept.
+#[derive(Clone, Copy, Debug, PartialEq, Eq)]
+pub struct LeftOut {
+    /// The event, with the number of its row.
+    pub event: StandingEvent,
+    /// Why it is refused.
+    pub refusal: Refusal,
+}
+
+/// What a mend makes of an event that stands.
+#[derive(Clone, Copy, Debug, PartialEq, Eq)]
+pub enum Fate {
+    /// The rules accept it after those that are kept: it stands.
+    Kept,
+    /// Its row is the one that is named: it is taken back.
+    Named,
+    /// The rules refuse it after those that are kept: it is left out.
+    Refused(Refusal),
+}
+
+/// The events that stand on an open board, in their order, and the board that they make. Contracts see the list of the events, which is a
+/// legal history: there are at most 49,140. It asks for memory once, when it is made.
+#[derive(Drop)]
+pub struct StandingEvents {
+    events: Vec<StandingEvent>,
+    board: Board,
+}
+
+impl Model for StandingEvents {
+    ghost use Rattle.std.specs.Prelude.{List, vec_capacity};
+    ghost use Rattle.ucl_live_runs.specs.declared.standing.StandingEvent.{StandingEvent};
+    ghost use Rattle.ucl_live_runs.specs.Standing.{AreStanding};
+
+    ghost Value = { List StandingEvent };
+
+    ghost view = { λ s. s.events.items };
+
+    ghost invariant = { λ s. AreStanding s.events.items (vec_capacity s.events) s.board };
+}
+
+/// The events that a mend leaves out, one after the other, as they stand before it. Contracts see the list of those still to come.
+#[derive(Drop)]
+pub struct LeftOutEvents<'a> {
+    events: &'a [StandingEvent],
+    at: usize,
+    row: u32,
+    board: Board,
+}
+
+impl<'a> Model for LeftOutEvents<'a> {
+    ghost use Rattle.std.specs.Prelude.{List, drop, take};
+    ghost use Rattle.ucl_live_runs.specs.declared.standing.LeftOut.{LeftOut};
+    ghost use Rattle.ucl_live_runs.specs.Mended.{left_out_after, mended};
+    ghost use Rattle.ucl_live_runs.specs.Standing.{IsMendedSoFar};
+
+    ghost Value = { List LeftOut };
+
+    ghost view = { λ s. left_out_after s.row (mended s.row (take s.at s.events.now)) (drop s.at s.events.now) };
+
+    ghost invariant = { λ s. IsMendedSoFar s.row (take s.at s.events.now) s.board };
+}
+
+/// Returns the number of a row as an event keeps it: 0 if it is past 4,294,967,295.
+fn row_number(row: u64) -> u32
+    ensures { result ≡ row_number row }
+{
+    if row <= u64::from(u32::MAX) {
+        row as u32
+    } else {
+        0
+    }
+}
+
+/// Returns whether one of these events has this row.
+fn has_row(events: &[StandingEvent], row: u32) -> bool
+    ensures { result ≡ has_row row events.now }
+{
+    events.iter().any(|event| event.row == row)
+}
+
+/// Enters an event again on this board, unless its row is the one that is named, and returns what becomes of it.
+fn enter_again(board: &mut Board, row: u32, event: &StandingEvent) -> Fate
+    ensures { MendsOneMore row event.now result board.old board.new }
+{
+    if event.row == row {
+        return Fate::Named;
+    }
+    let game = event.entry.game;
+    // For the prover only: the match has a number from 1 to 12.
+    let _game = game.get();
+    let call = EventCall {
+        game,
+        expected: board.game(game).number,
+        kind: event.entry.kind,
+    };
+    match board.report(event.entry.reporter, &call) {
+        Ok(_) => Fate::Kept,
+        Err(refusal) => Fate::Refused(refusal),
+    }
+}
+
+impl StandingEvents {
+    /// Creates the events that stand on a fresh board: none. It asks for memory for all that can stand.
+    ///
+    /// # Errors
+    ///
+    /// If there is no memory.
+    pub fn none(alloc: Global) -> Result<StandingEvents, AllocError>
+        ensures { IfOk result (λ events. events ≡ []) }
+    {
+        Ok(StandingEvents {
+            events: Vec::with_capacity(alloc, MOST_EVENTS)?,
+            board: Board::fresh(),
+        })
+    }
+
+    /// Returns the board of the events that stand.
+    pub fn board(&self) -> &Board
+        ensures board { result.now ≡ board_of (history_in self.now) }
+        ensures legal { IsLegal (history_in self.now) }
+    {
+        &self.board
+    }
+
+    /// Returns the version of the board: how many events stand, at most 49,140.
+    pub fn version(&self) -> u16
+        ensures count { result ≡ length self.now }
+        ensures version { result ≡ version_of (board_of (history_in self.now)) }
+        ensures few { result ≤ 49140 }
+    {
+        self.events.len() as u16
+    }
+
+    /// Enters the event of this row by the rules of events. If it is accepted, it stands after the others.
+    ///
+    /// # Errors
+    ///
+    /// The [`Refusal`] by the first rule that holds. A refusal changes nothing.
+    pub fn report(&mut self, row: u64, event: &NightEvent) -> Result<Accepted, Refusal>
+        ensures reply { result ≡ sequential_reply (history_in self.old) event.now.call }
+        ensures events { self.new ≡ entered row self.old event.now }
+    {
+        let accepted = self.board.report(event.reporter, &event.call)?;
+        self.events.push_reserved(StandingEvent {
+            row: row_number(row),
+            entry: Entry::of(event.reporter, &event.call),
+        });
+        Ok(accepted)
+    }
+
+    /// Returns the reply to a mend that names this row in this edition: the edition after it.
+    ///
+    /// # Errors
+    ///
+    /// [`MendRefusal::LastEdition`] in edition 65,535; else [`MendRefusal::NoEvent`] if no event that stands has the row, or it is 0.
+    pub fn mend_reply(&self, edition: u16, row: u32) -> Result<u16, MendRefusal>
+        ensures { result ≡ mend_reply edition row self.now }
+    {
+        if edition == LAST_EDITION {
+            return Err(MendRefusal::LastEdition);
+        }
+        if row == 0 {
+            return Err(MendRefusal::NoEvent);
+        }
+        if has_row(&self.events, row) {
+            Ok(edition + 1)
+        } else {
+            Err(MendRefusal::NoEvent)
+        }
+    }
+
+    /// Returns the events that a mend which names this row leaves out, each with its refusal. The one of this row is not among them.
+    pub fn left_out(&self, row: u32) -> LeftOutEvents<'_>
+        ensures { result ≡ left_out row self.now }
+    {
+        LeftOutEvents {
+            events: self.events.as_slice(),
+            at: 0,
+            row,
+            board: Board::fresh(),
+        }
+    }
+
+    /// Mends the board: the events that stand are then those of before, in their order, without the one of this row, each taken if the
+    /// rules accept it after those kept before it. Returns the edition after the mend.
+    ///
+    /// # Errors
+    ///
+    /// As [`mend_reply`](StandingEvents::mend_reply) does. A refusal changes nothing.
+    pub fn mend(&mut self, edition: u16, row: u32) -> Result<u16, MendRefusal>
+        ensures reply { result ≡ mend_reply edition row self.old }
+        ensures events { self.new ≡ after_mend result row self.old }
+    {
+        let next = self.mend_reply(edition, row)?;
+        let mut board = Board::fresh();
+        let mut kept = 0;
+        for at in 0..self.events.len() {
+            let event = self.events[at];
+            match enter_again(&mut board, row, &event) {
+                Fate::Kept => {
+                    self.events[kept] = event;
+                    kept += 1;
+                }
+                Fate::Named => {}
+                Fate::Refused(_) => {}
+            }
+        }
+        self.events.truncate(kept);
+        self.board = board;
+        Ok(next)
+    }
+}
+
+impl<'a> Iterator for LeftOutEvents<'a> {
+    type Item = LeftOut;
+
+    ghost next_gives = { YieldsFirst (λ s. s) };
+
+    ghost remaining = { item_count (λ s. s) };
+
+    /// Returns the next event that is left out.
+    fn next(&mut self) -> Option<LeftOut> {
+        while self.at < self.events.len() {
+            let event = self.events[self.at];
+            self.at += 1;
+            match enter_again(&mut self.board, self.row, &event) {
+                Fate::Refused(refusal) => return Some(LeftOut { event, refusal }),
+                Fate::Kept | Fate::Named => {}
+            }
+        }
+        None
+    }
+}

@@ -1,0 +1,302 @@
+-- What the steps of a call leave as done and as held.
+use Rattle.ucl_words.proofs.Common.{AccessKind, Bool, Call, Checking, ClientState, Collecting, CompletesCall, DoneAsBefore, []}
+use Rattle.ucl_words.proofs.Common.{Enlisted, Enlists, EventCall, FinishedCall, Finishes, First, GoesOn, Holding, IsAnswered, IsBegun}
+use Rattle.ucl_words.proofs.Common.{IsNextOfProtocol, List, Look, Match, MayCollect, NoCall, None, Outcome, Pending, Refusal}
+use Rattle.ucl_words.proofs.Common.{Reply, Second, Some, Stale, StaysIn, Steps, Swap, View, after, ap, append-nil, arith, at_is, by_rules}
+use Rattle.ucl_words.proofs.Common.{call_answered, call_asked, checking, client_number, client_of, collected, collecting, cond, entry_by}
+use Rattle.ucl_words.proofs.Common.{entry_of, eq-eqb, false, first_later, first_place, flat_map, flat_map-append, history_of, inl, inr}
+use Rattle.ucl_words.proofs.Common.{legal_steps, length, length-take-le, log_long, ne_eqb, next_game, number_of, outcome, reading_of, subst}
+use Rattle.ucl_words.proofs.Common.{record_at, refl, refusal_of, set, slice_index, suc, sym, take, take-length, true}
+use Rattle.ucl_words.proofs.Common.{version_in, versions_shown, with_outcome, with_target, word_of, words_after, zero, ◌++◌, ◌+◌, ◌<◌, ◌==◌}
+use Rattle.ucl_words.proofs.Common.{◌∙◌, ◌∷◌, ◌≡◌, ◌≢◌, ◌≤◌, ◌⊎◌, ℕ}
+use Rattle.ucl_words.proofs.Steps.{ExchangeMissed, ExchangeWon, LoadsMatch, adds_none, client_is, count_stays, exchange_won, loads_match}
+use Rattle.ucl_words.proofs.Steps.{shown_of}
+use Rattle.ucl_steps.specs.declared.step.Call.TheVariants as calls
+use Rattle.ucl_steps.specs.declared.trace.Reply.TheVariants as replies
+use Rattle.ucl_steps.specs.Protocol as protocol
+
+begun_place : (h : Pending) (known was place : ℕ) → known ≤ place → IsBegun h known was (first_place h was place)
+begun_place h known was place le = search arith
+
+-- one step on a match word, by what comes of it
+
+module _ (seat game n : ℕ) (kind : AccessKind) (v w : View) (s : Steps seat (Match kind game n) v w) where
+  pub done : (o : Outcome) → outcome (client_of v.own).number (client_of v.own).held (Match kind game n) s.step.at ≡ o
+      → client_of w.own ≡ with_outcome o s.step (client_of v.own)
+  done o comes = client_is seat (Match kind game n) v w s ∙ ap (λ (z : Outcome). with_outcome z s.step (client_of v.own)) comes
+
+  -- the call goes on
+  pub goes_on : (held : Pending) → outcome (client_of v.own).number (client_of v.own).held (Match kind game n) s.step.at ≡ GoesOn held → StaysIn v held w
+  goes_on held comes =
+      let is = done (GoesOn held) comes in
+      record {
+        calls = ap (λ (z : ClientState). z.calls) is;
+        held_is = ap (λ (z : ClientState). z.held) is;
+        begun = subst (IsBegun (client_of v.own).held (length v.log) (client_of v.own).first) (sym (ap (λ (z : ClientState). z.first) is))
+            (begun_place (client_of v.own).held (length v.log) (client_of v.own).first s.step.place (first_later words_after IsNextOfProtocol seat (Match kind game n) v w s));
+      }
+
+  -- the call is answered
+  abbrev pub answered : (reply : Reply) → outcome (client_of v.own).number (client_of v.own).held (Match kind game n) s.step.at ≡ protocol.Answers reply
+      → (call : Call) → call_asked (client_of v.own).held (Match kind game n) ≡ call → IsAnswered v call reply w
+  answered reply comes call asked = record {
+    last = call_answered reply s.step (client_of v.own);
+    calls = ap (λ (z : ClientState). z.calls) (done (protocol.Answers reply) comes);
+    asked = (ap (call_asked (client_of v.own).held) s.of ∙ asked, refl, refl);
+    ended = log_long words_after IsNextOfProtocol seat (Match kind game n) v w s;
+    held = ap (λ (z : ClientState). z.held) (done (protocol.Answers reply) comes);
+  }
+
+-- what a pass has shown, by the calls that it has finished
+
+pub done_shown : (v w : View) → (client_of w.own).calls ≡ (client_of v.own).calls → number_of w.own ≡ number_of v.own → versions_shown w.own ≡ versions_shown v.own
+done_shown v w calls same = λ i. flat_map (shown_of ((client_number w.own ∙ (same ∙ sym (client_number v.own))) i)) (calls i)
+
+pub answered_shown : (v w : View) (call : Call) (reply : Reply) → IsAnswered v call reply w → number_of w.own ≡ number_of v.own
+    → versions_shown w.own ≡ versions_shown v.own ++ version_in reply
+answered_shown v w call reply a same =
+    let d = client_of v.own in
+    (λ i. flat_map (shown_of ((client_number w.own ∙ (same ∙ sym (client_number v.own))) i)) (a.calls i))
+    ∙ (flat_map-append (shown_of d.number) d.calls (a.last ∷ []) ∙ ap (λ (l : List ℕ). versions_shown v.own ++ l)
+    (append-nil (shown_of d.number a.last) ∙ ((λ i. cond (a.asked.2 i == d.number) (version_in (a.asked.1 i)) [])
+    ∙ ap (λ (b : Bool). cond b (version_in reply) []) (eq-eqb d.number d.number refl))))
+
+-- steps of one call, one after another
+
+under_way : (h : Pending) (known was first : ℕ) → h ≢ NoCall → IsBegun h known was first → first ≡ was
+under_way h known was first any begun = search arith
+
+pub stays_on : (u v w : View) (h k : Pending) → h ≢ NoCall → StaysIn u h v → StaysIn v k w → StaysIn u k w
+stays_on u v w h k any a b =
+    let same = under_way (client_of v.own).held (length v.log) (client_of v.own).first (client_of w.own).first (λ none. any (sym a.held_is ∙ none)) b.begun in
+    record {
+      calls = b.calls ∙ a.calls;
+      held_is = b.held_is;
+      begun = subst (IsBegun (client_of u.own).held (length u.log) (client_of u.own).first) (sym same) a.begun;
+    }
+
+-- a call that began after all that its pass had known, and that was answered
+pub stays_answered : (v u w : View) (held : Pending) (call : Call) (reply : Reply) → (client_of v.own).held ≡ NoCall → number_of u.own ≡ number_of v.own
+    → StaysIn v held u → Finishes u call reply w → CompletesCall v call reply w
+stays_answered v u w held call reply nothing number stays finishes =
+    let a = finishes.answers in
+    let begun : length v.log ≤ (client_of u.own).first = subst (λ (h : Pending). IsBegun h (length v.log) (client_of v.own).first (client_of u.own).first) nothing stays.begun in
+    let first = finishes.first in
+    record {
+      answers = record {
+        last = a.last;
+        calls = a.calls ∙ ap (λ (l : List FinishedCall). l ++ a.last ∷ []) stays.calls;
+        asked = (a.asked.0, a.asked.1, a.asked.2 ∙ (client_number u.own ∙ (number ∙ sym (client_number v.own))));
+        ended = a.ended;
+        held = a.held;
+      };
+      since = omega arith;
+    }
+
+-- a report's load, where nothing was held
+
+module _ (seat n : ℕ) (e : EventCall) (v w : View) (s : Steps seat (Match (Look e) e.game n) v w) (nothing : (client_of v.own).held ≡ NoCall) where
+  pub look_loads : LoadsMatch (Look e) e.game v n w
+  look_loads = loads_match seat e.game n (Look e) v w s (adds_none seat e.game n (Look e) v w s tt)
+
+  module _ (refusal : Refusal) (refused : refusal_of (record_at n) e.expected e.kind ≡ Some refusal) where
+    look_comes : outcome (client_of v.own).number (client_of v.own).held (Match (Look e) e.game n) s.step.at ≡ protocol.Answers (replies.Refused refusal)
+    look_comes = ap (by_rules (client_of v.own).number e n) refused
+
+    pub look_answers : CompletesCall v (calls.Event e) (replies.Refused refusal) w
+    look_answers =
+        let first = ap (λ (h : Pending). first_place h (client_of v.own).first s.step.place) nothing in
+        let low = first_later words_after IsNextOfProtocol seat (Match (Look e) e.game n) v w s in
+        record { answers = answered seat e.game n (Look e) v w s (replies.Refused refusal) look_comes (calls.Event e) refl; since = omega arith }
+
+  module _ (accepts : refusal_of (record_at n) e.expected e.kind ≡ None) where
+    look_goes : outcome (client_of v.own).number (client_of v.own).held (Match (Look e) e.game n) s.step.at ≡ GoesOn
+        (Holding e n (word_of (after (record_at n) (client_of v.own).number e.kind)))
+    look_goes = ap (by_rules (client_of v.own).number e n) accepts
+
+    pub look_holds : StaysIn v (Holding e n (word_of (after (record_at n) (client_of v.own).number e.kind))) w
+    look_holds = goes_on seat e.game n (Look e) v w s (Holding e n (word_of (after (record_at n) (client_of v.own).number e.kind))) look_goes
+
+-- the exchange
+
+module _ (seat game n old new : ℕ) (e : EventCall) (v w : View) (s : Steps seat (Match Swap game n) v w) (held : (client_of v.own).held ≡ Holding e old new) (of : game ≡ e.game) where
+  abbrev pub reply_by : Bool → Reply
+  reply_by b = cond b (replies.Accepted (record { number = (record_at new).number })) (replies.Refused (Stale (record_at n).number))
+
+  swap_comes : outcome (client_of v.own).number (client_of v.own).held (Match Swap game n) s.step.at ≡ protocol.Answers (reply_by (n == old))
+  swap_comes = ap (λ (h : Pending). outcome (client_of v.own).number h (Match Swap game n) s.step.at) held
+
+  swap_asked : call_asked (client_of v.own).held (Match Swap game n) ≡ calls.Event e
+  swap_asked = ap (λ (h : Pending). call_asked h (Match Swap game n)) held
+
+  module _ (b : Bool) (is : (n == old) ≡ b) where
+    comes_as : outcome (client_of v.own).number (client_of v.own).held (Match Swap game n) s.step.at ≡ protocol.Answers (reply_by b)
+    comes_as = swap_comes ∙ ap (λ (c : Bool). protocol.Answers (reply_by c)) is
+
+    pub swap_finishes : Finishes v (calls.Event e) (reply_by b) w
+    swap_finishes = record {
+      answers = answered seat game n Swap v w s (reply_by b) comes_as (calls.Event e) swap_asked;
+      first = ap (λ (h : Pending). first_place h (client_of v.own).first s.step.place) held;
+    }
+
+  pub swap_missed : n ≢ old → ExchangeMissed e.game v n w
+  swap_missed other =
+      let none : s.step.entry ≡ None = s.next.entry ∙ ((λ i. entry_by (client_of (sym s.own i)).number (client_of (sym s.own i)).held (s.of i))
+      ∙ (ap (λ (h : Pending). entry_by (client_of v.own).number h (Match Swap game n)) held
+      ∙ ap (λ (b : Bool). cond b (Some (Rattle.ucl_board.specs.History.entry_of (client_of v.own).number e)) None) (ne_eqb n old other))) in
+      subst (λ (g : ℕ). ExchangeMissed g v n w) of (loads_match seat game n Swap v w s none)
+
+  pub swap_won : n ≡ old → ExchangeWon (Rattle.ucl_board.specs.History.entry_of (number_of v.own) e) v n w
+  swap_won same = subst (λ (k : ℕ). ExchangeWon (Rattle.ucl_board.specs.History.entry_of (number_of v.own) e) v k w) (sym same)
+      (exchange_won seat game old new e v w (subst (λ (k : ℕ). Steps seat (Match Swap game k) v w) same s) held of)
+
+-- a first collect
+
+take_set : (ws : List ℕ) (i n : ℕ) → i < length ws → take (i + 1) (set ws i n) ≡ take i ws ++ n ∷ []
+take_set [] i n less = absurd (omega arith)
+take_set (x ∷ ws) zero n less = refl
+take_set (x ∷ ws) (suc i) n less = let e : suc i + 1 ≡ suc (i + 1) = omega arith in ap (λ (k : ℕ). take k (x ∷ set ws i n)) e ∙ ap (λ (l : List ℕ). x ∷ l) (take_set ws i n (omega arith))
+
+-- after so many loads
+abbrev pub Firsts : View → List ℕ → ℕ → View → Type 0
+Firsts v words i x = ((i ≡ 0) × (x ≡ v)) ⊎ ((0 < i) × StaysIn v (collected (take i words) (length (history_of x.log))) x)
+
+module _ (v x : View) (words : List ℕ) (i : ℕ) (less : i < 12) (long : length words ≡ 12) (may : MayCollect (client_of v.own).held) where
+  some_words : length (take i words) ≡ i
+  some_words = length-take-le i words (omega arith)
+
+  collecting_still : (now : ℕ) → collected (take i words) now ≡ Collecting (take i words)
+  collecting_still now = ap (λ (b : Bool). cond b (Checking (take i words) 0 now) (Collecting (take i words))) (ne_eqb (length (take i words)) 12 (λ full. let l = some_words in omega arith))
+
+  -- what is held before the next load
+  abbrev IsBefore : Pending → Type 0
+  IsBefore h = ((h ≡ NoCall) × (take i words ≡ [])) ⊎ (h ≡ Collecting (take i words))
+
+  begins_with : i ≡ 0 → (h : Pending) → MayCollect h → IsBefore h
+  begins_with none NoCall m = inl (refl, ap (λ (k : ℕ). take k words) none)
+  begins_with none (Collecting ws) m = inr (ap Collecting (m ∙ ap (λ (k : ℕ). take k words) (sym none)))
+  begins_with none h m = absurd m
+
+  held_before : Firsts v words i x → IsBefore (client_of x.own).held
+  held_before (inl t) = subst (λ (z : View). IsBefore (client_of z.own).held) (sym t.1) (begins_with t.0 (client_of v.own).held may)
+  held_before (inr t) = inr (t.1.held_is ∙ collecting_still (length (history_of x.log)))
+
+  pub first_next : Firsts v words i x → i + 1 ≡ next_game First (client_of x.own).held
+  first_next so_far = elim (held_before so_far) [
+    | inl t ↦ ap (λ (k : ℕ). k + 1) (sym some_words ∙ ap length t.1) ∙ ap (next_game First) (sym t.0)
+    | inr t ↦ ap (λ (k : ℕ). k + 1) (sym some_words) ∙ ap (next_game First) (sym t)
+  ]
+
+  module _ (seat n : ℕ) (w : View) (s : Steps seat (Match First (i + 1) n) x w) where
+    now_is : s.step.at ≡ length (history_of w.log)
+    now_is = at_is words_after IsNextOfProtocol seat (Match First (i + 1) n) x w s legal_steps (adds_none seat (i + 1) n First x w s tt)
+
+    abbrev more : Pending
+    more = collected (take (i + 1) (set words i n)) (length (history_of w.log))
+
+    words_on : take i words ++ n ∷ [] ≡ take (i + 1) (set words i n)
+    words_on = sym (take_set words i n (omega arith))
+
+    comes : Firsts v words i x → outcome (client_of x.own).number (client_of x.own).held (Match First (i + 1) n) s.step.at ≡ GoesOn more
+    comes so_far =
+        let by : Pending → Outcome = (λ h. outcome (client_of x.own).number h (Match First (i + 1) n) s.step.at) in
+        let on : by (client_of x.own).held ≡ GoesOn (collected (take i words ++ n ∷ []) s.step.at) = elim (held_before so_far) [
+          | inl t ↦ ap by t.0 ∙ ap (λ (l : List ℕ). GoesOn (collected (l ++ n ∷ []) s.step.at)) (sym t.1)
+          | inr t ↦ ap by t
+        ] in
+        on ∙ (λ j. GoesOn (collected (words_on j) (now_is j)))
+
+    pub first_loads : LoadsMatch First (i + 1) x n w
+    first_loads = loads_match seat (i + 1) n First x w s (adds_none seat (i + 1) n First x w s tt)
+
+    pub first_on : Firsts v words i x → Firsts v (set words i n) (i + 1) w
+    first_on so_far = inr (omega arith, by so_far)
+      where
+        by : Firsts v words i x → StaysIn v more w
+        by (inl t) = subst (λ (z : View). StaysIn z more w) t.1 (goes_on seat (i + 1) n First x w s more (comes so_far))
+        by (inr t) = stays_on v x w (collected (take i words) (length (history_of x.log))) more
+            (λ none. collecting (take i words) (sym (collecting_still (length (history_of x.log))) ∙ none)) t.1 (goes_on seat (i + 1) n First x w s more (comes so_far))
+
+pub firsts_all : (v x : View) (words : List ℕ) (i : ℕ) → length words ≡ 12 → i ≡ 12 → Firsts v words i x → StaysIn v (Checking words 0 (length (history_of x.log))) x
+firsts_all v x words i long all (inl t) = absurd (let e = t.0 in omega arith)
+firsts_all v x words i long all (inr t) =
+    let whole : take i words ≡ words = ap (λ (k : ℕ). take k words) (all ∙ sym long) ∙ take-length words in
+    subst (λ (h : Pending). StaysIn v h x)
+    (ap (λ (l : List ℕ). collected l (length (history_of x.log))) whole
+    ∙ ap (λ (b : Bool). cond b (Checking words 0 (length (history_of x.log))) (Collecting words)) (eq-eqb (length words) 12 long)) t.1
+
+-- a second collect, of which so many loads have found their word again
+abbrev pub Seconds : View → List ℕ → ℕ → ℕ → View → Type 0
+Seconds v words point count x = client_of x.own ≡ record (client_of v.own) { held = Checking words count point }
+
+pub seconds_none : (v : View) (words : List ℕ) (point : ℕ) → (client_of v.own).held ≡ Checking words 0 point → Seconds v words point 0 v
+seconds_none v words point is = λ i. record (client_of v.own) { held = is i }
+
+module _ (v x w : View) (words : List ℕ) (point i seat n : ℕ) (so_far : Seconds v words point i x) (s : Steps seat (Match Second (i + 1) n) x w) where
+  pub second_loads : LoadsMatch Second (i + 1) x n w
+  second_loads = loads_match seat (i + 1) n Second x w s (adds_none seat (i + 1) n Second x w s tt)
+
+  abbrev compared_by : Bool → Bool → Outcome
+  compared_by same last = cond same (cond last (protocol.Answers (replies.Copied (reading_of words))) (GoesOn (Checking words (i + 1) point))) (GoesOn (Collecting []))
+
+  abbrev checking_before : ClientState
+  checking_before = record (client_of v.own) { held = Checking words i point }
+
+  second_is : (same last : Bool) → (n == slice_index words i) ≡ same → (i == 11) ≡ last
+      → client_of w.own ≡ with_outcome (compared_by same last) s.step checking_before
+  second_is same last by end = client_is seat (Match Second (i + 1) n) x w s
+      ∙ (ap (with_target (Match Second (i + 1) n) s.step) so_far ∙ (λ j. with_outcome (compared_by (by j) (end j)) s.step checking_before))
+
+  pub second_on : n ≡ slice_index words i → i < 11 → Seconds v words point (i + 1) w
+  second_on same less = second_is true false (eq-eqb n (slice_index words i) same) (ne_eqb i 11 (λ z. omega arith))
+
+  pub second_last : n ≡ slice_index words i → i ≡ 11 → Finishes v calls.Reading (replies.Copied (reading_of words)) w
+  second_last same eleven =
+      let is = second_is true true (eq-eqb n (slice_index words i) same) (eq-eqb i 11 eleven) in
+      record {
+        answers = record {
+          last = call_answered (replies.Copied (reading_of words)) s.step checking_before;
+          calls = ap (λ (d : ClientState). d.calls) is;
+          asked = (ap (call_asked (Checking words i point)) s.of, refl, refl);
+          ended = log_long words_after IsNextOfProtocol seat (Match Second (i + 1) n) x w s;
+          held = ap (λ (d : ClientState). d.held) is;
+        };
+        first = refl;
+      }
+
+  pub second_other : n ≢ slice_index words i → (client_of v.own).held ≡ Checking words 0 point → StaysIn v (Collecting []) w
+  second_other other was =
+      let is = second_is false (i == 11) (ne_eqb n (slice_index words i) other) refl in
+      record {
+        calls = ap (λ (d : ClientState). d.calls) is;
+        held_is = ap (λ (d : ClientState). d.held) is;
+        begun = subst (λ (h : Pending). IsBegun h (length v.log) (client_of v.own).first (client_of w.own).first) (sym was)
+            (ap (λ (d : ClientState). d.first) is);
+      }
+
+-- tries of a reading
+
+abbrev pub Tries : View → View → Type 0
+Tries v x = (x ≡ v) ⊎ StaysIn v (Collecting []) x
+
+module _ (v x : View) (none : (client_of v.own).held ≡ NoCall) where
+  pub tries_may : Tries v x → MayCollect (client_of x.own).held
+  tries_may (inl same) = subst MayCollect (sym (ap (λ (z : View). (client_of z.own).held) same ∙ none)) tt
+  tries_may (inr t) = subst MayCollect (sym t.held_is) refl
+
+  pub tries_on : (h : Pending) (u : View) → Tries v x → StaysIn x h u → StaysIn v h u
+  tries_on h u (inl same) stays = subst (λ (z : View). StaysIn z h u) same stays
+  tries_on h u (inr t) stays = stays_on v x u (Collecting []) h (collecting []) t stays
+
+pub tries_again : (v u w : View) (words : List ℕ) (point : ℕ) → StaysIn v (Checking words 0 point) u → StaysIn u (Collecting []) w → StaysIn v (Collecting []) w
+tries_again v u w words point a b = stays_on v u w (Checking words 0 point) (Collecting []) (checking words 0 point) a b
+
+-- a step on the enlist word leaves what was done
+pub counted_does : (seat n : ℕ) (v w : View) → Steps seat (Enlisted n) v w → DoneAsBefore v w
+counted_does seat n v w s =
+    let is = client_is seat (Enlisted n) v w s
+    ∙ ap (λ (o : Outcome). with_outcome o s.step (client_of v.own)) (count_stays (client_of v.own).number n s.step.at (client_of v.own).held) in
+    record { calls = ap (λ (z : ClientState). z.calls) is; held = ap (λ (z : ClientState). z.held) is }
+
+pub enlisted_does : (seat n : ℕ) (v w : View) → Steps seat (Enlists n) v w → DoneAsBefore v w
+enlisted_does seat n v w s = let is = client_is seat (Enlists n) v w s in record { calls = ap (λ (z : ClientState). z.calls) is; held = ap (λ (z : ClientState). z.held) is }

@@ -1,0 +1,434 @@
+-- What the steps on a word board tell its passes: each kind of step keeps the invariant, and runs of steps on match words add up.
+use Rattle.ucl_words.proofs.Common.{Access, AccessKind, Adds, All, All-head, All-tail, Allows, Bool, ClientState, Continues, EnlistStep, []}
+use Rattle.ucl_words.proofs.Common.{Enlisted, EnlistedStep, Enlists, Entry, EventCall, ExchangeStep, FinishedCall, First, FirstStep, ap}
+use Rattle.ucl_words.proofs.Common.{Follows, GivesNumber, GoesOn, HasTrail, Holding, IsConsistent, IsMatch, IsNextFor, IsNextOfProtocol}
+use Rattle.ucl_words.proofs.Common.{IsPrefix, IsReporter, IsSome, IsThere, IsWord, Joins, List, Look, LookStep, Match, MatchRecord, subst}
+use Rattle.ucl_words.proofs.Common.{MayBeTaken, MayFollow, Me, NoCall, None, OccurAfterSplit, Occurs, Option, Pending, Second, SecondStep}
+use Rattle.ucl_words.proofs.Common.{Sees, Some, Splits, State, Steps, Swap, TableInvariant, Taken, Takes, Target, Valid, View, Walks}
+use Rattle.ucl_words.proofs.Common.{access, accesses_append, accesses_in, adds, after, append-nil, append_assoc, arith, at_last}
+use Rattle.ucl_words.proofs.Common.{at_longer, attempted, begins_length, begins_same, begins_through, board_next, board_of, calls_low}
+use Rattle.ucl_words.proofs.Common.{carried_after, client_at, client_number, client_of, cond, count_none, either, enlist_none, enlisted}
+use Rattle.ucl_words.proofs.Common.{enlisted_by, entry_by, entry_of, eq-eqb, exchanged, first_none, first_pass, flat_map, fold-append}
+use Rattle.ucl_words.proofs.Common.{follows_append, follows_longer, follows_one, follows_wider, get_elem?, get_or, history_of, joins_keep}
+use Rattle.ucl_words.proofs.Common.{keeps, le_refl, left_pass, legal_steps, length, length-append, logged_by, logs_legal, logs_sound}
+use Rattle.ucl_words.proofs.Common.{look_none, map, map-append, match_after, match_valid, may_attempt, ne_eqb, new_client, new_pass}
+use Rattle.ucl_words.proofs.Common.{next_game, note_pass, notes_keep, number_of, opening, opens_keep, outcome, own_is, pass_view_of}
+use Rattle.ucl_words.proofs.Common.{place_below, read_back, record_at, refl, refusal_of, second_none, second_pass, seconds_keep, sees, set}
+use Rattle.ucl_words.proofs.Common.{set-get_or, set_here, some, sound, step, step_keeps, step_taken, step_tells, stepped, stepped_to}
+use Rattle.ucl_words.proofs.Common.{steps_with, sym, takes_count, takes_none, takes_on, there_before, told_pass, trail_of}
+use Rattle.ucl_words.proofs.Common.{version_in, versions_by, versions_shown, with_step, with_target, word_after, word_of, words_after}
+use Rattle.ucl_words.proofs.Common.{words_enlisted, words_entered, words_stay, ◌++◌, ◌+◌, ◌-◌, ◌<◌, ◌==◌, ◌∙◌, ◌∷◌, ◌≡◌, ◌≢◌, ◌≤◌, ℕ}
+use mathlib.Core.Option as core
+use Rattle.ucl_live_board.proofs.InvariantIsKept as after_split
+use Rattle.ucl_board.specs.Log.{enlists}
+use Rattle.ucl_steps.proofs.LogFacts.{Offers, Sees as SeesPending}
+
+abbrev pub Position : Type 0
+Position = State Entry View
+
+get_match : (n : ℕ) (b : List ℕ) (game : ℕ) → 1 ≤ game → get_or (n ∷ b) game 0 ≡ get_or b (game - 1) 0
+get_match n b game low = search arith
+
+set_match : (n : ℕ) (b : List ℕ) (game x : ℕ) → 1 ≤ game → set (n ∷ b) game x ≡ n ∷ set b (game - 1) x
+set_match n b game x low = search arith
+
+-- a load, and no exchange
+abbrev pub IsLoad : AccessKind → Type 0
+IsLoad Swap = ⊥
+IsLoad act = Unit {0}
+
+load_none : (act : AccessKind) → IsLoad act → (h : Pending) (number game found : ℕ) → entry_by number h (Match act game found) ≡ None
+load_none (Look e) is h number game found = look_none h number game found e
+load_none Swap is h number game found = absurd is
+load_none First is h number game found = first_none h number game found
+load_none Second is h number game found = second_none h number game found
+
+pub count_there : (s : Position) (r : TableInvariant s) → get_or s.words 0 0 ≡ enlisted_by r.log
+count_there s r = ap (λ (ws : List ℕ). get_or ws 0 0) r.words_are
+
+module _ (s : Position) (r : TableInvariant s) (seat : ℕ) (v : View) (here : get_elem? s.views seat ≡ some v) (acts : IsSome v.share) where
+  word_there : (game : ℕ) → IsMatch game → get_or s.words game 0 ≡ word_of (match_after (history_of r.log) game)
+  word_there game is = ap (λ (ws : List ℕ). get_or ws game 0) r.words_are ∙ (get_match (enlisted_by r.log) (board_of (history_of r.log)) game is.0 ∙ word_after (history_of r.log) game is)
+
+  client_here : client_of v.own ≡ client_at seat r.log
+  client_here = ap client_of (r.fits seat v here).own.1
+
+  -- any step that the invariant lets come next
+  module _ (target : Target) (entry : Option Entry) (there : IsThere r.log target) (next : IsNextFor (client_of v.own) target)
+      (adds : entry ≡ entry_by (client_of v.own).number (client_of v.own).held target) where
+    abbrev x : Taken
+    x = record { target = target; place = length r.log; at = length (history_of r.log); entry = entry }
+
+    abbrev then : View
+    then = stepped_to r.log seat x v
+
+    may_be : MayBeTaken r.log (logged_by seat x)
+    may_be = record { place = (refl, refl); there = there }
+
+    is_next : IsNextOfProtocol r.log (logged_by seat x)
+    is_next = record {
+      next = subst (λ (d : ClientState). IsNextFor d target) client_here next;
+      entry = adds ∙ ap (λ (d : ClientState). entry_by d.number d.held target) client_here;
+    }
+
+    keeps_rule : (i n : ℕ) (cs : List (ℕ × Entry)) → set s.words i n ≡ words_after (history_of (r.log ++ logged_by seat x ∷ [])) (enlisted_by (r.log ++ logged_by seat x ∷ []))
+        → TableInvariant (stepped s i n seat cs then keeps)
+    keeps_rule i n cs are = step_keeps words_after IsNextOfProtocol s.words s.views r seat v here (set s.words i n) x acts may_be is_next are
+
+    tells : (i n : ℕ) (cs : List (ℕ × Entry)) → TableInvariant (stepped s i n seat cs then keeps) → (place : ℕ) → place ≡ seat → Steps place target v then
+    tells i n cs rule place is_seat = subst (λ (k : ℕ). Steps k target v then) (sym is_seat)
+        (step_tells words_after IsNextOfProtocol s.words s.views r seat v here (set s.words i n) x target refl acts may_be is_next rule)
+
+    -- words that stay
+    stays : (i : ℕ) (cs : List (ℕ × Entry)) → length (enlists target) ≡ 0 → entry ≡ None → TableInvariant (stepped s i (get_or s.words i 0) seat cs then keeps)
+    stays i cs none no_entry =
+        keeps_rule i (get_or s.words i 0) cs (set-get_or s.words i 0 ∙ words_stay words_after IsNextOfProtocol s.words s.views r seat v here x no_entry none)
+
+  -- a load of a match word, or an exchange of it that was missed
+  load_by : (act : AccessKind) (game i : ℕ) (cs : List (ℕ × Entry)) (place : ℕ) → place ≡ seat → IsMatch game → IsNextFor (client_of v.own) (Match act game (get_or s.words game 0))
+      → entry_by (client_of v.own).number (client_of v.own).held (Match act game (get_or s.words game 0)) ≡ None
+      → (w : View) × TableInvariant (stepped s game (get_or s.words game 0) seat cs w keeps) × Steps place (Match act game (get_or s.words game 0)) v w
+  load_by act game i cs place is_seat is next none =
+      let target = Match act game (get_or s.words game 0) in
+      let there : IsThere r.log target = (is, word_there game is) in
+      let rule = stays target None there next (sym none) game cs refl refl in
+      (then target None there next (sym none), rule, tells target None there next (sym none) game (get_or s.words game 0) cs rule place is_seat)
+
+  -- a load of the enlist word, or an exchange of it that was missed
+  count_by : (cs : List (ℕ × Entry)) (place : ℕ) → place ≡ seat
+      → (w : View) × TableInvariant (stepped s 0 (get_or s.words 0 0) seat cs w keeps) × Steps place (Enlisted (get_or s.words 0 0)) v w
+  count_by cs place is_seat =
+      let target = Enlisted (get_or s.words 0 0) in
+      let adds = sym (count_none (client_of v.own).held (client_of v.own).number (get_or s.words 0 0)) in
+      let there = count_there s r in
+      let rule = stays target None there tt adds 0 cs refl refl in
+      (then target None there tt adds, rule, tells target None there tt adds 0 (get_or s.words 0 0) cs rule place is_seat)
+
+pub loads : (slots seat game place : ℕ) (act : AccessKind) (m : Me Entry View) → place ≡ seat → IsLoad act → IsSome m.0.share → IsMatch game →
+    ((n : ℕ) → IsNextFor (client_of m.0.own) (Match act game n))
+    → Allows TableInvariant slots seat m game (λ n. n) (λ n m'. Steps place (Match act game n) m.0 m'.0)
+loads slots seat game place act m is_seat load acts is next s r _ here _ =
+    let n : ℕ = get_or s.words game 0 in
+    let t = load_by s r seat m.0 here acts act game game m.1 place is_seat is (next n) (load_none act load (client_of m.0.own).held (client_of m.0.own).number game n) in
+    (t.0, keeps, tt, t.1, t.2)
+
+pub looks : (slots seat game place : ℕ) (m : Me Entry View) (e : EventCall) → place ≡ seat → IsSome m.0.share → IsMatch game → e.game ≡ game → IsReporter (number_of m.0.own)
+    → (client_of m.0.own).held ≡ NoCall → Allows TableInvariant slots seat m game (λ n. n) (LookStep place e (step slots game 0 0 core.none) m)
+looks slots seat game place m e is_seat acts is of reporter nothing =
+    loads slots seat game place (Look e) m is_seat tt acts is (λ n. (nothing, sym of, subst IsReporter (sym (client_number m.0.own)) reporter))
+
+pub firsts : (slots seat game : ℕ) (m : Me Entry View) → IsSome m.0.share → IsMatch game → game ≡ next_game First (client_of m.0.own).held
+    → Allows TableInvariant slots seat m game (λ n. n) (FirstStep (step slots game 0 0 core.none) m)
+firsts slots seat game m acts is next s r hs here small =
+    let t = loads slots seat game seat First m refl tt acts is (λ n. next) s r hs here small in
+    (t.0, t.1, t.2, t.3, (seat, t.4))
+
+pub again : (slots seat game place : ℕ) (m : Me Entry View) → place ≡ seat → IsSome m.0.share → IsMatch game → game ≡ next_game Second (client_of m.0.own).held
+    → Allows TableInvariant slots seat m game (λ n. n) (SecondStep place (step slots game 0 0 core.none) m)
+again slots seat game place m is_seat acts is next = loads slots seat game place Second m is_seat tt acts is (λ n. next)
+
+pub counts : (slots seat place : ℕ) (m : Me Entry View) → place ≡ seat → IsSome m.0.share →
+    Allows TableInvariant slots seat m 0 (λ n. n) (EnlistedStep place (step slots 0 0 0 core.none) m)
+counts slots seat place m is_seat acts s r _ here _ = let t = count_by s r seat m.0 here acts m.1 place is_seat in (t.0, keeps, tt, t.1, (refl, t.2))
+
+pub enlisting : (slots seat place : ℕ) (m : Me Entry View) (old : ℕ) → place ≡ seat → IsSome m.0.share → number_of m.0.own ≡ 0 → (client_of m.0.own).held ≡ NoCall → old < 255
+    → Allows TableInvariant slots seat m 0 (λ n. either (n == old) (old + 1) n) (EnlistStep place (step slots 0 old (old + 1) core.none) m)
+enlisting slots seat place m old is_seat acts reader nothing room s r _ here _ =
+    let n : ℕ = get_or s.words 0 0 in
+    exchanged n old (old + 1)
+    (λ x. (w : View) × (a : Rattle.atomic_table.specs.Table.Act Entry) × Valid s.homes m.1 a × TableInvariant (stepped s 0 x seat m.1 w a)
+    × EnlistStep place (step slots 0 old (old + 1) core.none) m n (w, carried_after m.1 a))
+    (λ hit.
+    let found = count_there s r in
+    let there : IsThere r.log (Enlists n) = (found, omega arith) in
+    let adds = sym (enlist_none (client_of m.0.own).held (client_of m.0.own).number n) in
+    let next : IsNextFor (client_of m.0.own) (Enlists n) = (nothing, client_number m.0.own ∙ reader) in
+    let x : Taken = record { target = Enlists n; place = length r.log; at = length (history_of r.log); entry = None } in
+    let are : set s.words 0 (old + 1) ≡ words_after (history_of (r.log ++ logged_by seat x ∷ [])) (enlisted_by (r.log ++ logged_by seat x ∷ [])) =
+    ap (λ (ws : List ℕ). set ws 0 (old + 1)) r.words_are ∙ (ap (λ (k : ℕ). words_after (history_of r.log) (k + 1)) (sym hit ∙ found)
+    ∙ words_enlisted words_after IsNextOfProtocol s.words s.views r seat m.0 here x refl refl) in
+    let rule = keeps_rule s r seat m.0 here acts (Enlists n) None there next adds 0 (old + 1) m.1 are in
+    let said = tells s r seat m.0 here acts (Enlists n) None there next adds 0 (old + 1) m.1 rule place is_seat in (
+      stepped_to r.log seat x m.0,
+      keeps,
+      tt,
+      rule,
+      (refl, subst (λ (b : Bool). Steps place (cond b (Enlists n) (Enlisted n)) m.0 (stepped_to r.log seat x m.0)) (sym (eq-eqb n old hit)) said),
+    ))
+    (λ miss.
+    let t = count_by s r seat m.0 here acts m.1 place is_seat in
+    (t.0, keeps, tt, t.1, (refl, subst (λ (b : Bool). Steps place (cond b (Enlists n) (Enlisted n)) m.0 t.0) (sym (ne_eqb n old miss)) t.2)))
+
+-- an exchange that adds an entry
+module _ (s : Position) (r : TableInvariant s) (seat : ℕ) (m : Me Entry View) (here : get_elem? s.views seat ≡ some m.0) (acts : IsSome m.0.share) (game old new : ℕ) (e : EventCall)
+    (holds : (client_of m.0.own).held ≡ Holding e old new) (of : game ≡ e.game) where
+  abbrev number : ℕ
+  number = (client_of m.0.own).number
+
+  seen : Offers (client_at seat r.log).number e old new
+  seen = subst (SeesPending (client_at seat r.log).number) (ap (λ (d : ClientState). d.held) (sym (client_here s r seat m.0 here acts)) ∙ holds)
+      ((logs_sound r.log r.is_log r.follows).sees seat)
+
+  is_match : IsMatch game
+  is_match = subst IsMatch (sym of) seen.game
+
+  abbrev found : ℕ
+  found = get_or s.words game 0
+
+  next : IsNextFor (client_of m.0.own) (Match Swap game found)
+  next = of ∙ ap (λ (h : Pending). next_game Swap h) (sym holds)
+
+  adds_by : entry_by number (client_of m.0.own).held (Match Swap game found) ≡ cond (found == old) (Some (entry_of number e)) None
+  adds_by = ap (λ (h : Pending). entry_by number h (Match Swap game found)) holds
+
+  missed_none : found ≢ old → entry_by number (client_of m.0.own).held (Match Swap game found) ≡ None
+  missed_none miss = adds_by ∙ ap (λ (b : Bool). cond b (Some (entry_of number e)) None) (ne_eqb found old miss)
+
+  won_some : found ≡ old → Some (entry_of number e) ≡ entry_by number (client_of m.0.own).held (Match Swap game found)
+  won_some hit = sym (adds_by ∙ ap (λ (b : Bool). cond b (Some (entry_of number e)) None) (eq-eqb found old hit))
+
+  abbrev made : Entry
+  made = entry_of (client_of m.0.own).number e
+
+  abbrev won_step : Taken
+  won_step = record { target = Match Swap game (get_or s.words game 0); place = length r.log; at = length (history_of r.log); entry = Some (entry_of (client_of m.0.own).number e) }
+
+  -- the words then
+  won_words : found ≡ old
+      → set s.words game new ≡ words_after (history_of (r.log ++ logged_by seat won_step ∷ [])) (enlisted_by (r.log ++ logged_by seat won_step ∷ []))
+  won_words hit =
+      let h = history_of r.log in
+      let legal = logs_legal r.log r.is_log r.follows in
+      let o = seen in
+      let number_is : number ≡ (client_at seat r.log).number = ap (λ (d : ClientState). d.number) (client_here s r seat m.0 here acts) in
+      let there : old ≡ word_of (match_after h e.game) = sym hit ∙ (word_there s r seat m.0 here acts game is_match ∙ ap (λ (g : ℕ). word_of (match_after h g)) of) in
+      let match_is : record_at old ≡ match_after h e.game = ap record_at there ∙ read_back h e.game legal in
+      let accepted : refusal_of (match_after h e.game) e.expected e.kind ≡ None = ap (λ (k : MatchRecord). refusal_of k e.expected e.kind) (sym match_is) ∙ o.accepted in
+      let may : MayFollow h made = may_attempt h (attempted number e) legal (subst IsReporter (sym number_is) o.reporter, o.game) accepted in
+      let new_is : new ≡ word_of (after (match_after h e.game) number e.kind) = o.next ∙ (λ j. word_of (after (match_is j) (sym number_is j) e.kind)) in
+      let board : set (board_of h) (game - 1) new ≡ board_of (h ++ made ∷ []) = (λ j. set (board_of h) (of j - 1) (new_is j)) ∙ sym (board_next h made legal may) in
+      ap (λ (ws : List ℕ). set ws game new) r.words_are ∙ (set_match (enlisted_by r.log) (board_of h) game new is_match.0
+      ∙ (ap (λ (l : List ℕ). enlisted_by r.log ∷ l) board ∙ words_entered words_after IsNextOfProtocol s.words s.views r seat m.0 here won_step made refl refl))
+
+  won_by : found ≡ old → (place : ℕ) → place ≡ seat
+      → TableInvariant (stepped s game new seat m.1 (stepped_to r.log seat won_step m.0) keeps) × Steps place (Match Swap game found) m.0 (stepped_to r.log seat won_step m.0)
+  won_by hit place is_seat =
+      let there : IsThere r.log (Match Swap game found) = (is_match, word_there s r seat m.0 here acts game is_match) in
+      let rule = keeps_rule s r seat m.0 here acts (Match Swap game found) (Some made) there next (won_some hit) game new m.1 (won_words hit) in
+      (rule, tells s r seat m.0 here acts (Match Swap game found) (Some made) there next (won_some hit) game new m.1 rule place is_seat)
+
+pub swaps : (slots seat place game : ℕ) (m : Me Entry View) (e : EventCall) (entry : Entry) (old new : ℕ) → place ≡ seat → IsSome m.0.share
+    → (client_of m.0.own).held ≡ Holding e old new → game ≡ e.game
+    → Allows TableInvariant slots seat m game (λ n. either (n == old) new n) (ExchangeStep place (step slots game old new (core.some entry)) m)
+swaps slots seat place game m e entry old new is_seat acts holds of s r _ here _ =
+    let n : ℕ = get_or s.words game 0 in
+    exchanged n old new
+    (λ x. (w : View) × (a : Rattle.atomic_table.specs.Table.Act Entry) × Valid s.homes m.1 a × TableInvariant (stepped s game x seat m.1 w a)
+    × ExchangeStep place (step slots game old new (core.some entry)) m n (w, carried_after m.1 a))
+    (λ hit. let t = won_by s r seat m here acts game old new e holds of hit place is_seat in (stepped_to r.log seat (won_step s r seat m here acts game old new e holds of) m.0, keeps, tt, t.0, t.1))
+    (λ miss.
+    let t = load_by s r seat m.0 here acts Swap game game m.1 place is_seat (is_match s r seat m here acts game old new e holds of) (next s r seat m here acts game old new e holds of)
+    (missed_none s r seat m here acts game old new e holds of miss) in
+    (t.0, keeps, tt, t.1, t.2))
+
+pub seconds : (seat : ℕ) (v : View) → Splits TableInvariant seat v (left_pass v) (second_pass v)
+seconds seat v s r here = seconds_keep words_after IsNextOfProtocol s.words s.views r seat v here
+
+-- a pass that another was split off still occurs, beside that one
+pub split_occurs : (v : View) → OccurAfterSplit v (left_pass v) (second_pass v)
+split_occurs = after_split.split_occurs words_after IsNextOfProtocol
+
+pub notes : (seat : ℕ) (v : View) → Splits TableInvariant seat v v (note_pass v)
+notes seat v s r here = notes_keep words_after IsNextOfProtocol s.words s.views r seat v here
+
+pub joins : (seat : ℕ) (v : View) (other : ℕ) (a : View) → Joins TableInvariant seat v other (note_pass a) (told_pass v (note_pass a)) new_pass
+joins seat v other a s r here apart there = joins_keep words_after IsNextOfProtocol s.words s.views r seat v here other (note_pass a) apart there refl
+
+-- a board may open with the words of no event and no reporter
+pub opens : (words : List ℕ) → words ≡ words_after [] 0 → TableInvariant (opening words [] first_pass)
+opens words are = opens_keep words_after IsNextOfProtocol words are
+
+pub opened_occurs : (words : List ℕ) → words ≡ words_after [] 0 → Occurs 0 first_pass
+opened_occurs words are = record { words = words; views = first_pass ∷ []; rule = opens words are; here = refl }
+
+-- What a step of the table tells of what its pass knows and has shown. --
+
+-- a load of the word of a match, or an exchange of it that was missed
+abbrev pub LoadsMatch : AccessKind → ℕ → View → ℕ → View → Type 0
+LoadsMatch kind game v n w = Sees (Match kind game n) v w
+
+-- an exchange of a match word that was missed
+abbrev pub ExchangeMissed : ℕ → View → ℕ → View → Type 0
+ExchangeMissed = LoadsMatch Swap
+
+-- an exchange of a match word that was won: its entry is the last that the pass has seen
+abbrev pub ExchangeWon : Entry → View → ℕ → View → Type 0
+ExchangeWon e v n w = Adds (Match Swap e.game n) e v w
+
+-- an exchange of the enlist word that was won: the pass is a reporter's
+pub record EnlistWon (v : View) (n : ℕ) (w : View) : Type 0 where
+  pub gives : GivesNumber n v w
+  pub shown : versions_shown w.own ≡ []
+
+-- what the pass has done
+pub client_is : (seat : ℕ) (target : Target) (v w : View) (s : Steps seat target v w) → client_of w.own ≡ with_target target s.step (client_of v.own)
+client_is seat target v w s = ap client_of (own_is words_after IsNextOfProtocol seat target v w s)
+    ∙ (fold-append with_step new_client v.own (s.step ∷ []) ∙ ap (λ (t : Target). with_target t s.step (client_of v.own)) s.of)
+
+-- what finished calls show under a number
+abbrev pub shown_of : ℕ → FinishedCall → List ℕ
+shown_of number c = cond (c.number == number) (version_in c.reply) []
+
+-- the word that a step on a match word found is that of a valid record
+pub found_word : (seat game n : ℕ) (kind : AccessKind) (v w : View) → Steps seat (Match kind game n) v w → IsWord n
+found_word seat game n kind v w s =
+    let there = there_before words_after IsNextOfProtocol seat (Match kind game n) v w s in
+    let legal = logs_legal s.before s.is_log s.follows in
+    record { of = match_after (history_of s.before) game; valid = match_valid game (history_of s.before) legal; packed = sym there.1 }
+
+-- a step on a match word that added nothing
+pub loads_match : (seat game n : ℕ) (kind : AccessKind) (v w : View) (s : Steps seat (Match kind game n) v w) → s.step.entry ≡ None → LoadsMatch kind game v n w
+loads_match seat game n kind v w s none = sees words_after IsNextOfProtocol seat (Match kind game n) v w s legal_steps none refl
+
+-- a load of a match word adds nothing
+pub adds_none : (seat game n : ℕ) (kind : AccessKind) (v w : View) (s : Steps seat (Match kind game n) v w) → IsLoad kind → s.step.entry ≡ None
+adds_none seat game n kind v w s load = s.next.entry ∙ (ap (entry_by (client_at seat s.before).number (client_at seat s.before).held) s.of
+    ∙ load_none kind load (client_at seat s.before).held (client_at seat s.before).number game n)
+
+-- an exchange that was won
+pub exchange_won : (seat game old new : ℕ) (e : EventCall) (v w : View) (s : Steps seat (Match Swap game old) v w) → (client_of v.own).held ≡ Holding e old new → game ≡ e.game
+    → ExchangeWon (entry_of (number_of v.own) e) v old w
+exchange_won seat game old new e v w s held of =
+    let made : Entry = entry_of (client_of v.own).number e in
+    let entry : s.step.entry ≡ Some (entry_of (number_of v.own) e) =
+    s.next.entry ∙ ((λ i. entry_by (client_of (sym s.own i)).number (client_of (sym s.own i)).held (s.of i))
+    ∙ (ap (λ (h : Pending). entry_by (client_of v.own).number h (Match Swap game old)) held
+    ∙ (ap (λ (b : Bool). cond b (Some made) None) (eq-eqb old old refl) ∙ ap (λ (n : ℕ). Some (entry_of n e)) (client_number v.own)))) in
+    subst (λ (g : ℕ). Adds (Match Swap g old) (entry_of (number_of v.own) e) v w) of
+    (adds words_after IsNextOfProtocol seat (Match Swap game old) v w s legal_steps (entry_of (number_of v.own) e) entry refl)
+
+-- a step on the enlist word
+
+pub count_stays : (number found now : ℕ) (k : Pending) → outcome number k (Enlisted found) now ≡ GoesOn k
+count_stays number found now k = search arith
+
+-- a load, or an exchange that was missed: the pass then knows how many it found
+pub loads_enlisted : (seat n : ℕ) (v w : View) → Steps seat (Enlisted n) v w → Sees (Enlisted n) v w
+loads_enlisted seat n v w s = sees words_after IsNextOfProtocol seat (Enlisted n) v w s legal_steps
+    (s.next.entry ∙ (ap (entry_by (client_at seat s.before).number (client_at seat s.before).held) s.of ∙ count_none (client_at seat s.before).held (client_at seat s.before).number n)) refl
+
+pub enlist_won : (seat n : ℕ) (v w : View) → Steps seat (Enlists n) v w → EnlistWon v n w
+enlist_won seat n v w s =
+    let d = client_of v.own in
+    let own : d ≡ client_at seat s.before = ap client_of s.own in
+    let reader : d.number ≡ 0 = ap (λ (z : ClientState). z.number) own ∙ (subst (IsNextFor (client_at seat s.before)) s.of s.next.next).1 in
+    let calls : All (λ (c : FinishedCall). c.number ≤ d.number) d.calls = subst
+    (λ (z : ClientState). All (λ (c : FinishedCall). c.number ≤ z.number) z.calls) (sym own) (calls_low s.before s.is_log s.follows seat) in
+    record {
+      gives = enlisted words_after IsNextOfProtocol seat n v w s legal_steps;
+      shown = ap versions_by (client_is seat (Enlists n) v w s) ∙ none_shown (n + 1) d.calls (λ k c at. let l = calls k c at in omega arith);
+    }
+  where
+    none_shown : (k : ℕ) (cs : List FinishedCall) → All (λ (c : FinishedCall). c.number < k) cs → flat_map (shown_of k) cs ≡ []
+    none_shown k [] low = refl
+    none_shown k (c ∷ cs) low =
+        let less = All-head (λ (a : FinishedCall). a.number < k) c cs low in
+        ap (λ (b : Bool). cond b (version_in c.reply) [] ++ flat_map (shown_of k) cs) (ne_eqb c.number k (λ same. omega (arith, same, less)))
+        ∙ none_shown k cs (All-tail (λ (a : FinishedCall). a.number < k) c cs low)
+
+-- Steps on match words, one after another. --
+
+-- accesses that follow what a trail has, over a history that is longer
+pub trail_on : (s h : List Entry) (old new : List Access) → IsPrefix s h → Follows s 0 old (length s) → Follows h (length s) new (length h) → Follows h 0 (old ++ new) (length h)
+trail_on s h old new p was more = follows_append h 0 (length s) (length h) old new (follows_longer s h 0 (length s) old p (le_refl (length s)) was) more
+
+-- the same trail over a longer history
+pub trail_longer : (s h : List Entry) (trail : List Access) → IsPrefix s h → Follows s 0 trail (length s) → Follows h 0 trail (length h)
+trail_longer s h trail p was = follows_wider h 0 0 (length s) (length h) trail (le_refl 0) (begins_length s h p) (follows_longer s h 0 (length s) trail p (le_refl (length s)) was)
+
+-- the trail after some steps
+pub takes_trail : (v w : View) (steps : List Taken) → Takes v steps w → trail_of w ≡ trail_of v ++ accesses_in steps
+takes_trail v w steps t = search (arith, append_assoc, accesses_append)
+
+-- steps that add no entry
+abbrev plain : Access → Taken
+plain m = step_taken (Match m.kind m.game m.found) m.place m.at None
+
+all_plain : (ms : List Access) → steps_with None ms ≡ map plain ms
+all_plain [] = refl
+all_plain (m ∷ []) = refl
+all_plain (m ∷ n ∷ ms) = ap (λ (l : List Taken). plain m ∷ l) (all_plain (n ∷ ms))
+
+pub plain_append : (ms ns : List Access) → steps_with None (ms ++ ns) ≡ steps_with None ms ++ steps_with None ns
+plain_append ms ns = all_plain (ms ++ ns) ∙ (map-append plain ms ns ∙ sym (λ i. all_plain ms i ++ all_plain ns i))
+
+pub walks_none : (v : View) → IsConsistent v → Walks v [] v
+walks_none v consistent = record {
+  consistent = consistent;
+  on = record { seen = begins_same (history_of v.log); listed = le_refl (enlisted_by v.log); share = refl };
+  mine = refl;
+  number = refl;
+  leaves = record {
+    takes = takes_none v;
+    trail = sym (append-nil (trail_of v));
+    taken = omega arith;
+    follows = le_refl (length (history_of v.log));
+    whole_trail = consistent.trail;
+  };
+}
+
+pub walks_on : (u v w : View) (ms ns : List Access) → Walks u ms v → Walks v ns w → Walks u (ms ++ ns) w
+walks_on u v w ms ns a b =
+    let listed = a.on.listed in
+    let more = b.on.listed in
+    let count = a.leaves.taken in
+    let then = b.leaves.taken in
+    let long = length-append ms ns in
+    record {
+      consistent = b.consistent;
+      on = record { seen = begins_through (history_of u.log) (history_of v.log) (history_of w.log) a.on.seen b.on.seen; listed = omega arith; share = b.on.share ∙ a.on.share };
+      mine = b.mine ∙ a.mine;
+      number = b.number ∙ a.number;
+      leaves = record {
+        takes = subst (λ (l : List Taken). Takes u l w) (sym (plain_append ms ns)) (takes_on u v w (steps_with None ms) (steps_with None ns) a.leaves.takes b.leaves.takes);
+        trail = b.leaves.trail ∙ (ap (λ (l : List Access). l ++ ns) a.leaves.trail ∙ append_assoc (trail_of u) ms ns);
+        taken = omega arith;
+        follows = follows_append (history_of w.log) (length (history_of u.log)) (length (history_of v.log)) (length (history_of w.log)) ms ns
+            (follows_longer (history_of v.log) (history_of w.log) (length (history_of u.log)) (length (history_of v.log)) ms b.on.seen (le_refl (length (history_of v.log))) a.leaves.follows)
+            b.leaves.follows;
+        whole_trail = b.leaves.whole_trail;
+      };
+    }
+
+-- one load of a match word
+module _ (kind : AccessKind) (game n : ℕ) (v w : View) (consistent : IsConsistent v) (l : LoadsMatch kind game v n w) where
+  abbrev loaded : Access
+  loaded = access kind game n l.place (length (history_of w.log))
+
+  load_trail : trail_of w ≡ trail_of v ++ loaded ∷ []
+  load_trail = takes_trail v w (step_taken (Match kind game n) l.place (length (history_of w.log)) None ∷ []) l.takes
+
+  follows : Follows (history_of w.log) (length (history_of v.log)) (loaded ∷ []) (length (history_of w.log))
+  follows = follows_one (history_of w.log) (length (history_of v.log)) loaded (begins_length (history_of v.log) (history_of w.log) l.goes.seen) refl l.there.1
+
+  whole_trail : HasTrail w
+  whole_trail = subst (λ (t : List Access). Follows (history_of w.log) 0 t (length (history_of w.log))) (sym load_trail)
+      (trail_on (history_of v.log) (history_of w.log) (trail_of v) (loaded ∷ []) l.goes.seen consistent.trail follows)
+
+  pub walks_load : Walks v (access kind game n l.place (length (history_of w.log)) ∷ []) w
+  walks_load = record {
+    consistent = record { sound = sound versions_shown v w l.goes; told = l.goes.told; trail = whole_trail };
+    on = record { seen = l.goes.seen; listed = l.goes.listed; share = l.goes.share };
+    mine = l.mine;
+    number = l.number;
+    leaves = record {
+      takes = l.takes;
+      trail = load_trail;
+      taken = takes_count v w (step_taken (Match kind game n) l.place (length (history_of w.log)) None ∷ []) l.takes;
+      follows = follows;
+      whole_trail = whole_trail;
+    };
+  }
+
+pub walks_continue : (v w : View) (ms : List Access) → Walks v ms w → Continues (pass_view_of v) (pass_view_of w)
+walks_continue v w ms walk = record { sound = walk.consistent.sound; on = walk.on; number = walk.number }

@@ -1,0 +1,293 @@
+"""The board of a group behind a broker: rows that come go into a record, and what is answered to
+the record is told.
+
+Usage: python3 -m hall.board GROUP [CLUBS]    in the folder of the records; after Ctrl-C, a kill or
+                                              a crash the same line goes on
+
+GROUP is a letter, a to h. The record is a.rows; where there is none it begins with the row of the
+group and the clubs, the first four rows of the file CLUBS. While the board runs it holds the lock
+a.lock: a second one ends at once, with status 1. `ucl_reporter a.rows` puts a mistake right. The
+file of mosquitto_sub says where the broker is.
+
+ucl/a/EDITION/rows/NUMBER   where reporter NUMBER sends rows of an edition
+ucl/a/desk                  each screen, in JSON; the broker keeps the last. After two seconds
+                            without one the last comes again, with the time as `pulse`
+ucl/a/answers               the answer to each row, in JSON
+
+What is on a topic of rows and is no event of its reporter in the edition that stands is passed over
+and counted. Nothing is told of a row before the disk has it. The correlation data of a row is that
+of its answer. A row that comes again with the same correlation data is answered again; one that is
+marked as sent again, and that the board has, is answered as entered.
+"""
+
+import asyncio
+import json
+import os
+import sys
+import time
+from collections import OrderedDict
+from collections.abc import Callable, Mapping
+from typing import TextIO
+
+from hall import topics
+from hall.address import Address
+from hall.answers import Answer, Moment, Reply
+from hall.beginning import begin, rows_of_file
+from hall.broker import Broker, Message
+from hall.faults import Dropped, Fault, NotEntered, Over
+from hall.printable import printable
+from hall.programs import live_program
+from hall.record import Record
+from hall.requests import People, Request, request_of
+from hall.running import locked, until_ended
+
+# How many answers are kept for rows that come again, and how many rows may wait.
+ANSWERS, WAITING = 10_000, 10_000
+# For how long, in seconds, it is not told again that something is passed over.
+MINUTE = 60.0
+# For how long a broker keeps rows for a board that is down, in seconds.
+SESSION = 7 * 86_400
+
+
+class Board:
+    """The board of a group, on a record and a broker that are open."""
+
+    def __init__(self, group: str, record: Record, broker: Broker) -> None:
+        self.group, self.record, self.broker = group, record, broker
+        # Where is told what is passed over; rows that came; the newest answer; when a screen was
+        # put on the desk.
+        self.log: TextIO = sys.stderr
+        self.rows, self.passed_over = 0, 0
+        self.newest: Answer | None = None
+        self.shown_at = 0.0
+        self._heard: asyncio.Queue[Request] = asyncio.Queue(WAITING)
+        # Correlation data of rows that wait, by their lines in the record once they are written;
+        # what was answered; who types.
+        self._pending: set[bytes] = set()
+        self._asked: dict[int, bytes] = {}
+        self._answered: OrderedDict[bytes, list[bytes]] = OrderedDict()
+        self._people = People()
+        self._told, self._uncounted = 0.0, 0
+        self._due = 0.0
+        broker.heard, broker.connected, broker.told = self._hear, self._show, self._tell
+        record.listen(self._answer)
+
+    async def run(self) -> None:
+        """Runs until the record can be followed no more, and raises that fault."""
+        await self.record.ready()
+        tasks = [asyncio.create_task(self._work()), asyncio.create_task(self._pulse())]
+        try:
+            await asyncio.wait({*tasks, self.record.over}, return_when=asyncio.FIRST_COMPLETED)
+            for task in (self.record.over, *tasks):
+                if task.done():
+                    task.result()
+        finally:
+            for task in tasks:
+                task.cancel()
+            await asyncio.gather(*tasks, return_exceptions=True)
+
+    # ---- what comes
+
+    def _hear(self, message: Message) -> None:
+        """Takes a message: an event of its reporter in the edition that stands, or nothing."""
+        request = request_of(self.group, message)
+        if request is None:
+            self._pass_over("no event of its reporter", message)
+        elif request.edition != self.record.moment.edition:
+            self._pass_over("of another edition", message)
+        elif self._heard.full():
+            self._pass_over("too much waits", message)
+        else:
+            if self._people.are_two(request):
+                text = f"two people type as reporter {request.reporter}"
+                self._notice(request.reporter, text)
+            self._heard.put_nowait(request)
+            self.rows += 1
+
+    async def _work(self) -> None:
+        """Appends what has come, all of it by one write."""
+        while True:
+            requests = [await self._heard.get()]
+            while not self._heard.empty():
+                requests.append(self._heard.get_nowait())
+            edition = self.record.moment.edition
+            fresh = [it for it in requests if it.edition == edition and self._is_new(it)]
+            if fresh:
+                await self._enter(fresh, edition)
+
+    def _is_new(self, request: Request) -> bool:
+        """Whether a row is to be judged: one that was, or is, is answered by its answer."""
+        correlation = request.correlation
+        if correlation is not None:
+            if correlation in self._pending:
+                return False
+            if correlation in self._answered:
+                self._publish(self._answered[correlation], correlation)
+                return False
+        if request.is_again and self.record.has(request.reporter, request.row):
+            self._publish([self._entered(request)], correlation)
+            return False
+        if correlation is not None:
+            self._pending.add(correlation)
+        return True
+
+    async def _enter(self, requests: list[Request], edition: int) -> None:
+        rows = [it.row.line(it.reporter) for it in requests]
+
+        def written(first: int) -> None:
+            for number, request in enumerate(requests, first):
+                if request.correlation is not None:
+                    self._asked[number] = request.correlation
+
+        try:
+            await self.record.append(rows, edition, written)
+        except Dropped:
+            self._pass_over("of an edition that is over", None)
+        except (NotEntered, Over) as fault:
+            for reporter in {it.reporter for it in requests}:
+                self._notice(reporter, str(fault))
+        finally:
+            self._pending.difference_update(it.correlation for it in requests if it.correlation)
+
+    # ---- what is told
+
+    def _answer(self, reply: Reply) -> None:
+        """Tells what was answered to a row, and the screen after it."""
+        correlation, self.newest = self._asked.pop(reply.row, None), reply.answer
+        if not isinstance(reply.answer, Moment):
+            lines = [*(event.line for event in reply.left_out), reply.answer.line]
+            if correlation is not None:
+                self._answered[correlation] = lines
+                while len(self._answered) > ANSWERS:
+                    self._answered.popitem(last=False)
+            self._publish(lines, correlation)
+        if reply.screen is not None:
+            self._show()
+
+    def _publish(self, lines: list[bytes], correlation: bytes | None) -> None:
+        for line in lines:
+            self.broker.publish(topics.answers(self.group), line, correlation=correlation)
+
+    def _show(self) -> None:
+        """Puts the newest screen on the desk."""
+        self._put(self.record.moment.line)
+
+    async def _pulse(self) -> None:
+        """Puts the last screen on the desk again where none comes."""
+        while True:
+            await asyncio.sleep(max(0.05, self._due - time.monotonic()))
+            if time.monotonic() >= self._due:
+                members = {**json.loads(self.record.moment.line), "pulse": int(time.time())}
+                self._put(line_of(members))
+
+    def _put(self, line: bytes) -> None:
+        now = time.monotonic()
+        self._due = now + topics.PULSE
+        if self.broker.publish(topics.desk(self.group), line, is_kept=True):
+            self.shown_at = now
+
+    def _entered(self, request: Request) -> bytes:
+        """The answer to a row that the board has: it is entered, and the board is as it stands."""
+        event = self.record.events(request.row.match)[request.row.expected]
+        stands = json.loads(self.record.moment.line)
+        names = ("group", "order", "edition", "clubs", "words", "version")
+        return line_of(
+            {
+                **{name: stands[name] for name in names},
+                "reply": "ok",
+                "row": event.row,
+                "reporter": request.reporter,
+                "match": request.row.match,
+                "expected": request.row.expected,
+                "event": request.row.event,
+                "number": request.row.expected + 1,
+            }
+        )
+
+    def _notice(self, reporter: int, text: str) -> None:
+        members = {"reply": "notice", "reporter": reporter, "text": text}
+        self._publish([line_of(members)], None)
+        self._tell(text)
+
+    def _pass_over(self, why: str, message: Message | None) -> None:
+        """Counts what is passed over, and tells of it once a minute at most."""
+        self.passed_over += 1
+        self._uncounted += 1
+        if time.monotonic() - self._told >= MINUTE or not self._told:
+            self._told = time.monotonic()
+            what = "" if message is None else f" on {printable(message.topic, 80)}: "
+            what += "" if message is None else printable(message.payload, 80)
+            self._tell(f"passed over {self._uncounted}, the last {why}{what}")
+            self._uncounted = 0
+
+    def _tell(self, text: str) -> None:
+        print(f"board {self.group}: {printable(text)}", file=self.log, flush=True)
+
+
+def _nothing(_: Board) -> None:
+    pass
+
+
+def line_of(members: Mapping[str, object]) -> bytes:
+    """A line of JSON as `ucl_live` writes it: no blanks, members in the order of their names."""
+    return json.dumps(members, sort_keys=True, separators=(",", ":")).encode()
+
+
+async def hold(
+    group: str, clubs: str | None, address: Address, begun: Callable[[Board], None] | None = None
+) -> None:
+    """Opens the record of a group in this folder, begins it where it is not there, and runs its
+    board, which `begun` gets; all under the lock of the group.
+
+    Raises Over or OSError where that does not go, or goes on no more.
+    """
+    with locked(f"{group}.lock", f"board of group {group}"):
+        await _hold(group, clubs, address, begun or _nothing)
+
+
+async def _hold(
+    group: str, clubs: str | None, address: Address, begun: Callable[[Board], None]
+) -> None:
+    path, program = f"{group}.rows", live_program()
+    if not os.path.exists(path):
+        if clubs is None:
+            raise Over(f"there is no record {path}: name a file of clubs")
+        await begin(path, program, rows_of_file(clubs, group.upper(), "uefa"))
+    record = await Record.open(path, program, is_durable=True)
+    try:
+        if record.moment.title.group != group.upper():
+            raise Over(f"{path} is a record of group {record.moment.title.group}")
+        broker = Broker(address, f"board-{group}", [topics.all_rows(group)])
+        board = Board(group, record, broker)
+        begun(board)
+        broker.open(topics.ROWS, session=SESSION)
+        try:
+            await board.run()
+        finally:
+            await broker.close()
+    finally:
+        await record.close()
+
+
+def main() -> None:
+    """Runs the board of a group."""
+    words = sys.argv[1:]
+    if len(words) not in (1, 2) or words[0] not in tuple(topics.GROUPS):
+        is_asked = words in (["-h"], ["--help"])
+        print((__doc__ or "").strip(), file=sys.stdout if is_asked else sys.stderr)
+        sys.exit(0 if is_asked else 2)
+    group, clubs = words[0], words[1] if len(words) > 1 else None
+    try:
+        asyncio.run(until_ended(hold(group, clubs, Address.own())))
+    except asyncio.CancelledError:
+        sys.exit(130)
+    except OSError as fault:
+        sys.exit(
+            f"board: {fault.filename}: {fault.strerror}" if fault.filename else f"board: {fault}"
+        )
+    except Fault as fault:
+        sys.exit(f"board: {fault}")
+
+
+if __name__ == "__main__":
+    main()

@@ -1,0 +1,233 @@
+"""The board of a group behind a broker, as a reporter has it.
+
+Each start draws a random token, which is the client's identity and the first part of the
+correlation data of each row. So an answer is taken for nobody else's row. What has no answer is
+sent again, marked as such. An accepted event counts with a screen that has it.
+"""
+
+import asyncio
+import secrets
+from collections.abc import Callable, Sequence
+
+from hall import topics
+from hall.answers import Accepted, Answer, LeftOut, Mended, Moment, Notice, Refused, Reply
+from hall.address import Address
+from hall.broker import Broker, Message
+from hall.faults import Dropped, Over
+from hall.history import Event
+from hall.lines import NoAnswer, answer_of
+from hall.live import Listener
+from hall.outbox import Outbox, Waiting
+from hall.rows import Row
+
+# How long a broker keeps answers, in seconds.
+SESSION = 60
+
+
+class Desk:
+    """A board behind a broker. `Desk.open` makes one, and `close` ends it.
+
+    What is amiss goes where `tell_to` says.
+    """
+
+    def __init__(
+        self, group: str, own: int, again: float, limit: float | None, address: Address
+    ) -> None:
+        self.group, self.own = group, own
+        self._told: Callable[[str], None] = _nothing
+        loop = asyncio.get_running_loop()
+        self.over: asyncio.Future[None] = loop.create_future()
+        self.passed_over = 0
+        self._moment: Moment | None = None
+        self._begun = asyncio.Event()
+        self._listeners: list[Listener] = []
+        self._events: dict[Row, Event] = {}
+        # Answers that count with a screen that is not here yet; events that a mend leaves out.
+        self._held: list[tuple[Accepted | Refused, Waiting | None]] = []
+        self._left_out: list[LeftOut] = []
+        self._last, token = "", secrets.token_hex(8)
+        heard = [topics.desk(group), topics.answers(group)]
+        self._broker = Broker(address, f"ucl-{token}", heard)
+        self._outbox = Outbox(self._broker, token, group, own, again, limit)
+        self._broker.heard, self._broker.connected = self._hear, self._connect
+        self._broker.told, self._broker.refused = self._tell, self._outbox.refuse
+        self._task: asyncio.Task[None] | None = None
+
+    @classmethod
+    async def open(
+        cls,
+        group: str,
+        own: int,
+        again: float,
+        limit: float | None,
+        told: Callable[[str], None],
+        address: Address | None = None,
+    ) -> "Desk":
+        """Connects, and waits for a table. Without an address it is that of mosquitto_sub.
+
+        Raises Over where none has come within the limit, if there is one.
+        """
+        desk = cls(group, own, again, limit, address or Address.own())
+        desk.tell_to(told)
+        desk._broker.open(topics.DESK, session=SESSION)
+        desk._task = asyncio.create_task(desk._outbox.look())
+        try:
+            await asyncio.wait_for(desk._begun.wait(), limit)
+        except BaseException as error:
+            await desk.close()
+            if isinstance(error, TimeoutError):
+                text = f"no table of group {group.upper()} has come in {limit:g} seconds"
+                raise Over(text) from error
+            raise
+        return desk
+
+    async def close(self) -> None:
+        """Ends the connection."""
+        if self._task is not None:
+            self._task.cancel()
+            await asyncio.gather(self._task, return_exceptions=True)
+        await self._broker.close()
+
+    @property
+    def moment(self) -> Moment:
+        """The newest moment."""
+        assert self._moment is not None
+        return self._moment
+
+    def listen(self, listener: Listener) -> Callable[[], None]:
+        """Has a listener called with each new reply. Gives a function that ends this."""
+        self._listeners.append(listener)
+        return lambda: self._listeners.remove(listener)
+
+    def tell_to(self, told: Callable[[str], None]) -> None:
+        """Has what is amiss told there, in a line."""
+        self._told = self._outbox.told = told
+
+    async def ready(self) -> None:
+        """The events that came before are not to be known here."""
+
+    def has(self, reporter: int, row: Row) -> bool:
+        """Whether an event of this reporter came here just as this row enters it."""
+        event = self._events.get(row)
+        return event is not None and event.reporter == reporter
+
+    def events(self, match: int) -> list[Event]:
+        """The events of a match that came here, of the edition that stands."""
+        rows = sorted((row for row in self._events if row.match == match), key=_expected)
+        return [self._events[row] for row in rows]
+
+    async def enter(
+        self, reporter: int, rows: Sequence[Row], edition: int, is_again: bool = False
+    ) -> list[Reply]:
+        """Sends rows of an edition, and gives the reply to each.
+
+        With `is_again` a row that the board has is answered as entered. Raises Dropped where
+        another edition begins, NotEntered where the broker takes no rows of this reporter, and
+        MaybeEntered where no answer has come within the limit.
+        """
+        if self.moment.edition != edition:
+            raise Dropped(self.moment.edition)
+        mine = [self._outbox.add(row, edition, is_again) for row in rows]
+        try:
+            return [await waiting.reply for waiting in mine]
+        finally:
+            for waiting in mine:
+                self._outbox.forget(waiting)
+
+    def _connect(self) -> None:
+        self._last = ""
+        self._outbox.send_all()
+
+    # ---- what comes
+
+    def _hear(self, message: Message) -> None:
+        try:
+            answer = answer_of(message.payload)
+        except NoAnswer:
+            self._pass_over()
+            return
+        if message.topic == topics.desk(self.group):
+            if isinstance(answer, Moment) and answer.title.group == self.group.upper():
+                self._see(answer)
+            else:
+                self._pass_over()
+        elif self._moment is not None:
+            self._take(answer, message.correlation)
+
+    def _see(self, moment: Moment) -> None:
+        """Takes a screen that is not older than the one that stands."""
+        before = self._moment
+        if before is not None and moment.age < before.age:
+            return
+        if before is None or moment.age > before.age:
+            self._moment = moment
+        self._begun.set()
+        if before is not None and moment.edition > before.edition:
+            self._events.clear()
+            self._left_out.clear()
+            self._held.clear()
+            self._outbox.drop(moment.edition)
+        held, self._held = self._held, []
+        for answer, mine in held:
+            self._decide(answer, mine)
+        if before is None or moment.age > before.age:
+            self._call(Reply(moment, moment))
+
+    def _take(self, answer: Answer, correlation: bytes | None) -> None:
+        if isinstance(answer, Notice):
+            if answer.reporter == self.own:
+                self._tell(answer.text)
+        elif isinstance(answer, LeftOut):
+            self._left_out = [*self._left_out[-4_095:], answer]
+        elif isinstance(answer, Mended):
+            left_out, self._left_out = tuple(self._left_out), []
+            self._call(Reply(answer, None, left_out))
+        elif isinstance(answer, Accepted | Refused):
+            self._decide(answer, self._outbox.answered(answer, correlation))
+
+    def _decide(self, answer: Accepted | Refused, mine: Waiting | None) -> None:
+        """Hands an answer on, or holds it until a screen is here that has what it says."""
+        if isinstance(answer, Accepted):
+            age = answer.title.edition, answer.version
+            if age > self.moment.age:
+                self._hold(answer, mine)
+                return
+            if answer.title.edition == self.moment.edition:
+                row = answer.event
+                self._events[row] = Event(answer.row, answer.reporter, row.match, row.event)
+        elif mine is not None and answer.found is not None:
+            if answer.found > self.moment.match(mine.row.match).number:
+                self._hold(answer, mine)
+                return
+            if self._outbox.ask_anew(mine):
+                return
+        reply = Reply(answer, self.moment if isinstance(answer, Accepted) else None)
+        if mine is not None and not mine.reply.done():
+            mine.reply.set_result(reply)
+        self._call(reply)
+
+    def _hold(self, answer: Accepted | Refused, mine: Waiting | None) -> None:
+        self._held = [*self._held[-1_000:], (answer, mine)]
+
+    def _call(self, reply: Reply) -> None:
+        for listener in [*self._listeners]:
+            listener(reply)
+
+    def _pass_over(self) -> None:
+        self.passed_over += 1
+        if self.passed_over == 1:
+            self._told("what is no answer of a board comes on its topics, and is passed over")
+
+    def _tell(self, text: str) -> None:
+        """Tells what is amiss, once."""
+        if text != self._last:
+            self._last = text
+            self._told(text)
+
+
+def _expected(row: Row) -> int:
+    return row.expected
+
+
+def _nothing(_: str) -> None:
+    pass

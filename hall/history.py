@@ -1,0 +1,74 @@
+"""The events that stand on a board, by the answers to its record."""
+
+from collections import defaultdict
+from dataclasses import dataclass
+
+from hall.answers import Accepted, LeftOut, Mended
+from hall.lines import NoAnswer, answer_of
+from hall.rows import Row
+
+
+@dataclass(frozen=True, slots=True)
+class Event:
+    """An event that stands: on which line of the record it is, and who entered it."""
+
+    row: int
+    reporter: int
+    match: int
+    event: str
+
+    def __str__(self) -> str:
+        text = self.event.replace("-", " ")
+        return f"row {self.row}: {self.match} {text} by reporter {self.reporter}"
+
+
+class History:
+    """The events that stand, in the order of their matches.
+
+    A full record has 49,140 events, and most users never ask for one: so lines are noted as they
+    come, and read when somebody asks.
+    """
+
+    def __init__(self) -> None:
+        self._noted: list[bytes] = []
+        self._matches: dict[int, list[Event]] = defaultdict(list)
+
+    def note(self, line: bytes) -> None:
+        """Notes an answer of any kind, in the order of the answers."""
+        self._noted.append(line)
+
+    def of(self, match: int) -> list[Event]:
+        """The events of a match, oldest first: the event at place N had N events before it."""
+        self._read()
+        return self._matches[match]
+
+    def has(self, reporter: int, row: Row) -> bool:
+        """Whether the board has just this event of this reporter, as this row enters it."""
+        return self.at(row) == (reporter, row.event)
+
+    def at(self, row: Row) -> tuple[int, str] | None:
+        """Who entered what with the number of this row; None where the match is not so far."""
+        events = self.of(row.match)
+        if row.expected >= len(events):
+            return None
+        return events[row.expected].reporter, events[row.expected].event
+
+    def _read(self) -> None:
+        noted, self._noted = self._noted, []
+        for line in noted:
+            try:
+                answer = answer_of(line)
+            except NoAnswer:
+                continue
+            if isinstance(answer, Accepted):
+                row = answer.event
+                event = Event(answer.row, answer.reporter, row.match, row.event)
+                self._matches[row.match].append(event)
+            elif isinstance(answer, LeftOut):
+                self._leave_out(answer.row)
+            elif isinstance(answer, Mended) and answer.without is not None:
+                self._leave_out(answer.without)
+
+    def _leave_out(self, row: int) -> None:
+        for match, events in self._matches.items():
+            self._matches[match] = [event for event in events if event.row != row]

@@ -1,0 +1,91 @@
+"""The keys of a record's reporters, in RECORD.keys, which nobody but its owner may read.
+
+A line is a reporter's number, a blank, and a key: 32 hexadecimal digits of 128 random bits. Of two
+lines of one number the later counts, so the file only grows. Who serves the record holds the lock
+of this file (`flock`): a record is served once.
+"""
+
+import fcntl
+import hmac
+import os
+import re
+import secrets
+import stat
+from collections.abc import Iterable
+
+from hall.faults import Over
+
+_LINE = re.compile(r"^([0-9]{1,3}) ([0-9a-f]{32})$", re.MULTILINE)
+
+
+class Keys:
+    """The keys of a record that is served, and the lock of its file. `held` makes one."""
+
+    def __init__(self, path: str, file: int) -> None:
+        self.path, self._file = path, file
+        self.of: dict[int, str] = {}
+
+    @classmethod
+    def held(cls, record: str, numbers: Iterable[int], *, are_new: bool = False) -> "Keys":
+        """Takes the lock, and makes keys for the reporters that have none, or for all that are
+        named.
+
+        Raises Over where another program serves the record, or others can read the file, and
+        OSError where it can not be opened or written.
+        """
+        path = f"{record}.keys"
+        flags = os.O_RDWR | os.O_APPEND | os.O_CREAT | os.O_NOFOLLOW | os.O_CLOEXEC
+        keys = cls(path, os.open(path, flags, 0o600))
+        try:
+            fcntl.flock(keys._file, fcntl.LOCK_EX | fcntl.LOCK_NB)
+            known = _read(keys._file, path)
+            wanted = {number for number in numbers if are_new or number not in known}
+            made = {number: secrets.token_hex(16) for number in sorted(wanted)}
+            if made:
+                lines = "".join(f"{number} {key}\n" for number, key in made.items())
+                # A line that was cut off ends before the new ones.
+                os.write(keys._file, f"\n{lines}".encode())
+                os.fsync(keys._file)
+            keys.of = {**known, **made}
+        except BlockingIOError as error:
+            keys.close()
+            raise Over(f"{record} is served already") from error
+        except BaseException:
+            keys.close()
+            raise
+        return keys
+
+    def close(self) -> None:
+        """Gives the lock back."""
+        os.close(self._file)
+
+
+def keys_of(record: str) -> dict[int, str]:
+    """The keys that a record has, by the numbers of its reporters; none where it was not served.
+
+    Raises Over where others can read the file, and OSError where it can not be read.
+    """
+    path = f"{record}.keys"
+    try:
+        file = os.open(path, os.O_RDONLY | os.O_NOFOLLOW | os.O_CLOEXEC)
+    except FileNotFoundError:
+        return {}
+    try:
+        return _read(file, path)
+    finally:
+        os.close(file)
+
+
+def is_key(text: str, key: str) -> bool:
+    """Whether a text is this key; how long that takes tells nothing of the key."""
+    return hmac.compare_digest(text.encode(errors="replace"), key.encode())
+
+
+def _read(file: int, path: str) -> dict[int, str]:
+    about = os.fstat(file)
+    if stat.S_IMODE(about.st_mode) & 0o077:
+        raise Over(f"others can read {path}, which has keys: chmod 600 {path}, and give --new-keys")
+    text = os.pread(file, 1 << 20, 0).decode(errors="replace")
+    # A line counts with its end alone: a key that was cut off is none.
+    whole = text[: text.rfind("\n") + 1]
+    return {int(number): key for number, key in _LINE.findall(whole)}

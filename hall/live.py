@@ -1,0 +1,217 @@
+"""The program `ucl_live` as a supervised child, which is fed a record and answers each of its rows.
+
+`Live` follows a record: it keeps the newest moment and the events that stand, and hands each new
+reply to its listeners. Where the child is killed it is started again and fed the record from its
+first row; what was handed on before is not handed on again.
+
+All is of one event loop; there is no lock.
+"""
+
+import asyncio
+import contextlib
+from collections.abc import Callable
+
+from hall.answers import Moment, Reply, kind_in, row_in
+from hall.asking import program_words
+from hall.faults import Over
+from hall.history import History
+from hall.lines import NoAnswer, answer_of, reply_of
+from hall.printable import printable
+
+Listener = Callable[[Reply], None]
+# How much of the child's output is read at once, in bytes.
+PIECE = 1 << 20
+# How often the child may end without an answer more before the program gives up.
+MOST_STARTS = 20
+# How long to wait until the child is started again, in seconds.
+PAUSE = 0.05
+
+
+class Live:
+    """A `ucl_live` that follows a record.
+
+    `whole` gives all lines that were fed so far, for a child that has to begin anew.
+    """
+
+    def __init__(self, program: str, whole: Callable[[], bytes]) -> None:
+        self._program, self._whole = program, whole
+        self._process: asyncio.subprocess.Process | None = None
+        self._task: asyncio.Task[None] | None = None
+        self._listeners: list[Listener] = []
+        self._waiting: dict[int, list[asyncio.Future[Reply]]] = {}
+        # The lines of a row that is not answered whole yet; the newest screen, read when asked for.
+        self._begun: list[bytes] = []
+        self._newest: Moment | bytes | None = None
+        self._grown = asyncio.Event()
+        # Up to which row all is answered, and up to which nothing is handed on.
+        self.row = 0
+        self.quiet = 0
+        self.history = History()
+        self.passed_over = 0
+        # Gets the fault by which the child can go on no more.
+        self.over: asyncio.Future[None] = asyncio.get_running_loop().create_future()
+
+    async def start(self) -> None:
+        """Starts the child and feeds it what there is.
+
+        Raises Over where the program can not be started.
+        """
+        await self._launch()
+        self._task = asyncio.create_task(self._supervise())
+
+    def feed(self, lines: bytes) -> None:
+        """Hands whole lines to the child, which `whole` has by now too."""
+        if self._process is not None and self._process.stdin is not None:
+            with contextlib.suppress(ConnectionError, RuntimeError):
+                self._process.stdin.write(lines)
+
+    def listen(self, listener: Listener) -> Callable[[], None]:
+        """Has a listener called with each reply from now on. Gives a function that ends this."""
+        self._listeners.append(listener)
+        return lambda: self._listeners.remove(listener)
+
+    @property
+    def moment(self) -> Moment | None:
+        """The newest screen; None where no row has had one."""
+        if isinstance(self._newest, bytes):
+            self._newest = _moment_of(self._newest)
+        return self._newest
+
+    def begin_at(self, moment: Moment, row: int) -> None:
+        """Takes the moment after this row, as another run has told it: of the rows up to this one
+        the child tells nothing."""
+        self._newest, self.quiet = moment, row
+
+    def expect(self, row: int) -> asyncio.Future[Reply]:
+        """What a row will be answered with."""
+        future: asyncio.Future[Reply] = asyncio.get_running_loop().create_future()
+        self._waiting.setdefault(row, []).append(future)
+        return future
+
+    async def reach(self, row: int, seconds: float) -> None:
+        """Waits until all rows up to this one are answered.
+
+        Raises Over where that takes longer, or the child can go on no more.
+        """
+        try:
+            async with asyncio.timeout(seconds):
+                while self.row < row:
+                    if self.over.done():
+                        self.over.result()
+                    self._grown.clear()
+                    await self._grown.wait()
+        except TimeoutError as error:
+            raise Over(f"ucl_live has not answered in {seconds:g} seconds") from error
+
+    async def end(self) -> None:
+        """Ends the child."""
+        if self._task is not None:
+            self._task.cancel()
+            with contextlib.suppress(asyncio.CancelledError):
+                await self._task
+        if self._process is not None:
+            with contextlib.suppress(ProcessLookupError):
+                self._process.kill()
+            await self._process.wait()
+
+    async def _launch(self) -> None:
+        pipe = asyncio.subprocess.PIPE
+        words = program_words(self._program)
+        try:
+            self._process = await asyncio.create_subprocess_exec(
+                *words, stdin=pipe, stdout=pipe, stderr=pipe, start_new_session=True, limit=PIECE
+            )
+        except OSError as error:
+            raise Over(f"{self._program}: {error.strerror}") from error
+        self._begun = []
+        self.feed(self._whole())
+
+    async def _supervise(self) -> None:
+        starts, reached = 0, self.row
+        while not self.over.done():
+            assert self._process is not None
+            told = asyncio.create_task(_read_all(self._process.stderr))
+            await self._read_answers()
+            status, errors = await self._process.wait(), await told
+            starts = starts + 1 if self.row == reached else 0
+            reached = self.row
+            if status >= 0:
+                why = printable(errors.strip()) or f"it has ended with status {status}"
+                self._end(Over(f"ucl_live: {why}"))
+            elif starts >= MOST_STARTS:
+                self._end(Over(f"ucl_live is killed by signal {-status} again and again"))
+            else:
+                await asyncio.sleep(PAUSE)
+                try:
+                    await self._launch()
+                except Over as fault:
+                    self._end(fault)
+
+    def _end(self, fault: Over) -> None:
+        if not self.over.done():
+            self.over.set_exception(fault)
+            self.over.exception()
+        self._grown.set()
+        for futures in self._waiting.values():
+            for future in futures:
+                if not future.done():
+                    future.set_exception(fault)
+
+    async def _read_answers(self) -> None:
+        assert self._process is not None and self._process.stdout is not None
+        rest = b""
+        while piece := await self._process.stdout.read(PIECE):
+            *lines, rest = (rest + piece).split(b"\n")
+            for line in lines:
+                self._take(line)
+            self._grown.set()
+
+    def _take(self, line: bytes) -> None:
+        """Takes a line: a row's answers are whole with its screen, or where none follows."""
+        self._begun.append(line)
+        kind = kind_in(line)
+        if kind in ("ok", "mended", "left-out"):
+            return
+        lines, self._begun = self._begun, []
+        row = row_in(lines[-1])
+        if row <= self.row:
+            return
+        for noted in lines:
+            if noted is not line:
+                self.history.note(noted)
+        if kind == "screen" and row > self.quiet:
+            self._newest = line
+        self.row = row
+        if row > self.quiet or row in self._waiting:
+            self._hand_on(row, lines)
+
+    def _hand_on(self, row: int, lines: list[bytes]) -> None:
+        try:
+            reply = reply_of([answer_of(line) for line in lines])
+        except NoAnswer:
+            self.passed_over += 1
+            return
+        if reply.screen is not None:
+            self._newest = reply.screen
+        for future in self._waiting.pop(row, []):
+            if not future.done():
+                future.set_result(reply)
+        if row > self.quiet:
+            for listener in [*self._listeners]:
+                listener(reply)
+
+
+def _moment_of(line: bytes) -> Moment | None:
+    try:
+        answer = answer_of(line)
+    except NoAnswer:
+        return None
+    return answer if isinstance(answer, Moment) else None
+
+
+async def _read_all(stream: asyncio.StreamReader | None) -> bytes:
+    """The last that a stream has, at most 4 KiB; all is read, so that nobody waits for it."""
+    kept = b""
+    while stream is not None and (piece := await stream.read(4_096)):
+        kept = (kept + piece)[-4_096:]
+    return kept

@@ -1,0 +1,66 @@
+"""How a terminal is set out: the table and the matches, and below them the line that is typed."""
+
+import os
+import sys
+from collections.abc import Callable
+
+from prompt_toolkit.buffer import Buffer
+from prompt_toolkit.data_structures import Size
+from prompt_toolkit.filters import Condition
+from prompt_toolkit.layout import BufferControl, ConditionalContainer, Float, FloatContainer
+from prompt_toolkit.layout import FormattedTextControl, HSplit, Layout, Window
+from prompt_toolkit.layout.menus import CompletionsMenu
+from prompt_toolkit.layout.processors import BeforeInput
+from prompt_toolkit.output.vt100 import Vt100_Output
+
+from hall import told
+from hall.answers import Moment
+from hall.printable import printable
+from hall.typist import Typist
+
+# The most characters of a line that is shown.
+LONGEST = 400
+QUESTION = "append it? y or n> "
+
+
+def panel_of(typist: Typist, moment: Moment, rows: int, columns: int) -> str:
+    """The table and the matches of a moment, or the tables before and after what is asked about, cut
+    to a terminal of this size."""
+    if typist.question is not None:
+        lines = typist.question.tables
+    else:
+        matches = [f"{number:2} {told.match(moment, number)}" for number in typist.matches]
+        lines = [*told.table(moment), *matches]
+    lines = [printable(line, LONGEST)[: columns - 1] for line in lines]
+    return "\n".join(lines[: max(1, rows - 2)])
+
+
+def layout_of(
+    typist: Typist, text: Buffer, answer: Buffer, panel: Callable[[], str], is_watching: bool
+) -> Layout:
+    """The panel, and below it the line that is typed or the answer to the question; for who only
+    looks the panel alone."""
+    control = FormattedTextControl(panel, focusable=is_watching, show_cursor=False)
+    above = Window(control, dont_extend_height=True, wrap_lines=False)
+    if is_watching:
+        return Layout(above)
+
+    def prompt() -> str:
+        return "".join(f"{printable(it.text)} .. " for it in typist.underway.pending) + "> "
+
+    is_asked = Condition(lambda: typist.question is not None)
+    line = Window(BufferControl(text, [BeforeInput(prompt)]), height=1, wrap_lines=False)
+    reply = Window(BufferControl(answer, [BeforeInput(QUESTION)]), height=1)
+    below = [ConditionalContainer(line, ~is_asked), ConditionalContainer(reply, is_asked)]
+    menu = Float(CompletionsMenu(max_height=8), xcursor=True, ycursor=True)
+    return Layout(FloatContainer(HSplit([above, *below]), [menu]), focused_element=line)
+
+
+def output() -> Vt100_Output:
+    """The terminal, which is not asked where its cursor is: its answer would count as typed."""
+
+    def size() -> Size:
+        columns, rows = os.get_terminal_size(sys.stdout.fileno())
+        return Size(rows=rows or 24, columns=columns or 80)
+
+    return Vt100_Output(sys.stdout, size, term=os.environ.get("TERM"), enable_cpr=False)

@@ -1,0 +1,87 @@
+"""A reporter whose input is no terminal, and a screen whose output is none."""
+
+import asyncio
+import sys
+import threading
+
+from hall import told
+from hall.faults import MaybeEntered, NotEntered
+from hall.printable import printable
+from hall.typed import Events, MatchAsked, Numbered, typed
+from hall.typist import PASSED_OVER, WIDTH, Typist
+from hall.underway import Seen
+
+# The longest line that is taken, in bytes.
+LONGEST = 4_096
+
+
+async def enter_lines(typist: Typist, edition: int) -> int:
+    """Enters the lines of the input, each once the one before it is answered.
+
+    Raises NotEntered at the first that is refused, and the fault by which the board ends.
+    """
+    lines: asyncio.Queue[bytes] = asyncio.Queue()
+    loop = asyncio.get_running_loop()
+
+    def read() -> None:
+        line = b"\n"
+        while line:
+            line = sys.stdin.buffer.readline(LONGEST)
+            loop.call_soon_threadsafe(lines.put_nowait, line)
+
+    typist.source.tell_to(_warn)
+    threading.Thread(target=read, daemon=True).start()
+    await typist.source.ready()
+    while line := await lines.get():
+        await _enter(typist, line.decode(errors="replace").strip(), edition)
+    return 0
+
+
+async def watch_lines(typist: Typist) -> None:
+    """Prints the table and the matches, now and at each event, until the board ends."""
+    changed = asyncio.Event()
+    typist.source.listen(lambda reply: changed.set())
+    typist.source.over.add_done_callback(lambda _: changed.set())
+    shown = None
+    while not typist.source.over.done():
+        changed.clear()
+        moment = typist.source.moment
+        if moment is not shown:
+            shown = moment
+            typist.show(*told.table(moment))
+            typist.show(*(f"{it:2} {told.match(moment, it)}" for it in typist.matches))
+        await changed.wait()
+    typist.source.over.result()
+
+
+def _warn(text: str) -> None:
+    print(printable(text), file=sys.stderr, flush=True)
+
+
+async def _enter(typist: Typist, text: str, edition: int) -> None:
+    try:
+        line = typed(text)
+        if line is None:
+            return
+        if isinstance(line, MatchAsked):
+            typist.rows_of(Events(line.match, (), False), typist.underway.look())
+            await typist.show_match(line.match)
+            return
+        if not isinstance(line, Events | Numbered):
+            raise NotEntered("this is typed at a terminal; without one it is --mend WHAT --yes")
+        moment = typist.source.moment
+        rows = typist.rows_of(line, Seen(moment, ()))
+        if isinstance(line, Numbered):
+            if moment.edition != edition:
+                raise NotEntered(
+                    f"this is of edition {edition}, and the board of edition {moment.edition}: "
+                    "look at the matches"
+                )
+            if typist.source.has(typist.own, line.row):
+                typist.show(f"{text:{WIDTH}} {PASSED_OVER}")
+                return
+        is_again = isinstance(line, Numbered)
+        outcome = await typist.submit(text, rows, moment.edition, is_again)
+        typist.show(f"{text:{WIDTH}} {outcome}")
+    except (NotEntered, MaybeEntered) as fault:
+        raise NotEntered(f"{text[:200]}: {fault}") from fault

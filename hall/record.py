@@ -1,0 +1,223 @@
+"""A record: a file of rows that only grows, and the `ucl_live` that follows it.
+
+Who appends holds the lock of the file (`flock`), from before it looks at the edition until the
+rows are on the disk. Who only reads takes no lock. Within one program appends come one after the
+other. Calls that may block are made in threads; all else is of one event loop.
+"""
+
+import asyncio
+from collections.abc import Callable, Coroutine, Sequence
+from typing import Any, TypeVar
+
+from hall import disk
+from hall.answers import Moment, Reply
+from hall.asking import last_screen
+from hall.faults import Dropped, MaybeEntered, Over
+from hall.history import Event, History
+from hall.live import Listener, Live
+from hall.mends import Changed, Trial, tried
+from hall.rowfile import RowFile
+from hall.rows import Row, later_group
+
+Value = TypeVar("Value")
+Check = Callable[[], Coroutine[Any, Any, None]]
+Written = Callable[[int], None]
+# How often a record is looked at, how long a lock is waited for, and how long a whole reading
+# may take, in seconds.
+LOOK, LOCK, READING = 0.02, 2.0, 60.0
+
+
+class Record:
+    """A record that is open. `Record.open` makes one, and `close` ends it."""
+
+    def __init__(self, file: RowFile, program: str, is_durable: bool) -> None:
+        self.path, self.program = file.path, program
+        self._file, self._is_durable = file, is_durable
+        self._reading, self._appending = asyncio.Lock(), asyncio.Lock()
+        self._live = Live(program, file.whole)
+        self._task: asyncio.Task[None] | None = None
+        # Gets the fault by which the record can be followed no more.
+        self.over: asyncio.Future[None] = asyncio.get_running_loop().create_future()
+
+    @classmethod
+    async def open(
+        cls, path: str, program: str, *, is_read_only: bool = False, is_durable: bool = False
+    ) -> "Record":
+        """Opens a record, reads it, and follows it from then on.
+
+        With `is_durable` nothing is told of a row before the disk has it, whoever appended it.
+        Raises OSError where the file can not be opened, and Over where it is no record, is on a
+        share, or has a later row of the group.
+        """
+        if not is_read_only and disk.is_on_share(path):
+            raise Over(f"{path} is on a share: keep the record on a disk of this machine")
+        record = cls(RowFile(path, is_read_only), program, is_durable)
+        try:
+            await record._begin()
+        except BaseException:
+            await record.close()
+            raise
+        return record
+
+    async def close(self) -> None:
+        """Ends following the record."""
+        if self._task is not None:
+            self._task.cancel()
+            await asyncio.gather(self._task, return_exceptions=True)
+        await self._live.end()
+        self._file.close()
+
+    @property
+    def moment(self) -> Moment:
+        """The moment that stands, as far as the record is read and answered."""
+        moment = self._live.moment
+        assert moment is not None
+        return moment
+
+    @property
+    def history(self) -> History:
+        """The events that stand."""
+        return self._live.history
+
+    def listen(self, listener: Listener) -> Callable[[], None]:
+        """Has a listener called with each new reply. Gives a function that ends this."""
+        return self._live.listen(listener)
+
+    def tell_to(self, told: Callable[[str], None]) -> None:
+        """Nothing is amiss with a record that is no fault."""
+
+    def has(self, reporter: int, row: Row) -> bool:
+        """Whether the board has just this event of this reporter."""
+        return self._live.history.has(reporter, row)
+
+    def events(self, match: int) -> list[Event]:
+        """The events of a match that stand."""
+        return self._live.history.of(match)
+
+    async def enter(
+        self, reporter: int, rows: Sequence[Row], edition: int, is_again: bool = False
+    ) -> list[Reply]:
+        """Appends events of a reporter, as `append` does."""
+        return await self.append([row.line(reporter) for row in rows], edition)
+
+    async def append(
+        self, rows: Sequence[bytes], edition: int | None, written: Written | None = None
+    ) -> list[Reply]:
+        """Appends rows by one write, and gives the reply to each, once the disk has them.
+
+        Each row is one line, with its end. With an edition they are entered in that one alone.
+        `written` is called with the number of the first row, before any of them is answered.
+        Raises Dropped where another has begun, NotEntered where nothing of them is in the record,
+        MaybeEntered where nobody can tell, Over where the record can be followed no more.
+        """
+
+        async def check() -> None:
+            if edition is not None and self.moment.edition != edition:
+                raise Dropped(self.moment.edition)
+
+        return await self._protected(self._append(rows, check, written))
+
+    async def trial(self, row: bytes) -> Trial:
+        """What a row that mends would do.
+
+        Raises Refusal where it is refused, and Over where `ucl_live` fails.
+        """
+        return await tried(self.program, self._file.text(), row)
+
+    async def mend(self, row: bytes, agreed: Trial) -> Reply:
+        """Appends a row that mends, if it still does what was agreed upon.
+
+        Raises Changed, and appends nothing, where rows have come by which it would do something
+        else; beside that as `append` and `trial` do.
+        """
+
+        async def check() -> None:
+            if self.moment.age != agreed.before.age:
+                now = await self.trial(row)
+                if not now.is_as(agreed):
+                    raise Changed(now)
+
+        return (await self._protected(self._append([row], check, None)))[0]
+
+    async def _begin(self) -> None:
+        await self._read()
+        number = later_group(self._file.whole())
+        if number is not None:
+            raise Over(
+                f"{self.path}: line {number} begins another edition by a row of the group, as "
+                "records did before there were mends: keep it, and begin a new record"
+            )
+        await self._ask()
+        await self._live.start()
+        self._task = asyncio.create_task(self._follow())
+
+    async def _follow(self) -> None:
+        """Reads what others append, until the record or the child can be followed no more."""
+        try:
+            while not self._live.over.done():
+                await asyncio.sleep(LOOK)
+                await self._read()
+            self._live.over.result()
+        except Exception as fault:  # whatever it is, who uses the record has to know
+            if not self.over.done():
+                self.over.set_exception(fault)
+                self.over.exception()
+
+    async def _protected(self, work: Coroutine[Any, Any, Value]) -> Value:
+        """Does work to its end, even if who asked for it is gone by then."""
+        return await asyncio.shield(asyncio.ensure_future(work))
+
+    async def _read(self) -> None:
+        """Reads what was appended, and hands whole lines to the child."""
+        async with self._reading:
+            read = self._file.look()
+            if not read:
+                return
+            if self._is_durable:
+                await asyncio.to_thread(self._file.sync, read)
+            # In one turn of the loop: a child that is started anew is fed what is taken by then.
+            self._live.feed(self._file.take(read))
+
+    async def _ask(self) -> None:
+        """Has a run of its own tell the moment that stands: it takes a tenth of the time that the
+        child needs, which tells a screen after each event."""
+        try:
+            moment = await last_screen(self.program, self._file.whole())
+        except Over as fault:
+            raise Over(f"{self.path} has no board, or ucl_live failed: {fault}") from fault
+        self._live.begin_at(moment, self._file.count)
+
+    async def ready(self) -> None:
+        """Waits until the child has answered all that is read: the events that stand are known.
+
+        Raises Over where that takes longer than a minute.
+        """
+        await self._live.reach(self._file.answered, READING)
+
+    async def _append(
+        self, rows: Sequence[bytes], check: Check, written: Written | None
+    ) -> list[Reply]:
+        async with self._appending:
+            # A child that is just reading a long record is not waited for under the lock.
+            await self.ready()
+            await asyncio.to_thread(self._file.lock, LOCK)
+            try:
+                await self._read()
+                if self._file.rest:
+                    await asyncio.to_thread(self._file.write, b"\n")
+                    await self._read()
+                await self.ready()
+                await check()
+                # Nobody reads meanwhile: the rows are not answered before they are expected.
+                async with self._reading:
+                    first = await asyncio.to_thread(self._file.write, b"".join(rows))
+                    futures = [self._live.expect(first + place) for place in range(len(rows))]
+                    if written is not None:
+                        written(first)
+            finally:
+                self._file.unlock()
+            try:
+                await self._read()
+            except OSError as error:
+                raise MaybeEntered(f"{self.path}: {error.strerror}") from error
+        return await asyncio.gather(*futures)

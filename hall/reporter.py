@@ -1,0 +1,226 @@
+"""The command line of `ucl_reporter`."""
+
+import argparse
+import asyncio
+import contextlib
+import io
+import os
+import sys
+import time
+from collections.abc import AsyncIterator
+
+from hall import told
+from hall.beginning import begin, rows_by_questions
+from hall.faults import Fault, NotEntered, Over
+from hall.pipe import enter_lines, watch_lines
+from hall.printable import printable
+from hall.programs import live_program
+from hall.record import Record
+from hall.rows import LAST_EDITION, MATCHES, REPORTERS, number_in
+from hall.sheet import sheet_of
+from hall.source import Source
+from hall.typed import ClubTyped, MendTyped, typed
+from hall.typist import Typist
+from hall.usage import HELP, USAGE
+
+INTERRUPTED = 130
+SURE = ("y", "yes")
+# The most characters of a fault that are told.
+LONGEST = 600
+
+
+def parser() -> argparse.ArgumentParser:
+    """The arguments."""
+    it = argparse.ArgumentParser(
+        prog="ucl_reporter",
+        usage=USAGE,
+        description=HELP,
+        formatter_class=argparse.RawDescriptionHelpFormatter,
+        allow_abbrev=False,
+    )
+    hidden = argparse.SUPPRESS
+    it.add_argument("record", nargs="?", help=hidden)
+    it.add_argument("--number", type=_number, help=hidden)
+    it.add_argument("--matches", type=_matches, help=hidden)
+    it.add_argument("--edition", type=_edition, help=hidden)
+    it.add_argument("--watch", action="store_true", help=hidden)
+    it.add_argument("--sheet", action="store_true", help=hidden)
+    it.add_argument("--mend", nargs="?", const="", help=hidden)
+    it.add_argument("--yes", action="store_true", help=hidden)
+    it.add_argument("--broker", choices=tuple("abcdefgh"), help=hidden)
+    it.add_argument("--again", type=_seconds, help=hidden)
+    it.add_argument("--limit", type=_seconds, help=hidden)
+    return it
+
+
+def options_of(words: list[str]) -> argparse.Namespace:
+    """What the command line says; ends the program where it has none of the forms of the usage."""
+    arguments = parser()
+    it = arguments.parse_args(words)
+    if (it.record is None) == (it.broker is None):
+        arguments.error("name a record, or a group behind a broker")
+    given = {name for name, value in vars(it).items() if value is not None and value is not False}
+    allowed = {"record", "number", "matches", "edition"}
+    if it.broker is not None:
+        allowed = {"broker", "number", "matches", "edition", "again", "limit"}
+    elif it.watch:
+        allowed = {"record", "watch", "matches"}
+    elif it.sheet:
+        allowed = {"record", "sheet"}
+    elif it.mend is not None:
+        allowed = {"record", "mend", "yes"}
+    wrong = sorted(given - allowed)
+    if wrong:
+        arguments.error(f"--{wrong[0]} does not go with the rest: --help has the forms")
+    return it
+
+
+def main() -> None:
+    """Runs the command."""
+    for stream in (sys.stdout, sys.stderr):
+        if isinstance(stream, io.TextIOWrapper):
+            stream.reconfigure(errors="replace")
+    options = options_of(sys.argv[1:])
+    try:
+        first = None if options.broker else _first_rows(options)
+        sys.exit(asyncio.run(_run(options, first)))
+    except BrokenPipeError:
+        os.dup2(os.open(os.devnull, os.O_WRONLY), 1)
+        sys.exit(1)
+    except (Fault, OSError) as fault:
+        sys.exit(f"ucl_reporter: {printable(_text_of(fault), LONGEST)}")
+    except (KeyboardInterrupt, EOFError):
+        sys.exit(INTERRUPTED)
+
+
+async def _run(options: argparse.Namespace, first: bytes | None) -> int:
+    async with _source(options, first) as source:
+        typist = Typist(source, options.number or 1, options.matches or MATCHES)
+        is_terminal = sys.stdin.isatty() and sys.stdout.isatty()
+        if options.mend is not None:
+            return await _mend(typist, options.mend, options.yes)
+        if options.sheet:
+            sys.stdout.buffer.write(sheet_of(source.moment))
+            return 0
+        if options.watch:
+            return await _watch(typist, is_terminal)
+        if is_terminal:
+            from hall.terminal import Terminal
+
+            hint = "type a match and an event, as 1 goal home; help tells more, Ctrl-D ends"
+            return await Terminal(typist, f"Reporter {typist.own}: {hint}").run()
+        return await enter_lines(typist, options.edition or 0)
+
+
+@contextlib.asynccontextmanager
+async def _source(options: argparse.Namespace, first: bytes | None) -> AsyncIterator[Source]:
+    if options.broker:
+        async with _desk(options) as desk:
+            yield desk
+        return
+    path, program = options.record, live_program()
+    if first is not None and not await begin(path, program, first):
+        print(f"Another has begun {path} meanwhile: it stays as it is, and is used")
+    record = await Record.open(path, program, is_read_only=options.watch or options.sheet)
+    try:
+        yield record
+    finally:
+        await record.close()
+
+
+@contextlib.asynccontextmanager
+async def _desk(options: argparse.Namespace) -> AsyncIterator[Source]:
+    from hall.desk import Desk
+
+    limit = options.limit or 60.0
+    if sys.stdin.isatty() and sys.stdout.isatty():
+        limit = options.limit
+        print(f"Waiting for the board of group {options.broker.upper()}", flush=True)
+    own, again = options.number or 1, options.again or 2.0
+    desk = await Desk.open(options.broker, own, again, limit, _warn)
+    try:
+        yield desk
+    finally:
+        await desk.close()
+
+
+def _warn(text: str) -> None:
+    print(printable(text), file=sys.stderr, flush=True)
+
+
+def _first_rows(options: argparse.Namespace) -> bytes | None:
+    """The rows that a record begins with, where there is none yet: by questions at a terminal."""
+    path = options.record
+    while options.watch and not os.path.exists(path):
+        time.sleep(0.1)
+    if os.path.exists(path):
+        return None
+    if not sys.stdin.isatty() or options.mend is not None or options.sheet:
+        raise Over(f"there is no {path}; type ./ucl_reporter {path} at a terminal to begin it")
+    live_program()
+    return rows_by_questions(input, print)
+
+
+async def _watch(typist: Typist, is_terminal: bool) -> int:
+    if not is_terminal:
+        await watch_lines(typist)
+        return 0
+    from hall.terminal import Terminal
+
+    return await Terminal(typist, "", is_watching=True).run()
+
+
+async def _mend(typist: Typist, what: str, is_sure: bool) -> int:
+    """Mends once, without a prompt."""
+    text = f"mend {what}" if what.isdecimal() or not what else what
+    line = typed(text)
+    if not isinstance(line, MendTyped | ClubTyped):
+        raise NotEntered('--mend takes 17, "club 2 Real Madrid", "coefficient 1 61000" or ""')
+    await typist.propose(text, line)
+    while typist.question is not None:
+        question, typist.question = typist.question, None
+        typist.show(*question.tables)
+        if not is_sure and not _is_agreed():
+            raise NotEntered("nothing is appended; with --yes it is, without a question")
+        typist.show(*await typist.mend(question))
+    typist.show(told.title(typist.source.moment))
+    return 0
+
+
+def _is_agreed() -> bool:
+    return sys.stdin.isatty() and input("append it? y or n> ").strip().lower() in SURE
+
+
+def _text_of(fault: Exception) -> str:
+    if isinstance(fault, OSError) and fault.filename is not None:
+        return f"{fault.filename}: {fault.strerror}"
+    return str(fault)
+
+
+def _number(text: str) -> int:
+    return _within(text, REPORTERS[0], REPORTERS[-1])
+
+
+def _edition(text: str) -> int:
+    return _within(text, 0, LAST_EDITION)
+
+
+def _matches(text: str) -> list[int]:
+    return sorted({_within(part, MATCHES[0], MATCHES[-1]) for part in text.split(",")})
+
+
+def _within(text: str, low: int, high: int) -> int:
+    number = number_in(text, low, high)
+    if number is None:
+        raise argparse.ArgumentTypeError(f"{text[:40]!r} is not {low} to {high}")
+    return number
+
+
+def _seconds(text: str) -> float:
+    try:
+        seconds = float(text)
+    except ValueError:
+        seconds = 0.0
+    if not 0.1 <= seconds <= 3_600:
+        raise argparse.ArgumentTypeError(f"{text[:40]!r} is not 0.1 to 3600 seconds")
+    return seconds

@@ -1,0 +1,55 @@
+"""Rows that come to a board behind a broker, and who sends them."""
+
+import time
+from dataclasses import dataclass
+
+from hall import topics
+from hall.broker import Message
+from hall.rows import Row, event_row
+
+# For how long, in seconds, a person is thought to type on, and is not told of another again.
+MINUTE = 60.0
+
+
+@dataclass(frozen=True, slots=True)
+class Request:
+    """A row that came."""
+
+    reporter: int
+    edition: int
+    row: Row
+    correlation: bytes | None
+    is_again: bool
+
+
+def request_of(group: str, message: Message) -> Request | None:
+    """The row of a message; None where it is no event of the reporter of its topic."""
+    found = topics.edition_and_reporter(group, message.topic)
+    if found is None or len(message.payload) > topics.LONGEST_ROW:
+        return None
+    said = event_row(message.payload.decode(errors="replace").removesuffix("\n"))
+    if said is None or said[0] != found[1]:
+        return None
+    return Request(said[0], found[0], said[1], message.correlation, message.is_again)
+
+
+class People:
+    """Who types as which reporter, by the tokens that begin correlation data."""
+
+    def __init__(self) -> None:
+        self._typing: dict[int, dict[bytes, float]] = {}
+        self._told: dict[int, float] = {}
+
+    def are_two(self, request: Request) -> bool:
+        """Whether two people type as this reporter within a minute; yes once a minute at most."""
+        if request.correlation is None:
+            return False
+        now, token = time.monotonic(), request.correlation.split(b".")[0]
+        people = self._typing.setdefault(request.reporter, {})
+        people[token] = now
+        for other in [it for it, last in people.items() if now - last > MINUTE]:
+            del people[other]
+        if len(people) < 2 or now - self._told.get(request.reporter, -MINUTE) < MINUTE:
+            return False
+        self._told[request.reporter] = now
+        return True

@@ -1,0 +1,190 @@
+"""Rows of a record: events, clubs, mends, and the names of events and fixtures.
+
+No rule of events stands here: what a row changes, and whether it is taken, `ucl_live` says.
+"""
+
+import csv
+import io
+from dataclasses import dataclass
+
+from hall.faults import NotEntered
+
+# The slots that play a match, the home side first; matches are numbered from 1.
+FIXTURES = (
+    *((2, 3), (4, 1), (1, 2), (3, 4), (3, 1), (2, 4)),
+    *((1, 3), (4, 2), (3, 2), (1, 4), (2, 1), (4, 3)),
+)
+SIDES = ("home", "away")
+KINDS = ("goal", "disallow", "yellow", "second-yellow", "red")
+EVENTS = (
+    "kickoff",
+    "fulltime",
+    "reopen",
+    *(f"{kind}-{side}" for kind in KINDS for side in SIDES),
+)
+GROUPS = "ABCDEFGH"
+ORDERS = ("uefa", "away-in-tie")
+MATCHES = range(1, 13)
+SLOTS = range(1, 5)
+REPORTERS = range(1, 256)
+LAST_EDITION = 65_535
+LAST_NUMBER = 65_535
+LAST_ROW = 4_294_967_295
+LONGEST_NAME = 20
+LAST_COEFFICIENT = 999_999
+# The row that asks for the screen.
+SCREEN = b"screen,,,\n"
+
+
+@dataclass(frozen=True, slots=True)
+class Row:
+    """An event of a match, and the event number that its reporter had seen."""
+
+    match: int
+    expected: int
+    event: str
+
+    def __str__(self) -> str:
+        return f"{self.match} {self.event.replace('-', ' ')}"
+
+    @property
+    def side(self) -> str:
+        """`home` or `away`; empty for an event of no side."""
+        return self.event.rpartition("-")[2] if "-" in self.event else ""
+
+    def line(self, reporter: int) -> bytes:
+        """The row as a record has it, with its line end."""
+        return f"{reporter},{self.match},{self.expected},{self.event}\n".encode()
+
+
+@dataclass(frozen=True, slots=True)
+class Club:
+    """A club: its name, and its coefficient in thousandths."""
+
+    club: str
+    coefficient: int
+
+    def __str__(self) -> str:
+        return f"{self.club} {self.coefficient}"
+
+
+def number_in(text: str, low: int, high: int) -> int | None:
+    """The whole number that a text says by ASCII digits alone; None unless it is in the range."""
+    if not (text.isascii() and text.isdecimal() and len(text) <= 10):
+        return None
+    number = int(text)
+    return number if low <= number <= high else None
+
+
+def event_row(text: str) -> tuple[int, Row] | None:
+    """The reporter and the row of `1,7,0,kickoff`; None of another text."""
+    fields = text.split(",")
+    if len(fields) != 4 or fields[3] not in EVENTS:
+        return None
+    reporter = number_in(fields[0], 1, 255)
+    match = number_in(fields[1], 1, 12)
+    expected = number_in(fields[2], 0, LAST_NUMBER)
+    if reporter is None or match is None or expected is None:
+        return None
+    return reporter, Row(match, expected, fields[3])
+
+
+def group_row(group: str, order: str, edition: int = 0) -> bytes:
+    """The row with which a record begins."""
+    return f"group,{group},{order},{edition}\n".encode()
+
+
+def club_row(slot: int, club: Club) -> bytes:
+    """The row of a club at the beginning of a record."""
+    return f"club,{slot},{_quoted(club.club)},{club.coefficient}\n".encode()
+
+
+def club_mend(slot: int, club: Club) -> bytes:
+    """The row of a club on an open board. By its quotes no cut of it is a row that is taken."""
+    return f'club,{slot},{_quoted(club.club)},"{club.coefficient}"\n'.encode()
+
+
+def event_mend(number: int) -> bytes:
+    """The row that leaves out the event of this row."""
+    return f"mend,{number},,\n".encode()
+
+
+def edition_mend(edition: int) -> bytes:
+    """The row that keeps all events, as of this edition."""
+    return f"mend,,{edition},\n".encode()
+
+
+def result_events(
+    goals: tuple[int, int], yellows: tuple[int, int], reds: tuple[int, int]
+) -> list[str]:
+    """The events of a match that ended so, by the fewest."""
+    counts = {"goal": goals, "yellow": yellows, "red": reds}
+    events = ["kickoff"]
+    for kind, (home, away) in counts.items():
+        events += [f"{kind}-home"] * home + [f"{kind}-away"] * away
+    return [*events, "fulltime"]
+
+
+def checked_name(text: str) -> str:
+    """A name of a club.
+
+    Raises NotEntered where it is none.
+    """
+    if 1 <= len(text) <= LONGEST_NAME and all(" " <= letter <= "~" for letter in text):
+        return text
+    raise NotEntered(
+        "a name has 1 to 20 letters without accents, digits, spaces and punctuation: "
+        "Atletico for Atlético"
+    )
+
+
+def checked_coefficient(text: str) -> int:
+    """A coefficient in thousandths, of `35500` or `35.500`.
+
+    Raises NotEntered where it is none.
+    """
+    whole, dot, thousandths = text.partition(".")
+    if not dot or len(thousandths) == 3:
+        number = number_in(whole + thousandths, 0, LAST_COEFFICIENT)
+        if number is not None and whole:
+            return number
+    raise NotEntered(
+        "a coefficient is a whole number of thousandths, at most 999999: 35.500 is 35500"
+    )
+
+
+def fields_of(line: bytes) -> list[str]:
+    """The fields of a line of a record, as far as Python's reader of such lines has them."""
+    text = line.decode(errors="replace").replace("\0", "?")
+    try:
+        return next(csv.reader(io.StringIO(text)), [])
+    except csv.Error:
+        return []
+
+
+def later_group(text: bytes) -> int | None:
+    """The number of the first line that would begin another edition as records did before mends.
+
+    Such a row has the group and the order of the record, and a later edition than its first row.
+    None where there is no such line.
+    """
+    first: list[str] | None = None
+    for number, line in enumerate(text.split(b"\n"), 1):
+        if first is not None and b"group" not in line:
+            continue
+        fields = fields_of(line.removeprefix(b"\xef\xbb\xbf").strip(b"\r"))
+        is_group = len(fields) == 4 and fields[0] == "group"
+        if first is None and fields:
+            first = fields if is_group else ["group", "A", "uefa", "0"]
+        elif first is not None and is_group and fields[:3] == first[:3]:
+            edition = number_in(fields[3], 0, LAST_EDITION)
+            if edition is not None and edition > (number_in(first[3], 0, LAST_EDITION) or 0):
+                return number
+    return None
+
+
+def _quoted(name: str) -> str:
+    """A field, in quotes where it needs them."""
+    if "," in name or '"' in name:
+        return '"' + name.replace('"', '""') + '"'
+    return name

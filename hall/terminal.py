@@ -1,0 +1,230 @@
+"""A terminal: the table and the matches, and below them the line that is typed, by prompt_toolkit.
+
+A line goes with the moment that was last drawn when its first letter was there, whether typed,
+recalled or completed. So what waits at the terminal is taken before a newer moment is drawn.
+"""
+
+import asyncio
+import os
+import select
+import signal
+import sys
+import termios
+
+try:
+    from prompt_toolkit.application import Application, run_in_terminal
+    from prompt_toolkit.buffer import Buffer
+    from prompt_toolkit.history import InMemoryHistory
+    from prompt_toolkit.input import create_input
+    from prompt_toolkit.key_binding import KeyBindings, KeyPressEvent
+    from prompt_toolkit.keys import Keys
+    from prompt_toolkit.output.color_depth import ColorDepth
+except ImportError as error:
+    raise SystemExit("there is no prompt_toolkit: apt install python3-prompt-toolkit") from error
+
+from hall.completion import Words
+from hall.panel import LONGEST, layout_of, output, panel_of
+from hall.printable import printable
+from hall.typist import Typist
+from hall.underway import Seen
+
+# How long the answers of rows are waited for at the end and before a suspension, in seconds.
+PATIENCE = 5.0
+
+
+class Terminal:
+    """A reporter at a terminal, or somebody who only looks."""
+
+    def __init__(self, typist: Typist, hint: str, *, is_watching: bool = False) -> None:
+        self._typist, self._hint, self._is_watching = typist, hint, is_watching
+        # The newest moment, the one that the panel shows, and what was seen by who typed first.
+        self._drawing = typist.source.moment
+        self._seen: Seen | None = None
+        self._status = 0
+        self._is_ended = False
+        self._text = Buffer(
+            history=InMemoryHistory(),
+            completer=Words(lambda: typist.source.moment),
+            multiline=False,
+            accept_handler=self._entered,
+            on_text_changed=self._changed,
+        )
+        self._answer = Buffer(multiline=False, accept_handler=self._answered)
+        self._app: Application[None] = Application(
+            layout=layout_of(typist, self._text, self._answer, self._panel, is_watching),
+            key_bindings=self._bindings(),
+            output=output(),
+            input=create_input(sys.stdin),
+            before_render=self._before_render,
+            after_render=self._after_render,
+            color_depth=ColorDepth.DEPTH_1_BIT,
+        )
+        self._app.ttimeoutlen = 0.05
+        typist.show, typist.refresh = self.show, self._refresh
+
+    async def run(self) -> int:
+        """Takes what is typed until Ctrl-D and the answers after it; gives the exit status.
+
+        Raises the fault by which the board can be followed no more.
+        """
+        loop = asyncio.get_running_loop()
+        over = self._typist.source.over
+        over.add_done_callback(self._give_up)
+        loop.add_signal_handler(signal.SIGTERM, self._exit, 128 + signal.SIGTERM)
+        loop.add_signal_handler(signal.SIGTSTP, self._suspend)
+        unheard = self._typist.source.listen(lambda reply: self._refresh())
+        if not self._is_watching:
+            self._typist.listen()
+            print(self._hint, flush=True)
+        # What was typed before anything was shown was typed at nothing.
+        termios.tcflush(sys.stdin, termios.TCIFLUSH)
+        try:
+            await self._app.run_async()
+            await self._finish()
+        finally:
+            unheard()
+            over.remove_done_callback(self._give_up)
+            for number in (signal.SIGTERM, signal.SIGTSTP):
+                loop.remove_signal_handler(number)
+        if over.done():
+            over.result()
+        return self._status
+
+    def show(self, *lines: str) -> None:
+        """Prints lines above the table."""
+        text = [printable(line, LONGEST) for line in lines]
+        if not self._app.is_running:
+            for line in text:
+                print(line, flush=True)
+            return
+        self._app.renderer.erase()
+        self._app.output.write_raw("".join(line + "\r\n" for line in text))
+        self._app.output.flush()
+        self._app.invalidate()
+
+    async def _finish(self) -> None:
+        """Waits for what is on its way, and says of what has no answer then that it may be in."""
+        await self._typist.idle(PATIENCE)
+        for line in self._typist.underway.pending:
+            print(f"{line.text:23} has no answer: it may be in the record: look at the match")
+
+    # ---- what is drawn
+
+    def _panel(self) -> str:
+        size = self._app.output.get_size()
+        return panel_of(self._typist, self._drawing, size.rows, size.columns)
+
+    def _refresh(self) -> None:
+        """Draws what is new, as soon as nothing that was typed waits."""
+        if self._is_watching or self._typist.question is None:
+            wanted = self._text
+        else:
+            wanted = self._answer
+        if not self._is_watching and self._app.layout.current_buffer is not wanted:
+            self._app.layout.focus(wanted)
+        self._app.invalidate()
+
+    def _before_render(self, _: object) -> None:
+        newest = self._typist.source.moment
+        if newest is self._drawing:
+            return
+        if select.select([sys.stdin], [], [], 0)[0] and not self._is_watching:
+            asyncio.get_running_loop().call_soon(self._app.invalidate)
+        else:
+            self._drawing = newest
+
+    def _after_render(self, _: object) -> None:
+        self._typist.underway.is_drawn(self._drawing)
+
+    # ---- what is typed
+
+    def _bindings(self) -> KeyBindings:
+        keys = KeyBindings()
+
+        @keys.add("c-c", eager=True)
+        @keys.add(Keys.SIGINT)
+        def interrupt(event: KeyPressEvent) -> None:
+            self._exit(128 + signal.SIGINT)
+
+        @keys.add("c-z", eager=True)
+        def suspend(event: KeyPressEvent) -> None:
+            self._suspend()
+
+        if self._is_watching:
+
+            @keys.add(Keys.Any)
+            @keys.add(Keys.BracketedPaste)
+            def ignore(event: KeyPressEvent) -> None:
+                pass
+
+            return keys
+
+        @keys.add("c-d", eager=True)
+        def end(event: KeyPressEvent) -> None:
+            self._exit(0)
+
+        @keys.add(Keys.BracketedPaste, eager=True)
+        def paste(event: KeyPressEvent) -> None:
+            self._paste(event.data)
+
+        return keys
+
+    def _changed(self, buffer: Buffer) -> None:
+        """Notes what was seen when the first letter was there; an emptied line begins anew."""
+        if not buffer.text:
+            self._seen = None
+        elif self._seen is None:
+            self._seen = self._typist.underway.look()
+
+    def _entered(self, buffer: Buffer) -> bool:
+        text, seen, self._seen = buffer.text, self._seen, None
+        if text.strip() and seen is not None:
+            self._typist.enter(text, seen)
+        return False
+
+    def _answered(self, buffer: Buffer) -> bool:
+        if buffer.text.strip():
+            self._typist.answer(buffer.text)
+        buffer.reset()
+        return True
+
+    def _paste(self, data: str) -> None:
+        """Takes a paste: each line by itself, as seen at the paste; the last stays in the line."""
+        *lines, rest = data.replace("\r\n", "\n").replace("\r", "\n").split("\n")
+        buffer = self._app.current_buffer
+        moment = (self._seen or self._typist.underway.look()).moment
+        for line in lines:
+            buffer.insert_text("".join(letter for letter in line if letter.isprintable()))
+            if buffer is self._text and self._seen is not None:
+                self._seen = Seen(moment, self._typist.underway.look().waiting)
+            buffer.validate_and_handle()
+        buffer.insert_text("".join(letter for letter in rest if letter.isprintable()))
+        if buffer is self._text and self._seen is not None and lines:
+            self._seen = Seen(moment, self._typist.underway.look().waiting)
+
+    # ---- how it ends, and is stopped
+
+    def _exit(self, status: int) -> None:
+        self._status = status
+        if self._app.is_running and not self._app.is_done:
+            self._app.exit()
+
+    def _give_up(self, _: object) -> None:
+        self._exit(1)
+
+    def _suspend(self) -> None:
+        asyncio.ensure_future(self._stop())
+
+    async def _stop(self) -> None:
+        """Stops the program, as Ctrl-Z does, once nothing holds the lock of a record."""
+        await self._typist.idle(PATIENCE)
+        loop = asyncio.get_running_loop()
+
+        def stop() -> None:
+            signal.signal(signal.SIGTSTP, signal.SIG_DFL)
+            os.kill(0, signal.SIGTSTP)
+            loop.add_signal_handler(signal.SIGTSTP, self._suspend)
+
+        loop.remove_signal_handler(signal.SIGTSTP)
+        await run_in_terminal(stop)
+        self._refresh()

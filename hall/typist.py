@@ -1,0 +1,218 @@
+"""A reporter: what is typed goes to a board with what was seen, and what comes of it is told.
+
+All is of one event loop, and there is no lock. A line is worked out in the very turn of the loop in
+which Enter was pressed; a task of its own waits for its replies.
+"""
+
+import asyncio
+from collections.abc import Callable, Coroutine, Sequence
+
+from hall import told
+from hall.answers import Accepted, Mended, Refused, Reply
+from hall.faults import Fault, NotEntered
+from hall.mends import Changed, Question, mending_row
+from hall.printable import printable
+from hall.record import Record
+from hall.rows import Row
+from hall.source import Source
+from hall.typed import ClubTyped, Events, Help, MatchAsked, MendTyped, Numbered, Typed, typed
+from hall.underway import Line, Seen, Underway
+from hall.usage import LINES
+
+PASSED_OVER = "passed over: the board has it"
+# The column behind what was typed, where what comes of it is told.
+WIDTH = 23
+
+
+class Typist:
+    """The lines of a reporter. `show` prints lines, and `refresh` draws what has changed."""
+
+    def __init__(self, source: Source, own: int, matches: Sequence[int]) -> None:
+        self.source, self.own, self.matches = source, own, matches
+        self.show: Callable[..., None] = _print
+        self.refresh: Callable[[], None] = _nothing
+        self.question: Question | None = None
+        self.underway = Underway(source.moment)
+        self._edition = source.moment.edition
+        source.tell_to(lambda text: self.show(text))
+        self._tasks: set[asyncio.Task[None]] = set()
+
+    async def idle(self, seconds: float | None = None) -> None:
+        """Waits until nothing waits for a reply any more, or so long at most."""
+        if self._tasks:
+            await asyncio.wait(self._tasks, timeout=seconds)
+
+    def enter(self, text: str, seen: Seen) -> None:
+        """Takes a line that was typed when this was seen, and has shown what comes of it."""
+        try:
+            line = typed(text)
+            if line is not None:
+                self._take(text, line, seen)
+        except Fault as fault:
+            self._tell(text, str(fault))
+
+    def answer(self, text: str) -> None:
+        """Takes the answer to the question."""
+        question, self.question = self.question, None
+        if question is None:
+            return
+        if text.strip().lower() in ("y", "yes"):
+            self._start(self._mend(question))
+        else:
+            self.show("Nothing is appended")
+        self.refresh()
+
+    def submit(
+        self, text: str, rows: list[Row], edition: int, is_again: bool = False
+    ) -> Coroutine[None, None, str]:
+        """Enters rows, which are on their way from this call on; awaited, says what came of them.
+
+        Raises NotEntered with what to do, or what the board raises.
+        """
+        if any(row in line.rows for line in self.underway.pending for row in rows):
+            raise NotEntered("this row waits for its answer")
+        line = Line(" ".join(text.split()), rows)
+        self.underway.add(line)
+        self.refresh()
+        return self._outcome(line, edition, is_again)
+
+    def rows_of(self, line: Events | Numbered, seen: Seen) -> list[Row]:
+        """The rows of a line that was typed when this was seen.
+
+        Raises NotEntered where it is not for this reporter to enter.
+        """
+        if isinstance(line, Numbered):
+            self._check_own(line.row.match)
+            if line.reporter != self.own:
+                raise NotEntered(f"no event of reporter {self.own}; --help has them all")
+            return [line.row]
+        self._check_own(line.match)
+        number = seen.moment.match(line.match).number + seen.waiting.count(line.match)
+        if line.is_result and number:
+            raise NotEntered(
+                f"match {line.match} has events: a result is for a match without any; enter what "
+                "is missing by itself"
+            )
+        return [Row(line.match, number + place, it) for place, it in enumerate(line.events)]
+
+    async def show_match(self, match: int) -> None:
+        """Shows a match and its events, each with its row."""
+        await self.source.ready()
+        self.show(f"{match:2} {told.match(self.source.moment, match)}")
+        self.show(*(f"   {event}" for event in self.source.events(match)))
+
+    def listen(self) -> None:
+        """Has shown what others enter."""
+        self.source.listen(self._heard)
+
+    async def propose(self, text: str, line: MendTyped | ClubTyped) -> None:
+        """Shows what a mend would do, and asks.
+
+        Raises NotEntered where there is no record here, or the mend is refused.
+        """
+        if not isinstance(self.source, Record):
+            raise NotEntered("this is typed on the board's machine, at ./ucl_reporter a.rows there")
+        row = mending_row(line, self.source.moment)
+        self.question = Question(text, row, await self.source.trial(row))
+        self.show(*self.question.told)
+        self.refresh()
+
+    async def mend(self, question: Question) -> list[str]:
+        """Appends what was asked about, and says what came of it.
+
+        Raises NotEntered; if it would do something else by now the question is asked anew.
+        """
+        assert isinstance(self.source, Record)
+        try:
+            reply = await self.source.mend(question.row, question.trial)
+        except Changed as changed:
+            self.question = Question(question.text, question.row, changed.trial)
+            self.show(str(changed), *self.question.told)
+            self.refresh()
+            return []
+        return [f"{question.text:{WIDTH}} entered, row {reply.row}"]
+
+    async def _mend(self, question: Question) -> None:
+        try:
+            self.show(*await self.mend(question))
+        except Fault as fault:
+            self._tell(question.text, str(fault))
+
+    async def _outcome(self, line: Line, edition: int, is_again: bool) -> str:
+        try:
+            replies = await self.source.enter(self.own, line.rows, edition, is_again)
+            for row, reply in zip(line.rows, replies):
+                if isinstance(reply.answer, Accepted):
+                    line.numbers[row] = reply.answer.number
+        finally:
+            self.underway.done(line)
+            self.refresh()
+        for row, reply in zip(line.rows, replies):
+            if isinstance(reply.answer, Refused):
+                raise NotEntered(f"refused: {told.advice(reply.answer, row)}")
+        moment = replies[-1].screen or self.source.moment
+        return f"entered, row {replies[-1].row}: {told.match(moment, line.rows[-1].match)}"
+
+    def _take(self, text: str, line: Typed, seen: Seen) -> None:
+        if isinstance(line, Help):
+            self.show(*LINES.splitlines())
+        elif isinstance(line, MatchAsked):
+            self._check_own(line.match)
+            self._start(self.show_match(line.match))
+        elif isinstance(line, MendTyped | ClubTyped):
+            self._start(self._propose(text, line))
+        elif isinstance(line, Numbered) and self.source.has(self.own, line.row):
+            self._tell(text, PASSED_OVER)
+        else:
+            outcome = self.submit(text, self.rows_of(line, seen), seen.moment.edition)
+            self._start(self._tell_outcome(text, outcome))
+
+    async def _tell_outcome(self, text: str, outcome: Coroutine[None, None, str]) -> None:
+        try:
+            self._tell(text, await outcome)
+        except Fault as fault:
+            self._tell(text, str(fault))
+
+    async def _propose(self, text: str, line: MendTyped | ClubTyped) -> None:
+        try:
+            await self.propose(" ".join(text.split()), line)
+        except Fault as fault:
+            self._tell(text, str(fault))
+
+    def _start(self, work: Coroutine[None, None, None]) -> None:
+        task = asyncio.create_task(work)
+        self._tasks.add(task)
+        task.add_done_callback(self._tasks.discard)
+
+    def _heard(self, reply: Reply) -> None:
+        answer = reply.answer
+        if self._edition != self.source.moment.edition:
+            self._edition = self.source.moment.edition
+            self.show(f"Edition {self._edition} has begun: look at the matches")
+        if isinstance(answer, Mended) and reply.left_out:
+            self.show("To have back what was left out too, if it holds, type:")
+            self.show(*(f"{it.match} {it.event.replace('-', ' ')}" for it in reply.left_out))
+        elif isinstance(answer, Accepted) and not self._is_own(answer):
+            moment = reply.screen or self.source.moment
+            who = f"row {answer.row}: {answer.event} by reporter {answer.reporter}"
+            self.show(f"{who}: {told.match(moment, answer.event.match)}")
+        self.refresh()
+
+    def _is_own(self, answer: Accepted) -> bool:
+        return answer.reporter == self.own and self.underway.has(answer.event)
+
+    def _check_own(self, match: int) -> None:
+        if match not in self.matches:
+            raise NotEntered(f"match {match} is not yours")
+
+    def _tell(self, text: str, what: str) -> None:
+        self.show(f"{' '.join(text.split()):{WIDTH}} {what}")
+
+
+def _print(*lines: str) -> None:
+    for line in lines:
+        print(printable(line), flush=True)
+
+
+def _nothing() -> None:
+    pass

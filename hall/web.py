@@ -1,0 +1,241 @@
+"""The server of pages and WebSockets: who may ask for what, and how much.
+
+Each answer that is no WebSocket closes its connection. So a connection is one that has not sent a
+whole request, of which there are few, each for ten seconds at most; or a screen, of which there
+are so many at most; or a phone, which has a key.
+"""
+
+import asyncio
+import logging
+import socket
+import ssl
+from collections.abc import Awaitable, Callable, Sequence
+from urllib.parse import urlsplit
+
+from aiohttp import WSMsgType, web
+
+from hall import pages
+from hall.group import Group
+from hall.pages import Page
+from hall.printable import printable
+from hall.screens import Screen, Screens, frame_of, line_of
+from hall.taps import Reporter, tap_of
+
+# Seconds: between pulses, for a whole request, and until who takes nothing any more is gone.
+PULSE, WHOLE, GONE = 1.0, 10.0, 30.0
+# Of Linux: how many bytes may wait to be on their way, and how long what was sent may wait.
+TCP_NOTSENT_LOWAT, TCP_USER_TIMEOUT = 25, 18
+# The most bytes of a message, and the most messages of a connection in a second.
+LONGEST, MOST_MESSAGES = 1_024, 20
+# The most connections that have not sent a whole request; the oldest gives way to a new one.
+MOST_BEGUN = 200
+Handler = Callable[[web.Request], Awaitable[web.StreamResponse]]
+
+
+class Server:
+    """What is served: groups, and those who look on."""
+
+    def __init__(self, groups: Sequence[Group], screens: Screens, title: str, most: int) -> None:
+        self.groups, self.screens, self.title, self.most = groups, screens, title, most
+        self.fault = ""
+        self._files = {"/": Page("index.html"), "/replay.jsonl": Page("replay.jsonl")}
+        self._report = Page("report.html")
+        self._begun: dict[web.RequestHandler, asyncio.TimerHandle] = {}
+        self._runner: web.AppRunner | None = None
+        self._tasks: list[asyncio.Task[None]] = []
+        self._listener: asyncio.Server | None = None
+
+    async def start(self, host: str, port: int, context: ssl.SSLContext | None) -> None:
+        """Listens, and sends pulses from then on.
+
+        Raises OSError where the port is taken.
+        """
+
+        @web.middleware
+        async def whole(request: web.Request, handler: Handler) -> web.StreamResponse:
+            self._is_whole(request)
+            return await handler(request)
+
+        app = web.Application(middlewares=[whole])
+        for path in self._files:
+            app.router.add_get(path, self._file)
+        app.router.add_get("/lines", self._lines)
+        app.router.add_get("/health", self._health)
+        app.router.add_get("/report/{key}", self._reporter_page)
+        app.router.add_get("/report/{key}/taps", self._taps)
+        app.on_response_prepare.append(_head)
+        # Nothing that strangers send is told.
+        logging.getLogger("aiohttp").setLevel(logging.CRITICAL)
+        self._runner = web.AppRunner(app, access_log=None, keepalive_timeout=WHOLE)
+        await self._runner.setup()
+        loop = asyncio.get_running_loop()
+        self._listener = await loop.create_server(
+            self._connection, host, port, ssl=context, backlog=1_024
+        )
+        for one in self._listener.sockets:
+            # The kernel keeps no queue either, and gives up who has acknowledged nothing for long.
+            one.setsockopt(socket.IPPROTO_TCP, TCP_NOTSENT_LOWAT, 1)
+            one.setsockopt(socket.IPPROTO_TCP, TCP_USER_TIMEOUT, int(1_000 * GONE))
+        self._tasks.append(asyncio.create_task(self._pulse()))
+
+    async def close(self) -> None:
+        """Listens no more, and ends all connections."""
+        if self._listener is not None:
+            self._listener.close()
+        for task in self._tasks:
+            task.cancel()
+        for screens in (self.screens, *(group.phones for group in self.groups)):
+            screens.abort()
+        if self._runner is not None:
+            await self._runner.cleanup()
+
+    def note(self, _: asyncio.AbstractEventLoop, about: dict[str, object]) -> None:
+        """Keeps what went wrong outside any request, for who asks after it."""
+        self.fault = printable(f"{about.get('message')}: {about.get('exception')}")
+
+    def _connection(self) -> web.RequestHandler:
+        """A new connection, which has to send a whole request in time."""
+        assert self._runner is not None and self._runner.server is not None
+        handler = self._runner.server()
+        if len(self._begun) >= MOST_BEGUN:
+            self._expire(next(iter(self._begun)))
+        loop = asyncio.get_running_loop()
+        self._begun[handler] = loop.call_later(WHOLE, self._expire, handler)
+        return handler
+
+    def _expire(self, handler: web.RequestHandler) -> None:
+        self._begun.pop(handler).cancel()
+        if handler.transport is not None:
+            handler.transport.abort()
+
+    def _is_whole(self, request: web.Request) -> None:
+        """A request that is whole: its connection has no more to send in time."""
+        timer = self._begun.pop(request.protocol, None)
+        if timer is not None:
+            timer.cancel()
+
+    async def _pulse(self) -> None:
+        """Tells each second which boards are there; no phone hears of one that is not."""
+        told = self._hall()
+        while True:
+            there = "".join(group.letter for group in self.groups if group.is_there)
+            hall, line = self._hall(), line_of("pulse", groups=there)
+            if hall != told:
+                self.screens.send("hall", hall)
+            told = hall
+            self.screens.send("pulse", line)
+            for group in self.groups:
+                if group.is_there:
+                    group.phones.send("pulse", line)
+            await asyncio.sleep(PULSE)
+
+    async def _file(self, request: web.Request) -> web.Response:
+        return _response(self._files[request.path])
+
+    async def _health(self, _: web.Request) -> web.Response:
+        faults = [group.fault for group in self.groups if group.fault] + [self.fault]
+        told = {
+            "groups": {group.letter: group.health() for group in self.groups},
+            "screens": len(self.screens),
+            "reporters": sum(len(group.phones) for group in self.groups),
+            "left_out": self.screens.left_out,
+            "fault": faults[0],
+        }
+        return web.json_response(told)
+
+    async def _reporter_page(self, request: web.Request) -> web.Response:
+        self._reporter(request)
+        return _response(self._report)
+
+    def _reporter(self, request: web.Request) -> tuple[Group, Reporter]:
+        """Whose key a request has. Raises that there is no such page where it is nobody's."""
+        found = None
+        for group in self.groups:
+            reporter = group.reporter_of(request.match_info["key"])
+            found = found if reporter is None else (group, reporter)
+        if found is None:
+            raise web.HTTPNotFound
+        return found
+
+    async def _lines(self, request: web.Request) -> web.StreamResponse:
+        """A screen: it is sent lines, and sends none."""
+        _check_origin(request)
+        if len(self.screens) >= self.most:
+            raise web.HTTPServiceUnavailable
+        stream, screen = await _opened(request)
+        screen.write(frame_of(self._hall()))
+        for group in self.groups:
+            screen.write(frame_of(group.record.moment.line))
+        self.screens.add(screen)
+        try:
+            await stream.receive()
+        finally:
+            self.screens.remove(screen)
+        return stream
+
+    def _hall(self) -> bytes:
+        """The line that says what there is."""
+        tonight = {group.letter: group.tonight() for group in self.groups}
+        known = {letter: matches for letter, matches in tonight.items() if matches}
+        letters = "".join(sorted(tonight))
+        return line_of("hall", title=self.title, groups=letters, tonight=known)
+
+    async def _taps(self, request: web.Request) -> web.StreamResponse:
+        """A phone: each message of it is answered for itself."""
+        _check_origin(request)
+        group, reporter = self._reporter(request)
+        stream, phone = await _opened(request)
+        group.greet(phone, reporter, self.title)
+        group.phones.add(phone)
+        tasks: set[asyncio.Task[None]] = set()
+        times = [0.0] * MOST_MESSAGES
+        try:
+            async for message in stream:
+                now = asyncio.get_running_loop().time()
+                times = [*times[1:], now]
+                if message.type != WSMsgType.TEXT or now - times[0] < 1.0:
+                    break
+                task = asyncio.create_task(self._answer(phone, reporter, message.data))
+                tasks.add(task)
+                task.add_done_callback(tasks.discard)
+        finally:
+            group.phones.remove(phone)
+        return stream
+
+    async def _answer(self, phone: Screen, reporter: Reporter, text: str) -> None:
+        try:
+            is_asked, tap = tap_of(text, reporter.matches)
+        except ValueError:
+            phone.transport.close()
+            return
+        answer = await (reporter.ask(tap) if is_asked else reporter.enter(tap))
+        phone.write(frame_of(answer.line(tap)))
+
+
+async def _opened(request: web.Request) -> tuple[web.WebSocketResponse, Screen]:
+    """The WebSocket of a request, and the connection that frames are written to."""
+    stream = web.WebSocketResponse(max_msg_size=LONGEST, compress=False, timeout=1.0)
+    await stream.prepare(request)
+    assert isinstance(request.transport, asyncio.WriteTransport)
+    return stream, Screen(request.transport)
+
+
+def _check_origin(request: web.Request) -> None:
+    """A WebSocket is opened by pages of this server alone."""
+    origin = urlsplit(request.headers.get("Origin", ""))
+    if not origin.netloc or origin.netloc != request.host:
+        raise web.HTTPForbidden
+
+
+def _response(page: Page) -> web.Response:
+    headers = {"Content-Security-Policy": page.policy}
+    return web.Response(body=page.body, content_type=page.kind, charset="utf-8", headers=headers)
+
+
+async def _head(_: web.Request, response: web.StreamResponse) -> None:
+    """What each answer has; one that is no WebSocket is the last of its connection."""
+    response.headers.update(pages.HEADERS)
+    response.headers.setdefault("Content-Security-Policy", pages.policy())
+    if not isinstance(response, web.WebSocketResponse):
+        response.headers["Connection"] = "close"
+        response.force_close()

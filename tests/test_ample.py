@@ -1,0 +1,153 @@
+"""With ample memory no call says that there is none, and no night that there is no thread: at its largest input, and at random smaller ones.
+
+What a call does at a length or a number that no test has come to is not seen here. `test_memory.py` refuses requests, and has the calls answer so.
+"""
+
+import ctypes as c
+import random
+
+import model
+import pytest
+from conftest import EXAMPLES, text_of
+from hypothesis import example, given, settings
+from hypothesis import strategies as st
+from test_library import board, library  # noqa: F401, fixtures
+
+LARGEST, MOST_READINGS = 4_194_304, 1000
+# Bytes of an input: near the powers of two, at which lists grow and reads end, and all over.
+LENGTHS = st.integers(200, LARGEST) | st.builds(
+    lambda power, more: (1 << power) + more, st.integers(8, 21), st.integers(-2, 2)
+)
+FEW = settings(max_examples=settings.default.max_examples // 5)
+pytestmark = pytest.mark.limit(300)
+
+
+def busy_night():
+    """A script as long as an input may be: each match of one reporter, who enters what the rules take until its number is full, and then stale rows."""
+    rows, size = [model.CLUBS], len(model.CLUBS)
+    for number in range(4094):
+        for match in range(1, 13):
+            event = "kickoff" if number == 0 else "goal-home" if number % 2 else "disallow-home"
+            rows.append(f"{1 + match % 2},{match},{number},{event}\n")
+            size += len(rows[-1])
+    rows.append("1,2,1,kickoff\n" * ((LARGEST - size) // 14))
+    return "".join(rows)
+
+
+NIGHT = busy_night()
+
+
+def cut_to(length):
+    """A beginning of the script, of whole rows, with so many bytes at most."""
+    return NIGHT[: NIGHT.rfind("\n", 0, max(length, len(model.CLUBS))) + 1]
+
+
+def test_screen_of_each_version(board):
+    """The screen and its line of JSON, of boards that have each version that there is."""
+    clubs, made, length, at = (
+        board.clubs_of(model.ROSTER),
+        c.create_string_buffer(board.JSON_ROOM),
+        c.c_size_t(),
+        c.c_uint32(),
+    )
+    words = (c.c_uint64 * 12)(*[board.SCHEDULED_WORD] * 12)
+    for version in range(12 * 4095 + 1):
+        game = max(version - 1, 0) // 4095
+        number = version - 4095 * game
+        if version and number:
+            words[game] = 0x2001 << 48 | (2 if number > 1 else 1) << 12 | number
+        for call, first, text in (board.screen, (), f"GROUP A v{version:05d} "), (
+            board.screen_json,
+            (version,),
+            '{"clubs":',
+        ):
+            assert (
+                call(
+                    *first,
+                    words,
+                    12,
+                    clubs,
+                    4,
+                    ord("A"),
+                    version % 2,
+                    made,
+                    board.JSON_ROOM,
+                    length,
+                    at,
+                )
+                == 0
+            ), version
+            assert made.raw.startswith(text.encode())
+
+
+@FEW
+@given(length=LENGTHS)
+def test_script_of_any_length(board, length):
+    assert len(board.play(NIGHT[:length].rpartition("\n")[0].encode())[2]) == max(
+        cut_to(length).count("\n") - 4, 0
+    )
+
+
+def test_beginnings_of_a_script(program, run):
+    """As a script and as a sheet, one by one up to a length that a reading comes to in three pieces."""
+    length = 36_000
+    assert run("ucl_hostile", "ample", input=NIGHT[:length]) == (0, f"{length} beginnings\n", "")
+
+
+@FEW
+@example(length=LARGEST, readings=MOST_READINGS)
+@given(length=LENGTHS, readings=st.integers(0, MOST_READINGS))
+def test_night_of_any_length(run, length, readings):
+    """It ends with the screen of the words after its rows."""
+    text = cut_to(length)
+    fed = run("ucl_night", "feed", input=text)
+    sheet = "".join(line for line in fed.output.splitlines(True) if line.startswith("word,"))
+    shown = run("ucl_night", "show", input=model.CLUBS + sheet)
+    night = run("ucl_night", "night", "--readings", str(readings), input=text)
+    assert [(it.status, it.errors) for it in (fed, shown, night)] == [(0, "")] * 3
+    assert night.output.endswith("FINAL\n" + shown.output)
+
+
+@pytest.mark.parametrize(
+    "call, text",
+    [
+        ("night_run_in_a_cell", NIGHT),
+        ("night_run", NIGHT),
+        ("run_steps", "x" * 20_000),
+        ("read_night", NIGHT),
+    ],
+    ids=lambda it: it[:20],
+)
+def test_call_with_its_largest_input(program, run, call, text):
+    ran = run("ucl_hostile", "refused", call, input=text)
+    assert (ran.status, ran.errors) == (0, "") and ran.output.startswith("first None\nkept true\n")
+
+
+def test_many_boards(board):
+    """Each is let go when the next is open."""
+    for _ in range(20_000):
+        first = board.Pass.open()
+        first.split()
+        first.enlist()
+
+
+EVENING = model.CLUBS + "1,1,0,kickoff\n"
+
+
+@pytest.mark.parametrize("words", [[], ["--format", "json"], ["--screens"]], ids=" ".join)
+def test_long_evening(run, words):
+    """Of 400,000 rows, most of them bad, with requests of each kind at random rows and at the last ones."""
+    rows, draw = ["x\n"] * 400_000, random.Random(7)
+    for row in [*draw.sample(range(len(rows) - 10), 2_000), *range(len(rows) - 10, len(rows))]:
+        rows[row] = draw.choice(["screen,,,\n", "words,,,\n", "matches,,,\n", "1,1,1,goal-home\n"])
+    ran = run("ucl_live", *words, input=EVENING + "".join(rows))
+    assert (ran.status, ran.errors) == (0, "")
+
+
+@pytest.mark.parametrize("words", [[], ["--format", "json"], ["--matches"]], ids=" ".join)
+def test_long_following(run, words):
+    """Of many moments, and of lines of each length that is read."""
+    lines = text_of(EXAMPLES / "followed.jsonl").splitlines(True)
+    odd = ["x" * length + "\n" for length in range(4_200)]
+    ran = run("ucl_follow", *words, input="".join((lines + odd) * 4 + lines * 2_000))
+    assert ran.status == 0 and "memory" not in ran.errors
