@@ -17,6 +17,8 @@ from hall.programs import TOP
 
 # In seconds, before a part that has ended is started again.
 AGAIN = 1.0
+# And until one that is told to end is killed.
+PATIENCE = 5.0
 _LIBC = ctypes.CDLL(None)
 _DIES_WITH_PARENT = 1
 
@@ -43,8 +45,7 @@ async def kept(words: Sequence[str], log: TextIO, **environment: str) -> None:
         try:
             await process.wait()
         finally:
-            with contextlib.suppress(ProcessLookupError):
-                os.killpg(process.pid, signal.SIGTERM)
+            await _end(process)
         await asyncio.sleep(AGAIN)
 
 
@@ -71,6 +72,16 @@ def free_port(port: int) -> int:
                 one.bind(("127.0.0.1", wanted))
                 return int(one.getsockname()[1])
     raise Over("no port is free")
+
+
+async def _end(process: asyncio.subprocess.Process) -> None:
+    """Ends a program and what it has started, and waits for it: a broker writes what it keeps."""
+    for number in (signal.SIGTERM, signal.SIGKILL):
+        with contextlib.suppress(ProcessLookupError):
+            os.killpg(process.pid, number)
+        with contextlib.suppress(TimeoutError):
+            await asyncio.wait_for(process.wait(), PATIENCE)
+            return
 
 
 def _die_with_parent() -> None:

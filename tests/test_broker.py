@@ -795,7 +795,8 @@ def test_the_board_is_killed_and_goes_on_from_its_record(site):
             assert evening.board.shell.poll() is None
         evening.board.kill()
         site.await_no_board()
-        numbers = [int(word, 16) & 4095 for word in site.answers()[-1]["words"]]
+        words = [said["words"] for said in site.answers() if "words" in said][-1]
+        numbers = [int(word, 16) & 4095 for word in words]
         row = next(row for row in evening.rows if int(row.split(",")[2]) == numbers[int(row.split(",")[1]) - 1])
         with open(site.record, "a") as record:
             record.write(row[: -1 if number % 3 == 2 else number % 3 * evening.chance.randint(1, 9)])

@@ -411,7 +411,7 @@ def test_the_table_is_one_swipe_away_and_nothing_comes_from_elsewhere(hall, phon
     phone.open(one, 1, 1)
     left = lambda: phone.run("return Math.round(document.getElementById('table').getBoundingClientRect().left)")
     # A slow machine may take a swipe for a drag that was given up.
-    for _ in range(5):
+    for _ in range(20):
         phone.down("goal-away")
         x, y = phone.where("goal-away")
         for step in range(1, 16):

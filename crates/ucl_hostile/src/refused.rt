@@ -237,6 +237,15 @@ fn runs<R: Print>(rt: &R, alloc: Global, engine: Engine, input: &[u8]) -> anyhow
     tell(rt, first.err(), is_kept, std::str::from_utf8(&whole)?)
 }
 
+/// How many rows of the script the rules take, one after the other.
+fn taken_of(night: &Night) -> u16 {
+    let mut board = Board::fresh();
+    for event in &night.events {
+        let _reply = board.report(event.reporter, &event.call);
+    }
+    board.version()
+}
+
 /// Whether a board has no event but rows of the script: each match is as its rows make it, as many of them as it has events.
 fn is_of_rows(read: &Board, night: &Night) -> bool {
     let mut alone = Board::fresh();
@@ -249,7 +258,7 @@ fn is_of_rows(read: &Board, night: &Night) -> bool {
 }
 
 /// A night of the script on a board, and then one on a fresh board of the same kind. A pass that was split off before the first reads
-/// what that board has kept: rows of the script alone, and all of them where the night ended well. It gets the number after those of the
+/// what that board has kept: rows of the script alone, and all that the rules take where the night ended well. It gets the number after those of the
 /// two reporters, or a lower one, so no other was enlisted.
 fn nights<B: LiveBoard + Drop, R: Print + Threads + Wait + Sync>(
     rt: &R,
@@ -266,7 +275,7 @@ fn nights<B: LiveBoard + Drop, R: Print + Threads + Wait + Sync>(
     let one = night_run(rt, alloc, &board, pass, night, b'A', 1, &OpenGate, Uefa);
     mark(alloc, ENDS)?;
     let kept = board.read(rt, &mut watcher);
-    let is_whole = one.is_err() || usize::from(kept.version) == night.events.len();
+    let is_whole = one.is_err() || kept.version == taken_of(night);
     let number = board.enlist(rt, watcher).ok();
     let is_alone = number.is_some_and(|pass| B::number_of(&pass).get() <= 3);
     let is_kept = is_whole && is_alone && is_of_rows(&kept.board, night);
