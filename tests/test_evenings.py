@@ -214,6 +214,30 @@ def test_same_rows_same_table(run):
         assert run("ucl_follow", input="".join(lines)).output.endswith(TABLE)
 
 
+def long_rows(count):
+    """Rows of twelve matches, so many of each, all of which the rules take."""
+    words = ["kickoff"] + ["goal-home", "disallow-home"] * (count // 2)
+    return "".join(f"1,{match},{number},{word}\n" for match in range(1, 13) for number, word in enumerate(words[:count]))
+
+
+def test_ten_thousand_mends_of_a_thousand_events(run):
+    """Editions alone, and then each event from the last to the first, which nothing else needs."""
+    editions = "".join(f"mend,,{edition},\n" for edition in range(1, 9_001))
+    mends = "".join(f"mend,{row},,\n" for row in range(1_012, 4, -1))
+    answers = "".join(f"{1_012 + it} mended {it} 1008\n" for it in range(1, 9_001))
+    answers += "".join(f"{10_012 + it} mended {9_000 + it} {1_008 - it}\n" for it in range(1, 1_009))
+    ran = run("ucl_live", input=CLUBS + long_rows(84) + editions + mends)
+    assert (ran.status, ran.errors, ran.output.count("\n")) == (0, "", 11_016) and ran.output.endswith(answers)
+
+
+def test_kick_off_is_left_out_of_a_full_board(run):
+    """And with it all events of its match; the other matches keep theirs."""
+    told = run("ucl_live", "--format", "json", input=CLUBS + long_rows(4_095) + "mend,5,,\n").output.splitlines()[-4_095:]
+    *left_out, members = map(json.loads, told)
+    assert [(it["reply"], it["row"], it["code"], it["name"]) for it in left_out] == [("left-out", row, 3, "not-started") for row in range(6, 4_100)]
+    assert (members["left_out"], members["version"], members["words"][0]) == (4_094, 11 * 4_095, "2000000000000000")
+
+
 # ---- what JSON says, and what the text says
 
 PLACE = "{place} {:1} {club:20}{played:>3}{won:>3}{drawn:>3}{lost:>3}{goals_for:>4}{goals_against:>4}{goal_difference:>+5}{points:>4}\n"

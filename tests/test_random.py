@@ -118,7 +118,8 @@ def test_scripts_and_sheets(program, data):
 
 ODD_ROWS = ["screen,,,", "words,,,", "matches,,,", "", "\r", "x", "1,1,0", "screen,1,,", "y" * 257, "z" * 700, "word,1,,", '1,1,0,"kickoff', 'word,1,2000000000000000,"', "1,13,0,goal", '1,1,"0', "\ufeff1,1,0,kickoff"]
 ODD_ROWS += [f"group,{title}" for title in ("A,uefa,0", "A,uefa,1", "A,uefa,2", "B,uefa,1", "H,uefa,1", "A,away-in-tie,1")] + ["club,2,Echo,5", "club,3,,5"]
-ODD_ROWS += ["mend,5,,", "mend,6,,", "mend,7,,", '"mend","09","",""', "mend,12,,", "mend,,3,", "mend,,65535,", "mend,0,,", 'club,2,Real Madrid,"95000"']
+MENDS = ["mend,5,,", "mend,6,,", "mend,7,,", '"mend","09","",""', "mend,12,,", "mend,,3,", "mend,,65535,", 'club,2,Real Madrid,"95000"']
+ODD_ROWS += [*MENDS, "mend,0,,"]
 
 
 @given(st.data())
@@ -138,10 +139,16 @@ def test_evenings(program, data):
 
 @given(st.data())
 def test_followers(program, data):
-    """`ucl_follow`, on lines of evenings of two groups of which some are lost, doubled, turned round and torn."""
+    """`ucl_follow`, on lines of evenings of two groups, with mends, of which some are lost, doubled, turned round and torn."""
     draw = data.draw
     words = ["--format", "json"] + draw(st.sampled_from([[], ["--screens"]]))
-    evening = lambda: Session(words + draw(GROUPS) + draw(ORDERS)).of(CLUBS + "screen,,,\n" + "".join(event_rows(draw(PICKS))))[1].splitlines(True)
+
+    def evening():
+        rows = event_rows(draw(PICKS))
+        for mend, at in draw(st.lists(st.tuples(st.sampled_from(MENDS), st.integers(0, 70)), max_size=4)):
+            rows.insert(min(at, len(rows)), mend + "\n")
+        return Session(words + draw(GROUPS) + draw(ORDERS)).of(CLUBS + "screen,,,\n" + "".join(rows))[1].splitlines(True)
+
     lines = evening() + evening()
     some = [lines[at % len(lines)] for at in draw(st.lists(st.integers(0, 120), max_size=40))]
     for at, end, more in draw(st.lists(st.tuples(st.integers(0, 40), st.integers(0, 1200), st.sampled_from(["", "\n", "}\n", " \r\n"])), max_size=5)):
