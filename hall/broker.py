@@ -33,7 +33,7 @@ _AGAIN = ("again", "1")
 
 @dataclass(frozen=True, slots=True)
 class Message:
-    """What came on a topic. `is_again` says that its sender has sent it before."""
+    """What came on a topic. `is_again` says that its sender, or the broker, has sent it before."""
 
     topic: str
     payload: bytes
@@ -152,7 +152,7 @@ class Broker:
         # Whatever is raised here would end the thread, and the program would be deaf.
         try:
             correlation = getattr(message.properties, "CorrelationData", None)
-            again = _AGAIN in getattr(message.properties, "UserProperty", [])
+            again = message.dup or _AGAIN in getattr(message.properties, "UserProperty", [])
             if message.retain or len(correlation or b"") > LONGEST_CORRELATION:
                 self.passed_over += 1
                 return

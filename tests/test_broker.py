@@ -30,7 +30,7 @@ from terminals import Terminal
 
 BROKER = EXAMPLES / "broker"
 ROWS = 3_000
-pytestmark = pytest.mark.limit(200)
+pytestmark = pytest.mark.limit(400)
 LINES = conftest.lines_to_type(BROKER / "README.md")
 DROPPED = "dropped: edition 1 has begun; look at the match, and type it again if it still holds"
 # Has a program in Python wait for the disk while a file `busy` is there.
@@ -787,19 +787,22 @@ def test_the_broker_is_killed_and_started_again(site):
 def test_the_board_is_killed_and_goes_on_from_its_record(site):
     """Its program is killed alone, and it goes on; it is killed itself, and the record's last row is cut, or lacks its end alone."""
     evening = Session(site, 2)
+    site.line("mosquitto_sub -q 1 -t ucl/a/0/rows/+ >sent")
 
     def trouble(number):
         if number % 3 == 0:
             os.kill(until(lambda: evening.board.pid_of("ucl_live")), signal.SIGKILL)
             time.sleep(0.3)
             assert evening.board.shell.poll() is None
+        sent = (site.path / "sent").read_text()
         evening.board.kill()
         site.await_no_board()
         words = [said["words"] for said in site.answers() if "words" in said][-1]
         numbers = [int(word, 16) & 4095 for word in words]
         row = next(row for row in evening.rows if int(row.split(",")[2]) == numbers[int(row.split(",")[1]) - 1])
-        with open(site.record, "a") as record:
-            record.write(row[: -1 if number % 3 == 2 else number % 3 * evening.chance.randint(1, 9)])
+        # Whole is only what had come to the board.
+        length = evening.chance.randint(1, 9) if number % 3 == 1 else len(row) - 1 if number % 3 == 2 and row in sent else 0
+        site.append("a", row[:length])
         evening.board.start()
 
     evening.report(trouble, 6)

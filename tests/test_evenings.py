@@ -232,10 +232,10 @@ def test_ten_thousand_mends_of_a_thousand_events(run):
 
 def test_kick_off_is_left_out_of_a_full_board(run):
     """And with it all events of its match; the other matches keep theirs."""
-    told = run("ucl_live", "--format", "json", input=CLUBS + long_rows(4_095) + "mend,5,,\n").output.splitlines()[-4_095:]
+    told = run("ucl_live", "--format", "json", input=CLUBS + long_rows(4_094) + "mend,5,,\n").output.splitlines()[-4_094:]
     *left_out, members = map(json.loads, told)
-    assert [(it["reply"], it["row"], it["code"], it["name"]) for it in left_out] == [("left-out", row, 3, "not-started") for row in range(6, 4_100)]
-    assert (members["left_out"], members["version"], members["words"][0]) == (4_094, 11 * 4_095, "2000000000000000")
+    assert [(it["reply"], it["row"], it["code"], it["name"]) for it in left_out] == [("left-out", row, 3, "not-started") for row in range(6, 4_099)]
+    assert (members["left_out"], members["version"], members["words"][0]) == (4_093, 11 * 4_094, "2000000000000000")
 
 
 # ---- what JSON says, and what the text says

@@ -412,10 +412,9 @@ def test_the_table_is_one_swipe_away_and_nothing_comes_from_elsewhere(hall, phon
     left = lambda: phone.run("return Math.round(document.getElementById('table').getBoundingClientRect().left)")
     # A slow machine may take a swipe for a drag that was given up.
     for _ in range(20):
-        phone.down("goal-away")
-        x, y = phone.where("goal-away")
-        for step in range(1, 16):
-            phone.cdp("Input.dispatchTouchEvent", type="touchMove", touchPoints=[{"x": x - 15 * step, "y": y}])
+        right, y = phone.run("const it = buttonOf('goal-away').getBoundingClientRect(); return [it.right - 6, it.y + it.height / 2]")
+        for step, kind in enumerate(["touchStart", *["touchMove"] * 16]):
+            phone.cdp("Input.dispatchTouchEvent", type=kind, touchPoints=[{"x": right - 20 * step, "y": y}])
         phone.up()
         if until(lambda: left() == 0, 3):
             break
