@@ -96,7 +96,6 @@ PAGE = "# A page\n\nFor whoever reads it.\n\n## One place\n\n"
 PAGES = {
     "a long line": (looks_at_pages.lines_fit, PAGE + "word " * 21),
     "a long cell": (looks_at_pages.lines_fit, PAGE + "| a | b |\n|---|---|\n| a | " + "b" * 161 + " |\n"),
-    "a phrase of our own": (looks_at_pages.phrases_are_plain, PAGE + "Of two clubs the one that is told stands first.\n"),
     "no reader": (looks_at_pages.pages_name_their_readers, "# A page\n\nIt has no reader.\n"),
     "a link to no file": (looks_at_pages.links_lead_somewhere, PAGE + "[gone](gone.md)\n"),
     "a link to no heading": (looks_at_pages.links_lead_somewhere, PAGE + "[here](#one-place), [there](#another-place)\n"),
@@ -106,7 +105,7 @@ PAGES = {
 @pytest.mark.quick
 @pytest.mark.parametrize("fault", PAGES)
 def test_planted_in_a_page(tmp_path, fault):
-    """The look finds nothing on a good page, and something where a fault is planted; code and names are no phrases."""
+    """The look finds nothing on a good page, and something where a fault is planted."""
     look, text = PAGES[fault]
     (tmp_path / "docs").mkdir()
     for name in "README.md", "CHANGELOG.md":
