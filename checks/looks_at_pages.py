@@ -162,8 +162,11 @@ def counts_are_right(top):
             found += [] if is_right else [f"{page.relative_to(top)}: {' '.join(it)}, and checks/closure has {told}"]
         rules = re.findall(r"(\d+) (?:lines )?are the rules, the words, the order and the screen", text)
         found += [f"{page.relative_to(top)}: {it} lines of rules, and checks/closure has {told[1][4]}" for it in rules if it != told[1][4]]
-        counts = [] if page.parent.name == "bench" else re.findall(r"\b(\d+) mutants\b", text)
+        text = "" if page.parent.name == "bench" else text
+        counts = re.findall(r"\b(\d+) mutants\b", text)
         found += [f"{page.relative_to(top)}: {it} mutants, and there are {mutants}" for it in counts if int(it) != mutants]
+        spread = [(crate, count, len([*top.glob(f"crates/{crate}/must-fail/*.edit")])) for crate, count in re.findall(r"`(ucl_\w+)` (\d+),", text)]
+        found += [f"{page.relative_to(top)}: {count} mutants of {crate}, and there are {there}" for crate, count, there in spread if int(count) != there]
     return found
 
 
