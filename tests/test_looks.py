@@ -117,6 +117,19 @@ def test_planted_in_a_page(tmp_path, fault):
 
 
 @pytest.mark.quick
+@pytest.mark.parametrize("before", ["", "It says in "], ids=["alone", "in a line"])
+def test_a_quote_that_is_not_there(tmp_path, before):
+    for name in "docs", "crates":
+        (tmp_path / name).mkdir()
+    (tmp_path / "docs/READING.md").write_text(PAGE)
+    (tmp_path / "docs/PROOF.md").write_text(PAGE + before + "`crates/a.antt`:\n\n```antt\npub record A\n```\n")
+    (tmp_path / "crates/a.antt").write_text("pub record A\n")
+    assert looks_at_pages.pages_quote(tmp_path) == []
+    (tmp_path / "crates/a.antt").write_text("pub record B\n")
+    assert looks_at_pages.pages_quote(tmp_path)
+
+
+@pytest.mark.quick
 def test_a_crate_that_is_not_trusted(tmp_path):
     """No crate may use one of the kit that the page of the proof does not name: by `libc` any function could write to standard output."""
     for name in "crates.txt", looks_at_pages.CRATES, "docs/PROOF.md":
