@@ -55,7 +55,7 @@ def test_first_look(program, place):
 @pytest.mark.quick
 def test_lines_of_pages():
     """The lines by which pages have one start the server and the reporter's program are such as these take."""
-    lines = re.findall(r"^ *\./ucl_(serve|reporter) ([^>\n]*)", README + text_of(TOP / "docs/OPERATE.md"), re.M)
+    lines = re.findall(r"^ *\./ucl_(serve|reporter) ([^>$\n]*)", README + text_of(TOP / "docs/OPERATE.md"), re.M)
     assert len(lines) >= 5
     for name, words in lines:
         (options if name == "serve" else reporter).options_of(shlex.split(words, comments=True))
