@@ -23,13 +23,6 @@ SUM = re.compile(r"\blogic(?: sum)?(?: is)? `?([0-9a-f]{16})\b")
 # A path of the machine that a text was written on, and how the work is organised; data and marks of matches are no such texts.
 STRAY = re.compile(r"(?<![\w.])/(?:work|root)/|\.\./shared/|\bissue #?\d|\b(?:sessions? of the project|handover)\b", re.I)
 LABEL = re.compile(r"(?<![\w.'\"`-])(?:T[1-5]\.[1-7]|[DRW][1-9]\d?|K[1-8]|G2|S6)(?![\w'\"`])")
-# Phrases of our own, for which the field or plain English has words: out of memory, reports, again, only, mutant, theorem, if, such as, this many.
-START = r"(?:^|  |[.;] |- |\*\* )"
-BANNED = re.compile("|".join([
-    r"[Ww]ant of memory", r"\b[Tt](?:ell|ells|old|elling)\b", r"\banew\b", r"\balone\b", r"[Ww]rong bod", r"\b[Ll]aws?\b", rf"{START}Of (?!course)",
-    rf"{START}Where (?!each)", r"\b(?:exactly|only|just) where\b", r", as (?=#)", r"\bso many\b", r"\b(?:is|that is) none\b", r"\bjust (?:the|its|their)\b",
-    r", else\b", r"\bleave to wait\b", r"\bstands? (?!for\b)", r"\bnot to be had\b", r"\bbeginning of (?:a|its|the) history\b",
-]))
 MAP, CRATES = "crates/DEFINITIONS.md", "docs/ARCHITECTURE.md"
 THEOREMS = "BoardsHaveOneHistory", "HistoriesGoOn"  # what is proved of running boards
 
@@ -41,7 +34,7 @@ def pages(top):
 
 def readable(top):
     """All pages."""
-    return [*pages(top), top / "CHANGELOG.md", *sorted(top.glob("bench/*.md")), *sorted(top.glob("examples/*/README.md"))]
+    return [*pages(top), top / "CHANGELOG.md", *sorted(top.glob("bench/*.md")), *sorted(top.glob("examples/**/README.md"))]
 
 
 def file_is_there(top, path):
@@ -106,16 +99,6 @@ def lines_fit(top):
     return found
 
 
-def phrases_are_plain(top):
-    """No page has a phrase of our own where the field, or plain English, has a better one; code, lines to type and names in backticks do not count."""
-    found, blank = [], lambda it: re.sub(r"[^\n]", "#", it[0])
-    for page in readable(top):
-        text = re.sub(r"(?m)^    .*$|`[^`]*`", blank, BLOCK.sub(blank, page.read_text()))
-        for match in BANNED.finditer(text.replace("\n", " ")):
-            found.append(f"{page.relative_to(top)}:{text.count(chr(10), 0, match.start()) + 1}: {match[0].strip()}")
-    return found
-
-
 def pages_name_their_readers(top):
     """The third line of a page says whom it is for, but that of the README, which is for all."""
     return [f"{page.relative_to(top)}: its third line does not begin with 'For'" for page in readable(top)
@@ -152,7 +135,7 @@ def pages_quote(top):
     found = []
     for page in "docs/READING.md", "docs/PROOF.md":
         text = (top / page).read_text()
-        for name, block in re.findall(r"^`(crates/[^`]+)`:\n\n```\w+\n(.*?)\n```$", text, re.M | re.S):
+        for name, block in re.findall(r"`(crates/[^`\n]+)`:\n\n```\w+\n(.*?)\n```$", text, re.M | re.S):
             lines, wanted = ([line.strip() for line in it.split("\n")] for it in ((top / name).read_text() if (top / name).exists() else "", block))
             if not any(lines[at : at + len(wanted)] == wanted for at in range(len(lines))):
                 found.append(f"{page}: these lines are not in {name}: {wanted[0]}")
@@ -179,8 +162,11 @@ def counts_are_right(top):
             found += [] if is_right else [f"{page.relative_to(top)}: {' '.join(it)}, and checks/closure has {told}"]
         rules = re.findall(r"(\d+) (?:lines )?are the rules, the words, the order and the screen", text)
         found += [f"{page.relative_to(top)}: {it} lines of rules, and checks/closure has {told[1][4]}" for it in rules if it != told[1][4]]
-        counts = [] if page.parent.name == "bench" else re.findall(r"\b(\d+) mutants\b", text)
+        text = "" if page.parent.name == "bench" else text
+        counts = re.findall(r"\b(\d+) mutants\b", text)
         found += [f"{page.relative_to(top)}: {it} mutants, and there are {mutants}" for it in counts if int(it) != mutants]
+        spread = [(crate, count, len([*top.glob(f"crates/{crate}/must-fail/*.edit")])) for crate, count in re.findall(r"`(ucl_\w+)` (\d+),", text)]
+        found += [f"{page.relative_to(top)}: {count} mutants of {crate}, and there are {there}" for crate, count, there in spread if int(count) != there]
     return found
 
 
@@ -289,7 +275,6 @@ LOOKS = [
     ("what pages name is there", names_are_there),
     ("links lead to a file and a heading", links_lead_somewhere),
     ("lines and cells of pages are short", lines_fit),
-    ("pages have no phrase that is banned", phrases_are_plain),
     ("each page names its reader in its third line", pages_name_their_readers),
     ("the table of crates is that of crates.txt", crates_are_listed),
     ("where definitions live is as their files begin", definitions_are_mapped),

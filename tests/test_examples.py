@@ -1,10 +1,14 @@
 """What stands in `examples/`, in the README and in doc comments is what programs do, and what tests try."""
 
+import fnmatch
 import re
+import shlex
 import shutil
 
 import pytest
 from conftest import EXAMPLES, TOP, command, needs, tabled, text_of
+
+from hall import options, reporter
 
 README = text_of(TOP / "README.md")
 SEASON = EXAMPLES / "season_2021_22"
@@ -46,6 +50,37 @@ def test_first_look(program, place):
     program("ucl_night")
     blocks = re.findall(r"^```console\n\$ (.*)\n((?s:.*?))^```$", README, re.M)
     assert [command(["bash", "-c", line], cwd=place).output for line, _ in blocks] == [shown for _, shown in blocks] and len(blocks) == 2
+
+
+@pytest.mark.quick
+def test_lines_of_pages():
+    """The lines by which pages have one start the server and the reporter's program are such as these take."""
+    lines = re.findall(r"^ *\./ucl_(serve|reporter) ([^>$\n]*)", README + text_of(TOP / "docs/OPERATE.md"), re.M)
+    assert len(lines) >= 5
+    for name, words in lines:
+        (options if name == "serve" else reporter).options_of(shlex.split(words, comments=True))
+
+
+@pytest.mark.quick
+def test_lines_of_c():
+    """The README's lines of C are lines of the program of docs/LIBRARY.md, which is compiled and run by its own test."""
+    lines, program = (re.sub(r"^ +", "", re.search(r"^```c\n(.*?)^```$", page, re.M | re.S)[1], flags=re.M) for page in (README, text_of(TOP / "docs/LIBRARY.md")))
+    assert lines in program
+
+
+@pytest.mark.quick
+def test_line_that_is_broken():
+    """The change of one line that the README shows refused is a mutant, which the gate has refused."""
+    new, old = re.search(r"by `(\S+)` in\s+place\s+of\s+`(\S+)`", README).groups()
+    edits = [text_of(path) for path in TOP.glob("crates/ucl_order/must-fail/*.edit")]
+    assert [edit for edit in edits if f"file: src/order.rt\nold: for _round in {old} {{\nnew: for _round in {new} {{\n" in edit]
+
+
+@pytest.mark.quick
+def test_index():
+    """The index of examples/ names each file and folder that is there."""
+    names = re.findall(r"`([^` ]+)`", text_of(EXAMPLES / "README.md"))
+    assert [path.name for path in EXAMPLES.iterdir() if path.name != "README.md" and not any(fnmatch.fnmatch(path.name, name) for name in names)] == []
 
 
 # ---- sources

@@ -96,7 +96,6 @@ PAGE = "# A page\n\nFor whoever reads it.\n\n## One place\n\n"
 PAGES = {
     "a long line": (looks_at_pages.lines_fit, PAGE + "word " * 21),
     "a long cell": (looks_at_pages.lines_fit, PAGE + "| a | b |\n|---|---|\n| a | " + "b" * 161 + " |\n"),
-    "a phrase of our own": (looks_at_pages.phrases_are_plain, PAGE + "Of two clubs the one that is told stands first.\n"),
     "no reader": (looks_at_pages.pages_name_their_readers, "# A page\n\nIt has no reader.\n"),
     "a link to no file": (looks_at_pages.links_lead_somewhere, PAGE + "[gone](gone.md)\n"),
     "a link to no heading": (looks_at_pages.links_lead_somewhere, PAGE + "[here](#one-place), [there](#another-place)\n"),
@@ -106,7 +105,7 @@ PAGES = {
 @pytest.mark.quick
 @pytest.mark.parametrize("fault", PAGES)
 def test_planted_in_a_page(tmp_path, fault):
-    """The look finds nothing on a good page, and something where a fault is planted; code and names are no phrases."""
+    """The look finds nothing on a good page, and something where a fault is planted."""
     look, text = PAGES[fault]
     (tmp_path / "docs").mkdir()
     for name in "README.md", "CHANGELOG.md":
@@ -115,6 +114,19 @@ def test_planted_in_a_page(tmp_path, fault):
     assert look(tmp_path) == []
     (tmp_path / "docs/PAGE.md").write_text(text)
     assert look(tmp_path)
+
+
+@pytest.mark.quick
+@pytest.mark.parametrize("before", ["", "It says in "], ids=["alone", "in a line"])
+def test_a_quote_that_is_not_there(tmp_path, before):
+    for name in "docs", "crates":
+        (tmp_path / name).mkdir()
+    (tmp_path / "docs/READING.md").write_text(PAGE)
+    (tmp_path / "docs/PROOF.md").write_text(PAGE + before + "`crates/a.antt`:\n\n```antt\npub record A\n```\n")
+    (tmp_path / "crates/a.antt").write_text("pub record A\n")
+    assert looks_at_pages.pages_quote(tmp_path) == []
+    (tmp_path / "crates/a.antt").write_text("pub record B\n")
+    assert looks_at_pages.pages_quote(tmp_path)
 
 
 @pytest.mark.quick

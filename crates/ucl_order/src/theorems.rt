@@ -54,13 +54,13 @@ pub fn table_goes_by_coefficients()
     ensures { TableGoesByCoefficients }
 {}
 
-/// A club marked `Plus` is among the first two however the group ends.
+/// A club marked `Plus` is among the first two however the group ends, if finished matches stay as they are.
 #[tactic(auto, using(crate::proofs::Completions::plus_is_certain))]
 pub fn plus_is_certain()
     ensures { PlusIsCertain }
 {}
 
-/// A club marked `Minus` is not among the first two, however the group ends.
+/// A club marked `Minus` is not among the first two, however the group ends, if finished matches stay as they are.
 #[tactic(auto, using(crate::proofs::Completions::minus_is_certain))]
 pub fn minus_is_certain()
     ensures { MinusIsCertain }

@@ -9,7 +9,7 @@ use crossbeam_utils::rule::Outcome;
 use ucl_live_board::View;
 
 /// Shows that each kind of step on the cell, whatever it finds, is one step in the log, of the pass that took it. So the counts of steps in
-/// contracts are of all loads and exchanges of these kinds, and there are no others.
+/// contracts are of all loads and exchanges of these kinds. There are no others but a load by the kit in each split and join of passes.
 pub fn each_cell_step_is_logged<K: Asking>()
     ensures looks { LogsOneStep ⟦<Looks as Outcome<[u64; 13], View>>⟧.then }
     ensures reads { LogsOneStep ⟦<Reads as Outcome<[u64; 13], View>>⟧.then }

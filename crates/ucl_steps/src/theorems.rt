@@ -49,7 +49,7 @@ pub fn reports_are_sequential()
 
 /// States that every log that follows the protocol, in whatever order passes took its steps, is linearizable (Herlihy and Wing): its
 /// history is legal, and each finished call has a linearization point, not before its first step nor after its last, at which its reply is
-/// that of the board of one thread. Each entry is of exactly one accepted report. If a call ended before another began, its point comes first.
+/// that of the board of one thread. Each entry is of exactly one report. If a call ended before another began, its point is no later.
 pub fn logs_are_linearizable()
     ensures { LogsAreLinearizable }
 {}

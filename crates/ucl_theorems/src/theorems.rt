@@ -9,10 +9,10 @@ use ucl_board::Entry;
 use ucl_words::View;
 use ucl_words::rule::WordRule;
 
-/// Shows that a word board has one history, in every state that satisfies its table's invariant, so between any two steps of any threads.
-/// One log has all steps, each the next one of the protocol; its history has the words that are there, and each pass has seen a prefix of
-/// it. It holds each finished call of each pass once, between its first step and its last. Each reading is the board after a prefix of it,
-/// no pass reads a lower version later, and the screen of each reading is the text of that board, with the clubs in the chosen order.
+/// Shows that a word board has one history, in every state that satisfies its table's invariant. The kit states that each state between two
+/// steps does. One log has all steps but the loads of splits and joins, each the next one of the protocol; its history has the match words,
+/// and each pass has seen a prefix of it. It holds each finished call of each pass once, between its first step and its last. A reading is
+/// the board after a prefix of it, no later reading has a lower version, and its screen is the text of that board, in the chosen order.
 pub fn boards_have_one_history()
     ensures history { BoardsHaveOneHistory (⟦<WordRule as TableRule<Entry, View, ()>>⟧.holds tt) }
     ensures screens { ScreensShowTheHistory }

@@ -17,10 +17,10 @@ pub fn words_tell_the_entry()
     ensures { WordsTellTheEntry }
 {}
 
-/// Shows that all reports and readings of all passes are linearizable in real time (Herlihy and Wing), even if no pass told another what it
-/// knew. Between any two steps of any threads there is one log of all steps, each the next one of the protocol. Its history is legal and
-/// gives the match words; what each pass has done is what its own steps make of it. The log is a run of the protocol's machine
-/// (`ucl_steps`), of which each step on a match word is one step.
+/// Shows that all finished reports and readings of all passes are linearizable (Herlihy and Wing) in the order of the log, even if no pass
+/// told another what it knew, in every state that satisfies the invariant. The log has all steps, each the next one of the protocol. Its
+/// history is legal and gives the match words. It is a run of the protocol's machine (`ucl_steps`), of which each step on a match word is
+/// one step. That its order is that of real time is `later_boards_extend`, with what each call says of its first step and its last.
 pub fn boards_are_linearizable()
     ensures { BoardsAreLinearizable }
 {}
