@@ -18,6 +18,7 @@ from hall.history import Event
 from hall.lines import NoAnswer, answer_of
 from hall.live import Listener
 from hall.outbox import Outbox, Waiting
+from hall.printable import printable
 from hall.rows import Row
 
 # How long a broker keeps answers, in seconds.
@@ -176,7 +177,7 @@ class Desk:
     def _take(self, answer: Answer, correlation: bytes | None) -> None:
         if isinstance(answer, Notice):
             if answer.reporter == self.own:
-                self._tell(answer.text)
+                self._tell(printable(answer.text))
         elif isinstance(answer, LeftOut):
             self._left_out = [*self._left_out[-4_095:], answer]
         elif isinstance(answer, Mended):
@@ -188,15 +189,14 @@ class Desk:
     def _decide(self, answer: Accepted | Refused, mine: Waiting | None) -> None:
         """Hands an answer on, or holds it until a screen is here that has what it says."""
         if isinstance(answer, Accepted):
-            age = answer.title.edition, answer.version
-            if age > self.moment.age:
+            if answer.age > self.moment.age:
                 self._hold(answer, mine)
                 return
             if answer.title.edition == self.moment.edition:
                 row = answer.event
                 self._events[row] = Event(answer.row, answer.reporter, row.match, row.event)
-        elif mine is not None and answer.found is not None:
-            if answer.found > self.moment.match(mine.row.match).number:
+        elif mine is not None and answer.number is not None:
+            if answer.number > self.moment.match(mine.row.match).number:
                 self._hold(answer, mine)
                 return
             if self._outbox.ask_anew(mine):

@@ -68,7 +68,7 @@ def advice(refused: Refused, row: Row | None = None) -> str:
     event = refused.event or row
     if event is not None and refused.name in _ADVICE:
         values = {"match": event.match, "expected": event.expected, "side": event.side}
-        found = event.expected if refused.found is None else refused.found
+        found = event.expected if refused.number is None else refused.number
         return _ADVICE[refused.name].format(found=found, **values)
     return _OTHER_ADVICE.get(refused.name, refused.name)
 

@@ -59,7 +59,7 @@ def test_each_answer_is_read():
     assert (told[LeftOut].row, told[LeftOut].event, told[LeftOut].name) == (12, "disallow-away", "no-goal")
     mended = [answer for answer in kinds if isinstance(answer, Mended)]
     assert [(it.row, it.without, it.left_out, it.title.edition, it.version) for it in mended] == [(13, 8, 1, 1, 2), (15, None, 0, 7, 2), (17, None, 0, 8, 2)]
-    assert [(it.row, it.code, it.name, it.found) for it in kinds if isinstance(it, Refused)] == [
+    assert [(it.row, it.code, it.name, it.number) for it in kinds if isinstance(it, Refused)] == [
         (9, 1, "stale", 3), (10, 20, "bad-row", None), (11, 3, "not-started", None), (14, 11, "no-event", None), (16, 12, "last-edition", None)]
     assert told[Moment].title.clubs[1] == Club('B, "2"', 7) and told[Moment].match(1).score == (1, 0) and told[Moment].age == (8, 2)
     assert told[Accepted].event == Row(1, 3, "disallow-away") and told[Accepted].line.startswith(b'{"clubs"')
