@@ -21,25 +21,25 @@ marked as sent again, and that the board has, is answered as entered.
 """
 
 import asyncio
+import contextlib
 import json
 import os
 import sys
 import time
 from collections import OrderedDict
-from collections.abc import Callable, Mapping
-from typing import TextIO
+from collections.abc import AsyncIterator, Mapping
 
 from hall import topics
 from hall.address import Address
-from hall.answers import Answer, Moment, Reply
+from hall.answers import Moment, Reply
 from hall.beginning import begin, rows_of_file
 from hall.broker import Broker, Message
-from hall.faults import Dropped, Fault, NotEntered, Over
+from hall.faults import Dropped, Fault, Over
 from hall.printable import printable
 from hall.programs import live_program
 from hall.record import Record
 from hall.requests import People, Request, request_of
-from hall.running import locked, until_ended
+from hall.running import ending, locked, until_ended
 
 # How many answers are kept for rows that come again, and how many rows may wait.
 ANSWERS, WAITING = 10_000, 10_000
@@ -54,12 +54,7 @@ class Board:
 
     def __init__(self, group: str, record: Record, broker: Broker) -> None:
         self.group, self.record, self.broker = group, record, broker
-        # Where is told what is passed over; rows that came; the newest answer; when a screen was
-        # put on the desk.
-        self.log: TextIO = sys.stderr
-        self.rows, self.passed_over = 0, 0
-        self.newest: Answer | None = None
-        self.shown_at = 0.0
+        self.passed_over = 0
         self._heard: asyncio.Queue[Request] = asyncio.Queue(WAITING)
         # Correlation data of rows that wait, by their lines in the record once they are written;
         # what was answered; who types.
@@ -102,7 +97,6 @@ class Board:
                 text = f"two people type as reporter {request.reporter}"
                 self._notice(request.reporter, text)
             self._heard.put_nowait(request)
-            self.rows += 1
 
     async def _work(self) -> None:
         """Appends what has come, all of it by one write."""
@@ -143,7 +137,7 @@ class Board:
             await self.record.append(rows, edition, written)
         except Dropped:
             self._pass_over("of an edition that is over", None)
-        except (NotEntered, Over) as fault:
+        except Fault as fault:
             for reporter in {it.reporter for it in requests}:
                 self._notice(reporter, str(fault))
         finally:
@@ -153,7 +147,7 @@ class Board:
 
     def _answer(self, reply: Reply) -> None:
         """Tells what was answered to a row, and the screen after it."""
-        correlation, self.newest = self._asked.pop(reply.row, None), reply.answer
+        correlation = self._asked.pop(reply.row, None)
         if not isinstance(reply.answer, Moment):
             lines = [*(event.line for event in reply.left_out), reply.answer.line]
             if correlation is not None:
@@ -181,28 +175,19 @@ class Board:
                 self._put(line_of(members))
 
     def _put(self, line: bytes) -> None:
-        now = time.monotonic()
-        self._due = now + topics.PULSE
-        if self.broker.publish(topics.desk(self.group), line, is_kept=True):
-            self.shown_at = now
+        self._due = time.monotonic() + topics.PULSE
+        self.broker.publish(topics.desk(self.group), line, is_kept=True)
 
     def _entered(self, request: Request) -> bytes:
         """The answer to a row that the board has: it is entered, and the board is as it stands."""
         event = self.record.events(request.row.match)[request.row.expected]
-        stands = json.loads(self.record.moment.line)
-        names = ("group", "order", "edition", "clubs", "words", "version")
-        return line_of(
-            {
-                **{name: stands[name] for name in names},
-                "reply": "ok",
-                "row": event.row,
-                "reporter": request.reporter,
-                "match": request.row.match,
-                "expected": request.row.expected,
-                "event": request.row.event,
-                "number": request.row.expected + 1,
-            }
-        )
+        stands, row = json.loads(self.record.moment.line), request.row
+        members = {
+            it: stands[it] for it in ("group", "order", "edition", "clubs", "words", "version")
+        }
+        members |= {"match": row.match, "expected": row.expected, "number": row.expected + 1}
+        members |= {"event": row.event, "reporter": request.reporter}
+        return line_of({**members, "reply": "ok", "row": event.row})
 
     def _notice(self, reporter: int, text: str) -> None:
         members = {"reply": "notice", "reporter": reporter, "text": text}
@@ -221,11 +206,7 @@ class Board:
             self._uncounted = 0
 
     def _tell(self, text: str) -> None:
-        print(f"board {self.group}: {printable(text)}", file=self.log, flush=True)
-
-
-def _nothing(_: Board) -> None:
-    pass
+        print(f"board {self.group}: {printable(text)}", file=sys.stderr, flush=True)
 
 
 def line_of(members: Mapping[str, object]) -> bytes:
@@ -233,40 +214,43 @@ def line_of(members: Mapping[str, object]) -> bytes:
     return json.dumps(members, sort_keys=True, separators=(",", ":")).encode()
 
 
-async def hold(
-    group: str, clubs: str | None, address: Address, begun: Callable[[Board], None] | None = None
-) -> None:
-    """Opens the record of a group in this folder, begins it where it is not there, and runs its
-    board, which `begun` gets; all under the lock of the group.
+@contextlib.asynccontextmanager
+async def held(record: Record, address: Address) -> AsyncIterator[asyncio.Task[None]]:
+    """Holds the board of a record's group behind a broker, by a task that ends with the block.
 
-    Raises Over or OSError where that does not go, or goes on no more.
+    Raises Over where another board of the group runs beside the record, and what `Broker.open`
+    raises.
     """
-    with locked(f"{group}.lock", f"board of group {group}"):
-        await _hold(group, clubs, address, begun or _nothing)
+    group = record.moment.title.group.lower()
+    path = os.path.join(os.path.dirname(record.path), f"{group}.lock")
+    with locked(path, f"board of group {group}"):
+        broker = Broker(address, f"board-{group}", [topics.all_rows(group)])
+        board = Board(group, record, broker)
+        broker.open(topics.ROWS, session=SESSION)
+        task = asyncio.create_task(board.run())
+        try:
+            yield task
+        finally:
+            task.cancel()
+            await asyncio.gather(task, return_exceptions=True)
+            await broker.close()
 
 
-async def _hold(
-    group: str, clubs: str | None, address: Address, begun: Callable[[Board], None]
-) -> None:
-    path, program = f"{group}.rows", live_program()
+async def hold(group: str, clubs: str | None) -> int:
+    """Opens the record of a group in this folder, begins it where it is not there, and runs its
+    board until that raises why it can go on no more."""
+    path, program, address = f"{group}.rows", live_program(), Address.own()
     if not os.path.exists(path):
         if clubs is None:
             raise Over(f"there is no record {path}: name a file of clubs")
         await begin(path, program, rows_of_file(clubs, group.upper(), "uefa"))
-    record = await Record.open(path, program, is_durable=True)
-    try:
+    async with contextlib.AsyncExitStack() as stack:
+        record = await Record.open(path, program, is_durable=True)
+        stack.push_async_callback(record.close)
         if record.moment.title.group != group.upper():
             raise Over(f"{path} is a record of group {record.moment.title.group}")
-        broker = Broker(address, f"board-{group}", [topics.all_rows(group)])
-        board = Board(group, record, broker)
-        begun(board)
-        broker.open(topics.ROWS, session=SESSION)
-        try:
-            await board.run()
-        finally:
-            await broker.close()
-    finally:
-        await record.close()
+        await (await stack.enter_async_context(held(record, address)))
+    return 1
 
 
 def main() -> None:
@@ -276,17 +260,8 @@ def main() -> None:
         is_asked = words in (["-h"], ["--help"])
         print((__doc__ or "").strip(), file=sys.stdout if is_asked else sys.stderr)
         sys.exit(0 if is_asked else 2)
-    group, clubs = words[0], words[1] if len(words) > 1 else None
-    try:
-        asyncio.run(until_ended(hold(group, clubs, Address.own())))
-    except asyncio.CancelledError:
-        sys.exit(130)
-    except OSError as fault:
-        sys.exit(
-            f"board: {fault.filename}: {fault.strerror}" if fault.filename else f"board: {fault}"
-        )
-    except Fault as fault:
-        sys.exit(f"board: {fault}")
+    with ending("board"):
+        sys.exit(asyncio.run(until_ended(hold(words[0], words[1] if len(words) > 1 else None))))
 
 
 if __name__ == "__main__":

@@ -105,14 +105,15 @@ class Live:
 
     async def end(self) -> None:
         """Ends the child."""
-        if self._task is not None:
-            self._task.cancel()
-            with contextlib.suppress(asyncio.CancelledError):
-                await self._task
-        if self._process is not None:
-            with contextlib.suppress(ProcessLookupError):
-                self._process.kill()
-            await self._process.wait()
+        try:
+            if self._task is not None:
+                self._task.cancel()
+                await asyncio.gather(self._task, return_exceptions=True)
+        finally:
+            if self._process is not None:
+                with contextlib.suppress(ProcessLookupError):
+                    self._process.kill()
+                await self._process.wait()
 
     async def _launch(self) -> None:
         pipe = asyncio.subprocess.PIPE
@@ -137,17 +138,18 @@ class Live:
             reached = self.row
             if status >= 0:
                 why = printable(errors.strip()) or f"it has ended with status {status}"
-                self._end(Over(f"ucl_live: {why}"))
+                self.fail(Over(f"ucl_live: {why}"))
             elif starts >= MOST_STARTS:
-                self._end(Over(f"ucl_live is killed by signal {-status} again and again"))
+                self.fail(Over(f"ucl_live is killed by signal {-status} again and again"))
             else:
                 await asyncio.sleep(PAUSE)
                 try:
                     await self._launch()
                 except Over as fault:
-                    self._end(fault)
+                    self.fail(fault)
 
-    def _end(self, fault: Over) -> None:
+    def fail(self, fault: Exception) -> None:
+        """Tells all who wait that it can go on no more."""
         if not self.over.done():
             self.over.set_exception(fault)
             self.over.exception()

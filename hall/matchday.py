@@ -1,4 +1,4 @@
-"""A matchday: the boards of eight groups on one broker, and one screen that tells how each does.
+"""A matchday: eight groups on one server and one broker, and a screen that tells how each does.
 
 Usage: python3 -m hall.matchday [--rehearse SECONDS] [--matchday N] FOLDER [ADDRESS]
        in the folder of the records
@@ -7,14 +7,9 @@ FOLDER has the files group_a.csv to group_h.csv, whose first four rows are the c
 examples/season_2021_22 has. ADDRESS names a broker, as examples/broker/address does; without it one
 is started that this machine alone reaches.
 
-The address goes to the folder `clients`, and what parts tell to matchday.log. A board, a broker or
-a wall that ends is started again. Ctrl-C ends all; the records a.rows to h.rows stay, and the same
-line goes on from them. `ucl_reporter a.rows` mends one, while all goes on.
-
-    rows          that reporters sent since the start
-    version       of the newest screen
-    last answer   to one of the rows of the record
-    heard         how long ago the board told the broker something; it does so each two seconds
+The address goes to the folder `clients`, and what is amiss to matchday.log. A broker that ends, and
+a server of which a record was replaced, are started again. Ctrl-C ends all; the records a.rows to
+h.rows stay, and the same line goes on from them. `ucl_reporter a.rows` mends one meanwhile.
 
 --rehearse SECONDS  has reporters 1 and 2 of each group enter what stands below the clubs and the
                     board lacks, up to matchday N: events of earlier matchdays at once, then of each
@@ -25,154 +20,206 @@ line goes on from them. `ucl_reporter a.rows` mends one, while all goes on.
 import argparse
 import asyncio
 import contextlib
+import ctypes
+import getpass
 import os
 import pathlib
+import shutil
+import signal
+import socket
 import sys
 import tempfile
 import time
-from typing import TextIO
+from collections.abc import AsyncIterator, Sequence
 
-from hall import parts, topics
-from hall.answers import Accepted, Mended, Refused
-from hall.board import Board, hold
 from hall.address import Address
+from hall.desk import Desk
 from hall.faults import Fault, Over
 from hall.group import Group
+from hall.options import options_of
 from hall.printable import printable
-from hall.programs import TOP, live_program
-from hall.rehearsal import Rehearsal
-from hall.running import locked, until_ended
-from hall.screens import Screens
-from hall.web import Server
+from hall.programs import TOP
+from hall.rows import GROUPS, Row, event_row
+from hall.running import ending, locked, text_of, until_ended
+from hall.serve import first_rows, served, urls_of
 
-LINE = "{:5}  {:>6}  {:>7}  {:<34}  {:>8}"
-# In seconds: the pause before a part is started again, and between two screens.
-AGAIN, SHOWN = 1.0, 1.0
-MOST_SCREENS = 100
+LINE = "{:5}  {:>6}  {:>7}  {}"
+# In seconds: until what has ended is started again, until a broker that is told to end is killed,
+# and between two screens.
+AGAIN, PATIENCE, SHOWN = 1.0, 5.0, 1.0
+_LIBC = ctypes.CDLL(None)
+_DIES_WITH_PARENT = 1
+
+
+def _die_with_parent() -> None:
+    _LIBC.prctl(_DIES_WITH_PARENT, signal.SIGKILL)
+
+
+async def keep_broker(room: pathlib.Path, port: int) -> None:
+    """Runs a broker that keeps rows in a folder, and starts it again if it ends. It ends with this
+    program, whatever ends that.
+
+    Raises Over where none is installed.
+    """
+    path = shutil.which("mosquitto", path=os.environ.get("PATH", "") + ":/usr/sbin:/usr/local/sbin")
+    if path is None:
+        raise Over("there is no mosquitto: apt install mosquitto")
+    conf = (TOP / "examples/broker/broker.conf").read_text()
+    conf += f"listener {port} 127.0.0.1\nuser {getpass.getuser()}\npersistence_location {room}/\n"
+    (room / "broker.conf").write_text(conf)
+    null, words = asyncio.subprocess.DEVNULL, [path, "-c", str(room / "broker.conf")]
+    while True:
+        broker = await asyncio.create_subprocess_exec(
+            *words,
+            stdin=null,
+            stdout=sys.stderr,
+            stderr=sys.stderr,
+            start_new_session=True,
+            preexec_fn=_die_with_parent,
+        )
+        try:
+            await broker.wait()
+        finally:
+            # It writes what it keeps, so its folder has to be there until it has ended.
+            for number in (signal.SIGTERM, signal.SIGKILL):
+                with contextlib.suppress(ProcessLookupError):
+                    broker.send_signal(number)
+                with contextlib.suppress(TimeoutError):
+                    await asyncio.wait_for(broker.wait(), PATIENCE)
+        await asyncio.sleep(AGAIN)
+
+
+def free_port(port: int) -> int:
+    """This port of this machine where it is free, or another."""
+    for wanted in (port, 0):
+        with socket.socket() as one, contextlib.suppress(OSError):
+            one.setsockopt(socket.SOL_SOCKET, socket.SO_REUSEADDR, 1)
+            one.bind(("127.0.0.1", wanted))
+            return int(one.getsockname()[1])
+    raise Over("no port is free")
 
 
 class Matchday:
-    """What was heard of the groups since the start."""
+    """The groups of a folder of clubs, what is told of them, and a rehearsal."""
 
-    def __init__(self, address: Address, log: TextIO) -> None:
-        self.address, self.log = address, log
-        self.boards: dict[str, Board] = {}
-        self.told: list[str] = []
-        self._groups: dict[str, Group] = {}
-        self._wall = Server([], Screens(), "", MOST_SCREENS)
+    def __init__(self, said: argparse.Namespace) -> None:
+        self._said = said
+        letters = [letter.lower() for letter in GROUPS]
+        self._files = {it: pathlib.Path(said.folder) / f"group_{it}.csv" for it in letters}
+        for file in self._files.values():
+            if not file.is_file():
+                raise Over(f"there is no file {file}")
+        self._groups: list[Group] = []
+        self._told: list[str] = []
 
-    async def hold_group(self, group: str, clubs: pathlib.Path) -> None:
-        """Holds the board of a group, and starts it again if it ends."""
-
-        def begun(board: Board) -> None:
-            board.log = self.log
-            self.boards[group] = board
-            self._groups[group] = Group(board.record, None, {}, self._wall.screens)
-            self._wall.groups = [self._groups[letter] for letter in sorted(self._groups)]
-
-        while True:
-            try:
-                await hold(group, str(clubs), self.address, begun)
-            except (Fault, OSError) as fault:
-                print(f"board {group}: {printable(str(fault))}", file=self.log, flush=True)
-            await asyncio.sleep(AGAIN)
-
-    async def open_wall(self) -> str:
-        """Serves the page of screens. Gives where it is."""
-        port = parts.free_port(8080)
-        await self._wall.start("127.0.0.1", port, None)
-        at = f"http://127.0.0.1:{port}/"
-        return f"The wall: {at}    a group: {at}?group=A"
-
-    async def show(self) -> None:
-        """Shows how each group does, on a terminal in the place of what stood there."""
-        while True:
-            is_terminal = sys.stdout.isatty()
-            lines = [LINE.format("group", "rows", "version", "last answer", "heard")]
-            lines += [self._line(group) for group in topics.GROUPS]
-            back = "\x1b[H\x1b[J" if is_terminal else ""
-            print(back + "\n".join([*lines, "", *self.told]), flush=True)
-            await asyncio.sleep(SHOWN)
-
-    def _line(self, group: str) -> str:
-        board = self.boards.get(group)
-        if board is None:
-            return LINE.format(group.upper(), 0, "", "", "nothing")
-        heard = "nothing"
-        if board.shown_at:
-            heard = f"{time.monotonic() - board.shown_at:.1f} s ago"
-        version = board.record.moment.version
-        return LINE.format(group.upper(), board.rows, version, _answer_of(board), heard)
-
-
-async def hold_all(options: argparse.Namespace, room: pathlib.Path, log: TextIO) -> None:
-    """Holds the matchday, until it is cancelled."""
-    folder = pathlib.Path(options.folder)
-    files = {group: folder / f"group_{group}.csv" for group in topics.GROUPS}
-    for file in files.values():
-        if not file.is_file():
-            raise Over(f"there is no file {file}")
-    live_program()
-    try:
-        await _hold_parts(options, files, room, log)
-    except ExceptionGroup as faults:
-        raise faults.exceptions[0] from faults
-
-
-async def _hold_parts(
-    options: argparse.Namespace, files: dict[str, pathlib.Path], room: pathlib.Path, log: TextIO
-) -> None:
-    async with asyncio.TaskGroup() as group:
-        if options.address is not None:
-            text = pathlib.Path(options.address).read_text()
-        else:
-            port = parts.free_port(1883)
-            text = f"-h 127.0.0.1\n-p {port}\n"
-            group.create_task(parts.kept(parts.broker_words(room, port), log))
-        clients = pathlib.Path("clients")
-        clients.mkdir(exist_ok=True)
+    async def hold(self, room: pathlib.Path) -> int:
+        """Holds it until it is cancelled. Raises why it can not begin."""
+        port = free_port(1883)
+        text = f"-h 127.0.0.1\n-p {port}\n"
+        if self._said.address is not None:
+            text = pathlib.Path(self._said.address).read_text()
+        os.makedirs("clients", exist_ok=True)
         for name in ("mosquitto_sub", "mosquitto_pub"):
-            (clients / name).write_text(text)
-        matchday = Matchday(Address.read(clients / "mosquitto_sub"), log)
-        matchday.told = [
-            await matchday.open_wall(),
+            pathlib.Path("clients", name).write_text(text)
+        address = Address.read(pathlib.Path("clients/mosquitto_sub"))
+        try:
+            async with asyncio.TaskGroup() as tasks:
+                if self._said.address is None:
+                    tasks.create_task(keep_broker(room, port))
+                if self._said.rehearse is not None:
+                    tasks.create_task(self._rehearse(address))
+                tasks.create_task(self._serve())
+                tasks.create_task(self._show())
+        except ExceptionGroup as faults:
+            raise faults.exceptions[0] from faults
+        return 1
+
+    async def _serve(self) -> None:
+        """Serves the groups, and begins again where one can be followed no more."""
+        words = [f"{group}.rows" for group in self._files]
+        for file in self._files.values():
+            words += ["--clubs", str(file)]
+        listen = f"127.0.0.1:{free_port(8080)}"
+        options = options_of([*words, "--listen", listen, "--broker", "clients/mosquitto_sub"])
+        screens = urls_of(options)[0]
+        self._told += [
+            f"The wall: {screens}    a group: {screens}?group=A",
             f"A reporter: cd {os.getcwd()}; XDG_CONFIG_HOME=clients {TOP}/ucl_reporter --broker a",
         ]
-        for letter, file in files.items():
-            group.create_task(matchday.hold_group(letter, file))
-        group.create_task(matchday.show())
-        if options.rehearse is not None:
-            group.create_task(_rehearse(matchday, files, options))
+        while True:
+            try:
+                async with served(options, first_rows(options)) as self._groups:
+                    overs = [group.record.over for group in self._groups]
+                    await asyncio.wait(overs, return_when=asyncio.FIRST_COMPLETED)
+            except (Fault, OSError) as fault:
+                print(f"matchday: {printable(text_of(fault))}", file=sys.stderr, flush=True)
+            await asyncio.sleep(AGAIN)
+
+    async def _show(self) -> None:
+        """Shows how each group does, on a terminal in the place of what stood there."""
+        while True:
+            lines = [LINE.format("group", "rows", "version", "")]
+            for group in self._groups:
+                moment = group.record.moment
+                lines.append(LINE.format(group.letter, moment.row, moment.version, group.fault))
+            back = "\x1b[H\x1b[J" if sys.stdout.isatty() else ""
+            print(back + "\n".join([*lines, "", *self._told]), flush=True)
+            await asyncio.sleep(SHOWN)
+
+    async def _rehearse(self, address: Address) -> None:
+        """Has the events of all groups entered, and tells how that went."""
+        number, begun = self._said.matchday, time.monotonic()
+        entered = []
+        for group, file in self._files.items():
+            due = _due(file.read_text().splitlines()[4:], number, self._said.rehearse)
+            for reporter in (1, 2):
+                mine = [(begun + at, row) for at, own, row in due if own == reporter]
+                entered.append(_enter(group, reporter, mine, address))
+        missing = sum(await asyncio.gather(*entered))
+        told = f"{missing} rows are not entered" if missing else f"Matchday {number} is entered"
+        self._told.append(told)
 
 
-async def _rehearse(
-    matchday: Matchday, files: dict[str, pathlib.Path], options: argparse.Namespace
-) -> None:
-    """Has the events of all groups entered, and tells how that went."""
-    pace, number = options.rehearse, options.matchday
-    rehearsals = [
-        Rehearsal(letter, file, number, pace, matchday.address) for letter, file in files.items()
-    ]
-    failed = sum(await asyncio.gather(*(rehearsal.enter() for rehearsal in rehearsals)))
-    if failed:
-        matchday.told.append(f"{failed} rows are not entered")
-    else:
-        matchday.told.append(f"Matchday {number} is entered")
+def _due(lines: Sequence[str], matchday: int, pace: float) -> list[tuple[float, int, Row]]:
+    """The events of a group up to a matchday, which has two matches of it: of each how many seconds
+    after the start it is due, its reporter and its row."""
+    due, ended, counts = list[tuple[float, int, Row]](), 0, {1: 0, 2: 0}
+    for reporter, row in filter(None, map(event_row, lines)):
+        if reporter not in counts or ended >= 2 * matchday:
+            continue
+        counts[reporter] += ended >= 2 * (matchday - 1)
+        due.append((counts[reporter] * pace, reporter, row))
+        ended += row.event == "fulltime"
+    return due
 
 
-def _answer_of(board: Board) -> str:
-    """The newest answer of a board, in a few words."""
-    answer = board.newest
-    if isinstance(answer, Accepted):
-        return f"{answer.reporter},{answer.event.match},{answer.event.event} ok"
-    if isinstance(answer, Refused) and answer.event is not None:
-        event = f"{answer.reporter},{answer.event.match},{answer.event.event}"
-        return f"{event} {answer.name}"
-    if isinstance(answer, Refused):
-        return answer.name
-    if isinstance(answer, Mended):
-        return f"mended, edition {answer.title.edition}"
-    return ""
+async def _enter(
+    group: str, reporter: int, due: Sequence[tuple[float, Row]], address: Address
+) -> int:
+    """Enters what the board lacks, each row at its time. Gives how many are not entered."""
+    async with _desk(group, reporter, address) as desk:
+        for place, (at, row) in enumerate(due):
+            match = desk.moment.match(row.match)
+            if match.state == "FINISHED" or match.number > row.expected:
+                continue
+            await asyncio.sleep(max(0.0, at - time.monotonic()))
+            now = Row(row.match, match.number, row.event)
+            try:
+                reply = (await desk.enter(reporter, [now], desk.moment.edition))[0]
+            except Fault:
+                return len(due) - place
+            if reply.screen is None:
+                return len(due) - place
+    return 0
+
+
+@contextlib.asynccontextmanager
+async def _desk(group: str, reporter: int, address: Address) -> AsyncIterator[Desk]:
+    desk = await Desk.open(group, reporter, 1.0, None, lambda _: None, address)
+    try:
+        yield desk
+    finally:
+        await desk.close()
 
 
 def main() -> None:
@@ -189,17 +236,13 @@ def main() -> None:
     it.add_argument("--matchday", type=int, choices=choices, default=1, help=argparse.SUPPRESS)
     it.add_argument("folder", metavar="FOLDER", help=argparse.SUPPRESS)
     it.add_argument("address", metavar="ADDRESS", nargs="?", help=argparse.SUPPRESS)
-    options = it.parse_args()
-    with contextlib.ExitStack() as stack:
-        try:
-            stack.enter_context(locked("matchday.lock", "matchday"))
-            room = stack.enter_context(tempfile.TemporaryDirectory())
-            log = stack.enter_context(open("matchday.log", "a", encoding="utf-8"))
-            asyncio.run(until_ended(hold_all(options, pathlib.Path(room), log)))
-        except asyncio.CancelledError:
-            sys.exit(130)
-        except (Fault, OSError) as fault:
-            sys.exit(f"matchday: {fault}")
+    said = it.parse_args()
+    with ending("matchday"), locked("matchday.lock", "matchday"):
+        matchday = Matchday(said)
+        with tempfile.TemporaryDirectory() as room, open("matchday.log", "a") as log:
+            with contextlib.redirect_stderr(log):
+                status = asyncio.run(until_ended(matchday.hold(pathlib.Path(room))))
+    sys.exit(status)
 
 
 if __name__ == "__main__":

@@ -1,6 +1,8 @@
 """A reporter whose input is no terminal, and a screen whose output is none."""
 
 import asyncio
+import contextlib
+import os
 import sys
 import threading
 
@@ -24,10 +26,17 @@ async def enter_lines(typist: Typist, edition: int) -> int:
     loop = asyncio.get_running_loop()
 
     def read() -> None:
-        line = b"\n"
-        while line:
-            line = sys.stdin.buffer.readline(LONGEST)
-            loop.call_soon_threadsafe(lines.put_nowait, line)
+        # Not by `sys.stdin`, whose lock would be held at the program's end.
+        rest, piece = b"", b"\n"
+        with contextlib.suppress(RuntimeError):
+            while piece:
+                piece = os.read(0, LONGEST)
+                *whole, rest = (rest + piece).split(b"\n") if piece else (rest, b"")
+                if len(rest) > LONGEST:
+                    whole, rest = [*whole, rest], b""
+                for line in whole:
+                    loop.call_soon_threadsafe(lines.put_nowait, line + b"\n")
+            loop.call_soon_threadsafe(lines.put_nowait, b"")
 
     typist.source.tell_to(_warn)
     threading.Thread(target=read, daemon=True).start()

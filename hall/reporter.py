@@ -11,22 +11,18 @@ from collections.abc import AsyncIterator
 
 from hall import told
 from hall.beginning import begin, rows_by_questions
-from hall.faults import Fault, NotEntered, Over
+from hall.faults import NotEntered, Over
 from hall.pipe import enter_lines, watch_lines
 from hall.printable import printable
 from hall.programs import live_program
 from hall.record import Record
 from hall.rows import LAST_EDITION, MATCHES, REPORTERS, number_in
-from hall.sheet import sheet_of
-from hall.source import Source
+from hall.running import ending
 from hall.typed import ClubTyped, MendTyped, typed
-from hall.typist import Typist
+from hall.typist import Source, Typist
 from hall.usage import HELP, USAGE
 
-INTERRUPTED = 130
 SURE = ("y", "yes")
-# The most characters of a fault that are told.
-LONGEST = 600
 
 
 def parser() -> argparse.ArgumentParser:
@@ -81,16 +77,9 @@ def main() -> None:
         if isinstance(stream, io.TextIOWrapper):
             stream.reconfigure(errors="replace")
     options = options_of(sys.argv[1:])
-    try:
+    with ending("ucl_reporter"):
         first = None if options.broker else _first_rows(options)
         sys.exit(asyncio.run(_run(options, first)))
-    except BrokenPipeError:
-        os.dup2(os.open(os.devnull, os.O_WRONLY), 1)
-        sys.exit(1)
-    except (Fault, OSError) as fault:
-        sys.exit(f"ucl_reporter: {printable(_text_of(fault), LONGEST)}")
-    except (KeyboardInterrupt, EOFError):
-        sys.exit(INTERRUPTED)
 
 
 async def _run(options: argparse.Namespace, first: bytes | None) -> int:
@@ -100,7 +89,7 @@ async def _run(options: argparse.Namespace, first: bytes | None) -> int:
         if options.mend is not None:
             return await _mend(typist, options.mend, options.yes)
         if options.sheet:
-            sys.stdout.buffer.write(sheet_of(source.moment))
+            typist.show(*told.sheet(source.moment))
             return 0
         if options.watch:
             return await _watch(typist, is_terminal)
@@ -182,19 +171,13 @@ async def _mend(typist: Typist, what: str, is_sure: bool) -> int:
         typist.show(*question.tables)
         if not is_sure and not _is_agreed():
             raise NotEntered("nothing is appended; with --yes it is, without a question")
-        typist.show(*await typist.mend(question))
+        await typist.mend(question)
     typist.show(told.title(typist.source.moment))
     return 0
 
 
 def _is_agreed() -> bool:
     return sys.stdin.isatty() and input("append it? y or n> ").strip().lower() in SURE
-
-
-def _text_of(fault: Exception) -> str:
-    if isinstance(fault, OSError) and fault.filename is not None:
-        return f"{fault.filename}: {fault.strerror}"
-    return str(fault)
 
 
 def _number(text: str) -> int:

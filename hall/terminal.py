@@ -104,9 +104,11 @@ class Terminal:
 
     async def _finish(self) -> None:
         """Waits for what is on its way, and says of what has no answer then that it may be in."""
-        await self._typist.idle(PATIENCE)
-        for line in self._typist.underway.pending:
-            print(f"{line.text:23} has no answer: it may be in the record: look at the match")
+        try:
+            await self._typist.idle(PATIENCE)
+        finally:
+            for line in self._typist.underway.pending:
+                print(f"{line.text:23} has no answer: it may be in the record: look at the match")
 
     # ---- what is drawn
 

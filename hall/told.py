@@ -1,7 +1,7 @@
 """What is told to people: a board, a match and a reply, in words."""
 
 from hall.answers import LeftOut, Moment, Refused
-from hall.rows import FIXTURES, Row
+from hall.rows import FIXTURES, Row, club_row
 
 HEADING = "    Club                  P  W  D  L  GF  GA   GD Pts"
 # What to do about a refusal. The words in braces are the row's own, and the match's number by now.
@@ -56,6 +56,13 @@ def match(moment: Moment, number: int) -> str:
             cards += f", {name} {pair[0]}-{pair[1]}"
     score = f"{home} {it.score[0]}-{it.score[1]} {away}"
     return f"{score}, {it.state.lower()}, event {it.number} by {it.reporter}{cards}"
+
+
+def sheet(moment: Moment) -> list[str]:
+    """The rows of a sheet: the clubs and the twelve words, as `ucl_night show` takes them."""
+    rows = [club_row(slot, it).decode() for slot, it in enumerate(moment.title.clubs, 1)]
+    words = [f"word,{number},{word}," for number, word in enumerate(moment.words, 1)]
+    return [row.rstrip("\n") for row in rows] + words
 
 
 def clubs(moment: Moment) -> str:

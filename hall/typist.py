@@ -6,6 +6,7 @@ which Enter was pressed; a task of its own waits for its replies.
 
 import asyncio
 from collections.abc import Callable, Coroutine, Sequence
+from typing import TYPE_CHECKING, Union
 
 from hall import told
 from hall.answers import Accepted, Mended, Refused, Reply
@@ -14,11 +15,16 @@ from hall.mends import Changed, Question, mending_row
 from hall.printable import printable
 from hall.record import Record
 from hall.rows import Row
-from hall.source import Source
+from hall.running import text_of
 from hall.typed import ClubTyped, Events, Help, MatchAsked, MendTyped, Numbered, Typed, typed
 from hall.underway import Line, Seen, Underway
 from hall.usage import LINES
 
+if TYPE_CHECKING:
+    from hall.desk import Desk
+
+# A record here, or the board of a group behind a broker, whose library need not be installed.
+Source = Union[Record, "Desk"]
 PASSED_OVER = "passed over: the board has it"
 # The column behind what was typed, where what comes of it is told.
 WIDTH = 23
@@ -57,7 +63,7 @@ class Typist:
         if question is None:
             return
         if text.strip().lower() in ("y", "yes"):
-            self._start(self._mend(question))
+            self._start(question.text, self.mend(question))
         else:
             self.show("Nothing is appended")
         self.refresh()
@@ -117,8 +123,8 @@ class Typist:
         self.show(*self.question.told)
         self.refresh()
 
-    async def mend(self, question: Question) -> list[str]:
-        """Appends what was asked about, and says what came of it.
+    async def mend(self, question: Question) -> None:
+        """Appends what was asked about, and shows what came of it.
 
         Raises NotEntered; if it would do something else by now the question is asked anew.
         """
@@ -129,14 +135,8 @@ class Typist:
             self.question = Question(question.text, question.row, changed.trial)
             self.show(str(changed), *self.question.told)
             self.refresh()
-            return []
-        return [f"{question.text:{WIDTH}} entered, row {reply.row}"]
-
-    async def _mend(self, question: Question) -> None:
-        try:
-            self.show(*await self.mend(question))
-        except Fault as fault:
-            self._tell(question.text, str(fault))
+        else:
+            self._tell(question.text, f"entered, row {reply.row}")
 
     async def _outcome(self, line: Line, edition: int, is_again: bool) -> str:
         try:
@@ -158,29 +158,28 @@ class Typist:
             self.show(*LINES.splitlines())
         elif isinstance(line, MatchAsked):
             self._check_own(line.match)
-            self._start(self.show_match(line.match))
+            self._start(text, self.show_match(line.match))
         elif isinstance(line, MendTyped | ClubTyped):
-            self._start(self._propose(text, line))
+            self._start(text, self.propose(" ".join(text.split()), line))
         elif isinstance(line, Numbered) and self.source.has(self.own, line.row):
             self._tell(text, PASSED_OVER)
         else:
             outcome = self.submit(text, self.rows_of(line, seen), seen.moment.edition)
-            self._start(self._tell_outcome(text, outcome))
+            self._start(text, self._tell_outcome(text, outcome))
 
     async def _tell_outcome(self, text: str, outcome: Coroutine[None, None, str]) -> None:
-        try:
-            self._tell(text, await outcome)
-        except Fault as fault:
-            self._tell(text, str(fault))
+        self._tell(text, await outcome)
 
-    async def _propose(self, text: str, line: MendTyped | ClubTyped) -> None:
-        try:
-            await self.propose(" ".join(text.split()), line)
-        except Fault as fault:
-            self._tell(text, str(fault))
+    def _start(self, text: str, work: Coroutine[None, None, None]) -> None:
+        """Starts work for what was typed, and has its fault told."""
 
-    def _start(self, work: Coroutine[None, None, None]) -> None:
-        task = asyncio.create_task(work)
+        async def told_of() -> None:
+            try:
+                await work
+            except (Fault, OSError) as fault:
+                self._tell(text, text_of(fault))
+
+        task = asyncio.create_task(told_of())
         self._tasks.add(task)
         task.add_done_callback(self._tasks.discard)
 

@@ -6,6 +6,7 @@ are so many at most; or a phone, which has a key.
 """
 
 import asyncio
+import contextlib
 import logging
 import socket
 import ssl
@@ -69,6 +70,7 @@ class Server:
         self._runner = web.AppRunner(app, access_log=None, keepalive_timeout=WHOLE)
         await self._runner.setup()
         loop = asyncio.get_running_loop()
+        loop.set_exception_handler(self._note)
         self._listener = await loop.create_server(
             self._connection, host, port, ssl=context, backlog=1_024
         )
@@ -89,7 +91,7 @@ class Server:
         if self._runner is not None:
             await self._runner.cleanup()
 
-    def note(self, _: asyncio.AbstractEventLoop, about: dict[str, object]) -> None:
+    def _note(self, _: asyncio.AbstractEventLoop, about: dict[str, object]) -> None:
         """Keeps what went wrong outside any request, for who asks after it."""
         self.fault = printable(f"{about.get('message')}: {about.get('exception')}")
 
@@ -222,9 +224,11 @@ async def _opened(request: web.Request) -> tuple[web.WebSocketResponse, Screen]:
 
 def _check_origin(request: web.Request) -> None:
     """A WebSocket is opened by pages of this server alone."""
-    origin = urlsplit(request.headers.get("Origin", ""))
-    if not origin.netloc or origin.netloc != request.host:
-        raise web.HTTPForbidden
+    with contextlib.suppress(ValueError):
+        origin = urlsplit(request.headers.get("Origin", ""))
+        if origin.netloc and origin.netloc == request.host:
+            return
+    raise web.HTTPForbidden
 
 
 def _response(page: Page) -> web.Response:
