@@ -20,6 +20,8 @@ of its answer. A row that comes again with the same correlation data is answered
 marked as sent again, and that the board has, is answered as entered.
 """
 
+import hall.quiet  # noqa: F401, first of all
+
 import asyncio
 import contextlib
 import json

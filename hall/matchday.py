@@ -17,6 +17,8 @@ h.rows stay, and the same line goes on from them. `ucl_reporter a.rows` mends on
 --matchday N        1 to 6; 1 without it
 """
 
+import hall.quiet  # noqa: F401, first of all
+
 import argparse
 import asyncio
 import contextlib

@@ -54,6 +54,8 @@ async def until_ended(work: Coroutine[Any, Any, int]) -> int:
 def ending(name: str) -> Iterator[None]:
     """Ends the program of this name where it can go on no more, by one line and the fault's status;
     after Ctrl-C by none, and where nobody reads its output."""
+    if signal.getsignal(signal.SIGINT) is signal.SIG_DFL:
+        signal.signal(signal.SIGINT, signal.default_int_handler)
     try:
         yield
     except BrokenPipeError:

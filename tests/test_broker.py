@@ -233,7 +233,7 @@ def test_one_board_and_a_record_that_is_begun_once(site):
         "a": "another board of group a runs here: it holds a.lock\n", "a examples/two_matches.csv": "another board of group a runs here: it holds a.lock\n",
         "b": "there is no record b.rows: name a file of clubs\n", "b none.csv": "none.csv: No such file or directory\n",
     }.items():
-        assert site.done(f"timeout 5 python3 -m hall.board {words} 2>&1; echo $?") == f"board: {told}1\n"
+        assert site.done(f"timeout 60 python3 -m hall.board {words} 2>&1; echo $?") == f"board: {told}1\n"
     site.done("sed s/Alpha// examples/one_goal.csv >clubs.csv; cp a.rows c.rows")
     assert site.done("python3 -m hall.board b clubs.csv 2>&1; echo $?") == "board: input refused 21: slot 1\n1\n" and not (site.path / "b.rows").exists()
     assert site.done("python3 -m hall.board c 2>&1; echo $?") == "board: c.rows is a record of group A\n1\n"

@@ -105,7 +105,7 @@ def test_a_matchday_needs_eight_files_and_a_folder_of_its_own(site):
     assert site.done("python3 -m hall.matchday clubs 2>&1; echo $?") == "matchday: there is no file clubs/group_a.csv\n1\n"
     matchday = site.line(f"exec python3 -m hall.matchday {SEASON}")
     assert until(lambda: len(boards(site)) == len(GROUPS), 30)
-    assert site.done(f"timeout 5 python3 -m hall.matchday {SEASON} 2>&1; echo $?") == "matchday: another matchday runs here: it holds matchday.lock\n1\n"
+    assert site.done(f"timeout 60 python3 -m hall.matchday {SEASON} 2>&1; echo $?") == "matchday: another matchday runs here: it holds matchday.lock\n1\n"
     report = "printf '3 kickoff\\n3 goal away\\n' | XDG_CONFIG_HOME=clients ./ucl_reporter --broker h --number 200"
     assert site.done(report).endswith("3 goal away             entered, row 7: Chelsea 0-1 Juventus, in play, event 2 by 200\n")
     newest = lambda: json.loads(site.done("XDG_CONFIG_HOME=clients timeout 5 mosquitto_sub -q 1 -C 1 -t ucl/h/desk") or "{}")
