@@ -29,7 +29,7 @@ import os
 import sys
 import time
 from collections import OrderedDict
-from collections.abc import AsyncIterator, Mapping
+from collections.abc import AsyncIterator
 
 from hall import topics
 from hall.address import Address
@@ -37,6 +37,7 @@ from hall.answers import Moment, Reply
 from hall.beginning import begin, rows_of_file
 from hall.broker import Broker, Message
 from hall.faults import Dropped, Fault, Over
+from hall.lines import line_of
 from hall.printable import printable
 from hall.programs import live_program
 from hall.record import Record
@@ -56,7 +57,6 @@ class Board:
 
     def __init__(self, group: str, record: Record, broker: Broker) -> None:
         self.group, self.record, self.broker = group, record, broker
-        self.passed_over = 0
         self._heard: asyncio.Queue[Request] = asyncio.Queue(WAITING)
         # Correlation data of rows that wait, by their lines in the record once they are written;
         # what was answered; who types.
@@ -64,8 +64,8 @@ class Board:
         self._asked: dict[int, bytes] = {}
         self._answered: OrderedDict[bytes, list[bytes]] = OrderedDict()
         self._people = People()
-        self._told, self._uncounted = 0.0, 0
-        self._due = 0.0
+        # What was passed over since that was told; when a screen is due again.
+        self._told, self._passed_over, self._due = 0.0, 0, 0.0
         broker.heard, broker.connected, broker.told = self._hear, self._show, self._tell
         record.listen(self._answer)
 
@@ -96,8 +96,7 @@ class Board:
             self._pass_over("too much waits", message)
         else:
             if self._people.are_two(request):
-                text = f"two people type as reporter {request.reporter}"
-                self._notice(request.reporter, text)
+                self._notice(request.reporter, f"two people type as reporter {request.reporter}")
             self._heard.put_nowait(request)
 
     async def _work(self) -> None:
@@ -114,18 +113,15 @@ class Board:
     def _is_new(self, request: Request) -> bool:
         """Whether a row is to be judged: one that was, or is, is answered by its answer."""
         correlation = request.correlation
-        if correlation is not None:
-            if correlation in self._pending:
-                return False
-            if correlation in self._answered:
-                self._publish(self._answered[correlation], correlation)
-                return False
-        if request.is_again and self.record.has(request.reporter, request.row):
-            self._publish([self._entered(request)], correlation)
+        if correlation in self._pending:
             return False
-        if correlation is not None:
+        known = self._answered.get(correlation or b"", [])
+        if not known and request.is_again and self.record.has(request.reporter, request.row):
+            known = [self._entered(request)]
+        self._publish(known, correlation)
+        if correlation is not None and not known:
             self._pending.add(correlation)
-        return True
+        return not known
 
     async def _enter(self, requests: list[Request], edition: int) -> None:
         rows = [it.row.line(it.reporter) for it in requests]
@@ -164,21 +160,19 @@ class Board:
         for line in lines:
             self.broker.publish(topics.answers(self.group), line, correlation=correlation)
 
-    def _show(self) -> None:
-        """Puts the newest screen on the desk."""
-        self._put(self.record.moment.line)
+    def _show(self, **more: int) -> None:
+        """Puts the newest screen on the desk, with these members more."""
+        self._due, line = time.monotonic() + topics.PULSE, self.record.moment.line
+        if more:
+            line = line_of(**{**json.loads(line), **more})
+        self.broker.publish(topics.desk(self.group), line, is_kept=True)
 
     async def _pulse(self) -> None:
         """Puts the last screen on the desk again where none comes."""
         while True:
             await asyncio.sleep(max(0.05, self._due - time.monotonic()))
             if time.monotonic() >= self._due:
-                members = {**json.loads(self.record.moment.line), "pulse": int(time.time())}
-                self._put(line_of(members))
-
-    def _put(self, line: bytes) -> None:
-        self._due = time.monotonic() + topics.PULSE
-        self.broker.publish(topics.desk(self.group), line, is_kept=True)
+                self._show(pulse=int(time.time()))
 
     def _entered(self, request: Request) -> bytes:
         """The answer to a row that the board has: it is entered, and the board is as it stands."""
@@ -189,31 +183,24 @@ class Board:
         }
         members |= {"match": row.match, "expected": row.expected, "number": row.expected + 1}
         members |= {"event": row.event, "reporter": request.reporter}
-        return line_of({**members, "reply": "ok", "row": event.row})
+        return line_of("ok", row=event.row, **members)
 
     def _notice(self, reporter: int, text: str) -> None:
-        members = {"reply": "notice", "reporter": reporter, "text": text}
-        self._publish([line_of(members)], None)
+        self._publish([line_of("notice", reporter=reporter, text=text)], None)
         self._tell(text)
 
     def _pass_over(self, why: str, message: Message | None) -> None:
         """Counts what is passed over, and tells of it once a minute at most."""
-        self.passed_over += 1
-        self._uncounted += 1
+        self._passed_over += 1
         if time.monotonic() - self._told >= MINUTE or not self._told:
             self._told = time.monotonic()
-            what = "" if message is None else f" on {printable(message.topic, 80)}: "
-            what += "" if message is None else printable(message.payload, 80)
-            self._tell(f"passed over {self._uncounted}, the last {why}{what}")
-            self._uncounted = 0
+            if message is not None:
+                why += f" on {printable(message.topic, 80)}: {printable(message.payload, 80)}"
+            self._tell(f"passed over {self._passed_over}, the last {why}")
+            self._passed_over = 0
 
     def _tell(self, text: str) -> None:
         print(f"board {self.group}: {printable(text)}", file=sys.stderr, flush=True)
-
-
-def line_of(members: Mapping[str, object]) -> bytes:
-    """A line of JSON as `ucl_live` writes it: no blanks, members in the order of their names."""
-    return json.dumps(members, sort_keys=True, separators=(",", ":")).encode()
 
 
 @contextlib.asynccontextmanager

@@ -5,9 +5,10 @@ from collections.abc import Iterable, Mapping
 from hall.answers import Moment, Reply
 from hall.history import Event
 from hall.keys import is_key
+from hall.lines import line_of
 from hall.record import Record
 from hall.rows import MATCHES
-from hall.screens import Screen, Screens, frame_of, line_of
+from hall.screens import Screen, Screens, frame_of
 from hall.taps import Reporter
 
 # How many events a phone lists.

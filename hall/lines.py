@@ -46,6 +46,12 @@ def answer_of(line: bytes) -> Answer:
     return answer
 
 
+def line_of(reply: str, **members: object) -> bytes:
+    """A line of our own, in JSON as `ucl_live` writes it, with no line end."""
+    said: dict[str, object] = {"reply": reply, **members}
+    return json.dumps(said, sort_keys=True, separators=(",", ":")).encode()
+
+
 def reply_of(answers: Sequence[Answer]) -> Reply:
     """The reply to a row, of all its answers in their order.
 

@@ -46,7 +46,7 @@ async def enter_lines(typist: Typist, edition: int) -> int:
     return 0
 
 
-async def watch_lines(typist: Typist) -> None:
+async def watch_lines(typist: Typist) -> int:
     """Prints the table and the matches, now and at each event, until the board ends."""
     changed = asyncio.Event()
     typist.source.listen(lambda reply: changed.set())
@@ -61,6 +61,7 @@ async def watch_lines(typist: Typist) -> None:
             typist.show(*(f"{it:2} {told.match(moment, it)}" for it in typist.matches))
         await changed.wait()
     typist.source.over.result()
+    return 0
 
 
 def _warn(text: str) -> None:

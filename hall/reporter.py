@@ -2,12 +2,10 @@
 
 import argparse
 import asyncio
-import contextlib
 import io
 import os
 import sys
 import time
-from collections.abc import AsyncIterator
 
 from hall import told
 from hall.beginning import begin, rows_by_questions
@@ -83,54 +81,40 @@ def main() -> None:
 
 
 async def _run(options: argparse.Namespace, first: bytes | None) -> int:
-    async with _source(options, first) as source:
+    is_terminal = sys.stdin.isatty() and sys.stdout.isatty()
+    source = await _opened(options, first, is_terminal)
+    try:
         typist = Typist(source, options.number or 1, options.matches or MATCHES)
-        is_terminal = sys.stdin.isatty() and sys.stdout.isatty()
         if options.mend is not None:
             return await _mend(typist, options.mend, options.yes)
         if options.sheet:
             typist.show(*told.sheet(source.moment))
             return 0
-        if options.watch:
-            return await _watch(typist, is_terminal)
         if is_terminal:
             from hall.terminal import Terminal
 
-            hint = "type a match and an event, as 1 goal home; help tells more, Ctrl-D ends"
-            return await Terminal(typist, f"Reporter {typist.own}: {hint}").run()
+            return await Terminal(typist, is_watching=options.watch).run()
+        if options.watch:
+            return await watch_lines(typist)
         return await enter_lines(typist, options.edition or 0)
-
-
-@contextlib.asynccontextmanager
-async def _source(options: argparse.Namespace, first: bytes | None) -> AsyncIterator[Source]:
-    if options.broker:
-        async with _desk(options) as desk:
-            yield desk
-        return
-    path, program = options.record, live_program()
-    if first is not None and not await begin(path, program, first):
-        print(f"Another has begun {path} meanwhile: it stays as it is, and is used")
-    record = await Record.open(path, program, is_read_only=options.watch or options.sheet)
-    try:
-        yield record
     finally:
-        await record.close()
+        await source.close()
 
 
-@contextlib.asynccontextmanager
-async def _desk(options: argparse.Namespace) -> AsyncIterator[Source]:
+async def _opened(options: argparse.Namespace, first: bytes | None, is_terminal: bool) -> Source:
+    """Opens the record, which begins with the first rows if there are any, or the board behind a
+    broker, which is waited for without an end at a terminal."""
+    if options.broker is None:
+        path, program = options.record, live_program()
+        if first is not None and not await begin(path, program, first):
+            print(f"Another has begun {path} meanwhile: it stays as it is, and is used")
+        return await Record.open(path, program, is_read_only=options.watch or options.sheet)
     from hall.desk import Desk
 
-    limit = options.limit or 60.0
-    if sys.stdin.isatty() and sys.stdout.isatty():
-        limit = options.limit
+    if is_terminal:
         print(f"Waiting for the board of group {options.broker.upper()}", flush=True)
-    own, again = options.number or 1, options.again or 2.0
-    desk = await Desk.open(options.broker, own, again, limit, _warn)
-    try:
-        yield desk
-    finally:
-        await desk.close()
+    limit = options.limit or (None if is_terminal else 60.0)
+    return await Desk.open(options.broker, options.number or 1, options.again or 2.0, limit, _warn)
 
 
 def _warn(text: str) -> None:
@@ -148,15 +132,6 @@ def _first_rows(options: argparse.Namespace) -> bytes | None:
         raise Over(f"there is no {path}; type ./ucl_reporter {path} at a terminal to begin it")
     live_program()
     return rows_by_questions(input, print)
-
-
-async def _watch(typist: Typist, is_terminal: bool) -> int:
-    if not is_terminal:
-        await watch_lines(typist)
-        return 0
-    from hall.terminal import Terminal
-
-    return await Terminal(typist, "", is_watching=True).run()
 
 
 async def _mend(typist: Typist, what: str, is_sure: bool) -> int:

@@ -14,7 +14,8 @@ from hall import beginning, links
 from hall.address import Address
 from hall.faults import Over
 from hall.group import Group
-from hall.keys import Keys, keys_of
+from hall.keys import held as keys_held
+from hall.keys import keys_of
 from hall.options import Options, options_of
 from hall.printable import printable
 from hall.programs import live_program
@@ -93,7 +94,7 @@ async def served(options: Options, first: Mapping[str, bytes]) -> AsyncIterator[
     """Serves groups until the block ends, each record held for this server alone.
 
     Begins the records of which there are first rows. Raises SameGroup where two are of one group,
-    Over where the port is taken, and what `Keys.held`, `Record.open` and `board.held` raise.
+    Over where the port is taken, and what `keys.held`, `Record.open` and `board.held` raise.
     """
     program, groups, screens = live_program(), list[Group](), Screens()
     server = Server(groups, screens, options.title, min(options.most_screens, files_for_screens()))
@@ -101,13 +102,12 @@ async def served(options: Options, first: Mapping[str, bytes]) -> AsyncIterator[
         for path in options.records:
             if path in first:
                 await beginning.begin(path, program, first[path])
-            keys = Keys.held(path, options.reporters, are_new=options.new_keys)
-            stack.callback(keys.close)
+            keys = stack.enter_context(keys_held(path, options.reporters, are_new=options.new_keys))
             record = await Record.open(path, program, is_durable=True)
             stack.push_async_callback(record.close)
             # A phone that asks what became of a tap needs to know the events that stand.
             await record.ready()
-            group = Group(record, keys.of, options.reporters, screens)
+            group = Group(record, keys, options.reporters, screens)
             if group.letter in [other.letter for other in groups]:
                 raise SameGroup(f"two records are of group {group.letter}")
             groups.append(group)

@@ -28,6 +28,7 @@ from hall.printable import printable
 from hall.typist import Typist
 from hall.underway import Seen
 
+HINT = "type a match and an event, as 1 goal home; help tells more, Ctrl-D ends"
 # How long the answers of rows are waited for at the end and before a suspension, in seconds.
 PATIENCE = 5.0
 
@@ -35,8 +36,8 @@ PATIENCE = 5.0
 class Terminal:
     """A reporter at a terminal, or somebody who only looks."""
 
-    def __init__(self, typist: Typist, hint: str, *, is_watching: bool = False) -> None:
-        self._typist, self._hint, self._is_watching = typist, hint, is_watching
+    def __init__(self, typist: Typist, *, is_watching: bool) -> None:
+        self._typist, self._is_watching = typist, is_watching
         # The newest moment, the one that the panel shows, and what was seen by who typed first.
         self._drawing = typist.source.moment
         self._seen: Seen | None = None
@@ -75,7 +76,7 @@ class Terminal:
         unheard = self._typist.source.listen(lambda reply: self._refresh())
         if not self._is_watching:
             self._typist.listen()
-            print(self._hint, flush=True)
+            print(f"Reporter {self._typist.own}: {HINT}", flush=True)
         # What was typed before anything was shown was typed at nothing.
         termios.tcflush(sys.stdin, termios.TCIFLUSH)
         try:

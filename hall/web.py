@@ -17,9 +17,10 @@ from aiohttp import WSMsgType, web
 
 from hall import pages
 from hall.group import Group
+from hall.lines import line_of
 from hall.pages import Page
 from hall.printable import printable
-from hall.screens import Screen, Screens, frame_of, line_of
+from hall.screens import Screen, Screens, frame_of
 from hall.taps import Reporter, tap_of
 
 # Seconds: between pulses, for a whole request, and until who takes nothing any more is gone.
