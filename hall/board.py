@@ -41,13 +41,11 @@ from hall.lines import line_of
 from hall.printable import printable
 from hall.programs import live_program
 from hall.record import Record
-from hall.requests import People, Request, request_of
+from hall.requests import MINUTE, People, Request, request_of
 from hall.running import ending, locked, until_ended
 
 # How many answers are kept for rows that come again, and how many rows may wait.
 ANSWERS, WAITING = 10_000, 10_000
-# For how long, in seconds, it is not told again that something is passed over.
-MINUTE = 60.0
 # For how long a broker keeps rows for a board that is down, in seconds.
 SESSION = 7 * 86_400
 
@@ -127,9 +125,8 @@ class Board:
         rows = [it.row.line(it.reporter) for it in requests]
 
         def written(first: int) -> None:
-            for number, request in enumerate(requests, first):
-                if request.correlation is not None:
-                    self._asked[number] = request.correlation
+            places = enumerate(requests, first)
+            self._asked.update({at: it.correlation for at, it in places if it.correlation})
 
         try:
             await self.record.append(rows, edition, written)

@@ -40,6 +40,16 @@ def fsync(_):
     while os.path.exists("busy"): time.sleep(0.01)
 os.fsync = fsync
 """
+# Has a program in Python be told once that the disk fails while a file `broken` is there.
+FAILING_DISK = """import os
+real = os.fsync
+def fsync(file):
+    if os.path.exists("broken"):
+        os.unlink("broken")
+        raise OSError(5, "Input/output error")
+    real(file)
+os.fsync = fsync
+"""
 BOARD = "hall.board"
 # Passes lines on in another order, within windows of a hundred, and loses a tenth of them.
 TURNED = """import itertools, random, sys
@@ -507,6 +517,19 @@ def test_a_full_disk_behind_a_broker(site):
     assert site.record.read_text().count("kickoff") == 1
 
 
+def test_a_disk_that_fails_behind_a_broker(site):
+    """The reporter is told that the row may be in the record, and when it is sent again that it is; the board goes on."""
+    (site.path / "hook").mkdir()
+    (site.path / "hook/sitecustomize.py").write_text(FAILING_DISK)
+    site.open_broker()
+    site.line("PYTHONPATH=hook " + LINES["The board"].strip())
+    reporter = site.terminal("--again 1").sees("12 Delta")
+    (site.path / "broken").touch()
+    reporter.type("1 kickoff\r").sees("it may be in the record").sees("1 kickoff               entered, row 6")
+    reporter.enter("1 goal home", "1 goal home             entered, row 7")
+    assert site.record.read_text().count("kickoff") == 1
+
+
 def test_a_reporter_begins_in_the_edition_of_the_board_and_not_in_that_which_the_broker_kept(site):
     """A broker that is killed just after a mend may keep a screen of the edition before."""
     site.begin()
@@ -563,9 +586,9 @@ def test_an_encrypted_port_takes_who_knows_its_certificate(site):
     assert report("known").startswith("1 kickoff               entered, row 6") and "entered" not in report("other")
 
 
-@pytest.mark.parametrize("text, fault", [("-h\n", "line 1 is no option"), ("# x\n\n-x y\n", "line 3 is no option"), ("-p 99999\n", "the port is no port"), ("-p x\n", "the port is no port")])
+@pytest.mark.parametrize("text, fault", [("-h\n", "line 1 is no option"), ("# x\n\n-x y\n", "line 3 is no option"), ("-p 99999\n", "the port is no port"), ("-p x\n", "the port is no port"), ("-h 'x\n", "line 1 is no option"), ("-h ''\n", "line 1 is no option"), ("\udcff\n", "line 1 is no option")])
 def test_an_address_that_is_none(site, text, fault):
-    (site.path / "mosquitto_sub").write_text(text)
+    (site.path / "mosquitto_sub").write_text(text, errors="surrogateescape")
     for line in "./ucl_reporter --broker a", "python3 -m hall.board a examples/one_goal.csv":
         told = site.done(f"{line} 2>&1; echo $?").splitlines()
         assert fault in told[-2] and told[-1] == "1" and len(told) == 2

@@ -10,6 +10,7 @@ import random
 import resource
 import subprocess
 import threading
+import time
 
 import hypothesis
 import hypothesis.strategies as some
@@ -386,6 +387,31 @@ def test_a_write_that_is_cut_off(tmp_path, live, kept):
 
     held(tmp_path, STARTED, work, live)
     assert text_of(tmp_path / "evening.csv") == STARTED + "1,1,3,goal-home\n"[:kept] + "\n" * (kept > 0) + "1,2,0,kickoff\n"
+
+
+def test_a_record_that_is_closed_while_a_row_is_written(tmp_path, live, monkeypatch):
+    """The row is written whole before the file is closed, and its lock given back."""
+    (tmp_path / "evening.csv").write_text(STARTED)
+    begun, sync = threading.Event(), os.fsync
+
+    def slow(file):
+        begun.set()
+        time.sleep(0.5)
+        sync(file)
+
+    async def work():
+        record = await Record.open(str(tmp_path / "evening.csv"), live)
+        monkeypatch.setattr(os, "fsync", slow)
+        append = asyncio.create_task(record.append([goal(record)], 0))
+        while not begun.is_set():
+            await asyncio.sleep(0.01)
+        await record.close()
+        with pytest.raises(asyncio.CancelledError):
+            await append
+        assert len(asyncio.all_tasks()) == 1
+
+    asyncio.run(work())
+    assert text_of(tmp_path / "evening.csv") == STARTED + "1,1,3,goal-home\n"
 
 
 def test_two_who_begin_a_record(tmp_path, live):
