@@ -57,7 +57,7 @@ class Live:
         Raises Over where the program can not be started.
         """
         await self._launch()
-        self._task = asyncio.create_task(self._supervise())
+        self._task = asyncio.create_task(self._run())
 
     def feed(self, lines: bytes) -> None:
         """Hands whole lines to the child, which `whole` has by now too."""
@@ -127,6 +127,12 @@ class Live:
         self._begun = []
         self.feed(self._whole())
 
+    async def _run(self) -> None:
+        try:
+            await self._supervise()
+        except Exception as fault:  # whatever it is, who waits has to know
+            self.fail(fault)
+
     async def _supervise(self) -> None:
         starts, reached = 0, self.row
         while not self.over.done():
@@ -143,10 +149,7 @@ class Live:
                 self.fail(Over(f"ucl_live is killed by signal {-status} again and again"))
             else:
                 await asyncio.sleep(PAUSE)
-                try:
-                    await self._launch()
-                except Over as fault:
-                    self.fail(fault)
+                await self._launch()
 
     def fail(self, fault: Exception) -> None:
         """Tells all who wait that it can go on no more."""
