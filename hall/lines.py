@@ -38,7 +38,7 @@ def answer_of(line: bytes) -> Answer:
     if not isinstance(reply, str) or reply not in KINDS:
         raise NoAnswer("it is no known reply")
     kind: Any = KINDS[reply]
-    answer: Answer = kind(**{name: read(said) for name, read in _readers(kind).items()}, line=line)
+    answer: Answer = kind(*[read(said) for read in _readers(kind)], line)
     if isinstance(answer, Moment):
         numbers = [it.match for it in answer.matches] + [it.place for it in answer.table]
         if numbers != [*range(1, 13), *range(1, 5)]:
@@ -67,15 +67,15 @@ def reply_of(answers: Sequence[Answer]) -> Reply:
 
 
 @functools.cache
-def _readers(kind: Any) -> dict[str, Read]:
+def _readers(kind: Any) -> list[Read]:
     """How the members of a kind of object are read, each from the object that it stands in."""
     hints = get_type_hints(kind, include_extras=True)
-    readers = {name: _reader(name, hint) for name, hint in hints.items() if name != "line"}
-    return {name: read for name, read in readers.items() if read is not None}
+    readers = [_reader(name, hint) for name, hint in hints.items()]
+    return [read for read in readers if read is not None]
 
 
 def _part_of(kind: Any, said: Said) -> Any:
-    return kind(**{name: read(said) for name, read in _readers(kind).items()})
+    return kind(*[read(said) for read in _readers(kind)])
 
 
 def _reader(name: str, hint: Any) -> Read | None:

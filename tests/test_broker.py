@@ -30,7 +30,7 @@ from terminals import Terminal
 
 BROKER = EXAMPLES / "broker"
 ROWS = 3_000
-pytestmark = pytest.mark.limit(200)
+pytestmark = pytest.mark.limit(400)
 LINES = conftest.lines_to_type(BROKER / "README.md")
 DROPPED = "dropped: edition 1 has begun; look at the match, and type it again if it still holds"
 # Has a program in Python wait for the disk while a file `busy` is there.
@@ -491,13 +491,14 @@ def test_a_reporter_is_told_of_rows_that_are_refused_anothers_or_none(site):
 def test_a_board_that_falls_silent(site):
     """A row that has no answer in time ends a run without a terminal: it may be in the record."""
     site.begin()
-    silent = site.line("(until [ -e late ]; do sleep 0.1; done; echo 1 kickoff) | ./ucl_reporter --broker a --limit 5 --again 0.5 >silent 2>&1; echo $? >>silent")
-    time.sleep(3)
+    silent = site.line("(echo 2 kickoff; until [ -e late ]; do sleep 0.1; done; echo 1 kickoff) | ./ucl_reporter --broker a --limit 20 --again 0.5 >silent 2>&1; echo $? >>silent")
+    told = lambda: [line for line in (site.path / "silent").read_text().splitlines() if "2 kickoff" not in line]
+    assert until(lambda: "2 kickoff               entered" in (site.path / "silent").read_text(), 60)
     site.kill_board()
     (site.path / "late").touch()
-    assert silent.shell.wait(30) == 0
-    assert (site.path / "silent").read_text().splitlines() == [
-        "1 kickoff               no answer yet; it is sent again", "ucl_reporter: 1 kickoff: no answer has come in 5 seconds: it may be in the record: look at the match before you type again", "1"]
+    assert silent.shell.wait(60) == 0
+    assert told() == [
+        "1 kickoff               no answer yet; it is sent again", "ucl_reporter: 1 kickoff: no answer has come in 20 seconds: it may be in the record: look at the match before you type again", "1"]
 
 
 def test_a_full_disk_behind_a_broker(site):
