@@ -22,8 +22,7 @@ try:
 except ImportError as error:
     raise SystemExit("there is no prompt_toolkit: apt install python3-prompt-toolkit") from error
 
-from hall.completion import Words
-from hall.panel import LONGEST, layout_of, output, panel_of
+from hall.panel import LONGEST, Words, layout_of, output, panel_of
 from hall.printable import printable
 from hall.typist import Typist
 from hall.underway import Seen
