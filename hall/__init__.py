@@ -13,5 +13,5 @@ Each line uses those above it:
     keys, links, taps, group     who may enter by a phone, and what a group's phones are answered
     screens, pages, web          connections, files, the server
     running, quiet               how a program begins and ends
-    reporter, board, serve       the commands, with usage and options; matchday holds eight groups
+    reporter, board, serve       the commands, with usage and options
 """
