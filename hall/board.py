@@ -70,16 +70,14 @@ class Board:
     async def run(self) -> None:
         """Runs until the record can be followed no more, and raises that fault."""
         await self.record.ready()
-        tasks = [asyncio.create_task(self._work()), asyncio.create_task(self._pulse())]
         try:
-            await asyncio.wait({*tasks, self.record.over}, return_when=asyncio.FIRST_COMPLETED)
-            for task in (self.record.over, *tasks):
-                if task.done():
-                    task.result()
-        finally:
-            for task in tasks:
-                task.cancel()
-            await asyncio.gather(*tasks, return_exceptions=True)
+            async with asyncio.TaskGroup() as tasks:
+                tasks.create_task(self._work())
+                tasks.create_task(self._pulse())
+                await asyncio.wait([self.record.over])
+                self.record.over.result()
+        except ExceptionGroup as faults:
+            raise faults.exceptions[0] from faults
 
     # ---- what comes
 
