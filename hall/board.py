@@ -44,10 +44,9 @@ from hall.record import Record
 from hall.requests import MINUTE, People, Request, request_of
 from hall.running import ending, locked, until_ended
 
-# How many answers are kept for rows that come again, and how many rows may wait.
-ANSWERS, WAITING = 10_000, 10_000
-# For how long a broker keeps rows for a board that is down, in seconds.
-SESSION = 7 * 86_400
+# How many answers are kept for rows that come again, how many rows may wait, and for how many
+# seconds a broker keeps rows for a board that is down.
+ANSWERS, WAITING, SESSION = 10_000, 10_000, 7 * 86_400
 
 
 class Board:

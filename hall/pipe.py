@@ -9,8 +9,8 @@ import threading
 from hall import told
 from hall.faults import MaybeEntered, NotEntered
 from hall.printable import printable
-from hall.typed import Events, MatchAsked, Numbered, typed
-from hall.typist import PASSED_OVER, WIDTH, Typist
+from hall.typed import ClubTyped, Help, MendTyped, Numbered, typed
+from hall.typist import Typist
 from hall.underway import Seen
 
 # The longest line that is taken, in bytes.
@@ -70,28 +70,16 @@ def _warn(text: str) -> None:
 
 async def _enter(typist: Typist, text: str, edition: int) -> None:
     try:
-        line = typed(text)
-        if line is None:
-            return
-        if isinstance(line, MatchAsked):
-            typist.rows_of(Events(line.match, (), False), typist.underway.look())
-            await typist.show_match(line.match)
-            return
-        if not isinstance(line, Events | Numbered):
+        line, moment = typed(text), typist.source.moment
+        if isinstance(line, Help | MendTyped | ClubTyped):
             raise NotEntered("this is typed at a terminal; without one it is --mend WHAT --yes")
-        moment = typist.source.moment
-        rows = typist.rows_of(line, Seen(moment, ()))
-        if isinstance(line, Numbered):
-            if moment.edition != edition:
-                raise NotEntered(
-                    f"this is of edition {edition}, and the board of edition {moment.edition}: "
-                    "look at the matches"
-                )
-            if typist.source.has(typist.own, line.row):
-                typist.show(f"{text:{WIDTH}} {PASSED_OVER}")
-                return
-        is_again = isinstance(line, Numbered)
-        outcome = await typist.submit(text, rows, moment.edition, is_again)
-        typist.show(f"{text:{WIDTH}} {outcome}")
+        if isinstance(line, Numbered) and moment.edition != edition:
+            raise NotEntered(
+                f"this is of edition {edition}, and the board of edition {moment.edition}: "
+                "look at the matches"
+            )
+        if line is not None:
+            is_again = isinstance(line, Numbered)
+            await typist.take(text, line, Seen(moment, ()), is_again)
     except (NotEntered, MaybeEntered) as fault:
         raise NotEntered(f"{text[:200]}: {fault}") from fault
