@@ -135,8 +135,6 @@ class Board:
         finally:
             self._pending.difference_update(it.correlation for it in requests if it.correlation)
 
-    # ---- what is told
-
     def _answer(self, reply: Reply) -> None:
         """Tells what was answered to a row, and the screen after it."""
         correlation = self._asked.pop(reply.row, None)
@@ -151,8 +149,8 @@ class Board:
             self._show()
 
     def _publish(self, lines: list[bytes], correlation: bytes | None) -> None:
-        for line in lines:
-            self.broker.publish(topics.answers(self.group), line, correlation=correlation)
+        for it in lines:
+            self.broker.publish(topics.answers(self.group), it, correlation=correlation)
 
     def _show(self, **more: int) -> None:
         """Puts the newest screen on the desk, with these members more."""
