@@ -15,6 +15,7 @@ from test_broker import free_port, site, until  # noqa: F401, a fixture
 
 SEASON = EXAMPLES / "season_2021_22"
 GROUPS = "abcdefgh"
+pytestmark = pytest.mark.limit(400)
 NIGHTS, SCREENS = 6, 4
 # Seconds between two rows of a reporter: 24,000 times as fast as the two hours of a match with ten events.
 PACE = 0.03

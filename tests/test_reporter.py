@@ -17,7 +17,7 @@ from conftest import TOP, Run, Started, command, encoded, needs, text_of
 from model import ROSTER, Session, random_rows
 from terminals import Terminal
 
-pytestmark = pytest.mark.limit(100)
+pytestmark = pytest.mark.limit(300)
 TITLE = "group,B,uefa,0\n"
 BEGUN = TITLE + model.CLUBS
 STARTED = BEGUN + "1,1,0,kickoff\n1,1,1,goal-home\n1,1,2,goal-away\n"
