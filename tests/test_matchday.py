@@ -11,7 +11,7 @@ import urllib.request
 import conftest
 import pytest
 from conftest import EXAMPLES, TOP
-from test_broker import free_port, site, until  # noqa: F401, a fixture
+from test_broker import free_port, is_reached, site, until  # noqa: F401, a fixture
 
 SEASON = EXAMPLES / "season_2021_22"
 GROUPS = "abcdefgh"
@@ -47,7 +47,7 @@ def serve(site, broker="--broker mosquitto_sub"):
     site.page = free_port()
     records, clubs = (" ".join(name.format(it) for it in GROUPS) for name in ("{}.rows", f"--clubs {SEASON}/group_{{}}.csv"))
     hall = site.line(f"exec ./ucl_serve {records} {clubs} --listen 127.0.0.1:{site.page} {broker}")
-    assert until(lambda: len(boards(site)) == len(GROUPS), 60)
+    assert until(lambda: is_reached(site.page), 60) and len(boards(site)) == len(GROUPS)
     return hall
 
 
