@@ -2,29 +2,31 @@
 
 import asyncio
 import contextlib
-import fcntl
 import os
 import signal
 import sys
 from collections.abc import Coroutine, Iterator
 from typing import Any
 
+from hall import disk
 from hall.faults import Fault, Over
 from hall.printable import printable
 
 # The status after Ctrl-C.
 INTERRUPTED = 130
+# How long a lock is waited for, in seconds: who only asks whether it is free has it for a moment.
+LOCK = 0.5
 # The most characters of a fault that are told.
 LONGEST = 600
 
 
 @contextlib.contextmanager
 def locked(path: str, what: str) -> Iterator[None]:
-    """Holds the lock of a file, as `flock -n` does. Raises Over where another holds it."""
+    """Holds the lock of a file, as `flock` does. Raises Over where another keeps it."""
     with open(path, "ab") as file:
         try:
-            fcntl.flock(file, fcntl.LOCK_EX | fcntl.LOCK_NB)
-        except BlockingIOError as error:
+            disk.lock(file.fileno(), LOCK, path)
+        except disk.Held as error:
             raise Over(f"another {what} runs here: it holds {path}") from error
         yield
 

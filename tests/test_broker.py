@@ -492,6 +492,7 @@ def test_a_board_that_falls_silent(site):
     """A row that has no answer in time ends a run without a terminal: it may be in the record."""
     site.begin()
     silent = site.line("(echo 2 kickoff; until [ -e late ]; do sleep 0.1; done; echo 1 kickoff) | ./ucl_reporter --broker a --limit 20 --again 0.5 >silent 2>&1; echo $? >>silent")
+    (site.path / "silent").touch()
     told = lambda: [line for line in (site.path / "silent").read_text().splitlines() if "2 kickoff" not in line]
     assert until(lambda: "2 kickoff               entered" in (site.path / "silent").read_text(), 60)
     site.kill_board()
