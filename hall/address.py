@@ -34,14 +34,15 @@ class Address:
         Raises OSError where it can not be read, and Over where a line says something else.
         """
         found: dict[str, Any] = {}
-        for number, line in enumerate(path.read_text().splitlines(), 1):
-            words = shlex.split(line, comments=True)
-            if not words:
-                continue
-            name = _OPTIONS.get(words[0])
-            if name is None or len(words) != 2:
+        for number, line in enumerate(path.read_text(errors="replace").splitlines(), 1):
+            try:
+                words = shlex.split(line, comments=True)
+            except ValueError:
+                words = [line]
+            if words and (len(words) != 2 or not words[1] or words[0] not in _OPTIONS):
                 raise Over(f"{path}: line {number} is no option that is known here")
-            found[name] = words[1]
+            if words:
+                found[_OPTIONS[words[0]]] = words[1]
         if "port" in found:
             found["port"] = int(found["port"]) if found["port"].isdecimal() else 0
             if not 0 < found["port"] < 65_536:

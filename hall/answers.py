@@ -1,29 +1,41 @@
-"""Answers of `ucl_live`: what a line of its JSON says, as `hall.lines` has validated it.
+"""Answers of `ucl_live`: each kind of line, and what each of its members may be.
 
-All that is here may be relied on, wherever the line came from: numbers are in range, names of
-clubs are printable, there are twelve matches and four places.
+`hall.lines` makes them of lines, and nothing else does. A member that is annotated by a range is a
+whole number in it, one by a pattern or by texts is such a text, and one by a count has so many
+parts; what may be None may be missing. So all that is here may be relied on, wherever the line came
+from. `line` is the line itself, with no line end.
 """
 
 import re
 from dataclasses import dataclass
+from typing import Annotated
 
-from hall.rows import Club, Row
+from hall.rows import EVENTS, GROUPS, LAST_EDITION, LAST_ROW, NAME, ORDERS, Club, Row
 
 # No member of JSON text can look like these: a quote within a text has a backslash before it.
 _KIND = re.compile(rb'"reply":"([a-z-]{1,20})"')
 _ROW = re.compile(rb'"row":(\d{1,20})')
+# A name of a refusal, which need not be a known one; a match as a word.
+_NAME, _WORD, _ANY = re.compile("[a-z-]{1,40}"), re.compile("[0-9a-f]{16}"), re.compile("(?s:.*)")
 
-Pair = tuple[int, int]
+Pair = Annotated[tuple[int, int], 2, range(64)]
+Line = Annotated[int, range(1, LAST_ROW + 1)]
+Reporter = Annotated[int, range(1, 256)]
+Number = Annotated[int, range(4_096)]
+Version = Annotated[int, range(49_141)]
+Games = Annotated[int, range(7)]
+Goals = Annotated[int, range(379)]
+Words = Annotated[tuple[str, ...], 12, _WORD]
 
 
 @dataclass(frozen=True, slots=True)
 class Match:
     """A match as it stands. Pairs are of the home and the visiting side; reporter 0 is nobody."""
 
-    match: int
-    number: int
-    reporter: int
-    state: str
+    match: Annotated[int, range(1, 13)]
+    number: Number
+    reporter: Annotated[int, range(256)]
+    state: Annotated[str, ("SCHEDULED", "IN PLAY", "FINISHED")]
     score: Pair
     yellows: Pair
     expulsions: Pair
@@ -33,41 +45,42 @@ class Match:
 class Place:
     """A line of the table: numbers of matches in play and finished, and the club's slot."""
 
-    place: int
-    mark: str
-    slot: int
-    club: str
-    played: int
-    won: int
-    drawn: int
-    lost: int
-    goals_for: int
-    goals_against: int
-    goal_difference: int
-    points: int
+    place: Annotated[int, range(1, 5)]
+    mark: Annotated[str, ("", "+", "-")]
+    slot: Annotated[int, range(1, 5)]
+    club: Annotated[str, NAME]
+    played: Games
+    won: Games
+    drawn: Games
+    lost: Games
+    goals_for: Goals
+    goals_against: Goals
+    goal_difference: Annotated[int, range(-378, 379)]
+    points: Annotated[int, range(19)]
 
 
 @dataclass(frozen=True, slots=True)
 class Title:
     """What a board is: group, order, edition, and the clubs by their slots."""
 
-    group: str
-    order: str
-    edition: int
-    clubs: tuple[Club, ...]
+    group: Annotated[str, tuple(GROUPS)]
+    order: Annotated[str, ORDERS]
+    edition: Annotated[int, range(LAST_EDITION + 1)]
+    clubs: Annotated[tuple[Club, ...], 4]
 
 
 @dataclass(frozen=True, slots=True)
 class Moment:
-    """A screen: the whole board after line `row` of its record. `line` is its JSON, with no end."""
+    """A screen: the whole board after line `row` of its record."""
 
-    row: int
+    row: Line
     title: Title
-    version: int
-    in_play: int
-    matches: tuple[Match, ...]
-    table: tuple[Place, ...]
-    pulse: int | None
+    version: Version
+    in_play: Annotated[int, range(13)]
+    words: Words
+    matches: Annotated[tuple[Match, ...], 12]
+    table: Annotated[tuple[Place, ...], 4]
+    pulse: Annotated[int | None, range(1 << 40)]
     line: bytes
 
     @property
@@ -89,42 +102,49 @@ class Moment:
 class Accepted:
     """An event that is on the board. `number` is the match's event number after it."""
 
-    row: int
-    reporter: int
+    row: Line
+    reporter: Reporter
     event: Row
-    number: int
-    version: int
+    number: Annotated[int, range(1, 4_096)]
+    version: Version
+    words: Words
     title: Title
     line: bytes
+
+    @property
+    def age(self) -> Pair:
+        """Edition and version of the board after it."""
+        return self.title.edition, self.version
 
 
 @dataclass(frozen=True, slots=True)
 class Refused:
     """A row that has changed nothing.
 
-    `reporter` and `event` are None for a bad row and for a mend; `found` is the event number of
-    the match where the row was stale.
+    A bad row and a mend have no reporter and no event; `number` is the event number of the match
+    where the row was stale.
     """
 
-    row: int
-    code: int
-    name: str
-    reporter: int | None
+    row: Line
+    code: Annotated[int, range(1, 1_000)]
+    name: Annotated[str, _NAME]
+    reporter: Annotated[int | None, range(1, 256)]
     event: Row | None
-    found: int | None
+    number: Annotated[int | None, range(4_096)]
     line: bytes
 
 
 @dataclass(frozen=True, slots=True)
 class LeftOut:
-    """An event that a mend leaves out beside the one that it names. `row` is the event's own."""
+    """An event that a mend leaves out beside the one that it names. `row` is the event's own; that
+    of an event past the last line that a number of ten digits names is 0."""
 
-    row: int
-    reporter: int
-    match: int
-    event: str
-    code: int
-    name: str
+    row: Annotated[int, range(LAST_ROW + 1)]
+    reporter: Reporter
+    match: Annotated[int, range(1, 13)]
+    event: Annotated[str, EVENTS]
+    code: Annotated[int, range(1, 1_000)]
+    name: Annotated[str, _NAME]
     line: bytes
 
     def __str__(self) -> str:
@@ -135,11 +155,12 @@ class LeftOut:
 class Mended:
     """A mend or a club that was taken: a new edition. `without` is the row that it names."""
 
-    row: int
+    row: Line
     title: Title
-    version: int
-    left_out: int
-    without: int | None
+    version: Version
+    words: Words
+    left_out: Version
+    without: Annotated[int | None, range(1, LAST_ROW + 1)]
     line: bytes
 
 
@@ -147,22 +168,25 @@ class Mended:
 class Other:
     """An answer that says nothing new: of `words,,,` or `matches,,,`."""
 
-    row: int
-    reply: str
+    row: Line
     line: bytes
 
 
 @dataclass(frozen=True, slots=True)
 class Notice:
-    """What the board behind a broker tells a reporter beside its answers. `text` is printable."""
+    """What the board behind a broker tells a reporter beside its answers, of no row."""
 
-    reporter: int
-    text: str
+    reporter: Reporter
+    text: Annotated[str, _ANY]
     line: bytes
     row: int = 0
 
 
 Answer = Notice | Moment | Accepted | Refused | LeftOut | Mended | Other
+KINDS: dict[str, type[Answer]] = {
+    **{"screen": Moment, "ok": Accepted, "refused": Refused, "left-out": LeftOut},
+    **{"mended": Mended, "notice": Notice, "words": Other, "matches": Other},
+}
 
 
 @dataclass(frozen=True, slots=True)

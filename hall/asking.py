@@ -1,6 +1,7 @@
 """One run of `ucl_live` over some rows: what it answers to them, with no record and no listener."""
 
 import asyncio
+import contextlib
 from dataclasses import replace
 
 from hall.answers import Answer, Moment, kind_in
@@ -52,7 +53,11 @@ async def _output(program: str, rows: bytes) -> bytes:
             )
         except OSError as error:
             raise Over(f"{program}: {error.strerror}") from error
-        output, errors = await process.communicate(rows)
+        try:
+            output, errors = await process.communicate(rows)
+        finally:
+            with contextlib.suppress(ProcessLookupError):
+                process.kill()
         status = process.returncode if process.returncode is not None else -1
         if status >= 0:
             break

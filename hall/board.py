@@ -20,33 +20,33 @@ of its answer. A row that comes again with the same correlation data is answered
 marked as sent again, and that the board has, is answered as entered.
 """
 
+import hall.quiet  # noqa: F401, first of all
+
 import asyncio
+import contextlib
 import json
 import os
 import sys
 import time
 from collections import OrderedDict
-from collections.abc import Callable, Mapping
-from typing import TextIO
+from collections.abc import AsyncIterator
 
 from hall import topics
 from hall.address import Address
-from hall.answers import Answer, Moment, Reply
+from hall.answers import Moment, Reply
 from hall.beginning import begin, rows_of_file
 from hall.broker import Broker, Message
-from hall.faults import Dropped, Fault, NotEntered, Over
+from hall.faults import Dropped, Fault, Over
+from hall.lines import line_of
 from hall.printable import printable
 from hall.programs import live_program
 from hall.record import Record
-from hall.requests import People, Request, request_of
-from hall.running import locked, until_ended
+from hall.requests import MINUTE, People, Request, request_of
+from hall.running import ending, locked, until_ended
 
-# How many answers are kept for rows that come again, and how many rows may wait.
-ANSWERS, WAITING = 10_000, 10_000
-# For how long, in seconds, it is not told again that something is passed over.
-MINUTE = 60.0
-# For how long a broker keeps rows for a board that is down, in seconds.
-SESSION = 7 * 86_400
+# How many answers are kept for rows that come again, how many rows may wait, and for how many
+# seconds a broker keeps rows for a board that is down.
+ANSWERS, WAITING, SESSION = 10_000, 10_000, 7 * 86_400
 
 
 class Board:
@@ -54,12 +54,6 @@ class Board:
 
     def __init__(self, group: str, record: Record, broker: Broker) -> None:
         self.group, self.record, self.broker = group, record, broker
-        # Where is told what is passed over; rows that came; the newest answer; when a screen was
-        # put on the desk.
-        self.log: TextIO = sys.stderr
-        self.rows, self.passed_over = 0, 0
-        self.newest: Answer | None = None
-        self.shown_at = 0.0
         self._heard: asyncio.Queue[Request] = asyncio.Queue(WAITING)
         # Correlation data of rows that wait, by their lines in the record once they are written;
         # what was answered; who types.
@@ -67,24 +61,22 @@ class Board:
         self._asked: dict[int, bytes] = {}
         self._answered: OrderedDict[bytes, list[bytes]] = OrderedDict()
         self._people = People()
-        self._told, self._uncounted = 0.0, 0
-        self._due = 0.0
+        # What was passed over since that was told; when a screen is due again.
+        self._told, self._passed_over, self._due = 0.0, 0, 0.0
         broker.heard, broker.connected, broker.told = self._hear, self._show, self._tell
         record.listen(self._answer)
 
     async def run(self) -> None:
         """Runs until the record can be followed no more, and raises that fault."""
         await self.record.ready()
-        tasks = [asyncio.create_task(self._work()), asyncio.create_task(self._pulse())]
         try:
-            await asyncio.wait({*tasks, self.record.over}, return_when=asyncio.FIRST_COMPLETED)
-            for task in (self.record.over, *tasks):
-                if task.done():
-                    task.result()
-        finally:
-            for task in tasks:
-                task.cancel()
-            await asyncio.gather(*tasks, return_exceptions=True)
+            async with asyncio.TaskGroup() as tasks:
+                tasks.create_task(self._work())
+                tasks.create_task(self._pulse())
+                await asyncio.wait([self.record.over])
+                self.record.over.result()
+        except ExceptionGroup as faults:
+            raise faults.exceptions[0] from faults
 
     # ---- what comes
 
@@ -99,10 +91,8 @@ class Board:
             self._pass_over("too much waits", message)
         else:
             if self._people.are_two(request):
-                text = f"two people type as reporter {request.reporter}"
-                self._notice(request.reporter, text)
+                self._notice(request.reporter, f"two people type as reporter {request.reporter}")
             self._heard.put_nowait(request)
-            self.rows += 1
 
     async def _work(self) -> None:
         """Appends what has come, all of it by one write."""
@@ -118,42 +108,36 @@ class Board:
     def _is_new(self, request: Request) -> bool:
         """Whether a row is to be judged: one that was, or is, is answered by its answer."""
         correlation = request.correlation
-        if correlation is not None:
-            if correlation in self._pending:
-                return False
-            if correlation in self._answered:
-                self._publish(self._answered[correlation], correlation)
-                return False
-        if request.is_again and self.record.has(request.reporter, request.row):
-            self._publish([self._entered(request)], correlation)
+        if correlation in self._pending:
             return False
-        if correlation is not None:
+        known = self._answered.get(correlation or b"", [])
+        if not known and request.is_again and self.record.has(request.reporter, request.row):
+            known = [self._entered(request)]
+        self._publish(known, correlation)
+        if correlation is not None and not known:
             self._pending.add(correlation)
-        return True
+        return not known
 
     async def _enter(self, requests: list[Request], edition: int) -> None:
         rows = [it.row.line(it.reporter) for it in requests]
 
         def written(first: int) -> None:
-            for number, request in enumerate(requests, first):
-                if request.correlation is not None:
-                    self._asked[number] = request.correlation
+            places = enumerate(requests, first)
+            self._asked.update({at: it.correlation for at, it in places if it.correlation})
 
         try:
             await self.record.append(rows, edition, written)
         except Dropped:
             self._pass_over("of an edition that is over", None)
-        except (NotEntered, Over) as fault:
+        except Fault as fault:
             for reporter in {it.reporter for it in requests}:
                 self._notice(reporter, str(fault))
         finally:
             self._pending.difference_update(it.correlation for it in requests if it.correlation)
 
-    # ---- what is told
-
     def _answer(self, reply: Reply) -> None:
         """Tells what was answered to a row, and the screen after it."""
-        correlation, self.newest = self._asked.pop(reply.row, None), reply.answer
+        correlation = self._asked.pop(reply.row, None)
         if not isinstance(reply.answer, Moment):
             lines = [*(event.line for event in reply.left_out), reply.answer.line]
             if correlation is not None:
@@ -165,108 +149,89 @@ class Board:
             self._show()
 
     def _publish(self, lines: list[bytes], correlation: bytes | None) -> None:
-        for line in lines:
-            self.broker.publish(topics.answers(self.group), line, correlation=correlation)
+        for it in lines:
+            self.broker.publish(topics.answers(self.group), it, correlation=correlation)
 
-    def _show(self) -> None:
-        """Puts the newest screen on the desk."""
-        self._put(self.record.moment.line)
+    def _show(self, **more: int) -> None:
+        """Puts the newest screen on the desk, with these members more."""
+        self._due, line = time.monotonic() + topics.PULSE, self.record.moment.line
+        if more:
+            line = line_of(**{**json.loads(line), **more})
+        self.broker.publish(topics.desk(self.group), line, is_kept=True)
 
     async def _pulse(self) -> None:
         """Puts the last screen on the desk again where none comes."""
         while True:
             await asyncio.sleep(max(0.05, self._due - time.monotonic()))
             if time.monotonic() >= self._due:
-                members = {**json.loads(self.record.moment.line), "pulse": int(time.time())}
-                self._put(line_of(members))
-
-    def _put(self, line: bytes) -> None:
-        now = time.monotonic()
-        self._due = now + topics.PULSE
-        if self.broker.publish(topics.desk(self.group), line, is_kept=True):
-            self.shown_at = now
+                self._show(pulse=int(time.time()))
 
     def _entered(self, request: Request) -> bytes:
         """The answer to a row that the board has: it is entered, and the board is as it stands."""
         event = self.record.events(request.row.match)[request.row.expected]
-        stands = json.loads(self.record.moment.line)
-        names = ("group", "order", "edition", "clubs", "words", "version")
-        return line_of(
-            {
-                **{name: stands[name] for name in names},
-                "reply": "ok",
-                "row": event.row,
-                "reporter": request.reporter,
-                "match": request.row.match,
-                "expected": request.row.expected,
-                "event": request.row.event,
-                "number": request.row.expected + 1,
-            }
-        )
+        stands, row = json.loads(self.record.moment.line), request.row
+        members = {
+            it: stands[it] for it in ("group", "order", "edition", "clubs", "words", "version")
+        }
+        members |= {"match": row.match, "expected": row.expected, "number": row.expected + 1}
+        members |= {"event": row.event, "reporter": request.reporter}
+        return line_of("ok", row=event.row, **members)
 
     def _notice(self, reporter: int, text: str) -> None:
-        members = {"reply": "notice", "reporter": reporter, "text": text}
-        self._publish([line_of(members)], None)
+        self._publish([line_of("notice", reporter=reporter, text=text)], None)
         self._tell(text)
 
     def _pass_over(self, why: str, message: Message | None) -> None:
         """Counts what is passed over, and tells of it once a minute at most."""
-        self.passed_over += 1
-        self._uncounted += 1
+        self._passed_over += 1
         if time.monotonic() - self._told >= MINUTE or not self._told:
             self._told = time.monotonic()
-            what = "" if message is None else f" on {printable(message.topic, 80)}: "
-            what += "" if message is None else printable(message.payload, 80)
-            self._tell(f"passed over {self._uncounted}, the last {why}{what}")
-            self._uncounted = 0
+            if message is not None:
+                why += f" on {printable(message.topic, 80)}: {printable(message.payload, 80)}"
+            self._tell(f"passed over {self._passed_over}, the last {why}")
+            self._passed_over = 0
 
     def _tell(self, text: str) -> None:
-        print(f"board {self.group}: {printable(text)}", file=self.log, flush=True)
+        print(f"board {self.group}: {printable(text)}", file=sys.stderr, flush=True)
 
 
-def _nothing(_: Board) -> None:
-    pass
+@contextlib.asynccontextmanager
+async def held(record: Record, address: Address) -> AsyncIterator[asyncio.Task[None]]:
+    """Holds the board of a record's group behind a broker, by a task that ends with the block.
 
-
-def line_of(members: Mapping[str, object]) -> bytes:
-    """A line of JSON as `ucl_live` writes it: no blanks, members in the order of their names."""
-    return json.dumps(members, sort_keys=True, separators=(",", ":")).encode()
-
-
-async def hold(
-    group: str, clubs: str | None, address: Address, begun: Callable[[Board], None] | None = None
-) -> None:
-    """Opens the record of a group in this folder, begins it where it is not there, and runs its
-    board, which `begun` gets; all under the lock of the group.
-
-    Raises Over or OSError where that does not go, or goes on no more.
+    Raises Over where another board of the group runs beside the record, and what `Broker.open`
+    raises.
     """
-    with locked(f"{group}.lock", f"board of group {group}"):
-        await _hold(group, clubs, address, begun or _nothing)
+    group = record.moment.title.group.lower()
+    path = os.path.join(os.path.dirname(record.path), f"{group}.lock")
+    with locked(path, f"board of group {group}"):
+        broker = Broker(address, f"board-{group}", [topics.all_rows(group)])
+        board = Board(group, record, broker)
+        broker.open(topics.ROWS, session=SESSION)
+        task = asyncio.create_task(board.run())
+        try:
+            yield task
+        finally:
+            task.cancel()
+            await asyncio.gather(task, return_exceptions=True)
+            await broker.close()
 
 
-async def _hold(
-    group: str, clubs: str | None, address: Address, begun: Callable[[Board], None]
-) -> None:
-    path, program = f"{group}.rows", live_program()
+async def hold(group: str, clubs: str | None) -> int:
+    """Opens the record of a group in this folder, begins it where it is not there, and runs its
+    board until that raises why it can go on no more."""
+    path, program, address = f"{group}.rows", live_program(), Address.own()
     if not os.path.exists(path):
         if clubs is None:
             raise Over(f"there is no record {path}: name a file of clubs")
         await begin(path, program, rows_of_file(clubs, group.upper(), "uefa"))
-    record = await Record.open(path, program, is_durable=True)
-    try:
+    async with contextlib.AsyncExitStack() as stack:
+        record = await Record.open(path, program, is_durable=True)
+        stack.push_async_callback(record.close)
         if record.moment.title.group != group.upper():
             raise Over(f"{path} is a record of group {record.moment.title.group}")
-        broker = Broker(address, f"board-{group}", [topics.all_rows(group)])
-        board = Board(group, record, broker)
-        begun(board)
-        broker.open(topics.ROWS, session=SESSION)
-        try:
-            await board.run()
-        finally:
-            await broker.close()
-    finally:
-        await record.close()
+        await (await stack.enter_async_context(held(record, address)))
+    return 1
 
 
 def main() -> None:
@@ -276,17 +241,8 @@ def main() -> None:
         is_asked = words in (["-h"], ["--help"])
         print((__doc__ or "").strip(), file=sys.stdout if is_asked else sys.stderr)
         sys.exit(0 if is_asked else 2)
-    group, clubs = words[0], words[1] if len(words) > 1 else None
-    try:
-        asyncio.run(until_ended(hold(group, clubs, Address.own())))
-    except asyncio.CancelledError:
-        sys.exit(130)
-    except OSError as fault:
-        sys.exit(
-            f"board: {fault.filename}: {fault.strerror}" if fault.filename else f"board: {fault}"
-        )
-    except Fault as fault:
-        sys.exit(f"board: {fault}")
+    with ending("board"):
+        sys.exit(asyncio.run(until_ended(hold(words[0], words[1] if len(words) > 1 else None))))
 
 
 if __name__ == "__main__":

@@ -160,7 +160,7 @@ class Broker:
         except Exception:  # pylint: disable=broad-except
             self.passed_over += 1
             return
-        self._in_loop(self._hear, heard)
+        self._in_loop(self.heard, heard)
 
     def _watch_refusals(self) -> None:
         """Has `refused` called where the answer to a message is a refusal, which paho hides."""
@@ -182,9 +182,6 @@ class Broker:
 
     def _disconnect(self) -> None:
         self.is_connected = False
-
-    def _hear(self, message: Message) -> None:
-        self.heard(message)
 
     def _refuse(self, mid: int) -> None:
         correlation = self._sent.pop(mid, None)

@@ -7,6 +7,7 @@ sent again, marked as such. An accepted event counts with a screen that has it.
 
 import asyncio
 import secrets
+from collections import deque
 from collections.abc import Callable, Sequence
 
 from hall import topics
@@ -18,8 +19,10 @@ from hall.history import Event
 from hall.lines import NoAnswer, answer_of
 from hall.live import Listener
 from hall.outbox import Outbox, Waiting
+from hall.printable import printable
 from hall.rows import Row
 
+Told = Callable[[str], None]
 # How long a broker keeps answers, in seconds.
 SESSION = 60
 
@@ -30,11 +33,8 @@ class Desk:
     What is amiss goes where `tell_to` says.
     """
 
-    def __init__(
-        self, group: str, own: int, again: float, limit: float | None, address: Address
-    ) -> None:
+    def __init__(self, group: str, own: int, again: float, limit: float | None, told: Told) -> None:
         self.group, self.own = group, own
-        self._told: Callable[[str], None] = _nothing
         loop = asyncio.get_running_loop()
         self.over: asyncio.Future[None] = loop.create_future()
         self.passed_over = 0
@@ -43,32 +43,26 @@ class Desk:
         self._listeners: list[Listener] = []
         self._events: dict[Row, Event] = {}
         # Answers that count with a screen that is not here yet; events that a mend leaves out.
-        self._held: list[tuple[Accepted | Refused, Waiting | None]] = []
-        self._left_out: list[LeftOut] = []
+        self._held: deque[tuple[Accepted | Refused, Waiting | None]] = deque(maxlen=1_000)
+        self._left_out: deque[LeftOut] = deque(maxlen=4_096)
         self._last, token = "", secrets.token_hex(8)
         heard = [topics.desk(group), topics.answers(group)]
-        self._broker = Broker(address, f"ucl-{token}", heard)
+        self._broker = Broker(Address.own(), f"ucl-{token}", heard)
         self._outbox = Outbox(self._broker, token, group, own, again, limit)
         self._broker.heard, self._broker.connected = self._hear, self._connect
         self._broker.told, self._broker.refused = self._tell, self._outbox.refuse
         self._task: asyncio.Task[None] | None = None
+        self.tell_to(told)
 
     @classmethod
     async def open(
-        cls,
-        group: str,
-        own: int,
-        again: float,
-        limit: float | None,
-        told: Callable[[str], None],
-        address: Address | None = None,
+        cls, group: str, own: int, again: float, limit: float | None, told: Told
     ) -> "Desk":
-        """Connects, and waits for a table. Without an address it is that of mosquitto_sub.
+        """Connects, and waits for a table. The file of mosquitto_sub says where the broker is.
 
         Raises Over where none has come within the limit, if there is one.
         """
-        desk = cls(group, own, again, limit, address or Address.own())
-        desk.tell_to(told)
+        desk = cls(group, own, again, limit, told)
         desk._broker.open(topics.DESK, session=SESSION)
         desk._task = asyncio.create_task(desk._outbox.look())
         try:
@@ -99,7 +93,7 @@ class Desk:
         self._listeners.append(listener)
         return lambda: self._listeners.remove(listener)
 
-    def tell_to(self, told: Callable[[str], None]) -> None:
+    def tell_to(self, told: Told) -> None:
         """Has what is amiss told there, in a line."""
         self._told = self._outbox.told = told
 
@@ -167,7 +161,8 @@ class Desk:
             self._left_out.clear()
             self._held.clear()
             self._outbox.drop(moment.edition)
-        held, self._held = self._held, []
+        held = [*self._held]
+        self._held.clear()
         for answer, mine in held:
             self._decide(answer, mine)
         if before is None or moment.age > before.age:
@@ -176,28 +171,27 @@ class Desk:
     def _take(self, answer: Answer, correlation: bytes | None) -> None:
         if isinstance(answer, Notice):
             if answer.reporter == self.own:
-                self._tell(answer.text)
+                self._tell(printable(answer.text))
         elif isinstance(answer, LeftOut):
-            self._left_out = [*self._left_out[-4_095:], answer]
+            self._left_out.append(answer)
         elif isinstance(answer, Mended):
-            left_out, self._left_out = tuple(self._left_out), []
-            self._call(Reply(answer, None, left_out))
+            self._call(Reply(answer, None, tuple(self._left_out)))
+            self._left_out.clear()
         elif isinstance(answer, Accepted | Refused):
             self._decide(answer, self._outbox.answered(answer, correlation))
 
     def _decide(self, answer: Accepted | Refused, mine: Waiting | None) -> None:
         """Hands an answer on, or holds it until a screen is here that has what it says."""
         if isinstance(answer, Accepted):
-            age = answer.title.edition, answer.version
-            if age > self.moment.age:
-                self._hold(answer, mine)
+            if answer.age > self.moment.age:
+                self._held.append((answer, mine))
                 return
             if answer.title.edition == self.moment.edition:
                 row = answer.event
                 self._events[row] = Event(answer.row, answer.reporter, row.match, row.event)
-        elif mine is not None and answer.found is not None:
-            if answer.found > self.moment.match(mine.row.match).number:
-                self._hold(answer, mine)
+        elif mine is not None and answer.number is not None:
+            if answer.number > self.moment.match(mine.row.match).number:
+                self._held.append((answer, mine))
                 return
             if self._outbox.ask_anew(mine):
                 return
@@ -205,9 +199,6 @@ class Desk:
         if mine is not None and not mine.reply.done():
             mine.reply.set_result(reply)
         self._call(reply)
-
-    def _hold(self, answer: Accepted | Refused, mine: Waiting | None) -> None:
-        self._held = [*self._held[-1_000:], (answer, mine)]
 
     def _call(self, reply: Reply) -> None:
         for listener in [*self._listeners]:
@@ -227,7 +218,3 @@ class Desk:
 
 def _expected(row: Row) -> int:
     return row.expected
-
-
-def _nothing(_: str) -> None:
-    pass

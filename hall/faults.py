@@ -17,7 +17,9 @@ class MaybeEntered(Fault):
 
 
 class Over(Fault):
-    """The program can not go on."""
+    """The program can not go on, and ends with this status."""
+
+    status = 1
 
 
 class Dropped(NotEntered):

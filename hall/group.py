@@ -3,12 +3,12 @@
 from collections.abc import Iterable, Mapping
 
 from hall.answers import Moment, Reply
-from hall.faults import Fault
 from hall.history import Event
-from hall.keys import Keys, is_key
+from hall.keys import is_key
+from hall.lines import line_of
 from hall.record import Record
 from hall.rows import MATCHES
-from hall.screens import Screen, Screens, frame_of, line_of
+from hall.screens import Screen, Screens, frame_of
 from hall.taps import Reporter
 
 # How many events a phone lists.
@@ -16,20 +16,17 @@ RECENT = 10
 
 
 class Group:
-    """The board of a record, with those who look on. Screens may be of several groups.
-
-    `keys` are those of the reporters, if there are any.
-    """
+    """The board of a record, with those who look on. Screens may be of several groups."""
 
     def __init__(
         self,
         record: Record,
-        keys: Keys | None,
+        keys: Mapping[int, str],
         reporters: Mapping[int, Iterable[int]],
         screens: Screens,
     ) -> None:
         self.record = record
-        self.keys = {} if keys is None else keys.of
+        self.keys = keys
         self.letter = record.moment.title.group
         self.phones = Screens()
         self.fault = ""
@@ -89,10 +86,6 @@ class Group:
             "reporters": len(self.phones),
             "fault": self.fault,
         }
-
-    def fail(self, fault: BaseException | None) -> None:
-        """Notes why the record is followed no more."""
-        self.fault = str(fault) if isinstance(fault, (Fault, OSError)) else repr(fault)
 
     def _tell(self, reply: Reply) -> None:
         """Sends what a row has changed."""

@@ -5,59 +5,47 @@ lines of one number the later counts, so the file only grows. Who serves the rec
 of this file (`flock`): a record is served once.
 """
 
+import contextlib
 import fcntl
 import hmac
 import os
 import re
 import secrets
 import stat
-from collections.abc import Iterable
+from collections.abc import Iterable, Iterator
 
 from hall.faults import Over
 
 _LINE = re.compile(r"^([0-9]{1,3}) ([0-9a-f]{32})$", re.MULTILINE)
 
 
-class Keys:
-    """The keys of a record that is served, and the lock of its file. `held` makes one."""
+@contextlib.contextmanager
+def held(record: str, numbers: Iterable[int], *, are_new: bool) -> Iterator[dict[int, str]]:
+    """Holds the keys of a record that is served, by the numbers of reporters, until the block ends.
 
-    def __init__(self, path: str, file: int) -> None:
-        self.path, self._file = path, file
-        self.of: dict[int, str] = {}
-
-    @classmethod
-    def held(cls, record: str, numbers: Iterable[int], *, are_new: bool = False) -> "Keys":
-        """Takes the lock, and makes keys for the reporters that have none, or for all that are
-        named.
-
-        Raises Over where another program serves the record, or others can read the file, and
-        OSError where it can not be opened or written.
-        """
-        path = f"{record}.keys"
-        flags = os.O_RDWR | os.O_APPEND | os.O_CREAT | os.O_NOFOLLOW | os.O_CLOEXEC
-        keys = cls(path, os.open(path, flags, 0o600))
+    Makes keys for the reporters that have none, or for all that are named. Raises Over where
+    another program serves the record, or others can read the file, and OSError where it can not be
+    opened or written.
+    """
+    path = f"{record}.keys"
+    flags = os.O_RDWR | os.O_APPEND | os.O_CREAT | os.O_NOFOLLOW | os.O_CLOEXEC
+    file = os.open(path, flags, 0o600)
+    try:
         try:
-            fcntl.flock(keys._file, fcntl.LOCK_EX | fcntl.LOCK_NB)
-            known = _read(keys._file, path)
-            wanted = {number for number in numbers if are_new or number not in known}
-            made = {number: secrets.token_hex(16) for number in sorted(wanted)}
-            if made:
-                lines = "".join(f"{number} {key}\n" for number, key in made.items())
-                # A line that was cut off ends before the new ones.
-                os.write(keys._file, f"\n{lines}".encode())
-                os.fsync(keys._file)
-            keys.of = {**known, **made}
+            fcntl.flock(file, fcntl.LOCK_EX | fcntl.LOCK_NB)
         except BlockingIOError as error:
-            keys.close()
             raise Over(f"{record} is served already") from error
-        except BaseException:
-            keys.close()
-            raise
-        return keys
-
-    def close(self) -> None:
-        """Gives the lock back."""
-        os.close(self._file)
+        known = _read(file, path)
+        wanted = sorted({number for number in numbers if are_new or number not in known})
+        made = {number: secrets.token_hex(16) for number in wanted}
+        if made:
+            lines = "".join(f"{number} {key}\n" for number, key in made.items())
+            # A line that was cut off ends before the new ones.
+            os.write(file, f"\n{lines}".encode())
+            os.fsync(file)
+        yield {**known, **made}
+    finally:
+        os.close(file)
 
 
 def keys_of(record: str) -> dict[int, str]:

@@ -1,25 +1,25 @@
-"""Lines of JSON, validated here and nowhere else.
+"""Lines of JSON, validated here and nowhere else, by what `hall.answers` says of their members.
 
-`answer_of` turns a line into one of the answers of `hall.answers`, or raises `NoAnswer`. Lines of
-the own `ucl_live` and lines that come of a broker go through it alike.
+Lines of the own `ucl_live` and lines that come of a broker go through it alike.
 """
 
+import dataclasses
+import functools
 import json
-from collections.abc import Sequence
+import re
+from collections.abc import Callable, Mapping, Sequence
+from typing import Any, get_args, get_origin, get_type_hints
 
-from hall.answers import Accepted, Answer, LeftOut, Match, Mended, Moment, Notice, Other, Place
-from hall.answers import Refused, Reply
-from hall.members import Members, NoAnswer
-from hall.printable import printable
-from hall.rows import EVENTS, LAST_ROW
+from hall.answers import KINDS, Answer, LeftOut, Moment, Notice, Reply
 
-__all__ = ["LONGEST_LINE", "NoAnswer", "answer_of", "reply_of"]
 # The most bytes of a line that is read at all.
 LONGEST_LINE = 8_192
-STATES = ("SCHEDULED", "IN PLAY", "FINISHED")
-MARKS = ("", "+", "-")
-# Answers that say nothing that is used here.
-OTHERS = ("words", "matches")
+Said = Mapping[str, object]
+Read = Callable[[Said], Any]
+
+
+class NoAnswer(ValueError):
+    """A line that is no answer, and why."""
 
 
 def answer_of(line: bytes) -> Answer:
@@ -34,26 +34,22 @@ def answer_of(line: bytes) -> Answer:
         said = json.loads(line)
     except (ValueError, RecursionError) as error:
         raise NoAnswer("it is no JSON") from error
-    if not isinstance(said, dict):
-        raise NoAnswer("it is no object")
-    members = Members(said)
-    reply = members.text("reply")
-    if reply == "screen":
-        return _moment(members, line)
-    if reply == "ok":
-        return _accepted(members, line)
-    if reply == "refused":
-        return _refused(members, line)
-    if reply == "left-out":
-        return _left_out(members, line)
-    if reply == "mended":
-        return _mended(members, line)
-    if reply == "notice":
-        text = printable(members.text("text"))
-        return Notice(members.whole("reporter", 1, 255), text, line)
-    if reply in OTHERS:
-        return Other(members.row(), reply, line)
-    raise NoAnswer("its reply is no known one")
+    reply = said.get("reply") if isinstance(said, dict) else None
+    if not isinstance(reply, str) or reply not in KINDS:
+        raise NoAnswer("it is no known reply")
+    kind: Any = KINDS[reply]
+    answer: Answer = kind(*[read(said) for read in _readers(kind)], line)
+    if isinstance(answer, Moment):
+        numbers = [it.match for it in answer.matches] + [it.place for it in answer.table]
+        if numbers != [*range(1, 13), *range(1, 5)]:
+            raise NoAnswer("its parts are in another order")
+    return answer
+
+
+def line_of(reply: str, **members: object) -> bytes:
+    """A line of our own, in JSON as `ucl_live` writes it, with no line end."""
+    said: dict[str, object] = {"reply": reply, **members}
+    return json.dumps(said, sort_keys=True, separators=(",", ":")).encode()
 
 
 def reply_of(answers: Sequence[Answer]) -> Reply:
@@ -70,95 +66,59 @@ def reply_of(answers: Sequence[Answer]) -> Reply:
     return Reply(first, screen, left_out)
 
 
-def _match(said: Members, number: int) -> Match:
-    return Match(
-        said.whole("match", number, number),
-        said.whole("number", 0, 4_095),
-        said.whole("reporter", 0, 255),
-        said.one_of("state", STATES),
-        said.pair("score"),
-        said.pair("yellows"),
-        said.pair("expulsions"),
-    )
+@functools.cache
+def _readers(kind: Any) -> list[Read]:
+    """How the members of a kind of object are read, each from the object that it stands in."""
+    hints = get_type_hints(kind, include_extras=True)
+    readers = [_reader(name, hint) for name, hint in hints.items()]
+    return [read for read in readers if read is not None]
 
 
-def _place(said: Members, place: int) -> Place:
-    return Place(
-        said.whole("place", place, place),
-        said.one_of("mark", MARKS),
-        said.whole("slot", 1, 4),
-        said.name_of_club(),
-        said.whole("played", 0, 6),
-        said.whole("won", 0, 6),
-        said.whole("drawn", 0, 6),
-        said.whole("lost", 0, 6),
-        said.whole("goals_for", 0, 378),
-        said.whole("goals_against", 0, 378),
-        said.whole("goal_difference", -378, 378),
-        said.whole("points", 0, 18),
-    )
+def _part_of(kind: Any, said: Said) -> Any:
+    return kind(*[read(said) for read in _readers(kind)])
 
 
-def _moment(said: Members, line: bytes) -> Moment:
-    said.check_words()
-    return Moment(
-        said.row(),
-        said.title(),
-        said.whole("version", 0, 49_140),
-        said.whole("in_play", 0, 12),
-        tuple(_match(part, number) for number, part in enumerate(said.parts("matches", 12), 1)),
-        tuple(_place(part, place) for place, part in enumerate(said.parts("table", 4), 1)),
-        said.whole("pulse", 0, 1 << 40) if "pulse" in said else None,
-        line,
-    )
+def _reader(name: str, hint: Any) -> Read | None:
+    """How a member is read; None where an answer has it of itself."""
+    allowed: tuple[Any, ...] = getattr(hint, "__metadata__", ())
+    types = get_args(hint)
+    if not allowed:
+        kind = types[0] if types else hint
+        if not dataclasses.is_dataclass(kind):
+            return None
+        # The members of an object may stand beside those of what it is in.
+        return lambda said: _part_of(kind, said) if name in said or not types else None
+    inner = get_args(types[0])
+    if get_origin(types[0]) is tuple:
+        part: Callable[[Any], Any] = functools.partial(_part, inner[0])
+        each = part if len(allowed) == 1 else _check(name, allowed[1])
+        return lambda said: tuple(map(each, _list(said.get(name), name, allowed[0])))
+    check = _check(name, allowed[0])
+    if type(None) in inner:
+        return lambda said: check(said[name]) if name in said else None
+    return lambda said: check(said.get(name))
 
 
-def _accepted(said: Members, line: bytes) -> Accepted:
-    said.check_words()
-    return Accepted(
-        said.row(),
-        said.whole("reporter", 1, 255),
-        said.event(),
-        said.whole("number", 1, 4_095),
-        said.whole("version", 1, 49_140),
-        said.title(),
-        line,
-    )
+def _part(kind: Any, said: object) -> Any:
+    if not isinstance(said, dict):
+        raise NoAnswer("a part is no object")
+    return _part_of(kind, said)
 
 
-def _refused(said: Members, line: bytes) -> Refused:
-    is_event = "event" in said
-    return Refused(
-        said.row(),
-        said.whole("code", 1, 999),
-        said.word("name"),
-        said.whole("reporter", 1, 255) if is_event else None,
-        said.event() if is_event else None,
-        said.whole("number", 0, 4_095) if "number" in said else None,
-        line,
-    )
+def _list(value: object, name: str, count: int) -> list[object]:
+    if not isinstance(value, list) or len(value) != count:
+        raise NoAnswer(f"{name} has not {count} parts")
+    return value
 
 
-def _left_out(said: Members, line: bytes) -> LeftOut:
-    return LeftOut(
-        # An event past the last line that a number of ten digits names has row 0.
-        said.whole("row", 0, LAST_ROW),
-        said.whole("reporter", 1, 255),
-        said.whole("match", 1, 12),
-        said.one_of("event", EVENTS),
-        said.whole("code", 1, 999),
-        said.word("name"),
-        line,
-    )
+def _check(name: str, allowed: Any) -> Callable[[object], object]:
+    """Gives a value that is in a range, has a pattern, or is one of some texts."""
+    type_ = int if isinstance(allowed, range) else str
+    is_in = allowed.fullmatch if isinstance(allowed, re.Pattern) else allowed.__contains__
 
+    def checked(value: object) -> object:
+        if type(value) is not type_ or not is_in(value):
+            raise NoAnswer(f"{name} is not as it may be")
+        return value
 
-def _mended(said: Members, line: bytes) -> Mended:
-    said.check_words()
-    return Mended(
-        said.row(),
-        said.title(),
-        said.whole("version", 0, 49_140),
-        said.whole("left_out", 0, 49_140),
-        said.whole("without", 1, LAST_ROW) if "without" in said else None,
-        line,
-    )
+    return checked

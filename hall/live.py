@@ -57,7 +57,7 @@ class Live:
         Raises Over where the program can not be started.
         """
         await self._launch()
-        self._task = asyncio.create_task(self._supervise())
+        self._task = asyncio.create_task(self._run())
 
     def feed(self, lines: bytes) -> None:
         """Hands whole lines to the child, which `whole` has by now too."""
@@ -105,14 +105,15 @@ class Live:
 
     async def end(self) -> None:
         """Ends the child."""
-        if self._task is not None:
-            self._task.cancel()
-            with contextlib.suppress(asyncio.CancelledError):
-                await self._task
-        if self._process is not None:
-            with contextlib.suppress(ProcessLookupError):
-                self._process.kill()
-            await self._process.wait()
+        try:
+            if self._task is not None:
+                self._task.cancel()
+                await asyncio.gather(self._task, return_exceptions=True)
+        finally:
+            if self._process is not None:
+                with contextlib.suppress(ProcessLookupError):
+                    self._process.kill()
+                await self._process.wait()
 
     async def _launch(self) -> None:
         pipe = asyncio.subprocess.PIPE
@@ -126,6 +127,12 @@ class Live:
         self._begun = []
         self.feed(self._whole())
 
+    async def _run(self) -> None:
+        try:
+            await self._supervise()
+        except Exception as fault:  # whatever it is, who waits has to know
+            self.fail(fault)
+
     async def _supervise(self) -> None:
         starts, reached = 0, self.row
         while not self.over.done():
@@ -137,17 +144,15 @@ class Live:
             reached = self.row
             if status >= 0:
                 why = printable(errors.strip()) or f"it has ended with status {status}"
-                self._end(Over(f"ucl_live: {why}"))
+                self.fail(Over(f"ucl_live: {why}"))
             elif starts >= MOST_STARTS:
-                self._end(Over(f"ucl_live is killed by signal {-status} again and again"))
+                self.fail(Over(f"ucl_live is killed by signal {-status} again and again"))
             else:
                 await asyncio.sleep(PAUSE)
-                try:
-                    await self._launch()
-                except Over as fault:
-                    self._end(fault)
+                await self._launch()
 
-    def _end(self, fault: Over) -> None:
+    def fail(self, fault: Exception) -> None:
+        """Tells all who wait that it can go on no more."""
         if not self.over.done():
             self.over.set_exception(fault)
             self.over.exception()

@@ -25,7 +25,6 @@ a crash, and on the next matchday, type the same line again: the links stay.
 import argparse
 import os
 from collections.abc import Sequence
-from dataclasses import dataclass
 from urllib.parse import urlsplit
 
 from hall.printable import printable
@@ -34,22 +33,21 @@ from hall.rows import GROUPS, MATCHES, ORDERS, REPORTERS, number_in
 Matches = tuple[int, ...]
 
 
-@dataclass(frozen=True, slots=True)
-class Options:
-    """What the command line says. `reporters` has the matches of each number."""
+class Options(argparse.Namespace):
+    """What the command line says. `reporters` has the matches of each number, `groups` the letters
+    of the records that are begun."""
 
-    records: tuple[str, ...]
-    host: str
-    port: int
+    records: list[str]
+    listen: tuple[str, int]
     url: str | None
     reporters: dict[int, Matches]
     title: str
     certificate: str | None
     key: str | None
     most_screens: int
-    has_new_keys: bool
-    has_links: bool
-    clubs: tuple[str, ...]
+    new_keys: bool
+    links: bool
+    clubs: list[str]
     groups: str
     order: str
     broker: str | None
@@ -68,10 +66,10 @@ class _Parser(argparse.ArgumentParser):
 def options_of(words: Sequence[str]) -> Options:
     """The options that a command line says; ends the program with status 2 where it says none."""
     parser = _Parser(prog="ucl_serve")
-    parser.add_argument("RECORD", nargs="+")
+    parser.add_argument("records", metavar="RECORD", nargs="+")
     parser.add_argument("--listen", type=_address, default=("127.0.0.1", 8080))
     parser.add_argument("--url", type=_url)
-    parser.add_argument("--reporter", type=_reporter, action="append", default=[])
+    parser.add_argument("--reporter", dest="reporters", type=_reporter, action="append")
     parser.add_argument("--title", default="", type=printable)
     parser.add_argument("--certificate")
     parser.add_argument("--key")
@@ -79,36 +77,20 @@ def options_of(words: Sequence[str]) -> Options:
     parser.add_argument("--new-keys", action="store_true")
     parser.add_argument("--links", action="store_true")
     parser.add_argument("--clubs", action="append", default=[])
-    parser.add_argument("--group", choices=[*GROUPS], action="append", default=[])
+    parser.add_argument("--group", dest="groups", choices=[*GROUPS], action="append")
     parser.add_argument("--order", choices=ORDERS, default="uefa")
     parser.add_argument("--broker")
-    said = parser.parse_args(words)
+    said = parser.parse_args(words, Options())
     if bool(said.certificate) != bool(said.key):
         parser.error("--certificate needs --key, and --key needs --certificate")
-    if len({os.path.realpath(path) for path in said.RECORD}) < len(said.RECORD):
+    if len({os.path.realpath(path) for path in said.records}) < len(said.records):
         parser.error("a record is named twice")
-    letters = "".join(said.group) or GROUPS[0]
-    letters += GROUPS[GROUPS.index(letters[-1]) + 1 :]
-    if len(said.clubs) > len(letters):
+    letters = "".join(said.groups or GROUPS[0])
+    said.groups = letters + GROUPS[GROUPS.index(letters[-1]) + 1 :]
+    if len(said.clubs) > len(said.groups):
         parser.error("there are no groups after H")
-    host, port = said.listen
-    return Options(
-        tuple(said.RECORD),
-        host,
-        port,
-        said.url,
-        dict(said.reporter) or {1: tuple(MATCHES)},
-        said.title,
-        said.certificate,
-        said.key,
-        said.most_screens,
-        said.new_keys,
-        said.links,
-        tuple(said.clubs),
-        letters,
-        said.order,
-        said.broker,
-    )
+    said.reporters = dict(said.reporters or {1: tuple(MATCHES)})
+    return said
 
 
 def _address(text: str) -> tuple[str, int]:

@@ -13,7 +13,8 @@ HEADERS = {
     "Server": "ucl_serve",
     "X-Content-Type-Options": "nosniff",
 }
-_NOTHING = "default-src 'none'; frame-ancestors 'none'; base-uri 'none'; form-action 'none'"
+# The policy of an answer that is no page.
+NOTHING = "default-src 'none'; frame-ancestors 'none'; base-uri 'none'; form-action 'none'"
 
 
 class Page:
@@ -22,15 +23,10 @@ class Page:
     def __init__(self, name: str) -> None:
         self.body = (FOLDER / name).read_bytes()
         self.kind = "text/html" if name.endswith(".html") else "application/json"
-        self.policy = _NOTHING
+        self.policy = NOTHING
         if self.kind == "text/html":
             parts = {part: f"{part}-src '{_sum(self.body, part)}'" for part in ("script", "style")}
-            self.policy = "; ".join([_NOTHING, *parts.values(), "connect-src 'self'"])
-
-
-def policy() -> str:
-    """The policy of an answer that is no page."""
-    return _NOTHING
+            self.policy = "; ".join([NOTHING, *parts.values(), "connect-src 'self'"])
 
 
 def _sum(body: bytes, part: str) -> str:

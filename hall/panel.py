@@ -1,11 +1,14 @@
-"""How a terminal is set out: the table and the matches, and below them the line that is typed."""
+"""How a terminal is set out: the table and the matches, and below them the line that is typed, with
+what Tab completes."""
 
 import os
 import sys
-from collections.abc import Callable
+from collections.abc import Callable, Iterable
 
 from prompt_toolkit.buffer import Buffer
+from prompt_toolkit.completion import CompleteEvent, Completer, Completion
 from prompt_toolkit.data_structures import Size
+from prompt_toolkit.document import Document
 from prompt_toolkit.filters import Condition
 from prompt_toolkit.layout import BufferControl, ConditionalContainer, Float, FloatContainer
 from prompt_toolkit.layout import FormattedTextControl, HSplit, Layout, Window
@@ -16,6 +19,7 @@ from prompt_toolkit.output.vt100 import Vt100_Output
 from hall import told
 from hall.answers import Moment
 from hall.printable import printable
+from hall.rows import EVENTS
 from hall.typist import Typist
 
 # The most characters of a line that is shown.
@@ -64,3 +68,28 @@ def output() -> Vt100_Output:
         return Size(rows=rows or 24, columns=columns or 80)
 
     return Vt100_Output(sys.stdout, size, term=os.environ.get("TERM"), enable_cpr=False)
+
+
+class Words(Completer):
+    """Completes an event of a match, a command, and the clubs behind `club`."""
+
+    def __init__(self, moment: Callable[[], Moment]) -> None:
+        self._moment = moment
+
+    def get_completions(self, document: Document, event: CompleteEvent) -> Iterable[Completion]:
+        """What the text before the cursor may go on with."""
+        text = document.text_before_cursor
+        first, _, rest = text.lstrip().partition(" ")
+        known: list[str] = []
+        if first.isdecimal() and " " in text.lstrip():
+            known = [event_.replace("-", " ") for event_ in EVENTS] + ["result "]
+        elif first in ("club", "coefficient") and " " in text.lstrip():
+            clubs = self._moment().title.clubs
+            known = [f"{slot} {club.club}" for slot, club in enumerate(clubs, 1)]
+            if first == "coefficient":
+                known = [f"{slot} {club.coefficient}" for slot, club in enumerate(clubs, 1)]
+        elif " " not in text:
+            known, rest = ["mend", "club ", "coefficient ", "help"], first
+        for it in known:
+            if it.lower().startswith(rest.lower()):
+                yield Completion(it, start_position=-len(rest))

@@ -1,14 +1,16 @@
 """A reporter whose input is no terminal, and a screen whose output is none."""
 
 import asyncio
+import contextlib
+import os
 import sys
 import threading
 
 from hall import told
 from hall.faults import MaybeEntered, NotEntered
 from hall.printable import printable
-from hall.typed import Events, MatchAsked, Numbered, typed
-from hall.typist import PASSED_OVER, WIDTH, Typist
+from hall.typed import ClubTyped, Help, MendTyped, Numbered, typed
+from hall.typist import Typist
 from hall.underway import Seen
 
 # The longest line that is taken, in bytes.
@@ -24,10 +26,17 @@ async def enter_lines(typist: Typist, edition: int) -> int:
     loop = asyncio.get_running_loop()
 
     def read() -> None:
-        line = b"\n"
-        while line:
-            line = sys.stdin.buffer.readline(LONGEST)
-            loop.call_soon_threadsafe(lines.put_nowait, line)
+        # Not by `sys.stdin`, whose lock would be held at the program's end.
+        rest, piece = b"", b"\n"
+        with contextlib.suppress(RuntimeError):
+            while piece:
+                piece = os.read(0, LONGEST)
+                *whole, rest = (rest + piece).split(b"\n") if piece else (rest, b"")
+                if len(rest) > LONGEST:
+                    whole, rest = [*whole, rest], b""
+                for line in whole:
+                    loop.call_soon_threadsafe(lines.put_nowait, line + b"\n")
+            loop.call_soon_threadsafe(lines.put_nowait, b"")
 
     typist.source.tell_to(_warn)
     threading.Thread(target=read, daemon=True).start()
@@ -37,7 +46,7 @@ async def enter_lines(typist: Typist, edition: int) -> int:
     return 0
 
 
-async def watch_lines(typist: Typist) -> None:
+async def watch_lines(typist: Typist) -> int:
     """Prints the table and the matches, now and at each event, until the board ends."""
     changed = asyncio.Event()
     typist.source.listen(lambda reply: changed.set())
@@ -52,6 +61,7 @@ async def watch_lines(typist: Typist) -> None:
             typist.show(*(f"{it:2} {told.match(moment, it)}" for it in typist.matches))
         await changed.wait()
     typist.source.over.result()
+    return 0
 
 
 def _warn(text: str) -> None:
@@ -60,28 +70,16 @@ def _warn(text: str) -> None:
 
 async def _enter(typist: Typist, text: str, edition: int) -> None:
     try:
-        line = typed(text)
-        if line is None:
-            return
-        if isinstance(line, MatchAsked):
-            typist.rows_of(Events(line.match, (), False), typist.underway.look())
-            await typist.show_match(line.match)
-            return
-        if not isinstance(line, Events | Numbered):
+        line, moment = typed(text), typist.source.moment
+        if isinstance(line, Help | MendTyped | ClubTyped):
             raise NotEntered("this is typed at a terminal; without one it is --mend WHAT --yes")
-        moment = typist.source.moment
-        rows = typist.rows_of(line, Seen(moment, ()))
-        if isinstance(line, Numbered):
-            if moment.edition != edition:
-                raise NotEntered(
-                    f"this is of edition {edition}, and the board of edition {moment.edition}: "
-                    "look at the matches"
-                )
-            if typist.source.has(typist.own, line.row):
-                typist.show(f"{text:{WIDTH}} {PASSED_OVER}")
-                return
-        is_again = isinstance(line, Numbered)
-        outcome = await typist.submit(text, rows, moment.edition, is_again)
-        typist.show(f"{text:{WIDTH}} {outcome}")
+        if isinstance(line, Numbered) and moment.edition != edition:
+            raise NotEntered(
+                f"this is of edition {edition}, and the board of edition {moment.edition}: "
+                "look at the matches"
+            )
+        if line is not None:
+            is_again = isinstance(line, Numbered)
+            await typist.take(text, line, Seen(moment, ()), is_again)
     except (NotEntered, MaybeEntered) as fault:
         raise NotEntered(f"{text[:200]}: {fault}") from fault

@@ -12,8 +12,8 @@ from typing import Any, TypeVar
 from hall import disk
 from hall.answers import Moment, Reply
 from hall.asking import last_screen
-from hall.faults import Dropped, MaybeEntered, Over
-from hall.history import Event, History
+from hall.faults import Dropped, MaybeEntered, NotEntered, Over
+from hall.history import Event
 from hall.live import Listener, Live
 from hall.mends import Changed, Trial, tried
 from hall.rowfile import RowFile
@@ -35,9 +35,9 @@ class Record:
         self._file, self._is_durable = file, is_durable
         self._reading, self._appending = asyncio.Lock(), asyncio.Lock()
         self._live = Live(program, file.whole)
-        self._task: asyncio.Task[None] | None = None
-        # Gets the fault by which the record can be followed no more.
-        self.over: asyncio.Future[None] = asyncio.get_running_loop().create_future()
+        self._tasks: set[asyncio.Task[Any]] = set()
+        # The events that stand; what gets the fault by which the record can be followed no more.
+        self.history, self.over = self._live.history, self._live.over
 
     @classmethod
     async def open(
@@ -60,10 +60,10 @@ class Record:
         return record
 
     async def close(self) -> None:
-        """Ends following the record."""
-        if self._task is not None:
-            self._task.cancel()
-            await asyncio.gather(self._task, return_exceptions=True)
+        """Ends following the record. What a thread is writing just now is written whole first."""
+        for task in self._tasks:
+            task.cancel()
+        await asyncio.gather(*self._tasks, return_exceptions=True)
         await self._live.end()
         self._file.close()
 
@@ -74,11 +74,6 @@ class Record:
         assert moment is not None
         return moment
 
-    @property
-    def history(self) -> History:
-        """The events that stand."""
-        return self._live.history
-
     def listen(self, listener: Listener) -> Callable[[], None]:
         """Has a listener called with each new reply. Gives a function that ends this."""
         return self._live.listen(listener)
@@ -88,11 +83,18 @@ class Record:
 
     def has(self, reporter: int, row: Row) -> bool:
         """Whether the board has just this event of this reporter."""
-        return self._live.history.has(reporter, row)
+        return self.history.has(reporter, row)
 
     def events(self, match: int) -> list[Event]:
         """The events of a match that stand."""
-        return self._live.history.of(match)
+        return self.history.of(match)
+
+    async def ready(self) -> None:
+        """Waits until the child has answered all that is read: the events that stand are known.
+
+        Raises Over where that takes longer than a minute.
+        """
+        await self._live.reach(self._file.answered, READING)
 
     async def enter(
         self, reporter: int, rows: Sequence[Row], edition: int, is_again: bool = False
@@ -115,7 +117,7 @@ class Record:
             if edition is not None and self.moment.edition != edition:
                 raise Dropped(self.moment.edition)
 
-        return await self._protected(self._append(rows, check, written))
+        return await asyncio.shield(self._started(self._append(rows, check, written)))
 
     async def trial(self, row: bytes) -> Trial:
         """What a row that mends would do.
@@ -137,7 +139,7 @@ class Record:
                 if not now.is_as(agreed):
                     raise Changed(now)
 
-        return (await self._protected(self._append([row], check, None)))[0]
+        return (await asyncio.shield(self._started(self._append([row], check, None))))[0]
 
     async def _begin(self) -> None:
         await self._read()
@@ -147,25 +149,31 @@ class Record:
                 f"{self.path}: line {number} begins another edition by a row of the group, as "
                 "records did before there were mends: keep it, and begin a new record"
             )
-        await self._ask()
+        # A run of its own tells the moment that stands: it takes a tenth of the time that the
+        # child needs, which tells a screen after each event.
+        try:
+            moment = await last_screen(self.program, self._file.whole())
+        except Over as fault:
+            raise Over(f"{self.path} has no board, or ucl_live failed: {fault}") from fault
+        self._live.begin_at(moment, self._file.count)
         await self._live.start()
-        self._task = asyncio.create_task(self._follow())
+        self._started(self._follow())
+
+    def _started(self, work: Coroutine[Any, Any, Value]) -> asyncio.Task[Value]:
+        """Starts work that goes on until its end or `close`, even if who asked for it is gone."""
+        task = asyncio.create_task(work)
+        self._tasks.add(task)
+        task.add_done_callback(self._tasks.discard)
+        return task
 
     async def _follow(self) -> None:
         """Reads what others append, until the record or the child can be followed no more."""
         try:
-            while not self._live.over.done():
+            while not self.over.done():
                 await asyncio.sleep(LOOK)
                 await self._read()
-            self._live.over.result()
         except Exception as fault:  # whatever it is, who uses the record has to know
-            if not self.over.done():
-                self.over.set_exception(fault)
-                self.over.exception()
-
-    async def _protected(self, work: Coroutine[Any, Any, Value]) -> Value:
-        """Does work to its end, even if who asked for it is gone by then."""
-        return await asyncio.shield(asyncio.ensure_future(work))
+            self._live.fail(fault)
 
     async def _read(self) -> None:
         """Reads what was appended, and hands whole lines to the child."""
@@ -174,25 +182,9 @@ class Record:
             if not read:
                 return
             if self._is_durable:
-                await asyncio.to_thread(self._file.sync, read)
+                await _in_thread(self._file.sync, read)
             # In one turn of the loop: a child that is started anew is fed what is taken by then.
             self._live.feed(self._file.take(read))
-
-    async def _ask(self) -> None:
-        """Has a run of its own tell the moment that stands: it takes a tenth of the time that the
-        child needs, which tells a screen after each event."""
-        try:
-            moment = await last_screen(self.program, self._file.whole())
-        except Over as fault:
-            raise Over(f"{self.path} has no board, or ucl_live failed: {fault}") from fault
-        self._live.begin_at(moment, self._file.count)
-
-    async def ready(self) -> None:
-        """Waits until the child has answered all that is read: the events that stand are known.
-
-        Raises Over where that takes longer than a minute.
-        """
-        await self._live.reach(self._file.answered, READING)
 
     async def _append(
         self, rows: Sequence[bytes], check: Check, written: Written | None
@@ -200,24 +192,44 @@ class Record:
         async with self._appending:
             # A child that is just reading a long record is not waited for under the lock.
             await self.ready()
-            await asyncio.to_thread(self._file.lock, LOCK)
             try:
-                await self._read()
-                if self._file.rest:
-                    await asyncio.to_thread(self._file.write, b"\n")
-                    await self._read()
-                await self.ready()
-                await check()
-                # Nobody reads meanwhile: the rows are not answered before they are expected.
-                async with self._reading:
-                    first = await asyncio.to_thread(self._file.write, b"".join(rows))
-                    futures = [self._live.expect(first + place) for place in range(len(rows))]
-                    if written is not None:
-                        written(first)
-            finally:
-                self._file.unlock()
+                futures = await self._write(rows, check, written)
+            except OSError as error:
+                raise NotEntered(f"{error.strerror}: nothing was entered") from error
             try:
                 await self._read()
             except OSError as error:
                 raise MaybeEntered(f"{self.path}: {error.strerror}") from error
         return await asyncio.gather(*futures)
+
+    async def _write(
+        self, rows: Sequence[bytes], check: Check, written: Written | None
+    ) -> list[asyncio.Future[Reply]]:
+        """Writes rows under the lock of the file. Raises OSError where none of them is there."""
+        try:
+            await _in_thread(self._file.lock, LOCK)
+            await self._read()
+            if self._file.rest:
+                await _in_thread(self._file.write, b"\n")
+                await self._read()
+            await self.ready()
+            await check()
+            # Nobody reads meanwhile: the rows are not answered before they are expected.
+            async with self._reading:
+                first = await _in_thread(self._file.write, b"".join(rows))
+                futures = [self._live.expect(first + place) for place in range(len(rows))]
+                if written is not None:
+                    written(first)
+            return futures
+        finally:
+            self._file.unlock()
+
+
+async def _in_thread(work: Callable[..., Value], *values: Any) -> Value:
+    """Does work in a thread. Who is cancelled meanwhile waits for its end: it uses the file."""
+    task = asyncio.create_task(asyncio.to_thread(work, *values))
+    try:
+        return await asyncio.shield(task)
+    except asyncio.CancelledError:
+        await asyncio.wait([task])
+        raise

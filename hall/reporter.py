@@ -2,31 +2,25 @@
 
 import argparse
 import asyncio
-import contextlib
 import io
 import os
 import sys
 import time
-from collections.abc import AsyncIterator
 
 from hall import told
 from hall.beginning import begin, rows_by_questions
-from hall.faults import Fault, NotEntered, Over
+from hall.faults import NotEntered, Over
 from hall.pipe import enter_lines, watch_lines
 from hall.printable import printable
 from hall.programs import live_program
 from hall.record import Record
 from hall.rows import LAST_EDITION, MATCHES, REPORTERS, number_in
-from hall.sheet import sheet_of
-from hall.source import Source
+from hall.running import ending
 from hall.typed import ClubTyped, MendTyped, typed
-from hall.typist import Typist
+from hall.typist import Source, Typist
 from hall.usage import HELP, USAGE
 
-INTERRUPTED = 130
 SURE = ("y", "yes")
-# The most characters of a fault that are told.
-LONGEST = 600
 
 
 def parser() -> argparse.ArgumentParser:
@@ -81,67 +75,46 @@ def main() -> None:
         if isinstance(stream, io.TextIOWrapper):
             stream.reconfigure(errors="replace")
     options = options_of(sys.argv[1:])
-    try:
+    with ending("ucl_reporter"):
         first = None if options.broker else _first_rows(options)
         sys.exit(asyncio.run(_run(options, first)))
-    except BrokenPipeError:
-        os.dup2(os.open(os.devnull, os.O_WRONLY), 1)
-        sys.exit(1)
-    except (Fault, OSError) as fault:
-        sys.exit(f"ucl_reporter: {printable(_text_of(fault), LONGEST)}")
-    except (KeyboardInterrupt, EOFError):
-        sys.exit(INTERRUPTED)
 
 
 async def _run(options: argparse.Namespace, first: bytes | None) -> int:
-    async with _source(options, first) as source:
+    is_terminal = sys.stdin.isatty() and sys.stdout.isatty()
+    source = await _opened(options, first, is_terminal)
+    try:
         typist = Typist(source, options.number or 1, options.matches or MATCHES)
-        is_terminal = sys.stdin.isatty() and sys.stdout.isatty()
         if options.mend is not None:
             return await _mend(typist, options.mend, options.yes)
         if options.sheet:
-            sys.stdout.buffer.write(sheet_of(source.moment))
+            typist.show(*told.sheet(source.moment))
             return 0
-        if options.watch:
-            return await _watch(typist, is_terminal)
         if is_terminal:
             from hall.terminal import Terminal
 
-            hint = "type a match and an event, as 1 goal home; help tells more, Ctrl-D ends"
-            return await Terminal(typist, f"Reporter {typist.own}: {hint}").run()
+            return await Terminal(typist, is_watching=options.watch).run()
+        if options.watch:
+            return await watch_lines(typist)
         return await enter_lines(typist, options.edition or 0)
-
-
-@contextlib.asynccontextmanager
-async def _source(options: argparse.Namespace, first: bytes | None) -> AsyncIterator[Source]:
-    if options.broker:
-        async with _desk(options) as desk:
-            yield desk
-        return
-    path, program = options.record, live_program()
-    if first is not None and not await begin(path, program, first):
-        print(f"Another has begun {path} meanwhile: it stays as it is, and is used")
-    record = await Record.open(path, program, is_read_only=options.watch or options.sheet)
-    try:
-        yield record
     finally:
-        await record.close()
+        await source.close()
 
 
-@contextlib.asynccontextmanager
-async def _desk(options: argparse.Namespace) -> AsyncIterator[Source]:
+async def _opened(options: argparse.Namespace, first: bytes | None, is_terminal: bool) -> Source:
+    """Opens the record, which begins with the first rows if there are any, or the board behind a
+    broker, which is waited for without an end at a terminal."""
+    if options.broker is None:
+        path, program = options.record, live_program()
+        if first is not None and not await begin(path, program, first):
+            print(f"Another has begun {path} meanwhile: it stays as it is, and is used")
+        return await Record.open(path, program, is_read_only=options.watch or options.sheet)
     from hall.desk import Desk
 
-    limit = options.limit or 60.0
-    if sys.stdin.isatty() and sys.stdout.isatty():
-        limit = options.limit
+    if is_terminal:
         print(f"Waiting for the board of group {options.broker.upper()}", flush=True)
-    own, again = options.number or 1, options.again or 2.0
-    desk = await Desk.open(options.broker, own, again, limit, _warn)
-    try:
-        yield desk
-    finally:
-        await desk.close()
+    limit = options.limit or (None if is_terminal else 60.0)
+    return await Desk.open(options.broker, options.number or 1, options.again or 2.0, limit, _warn)
 
 
 def _warn(text: str) -> None:
@@ -161,15 +134,6 @@ def _first_rows(options: argparse.Namespace) -> bytes | None:
     return rows_by_questions(input, print)
 
 
-async def _watch(typist: Typist, is_terminal: bool) -> int:
-    if not is_terminal:
-        await watch_lines(typist)
-        return 0
-    from hall.terminal import Terminal
-
-    return await Terminal(typist, "", is_watching=True).run()
-
-
 async def _mend(typist: Typist, what: str, is_sure: bool) -> int:
     """Mends once, without a prompt."""
     text = f"mend {what}" if what.isdecimal() or not what else what
@@ -182,19 +146,13 @@ async def _mend(typist: Typist, what: str, is_sure: bool) -> int:
         typist.show(*question.tables)
         if not is_sure and not _is_agreed():
             raise NotEntered("nothing is appended; with --yes it is, without a question")
-        typist.show(*await typist.mend(question))
+        await typist.mend(question)
     typist.show(told.title(typist.source.moment))
     return 0
 
 
 def _is_agreed() -> bool:
     return sys.stdin.isatty() and input("append it? y or n> ").strip().lower() in SURE
-
-
-def _text_of(fault: Exception) -> str:
-    if isinstance(fault, OSError) and fault.filename is not None:
-        return f"{fault.filename}: {fault.strerror}"
-    return str(fault)
 
 
 def _number(text: str) -> int:

@@ -30,14 +30,15 @@ def request_of(group: str, message: Message) -> Request | None:
     said = event_row(message.payload.decode(errors="replace").removesuffix("\n"))
     if said is None or said[0] != found[1]:
         return None
-    return Request(said[0], found[0], said[1], message.correlation, message.is_again)
+    return Request(said[0], found[0], said[1], message.correlation or None, message.is_again)
 
 
 class People:
     """Who types as which reporter, by the tokens that begin correlation data."""
 
     def __init__(self) -> None:
-        self._typing: dict[int, dict[bytes, float]] = {}
+        # Of each reporter the token that came last, and when; when it was told of two.
+        self._last: dict[int, tuple[bytes, float]] = {}
         self._told: dict[int, float] = {}
 
     def are_two(self, request: Request) -> bool:
@@ -45,11 +46,10 @@ class People:
         if request.correlation is None:
             return False
         now, token = time.monotonic(), request.correlation.split(b".")[0]
-        people = self._typing.setdefault(request.reporter, {})
-        people[token] = now
-        for other in [it for it, last in people.items() if now - last > MINUTE]:
-            del people[other]
-        if len(people) < 2 or now - self._told.get(request.reporter, -MINUTE) < MINUTE:
+        before, at = self._last.get(request.reporter, (token, now))
+        self._last[request.reporter] = token, now
+        is_told = now - self._told.get(request.reporter, -MINUTE) < MINUTE
+        if before == token or now - at > MINUTE or is_told:
             return False
         self._told[request.reporter] = now
         return True

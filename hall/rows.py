@@ -5,7 +5,9 @@ No rule of events stands here: what a row changes, and whether it is taken, `ucl
 
 import csv
 import io
+import re
 from dataclasses import dataclass
+from typing import Annotated
 
 from hall.faults import NotEntered
 
@@ -30,7 +32,7 @@ REPORTERS = range(1, 256)
 LAST_EDITION = 65_535
 LAST_NUMBER = 65_535
 LAST_ROW = 4_294_967_295
-LONGEST_NAME = 20
+NAME = re.compile("[ -~]{1,20}")
 LAST_COEFFICIENT = 999_999
 # The row that asks for the screen.
 SCREEN = b"screen,,,\n"
@@ -40,9 +42,9 @@ SCREEN = b"screen,,,\n"
 class Row:
     """An event of a match, and the event number that its reporter had seen."""
 
-    match: int
-    expected: int
-    event: str
+    match: Annotated[int, range(1, 13)]
+    expected: Annotated[int, range(LAST_NUMBER + 1)]
+    event: Annotated[str, EVENTS]
 
     def __str__(self) -> str:
         return f"{self.match} {self.event.replace('-', ' ')}"
@@ -61,8 +63,8 @@ class Row:
 class Club:
     """A club: its name, and its coefficient in thousandths."""
 
-    club: str
-    coefficient: int
+    club: Annotated[str, NAME]
+    coefficient: Annotated[int, range(LAST_COEFFICIENT + 1)]
 
     def __str__(self) -> str:
         return f"{self.club} {self.coefficient}"
@@ -130,7 +132,7 @@ def checked_name(text: str) -> str:
 
     Raises NotEntered where it is none.
     """
-    if 1 <= len(text) <= LONGEST_NAME and all(" " <= letter <= "~" for letter in text):
+    if NAME.fullmatch(text):
         return text
     raise NotEntered(
         "a name has 1 to 20 letters without accents, digits, spaces and punctuation: "

@@ -6,16 +6,10 @@ and nobody else waits for it. All is of one event loop; there is no lock.
 """
 
 import asyncio
-import json
 from collections.abc import Iterable
 
 # How often a slow connection is looked at, in seconds.
 AGAIN = 0.05
-
-
-def line_of(reply: str, **members: object) -> bytes:
-    """A line of the server's own, in JSON as `ucl_live` writes it."""
-    return json.dumps({"reply": reply, **members}, separators=(",", ":")).encode()
 
 
 def frame_of(line: bytes) -> bytes:

@@ -23,9 +23,9 @@ from dataclasses import dataclass
 
 from hall.answers import Accepted, Refused, Reply
 from hall.faults import Dropped, Fault, MaybeEntered, NotEntered
+from hall.lines import line_of
 from hall.record import Record
 from hall.rows import EVENTS, LAST_EDITION, LAST_NUMBER, Row
-from hall.screens import line_of
 
 # How many answers of a reporter are kept, for phones that ask.
 MOST_ANSWERS = 1_000

@@ -22,12 +22,12 @@ try:
 except ImportError as error:
     raise SystemExit("there is no prompt_toolkit: apt install python3-prompt-toolkit") from error
 
-from hall.completion import Words
-from hall.panel import LONGEST, layout_of, output, panel_of
+from hall.panel import LONGEST, Words, layout_of, output, panel_of
 from hall.printable import printable
 from hall.typist import Typist
 from hall.underway import Seen
 
+HINT = "type a match and an event, as 1 goal home; help tells more, Ctrl-D ends"
 # How long the answers of rows are waited for at the end and before a suspension, in seconds.
 PATIENCE = 5.0
 
@@ -35,8 +35,8 @@ PATIENCE = 5.0
 class Terminal:
     """A reporter at a terminal, or somebody who only looks."""
 
-    def __init__(self, typist: Typist, hint: str, *, is_watching: bool = False) -> None:
-        self._typist, self._hint, self._is_watching = typist, hint, is_watching
+    def __init__(self, typist: Typist, *, is_watching: bool) -> None:
+        self._typist, self._is_watching = typist, is_watching
         # The newest moment, the one that the panel shows, and what was seen by who typed first.
         self._drawing = typist.source.moment
         self._seen: Seen | None = None
@@ -75,7 +75,7 @@ class Terminal:
         unheard = self._typist.source.listen(lambda reply: self._refresh())
         if not self._is_watching:
             self._typist.listen()
-            print(self._hint, flush=True)
+            print(f"Reporter {self._typist.own}: {HINT}", flush=True)
         # What was typed before anything was shown was typed at nothing.
         termios.tcflush(sys.stdin, termios.TCIFLUSH)
         try:
@@ -104,9 +104,11 @@ class Terminal:
 
     async def _finish(self) -> None:
         """Waits for what is on its way, and says of what has no answer then that it may be in."""
-        await self._typist.idle(PATIENCE)
-        for line in self._typist.underway.pending:
-            print(f"{line.text:23} has no answer: it may be in the record: look at the match")
+        try:
+            await self._typist.idle(PATIENCE)
+        finally:
+            for line in self._typist.underway.pending:
+                print(f"{line.text:23} has no answer: it may be in the record: look at the match")
 
     # ---- what is drawn
 

@@ -1,7 +1,7 @@
 """What is told to people: a board, a match and a reply, in words."""
 
 from hall.answers import LeftOut, Moment, Refused
-from hall.rows import FIXTURES, Row
+from hall.rows import FIXTURES, Row, club_row
 
 HEADING = "    Club                  P  W  D  L  GF  GA   GD Pts"
 # What to do about a refusal. The words in braces are the row's own, and the match's number by now.
@@ -58,6 +58,13 @@ def match(moment: Moment, number: int) -> str:
     return f"{score}, {it.state.lower()}, event {it.number} by {it.reporter}{cards}"
 
 
+def sheet(moment: Moment) -> list[str]:
+    """The rows of a sheet: the clubs and the twelve words, as `ucl_night show` takes them."""
+    rows = [club_row(slot, it).decode() for slot, it in enumerate(moment.title.clubs, 1)]
+    words = [f"word,{number},{word}," for number, word in enumerate(moment.words, 1)]
+    return [row.rstrip("\n") for row in rows] + words
+
+
 def clubs(moment: Moment) -> str:
     """The clubs by their slots, with their coefficients."""
     return ", ".join(f"{slot} {club}" for slot, club in enumerate(moment.title.clubs, 1))
@@ -68,7 +75,7 @@ def advice(refused: Refused, row: Row | None = None) -> str:
     event = refused.event or row
     if event is not None and refused.name in _ADVICE:
         values = {"match": event.match, "expected": event.expected, "side": event.side}
-        found = event.expected if refused.found is None else refused.found
+        found = event.expected if refused.number is None else refused.number
         return _ADVICE[refused.name].format(found=found, **values)
     return _OTHER_ADVICE.get(refused.name, refused.name)
 

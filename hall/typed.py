@@ -147,9 +147,7 @@ def _mend(words: list[str]) -> MendTyped:
 def _club(first: str, text: str) -> ClubTyped:
     found = re.fullmatch(r"\s*\S+\s+([1-4])\s+(.*?)\s*", text)
     if found is None:
-        raise NotEntered(
-            f"type club 2 Real Madrid, or coefficient 1 61000, with a slot from 1 to 4"
-        )
+        raise NotEntered("type club 2 Real Madrid, or coefficient 1 61000, with a slot from 1 to 4")
     if first == "club":
         return ClubTyped(int(found[1]), checked_name(found[2]), None)
     return ClubTyped(int(found[1]), None, checked_coefficient(found[2]))

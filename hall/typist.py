@@ -6,6 +6,7 @@ which Enter was pressed; a task of its own waits for its replies.
 
 import asyncio
 from collections.abc import Callable, Coroutine, Sequence
+from typing import TYPE_CHECKING, Union
 
 from hall import told
 from hall.answers import Accepted, Mended, Refused, Reply
@@ -14,11 +15,16 @@ from hall.mends import Changed, Question, mending_row
 from hall.printable import printable
 from hall.record import Record
 from hall.rows import Row
-from hall.source import Source
+from hall.running import text_of
 from hall.typed import ClubTyped, Events, Help, MatchAsked, MendTyped, Numbered, Typed, typed
 from hall.underway import Line, Seen, Underway
 from hall.usage import LINES
 
+if TYPE_CHECKING:
+    from hall.desk import Desk
+
+# A record here, or the board of a group behind a broker, whose library need not be installed.
+Source = Union[Record, "Desk"]
 PASSED_OVER = "passed over: the board has it"
 # The column behind what was typed, where what comes of it is told.
 WIDTH = 23
@@ -47,7 +53,7 @@ class Typist:
         try:
             line = typed(text)
             if line is not None:
-                self._take(text, line, seen)
+                self._start(text, self.take(text, line, seen))
         except Fault as fault:
             self._tell(text, str(fault))
 
@@ -57,30 +63,38 @@ class Typist:
         if question is None:
             return
         if text.strip().lower() in ("y", "yes"):
-            self._start(self._mend(question))
+            self._start(question.text, self.mend(question))
         else:
             self.show("Nothing is appended")
         self.refresh()
 
-    def submit(
-        self, text: str, rows: list[Row], edition: int, is_again: bool = False
-    ) -> Coroutine[None, None, str]:
-        """Enters rows, which are on their way from this call on; awaited, says what came of them.
+    def take(
+        self, text: str, line: Typed, seen: Seen, is_again: bool = False
+    ) -> Coroutine[None, None, None]:
+        """Takes a line that was typed when this was seen: its rows are on their way from this call
+        on. Awaited, it tells what comes of them, and raises what the board raises.
 
-        Raises NotEntered with what to do, or what the board raises.
+        Raises NotEntered where it is not for this reporter to enter, or waits already.
         """
-        if any(row in line.rows for line in self.underway.pending for row in rows):
+        text = " ".join(text.split())
+        if isinstance(line, Help):
+            return self._shown(*LINES.splitlines())
+        if isinstance(line, MatchAsked):
+            self._check_own(line.match)
+            return self._show_match(line.match)
+        if isinstance(line, MendTyped | ClubTyped):
+            return self.propose(text, line)
+        rows = self._rows_of(line, seen)
+        if isinstance(line, Numbered) and self.source.has(self.own, line.row):
+            return self._shown(f"{text:{WIDTH}} {PASSED_OVER}")
+        if any(row in it.rows for it in self.underway.pending for row in rows):
             raise NotEntered("this row waits for its answer")
-        line = Line(" ".join(text.split()), rows)
-        self.underway.add(line)
+        taken = Line(text, rows)
+        self.underway.add(taken)
         self.refresh()
-        return self._outcome(line, edition, is_again)
+        return self._enter(taken, seen.moment.edition, is_again)
 
-    def rows_of(self, line: Events | Numbered, seen: Seen) -> list[Row]:
-        """The rows of a line that was typed when this was seen.
-
-        Raises NotEntered where it is not for this reporter to enter.
-        """
+    def _rows_of(self, line: Events | Numbered, seen: Seen) -> list[Row]:
         if isinstance(line, Numbered):
             self._check_own(line.row.match)
             if line.reporter != self.own:
@@ -95,7 +109,10 @@ class Typist:
             )
         return [Row(line.match, number + place, it) for place, it in enumerate(line.events)]
 
-    async def show_match(self, match: int) -> None:
+    async def _shown(self, *lines: str) -> None:
+        self.show(*lines)
+
+    async def _show_match(self, match: int) -> None:
         """Shows a match and its events, each with its row."""
         await self.source.ready()
         self.show(f"{match:2} {told.match(self.source.moment, match)}")
@@ -117,8 +134,8 @@ class Typist:
         self.show(*self.question.told)
         self.refresh()
 
-    async def mend(self, question: Question) -> list[str]:
-        """Appends what was asked about, and says what came of it.
+    async def mend(self, question: Question) -> None:
+        """Appends what was asked about, and shows what came of it.
 
         Raises NotEntered; if it would do something else by now the question is asked anew.
         """
@@ -129,16 +146,11 @@ class Typist:
             self.question = Question(question.text, question.row, changed.trial)
             self.show(str(changed), *self.question.told)
             self.refresh()
-            return []
-        return [f"{question.text:{WIDTH}} entered, row {reply.row}"]
+        else:
+            self._tell(question.text, f"entered, row {reply.row}")
 
-    async def _mend(self, question: Question) -> None:
-        try:
-            self.show(*await self.mend(question))
-        except Fault as fault:
-            self._tell(question.text, str(fault))
-
-    async def _outcome(self, line: Line, edition: int, is_again: bool) -> str:
+    async def _enter(self, line: Line, edition: int, is_again: bool) -> None:
+        """Has the rows of a line entered, and tells what came of them."""
         try:
             replies = await self.source.enter(self.own, line.rows, edition, is_again)
             for row, reply in zip(line.rows, replies):
@@ -151,36 +163,19 @@ class Typist:
             if isinstance(reply.answer, Refused):
                 raise NotEntered(f"refused: {told.advice(reply.answer, row)}")
         moment = replies[-1].screen or self.source.moment
-        return f"entered, row {replies[-1].row}: {told.match(moment, line.rows[-1].match)}"
+        match = told.match(moment, line.rows[-1].match)
+        self._tell(line.text, f"entered, row {replies[-1].row}: {match}")
 
-    def _take(self, text: str, line: Typed, seen: Seen) -> None:
-        if isinstance(line, Help):
-            self.show(*LINES.splitlines())
-        elif isinstance(line, MatchAsked):
-            self._check_own(line.match)
-            self._start(self.show_match(line.match))
-        elif isinstance(line, MendTyped | ClubTyped):
-            self._start(self._propose(text, line))
-        elif isinstance(line, Numbered) and self.source.has(self.own, line.row):
-            self._tell(text, PASSED_OVER)
-        else:
-            outcome = self.submit(text, self.rows_of(line, seen), seen.moment.edition)
-            self._start(self._tell_outcome(text, outcome))
+    def _start(self, text: str, work: Coroutine[None, None, None]) -> None:
+        """Starts work for what was typed, and has its fault told."""
 
-    async def _tell_outcome(self, text: str, outcome: Coroutine[None, None, str]) -> None:
-        try:
-            self._tell(text, await outcome)
-        except Fault as fault:
-            self._tell(text, str(fault))
+        async def told_of() -> None:
+            try:
+                await work
+            except (Fault, OSError) as fault:
+                self._tell(text, text_of(fault))
 
-    async def _propose(self, text: str, line: MendTyped | ClubTyped) -> None:
-        try:
-            await self.propose(" ".join(text.split()), line)
-        except Fault as fault:
-            self._tell(text, str(fault))
-
-    def _start(self, work: Coroutine[None, None, None]) -> None:
-        task = asyncio.create_task(work)
+        task = asyncio.create_task(told_of())
         self._tasks.add(task)
         task.add_done_callback(self._tasks.discard)
 

@@ -6,6 +6,7 @@ are so many at most; or a phone, which has a key.
 """
 
 import asyncio
+import contextlib
 import logging
 import socket
 import ssl
@@ -16,9 +17,10 @@ from aiohttp import WSMsgType, web
 
 from hall import pages
 from hall.group import Group
+from hall.lines import line_of
 from hall.pages import Page
 from hall.printable import printable
-from hall.screens import Screen, Screens, frame_of, line_of
+from hall.screens import Screen, Screens, frame_of
 from hall.taps import Reporter, tap_of
 
 # Seconds: between pulses, for a whole request, and until who takes nothing any more is gone.
@@ -69,8 +71,14 @@ class Server:
         self._runner = web.AppRunner(app, access_log=None, keepalive_timeout=WHOLE)
         await self._runner.setup()
         loop = asyncio.get_running_loop()
+        loop.set_exception_handler(self._note)
         self._listener = await loop.create_server(
-            self._connection, host, port, ssl=context, backlog=1_024
+            self._connection,
+            host,
+            port,
+            ssl=context,
+            ssl_handshake_timeout=WHOLE if context else None,
+            backlog=1_024,
         )
         for one in self._listener.sockets:
             # The kernel keeps no queue either, and gives up who has acknowledged nothing for long.
@@ -89,7 +97,7 @@ class Server:
         if self._runner is not None:
             await self._runner.cleanup()
 
-    def note(self, _: asyncio.AbstractEventLoop, about: dict[str, object]) -> None:
+    def _note(self, _: asyncio.AbstractEventLoop, about: dict[str, object]) -> None:
         """Keeps what went wrong outside any request, for who asks after it."""
         self.fault = printable(f"{about.get('message')}: {about.get('exception')}")
 
@@ -103,10 +111,14 @@ class Server:
         self._begun[handler] = loop.call_later(WHOLE, self._expire, handler)
         return handler
 
-    def _expire(self, handler: web.RequestHandler) -> None:
+    def _expire(self, handler: web.RequestHandler, is_late: bool = False) -> None:
+        """Ends a connection; one that still agrees on its encryption as soon as that is over."""
         self._begun.pop(handler).cancel()
         if handler.transport is not None:
             handler.transport.abort()
+        elif not is_late:
+            loop = asyncio.get_running_loop()
+            self._begun[handler] = loop.call_later(WHOLE, self._expire, handler, True)
 
     def _is_whole(self, request: web.Request) -> None:
         """A request that is whole: its connection has no more to send in time."""
@@ -116,13 +128,9 @@ class Server:
 
     async def _pulse(self) -> None:
         """Tells each second which boards are there; no phone hears of one that is not."""
-        told = self._hall()
         while True:
             there = "".join(group.letter for group in self.groups if group.is_there)
-            hall, line = self._hall(), line_of("pulse", groups=there)
-            if hall != told:
-                self.screens.send("hall", hall)
-            told = hall
+            line = line_of("pulse", groups=there)
             self.screens.send("pulse", line)
             for group in self.groups:
                 if group.is_there:
@@ -175,10 +183,9 @@ class Server:
 
     def _hall(self) -> bytes:
         """The line that says what there is."""
-        tonight = {group.letter: group.tonight() for group in self.groups}
-        known = {letter: matches for letter, matches in tonight.items() if matches}
-        letters = "".join(sorted(tonight))
-        return line_of("hall", title=self.title, groups=letters, tonight=known)
+        tonight = {group.letter: group.tonight() for group in self.groups if group.tonight()}
+        letters = "".join(sorted(group.letter for group in self.groups))
+        return line_of("hall", title=self.title, groups=letters, tonight=tonight)
 
     async def _taps(self, request: web.Request) -> web.StreamResponse:
         """A phone: each message of it is answered for itself."""
@@ -222,9 +229,11 @@ async def _opened(request: web.Request) -> tuple[web.WebSocketResponse, Screen]:
 
 def _check_origin(request: web.Request) -> None:
     """A WebSocket is opened by pages of this server alone."""
-    origin = urlsplit(request.headers.get("Origin", ""))
-    if not origin.netloc or origin.netloc != request.host:
-        raise web.HTTPForbidden
+    with contextlib.suppress(ValueError):
+        origin = urlsplit(request.headers.get("Origin", ""))
+        if origin.netloc and origin.netloc == request.host:
+            return
+    raise web.HTTPForbidden
 
 
 def _response(page: Page) -> web.Response:
@@ -235,7 +244,7 @@ def _response(page: Page) -> web.Response:
 async def _head(_: web.Request, response: web.StreamResponse) -> None:
     """What each answer has; one that is no WebSocket is the last of its connection."""
     response.headers.update(pages.HEADERS)
-    response.headers.setdefault("Content-Security-Policy", pages.policy())
+    response.headers.setdefault("Content-Security-Policy", pages.NOTHING)
     if not isinstance(response, web.WebSocketResponse):
         response.headers["Connection"] = "close"
         response.force_close()

@@ -40,6 +40,16 @@ def fsync(_):
     while os.path.exists("busy"): time.sleep(0.01)
 os.fsync = fsync
 """
+# Has a program in Python be told once that the disk fails while a file `broken` is there.
+FAILING_DISK = """import os
+real = os.fsync
+def fsync(file):
+    if os.path.exists("broken"):
+        os.unlink("broken")
+        raise OSError(5, "Input/output error")
+    real(file)
+os.fsync = fsync
+"""
 BOARD = "hall.board"
 # Passes lines on in another order, within windows of a hundred, and loses a tenth of them.
 TURNED = """import itertools, random, sys
@@ -233,7 +243,7 @@ def test_one_board_and_a_record_that_is_begun_once(site):
         "a": "another board of group a runs here: it holds a.lock\n", "a examples/two_matches.csv": "another board of group a runs here: it holds a.lock\n",
         "b": "there is no record b.rows: name a file of clubs\n", "b none.csv": "none.csv: No such file or directory\n",
     }.items():
-        assert site.done(f"timeout 5 python3 -m hall.board {words} 2>&1; echo $?") == f"board: {told}1\n"
+        assert site.done(f"timeout 60 python3 -m hall.board {words} 2>&1; echo $?") == f"board: {told}1\n"
     site.done("sed s/Alpha// examples/one_goal.csv >clubs.csv; cp a.rows c.rows")
     assert site.done("python3 -m hall.board b clubs.csv 2>&1; echo $?") == "board: input refused 21: slot 1\n1\n" and not (site.path / "b.rows").exists()
     assert site.done("python3 -m hall.board c 2>&1; echo $?") == "board: c.rows is a record of group A\n1\n"
@@ -481,13 +491,15 @@ def test_a_reporter_is_told_of_rows_that_are_refused_anothers_or_none(site):
 def test_a_board_that_falls_silent(site):
     """A row that has no answer in time ends a run without a terminal: it may be in the record."""
     site.begin()
-    silent = site.line("(until [ -e late ]; do sleep 0.1; done; echo 1 kickoff) | ./ucl_reporter --broker a --limit 5 --again 0.5 >silent 2>&1; echo $? >>silent")
-    time.sleep(3)
+    silent = site.line("(echo 2 kickoff; until [ -e late ]; do sleep 0.1; done; echo 1 kickoff) | ./ucl_reporter --broker a --limit 20 --again 0.5 >silent 2>&1; echo $? >>silent")
+    (site.path / "silent").touch()
+    told = lambda: [line for line in (site.path / "silent").read_text().splitlines() if "2 kickoff" not in line]
+    assert until(lambda: "2 kickoff               entered" in (site.path / "silent").read_text(), 60)
     site.kill_board()
     (site.path / "late").touch()
-    assert silent.shell.wait(30) == 0
-    assert (site.path / "silent").read_text().splitlines() == [
-        "1 kickoff               no answer yet; it is sent again", "ucl_reporter: 1 kickoff: no answer has come in 5 seconds: it may be in the record: look at the match before you type again", "1"]
+    assert silent.shell.wait(60) == 0
+    assert told() == [
+        "1 kickoff               no answer yet; it is sent again", "ucl_reporter: 1 kickoff: no answer has come in 20 seconds: it may be in the record: look at the match before you type again", "1"]
 
 
 def test_a_full_disk_behind_a_broker(site):
@@ -504,6 +516,19 @@ def test_a_full_disk_behind_a_broker(site):
     assert until(lambda: site.done("flock -n a.lock echo free") == "", 20)
     reporter = site.terminal("--again 1").sees("12 Delta").type("1 kickoff\r").sees("the disk is full: nothing was entered")
     reporter.sees("1 kickoff               entered, row 6")
+    assert site.record.read_text().count("kickoff") == 1
+
+
+def test_a_disk_that_fails_behind_a_broker(site):
+    """The reporter is told that the row may be in the record, and when it is sent again that it is; the board goes on."""
+    (site.path / "hook").mkdir()
+    (site.path / "hook/sitecustomize.py").write_text(FAILING_DISK)
+    site.open_broker()
+    site.line("PYTHONPATH=hook " + LINES["The board"].strip())
+    reporter = site.terminal("--again 1").sees("12 Delta")
+    (site.path / "broken").touch()
+    reporter.type("1 kickoff\r").sees("it may be in the record").sees("1 kickoff               entered, row 6")
+    reporter.enter("1 goal home", "1 goal home             entered, row 7")
     assert site.record.read_text().count("kickoff") == 1
 
 
@@ -563,9 +588,9 @@ def test_an_encrypted_port_takes_who_knows_its_certificate(site):
     assert report("known").startswith("1 kickoff               entered, row 6") and "entered" not in report("other")
 
 
-@pytest.mark.parametrize("text, fault", [("-h\n", "line 1 is no option"), ("# x\n\n-x y\n", "line 3 is no option"), ("-p 99999\n", "the port is no port"), ("-p x\n", "the port is no port")])
+@pytest.mark.parametrize("text, fault", [("-h\n", "line 1 is no option"), ("# x\n\n-x y\n", "line 3 is no option"), ("-p 99999\n", "the port is no port"), ("-p x\n", "the port is no port"), ("-h 'x\n", "line 1 is no option"), ("-h ''\n", "line 1 is no option"), ("\udcff\n", "line 1 is no option")])
 def test_an_address_that_is_none(site, text, fault):
-    (site.path / "mosquitto_sub").write_text(text)
+    (site.path / "mosquitto_sub").write_text(text, errors="surrogateescape")
     for line in "./ucl_reporter --broker a", "python3 -m hall.board a examples/one_goal.csv":
         told = site.done(f"{line} 2>&1; echo $?").splitlines()
         assert fault in told[-2] and told[-1] == "1" and len(told) == 2

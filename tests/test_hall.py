@@ -10,6 +10,7 @@ import random
 import resource
 import subprocess
 import threading
+import time
 
 import hypothesis
 import hypothesis.strategies as some
@@ -59,7 +60,7 @@ def test_each_answer_is_read():
     assert (told[LeftOut].row, told[LeftOut].event, told[LeftOut].name) == (12, "disallow-away", "no-goal")
     mended = [answer for answer in kinds if isinstance(answer, Mended)]
     assert [(it.row, it.without, it.left_out, it.title.edition, it.version) for it in mended] == [(13, 8, 1, 1, 2), (15, None, 0, 7, 2), (17, None, 0, 8, 2)]
-    assert [(it.row, it.code, it.name, it.found) for it in kinds if isinstance(it, Refused)] == [
+    assert [(it.row, it.code, it.name, it.number) for it in kinds if isinstance(it, Refused)] == [
         (9, 1, "stale", 3), (10, 20, "bad-row", None), (11, 3, "not-started", None), (14, 11, "no-event", None), (16, 12, "last-edition", None)]
     assert told[Moment].title.clubs[1] == Club('B, "2"', 7) and told[Moment].match(1).score == (1, 0) and told[Moment].age == (8, 2)
     assert told[Accepted].event == Row(1, 3, "disallow-away") and told[Accepted].line.startswith(b'{"clubs"')
@@ -386,6 +387,31 @@ def test_a_write_that_is_cut_off(tmp_path, live, kept):
 
     held(tmp_path, STARTED, work, live)
     assert text_of(tmp_path / "evening.csv") == STARTED + "1,1,3,goal-home\n"[:kept] + "\n" * (kept > 0) + "1,2,0,kickoff\n"
+
+
+def test_a_record_that_is_closed_while_a_row_is_written(tmp_path, live, monkeypatch):
+    """The row is written whole before the file is closed, and its lock given back."""
+    (tmp_path / "evening.csv").write_text(STARTED)
+    begun, sync = threading.Event(), os.fsync
+
+    def slow(file):
+        begun.set()
+        time.sleep(0.5)
+        sync(file)
+
+    async def work():
+        record = await Record.open(str(tmp_path / "evening.csv"), live)
+        monkeypatch.setattr(os, "fsync", slow)
+        append = asyncio.create_task(record.append([goal(record)], 0))
+        while not begun.is_set():
+            await asyncio.sleep(0.01)
+        await record.close()
+        with pytest.raises(asyncio.CancelledError):
+            await append
+        assert len(asyncio.all_tasks()) == 1
+
+    asyncio.run(work())
+    assert text_of(tmp_path / "evening.csv") == STARTED + "1,1,3,goal-home\n"
 
 
 def test_two_who_begin_a_record(tmp_path, live):

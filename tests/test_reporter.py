@@ -13,11 +13,11 @@ import time
 
 import model
 import pytest
-from conftest import TOP, Run, command, encoded, needs, text_of
+from conftest import TOP, Run, Started, command, encoded, needs, text_of
 from model import ROSTER, Session, random_rows
 from terminals import Terminal
 
-pytestmark = pytest.mark.limit(200)
+pytestmark = pytest.mark.limit(300)
 TITLE = "group,B,uefa,0\n"
 BEGUN = TITLE + model.CLUBS
 STARTED = BEGUN + "1,1,0,kickoff\n1,1,1,goal-home\n1,1,2,goal-away\n"
@@ -425,6 +425,21 @@ def test_command_lines_and_files(hall):
     assert hall(STARTED).run(env={"UCL_LIVE": "/none/ucl_live"}).errors == "ucl_reporter: evening.csv has no board, or ucl_live failed: /none/ucl_live: No such file or directory\n"
     ascii_alone = hall(STARTED).run(input="club é\n", env={"PYTHONIOENCODING": "ascii"})
     assert ascii_alone.status == 1 and "Traceback" not in ascii_alone.errors
+
+
+def test_a_line_is_refused_while_more_may_come(hall):
+    """It ends the run: nobody waits for the input, and its reader holds nothing up."""
+    one = hall(BEGUN)
+    with Started(["./ucl_reporter", "evening.csv"], cwd=one.path, env=one.env) as ran:
+        ran.write("1 goal\n1 kick")
+        assert ran.wait() == 1 and ran.end() == Run(1, "", "ucl_reporter: 1 goal: this is no event and no command; 1 goal home or 1 goal away?\n")
+
+
+@pytest.mark.parametrize("name", ["ucl_reporter", "ucl_serve"])
+def test_ctrl_c_while_modules_are_read(tmp_path, name):
+    """There is no traceback."""
+    (tmp_path / "argparse.py").write_text("import os, signal, time\nos.kill(os.getpid(), signal.SIGINT)\ntime.sleep(60)\n")
+    assert command([TOP / name, "--help"], env={**os.environ, "PYTHONPATH": str(tmp_path)}) == Run(-signal.SIGINT, "", "")
 
 
 def test_a_sheet(hall):

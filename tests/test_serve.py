@@ -19,6 +19,7 @@ import conftest
 import model
 import pytest
 from conftest import TOP, Started, command, text_of
+from terminals import Terminal
 
 pytestmark = pytest.mark.limit(200)
 SERVE = TOP / "ucl_serve"
@@ -248,6 +249,29 @@ def test_starts_that_are_refused(hall, live, tmp_path):
     assert one.health()["groups"]["A"]["is_there"]
 
 
+def test_ctrl_c_at_the_questions(hall, live, tmp_path):
+    """It ends at once, and begins nothing."""
+    one = Terminal([SERVE, "b.csv"], cwd=tmp_path, env={**os.environ, "UCL_LIVE": str(live)})
+    try:
+        one.sees("The group's letter").enter("b", "Order")
+        assert one.end("\x03") == 130 and "Traceback" not in one.text() and not [*tmp_path.glob("b.csv*")]
+    finally:
+        one.kill()
+
+
+@pytest.mark.parametrize("number, status", [(signal.SIGINT, 130), (signal.SIGTERM, 0)])
+def test_a_signal_in_the_midst_of_a_start(hall, live, tmp_path, number, status):
+    """The program that is asked does not answer: nothing is left, and the status is that of the signal."""
+    (tmp_path / "a.csv").write_text("group,A,uefa,0\n" + model.CLUBS)
+    (tmp_path / "silent").write_text("#!/bin/sh\ntouch begun\nexec sleep 1000\n")
+    (tmp_path / "silent").chmod(0o755)
+    server = Started([SERVE, "a.csv", "--listen", f"127.0.0.1:{free_port()}"], cwd=tmp_path, env={**os.environ, "UCL_LIVE": str(tmp_path / "silent")})
+    assert until((tmp_path / "begun").exists, 60)
+    child = pathlib.Path(f"/proc/{server.pid}/task/{server.pid}/children").read_text().split()[0]
+    server.send_signal(number)
+    assert server.end() == (status, "", "") and until(lambda: not pathlib.Path(f"/proc/{child}").exists())
+
+
 def test_what_one_is_told_on_another_address(hall, live, tmp_path):
     """Without a certificate it says what that means; there is no code where output is no terminal."""
     (tmp_path / "a.csv").write_text("group,A,uefa,0\n" + model.CLUBS)
@@ -289,7 +313,7 @@ def test_a_key_is_of_one_record_and_one_number(hall):
 def test_a_page_of_another_host_opens_no_websocket(hall):
     one = hall("--reporter", "1")
     for path in "/lines", f"/report/{one.key(1)}/taps":
-        for origin in "http://evil.example", "", "null", f"http://127.0.0.1:{one.port}.evil.example", f"http://127.0.0.1:{one.port + 1}":
+        for origin in "http://evil.example", "", "null", "http://[", f"http://127.0.0.1:{one.port}.evil.example", f"http://127.0.0.1:{one.port + 1}":
             assert Socket(one.port, path, origin=origin).status == 403
         assert Socket(one.port, path).status == 101
 
