@@ -23,8 +23,8 @@ KINDS = {
     "crates/ucl_words/src/board.rt": "load Look, compare_exchange_with Swap, load First, load Second, compare_exchange Enlist, load CountEnlisted, split_seat SecondPass, split_seat Note, join_seat Note",
 }
 # What steps each call of a board takes, also by functions that it calls, in the order of their texts, and the loops that they stand in: so a step in no loop
-# is taken once, and no call waits or idles in a loop of its own. A split and a join of a table are a load each. A call of `LiveBoard` on a word board takes
-# those of the board's own call.
+# is taken once, and no call waits or idles in a loop of its own, nor does `settle`, which has no loop. A split and a join of a table are a load each. A call
+# of `LiveBoard` on a word board takes those of the board's own call.
 STEPS = {
     "ucl_pass": {
         "report": "for, load_as Looks, compare_exchange_as Adds", "read": "load_as Reads", "read_own": "load_as Reads", "split": "split_pass SecondPass",
@@ -37,6 +37,7 @@ STEPS = {
     },
 }
 STEPS["ucl_words"].update({name[: -len("_now")]: steps for name, steps in STEPS["ucl_words"].items()})
+STEPS["ucl_live_board"] = {"settle": ""}
 TAKEN = re.compile(
     r"\b((?:load|store|swap|fetch|compare_exchange|split|join)(?:_\w+)?::<(?!Brand\b)\w+|(?:for|while|loop)\b(?! *\())|\b(\w+)(?:::<[^()]*?>)?\("
 )
