@@ -53,6 +53,8 @@ FAULTS = {
     "a reading that waits for handles": (looks.boards_hold_words_alone, "*/src/board_pass.rt", "Ok(self.board.read_now(pass))", "{ while Arc::strong_count(&self.board) > 2 {} Ok(self.board.read_now(pass)) }"),
     "a look of a handle": (looks.boards_go_through_passes, "*/src/board_pass.rt", "match &self.pass {", "self.board.table().shared.peek(0);\n        match &self.pass {"),
     "a wait of a night": (looks.boards_go_through_passes, "ucl_runs/src/workers.rt", "    let mut last = None;", "    words.park_timeout(rt, 0, 0, A_SECOND);\n    let mut last = None;"),
+    "a reader that fails by what was read": (looks.devices_pass_on, "ucl_io/src/devices.rt", "        let taken = self", "        if buf.starts_with(b\"club\") {\n            return None;\n        }\n        let taken = self"),
+    "a byte at a time": (looks.devices_pass_on, "ucl_io/src/devices.rt", "self.writer.write(text)", "self.writer.write(&text[..1])"),
     "a settling that idles": (looks.calls_take_their_steps, "ucl_live_board/src/settling.rt", "    board.meet(rt, first, second);\n", "    for _ in rt.forever() {}\n    board.meet(rt, first, second);\n"),
     "a wake by a program": (looks.boards_go_through_passes, "ucl_night/src/main.rt", "    let alloc = rt.alloc();", "    words.wake_all(0);\n    let alloc = rt.alloc();"),
     "a pass that acts": (looks.nothing_acts_when_let_go, "ucl_words/src/passes.rt", "impl WordReporterPass {", "impl ops::Drop\n    for WordReporterPass { fn drop(self) {} }\n\nimpl WordReporterPass {"),
