@@ -23,8 +23,8 @@ KINDS = {
     "crates/ucl_words/src/board.rt": "load Look, compare_exchange_with Swap, load First, load Second, compare_exchange Enlist, load CountEnlisted, split_seat SecondPass, split_seat Note, join_seat Note",
 }
 # What steps each call of a board takes, also by functions that it calls, in the order of their texts, and the loops that they stand in: so a step in no loop
-# is taken once, and no call waits or idles in a loop of its own. A split and a join of a table are a load each. A call of `LiveBoard` on a word board takes
-# those of the board's own call.
+# is taken once, and no call waits or idles in a loop of its own, nor does `settle`, which has no loop. A split and a join of a table are a load each. A call
+# of `LiveBoard` on a word board takes those of the board's own call.
 STEPS = {
     "ucl_pass": {
         "report": "for, load_as Looks, compare_exchange_as Adds", "read": "load_as Reads", "read_own": "load_as Reads", "split": "split_pass SecondPass",
@@ -37,6 +37,7 @@ STEPS = {
     },
 }
 STEPS["ucl_words"].update({name[: -len("_now")]: steps for name, steps in STEPS["ucl_words"].items()})
+STEPS["ucl_live_board"] = {"settle": ""}
 TAKEN = re.compile(
     r"\b((?:load|store|swap|fetch|compare_exchange|split|join)(?:_\w+)?::<(?!Brand\b)\w+|(?:for|while|loop)\b(?! *\())|\b(\w+)(?:::<[^()]*?>)?\("
 )
@@ -98,6 +99,13 @@ LET_GO = re.compile(
 # What makes, lengthens or replaces the list of the times at which a source was called; `logged_io.rt` does so twice.
 LISTS = re.compile(r"\blog\.and\(|\.log\s*=(?!=)|&mut [\w.]+\.log\b|(?<!calls: )\bCallLog::(?:new|and)\b")
 LISTED = ["log: CallLog::new(),", "self.log = self.log.and(&self.source, &self.sink, handler);"]
+# What a device does in a call after it is listed: it calls its reader or its writer once with all that it is given, and fails if that does.
+DEVICES = [
+    "if self.has_failed { return None; } if buf.is_empty() { return Some(0); } "
+    "let taken = self.reader.read(buf).ok(); self.has_failed = taken.is_none(); taken }",
+    "if self.has_failed { return None; } if text.is_empty() { return Some(0); } "
+    "let given = match self.writer.write(text) { Ok(0) | Err(_) => None, Ok(count) => Some(count), }; self.has_failed = given.is_none(); given }",
+]
 HANDLES = "e3846fb4d06c"
 DEFINED = re.compile(r"^ *(?:abbrev pub|unfoldable pub|pub record|pub data) (\S+)", re.M)
 # Names that definitions of two files have, and that stand for one thing of two kinds, as the words of either board.
@@ -168,6 +176,12 @@ def calls_take_their_steps(top):
 def code_of(top, crate):
     """The code of a crate, with no comment."""
     return "\n".join(re.sub(r"//[^\n]*", "", path.read_text()) for path in sorted((top / "crates" / crate / "src").glob("**/*.rt")))
+
+
+def devices_pass_on(top):
+    """A source and a sink of std do what is listed, whatever the bytes, which no clause says."""
+    text = " ".join(code_of(top, "ucl_io").split())
+    return [f"no device has: {body}" for body in DEVICES if f"self.calls = self.calls.and(&(), &(), &()); {body}" not in text]
 
 
 def traits_are_listed(top):
@@ -340,6 +354,7 @@ LOOKS = [
     ("nothing is done where a value is let go", nothing_acts_when_let_go),
     ("boards, passes and handles hold their parts alone", boards_hold_words_alone),
     ("a source's calls are listed where they are made", calls_are_listed_once),
+    ("devices of std pass on what they are given", devices_pass_on),
     ("what an evening and a follower keep is of fixed size", parts_are_of_fixed_size),
     ("HANDLES is as it was", handles_are_unchanged),
     ("wrong bodies fit the text, and name clauses that exist", wrong_bodies_fit),
