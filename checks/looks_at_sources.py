@@ -114,11 +114,11 @@ TWICE = {"taken_by", "club_at", "rows_of", "words_after", "ImpliesInvariant", "L
 # option of one has. A roster and a club hold names, each of which came on one line.
 TYPE = re.compile(r"^(?:pub(?:\(crate\))? )?(?:struct|enum) (\w+)(?:<[^>]*>)? \{\n(.*?)^\}", re.M | re.S)
 PART = re.compile(r"^ *(?:pub(?:\(crate\))? )?\w+: (.*),$|^ *\w+\((.*)\),$", re.M)
-FIXED = {"u8", "u16", "u32", "u64", "usize", "bool", "ArrayVec", "Board", "Club", "FollowArgs", "FollowShape", "Global", "LineReader", "LiveArgs", "BoardState", "Option", "Profile", "Roster", "BoardHeader",
+FIXED = {"u8", "u16", "u32", "u64", "usize", "bool", "ArrayVec", "Board", "Club", "FollowArgs", "FollowShape", "Global", "LiveArgs", "BoardState", "Option", "Profile", "Roster", "BoardHeader",
          # It has room for all events that can stand, from the start on.
          "StandingEvents"}
 # What is kept from one line to the next: the crate, the type, and types that have to be found among its parts.
-KEPT = [("ucl_rows", "LineReader", {"Fields"}), ("ucl_live_runs", "Session", {"Phase", "OpenBoard"}), ("ucl_live_runs", "Follower", {"FollowState"}), ("ucl_io", "LineBuffer", {"Output"})]
+KEPT = [("ucl_live_runs", "Session", {"Phase", "OpenBoard"}), ("ucl_live_runs", "Follower", {"FollowState"}), ("ucl_io", "LineBuffer", {"Output"})]
 # Where a lemma begins, or a module with parameters, in which lemmas stand two columns further in.
 LEMMA = re.compile(r"( *)(?:(module _)\b|(?:pub )?([^\s:(){}]+) :(?: |$))")
 

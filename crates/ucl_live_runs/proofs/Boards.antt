@@ -339,10 +339,6 @@ good-club row clubs (Some club) =
     cond_both (length all == 4) (with_roster all (bad_slot all)) (Ok (AwaitingClubs all)) IsGood
     (λ e. good-roster all (bad_slot all) (eqb-true (length all) 4 e) refl) (λ _. tt)
 
-pub good-events : (row : ℕ) (events : List StandingEvent) (r : Said) → IsLegal (history_in events) → IsLegal (history_in (entered_by row events (request_of r)))
-good-events row events r legal =
-    let q = request_of r in subst IsLegal (sym (entered-by-history row events q)) (attempts_from (history_in events) (attempts_of q) legal (of-request r)).0
-
 -- the edition after a mend is later, and one that there can be
 
 after-edition : (edition later : ℕ) → edition ≤ 65535 → edition_after edition ≡ Ok later → (edition < later) × (later ≤ 65535)

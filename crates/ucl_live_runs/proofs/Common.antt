@@ -28,7 +28,7 @@ pub use Rattle.serde_json.specs.Written.{comma_if, compact_text, items_outline, 
 pub use Rattle.std.proofs.Common.{Bool, List, None, Option, Some, [], ap, append-nil, append_assoc, ap₂, arith, codes, false, get_or, inl, inr, le-leb}
 pub use Rattle.std.proofs.Common.{leb-true, length, length-append, min, negsuc, pos, refl, rules, set, subst, suc, sym, take, true, zero, ℕ, ℤ, ◌%◌, ◌&&◌}
 pub use Rattle.std.proofs.Common.{◌*◌, ◌++◌, ◌+◌, ◌-ℤ◌, ◌-◌, ◌/◌, ◌<◌, ◌==◌, ◌^◌, ◌∙◌, ◌∷◌, ◌≡◌, ◌≤◌, ◌⊎◌}
-pub use Rattle.std.proofs.lemmas.Bool.{and_from, and_parts, and_right, cases_Bool, cases_eq, cases_lt, cond_both, eq-eqb, eqb-true, lt-leb}
+pub use Rattle.std.proofs.lemmas.Bool.{and_from, and_parts, cases_Bool, cases_eq, cases_lt, cond_both, eq-eqb, eqb-true, lt-leb}
 pub use Rattle.std.proofs.lemmas.Bool.Decides.{nat_tests}
 pub use Rattle.std.proofs.lemmas.Fmt.{IsAscii-decimal, length-decimal-le}
 pub use Rattle.std.proofs.lemmas.List.{append_cancel_right, length-set, length-take, length-take-le, map-append, take-append-le, take_all}
@@ -39,7 +39,7 @@ pub use Rattle.std.proofs.lemmas.Option.{cond_some, same_Some}
 pub use Rattle.std.proofs.lemmas.Result.{err_from_is_err_and}
 pub use Rattle.std.specs.List.{Contains, fold, list_all}
 pub use Rattle.std.specs.Prelude.{not, slice_index_or, ◌≢◌}
-pub use Rattle.ucl_board.proofs.HistoryTheorems.{attempt_board, attempts_from, versions}
+pub use Rattle.ucl_board.proofs.HistoryTheorems.{attempt_board, attempts_from}
 pub use Rattle.ucl_board.specs.History.{Attempt, IsAttempt, IsLegal, MayFollow, after_attempt, board_after, board_of, sequential_reply}
 pub use Rattle.ucl_board.specs.Words.{AreWords, game_at, version_of, word_at}
 pub use Rattle.ucl_command.specs.declared.options.Format.{Format}
@@ -69,21 +69,21 @@ pub use Rattle.ucl_live_runs.specs.LiveTheorems.{answer_by_history, attempts_of,
 unfoldable pub use Rattle.ucl_live_runs.specs.LiveTheorems.{BeginningsAreAnswered, BoardsTakeEvents, JsonAnswersAreLines, LinesAreReadWhole, MendsAreDone}
 unfoldable pub use Rattle.ucl_live_runs.specs.LiveTheorems.{NoneMends, RefusedSessionsAreSilent, RepliesAreThoseOfFeed, SessionsAreSequential}
 unfoldable pub use Rattle.ucl_live_runs.specs.LiveTheorems.{answers_by_history, attempts_in, events_in, uncut_after}
-pub use Rattle.ucl_live_runs.specs.Phases.{Reached, after_beginning, after_club, after_header, bad_row, club_said, fault_row, missing}
+pub use Rattle.ucl_live_runs.specs.Phases.{Reached, after_beginning, after_club, after_header, club_said, fault_row, missing}
 pub use Rattle.ucl_live_runs.specs.Phases.{open_at, with_roster}
 pub use Rattle.ucl_live_runs.specs.Requests.{asked_header, edition_by, event_or_mend, header_by, header_said, is_asked, is_mend, mend_by, mend_or_bad}
 pub use Rattle.ucl_live_runs.specs.Requests.{is_group_row, is_same_order, request_of, shown_by, slot_in}
 unfoldable pub use Rattle.ucl_live_runs.specs.Requests.{asked_by}
 pub use Rattle.ucl_live_runs.specs.SessionRuns.{Closes, HasNoAnswer, HasNoEnd, IsOutInPart, IsRejected, after_bytes}
-pub use Rattle.ucl_live_runs.specs.SessionRuns.{answers_to, end_of, missing_at, session_at, session_due, session_of}
+pub use Rattle.ucl_live_runs.specs.SessionRuns.{answers_to, end_of, missing_at, session_due, session_of}
 pub use Rattle.ucl_live_runs.specs.declared.follower.FollowState.{FollowState}
 pub use Rattle.ucl_live_runs.specs.declared.phase.Phase.TheVariants.{AwaitingClubs, AwaitingHeader, Open}
 pub use Rattle.ucl_order.specs.Roster.{IsClub, IsRoster, NamedClub, bad_slot, club_in, is_name, is_printed, named}
 unfoldable pub use Rattle.ucl_order.specs.Roster.{bad_slot_from, is_club}
 pub use Rattle.ucl_rows.specs.BadRows.{bad_field, field_name, shown_text}
 unfoldable pub use Rattle.ucl_rows.specs.BadRows.{printed}
-pub use Rattle.ucl_rows.specs.Rows.{Nothing, Other, Said, fields_seen, fits, said_on}
-unfoldable pub use Rattle.ucl_rows.specs.Rows.{row_by_text}
+pub use Rattle.ucl_rows.specs.Rows.{Nothing, Other, Said, fits, said_on}
+unfoldable pub use Rattle.ucl_rows.specs.Rows.{said_by_text}
 pub use Rattle.ucl_screen.specs.Numbers.{hex_digit, hex_digits, hex_word, in_range}
 unfoldable pub use Rattle.ucl_screen.specs.Numbers.{hex_after}
 pub use Rattle.ucl_screen.specs.Screen.{IsGroup, in_play, letter_in, screen_text}

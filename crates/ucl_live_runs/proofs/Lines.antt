@@ -8,10 +8,12 @@ use Rattle.ucl_live_runs.proofs.Common.{bad_row_value, begun_append, begun_ended
 use Rattle.ucl_live_runs.proofs.Common.{edition_screen_value, end_of, ended, ended_append, ended_lines, false, fault_row, field_name, fits, get_or}
 use Rattle.ucl_live_runs.proofs.Common.{inl, inr, last_lines, length, length-append, line_of_value, lines_of, lines_then, live_text, longer, lt-leb}
 use Rattle.ucl_live_runs.proofs.Common.{matches_value, min, missing, missing_after, missing_at, missing_now, moved, nat_le, nat_tests, next, next_at}
-use Rattle.ucl_live_runs.proofs.Common.{no_lines, open_at, printed, refl, reply_answer, reply_value, request_of, row_by_text}
+use Rattle.ucl_live_runs.proofs.Common.{no_lines, open_at, printed, refl, reply_answer, reply_value, request_of, said_by_text}
 use Rattle.ucl_live_runs.proofs.Common.{said_on, screen_after, screen_answer, shown_text, subst, sym, take, take-append-le, true, uncut_after}
-use Rattle.ucl_live_runs.proofs.Common.{uncut_lines, words_value, ℕ, ⊤, ◌++◌, ◌+◌, ◌-◌, ◌<◌, ◌==◌, ◌^◌, ◌∙◌, ◌∷◌, ◌≡◌, ◌≤◌, ◌⊎◌}
+use Rattle.ucl_live_runs.proofs.Common.{uncut_lines, words_value, ℕ, ◌++◌, ◌+◌, ◌-◌, ◌<◌, ◌==◌, ◌^◌, ◌∙◌, ◌∷◌, ◌≡◌, ◌≤◌}
 use Rattle.ucl_rows.specs.Rows.{Row}
+use Rattle.std.proofs.Common.{drop, take-append-drop}
+use Rattle.ucl_live_runs.proofs.Common.{ap₂, length-take, map, take_all}
 use Rattle.ucl_board.specs.History.{sequential_reply}
 use Rattle.ucl_json.specs.Mended.{left_out_value, mend_refused_value, mended_value, mended_with}
 use Rattle.ucl_live_runs.proofs.Common.{MendsAreDone, Mends, json_line}
@@ -240,26 +242,24 @@ json-lines e (line ∷ lines) h =
 
 -- ==== The lines as they are read, and as they came
 
--- a line and what was kept of it: the same, or both too long, and shown in the same way
-abbrev Alike : List ℕ → List ℕ → Type 0
-Alike line whole = (line ≡ whole) ⊎ ((258 ≤ length line) × (258 ≤ length whole) × (take 64 line ≡ take 64 whole))
-
-longer-by : (line : List ℕ) (b : ℕ) → length (line ++ b ∷ []) ≡ length line + 1
-longer-by line b = length-append line (b ∷ [])
-
-more-taken : (line : List ℕ) (b : ℕ) → 64 ≤ length line → take 64 line ≡ take 64 (line ++ b ∷ [])
-more-taken line b h = sym (take-append-le 64 line (b ∷ []) h)
-
-one-more : (line whole : List ℕ) (b : ℕ) → Alike line whole → Alike (longer 258 line b) (whole ++ b ∷ [])
-one-more line whole b (inl e) = elim (cases_Bool (nat_le 258 (length line))) [
-  | inl full ↦ rw full (let h : 258 ≤ length line = grind (arith, nat_tests) in
-      let k : length line ≡ length whole = ap length e in
-      let m = longer-by whole b in inr (h, omega (arith, h, k, m), ap (take 64) e ∙ more-taken whole b (omega (arith, h, k))))
-  | inr less ↦ rw less (inl (ap (λ (l : List ℕ). l ++ b ∷ []) e))
+-- a byte more of a line, of which at most 258 are kept
+kept-one : (line : List ℕ) (b : ℕ) → longer 258 (take 258 line) b ≡ take 258 (line ++ b ∷ [])
+kept-one line b = let kept = length-take 258 line in elim (cases_Bool (nat_le 258 (length (take 258 line)))) [
+  | inl full ↦
+      let h : 258 ≤ length (take 258 line) = grind (arith, nat_tests) in rw full (sym (take-append-le 258 line (b ∷ []) (omega (arith, h, kept))))
+  | inr less ↦
+      let h : length (take 258 line) < 258 = grind (arith, nat_tests) in
+      let one = length-append line (b ∷ []) in
+      rw less (ap (λ (l : List ℕ). l ++ b ∷ []) (take_all 258 line (omega (arith, h, kept))) ∙ sym (take_all 258 (line ++ b ∷ []) (omega (arith, h, kept, one))))
 ]
-one-more line whole b (inr (p, q, t)) = elim (cases_Bool (nat_le 258 (length line))) [
-  | inl full ↦ rw full (let m = longer-by whole b in inr (p, omega (arith, q, m), t ∙ more-taken whole b (omega (arith, q))))
-  | inr less ↦ absurd (grind (arith, nat_tests))
+
+lines-kept : (line bytes : List ℕ) → ended_lines 258 (take 258 line) bytes ++ last_lines (begun_line 258 (take 258 line) bytes) ≡ map (take 258) (uncut_after line bytes)
+unfolding ended_lines begun_line uncut_after
+lines-kept [] [] = refl
+lines-kept (c ∷ line) [] = refl
+lines-kept line (b ∷ bytes) = elim (cases_Bool (b == 10)) [
+  | inl y ↦ rw y (ap (λ (ls : List (List ℕ)). take 258 line ∷ ls) (lines-kept [] bytes))
+  | inr n ↦ rw (n, kept-one line b) (lines-kept (line ++ b ∷ []) bytes)
 ]
 
 -- a line that is too long
@@ -271,49 +271,34 @@ no-room text h = elim (cases_Bool (get_or text (length text - 2) 0 == 13)) [
 ]
 
 too-long : (row : ℕ) (line : List ℕ) → 258 ≤ length line → said_on row line ≡ Other
-unfolding row_by_text
-too-long row line h = rw (no-room (line ++ 10 ∷ []) (let m = longer-by line 10 in omega (arith, h, m))) refl
+unfolding said_by_text
+too-long row line h = rw (no-room (line ++ 10 ∷ []) (let m = length-append line (10 ∷ []) in omega (arith, h, m))) refl
 
-same-said : (row : ℕ) (line whole : List ℕ) → Alike line whole → said_on row line ≡ said_on row whole
-same-said row line whole (inl e) = rw e refl
-same-said row line whole (inr (p, q, t)) = rw (too-long row line p, too-long row whole q) refl
-
-same-shown : (line whole : List ℕ) → Alike line whole → shown_text line ≡ shown_text whole
-same-shown line whole (inl e) = ap shown_text e
-same-shown line whole (inr (p, q, t)) = ap printed t
-
--- line by line
-
-abbrev AllAlike : List (List ℕ) → List (List ℕ) → Type 0
-AllAlike [] [] = ⊤
-AllAlike [] (whole ∷ wholes) = ⊥
-AllAlike (line ∷ lines) [] = ⊥
-AllAlike (line ∷ lines) (whole ∷ wholes) = Alike line whole × AllAlike lines wholes
-
-last-alike : (line whole : List ℕ) → Alike line whole → AllAlike (last_lines line) (last_lines whole)
-last-alike [] [] h = tt
-last-alike (b ∷ line) (c ∷ whole) h = (h, tt)
-last-alike [] (c ∷ whole) (inl e) = cc
-last-alike [] (c ∷ whole) (inr (p, q, t)) = absurd (omega (arith, p))
-last-alike (b ∷ line) [] (inl e) = cc
-last-alike (b ∷ line) [] (inr (p, q, t)) = absurd (omega (arith, q))
-
-lines-alike : (line whole bytes : List ℕ) → Alike line whole → AllAlike (ended_lines 258 line bytes ++ last_lines (begun_line 258 line bytes)) (uncut_after whole bytes)
-unfolding ended_lines begun_line uncut_after
-lines-alike line whole [] h = last-alike line whole h
-lines-alike line whole (b ∷ bytes) h = elim (cases_Bool (b == 10)) [
-  | inl y ↦ rw y (h, lines-alike [] [] bytes (inl refl))
-  | inr n ↦ rw n (lines-alike (longer 258 line b) (whole ++ b ∷ []) bytes (one-more line whole b h))
+-- a line says and shows the same as what is kept of it
+same-line : (row : ℕ) (line : List ℕ) → (said_on row (take 258 line) ≡ said_on row line) × (shown_text (take 258 line) ≡ shown_text line)
+same-line row line = elim (cases_Bool (nat_le 258 (length line))) [
+  | inl long ↦
+      let h : 258 ≤ length line = grind (arith, nat_tests) in
+      let kept = length-take 258 line in (
+        too-long row (take 258 line) (omega (arith, h, kept)) ∙ sym (too-long row line h),
+        ap printed (sym (take-append-le 64 (take 258 line) (drop 258 line) (omega (arith, h, kept))) ∙ ap (take 64) (take-append-drop 258 line)),
+      )
+  | inr short ↦ let all = take_all 258 line (grind (arith, nat_tests)) in (ap (said_on row) all, ap shown_text all)
 ]
 
-same-lines : (e : Session) (lines wholes : List (List ℕ)) → AllAlike lines wholes → (answers e lines ≡ answers e wholes) × (after_lines e lines ≡ after_lines e wholes)
+same-lines : (e : Session) (lines : List (List ℕ)) → (answers e (map (take 258) lines) ≡ answers e lines) × (after_lines e (map (take 258) lines) ≡ after_lines e lines)
 unfolding answers after_lines
-same-lines e [] [] h = (refl, refl)
-same-lines e (line ∷ lines) (whole ∷ wholes) h =
-    let more = same-lines (next e (said_on e.row whole)) lines wholes h.1 in
-    rw (same-said e.row line whole h.0, same-shown line whole h.0) (ap (λ (l : List ℕ). answer_said e (said_on e.row whole) (shown_text whole) ++ l) more.0, more.1)
-same-lines _ _ _ h = absurd h
+same-lines e [] = (refl, refl)
+same-lines e (line ∷ lines) =
+    let same = same-line e.row line in
+    let more = same-lines (next e (said_on e.row line)) lines in (
+      ap₂ (λ (r : Said) (shown : List ℕ). answer_said e r shown ++ answers (next e r) (map (take 258) lines)) same.0 same.1
+          ∙ ap (λ (l : List ℕ). answer_said e (said_on e.row line) (shown_text line) ++ l) more.0,
+      ap (λ (r : Said). after_lines (next e r) (map (take 258) lines)) same.0 ∙ more.1,
+    )
 
 pub read-whole : LinesAreReadWhole
 unfolding LinesAreReadWhole
-read-whole e bytes = let same = same-lines e (lines_of bytes) (uncut_lines bytes) (lines-alike [] [] bytes (inl refl)) in record { text = same.0; after = same.1 }
+read-whole e bytes =
+    let kept = lines-kept [] bytes in
+    let same = same-lines e (uncut_lines bytes) in record { text = ap (answers e) kept ∙ same.0; after = ap (after_lines e) kept ∙ same.1 }

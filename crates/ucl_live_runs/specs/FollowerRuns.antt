@@ -2,7 +2,7 @@
 -- to, and how the program ends. A line may carry a board state: a header (group, tie-break order, edition), clubs and a board. It is shown
 -- if it is newer than all before (of a later edition, or of more events); every other line is passed over.
 use Rattle.std.specs.Io.KnownBytes.{Appends}
-use Rattle.std.specs.Prelude.{Bool, Err, List, None, Ok, Option, Result, Some, [], codes, decimal, false, get_or, length, set, string_bytes, true, ℕ}
+use Rattle.std.specs.Prelude.{Bool, Err, List, None, Ok, Option, Result, Some, [], codes, decimal, false, get_or, length, set, true, ℕ}
 use Rattle.ucl_command.specs.declared.fault.LineFault.{LineFault}
 use Rattle.ucl_command.specs.declared.follow.FollowArgs.{FollowArgs}
 use Rattle.ucl_command.specs.declared.follow.FollowShape.{FollowShape}
@@ -23,8 +23,6 @@ use Rattle.ucl_rows.specs.declared.fault.RunFault.TheVariants.{OutOfMemory}
 use Rattle.std.specs.Prelude.{if◌then◌else◌, ◌++◌, ◌+◌, ◌-◌, ◌∷◌, ◌≡◌, ◌≤◌}
 use Rattle.ucl_rows.specs.declared.fault.RunFault.{RunFault}
 use Rattle.ucl_live_runs.specs.declared.follower.Follower.{Follower}
-use Rattle.ucl_live_runs.specs.declared.follower.FollowOutput.{FollowOutput}
-use Rattle.ucl_live_runs.specs.declared.follower.FollowOutput.TheVariants.{Nothing, Screen}
 use Rattle.ucl_live_runs.specs.declared.follower.FollowState.{FollowState}
 use Rattle.ucl_live_runs.specs.declared.follower.FollowSummary.{FollowSummary}
 use Rattle.ucl_live_runs.specs.Driven.{Due, IsDriven}
@@ -32,11 +30,6 @@ use Rattle.ucl_live_runs.specs.Requests.{is_asked}
 use Rattle.ucl_live_runs.specs.Follow.{after_line, one_more, follow_text, followed, unseen, whole_lines}
 use Rattle.ucl_io.specs.declared.stream.Source as reads
 use Rattle.ucl_io.specs.declared.stream.Sink as writes
-
--- the bytes that a follower writes for a line: none, or the text that shows a board state
-abbrev pub output_bytes : FollowOutput → List ℕ
-output_bytes Nothing = []
-output_bytes (Screen text) = string_bytes text
 
 -- the form in which a follower shows board states: as text, in JSON, or as matches
 abbrev pub shape_of : {T : Type 0} → Follower T → FollowShape

@@ -5,46 +5,22 @@
 ghost use Rattle.std.specs.Prelude.{◌≡◌, ◌<◌, ◌≤◌, ⊤, [], length, IfOk};
 ghost use Rattle.ucl_rows.specs.declared.fault.RunFault.TheVariants.{OutOfMemory};
 ghost use Rattle.ucl_screen.specs.Screen.{IsGroup};
+ghost use Rattle.ucl_rows.specs.Answers.{bytes_of};
 ghost use Rattle.ucl_live_runs.specs.Follow.{is_later, is_newer, line_output, output_text, unseen};
-ghost use Rattle.ucl_live_runs.specs.FollowerRuns.{IsHandled, follow_state_of, shape_of, output_bytes, follow_due, Reports, report_place, unreported};
+ghost use Rattle.ucl_live_runs.specs.FollowerRuns.{IsHandled, follow_state_of, shape_of, follow_due, Reports, report_place, unreported};
 ghost use Rattle.ucl_json.specs.BoardLines.{parse_board_line};
 ghost use Rattle.ucl_live_runs.specs.Driven.{IsDriven};
 
 use crate::follow_program::other_line;
 use crate::header::is_asked;
 use std::alloc::Global;
-use ucl_command::{FollowArgs, FollowShape};
-use ucl_io::{LineHandler, LoggedIo, MAX_KEPT_BYTES, ServeFault, Text, serve_lines};
-use ucl_json::{BoardHeader, BoardState, edition_screen_json, parse_board_line};
+use ucl_command::{FollowArgs, FollowShape, Format};
+use ucl_io::{LineHandler, LoggedIo, MAX_KEPT_BYTES, ServeFault, serve_lines};
+use ucl_json::{BoardHeader, BoardState, parse_board_line};
 use ucl_order::Profile;
-use ucl_rows::{RunFault, put_text};
-use ucl_screen::{Sink, Source, matches, screen};
+use ucl_rows::{Answer, RunFault, matches_answer, put_text, screen_text};
+use ucl_screen::{Sink, Source};
 use ucl_word::OutOfMemory;
-
-/// What a follower writes for one line of its input.
-#[derive(Drop)]
-pub enum FollowOutput {
-    /// Nothing.
-    Nothing,
-    /// The text that shows a board state: its screen, or its twelve matches.
-    Screen(String),
-}
-
-impl Text for FollowOutput {
-    ghost bytes = { output_bytes };
-
-    /// Creates the output before a line is answered: nothing is written.
-    fn new() -> FollowOutput {
-        FollowOutput::Nothing
-    }
-
-    fn text(&self) -> &[u8] {
-        match self {
-            FollowOutput::Nothing => b"".as_slice(),
-            FollowOutput::Screen(text) => text.as_str().as_bytes(),
-        }
-    }
-}
 
 /// Returns the text that shows the board state of line `row`: its screen, as text or JSON, or its matches. Fails only if out of memory.
 fn show(
@@ -52,30 +28,23 @@ fn show(
     shape: FollowShape,
     row: u64,
     board_state: &BoardState,
-) -> Result<FollowOutput, OutOfMemory>
+) -> Result<Answer, OutOfMemory>
     requires { IsGroup board_state.now.header.group }
-    ensures { IfOk result (λ follow_output. output_bytes follow_output ≡ output_text shape row board_state.now) }
+    ensures { IfOk result (λ answer. bytes_of answer ≡ output_text shape row board_state.now) }
 {
+    let header = board_state.header;
+    let board = &board_state.board;
+    let roster = &board_state.roster;
     match shape {
-        FollowShape::Text => Ok(FollowOutput::Screen(screen(
-            alloc,
-            &board_state.board,
-            &board_state.roster,
-            board_state.header.group,
-            board_state.header.profile,
-        )?)),
-        FollowShape::Json => Ok(FollowOutput::Screen(edition_screen_json(
-            alloc,
-            row,
-            &board_state.board,
-            &board_state.roster,
-            board_state.header,
-        )?)),
-        FollowShape::Matches => Ok(FollowOutput::Screen(matches(
-            alloc,
-            &board_state.board,
-            &board_state.roster,
-        )?)),
+        FollowShape::Text => {
+            let text = screen_text(alloc, Format::Text, header, row, board, roster)?;
+            Ok(Answer::Long(text))
+        }
+        FollowShape::Json => {
+            let text = screen_text(alloc, Format::Json, header, row, board, roster)?;
+            Ok(Answer::Long(text))
+        }
+        FollowShape::Matches => matches_answer(alloc, Format::Text, row, board, roster),
     }
 }
 
@@ -142,7 +111,7 @@ impl<T> Follower<T> {
 
 impl<T: Sink> LineHandler for Follower<T> {
     /// What it writes for a line.
-    type Answer = FollowOutput;
+    type Answer = Answer;
 
     /// Why it cannot write for a line: it is out of memory.
     type Fault = RunFault;
@@ -159,7 +128,7 @@ impl<T: Sink> LineHandler for Follower<T> {
     ghost stops_at_end = { λ _ _ _ _ _. ⊥ };
 
     /// Shows the line's board state if it is newer than all before; reports it if of another group or order. Fails if out of memory.
-    fn answer(&mut self, _row: u64, line: &[u8], text: &mut FollowOutput) -> Result<(), RunFault> {
+    fn answer(&mut self, _row: u64, line: &[u8], text: &mut Answer) -> Result<(), RunFault> {
         let told = parse_board_line(self.alloc, line)?;
         let row = self.follow_state.lines.saturating_add(1);
         let (group, profile) = (self.follow_state.group, self.follow_state.profile);
@@ -171,7 +140,7 @@ impl<T: Sink> LineHandler for Follower<T> {
                     row,
                     board_state.header,
                 );
-                *text = FollowOutput::Nothing;
+                *text = Answer::nothing();
                 self.follow_state.lines = row;
             }
             Some(board_state) if is_newer(&self.follow_state.newest, &board_state) => {
@@ -183,7 +152,7 @@ impl<T: Sink> LineHandler for Follower<T> {
                 self.follow_state.shown = self.follow_state.shown.saturating_add(1);
             }
             _ => {
-                *text = FollowOutput::Nothing;
+                *text = Answer::nothing();
                 self.follow_state.lines = row;
             }
         }
@@ -191,8 +160,8 @@ impl<T: Sink> LineHandler for Follower<T> {
     }
 
     /// Writes nothing for `begun`, a last line without a line feed: it is not followed.
-    fn end(&mut self, _row: u64, _begun: &[u8], text: &mut FollowOutput) -> Result<(), RunFault> {
-        *text = FollowOutput::Nothing;
+    fn end(&mut self, _row: u64, _begun: &[u8], text: &mut Answer) -> Result<(), RunFault> {
+        *text = Answer::nothing();
         Ok(())
     }
 }

@@ -27,7 +27,7 @@ pub use follow_theorems::{
     latest_is_shown_last, lines_tell_their_board_state, matches_fit_their_line,
     others_do_not_matter, repeated_rows_change_nothing, same_rows_same_table, versions_rise,
 };
-pub use follower::{FollowOutput, FollowSummary, Follower, follow_run};
+pub use follower::{FollowSummary, Follower, follow_run};
 pub use live_fault::LiveFault;
 pub use live_program::run_session;
 pub use live_theorems::{

@@ -13,20 +13,20 @@ use crate::config::{Config, Line};
 use crate::header::{HeaderState, asked_header};
 use crate::live_fault::LiveFault;
 use crate::phase::{Phase, with_club, with_first};
+use csv::ByteRecord;
 use std::alloc::Global;
 use std::mem;
 use ucl_command::LiveArgs;
 use ucl_io::{LineHandler, LoggedIo, ServeFault, serve_lines};
-use ucl_rows::{Answer, LineReader, MAX_ROW_LINE_BYTES, RowCount, RowFields, plain_row};
+use ucl_rows::{Answer, MAX_ROW_LINE_BYTES, RowFields, plain_row, read_row};
 use ucl_screen::{Sink, Source};
 
-/// A session between two lines: its options, the header of its board, its phase (how far its first rows are), and the reader of its lines.
+/// A session between two lines: its options, the header of its board, and its phase (how far its first rows are).
 #[derive(Drop)]
 pub struct Session {
     config: Config,
     heading: HeaderState,
     phase: Phase,
-    reader: LineReader,
 }
 
 impl Phase {
@@ -74,7 +74,6 @@ impl Session {
             config: Config { alloc, options },
             heading,
             phase: Phase::AwaitingHeader,
-            reader: LineReader::new(),
         }
     }
 }
@@ -107,19 +106,13 @@ impl LineHandler for Session {
                 .phase
                 .answer(&self.config, &mut self.heading, &line, answer);
         }
-        match self.reader.read(row, text) {
-            RowCount::Nothing => {
+        let mut record = ByteRecord::new(self.config.alloc);
+        match read_row(self.config.alloc, row, text, &mut record)? {
+            None => {
                 *answer = Answer::nothing();
                 Ok(())
             }
-            RowCount::More => {
-                let said = RowFields::Other;
-                let line = Line { row, said, text };
-                self.phase
-                    .answer(&self.config, &mut self.heading, &line, answer)
-            }
-            RowCount::One => {
-                let said = self.reader.row();
+            Some(said) => {
                 let line = Line { row, said, text };
                 self.phase
                     .answer(&self.config, &mut self.heading, &line, answer)
@@ -153,8 +146,8 @@ impl LineHandler for Session {
 ///
 /// If the source fails, the answers before are out. If the sink fails, the error says how many bytes of the answers are out. If there is no
 /// memory for the answer to a line, those before it are out, whole. Memory is needed only for the names of clubs, for screens and matches,
-/// and for each answer in JSON. If the clubs have a fault, nothing is out. `TooLong` comes after more than 2^62 bytes, which no session
-/// has.
+/// for each answer in JSON, and to read line 1 and a line that is no row of four fields without quotes. If the clubs have a fault, nothing
+/// is out. `TooLong` comes after more than 2^62 bytes, which no session has.
 pub fn live_run<S: Source, W: Sink>(
     alloc: Global,
     options: LiveArgs,

@@ -1,11 +1,10 @@
 -- The words and lemmas from elsewhere that the proofs of this crate share.
-pub use Rattle.csv.specs.Machine.{Read, after_end, ends_at_end, in_field, next_record, step}
+pub use Rattle.csv.specs.Machine.{Read, after_end, ends_at_end, in_field, step}
 pub use Rattle.csv.specs.Reading.{default_config, records}
 pub use Rattle.csv.specs.declared.parser.State.{State}
 pub use Rattle.std.proofs.Common.{Bool, List, None, Option, Some, [], ap, append-nil, append_assoc, arith, drop, false, get_or, inl, inr, length, length-append, min}
 pub use Rattle.std.proofs.Common.{refl, set, subst, suc, sym, take, true, zero, ℕ, ◌%◌, ◌*◌, ◌++◌, ◌+◌, ◌-◌, ◌/◌, ◌<◌, ◌==◌, ◌^◌, ◌∙◌, ◌∷◌, ◌≡◌, ◌≤◌, ◌⊎◌}
 pub use Rattle.std.proofs.Math.Nat.{pow-suc}
-pub use Rattle.std.proofs.Math.Seq.{drop-length}
 pub use Rattle.std.proofs.lemmas.Bool.{and_parts, cases_Bool}
 pub use Rattle.std.proofs.lemmas.Bool.Decides.{nat_tests}
 pub use Rattle.std.proofs.lemmas.List.{drop_more, take-append-drop, take_all, take_more}
@@ -18,12 +17,8 @@ pub use Rattle.ucl_io.proofs.Cuts.{rest_of}
 pub use Rattle.ucl_order.specs.Roster.{is_printed}
 pub use Rattle.ucl_rows.specs.BadRows.{shown_text}
 pub use Rattle.ucl_rows.specs.Lines.{word_lines, word_line}
-pub use Rattle.ucl_rows.specs.Reading.{AreJoining, EndsRow, IsBehindEnds, IsFieldBefore, after_action, begins_row, csv_state_of, field_in, is_joining, csv_step_of}
+pub use Rattle.ucl_rows.specs.Reading.{AreJoining, EndsRow, IsFieldBefore, is_joining, is_line_end}
 pub use Rattle.ucl_rows.specs.Rows.{Row, fits, of_rows, said_on}
 pub use Rattle.ucl_rows.specs.Run.{IsStopped}
 pub use Rattle.ucl_rows.specs.declared.fault.RunFault.{RunFault}
-pub use Rattle.ucl_rows.specs.declared.row.RowAction.{RowAction}
-pub use Rattle.ucl_rows.specs.declared.row.RowAction.TheVariants.{EndRecord}
-pub use Rattle.ucl_rows.specs.declared.row.RowState.{RowState}
-pub use Rattle.ucl_rows.specs.declared.row.RowState.TheVariants.{InField, StartField}
 pub use Rattle.ucl_screen.specs.Numbers.{hex_digits}

@@ -2,5 +2,5 @@ pub mod Common
 pub mod Texts
 pub mod NightParts
 pub mod WordDigits
-pub mod RowEnds
+pub mod PlainRows
 pub mod LiveShown

@@ -7,7 +7,7 @@ use Rattle.ucl_io.specs.declared.stream.Sink as writes
 use Rattle.ucl_rows.specs.declared.fault.RunFault.{RunFault}
 use Rattle.ucl_rows.specs.declared.fault.RunFault.TheVariants.{OutOfMemory}
 use Rattle.ucl_rows.specs.Faults.{status}
-use Rattle.ucl_rows.specs.Run.{IsCutShort}
+use Rattle.ucl_rows.specs.Run.{IsStopped}
 use Rattle.ucl_rows.specs.Printing.{Prints, fault_line}
 use Rattle.ucl_command.specs.declared.fault.LineFault.{LineFault}
 use Rattle.ucl_command.specs.declared.fault.LineFault.TheVariants as words
@@ -31,7 +31,7 @@ Ends (Err fault) e = (e.code ≡ status fault) × Prints e.failed e.old e.new (f
 -- if the result is `Ok` a text was written whole; if it is a fault, the sink failed in the text, and the fault counts the bytes written
 pub record WritesText (text : List ℕ) (failed : Bool) (old new : Option (List ℕ)) (r : Result ⊤ RunFault) : Type 0 where
   pub all : OnOk r (Appends old new text)
-  pub part : IfErr r (IsCutShort failed old new text)
+  pub part : IfErr r (IsStopped 0 failed old new text)
 
 -- what a program does if its arguments ask for no command: it writes help on its output, or prints a refusal or the line of lack of memory
 module _ {W : Type 0} (failed_of : W → Bool) (taken_of : W → Option (List ℕ)) where

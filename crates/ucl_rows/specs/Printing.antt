@@ -1,20 +1,14 @@
 -- What is printed on an error sink, which stands for standard error. `old` and `new` are the bytes that it took before and after, None if
 -- they are not known.
-use Rattle.std.specs.Prelude.{◌≡◌, ◌⊎◌, ℕ, Bool, true, List, ◌++◌, Option, codes}
+use Rattle.std.specs.Prelude.{◌⊎◌, ℕ, Bool, List, ◌++◌, Option, codes}
 use Rattle.std.specs.Io.KnownBytes.{Appends}
-use Rattle.ucl_io.specs.Stream.{WroteFirst}
+use Rattle.ucl_io.specs.Output.{StoppedShort}
 use Rattle.ucl_rows.specs.declared.fault.RunFault.{RunFault}
 use Rattle.ucl_rows.specs.Faults.{fault_text}
 
--- an error sink has failed in a text, of which it took some first bytes, maybe none, and not all
-pub record BrokeOff (failed : Bool) (old new : Option (List ℕ)) (text : List ℕ) : Type 0 where
-  pub failed_is : failed ≡ true
-  pub count : ℕ
-  pub first : WroteFirst old new count text
-
 -- a text was printed on an error sink, whole or as far as the sink took it
 abbrev pub Prints : Bool → Option (List ℕ) → Option (List ℕ) → List ℕ → Type 0
-Prints failed old new text = Appends old new text ⊎ BrokeOff failed old new text
+Prints failed old new text = Appends old new text ⊎ ((written : ℕ) × StoppedShort 0 failed old new text written)
 
 -- the line of a fault, with its line feed
 abbrev pub fault_line : RunFault → List ℕ

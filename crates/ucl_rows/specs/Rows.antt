@@ -4,34 +4,12 @@
 use Rattle.std.specs.Prelude.{ℕ, ◌-◌, ◌==◌, nat_le, if◌then◌else◌, Bool, List, [], ◌∷◌, ◌++◌, length, get_or, Option, Some, None}
 use Rattle.csv.specs.Reading.{default_config, records}
 use Rattle.ucl_screen.specs.Rows.{Fields, FourFields, four_of, four_seen, rows_of}
-use Rattle.ucl_rows.specs.declared.row.RowFields.{RowFields}
-use Rattle.ucl_rows.specs.declared.row.RowFields.TheVariants as seen
-
--- what a line has: no row; or several rows, or more bytes than are read; or one row
-pub data LineRow : Type 0 where
-  NoRow : LineRow
-  Unread : LineRow
-  OneRow : (fields : Fields) → LineRow
-
--- what a line has of which these are the rows: none, one, or several, which are not read
-abbrev pub only_row : List Fields → LineRow
-only_row [] = NoRow
-only_row (row ∷ []) = OneRow row
-only_row (row ∷ other ∷ rows) = Unread
+use Rattle.ucl_rows.specs.declared.line.RowFields.{RowFields}
+use Rattle.ucl_rows.specs.declared.line.RowFields.TheVariants as seen
 
 -- whether a line with its end has at most 256 bytes before it: a line feed, or a carriage return and a line feed
 abbrev pub fits : List ℕ → Bool
 fits text = nat_le (length text) (if get_or text (length text - 2) 0 == 13 then 258 else 257)
-
--- what the line with this number has, given with its line feed: at the start of line 1 a byte order mark is ignored
-unfoldable pub row_by_text : ℕ → List ℕ → LineRow
-row_by_text row text = if fits text then only_row (if row == 1 then rows_of text else records default_config text) else Unread
-
--- what the line with this number has, given without its line feed
-abbrev pub row_on : ℕ → List ℕ → LineRow
-row_on row line = row_by_text row (line ++ 10 ∷ [])
-
--- ---- rows of four fields
 
 -- what a line says: nothing; something else than four fields, or too long to be read; or a row of four fields
 pub data Said : Type 0 where
@@ -49,16 +27,21 @@ abbrev pub fields_seen : RowFields → Said
 fields_seen (seen.Four f) = Row (four_seen f)
 fields_seen seen.Other = Other
 
--- what a line says that has no row, one row, or something that is not read
-abbrev pub said_of : LineRow → Said
-said_of NoRow = Nothing
-said_of Unread = Other
-said_of (OneRow row) = of_row (four_of row)
+-- what a line says, given as what the code returns: None if it has no row
+abbrev pub line_seen : Option RowFields → Said
+line_seen None = Nothing
+line_seen (Some row) = fields_seen row
 
--- what a line says of which these are the rows
+-- what a line says of which these are the rows: one of four fields, none, or something else
 abbrev pub of_rows : List Fields → Said
-of_rows rows = said_of (only_row rows)
+of_rows [] = Nothing
+of_rows (row ∷ []) = of_row (four_of row)
+of_rows (row ∷ other ∷ rows) = Other
 
--- what the line with this number says, given without its line feed: nothing, a row of four fields, or something else
+-- what the line with this number says, given with its line feed: at the start of line 1 a byte order mark is ignored
+unfoldable pub said_by_text : ℕ → List ℕ → Said
+said_by_text row text = if fits text then of_rows (if row == 1 then rows_of text else records default_config text) else Other
+
+-- what the line with this number says, given without its line feed
 abbrev pub said_on : ℕ → List ℕ → Said
-said_on row line = said_of (row_on row line)
+said_on row line = said_by_text row (line ++ 10 ∷ [])

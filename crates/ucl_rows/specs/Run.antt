@@ -4,11 +4,10 @@ use Rattle.std.specs.Prelude.{◌≡◌, ℕ, ◌+◌, ◌≤◌, Bool, true, fa
 use Rattle.std.specs.Io.KnownBytes.{Appends}
 use Rattle.ucl_screen.specs.declared.fault.InputFault.{InputFault}
 use Rattle.ucl_screen.specs.declared.fault.InputFault.TheVariants as input
-use Rattle.ucl_screen.specs.Input.{Reads, max_bytes}
+use Rattle.ucl_screen.specs.Input.{max_bytes}
 use Rattle.ucl_io.specs.declared.fault.ServeFault.{ServeFault}
 use Rattle.ucl_io.specs.declared.fault.ServeFault.TheVariants as driver
 use Rattle.ucl_io.specs.Output.{StoppedShort}
-use Rattle.ucl_io.specs.Stream.{WroteFirst}
 use Rattle.ucl_rows.specs.declared.fault.RunFault.{RunFault}
 use Rattle.ucl_rows.specs.declared.fault.RunFault.TheVariants.{Input, WriteFailed, NotOnDuty}
 
@@ -30,11 +29,6 @@ IfWriteFailed _ P = ⊤
 abbrev pub UnlessWriteFailed : RunFault → Type 0 → Type 0
 UnlessWriteFailed (WriteFailed written) P = ⊤
 UnlessWriteFailed _ P = P
-
--- the output has failed in a text: it took some first bytes, as many as the fault has, and not all
-abbrev pub IsCutShort : Bool → Option (List ℕ) → Option (List ℕ) → List ℕ → RunFault → Type 0
-IsCutShort failed old new text (WriteFailed written) = (failed ≡ true) × WroteFirst old new written text
-IsCutShort failed old new text _ = ⊥
 
 -- whether the run failed because the input could not be read
 abbrev pub is_read_failed : {U : Type 0} → Result U RunFault → Bool

@@ -1,5 +1,5 @@
-//! What the runs over rows of the board of one group of the UEFA Champions League share: `LineReader` reads the row on a line, and keeps no
-//! more of it than a row can have; an `Answer` is what a row is answered, as text or as a line of JSON; `word_lines` writes the words of a
+//! What the runs over rows of the board of one group of the UEFA Champions League share: `plain_row` and `read_row` read the row on a
+//! line; an `Answer` is what a row is answered, as text or as a line of JSON; `word_lines` writes the words of a
 //! board; a `RunFault` is why a run fails, and `print_fault` writes its line and gives the exit status.
 #![tactic(auto)]
 
@@ -10,7 +10,6 @@ mod fault;
 mod line;
 mod output;
 mod plain;
-mod row;
 mod words;
 
 pub use answer::{
@@ -20,7 +19,6 @@ pub use answer::{
 pub use bad_row::{BadField, bad_field};
 pub use ending::{ended, exit_without_command, print_fault, print_refusal};
 pub use fault::{RunFault, of_driver, status_of};
-pub use line::{LineReader, plain_row};
+pub use line::{MAX_ROW_LINE_BYTES, RowFields, plain_row, read_row};
 pub use output::{put_text, put_under};
-pub use row::{MAX_ROW_LINE_BYTES, RowCount, RowFields};
 pub use words::{WordLines, word_lines};

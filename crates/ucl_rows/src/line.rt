@@ -1,29 +1,35 @@
-//! Reading a line: the row on it, as the crate `csv` reads in its default dialect. A line with more than 256 bytes before its end is not
-//! read, and counts as one of several rows. In contracts `said_on` is what a line says: nothing, four fields, or something else.
+//! What a line says: the row on it, as the crate `csv` reads in its default dialect, or nothing. A line with more than 256 bytes before its
+//! end is not read, and counts as one of several rows. In contracts `said_on` is what a line says.
 
-ghost use Rattle.std.specs.Prelude.{◌≡◌, ◌∷◌, [], ◌++◌, IfSome};
-ghost use Rattle.ucl_screen.specs.Rows.{four_seen};
-ghost use Rattle.ucl_rows.specs.Reading.{HoldsRow, fields_read, row_in};
-ghost use Rattle.ucl_rows.specs.Rows.{OneRow, Row, fields_seen, fits, row_on, said_of, said_on};
+ghost use Rattle.std.specs.Prelude.{◌≡◌, ◌+◌, ◌≤◌, ◌∷◌, [], ◌++◌, IfOk, IfSome, length, true};
+ghost use Rattle.ucl_screen.specs.Rows.{four_seen, rows_of};
+ghost use Rattle.ucl_rows.specs.Rows.{Row, fits, line_seen, of_rows, said_on};
 
 use crate::plain::plain_four;
-use crate::row::{Fields, MAX_ROW_LINE_BYTES, RowCount, RowFields, without_mark};
 use arrayvec::ArrayVec;
-use ucl_screen::Four;
+use csv::ByteRecord;
+use std::alloc::{AllocError, Global};
+use ucl_screen::{Four, four_fields, next_row, open_rows};
 
 /// The most bytes of a line before its end.
 const MAX_ROW_BYTES: usize = 256;
 
-/// A reader of lines, one after the other, that keeps the fields of the last row.
-#[derive(Drop)]
-pub struct LineReader {
-    text: ArrayVec<u8, MAX_ROW_LINE_BYTES>,
-    fields: Fields,
+/// The most bytes that are read of a line: 256, and the two of its end.
+pub const MAX_ROW_LINE_BYTES: usize = 258;
+
+/// What a line says that is not empty.
+#[derive(Clone, Copy)]
+pub enum RowFields<'a> {
+    /// A row of these four fields.
+    Four(Four<'a>),
+    /// A row of fewer fields, or of more; or several rows; or it is too long to be read.
+    Other,
 }
 
 /// Returns whether a line, given without its line feed, has at most 256 bytes before its end, to which a last carriage return belongs.
 fn fits(line: &[u8]) -> bool
-    ensures { result ≡ fits (line.now ++ 10 ∷ []) }
+    ensures value { result ≡ fits (line.now ++ 10 ∷ []) }
+    ensures short { result ≡ true → length line.now ≤ 257 }
 {
     let len = line.len();
     if len > 0 && line[len - 1] == b'\r' {
@@ -35,7 +41,7 @@ fn fits(line: &[u8]) -> bool
 
 /// Returns the fields of the line with this number, if it is a row of four fields without quotes. For any other line, and for line 1, which
 /// may begin with a byte order mark, the answer is `None`.
-#[tactic(auto, using(crate::proofs::RowEnds::said_plain))]
+#[tactic(auto, using(crate::proofs::PlainRows::said_plain))]
 pub fn plain_row(row: u64, line: &[u8]) -> Option<Four<'_>>
     ensures { IfSome result (λ four. said_on row line.now ≡ Row (four_seen four)) }
 {
@@ -46,40 +52,62 @@ pub fn plain_row(row: u64, line: &[u8]) -> Option<Four<'_>>
     }
 }
 
-impl LineReader {
-    /// Creates a reader that has read nothing.
-    pub fn new() -> LineReader {
-        LineReader {
-            text: ArrayVec::new(),
-            fields: Fields::new(),
-        }
-    }
+/// Returns some bytes, and then a line with its line feed.
+fn fed(before: &[u8], line: &[u8]) -> ArrayVec<u8, 259>
+    requires { length before.now + length line.now ≤ 258 }
+    ensures { result.items ≡ (before.now ++ line.now) ++ 10 ∷ [] }
+{
+    let mut text = ArrayVec::new();
+    let _room = text.try_extend_from_slice(before);
+    let _room = text.try_extend_from_slice(line);
+    text.push(b'\n');
+    text
+}
 
-    /// Reads the line with this number, given without its line feed, keeps the fields of its first row, and returns how many rows it has.
-    #[tactic(auto, unfolding(crate::specs::Rows::row_by_text))]
-    pub fn read(&mut self, row: u64, line: &[u8]) -> RowCount
-        ensures read { HoldsRow self.new }
-        ensures row { row_in result (fields_read self.new) ≡ row_on row line.now }
-    {
-        if !fits(line) {
-            self.fields.clear();
-            return RowCount::More;
-        }
-        self.text.clear();
-        let _room = self.text.try_extend_from_slice(line);
-        self.text.push(b'\n');
-        if row == 1 {
-            self.fields.read(without_mark(self.text.as_slice()))
-        } else {
-            self.fields.read(self.text.as_slice())
-        }
+/// Returns what a text says, as `csv` reads its rows, the first into `record`; `None` if it has no row. It fails only without memory.
+fn read_text<'a>(
+    alloc: Global,
+    text: &[u8],
+    record: &'a mut ByteRecord,
+) -> Result<Option<RowFields<'a>>, AllocError>
+    ensures { IfOk result (λ said. line_seen said ≡ of_rows (rows_of text.now)) }
+{
+    let mut rows = open_rows(alloc, text);
+    if !next_row(&mut rows, record)? {
+        return Ok(None);
     }
+    let mut other = ByteRecord::new(alloc);
+    if next_row(&mut rows, &mut other)? {
+        return Ok(Some(RowFields::Other));
+    }
+    match four_fields(record) {
+        Some(four) => Ok(Some(RowFields::Four(four))),
+        None => Ok(Some(RowFields::Other)),
+    }
+}
 
-    /// Returns the fields of the row that was read last: `Four` if they are four, and else `Other`.
-    pub fn row(&self) -> RowFields<'_>
-        requires { HoldsRow self.now }
-        ensures { fields_seen result ≡ said_of (OneRow (fields_read self.now)) }
-    {
-        self.fields.row()
+/// Returns what the line with this number says, given without its line feed, as `csv` reads it into `record`; `None` if it has no row.
+///
+/// # Errors
+///
+/// If there is no memory.
+#[tactic(auto, using(crate::proofs::PlainRows::rows_after_feed), unfolding(crate::specs::Rows::said_by_text))]
+pub fn read_row<'a>(
+    alloc: Global,
+    row: u64,
+    line: &[u8],
+    record: &'a mut ByteRecord,
+) -> Result<Option<RowFields<'a>>, AllocError>
+    ensures { IfOk result (λ said. line_seen said ≡ said_on row line.now) }
+{
+    if !fits(line) {
+        return Ok(Some(RowFields::Other));
     }
+    if row == 1 {
+        let text = fed(b"".as_slice(), line);
+        return read_text(alloc, text.as_slice(), record);
+    }
+    // A line feed before it, since a byte order mark counts in line 1 alone.
+    let text = fed(b"\n".as_slice(), line);
+    read_text(alloc, text.as_slice(), record)
 }

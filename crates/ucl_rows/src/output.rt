@@ -2,7 +2,7 @@
 
 ghost use Rattle.std.specs.Prelude.{◌≡◌, ◌+◌, ◌-◌, ◌^◌, ◌++◌, min, length, OnOk, IfOk, IfErr};
 ghost use Rattle.std.specs.Io.KnownBytes.{Appends};
-ghost use Rattle.ucl_rows.specs.Run.{IsCutShort, IsStopped};
+ghost use Rattle.ucl_rows.specs.Run.{IsStopped};
 
 use crate::fault::RunFault;
 use ucl_screen::{Sink, give_all};
@@ -11,14 +11,12 @@ use ucl_screen::{Sink, give_all};
 /// and no sink is called with an empty text.
 pub fn put_text<W: Sink>(sink: &mut W, text: &[u8]) -> Result<(), RunFault>
     ensures all { OnOk result (Appends (W.taken sink.old) (W.taken sink.new) text.now) }
-    ensures part { IfErr result (IsCutShort (W.failed sink.new) (W.taken sink.old)
+    ensures part { IfErr result (IsStopped 0 (W.failed sink.new) (W.taken sink.old)
         (W.taken sink.new) text.now) }
     ensures sound { OnOk result (W.failed sink.new ≡ W.failed sink.old) }
 {
-    match give_all(sink, text) {
-        Ok(()) => Ok(()),
-        Err(written) => Err(RunFault::WriteFailed { written }),
-    }
+    put_bytes(sink, 0, text)?;
+    Ok(())
 }
 
 /// Writes bytes after `before` others, and returns how many are out then. A number past `usize::MAX` is given as `usize::MAX`. A sink that

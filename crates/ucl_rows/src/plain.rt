@@ -1,12 +1,12 @@
 //! The fields of a row that has no quotes, read where they lie. Commas, quotes, carriage returns and line feeds end one.
 
 ghost use Rattle.std.specs.Prelude.{◌≡◌, ◌≤◌, ◌++◌, [], ◌∷◌, IfSome, length, take};
+ghost use Rattle.std.specs.List.{list_all};
 ghost use Rattle.csv.specs.Reading.{default_config, records};
 ghost use Rattle.ucl_screen.specs.Rows.{four_seen};
 ghost use Rattle.ucl_rows.specs.Rows.{Row, of_rows};
-ghost use Rattle.ucl_rows.specs.Reading.{EndsRow, IsFieldBefore, AreJoining, is_joining};
+ghost use Rattle.ucl_rows.specs.Reading.{AreJoining, EndsRow, IsFieldBefore, is_joining, is_line_end};
 
-use crate::row::without_ends;
 use ucl_screen::Four;
 
 /// Returns whether a byte can stand in a field without quotes.
@@ -17,7 +17,7 @@ fn is_joining(b: u8) -> bool
 }
 
 /// Returns how many bytes of a text come before its first comma, quote, carriage return or line feed, or all if it has none.
-#[tactic(auto, using(crate::proofs::RowEnds::joining_more))]
+#[tactic(auto, using(crate::proofs::PlainRows::joining_more))]
 fn field_length(text: &[u8]) -> usize
     ensures within { result ≤ length text.now }
     ensures joining { AreJoining (take result text.now) }
@@ -43,12 +43,19 @@ fn halves(text: &[u8]) -> Option<(&[u8], &[u8])>
     }
 }
 
+/// Returns whether all bytes of a text are carriage returns and line feeds.
+fn are_line_ends(text: &[u8]) -> bool
+    ensures { result ≡ list_all is_line_end text.now }
+{
+    text.iter().all(|b| *b == b'\r' || *b == b'\n')
+}
+
 /// Returns the first field of a text if nothing but carriage returns and line feeds come after it, or else `None`.
 fn last_field(text: &[u8]) -> Option<&[u8]>
     ensures { IfSome result (λ field. EndsRow (text.now ++ 10 ∷ []) field.now) }
 {
     let at = field_length(text);
-    if without_ends(&text[at..]).is_empty() {
+    if are_line_ends(&text[at..]) {
         Some(&text[..at])
     } else {
         None

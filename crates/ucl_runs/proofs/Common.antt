@@ -4,7 +4,7 @@ pub use Rattle.std.proofs.Common.{length-append, map, ne_eqb, refl, rules, slice
 pub use Rattle.std.proofs.Common.{◌∷◌, ◌≡◌, ◌≢◌, ◌≤◌, ◌⊎◌}
 pub use Rattle.std.proofs.Math.Seq.{take-length}
 pub use Rattle.std.proofs.lemmas.Bool.{cases_eq, cases_lt, false≢true}
-pub use Rattle.std.proofs.lemmas.List.{take-append-drop, take_more}
+pub use Rattle.std.proofs.lemmas.List.{take-append-drop}
 pub use Rattle.std.proofs.lemmas.List.Elements.{All-get_or, All-push}
 pub use Rattle.std.proofs.lemmas.Option.{none-some, same_Some}
 pub use Rattle.std.proofs.lemmas.Result.{err_from_is_err_and}
@@ -17,7 +17,6 @@ pub use Rattle.ucl_board.specs.Fixtures.{match_numbers}
 pub use Rattle.ucl_board.specs.History.{Attempt, IsLegal, accepted_of, after_attempt, attempted, entries_of, entry_of, followed_by, sequential_reply, snapshot_at}
 pub use Rattle.ucl_board.specs.declared.entry.Entry.{Entry}
 pub use Rattle.ucl_board.specs.declared.reading.Reading.{Reading}
-pub use Rattle.ucl_io.specs.Output.{StoppedShort}
 pub use Rattle.ucl_live_board.specs.Passes.{Continues, PassView, SharedReading, entries_by}
 pub use Rattle.ucl_order.specs.declared.profile.Profile.{Profile}
 pub use Rattle.ucl_runs.specs.Feed.{IsFed}

@@ -2,7 +2,7 @@
 use Rattle.ucl_runs.proofs.Common.{All, All-push, Appends, Bool, Continues, Entry, Err, HasShown, IfErr, IfSome, IsFed, IsOnDuty, IsShown, IsStopped, List}
 use Rattle.ucl_runs.proofs.Common.{MeansNight, NightEvent, None, Ok, OnOk, Option, PassView, Profile, Reading, Result, RunFault, Script, SharedReading, Some}
 use Rattle.ucl_runs.proofs.Common.{TextHas, [], after_attempt, ap, append_assoc, arith, attempt_of, begins_length, begins_through, drop, false, first-event, get_or}
-use Rattle.ucl_runs.proofs.Common.{inl, inr, length, length-append, refl, screen_text, styled, subst, suc, sym, take, take-append-drop, true, zero, ℕ, ⊎_elim, ⊤}
+use Rattle.ucl_runs.proofs.Common.{inl, inr, length, length-append, refl, screen_text, styled, subst, suc, sym, take, take-append-drop, zero, ℕ, ⊎_elim, ⊤}
 use Rattle.ucl_runs.proofs.Common.{◌++◌, ◌+◌, ◌-◌, ◌<◌, ◌∙◌, ◌∷◌, ◌≡◌, ◌≤◌, ◌⊎◌}
 use Rattle.ucl_screen.specs.Script.{WrittenSheet}
 use Rattle.ucl_screen.specs.Parsing.{MeansSheet}
@@ -11,9 +11,8 @@ use Rattle.ucl_screen.specs.declared.fault.InputFault.{InputFault}
 use Rattle.ucl_runs.specs.Feed.{feed_text, reply_lines}
 use Rattle.ucl_rows.specs.declared.fault.RunFault.TheVariants.{WriteFailed, Input, NotOnDuty, OutOfMemory}
 use Rattle.ucl_rows.specs.Faults.{handed_on}
-use Rattle.ucl_io.specs.Stream.{WroteFirst}
 use Rattle.ucl_io.specs.Output.{StoppedShort}
-use Rattle.ucl_rows.specs.Run.{CallsWithin, DistinguishesMemory, IfInput, IfWriteFailed, IsCutShort, is_read_failed}
+use Rattle.ucl_rows.specs.Run.{CallsWithin, DistinguishesMemory, IfInput, IfWriteFailed, is_read_failed}
 use Rattle.ucl_runs.specs.Nights.{IsDutyTold, IsFirstOffDuty, IsWhyNoNight}
 use Rattle.ucl_runs.specs.Program.{IsFaultOfNight, IsOfScript, IsOutputOfNight, IsPlayed, IsRun, Streams, Task, night_task}
 use Rattle.std.proofs.lemmas.List.{append-nil}
@@ -44,19 +43,12 @@ text-has : (CallsFor : List ℕ → List ℕ → Type 0) (known : Option (List �
 text-has CallsFor None text P is h = tt
 text-has CallsFor (Some bytes) text P is h = (text, is, h)
 
--- the output failed within a text, by the fault of the run
-abbrev Cut : (List ℕ → ℕ → Type 0) → Bool → List ℕ → RunFault → Type 0
-Cut Stops failed text (WriteFailed written) = (failed ≡ true) × Stops text written
-Cut Stops failed text _ = ⊥
-
 module _ {W : Type 0} (known : writes.Ghosts W) (task : Task) (before after : Streams W) (calls : CallsWithin before.calls after.calls) where
-  abbrev Stops : List ℕ → ℕ → Type 0
-  Stops text written = task.stops (known.failed after.sink) (known.taken before.sink) (known.taken after.sink) written text
-
   -- the text was written, or the output failed within it
   pub wrote : (text : List ℕ) (r : Result ⊤ RunFault) → after.read_failed ≡ false → IfSome before.left (λ bytes. task.calls_for bytes text)
       → ((written : ℕ) → task.may_fail before.left (WriteFailed written)) → OnOk r (Appends (known.taken before.sink) (known.taken after.sink) text)
-      → IfErr r (Cut Stops (known.failed after.sink) text) → OnOk r (known.failed after.sink ≡ known.failed before.sink) → IsRun known task before after r
+      → IfErr r (IsStopped 0 (known.failed after.sink) (known.taken before.sink) (known.taken after.sink) text)
+      → OnOk r (known.failed after.sink ≡ known.failed before.sink) → IsRun known task before after r
   wrote text (Ok done) reads is may out part sound = record {
     text = text-has task.calls_for before.left text (Appends (known.taken before.sink) (known.taken after.sink)) is out;
     kinds = tt;
@@ -76,8 +68,8 @@ module _ {W : Type 0} (known : writes.Ghosts W) (task : Task) (before after : St
     unwritten = tt;
     memory = λ bad. absurd (cc);
     read_failed = reads;
-    write_failed = part.0;
-    written = text-has task.calls_for before.left text (λ t. Stops t written) is part.1;
+    write_failed = part.failed_is;
+    written = text-has task.calls_for before.left text (λ t. StoppedShort 0 (known.failed after.sink) (known.taken before.sink) (known.taken after.sink) t written) is part;
     sound = tt;
     calls = calls;
   }
@@ -107,17 +99,6 @@ module _ {W : Type 0} (known : writes.Ghosts W) (task : Task) (before after : St
   refused Means view (input.ReadFailed n) reads why may memory same = stopped (Input (input.ReadFailed n)) tt same reads.0 (may (input.ReadFailed n)) why (λ bad. absurd (cc))
   refused Means view input.OutOfMemory reads why may memory same = stopped OutOfMemory tt same reads memory tt (λ bad. absurd (cc))
   refused Means view e reads why may memory same = stopped (Input e) tt same reads.0 (may e) why (λ bad. absurd (cc))
-
--- the output of a run of one thread failed within a text, and that of a night
-pub cut_short : (r : Result ⊤ RunFault) (failed : Bool) (old new : Option (List ℕ)) (text : List ℕ) → IfErr r (IsCutShort failed old new text)
-    → IfErr r (Cut (λ t written. WroteFirst old new written t) failed text)
-cut_short (Err (WriteFailed written)) failed old new text part = part
-cut_short _ _ _ _ _ part = part
-
-pub cut_within : (r : Result ⊤ RunFault) (failed : Bool) (old new : Option (List ℕ)) (text : List ℕ) → IfErr r (IsStopped 0 failed old new text)
-    → IfErr r (Cut (λ t written. StoppedShort 0 failed old new t written) failed text)
-cut_within (Err (WriteFailed written)) failed old new text part = (part.failed_is, part)
-cut_within _ _ _ _ _ part = part
 
 -- ---- how a night ends
 

@@ -23,19 +23,17 @@ use Rattle.ucl_runs.specs.Feed.{IsFed}
 use Rattle.ucl_runs.specs.Show.{IsShown, Style, styled, styled_screen}
 use Rattle.ucl_live_board.specs.declared.live_board.LiveBoard as boards
 use Rattle.ucl_runs.specs.Nights.{EachMatchHasOneReporter, IsFirstOffDuty, IsInterleaving, IsOnDuty, IsWhyNoNight, night_board, night_text}
-use Rattle.ucl_io.specs.Stream.{WroteFirst}
 use Rattle.ucl_io.specs.Output.{StoppedShort}
 use Rattle.ucl_rows.specs.Run.{BlamesOutput, CallsWithin, IfInput, IfWriteFailed, DistinguishesMemory, TextHas, WritesAll, WritesNothing, is_read_failed}
 
 -- What a run promises. --
 
--- what a run is to do: the text that the bytes of an input call for; which faults it may have on such an input; why an input is refused, by
--- its bytes before and after and whether the source has failed; and how a sink that failed has stopped within the text, after so many bytes
+-- what a run is to do: the text that the bytes of an input call for; which faults it may have on such an input; and why an input is refused,
+-- by its bytes before and after and whether the source has failed
 pub record Task : Type 1 where
   pub calls_for : List ℕ → List ℕ → Type 0
   pub may_fail : Option (List ℕ) → RunFault → Type 0
   pub refuses : Option (List ℕ) → Option (List ℕ) → Bool → InputFault → Type 0
-  pub stops : Bool → Option (List ℕ) → Option (List ℕ) → ℕ → List ℕ → Type 0
 
 -- the bytes that a source has left, if they are known, how often it was called, and whether a read has failed; and a sink
 pub record Streams (W : Type 0) : Type 0 where
@@ -62,7 +60,7 @@ pub record IsRun {W : Type 0} (known : writes.Ghosts W) (task : Task) (before af
   pub read_failed : after.read_failed ≡ is_read_failed result
   pub write_failed : BlamesOutput (known.failed after.sink) result
   pub written : IfErr result (λ f. IfWriteFailed f (λ count. TextHas task.calls_for before.left
-      (task.stops (known.failed after.sink) (known.taken before.sink) (known.taken after.sink) count)))
+      (λ text. StoppedShort 0 (known.failed after.sink) (known.taken before.sink) (known.taken after.sink) text count)))
   -- a run that ends well has not made the sink fail
   pub sound : OnOk result (known.failed after.sink ≡ known.failed before.sink)
   -- the source is called at most as often as the longest input has bytes, and two times more
@@ -76,7 +74,6 @@ feed_task = record {
   calls_for = IsFed;
   may_fail = λ known fault. IsOfOneThread fault;
   refuses = λ old new failed fault. Reads MeansNight night_seen old new failed (Err fault);
-  stops = λ failed old new count text. WroteFirst old new count text;
 }
 
 -- the task of `show`, by this profile, the set of tie-break rules, and for the group with this letter
@@ -85,7 +82,6 @@ show_task profile group = record {
   calls_for = IsShown profile group;
   may_fail = λ known fault. IsOfOneThread fault;
   refuses = λ old new failed fault. Reads MeansSheet sheet_seen old new failed (Err fault);
-  stops = λ failed old new count text. WroteFirst old new count text;
 }
 
 -- the bytes of an input, if they are known, are a script, and Q holds of its events
@@ -155,7 +151,6 @@ module _ {B R P X : Type 0} (live : boards.Ghosts B R P) (Opens : Result (B × R
     calls_for = IsPlayed profile group readings;
     may_fail = IsFaultOfNight;
     refuses = feed_task.refuses;
-    stops = λ failed old new count text. StoppedShort 0 failed old new text count;
   }
 
 -- What `ucl_night` does for its arguments. --

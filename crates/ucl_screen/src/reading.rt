@@ -15,7 +15,7 @@ ghost use Rattle.ucl_screen.specs.Parsing.{AnswersAsSaid, MeansNight, MeansSheet
 use crate::fault::InputFault;
 use crate::fields::{call_of_fields, hex_word, number, reporter_of_field};
 use crate::night::{Night, NightEvent};
-use crate::rows::{Four, four_fields, next_row, open};
+use crate::rows::{Four, four_fields, next_row, open_rows};
 use crate::sheet::Sheet;
 use crate::transfer::{MAX_INPUT_BYTES, read_all};
 use csv::{ByteRecord, Reader};
@@ -149,7 +149,7 @@ fn night_of(alloc: Global, text: &[u8]) -> Result<Night, InputFault>
     ensures kinds { IfErr result IsFaultOfScript }
     ensures few { IfOk result (λ night. length night.events.items ≤ max_bytes) }
 {
-    let mut rows = open(alloc, text);
+    let mut rows = open_rows(alloc, text);
     let roster = roster_at(alloc, &mut rows)?;
     let events = events_at(alloc, &mut rows)?;
     Ok(Night { roster, events })
@@ -250,7 +250,7 @@ fn roster_and_words(alloc: Global, text: &[u8]) -> Result<(Roster, [u64; 12]), I
         (sheet_of_rows (rows_of text.now)) }
     ensures kinds { IfErr result IsFaultOfScript }
 {
-    let mut rows = open(alloc, text);
+    let mut rows = open_rows(alloc, text);
     let roster = roster_at(alloc, &mut rows)?;
     let words = words_at(alloc, &mut rows)?;
     Ok((roster, words))

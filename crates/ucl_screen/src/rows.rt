@@ -23,7 +23,7 @@ pub struct Four<'a> {
 
 /// Creates a reader of the rows of a text. The first row is no heading, and rows may have any number of fields.
 #[tactic(auto, using(crate::proofs::RowFacts::few_rows), unfolding(crate::specs::Rows::rows_from))]
-pub(crate) fn open(alloc: Global, text: &[u8]) -> Reader<&[u8]>
+pub fn open_rows(alloc: Global, text: &[u8]) -> Reader<&[u8]>
     ensures reading { IsReading result }
     ensures rows { rows_left result ≡ rows_of text.now }
     ensures few { length (rows_left result) ≤ length text.now }
@@ -35,7 +35,7 @@ pub(crate) fn open(alloc: Global, text: &[u8]) -> Reader<&[u8]>
 }
 
 /// Reads the next row into `row` and returns true, or returns false if there is none. It fails only if an allocation is refused.
-pub(crate) fn next_row(rows: &mut Reader<&[u8]>, row: &mut ByteRecord) -> Result<bool, AllocError>
+pub fn next_row(rows: &mut Reader<&[u8]>, row: &mut ByteRecord) -> Result<bool, AllocError>
     requires { IsReading rows.old }
     ensures reading { IfOk result (λ found. found ≡ true → IsReading rows.new) }
     ensures reads { IfOk result
@@ -49,7 +49,7 @@ pub(crate) fn next_row(rows: &mut Reader<&[u8]>, row: &mut ByteRecord) -> Result
 
 /// Returns the four fields of a row, or `None` if it has more or fewer.
 #[tactic(auto, using(crate::proofs::RowFacts::four_by))]
-pub(crate) fn four_fields(row: &ByteRecord) -> Option<Four<'_>>
+pub fn four_fields(row: &ByteRecord) -> Option<Four<'_>>
     ensures { option_map four_seen result ≡ four_of (fields_of row.now) }
 {
     let first = row.get(0)?;

@@ -1,5 +1,5 @@
 use Rattle.ucl_rows.proofs.Common.{◌+◌, rest_of}
-use Rattle.ucl_rows.proofs.RowEnds.{field_before}
+use Rattle.ucl_rows.proofs.PlainRows.{field_before}
 use Rattle.ucl_rows.proofs.plain.halves.Goals as goal
 
 pub returns-then-text-at-eq44 : goal.returns-then-text-at-eq44

@@ -1,9 +1,8 @@
-use Rattle.ucl_rows.proofs.Common.{rest_of}
-use Rattle.ucl_rows.proofs.RowEnds.{empty-list, row_ends}
+use Rattle.ucl_rows.proofs.Common.{rest_of, sym, ◌∙◌}
+use Rattle.ucl_rows.proofs.PlainRows.{row_ends}
 use Rattle.ucl_rows.proofs.plain.last_field.Goals as goal
 
-pub returns-then-is_empty : goal.returns-then-is_empty
-returns-then-is_empty c =
-    let none = empty-list c.is_empty.result _ c.is_empty.ensures c.if-is_empty.true in
-    let behind = rw (rest_of c.field_length-at.result c.args.text.now, none) at c.without_ends.ensures.behind in
-    row_ends c.args.text.now c.field_length-at.result c.field_length-at.ensures.joining behind
+pub returns-then-are_line_ends : goal.returns-then-are_line_ends
+returns-then-are_line_ends c =
+    let ends = sym c.are_line_ends.ensures ∙ c.if-are_line_ends.true in
+    row_ends c.args.text.now c.field_length-at.result c.field_length-at.ensures.joining (rw (rest_of c.field_length-at.result c.args.text.now) at ends)

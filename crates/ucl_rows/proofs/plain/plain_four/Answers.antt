@@ -1,5 +1,5 @@
 use Rattle.ucl_rows.proofs.Common.{[], ◌++◌, ◌∷◌}
-use Rattle.ucl_rows.proofs.RowEnds.{plain_row}
+use Rattle.ucl_rows.proofs.PlainRows.{plain_row}
 use Rattle.ucl_rows.proofs.plain.plain_four.Goals as goal
 
 pub returns : goal.returns

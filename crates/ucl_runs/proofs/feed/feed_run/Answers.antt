@@ -1,6 +1,6 @@
 use Rattle.ucl_runs.proofs.Common.{MeansNight, err_from_is_err_and, night_seen, refl, ◌∙◌}
 use Rattle.ucl_rows.specs.declared.fault.RunFault.TheVariants.{OutOfMemory}
-use Rattle.ucl_runs.proofs.RunFacts.{cut_short, fed, refused, stopped, wrote}
+use Rattle.ucl_runs.proofs.RunFacts.{fed, refused, stopped, wrote}
 use Rattle.ucl_runs.specs.Program.{feed_task}
 use Rattle.ucl_runs.proofs.feed.feed_run.Goals as goal
 
@@ -22,4 +22,4 @@ returns g c =
     let text = rw c.deref.ensures.value at c.in_ok-text.ensures in
     let is = fed known (night_seen c.in_ok-night.night) c.as_slice.result.now c.in_ok-night.ensures.reads.1 (c.as_slice.ensures.value ∙ text) in
     wrote g.W.Sink feed_task _ _ c.in_ok-night.ensures.calls c.as_slice.result.now c.put_text.result c.in_ok-night.ensures.reads.0 is (λ written. tt) c.put_text.ensures.all
-    (cut_short c.put_text.result _ _ _ _ c.put_text.ensures.part) c.put_text.ensures.sound
+    c.put_text.ensures.part c.put_text.ensures.sound

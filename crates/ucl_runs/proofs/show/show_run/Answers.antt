@@ -1,7 +1,7 @@
 use Rattle.ucl_runs.proofs.Common.{err_from_is_err_and, refl, ◌∙◌}
 use Rattle.ucl_screen.specs.Parsing.{MeansSheet, sheet_seen}
 use Rattle.ucl_rows.specs.declared.fault.RunFault.TheVariants.{OutOfMemory}
-use Rattle.ucl_runs.proofs.RunFacts.{cut_short, refused, shown, stopped, wrote}
+use Rattle.ucl_runs.proofs.RunFacts.{refused, shown, stopped, wrote}
 use Rattle.ucl_runs.specs.Program.{show_task}
 use Rattle.ucl_runs.proofs.show.show_run.Goals as goal
 
@@ -23,4 +23,4 @@ returns g c =
     let is = shown c.args.profile known c.args.group (sheet_seen c.in_ok-sheet.sheet) c.as_bytes.result.now
     c.in_ok-sheet.ensures.reads.1 (c.as_bytes.ensures.value ∙ c.in_ok-text.ensures) in
     wrote g.W.Sink (show_task c.args.profile c.args.group) _ _ c.in_ok-sheet.ensures.calls c.as_bytes.result.now c.put_text.result c.in_ok-sheet.ensures.reads.0 is (λ written. tt)
-    c.put_text.ensures.all (cut_short c.put_text.result _ _ _ _ c.put_text.ensures.part) c.put_text.ensures.sound
+    c.put_text.ensures.all c.put_text.ensures.part c.put_text.ensures.sound

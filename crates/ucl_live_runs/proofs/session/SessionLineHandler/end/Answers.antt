@@ -1,7 +1,13 @@
-use Rattle.ucl_live_runs.proofs.Common.{Ok, ap, err_from_is_err_and, inr, missing, session_of, sym, ℕ, ◌∙◌}
+use Rattle.ucl_live_runs.proofs.Common.{Bool, List, Ok, [], ap, eqb-true, false, length, true, ◌==◌, ◌≡◌, err_from_is_err_and, inr, missing, session_of, sym, ℕ, ◌∙◌}
 use Rattle.ucl_live_runs.proofs.Lines.{none-answers, none-missing, some-answers, some-missing, some-stops}
-use Rattle.ucl_rows.proofs.RowEnds.{empty-list, full-list}
+use Rattle.std.proofs.lemmas.List.{nil_from_length}
 use Rattle.ucl_live_runs.proofs.session.SessionLineHandler.end.Goals as goal
+
+empty-list : (b : Bool) (xs : List ℕ) → b ≡ (length xs == 0) → b ≡ true → xs ≡ []
+empty-list b xs e h = nil_from_length xs (eqb-true (length xs) 0 (sym e ∙ h))
+
+full-list : (b : Bool) (xs : List ℕ) → b ≡ (length xs == 0) → b ≡ false → (xs ≡ []) → ⊥
+full-list b xs e h none = let k : false ≡ (length xs == 0) = sym h ∙ e in let t = rw none at k in cc
 
 pub returns-in-Some-clause-stops : goal.returns-in-Some-clause-stops
 returns-in-Some-clause-stops c =
