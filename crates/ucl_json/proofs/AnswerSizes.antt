@@ -78,7 +78,7 @@ glyph-plain (suc (suc (suc (suc (suc (suc (suc (suc (suc (suc (suc (suc (suc (su
 glyph-plain _ _ = (refl, refl)
 
 low-plain : (k n : ℕ) (rest : List ℕ) → IsText rest → IsText (low k n rest) × (length (escape (low k n rest)) ≡ k + length (escape rest))
-low-plain zero n rest h = (h, refl)
+low-plain zero n rest h = (h, omega arith)
 low-plain (suc k) n rest h =
     let glyph = glyph-plain (n % 16) (omega arith) in
     let more = low-plain k (n / 16) (digit_glyph false (n % 16) ∷ rest) (and_from (is_printed (digit_glyph false (n % 16))) (list_all is_printed rest) glyph.0 h) in

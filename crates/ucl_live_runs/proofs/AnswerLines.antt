@@ -1,6 +1,6 @@
 -- The lines of answers, and what each carries.
 use Rattle.ucl_live_runs.proofs.Common.{All, All-append, All-cons, All-head, All-nil, All-tail, All-weaker, AreWords, BoardState}
-use Rattle.ucl_live_runs.proofs.Common.{Bool, Data, HasNoFeed, HasNumbers, IfSome, IsRoster, IsValid, IsWord, KickOff, Kind}
+use Rattle.ucl_live_runs.proofs.Common.{Bool, Data, HasNoFeed, HasNumbers, IfSome, IsRoster, IsValid, IsWord, Kind}
 use Rattle.ucl_live_runs.proofs.Common.{List, MatchRecord, NamedClub, NightEvent, None, Option, Refusal, Some, [], and_from}
 use Rattle.ucl_live_runs.proofs.Common.{ap, append_cancel_right, arith, bad_row_value, begun_append}
 use Rattle.ucl_live_runs.proofs.Common.{begun_ended, begun_line, begun_none, cases_Bool, cases_lt, compact_text}

@@ -2,13 +2,12 @@
 use Rattle.std.proofs.Common.{List, None, Option, Some, [], ap, arith, codes, inl, le-leb, length, refl, suc, ℕ, ◌<◌, ◌^◌, ◌∙◌, ◌∷◌, ◌≡◌, ◌≤◌}
 use Rattle.std.proofs.lemmas.Bool.{and_parts, eq-eqb}
 use Rattle.std.proofs.lemmas.List.Elements.{All-head, All-tail}
-use Rattle.std.specs.Prelude.{All, IfSome, Ok, nat_le, option_and_then}
+use Rattle.std.specs.Prelude.{All, IfSome, nat_le, option_and_then}
 use Rattle.json.specs.Print.{quoted}
 use Rattle.serde_json.proofs.OnLiterals.{serde_json_on_literals}
 use Rattle.serde_json.specs.Data.{Data, member, no_members, number, object, string, unsigned}
 use Rattle.serde_json.specs.Find.{get}
 use Rattle.serde_json.specs.Written.{compact_text}
-use Rattle.ucl_board.specs.Fixtures.{match_numbers}
 use Rattle.ucl_board.specs.Words.{AreWords, version_of}
 use Rattle.ucl_json.proofs.AnswerSizes.{clubs-plain, digits-2, digits-5, digits-20, few-in-play, group-text, kind-text, matches-plain, order-text, places-plain, version-fits, words-plain}
 use Rattle.ucl_json.proofs.PlainValues.{ArePlain, IsShortPlain, IsText, items_size, line-short, parsed-line}
@@ -21,7 +20,7 @@ use Rattle.ucl_json.specs.declared.board_state.BoardState.{BoardState}
 use Rattle.ucl_live_runs.specs.Follow.{HasNumbers, IsBoardState}
 unfoldable use Rattle.ucl_live_runs.specs.Follow.{AnswersTellTheirBoardState, LinesTellTheirBoardState, MatchesFitTheirLine}
 use Rattle.ucl_order.specs.Names.{profile_name, profile_named}
-use Rattle.ucl_order.specs.Roster.{IsClub, IsRoster, NamedClub, bad_slot, is_name}
+use Rattle.ucl_order.specs.Roster.{IsClub, IsRoster, NamedClub, is_name}
 unfoldable use Rattle.ucl_order.specs.Roster.{bad_slot_from, is_club}
 use Rattle.ucl_order.specs.declared.profile.Profile.{Profile}
 use Rattle.ucl_order.specs.declared.profile.Profile.TheVariants.{AwayInTie, Uefa}
