@@ -1,8 +1,8 @@
 -- The values of answers: the board state that they carry, and that they are plain and short.
-use Rattle.std.proofs.Common.{List, None, Option, Some, [], ap, arith, codes, inl, le-leb, length, refl, suc, ℕ, ◌<◌, ◌^◌, ◌∙◌, ◌∷◌, ◌≡◌, ◌≤◌}
+use Rattle.std.proofs.Common.{List, None, Option, Some, [], ap, arith, codes, false, inl, le-leb, length, refl, suc, ℕ, ◌<◌, ◌^◌, ◌∙◌, ◌∷◌, ◌≡◌, ◌≤◌}
 use Rattle.std.proofs.lemmas.Bool.{and_parts, eq-eqb}
 use Rattle.std.proofs.lemmas.List.Elements.{All-head, All-tail}
-use Rattle.std.specs.Prelude.{All, IfSome, nat_le, option_and_then}
+use Rattle.std.specs.Prelude.{All, IfSome, decimal, nat_le, option_and_then}
 use Rattle.json.specs.Print.{quoted}
 use Rattle.serde_json.proofs.OnLiterals.{serde_json_on_literals}
 use Rattle.serde_json.specs.Data.{Data, member, no_members, number, object, string, unsigned}
@@ -10,7 +10,7 @@ use Rattle.serde_json.specs.Find.{get}
 use Rattle.serde_json.specs.Written.{compact_text}
 use Rattle.ucl_board.specs.Words.{AreWords, version_of}
 use Rattle.ucl_json.proofs.AnswerSizes.{clubs-plain, digits-2, digits-5, digits-20, few-in-play, group-text, kind-text, matches-plain, order-text, places-plain, version-fits, words-plain}
-use Rattle.ucl_json.proofs.PlainValues.{ArePlain, IsShortPlain, IsText, items_size, line-short, parsed-line}
+use Rattle.ucl_json.proofs.PlainValues.{ArePlain, IsShortPlain, IsText, items_size, line-short, parsed-line, size}
 use Rattle.ucl_json.specs.BoardLines.{edition_in, if_read, just, list_at, listed, parse_board_line, parse_club, parse_roster, parse_word, text_at}
 unfoldable use Rattle.ucl_json.specs.BoardLines.{parse_board_state, parse_each}
 use Rattle.ucl_json.specs.Mended.{mended_value, mended_with}
@@ -29,6 +29,7 @@ use Rattle.ucl_screen.proofs.ReadWords.{all-read}
 use Rattle.ucl_screen.specs.Screen.{IsGroup, in_play, letter_in}
 use Rattle.ucl_screen.specs.WordsRead.{read_words}
 use Rattle.ucl_screen.specs.declared.night.NightEvent.{NightEvent}
+use Rattle.ucl_word.specs.Names.{kind_name}
 
 -- ---- each member of a board state is read back
 
@@ -142,6 +143,14 @@ state-plain m is = record {
   edition = is.edition;
 }
 
+accepted-size : (row : ℕ) (event : NightEvent) (event_number : ℕ) (m : BoardState) (kind order : List ℕ) → kind ≡ kind_name event.call.kind → order ≡ profile_name m.header.profile
+    → length (decimal row) ≤ 20 → length (decimal event.call.expected) ≤ 20 → length (decimal event.call.game) ≤ 20 → length (decimal event_number) ≤ 20
+    → length (decimal event.reporter) ≤ 20 → length (decimal m.header.edition) ≤ 5 → length (decimal (version_of m.board)) ≤ 5
+    → items_size false (word_items m.board) ≤ 228 → items_size false (club_items m.roster) ≤ 292 → length (quoted kind) ≤ 20
+    → length (quoted (m.header.group ∷ [])) ≡ 3 → length (quoted order) ≤ 13 → size (accepted_value row event event_number m.header m.board m.roster) ≤ 4096
+unfolding accepted_value serde_json_on_literals
+accepted-size row event event_number m kind order of by a b c d e f g h i j k l = rw (← of, ← by) (omega arith)
+
 accepted-plain : (row : ℕ) (event : NightEvent) (number : ℕ) (m : BoardState) → IsBoardState m → row < 2 ^ 64 → HasNumbers event → number < 2 ^ 64
     → IsShortPlain (accepted_value row event number m.header m.board m.roster)
 unfolding accepted_value serde_json_on_literals
@@ -152,7 +161,9 @@ accepted-plain row event event_number m is r fits n =
         (refl, refl),
         (p.clubs.0, (omega arith, (kind.0, (fits.expected, (p.group.0, (fits.game, (n, (p.order.0, (refl, (fits.reporter, (r, (omega arith, (p.words.0, tt))))))))))))),
       );
-      size = omega (arith, digits-20, p.words.1, p.clubs.1, kind.1, p.group.1, p.order.1, fits.expected, fits.game, fits.reporter);
+      size = accepted-size row event event_number m (kind_name event.call.kind) (profile_name m.header.profile) refl refl (digits-20 row r) (digits-20 event.call.expected fits.expected) (digits-20 event.call.game fits.game)
+          (digits-20 event_number n) (digits-20 event.reporter fits.reporter) (digits-5 m.header.edition (omega arith)) (digits-5 (version_of m.board) (omega arith))
+          p.words.1 p.clubs.1 kind.1 p.group.1 p.order.1;
     }
 
 mended-plain : (without : Option ℕ) (row left_out : ℕ) (m : BoardState) → IsBoardState m → row < 2 ^ 64 → IfSome without (λ n. n < 2 ^ 64) → left_out < 2 ^ 64
@@ -208,23 +219,23 @@ screen-plain row m is r =
 
 -- ---- so are its lines
 
-pub reply-told : (row : ℕ) (event : NightEvent) (event_number : ℕ) (m : BoardState) → IsBoardState m → row < 2 ^ 64 → HasNumbers event → event_number < 2 ^ 64
+pub reply-carried : (row : ℕ) (event : NightEvent) (event_number : ℕ) (m : BoardState) → IsBoardState m → row < 2 ^ 64 → HasNumbers event → event_number < 2 ^ 64
     → parse_board_line (compact_text (accepted_value row event event_number m.header m.board m.roster)) ≡ Some m
-reply-told row event event_number m is r fits n =
+reply-carried row event event_number m is r fits n =
     parsed-line (accepted_value row event event_number m.header m.board m.roster) (accepted-plain row event event_number m is r fits n) ∙ reply-tells row event event_number m is
 
-pub screen-told : (row : ℕ) (m : BoardState) → IsBoardState m → row < 2 ^ 64 → parse_board_line (compact_text (edition_screen_value row m.header m.board m.roster)) ≡ Some m
-screen-told row m is r = parsed-line (edition_screen_value row m.header m.board m.roster) (screen-plain row m is r) ∙ screen-tells row m is
+pub screen-carried : (row : ℕ) (m : BoardState) → IsBoardState m → row < 2 ^ 64 → parse_board_line (compact_text (edition_screen_value row m.header m.board m.roster)) ≡ Some m
+screen-carried row m is r = parsed-line (edition_screen_value row m.header m.board m.roster) (screen-plain row m is r) ∙ screen-tells row m is
 
-pub mended-told : (without : Option ℕ) (row left_out : ℕ) (m : BoardState) → IsBoardState m → row < 2 ^ 64 → IfSome without (λ n. n < 2 ^ 64) → left_out < 2 ^ 64
+pub mended-carried : (without : Option ℕ) (row left_out : ℕ) (m : BoardState) → IsBoardState m → row < 2 ^ 64 → IfSome without (λ n. n < 2 ^ 64) → left_out < 2 ^ 64
     → parse_board_line (compact_text (mended_with without (mended_value row left_out m.header m.board m.roster))) ≡ Some m
-mended-told without row left_out m is r w l =
+mended-carried without row left_out m is r w l =
     parsed-line (mended_with without (mended_value row left_out m.header m.board m.roster)) (mended-plain without row left_out m is r w l) ∙ mended-tells without row left_out m is
 
 pub told-lines : LinesTellTheirBoardState
 unfolding LinesTellTheirBoardState
 told-lines row event event_number m is r fits n = record {
-  reply = reply-told row event event_number m is r fits n;
-  screen = screen-told row m is r;
-  mended = λ without left_out w l. mended-told without row left_out m is r w l;
+  reply = reply-carried row event event_number m is r fits n;
+  screen = screen-carried row m is r;
+  mended = λ without left_out w l. mended-carried without row left_out m is r w l;
 }
