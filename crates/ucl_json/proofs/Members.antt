@@ -1,6 +1,6 @@
 -- What the members of a value tell.
 use Rattle.std.proofs.Common.{rules, Bool, List, None, Option, Some, [], ap, append_assoc, arith, cond, drop, false, get_or, inl, inr, le-leb, length, refl, sym}
-use Rattle.std.proofs.Common.{true, ℕ, ◌&&◌, ◌++◌, ◌+◌, ◌<◌, ◌∙◌, ◌∷◌, ◌≡◌, ◌≤◌}
+use Rattle.std.proofs.Common.{true, ℕ, ◌&&◌, ◌++◌, ◌+◌, ◌<◌, ◌∷◌, ◌≡◌, ◌≤◌}
 use Rattle.std.specs.Result.{result_ok}
 use Rattle.std.specs.Prelude.{Err, IfOk, IsOk, IsUtf8, Ok, Result, map, nat_le, option_and_then}
 use Rattle.std.specs.Str.{is_utf8}
@@ -18,7 +18,7 @@ use Rattle.ucl_board.specs.Words.{AreReadAs, IsFirstBad}
 use Rattle.ucl_screen.proofs.ReadWords.{are-read, first-bad}
 use Rattle.ucl_screen.specs.WordsRead.{read_words}
 use Rattle.ucl_screen.specs.Events.{◌>>=◌}
-use Rattle.ucl_json.specs.BoardLines.{if_read, just, listed, parse_board_line, parse_board_state, parse_club, parse_each, parse_roster, unless_bad}
+use Rattle.ucl_json.specs.BoardLines.{if_read, just, listed, parse_board_line, parse_board_state, parse_each, unless_bad}
 
 -- ---- values in a row
 

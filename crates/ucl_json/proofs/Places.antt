@@ -1,5 +1,5 @@
 -- Elements that are added one after the other, and answers that have no float and are not nested deep.
-use Rattle.std.proofs.Common.{List, [], ap, arith, codes, false, get_or, length, negsuc, pos, refl, take, ℕ, ℤ, ◌++◌, ◌+◌, ◌-ℤ◌, ◌<◌, ◌∙◌, ◌∷◌, ◌≡◌, ◌≤◌, ◌-◌}
+use Rattle.std.proofs.Common.{List, [], ap, arith, false, get_or, length, negsuc, pos, refl, take, ℕ, ℤ, ◌++◌, ◌+◌, ◌-ℤ◌, ◌<◌, ◌∙◌, ◌∷◌, ◌≡◌, ◌≤◌, ◌-◌}
 use Rattle.std.proofs.lemmas.List.{take_all, take_more}
 use Rattle.serde_json.specs.Data.{Data, Items, depth, item, items_depth, no_items, string}
 use Rattle.serde_json.specs.Find.{is_float, of_integer}

@@ -1,5 +1,5 @@
 -- The text of a plain value: it is read back as that value, is UTF-8, and is as long as its parts.
-use Rattle.std.proofs.Common.{Bool, List, Option, Some, [], ap, append-nil, arith, false, inl, inr, leb-true, length, length-append, negsuc, pos, refl, suc, sym, true, ℕ}
+use Rattle.std.proofs.Common.{Bool, List, Some, [], ap, append-nil, arith, false, inl, inr, leb-true, length, length-append, negsuc, refl, suc, sym, true, ℕ}
 use Rattle.std.proofs.Common.{◌&&◌, ◌*◌, ◌++◌, ◌+◌, ◌<◌, ◌^◌, ◌∙◌, ◌∷◌, ◌≡◌, ◌≤◌}
 use Rattle.std.proofs.lemmas.Bool.{and_parts, cases_eq}
 use Rattle.std.proofs.lemmas.Fmt.{IsAscii-decimal, IsAscii-signed}
@@ -18,7 +18,7 @@ use Rattle.json.specs.Print.{escape, escape_byte, quoted}
 use Rattle.json.specs.Tree as tree
 use Rattle.serde_json.proofs.Numbers.{number_of-decimal, number_of-negative}
 use Rattle.serde_json.proofs.Texts.{print-outline}
-use Rattle.serde_json.specs.Data.{Data, Items, Members, Num, array, boolean, item, member, negative, no_items, no_members, null, number, object, put, string, unsigned}
+use Rattle.serde_json.specs.Data.{Data, Items, Members, Num, array, item, member, negative, no_items, no_members, number, object, put, string, unsigned}
 use Rattle.serde_json.specs.Read.{number_of, of_items, of_json, of_members, read}
 use Rattle.serde_json.specs.Written.{comma_if, compact_text, items_outline, items_text, members_outline, members_text, number_text, outline}
 use Rattle.ucl_json.proofs.Members.{was-read}
@@ -140,6 +140,24 @@ mutual
 
 -- ---- how long it is
 
+-- of a text: at most two bytes for each of its own, since a quote and a backslash have a backslash before them
+one-byte : (x : ℕ) → 32 ≤ x → length (escape_byte x) ≤ 2
+unfolding escape_byte
+one-byte x h = elim (cases_eq x 34) [
+  | inl q ↦ rw q (omega arith)
+  | inr a ↦ elim (cases_eq x 92) [ inl b ↦ rw b (omega arith) | inr c ↦ rw (escape_byte_plain x a c h) (omega arith) ]
+]
+
+escaped : (s : List ℕ) → IsText s → length (escape s) ≤ 2 * length s
+escaped [] h = omega arith
+escaped (x ∷ s) h =
+    let p = and_parts (is_printed x) (list_all is_printed s) h in
+    let high = leb-true 32 x (and_parts (nat_le 32 x) (nat_le x 126) p.0).0 in
+    omega (arith, length-append (escape_byte x) (escape s), one-byte x high, escaped s p.1)
+
+pub quoted-length : (s : List ℕ) → IsText s → length (quoted s) ≤ 2 + 2 * length s
+quoted-length s h = omega (arith, escaped s h, length-append (escape s) (34 ∷ []))
+
 abbrev mutual
   pub size : Data → ℕ
   size (number n) = length (number_text n)
@@ -174,24 +192,6 @@ mutual
       let rest = compact_text d ++ members_text true ms in
       let whole = length-append (comma_if later) (quoted k ++ 58 ∷ rest) in
       omega (arith, whole, length-append (quoted k) (58 ∷ rest), length-append (compact_text d) (members_text true ms), sized d, members-sized true ms)
-
--- of a text: at most two bytes for each of its own, since a quote and a backslash have a backslash before them
-one-byte : (x : ℕ) → 32 ≤ x → length (escape_byte x) ≤ 2
-unfolding escape_byte
-one-byte x h = elim (cases_eq x 34) [
-  | inl q ↦ rw q (omega arith)
-  | inr a ↦ elim (cases_eq x 92) [ inl b ↦ rw b (omega arith) | inr c ↦ rw (escape_byte_plain x a c h) (omega arith) ]
-]
-
-escaped : (s : List ℕ) → IsText s → length (escape s) ≤ 2 * length s
-escaped [] h = omega arith
-escaped (x ∷ s) h =
-    let p = and_parts (is_printed x) (list_all is_printed s) h in
-    let high = leb-true 32 x (and_parts (nat_le 32 x) (nat_le x 126) p.0).0 in
-    omega (arith, length-append (escape_byte x) (escape s), one-byte x high, escaped s p.1)
-
-pub quoted-length : (s : List ℕ) → IsText s → length (quoted s) ≤ 2 + 2 * length s
-quoted-length s h = omega (arith, escaped s h, length-append (escape s) (34 ∷ []))
 
 -- ---- a line
 

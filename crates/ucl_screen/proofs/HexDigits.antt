@@ -1,12 +1,11 @@
 -- A word in sixteen hexadecimal digits, made from its last digit on, and read back.
-use Rattle.std.proofs.Common.{List, Option, Some, [], ap, append-nil, append_assoc, arith, drop, eq-eqb, false, inl, inr, length, length-append, refl, replicate}
+use Rattle.std.proofs.Common.{List, Some, [], ap, append-nil, append_assoc, arith, drop, eq-eqb, false, inl, inr, length, length-append, refl, replicate}
 use Rattle.std.proofs.Common.{set, subst, suc, sym, true, zero, ℕ, ◌%◌, ◌*◌, ◌++◌, ◌+◌, ◌-◌, ◌/◌, ◌<◌, ◌==◌, ◌^◌, ◌∙◌, ◌∷◌, ◌≡◌, ◌≤◌}
 use Rattle.std.proofs.Math.Nat.{pow-suc}
 use Rattle.std.proofs.lemmas.Bool.{cases_Bool}
 use Rattle.std.proofs.lemmas.Bool.Decides.{nat_tests}
 use Rattle.std.proofs.lemmas.List.{drop-set}
 use Rattle.std.specs.Fmt.{char_count, digit_glyph, digits, digits_onto, padded_integral}
-use Rattle.std.specs.Prelude.{option_and_then}
 use Rattle.ucl_screen.specs.Numbers.{hex_digit, hex_digits, hex_word}
 unfoldable use Rattle.ucl_screen.specs.Numbers.{hex_after}
 
