@@ -161,9 +161,9 @@ accepted-plain row event event_number m is r fits n =
         (refl, refl),
         (p.clubs.0, (omega arith, (kind.0, (fits.expected, (p.group.0, (fits.game, (n, (p.order.0, (refl, (fits.reporter, (r, (omega arith, (p.words.0, tt))))))))))))),
       );
-      size = accepted-size row event event_number m (kind_name event.call.kind) (profile_name m.header.profile) refl refl (digits-20 row r) (digits-20 event.call.expected fits.expected) (digits-20 event.call.game fits.game)
-          (digits-20 event_number n) (digits-20 event.reporter fits.reporter) (digits-5 m.header.edition (omega arith)) (digits-5 (version_of m.board) (omega arith))
-          p.words.1 p.clubs.1 kind.1 p.group.1 p.order.1;
+      size = accepted-size row event event_number m (kind_name event.call.kind) (profile_name m.header.profile) refl refl (digits-20 row r)
+          (digits-20 event.call.expected fits.expected) (digits-20 event.call.game fits.game) (digits-20 event_number n) (digits-20 event.reporter fits.reporter)
+          (digits-5 m.header.edition (omega arith)) (digits-5 (version_of m.board) (omega arith)) p.words.1 p.clubs.1 kind.1 p.group.1 p.order.1;
     }
 
 mended-plain : (without : Option ℕ) (row left_out : ℕ) (m : BoardState) → IsBoardState m → row < 2 ^ 64 → IfSome without (λ n. n < 2 ^ 64) → left_out < 2 ^ 64
