@@ -1,6 +1,6 @@
 -- What the members of a value tell.
 use Rattle.std.proofs.Common.{rules, Bool, List, None, Option, Some, [], ap, append_assoc, arith, cond, drop, false, get_or, inl, inr, le-leb, length, refl, sym}
-use Rattle.std.proofs.Common.{true, ℕ, ◌&&◌, ◌++◌, ◌+◌, ◌<◌, ◌∙◌, ◌∷◌, ◌≡◌, ◌≤◌}
+use Rattle.std.proofs.Common.{true, ℕ, ◌&&◌, ◌++◌, ◌+◌, ◌<◌, ◌∷◌, ◌≡◌, ◌≤◌}
 use Rattle.std.specs.Result.{result_ok}
 use Rattle.std.specs.Prelude.{Err, IfOk, IsOk, IsUtf8, Ok, Result, map, nat_le, option_and_then}
 use Rattle.std.specs.Str.{is_utf8}
@@ -18,7 +18,7 @@ use Rattle.ucl_board.specs.Words.{AreReadAs, IsFirstBad}
 use Rattle.ucl_screen.proofs.ReadWords.{are-read, first-bad}
 use Rattle.ucl_screen.specs.WordsRead.{read_words}
 use Rattle.ucl_screen.specs.Events.{◌>>=◌}
-use Rattle.ucl_json.specs.BoardLines.{if_read, just, listed, parse_board_line, parse_board_state, parse_club, parse_each, parse_roster, unless_bad}
+use Rattle.ucl_json.specs.BoardLines.{if_read, just, listed, parse_board_line, parse_board_state, parse_each, unless_bad}
 
 -- ---- values in a row
 
@@ -67,41 +67,16 @@ inner-ok (Err f) x ok e = absurd (search rules)
 
 -- ---- four clubs
 
-four-each : {T : Type 0} (a b c e : Option T) → (a >>= λ x. (b >>= λ y. (c >>= λ z. (e >>= λ u. Some [] >>= λ m. Some (u ∷ m)) >>= λ m. Some (z ∷ m)) >>= λ m. Some (y ∷ m)) >>= λ m. Some (x ∷ m))
-    ≡ (a >>= λ x. b >>= λ y. c >>= λ z. e >>= λ u. Some (x ∷ y ∷ z ∷ u ∷ []))
-four-each None b c e = refl
-four-each (Some x) None c e = refl
-four-each (Some x) (Some y) None e = refl
-four-each (Some x) (Some y) (Some z) None = refl
-four-each (Some x) (Some y) (Some z) (Some u) = refl
-
 pub roster_good : (roster clubs : List NamedClub) → roster ≡ clubs → bad_slot clubs ≡ None → Some roster ≡ unless_bad clubs (bad_slot clubs)
 roster_good roster clubs e h = rw (e, h) refl
 
 pub roster_bad : (clubs : List NamedClub) (slot : ℕ) → bad_slot clubs ≡ Some slot → None ≡ unless_bad clubs (bad_slot clubs)
 roster_bad clubs slot h = rw h refl
 
-abbrev pub by_four : Option NamedClub → Option NamedClub → Option NamedClub → Option NamedClub → Option (List NamedClub)
-by_four o p q r = (o >>= λ a. p >>= λ b. q >>= λ c. r >>= λ e. Some (a ∷ b ∷ c ∷ e ∷ [])) >>= λ clubs. unless_bad clubs (bad_slot clubs)
-
-abbrev Club : Value → Option NamedClub
-Club value = parse_club (view value)
-
-pub of-four : (values : List Value) (w x y z : Value) (o p q r : Option NamedClub) → 4 ≤ length values → length values < 5
-    → w ≡ get_or values 0 w → x ≡ get_or values 1 x → y ≡ get_or values 2 y → z ≡ get_or values 3 z
-    → o ≡ Club w → p ≡ Club x → q ≡ Club y → r ≡ Club z → by_four o p q r ≡ parse_roster (map view values)
-unfolding parse_each
-of-four [] w x y z o p q r some few i j k l e f g h = absurd (omega arith)
-of-four (a ∷ []) w x y z o p q r some few i j k l e f g h = absurd (omega arith)
-of-four (a ∷ b ∷ []) w x y z o p q r some few i j k l e f g h = absurd (omega arith)
-of-four (a ∷ b ∷ c ∷ []) w x y z o p q r some few i j k l e f g h = absurd (omega arith)
-of-four (a ∷ b ∷ c ∷ d ∷ []) w x y z o p q r some few i j k l e f g h =
-    let first : o ≡ Club a = e ∙ ap Club i in
-    let second : p ≡ Club b = f ∙ ap Club j in
-    let third : q ≡ Club c = g ∙ ap Club k in
-    let fourth : r ≡ Club d = h ∙ ap Club l in
-    rw (first, second, third, fourth) (ap (λ (o : Option (List NamedClub)). o >>= λ clubs. unless_bad clubs (bad_slot clubs)) (sym (four-each (Club a) (Club b) (Club c) (Club d))))
-of-four (a ∷ b ∷ c ∷ d ∷ t ∷ more) w x y z o p q r some few i j k l e f g h = absurd (omega arith)
+pub just-four : (values : List Value) (w x y z : Value) → 4 ≤ length values → length values < 5 → w ≡ get_or values 0 w → x ≡ get_or values 1 x → y ≡ get_or values 2 y
+    → z ≡ get_or values 3 z → w ∷ x ∷ y ∷ z ∷ [] ≡ values
+just-four (a ∷ b ∷ c ∷ d ∷ []) w x y z some few i j k l = cc
+just-four _ w x y z some few i j k l = absurd (omega arith)
 
 -- ---- twelve words
 

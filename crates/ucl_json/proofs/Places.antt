@@ -1,5 +1,5 @@
 -- Elements that are added one after the other, and answers that have no float and are not nested deep.
-use Rattle.std.proofs.Common.{List, [], ap, arith, codes, false, get_or, length, negsuc, pos, refl, take, ℕ, ℤ, ◌++◌, ◌+◌, ◌-ℤ◌, ◌<◌, ◌∙◌, ◌∷◌, ◌≡◌, ◌≤◌, ◌-◌}
+use Rattle.std.proofs.Common.{List, [], ap, arith, false, get_or, length, negsuc, pos, refl, take, ℕ, ℤ, ◌++◌, ◌+◌, ◌-ℤ◌, ◌<◌, ◌∙◌, ◌∷◌, ◌≡◌, ◌≤◌, ◌-◌}
 use Rattle.std.proofs.lemmas.List.{take_all, take_more}
 use Rattle.serde_json.specs.Data.{Data, Items, depth, item, items_depth, no_items, string}
 use Rattle.serde_json.specs.Find.{is_float, of_integer}
@@ -19,8 +19,8 @@ use Rattle.ucl_order.specs.Rows.{rows_of}
 use Rattle.ucl_order.specs.Roster.{NamedClub}
 use Rattle.ucl_screen.specs.Numbers.{hex_digits}
 use Rattle.ucl_json.specs.declared.header.BoardHeader.{BoardHeader}
-use Rattle.ucl_json.specs.Values.{accepted_value, items_of, place_items, place_value, refused_by, reply_value, screen_value, word_items, words_value, coded_value}
-use Rattle.ucl_json.specs.Values.{match_value, number_value, numbered_value, with_member, edition_screen_value, match_items, matches_value}
+use Rattle.ucl_json.specs.Values.{accepted_value, items_of, place_items, place_value, refused_by, reply_value, screen_value, word_items, words_value}
+use Rattle.ucl_json.specs.Values.{match_value, with_member, edition_screen_value, match_items, matches_value}
 use Rattle.ucl_json.specs.Lines.{IsFlat}
 use Rattle.serde_json.proofs.OnLiterals.{serde_json_on_literals}
 use Rattle.ucl_board.specs.Fixtures.{match_numbers}
@@ -63,13 +63,6 @@ pub both_members : (n k : List ℕ) {whole second mid first base m d b : Data} �
     → whole ≡ with_member n m (with_member k d b)
 both_members n k p q r s t = rw (p, q, r, s, t) refl
 
--- what a stale event has more
-pub numbered : (row : ℕ) (event : NightEvent) (code : ℕ) (name : List ℕ) (found : ℕ) (m : MatchRecord)
-    → with_member (codes "stands") (match_value event.call.game m) (with_member (codes "number") (number_value found) (coded_value row event code name))
-    ≡ numbered_value row event code name found m
-unfolding serde_json_on_literals
-numbered row event code name found m = refl
-
 -- ---- no float, and no deep nesting
 
 pub record AreFlat (ds : Items) (n : ℕ) : Type 0 where
@@ -106,6 +99,7 @@ screen_flat row profile board roster group =
     let w = words-flat board in record { whole = rw (p.whole, w.whole) refl; shallow = omega (arith, p.shallow, w.shallow) }
 
 refused-flat : (row : ℕ) (event : NightEvent) (code : ℕ) (name : List ℕ) (found : Option ℕ) (m : MatchRecord) → IsFlat (refused_by row event code name found m)
+unfolding serde_json_on_literals
 refused-flat row event code name None m = record { whole = refl; shallow = omega arith }
 refused-flat row event code name (Some found) m = record { whole = refl; shallow = omega arith }
 

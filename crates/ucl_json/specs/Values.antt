@@ -28,6 +28,15 @@ use Rattle.ucl_json.specs.declared.header.BoardHeader.{BoardHeader}
 abbrev pub number_value : ℕ → Data
 number_value n = number (unsigned n)
 
+-- a value with one member more, if it is an object, and else the value as it is
+abbrev pub with_member : List ℕ → Data → Data → Data
+with_member name value (object members) = object (put name value members)
+with_member name value (array items) = array items
+with_member name value (string text) = string text
+with_member name value (number n) = number n
+with_member name value (boolean b) = boolean b
+with_member name value null = null
+
 -- the elements of an array: the value of each of these, in their order
 abbrev pub items_of : {T : Type 0} → (T → Data) → List T → Items
 items_of value_of [] = no_items
@@ -109,24 +118,12 @@ coded_value row event code name = object (
     member (codes "reporter") (number_value event.reporter) (
     member (codes "row") (number_value row) no_members))))))))
 
--- the reply to a stale event: as for another refused event, with `found`, the event number that its match has, and with m, that match
-abbrev pub numbered_value : ℕ → NightEvent → ℕ → List ℕ → ℕ → MatchRecord → Data
-numbered_value row event code name found m = object (
-    member (codes "code") (number_value code) (
-    member (codes "event") (string (kind_name event.call.kind)) (
-    member (codes "expected") (number_value event.call.expected) (
-    member (codes "match") (number_value event.call.game) (
-    member (codes "name") (string name) (
-    member (codes "number") (number_value found) (
-    member (codes "reply") (string (codes "refused")) (
-    member (codes "reporter") (number_value event.reporter) (
-    member (codes "row") (number_value row) (
-    member (codes "stands") (match_value event.call.game m) no_members))))))))))
-
--- the reply to an event that is refused: `Some` has the event number that its match has, if the event is stale; m is the match as it stands
+-- the reply to an event that is refused: `Some` has the event number that its match has, if the event is stale; the reply then has it as
+-- `number`, and the match as it stands, which is m
 abbrev pub refused_by : ℕ → NightEvent → ℕ → List ℕ → Option ℕ → MatchRecord → Data
 refused_by row event code name None m = coded_value row event code name
-refused_by row event code name (Some found) m = numbered_value row event code name found m
+refused_by row event code name (Some found) m =
+    with_member (codes "stands") (match_value event.call.game m) (with_member (codes "number") (number_value found) (coded_value row event code name))
 
 -- the reply to an event that is refused; m is its match as it stands, which the reply has if the event is stale
 abbrev pub refused_value : ℕ → NightEvent → Refusal → MatchRecord → Data
@@ -204,15 +201,6 @@ screen_value row profile board roster group = object (
     member (codes "table") (array (place_items roster (rows_of profile board roster))) (
     member (codes "version") (number_value (version_of board)) (
     member (codes "words") (array (word_items board)) no_members)))))))))
-
--- a value with one member more, if it is an object, and else the value as it is
-abbrev pub with_member : List ℕ → Data → Data → Data
-with_member name value (object members) = object (put name value members)
-with_member name value (array items) = array items
-with_member name value (string text) = string text
-with_member name value (number n) = number n
-with_member name value (boolean b) = boolean b
-with_member name value null = null
 
 -- the screen of a board, by the group and the order of a header, with its edition and the twelve matches
 unfoldable pub edition_screen_value : ℕ → BoardHeader → List ℕ → List NamedClub → Data

@@ -1,7 +1,7 @@
 //! Reads a board state from a line of JSON: group, tie-break order of the clubs, edition (how often the board was begun again), clubs, and
 //! the twelve match words, each a match packed into 64 bits. `None` says that a member is missing or is not what it should be.
 
-ghost use Rattle.std.specs.Prelude.{◌≡◌, ◌<◌, ◌≤◌, Some, IfErr, IfOk, IfSome, length, map, option_map};
+ghost use Rattle.std.specs.Prelude.{◌≡◌, ◌<◌, ◌≤◌, [], ◌∷◌, Some, IfErr, IfOk, IfSome, length, map, option_map};
 ghost use Rattle.serde_json.specs.View.{items_view, view};
 ghost use Rattle.ucl_order.specs.Roster.{bad_slot, club_lent};
 ghost use Rattle.ucl_screen.specs.Screen.{IsGroup};
@@ -120,20 +120,26 @@ fn roster_with(clubs: &[LentClub<'_>; 4]) -> Option<Roster>
     }
 }
 
+/// Returns the roster of the clubs that these values are, or `None` if one is no club.
+#[tactic(auto, unfolding(crate::specs::BoardLines::parse_each))]
+fn roster_of_four(first: &Value, second: &Value, third: &Value, fourth: &Value) -> Option<Roster>
+    ensures { result ≡ parse_roster (view first.now ∷ view second.now ∷ view third.now ∷ view fourth.now ∷ []) }
+{
+    let clubs = [
+        club_in(first)?,
+        club_in(second)?,
+        club_in(third)?,
+        club_in(fourth)?,
+    ];
+    roster_with(&clubs)
+}
+
 /// Returns the roster of the clubs that four values are, or `None` if they are not four or one is no club.
 fn roster_of(values: &[Value]) -> Option<Roster>
     ensures { result ≡ parse_roster (map view values.now) }
 {
     match values {
-        [first, second, third, fourth] => {
-            let clubs = [
-                club_in(first)?,
-                club_in(second)?,
-                club_in(third)?,
-                club_in(fourth)?,
-            ];
-            roster_with(&clubs)
-        }
+        [first, second, third, fourth] => roster_of_four(first, second, third, fourth),
         _ => None,
     }
 }

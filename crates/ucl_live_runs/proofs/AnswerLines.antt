@@ -1,12 +1,12 @@
 -- The lines of answers, and what each carries.
 use Rattle.ucl_live_runs.proofs.Common.{All, All-append, All-cons, All-head, All-nil, All-tail, All-weaker, AreWords, BoardState}
-use Rattle.ucl_live_runs.proofs.Common.{Bool, Data, HasNoFeed, HasNumbers, IfSome, IsRoster, IsValid, IsWord, KickOff, Kind}
+use Rattle.ucl_live_runs.proofs.Common.{Bool, Data, HasNoFeed, HasNumbers, IfSome, IsRoster, IsValid, IsWord, Kind}
 use Rattle.ucl_live_runs.proofs.Common.{List, MatchRecord, NamedClub, NightEvent, None, Option, Refusal, Some, [], and_from}
 use Rattle.ucl_live_runs.proofs.Common.{ap, append_cancel_right, arith, bad_row_value, begun_append}
-use Rattle.ucl_live_runs.proofs.Common.{begun_ended, begun_line, begun_none, cases_Bool, cases_lt, coded_value, compact_text}
+use Rattle.ucl_live_runs.proofs.Common.{begun_ended, begun_line, begun_none, cases_Bool, cases_lt, compact_text}
 use Rattle.ucl_live_runs.proofs.Common.{ended_append, ended_line, ended_lines, ended_none, false, field_name, fits, found_of}
 use Rattle.ucl_live_runs.proofs.Common.{if◌then◌else◌, inl, inr, is_printed, json_line, length, length-take, length-take-le}
-use Rattle.ucl_live_runs.proofs.Common.{list_all, map, map-append, matches_value, number_valid, numbered_value, one_line}
+use Rattle.ucl_live_runs.proofs.Common.{list_all, map, map-append, matches_value, number_valid, one_line}
 use Rattle.ucl_live_runs.proofs.Common.{parse_board_line, parse_board_state, printed, record_at, refl, refusal_code}
 use Rattle.ucl_live_runs.proofs.Common.{refusal_name, refusal_of, refused_by, refused_value, serde_json_on_literals, shown_text}
 use Rattle.ucl_live_runs.proofs.Common.{subst, sym, take, take_all, too-long, true, word_high, word_valid, words_value, ℕ, ◌++◌}
@@ -15,8 +15,10 @@ use Rattle.ucl_rows.specs.declared.bad_row.BadField.{BadField}
 use Rattle.ucl_rows.specs.declared.bad_row.BadField.TheVariants.{Count}
 use Rattle.ucl_word.specs.declared.refusal.Refusal.TheVariants.{AlreadyStarted, Finished, LimitReached, NoCaution, NoGoal, NotFinished, NotStarted}
 use Rattle.ucl_word.specs.declared.refusal.Refusal.TheVariants.{NumberFull, Stale}
-use Rattle.ucl_live_runs.proofs.AnswerValues.{digits-20, kind-text, match-plain, matches-plain, words-plain}
-use Rattle.ucl_live_runs.proofs.ReadBack.{IsShortPlain, IsText, parsed-line}
+use Rattle.json.specs.Print.{escape_byte, quoted}
+use Rattle.ucl_json.proofs.AnswerSizes.{digits-20, kind-text, match-plain, refusal-text, words-plain}
+use Rattle.ucl_json.proofs.PlainValues.{IsShortPlain, IsText, parsed-line, quoted-length}
+use Rattle.ucl_live_runs.proofs.AnswerValues.{matches-short}
 
 -- ==== The lines that a session in JSON answers, and what each tells
 
@@ -86,28 +88,30 @@ most-as most o text l h = record { begun = l.begun; each = rw l.carried (All-con
 pub silent-line : (v : Data) (most : Option BoardState) → IsShortPlain v → parse_board_state v ≡ None → CarriesAtMost most (json_line v)
 silent-line v most short none = most-as most None (json_line v) (value-line v None (parsed-line v short ∙ none)) (inl refl)
 
-refused-by-line : (o : Option BoardState) (row : ℕ) (event : NightEvent) (code : ℕ) (name : List ℕ) (found : Option ℕ) (m : MatchRecord)
-    → row < 2 ^ 64 → HasNumbers event → code < 2 ^ 64 → IsText name → length name ≤ 20 → IfSome found (λ n. n < 2 ^ 64) → IsValid m
-    → CarriesAtMost o (json_line (refused_by row event code name found m))
+refused-by-line : (o : Option BoardState) (row : ℕ) (event : NightEvent) (refusal : Refusal) (found : Option ℕ) (m : MatchRecord)
+    → row < 2 ^ 64 → HasNumbers event → IfSome found (λ n. n < 2 ^ 64) → IsValid m
+    → CarriesAtMost o (json_line (refused_by row event (refusal_code refusal) (refusal_name refusal) found m))
 unfolding parse_board_state serde_json_on_literals
-refused-by-line o row event code name None m r fits c text short f v =
+refused-by-line o row event refusal None m r fits f v =
     let kind = kind-text event.call.kind in
-    silent-line (coded_value row event code name) o (record {
-      plain = ((refl, refl), (c, (kind.0, (fits.expected, (fits.game, (text, (refl, (fits.reporter, (r, tt)))))))));
-      size = omega (arith, digits-20, kind.1, fits.expected, fits.game, fits.reporter);
+    let name = refusal-text refusal in
+    silent-line (refused_by row event (refusal_code refusal) (refusal_name refusal) None m) o (record {
+      plain = ((refl, refl), (name.2, (kind.0, (fits.expected, (fits.game, (name.0, (refl, (fits.reporter, (r, tt)))))))));
+      size = omega (arith, digits-20, kind.1, name.1, name.2, fits.expected, fits.game, fits.reporter);
     }) refl
-refused-by-line o row event code name (Some n) m r fits c text short f v =
+refused-by-line o row event refusal (Some n) m r fits f v =
     let kind = kind-text event.call.kind in
+    let name = refusal-text refusal in
     let stands = match-plain 124 event.call.game m fits.game v in
-    silent-line (numbered_value row event code name n m) o (record {
-      plain = ((refl, refl), (c, (kind.0, (fits.expected, (fits.game, (text, (f, (refl, (fits.reporter, (r, (stands.0, tt)))))))))));
-      size = omega (arith, digits-20, kind.1, fits.expected, fits.game, fits.reporter, stands.1);
+    silent-line (refused_by row event (refusal_code refusal) (refusal_name refusal) (Some n) m) o (record {
+      plain = ((refl, refl), (name.2, (kind.0, (fits.expected, (fits.game, (name.0, (f, (refl, (fits.reporter, (r, (stands.0, tt)))))))))));
+      size = omega (arith, digits-20, kind.1, name.1, name.2, fits.expected, fits.game, fits.reporter, stands.1);
     }) refl
 
 -- a row as an answer shows it
 pub record IsShown (shown : List ℕ) : Type 0 where
   pub text : IsText shown
-  pub short : length shown ≤ 64
+  pub short : length (quoted shown) ≤ 130
 
 printed-text : (text : List ℕ) → IsText (printed text) × (length (printed text) ≤ length text)
 unfolding printed
@@ -119,9 +123,11 @@ printed-text (b ∷ text) =
     ]
 
 pub shown-text : (line : List ℕ) → IsShown (shown_text line)
-shown-text line = let p = printed-text (take 64 line) in record { text = p.0; short = omega (arith, p.1, length-take 64 line) }
+shown-text line =
+    let p = printed-text (take 64 line) in record { text = p.0; short = omega (arith, p.1, length-take 64 line, quoted-length (shown_text line) p.0) }
 
-field-text : (field : BadField) → IsText (field_name field) × (length (field_name field) ≤ 8)
+field-text : (field : BadField) → IsText (field_name field) × (length (quoted (field_name field)) ≤ 10)
+unfolding escape_byte
 field-text Count = (refl, omega arith)
 field-text _ = (refl, omega arith)
 
@@ -133,25 +139,20 @@ bad-line o row field shown r is =
     silent-line (bad_row_value row (field_name field) shown) o
     (record { plain = ((refl, refl), (code, (name.0, (refl, (refl, (r, (is.text, tt))))))); size = omega (arith, digits-20, name.1, is.short) }) refl
 
-pub words-line : (o : Option BoardState) (row : ℕ) (board : List ℕ) → row < 2 ^ 64 → length board ≡ 12 → All (λ word. word < 2 ^ 64) board → CarriesAtMost o (json_line (words_value row board))
+pub words-line : (o : Option BoardState) (row : ℕ) (board : List ℕ) → row < 2 ^ 64 → AreWords board → CarriesAtMost o (json_line (words_value row board))
 unfolding parse_board_state serde_json_on_literals
-words-line o row board r twelve bits =
-    let w = words-plain board bits in
+words-line o row board r are =
+    let w = words-plain board are in
     silent-line (words_value row board) o (record { plain = ((refl, refl), (refl, (r, (w.0, tt)))); size = omega (arith, digits-20, w.1) }) refl
 
 pub matches-line : (o : Option BoardState) (row : ℕ) (board : List ℕ) (clubs : List NamedClub) → row < 2 ^ 64 → IsRoster clubs → AreWords board →
     CarriesAtMost o (json_line (matches_value row board clubs))
 unfolding matches_value parse_board_state serde_json_on_literals
-matches-line o row board clubs r is w = silent-line (matches_value row board clubs) o (matches-plain board w row clubs r is) refl
-
-pub name-text : (refusal : Refusal) → IsText (refusal_name refusal) × (length (refusal_name refusal) ≤ 20) × (refusal_code refusal < 2 ^ 64)
-name-text (Stale found) = (refl, omega arith, omega arith)
-name-text _ = (refl, omega arith, omega arith)
+matches-line o row board clubs r is w = silent-line (matches_value row board clubs) o (matches-short row board clubs r is w) refl
 
 pub refused-line : (o : Option BoardState) (row : ℕ) (event : NightEvent) (refusal : Refusal) (m : MatchRecord)
     → row < 2 ^ 64 → HasNumbers event → IfSome (found_of refusal) (λ n. n < 2 ^ 64) → IsValid m → CarriesAtMost o (json_line (refused_value row event refusal m))
-refused-line o row event refusal m r fits f v =
-    let p = name-text refusal in refused-by-line o row event (refusal_code refusal) (refusal_name refusal) (found_of refusal) m r fits p.2 p.0 p.1 f v
+refused-line o row event refusal m r fits f v = refused-by-line o row event refusal (found_of refusal) m r fits f v
 
 record IsFound (o : Option Refusal) : Type 0 where
   is : IfSome o (λ refusal. IfSome (found_of refusal) (λ n. n < 2 ^ 64))
@@ -178,10 +179,3 @@ word-fits word is = let high : word / 2 ^ 56 ≡ 32 = word_high word is in omega
 
 pub board-fits : (board : List ℕ) → All IsWord board → All (λ word. word < 2 ^ 64) board
 board-fits board h = All-weaker IsWord (λ word. word < 2 ^ 64) word-fits board h
-
--- any event
-abbrev pub kick_off : NightEvent
-kick_off = record { reporter = 1; call = record { game = 1; expected = 0; kind = KickOff } }
-
-pub kick_off-fits : HasNumbers kick_off
-kick_off-fits = record { reporter = omega arith; game = omega arith; expected = omega arith }

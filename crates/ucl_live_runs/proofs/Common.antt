@@ -52,7 +52,7 @@ pub use Rattle.ucl_json.proofs.OneLine.{line_of_value, lines_then, no_lines, one
 pub use Rattle.ucl_json.specs.BoardLines.{edition_in, if_read, just, list_at, listed, parse_board, parse_board_line, parse_club, parse_clubs, parse_edition}
 pub use Rattle.ucl_json.specs.BoardLines.{parse_group, parse_order, parse_roster, parse_word, text_at}
 unfoldable pub use Rattle.ucl_json.specs.BoardLines.{parse_board_state, parse_each}
-pub use Rattle.ucl_json.specs.Values.{bad_row_value, club_items, club_value, coded_value, mark_name, match_items, match_value, number_value, numbered_value}
+pub use Rattle.ucl_json.specs.Values.{bad_row_value, club_items, club_value, mark_name, match_items, match_value, number_value}
 pub use Rattle.ucl_json.specs.Values.{place_items, refused_by, refused_value, reply_value, sides_value, word_items, words_value}
 unfoldable pub use Rattle.ucl_json.specs.Values.{accepted_value, edition_screen_value, matches_value, place_value, screen_value}
 pub use Rattle.ucl_live_runs.specs.Follow.{HasNumbers, IsBoardState, IsCarriedIn, IsFollowed, IsLatest, IsNoFall, IsNoNewer, IsOlder, IsRecord, IsShownLast}

@@ -7,7 +7,6 @@ pub mod Entered
 pub mod LeftOuts
 pub mod Runs
 pub mod AnswerValues
-pub mod ReadBack
 pub mod AnswerLines
 pub mod MendLines
 pub mod Told

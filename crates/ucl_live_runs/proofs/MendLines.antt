@@ -1,6 +1,7 @@
 -- The lines of JSON that answer a mend: what board state each carries.
 use Rattle.std.proofs.Common.{arith, refl, ℕ, ◌<◌, ◌^◌, ◌≤◌}
 use Rattle.std.specs.Prelude.{IfSome, Option, Some, length}
+use Rattle.json.specs.Print.{escape_byte, quoted}
 use Rattle.serde_json.proofs.OnLiterals.{serde_json_on_literals}
 use Rattle.ucl_word.specs.declared.refusal.Refusal.{Refusal}
 use Rattle.ucl_board.specs.declared.entry.Entry.{Entry}
@@ -8,22 +9,21 @@ use Rattle.ucl_json.specs.declared.board_state.BoardState.{BoardState}
 use Rattle.ucl_json.specs.BoardLines.{parse_board_state}
 use Rattle.ucl_json.specs.Lines.{json_line}
 use Rattle.ucl_json.specs.Mended.{left_out_value, mend_refused_value, mended_value, mended_with}
-use Rattle.ucl_live_runs.specs.Follow.{IsBoardState, LinesTellTheirBoardState}
+use Rattle.ucl_live_runs.specs.Follow.{IsBoardState}
 use Rattle.ucl_live_runs.specs.MendNames.{mend_refusal_code, mend_refusal_name}
 use Rattle.ucl_live_runs.specs.declared.mend_refusal.MendRefusal.{MendRefusal}
 use Rattle.ucl_live_runs.specs.declared.mend_refusal.MendRefusal.TheVariants.{LastEdition, NoEvent}
-use Rattle.ucl_live_runs.proofs.AnswerLines.{CarriesAtMost, IsLineThat, kick_off, kick_off-fits, name-text, silent-line, value-line}
-use Rattle.ucl_live_runs.proofs.AnswerValues.{digits-20, kind-text, told-lines}
-use Rattle.ucl_live_runs.proofs.ReadBack.{IsText}
+use Rattle.ucl_json.proofs.AnswerSizes.{digits-20, kind-text, refusal-text}
+use Rattle.ucl_json.proofs.PlainValues.{IsText}
+use Rattle.ucl_live_runs.proofs.AnswerLines.{CarriesAtMost, IsLineThat, silent-line, value-line}
+use Rattle.ucl_live_runs.proofs.AnswerValues.{mended-carried}
 
 -- the answer to a mend carries the board state after it
 
 pub mended-line : (without : Option ℕ) (row left_out : ℕ) (m : BoardState) → IsBoardState m → row < 2 ^ 64 → IfSome without (λ n. n < 2 ^ 64) → left_out < 2 ^ 64
     → IsLineThat (Some m) (json_line (mended_with without (mended_value row left_out m.header m.board m.roster)))
-unfolding LinesTellTheirBoardState
 mended-line without row left_out m is r w l =
-    value-line (mended_with without (mended_value row left_out m.header m.board m.roster)) (Some m)
-    ((told-lines row kick_off 0 m is r kick_off-fits (omega arith)).mended without left_out w l)
+    value-line (mended_with without (mended_value row left_out m.header m.board m.roster)) (Some m) (mended-carried without row left_out m is r w l)
 
 -- ---- an event that is left out, and a mend that is refused, carry none
 
@@ -32,13 +32,14 @@ pub left-out-line : (o : Option BoardState) (row : ℕ) (entry : Entry) (refusal
 unfolding parse_board_state serde_json_on_literals
 left-out-line o row entry refusal r game reporter =
     let kind = kind-text entry.kind in
-    let name = name-text refusal in
+    let name = refusal-text refusal in
     silent-line (left_out_value row entry refusal) o (record {
       plain = ((refl, refl), (name.2, (kind.0, (game, (name.0, (refl, (reporter, (r, tt))))))));
       size = omega (arith, digits-20, kind.1, name.1, name.2);
     }) refl
 
-mend-name : (refusal : MendRefusal) → IsText (mend_refusal_name refusal) × (length (mend_refusal_name refusal) ≤ 20) × (mend_refusal_code refusal < 2 ^ 64)
+mend-name : (refusal : MendRefusal) → IsText (mend_refusal_name refusal) × (length (quoted (mend_refusal_name refusal)) ≤ 22) × (mend_refusal_code refusal < 2 ^ 64)
+unfolding escape_byte
 mend-name NoEvent = (refl, omega arith, omega arith)
 mend-name LastEdition = (refl, omega arith, omega arith)
 

@@ -3,7 +3,7 @@ use Rattle.ucl_live_runs.proofs.Common.{Accepted, All, All-append, All-cons, All
 use Rattle.ucl_live_runs.proofs.Common.{AwaitingClubs, AwaitingHeader, Bad, BoardHeader, BoardState, Contains}
 use Rattle.ucl_live_runs.proofs.Common.{Contains-append_left, Contains-append_right, Err, Event, Format, FourFields, HasNumbers}
 use Rattle.ucl_live_runs.proofs.Common.{IfSome, IsAttempt, IsBoardState, IsGroup, IsLegal, IsRoster, IsValid, IsWord, Json}
-use Rattle.ucl_live_runs.proofs.Common.{LinesTellTheirBoardState, List, LiveArgs, MatchRecord, Matches, Mends, NamedClub}
+use Rattle.ucl_live_runs.proofs.Common.{List, LiveArgs, MatchRecord, Matches, Mends, NamedClub}
 use Rattle.ucl_live_runs.proofs.Common.{NightEvent, None, Nothing, Ok, Open, Option, OtherGroup, Profile, Reached, Refusal}
 use Rattle.ucl_live_runs.proofs.Common.{Request, Result, Said, Screen, Session, Some, Words, [], accepted_value, after}
 use Rattle.ucl_live_runs.proofs.Common.{after_beginning, after_club, after_header, and_parts, answer, answer_at, answer_of}
@@ -37,8 +37,8 @@ use Rattle.ucl_live_runs.specs.declared.standing.Fate.TheVariants.{Kept, Refused
 use Rattle.ucl_live_runs.specs.declared.standing.LeftOut.{LeftOut}
 use Rattle.ucl_live_runs.specs.declared.standing.StandingEvent.{StandingEvent}
 use Rattle.ucl_live_runs.proofs.AnswerLines.{CarriesAtMost, IsLineThat, IsShown, bad-line, begun-then, board-fits, carried-then, carried_in, found-fits}
-use Rattle.ucl_live_runs.proofs.AnswerLines.{kick_off, kick_off-fits, matches-line, most-as, most-none, most-then, refused-line, value-line, words-line}
-use Rattle.ucl_live_runs.proofs.AnswerValues.{told-lines}
+use Rattle.ucl_live_runs.proofs.AnswerLines.{matches-line, most-as, most-none, most-then, refused-line, value-line, words-line}
+use Rattle.ucl_live_runs.proofs.AnswerValues.{reply-carried, screen-carried}
 use Rattle.ucl_live_runs.proofs.Boards.{IsGood, IsPossible, good-after, good-club, good-clubs, good-first, good-mend, later-edition, possible, ranged, version-after}
 use Rattle.ucl_live_runs.proofs.Entered.{entered-board, entered-legal}
 use Rattle.ucl_live_runs.proofs.FollowShown.{IsOfSame}
@@ -249,10 +249,9 @@ module _ (options : LiveArgs) (header : BoardHeader) (row : ℕ) (clubs : List N
   Here board = Some (board_state_with header clubs board)
 
   screen-tells : (board : List ℕ) → AreWords board → CarriesAtMost (Here board) (screen_answer options.format header row clubs board)
-  unfolding LinesTellTheirBoardState
   screen-tells board w =
       rw json (most-as (Here board) (Here board) (json_line (edition_screen_value row header board clubs)) (value-line (edition_screen_value row header board clubs) (Here board)
-      (told-lines row kick_off 0 (board_state_with header clubs board) (board_state-good header clubs board good is w) fits kick_off-fits (omega arith)).screen) (inr refl))
+      (screen-carried row (board_state_with header clubs board) (board_state-good header clubs board good is w) fits)) (inr refl))
 
   screen-if-tells : (board : List ℕ) → AreWords board → CarriesAtMost (Here board) (screen_if options header row clubs board)
   screen-if-tells board w = cond_both options.screens (screen_answer options.format header row clubs board) [] (CarriesAtMost (Here board)) (λ _. screen-tells board w) (λ _. most-none (Here board))
@@ -285,10 +284,9 @@ module _ (options : LiveArgs) (header : BoardHeader) (row : ℕ) (clubs : List N
     reply-with o = json_line (reply_value row event (answer (game_of board).number o) header now clubs)
 
     accepted-line : IsLineThat (At now) (reply-with None)
-    unfolding LinesTellTheirBoardState
     accepted-line =
         value-line (accepted_value row event ((game_of board).number + 1) header now clubs) (At now)
-        ((told-lines row event ((game_of board).number + 1) (board_state_with header clubs now) (board_state-good header clubs now good is good-now) fits small number-fits).reply)
+        (reply-carried row event ((game_of board).number + 1) (board_state_with header clubs now) (board_state-good header clubs now good is good-now) fits small number-fits)
 
     pub accepted-reply : (before : ℕ) → refusal_of (game_of board) event.call.expected event.call.kind ≡ None
         → IsLineThat (At now) (reply_answer options.format header row clubs event before (reply_of (game_of board) event.call) now)
@@ -433,7 +431,7 @@ module _ (options : LiveArgs) (header : BoardHeader) (row : ℕ) (clubs : List N
         (screen-tells options header row clubs json fits good is (board_in events) words) refl
     request-tells Words shown p short =
         stays-told At_now (Some At_now) (words_answer options.format row (board_in events))
-        (rw json (words-line (Some At_now) row (board_in events) fits words.twelve (board-fits (board_in events) words.each))) refl
+        (rw json (words-line (Some At_now) row (board_in events) fits words)) refl
     request-tells Matches shown p short =
         stays-told At_now (Some At_now) (matches_answer options.format row clubs (board_in events)) (rw json (matches-line (Some At_now) row (board_in events) clubs fits is words)) refl
 

@@ -60,8 +60,11 @@ printed_ascii : (bs : List ℕ) → list_all is_printed bs ≡ true → IsAscii 
 printed_ascii [] h = IsAscii-nil
 printed_ascii (b ∷ bs) h = let e = and_parts (is_printed b) (list_all is_printed bs) h in IsAscii-cons b bs (below b e.0) (printed_ascii bs e.1)
 
+pub printed_utf8 : (bs : List ℕ) → list_all is_printed bs ≡ true → IsUtf8 bs
+printed_utf8 bs h = IsUtf8-from_ascii bs (printed_ascii bs h)
+
 pub name_text : (name : List ℕ) → is_name name ≡ true → IsUtf8 name
-name_text name h = IsUtf8-from_ascii name (printed_ascii name (and_parts _ _ h).1)
+name_text name h = printed_utf8 name (and_parts _ _ h).1
 
 -- ---- the line of a fault, by its parts
 

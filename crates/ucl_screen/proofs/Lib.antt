@@ -6,3 +6,4 @@ pub mod Columns
 pub mod ReadWords
 pub mod EventsInTurn
 pub mod Letters
+pub mod HexDigits

@@ -1,9 +1,9 @@
-use Rattle.std.proofs.Common.{◌≡◌, ◌∙◌, Some, codes, rules}
-use Rattle.ucl_word.specs.Names.{found_of, refusal_code, refusal_name}
+use Rattle.std.proofs.Common.{◌≡◌, Some, codes, rules}
+use Rattle.ucl_word.specs.Names.{found_of}
 use Rattle.ucl_board.specs.Words.{game_at}
 use Rattle.serde_json.specs.View.{view}
 use Rattle.ucl_json.specs.Values.{match_value}
-use Rattle.ucl_json.proofs.Places.{both_members, numbered}
+use Rattle.ucl_json.proofs.Places.{both_members}
 use Rattle.ucl_json.proofs.reply.refused_value.Goals as goal
 
 pub returns-in_ok-with_member-in-Some : goal.returns-in_ok-with_member-in-Some
@@ -11,5 +11,4 @@ returns-in_ok-with_member-in-Some c =
     let r = c.args.reply.now in
     let found : found_of c.args.refusal ≡ Some c.in-Some.found = search rules in
     let stands : view c.in_ok-stands-in-Some.stands ≡ match_value r.event.now.call.game (game_at r.board.now r.event.now.call.game) = search rules in
-    rw found (both_members (codes "stands") (codes "number") c.in_ok-with_member-in-Some.ensures stands c.in_ok-numbered-in-Some.ensures (search rules) c.in_ok-coded.ensures
-    ∙ numbered r.row r.event.now (refusal_code c.args.refusal) (refusal_name c.args.refusal) c.in-Some.found (game_at r.board.now r.event.now.call.game))
+    rw found (both_members (codes "stands") (codes "number") c.in_ok-with_member-in-Some.ensures stands c.in_ok-numbered-in-Some.ensures (search rules) c.in_ok-coded.ensures)

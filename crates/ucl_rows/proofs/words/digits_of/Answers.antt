@@ -1,6 +1,6 @@
 use Rattle.ucl_rows.proofs.Common.{arith, length, refl, ◌-◌, ◌<◌, ◌^◌, ◌∙◌, ◌≡◌, ◌≤◌}
 use Rattle.std.proofs.Common.{length-set}
-use Rattle.ucl_rows.proofs.WordDigits.{digits-end, digits-step}
+use Rattle.ucl_screen.proofs.HexDigits.{digits-end, digits-step}
 use Rattle.ucl_rows.proofs.words.digits_of.Goals as goal
 
 pub loop-place-preserved : goal.loop-place-preserved

@@ -1,5 +1,5 @@
 use Rattle.ucl_rows.proofs.Common.{[], drop, length, ◌≡◌, ◌≤◌}
-use Rattle.ucl_rows.proofs.WordDigits.{low}
+use Rattle.ucl_screen.proofs.HexDigits.{low}
 use Rattle.ucl_rows.proofs.words.digits_of.Given as goal
 
 abbrev pub invariant-loop-place : goal.invariant-loop-place

@@ -1,9 +1,13 @@
--- A word in sixteen hexadecimal digits, made from its last digit on.
-use Rattle.ucl_rows.proofs.Common.{List, [], ap, append-nil, append_assoc, arith, cases_Bool, digit_glyph, drop, false, hex_digits, inl, inr, length, length-append}
-use Rattle.ucl_rows.proofs.Common.{nat_tests, pow-suc, refl, set, subst, suc, sym, true, zero, ℕ, ◌%◌, ◌++◌, ◌+◌, ◌-◌, ◌/◌, ◌<◌, ◌==◌, ◌^◌, ◌∙◌, ◌∷◌, ◌≡◌, ◌≤◌}
-use Rattle.std.proofs.Common.{replicate}
+-- A word in sixteen hexadecimal digits, made from its last digit on, and read back.
+use Rattle.std.proofs.Common.{List, Some, [], ap, append-nil, append_assoc, arith, drop, eq-eqb, false, inl, inr, length, length-append, refl, replicate}
+use Rattle.std.proofs.Common.{set, subst, suc, sym, true, zero, ℕ, ◌%◌, ◌*◌, ◌++◌, ◌+◌, ◌-◌, ◌/◌, ◌<◌, ◌==◌, ◌^◌, ◌∙◌, ◌∷◌, ◌≡◌, ◌≤◌}
+use Rattle.std.proofs.Math.Nat.{pow-suc}
+use Rattle.std.proofs.lemmas.Bool.{cases_Bool}
+use Rattle.std.proofs.lemmas.Bool.Decides.{nat_tests}
 use Rattle.std.proofs.lemmas.List.{drop-set}
-use Rattle.std.specs.Fmt.{char_count, digits, digits_onto, padded_integral}
+use Rattle.std.specs.Fmt.{char_count, digit_glyph, digits, digits_onto, padded_integral}
+use Rattle.ucl_screen.specs.Numbers.{hex_digit, hex_digits, hex_word}
+unfoldable use Rattle.ucl_screen.specs.Numbers.{hex_after}
 
 -- the last k digits of a number, before others
 abbrev pub low : ℕ → ℕ → List ℕ → List ℕ
@@ -87,3 +91,34 @@ digits-step word place rest old new digit some short is e so_far =
 
 pub digits-end : (word place rest : ℕ) (digits : List ℕ) → place ≡ 0 → word < 2 ^ 64 → low place rest (drop place digits) ≡ low 16 word [] → digits ≡ hex_digits word
 digits-end word place rest digits none small so_far = (rw none at so_far) ∙ sym (word-digits word small)
+
+-- ---- read back
+
+glyph-back : (d : ℕ) → d < 16 → hex_digit (digit_glyph false d) ≡ Some d
+glyph-back (suc (suc (suc (suc (suc (suc (suc (suc (suc (suc (suc (suc (suc (suc (suc (suc d)))))))))))))))) h = absurd (omega arith)
+glyph-back _ _ = refl
+
+spell : (before last power next n : ℕ) → next ≡ 16 * power → n ≡ 16 * before + last → (a : ℕ) → 16 * (a * power + before) + last ≡ a * next + n
+spell before last power next n e f a = rw (e, f) (omega arith)
+
+low-back : (k n a : ℕ) (rest : List ℕ) → n < 16 ^ k → hex_after a (low k n rest) ≡ hex_after (a * 16 ^ k + n) rest
+unfolding hex_after
+low-back zero n a rest h = ap (λ (m : ℕ). hex_after m rest) (omega arith)
+low-back (suc k) n a rest h =
+    let p : 16 ^ suc k ≡ 16 * 16 ^ k = omega (arith, pow-suc 16 k) in
+    let parts : n ≡ 16 * (n / 16) + n % 16 = omega arith in
+    let whole = spell (n / 16) (n % 16) (16 ^ k) (16 ^ suc k) n p parts a in
+    low-back k (n / 16) a (digit_glyph false (n % 16) ∷ rest) (omega arith) ∙ rw (glyph-back (n % 16) (omega arith), whole) refl
+
+pub low-length : (k n : ℕ) (rest : List ℕ) → length (low k n rest) ≡ k + length rest
+low-length zero n rest = omega arith
+low-length (suc k) n rest = low-length k (n / 16) (digit_glyph false (n % 16) ∷ rest) ∙ omega arith
+
+of-sixteen : (text : List ℕ) (n : ℕ) → length text ≡ 16 → hex_after 0 text ≡ Some n → hex_word text ≡ Some n
+of-sixteen text n e h = rw (eq-eqb (length text) 16 e) h
+
+pub word-back : (word : ℕ) → word < 2 ^ 64 → hex_word (hex_digits word) ≡ Some word
+unfolding hex_after
+word-back word h =
+    let back = low-back 16 word 0 [] (omega arith) ∙ ap Some (omega arith) in
+    ap hex_word (word-digits word h) ∙ of-sixteen (low 16 word []) word (low-length 16 word []) back
