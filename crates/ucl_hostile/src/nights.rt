@@ -67,12 +67,10 @@ impl<'n, R: Wait + Sync> Watch<'n, R> {
     fn new(rt: &'n R, alloc: Global, night: &'n Night, group: u8, readings: u32) -> Watch<'n, R> {
         let mut most = [0, 0, readings, readings];
         for event in &night.events {
-            let own = if event.reporter.get() == 1 {
-                &mut most[0]
-            } else {
-                &mut most[1]
-            };
-            *own = own.saturating_add(1);
+            match event.reporter.get() {
+                1 => most[0] = most[0].saturating_add(1),
+                _ => most[1] = most[1].saturating_add(1),
+            }
         }
         let seen = Seen {
             workers: [Worker::default(); 4],
