@@ -108,6 +108,14 @@ def test_night_of_any_length(run, length, readings):
     assert night.output.endswith("FINAL\n" + shown.output)
 
 
+def test_nights_of_each_group_and_number_of_readings(run):
+    """Each ends as it has to, whatever is against it, and its gate sees all calls and screens; also at versions from the first to the last."""
+    seed, rows = random.randrange(1 << 32), NIGHT.splitlines(True)[: 4 + 12 * 4094]
+    text = "".join(rows).replace("\n2,", "\n1,")
+    ran = run("ucl_hostile", "nights", str(seed), str(MOST_READINGS), input=text)
+    assert ran == (0, "all nights are right\n", ""), f"seed {seed}"
+
+
 @pytest.mark.parametrize(
     "call, text",
     [

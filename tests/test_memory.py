@@ -61,20 +61,27 @@ CALLS = {
     "line_of": (None, ("", LINE), [NO_MEMORY]),
     "night_run": (f"{H2H}.csv", (SCREEN,), [NO_MEMORY, NO_THREAD]),
     "night_run_in_a_cell": (f"{H2H}.csv", (SCREEN,), [NO_MEMORY, NO_THREAD]),
+    # Strangers are told after want of memory for a reader and of a thread, and before want of memory for the closing screen.
+    "night_run_beside_a_stranger": (f"{H2H}.csv", (SCREEN,), [NO_MEMORY, NO_THREAD], "Some(Strangers { version: 40 })"),
 }
 
 
 @pytest.mark.parametrize("mode", ["one", "all"])
 @pytest.mark.parametrize("call", CALLS)
 def test_a_call_of_the_library(program, refuses, call, mode):
-    name, gives, answers = CALLS[call]
+    name, gives, answers, *first = CALLS[call]
     text = text_of(name) if name is not None else "ucl_night night --group C --readings 3 --order away-in-tie"
     met, whole = swept(refuses, mode, "call", [program("ucl_hostile"), "refused", call], text)
     right = "kept true\n" + text_of(*gives)
-    assert whole.output == "first None\n" + right
+    assert whole.output == f"first {(*first, None)[0]}\n" + right
     allowed = [f"first {answer}\n{right}" for answer in answers]
     assert [run for run, asks_again in met if run.output not in allowed + [whole.output] * asks_again] == []
     assert any(run.output in allowed for run, _ in met)
+
+
+def test_a_night_with_a_row_that_is_off_duty_asks_for_nothing(program, refuses):
+    met, whole = swept(refuses, "all", "call", [program("ucl_hostile"), "refused", "night_run"], text_of(f"{H2H}.csv", "3,1,0,kickoff\n"))
+    assert met == [] and "input refused 25: row 45" in whole.errors
 
 
 ROWS = "two_matches.csv", "screen,,,\nwords,,,\nmatches,,,\n"

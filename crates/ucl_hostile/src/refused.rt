@@ -2,6 +2,7 @@
 
 ghost use Rattle.std.specs.Prelude.{IfOk};
 
+use crate::nights::kick_off;
 use anyhow::Context;
 use std::alloc::{AllocError, Global};
 use std::fmt::Debug;
@@ -246,9 +247,8 @@ fn taken_of(night: &Night) -> u16 {
     board.version()
 }
 
-/// Whether a board has no event but rows of the script: each match is as its rows make it, as many of them as it has events.
-fn is_of_rows(read: &Board, night: &Night) -> bool {
-    let mut alone = Board::fresh();
+/// Whether a board has no event but rows of the script and what it had before: each match is as its rows make it, as many of them as it has events.
+fn is_of_rows(read: &Board, night: &Night, mut alone: Board) -> bool {
     for event in &night.events {
         if event.call.expected < read.game(event.call.game).number {
             let _reply = alone.report(event.reporter, &event.call);
@@ -257,19 +257,27 @@ fn is_of_rows(read: &Board, night: &Night) -> bool {
     alone == *read
 }
 
-/// A night of the script on a board, and then one on a fresh board of the same kind. A pass that was split off before the first reads
-/// what that board has kept: rows of the script alone, and all that the rules take where the night ended well. It gets the number after those of the
-/// two reporters, or a lower one, so no other was enlisted.
+/// A night of the script on a board, on which a stranger may have entered an event, and then one on a fresh board of the same kind. A pass that was
+/// split off before the first reads what that board has kept: no other events than rows of the script, and all that the rules take where the night
+/// ended well. It gets the number after those of the two reporters, or a lower one, so no other was enlisted.
 fn nights<B: LiveBoard + Drop, R: Print + Threads + Wait + Sync>(
     rt: &R,
     alloc: Global,
     first: (B, B::ReaderPass),
     second: (B, B::ReaderPass),
     night: &Night,
+    entered: Option<EventCall>,
 ) -> anyhow::Result<()>
     requires { B.is_reader first.0 first.1 × B.is_reader second.0 second.1 }
 {
     let (board, mut pass) = first;
+    let mut begun = Board::fresh();
+    let part = board.split(rt, &mut pass);
+    if let Some(call) = entered {
+        let mut stranger = board.enlist(rt, part).ok().context("no number is left")?;
+        let _reply = board.report(rt, &mut stranger, &call);
+        let _reply = begun.report(B::number_of(&stranger), &call);
+    }
     let mut watcher = board.split(rt, &mut pass);
     mark(alloc, BEGINS)?;
     let one = night_run(rt, alloc, &board, pass, night, b'A', 1, &OpenGate, Uefa);
@@ -277,8 +285,9 @@ fn nights<B: LiveBoard + Drop, R: Print + Threads + Wait + Sync>(
     let kept = board.read(rt, &mut watcher);
     let is_whole = one.is_err() || kept.version == taken_of(night);
     let number = board.enlist(rt, watcher).ok();
-    let is_alone = number.is_some_and(|pass| B::number_of(&pass).get() <= 3);
-    let is_kept = is_whole && is_alone && is_of_rows(&kept.board, night);
+    let most = begun.version().saturating_add(3);
+    let is_alone = number.is_some_and(|pass| u16::from(B::number_of(&pass).get()) <= most);
+    let is_kept = is_whole && is_alone && is_of_rows(&kept.board, night, begun);
     let (board, pass) = second;
     let other = night_run(rt, alloc, &board, pass, night, b'A', 1, &OpenGate, Uefa)?;
     tell(rt, one.err(), is_kept, other.closing.as_str())
@@ -297,15 +306,16 @@ pub fn run<R: Print + Threads + Wait + Sync>(
         "read_words" => sheets(rt, alloc, input),
         "feed_run" => runs(rt, alloc, Engine::Feed, input),
         "show_run" => runs(rt, alloc, Engine::Show, input),
-        "night_run" => {
+        "night_run" | "night_run_beside_a_stranger" => {
             let night = night_of_bytes(alloc, input)?;
             let (first, second) = (WordBoard::open(rt, alloc)?, WordBoard::open(rt, alloc)?);
-            nights(rt, alloc, first, second, &night)
+            let entered = kick_off().filter(|_| call != "night_run");
+            nights(rt, alloc, first, second, &night, entered)
         }
         "night_run_in_a_cell" => {
             let night = night_of_bytes(alloc, input)?;
             let (first, second) = (CellBoard::open(rt, alloc)?, CellBoard::open(rt, alloc)?);
-            nights(rt, alloc, first, second, &night)
+            nights(rt, alloc, first, second, &night, None)
         }
         "run_steps" => steps(rt, alloc, input),
         "line_of" => lines(rt, alloc, input),

@@ -20,15 +20,15 @@ const IN_TURN: (u8, u8) = (11, 12);
 
 /// A source of numbers that look random, the same for the same seed (xorshift with 64 bits of state).
 #[derive(Clone, Copy)]
-struct Random(u64);
+pub(crate) struct Random(u64);
 
 impl Random {
-    fn of(seed: u64) -> Random {
+    pub(crate) fn of(seed: u64) -> Random {
         Random(seed.wrapping_mul(0x9e37_79b9_7f4a_7c15) | 1)
     }
 
     /// The next number below a bound; 0 where the bound is 0.
-    fn below(&mut self, bound: u8) -> u8 {
+    pub(crate) fn below(&mut self, bound: u8) -> u8 {
         self.0 ^= self.0 << 13;
         self.0 ^= self.0 >> 7;
         self.0 ^= self.0 << 17;
@@ -37,7 +37,7 @@ impl Random {
     }
 
     /// A kind of event. Full time and reopening are rare, so that matches go on.
-    fn kind(&mut self) -> Kind {
+    pub(crate) fn kind(&mut self) -> Kind {
         let side = if self.below(2) == 0 { Home } else { Away };
         match self.below(40) {
             0..8 => KickOff,

@@ -1,4 +1,4 @@
-//! Nights: gates that only threads get through, fifty that are settled, those that are refused, and what goes out.
+//! Nights: gates that only threads get through, fifty that are settled, and what goes out.
 
 use crate::devices::Out;
 use crate::runs::{Ran, has_stopped};
@@ -15,11 +15,10 @@ use ucl_pass::{CellBoard, LiveBoard};
 use ucl_rows::RunFault;
 use ucl_runs::{Gate, NightEnd, OpenGate, night_run, put_night};
 use ucl_screen::{FromRead, Night, ToWrite, read_night, screen};
-use ucl_word::{EventCall, Kind, MatchNo};
 use ucl_words::WordBoard;
 
-fn night_of(alloc: Global, rows: &str, more: &str) -> Result<Night, Fail> {
-    let script = joined(alloc, &[CLUBS, rows, more])?;
+fn night_of(alloc: Global, rows: &str) -> Result<Night, Fail> {
+    let script = joined(alloc, &[CLUBS, rows])?;
     Ok(read_night(alloc, &mut FromRead::new(script.as_bytes()))?)
 }
 
@@ -46,13 +45,6 @@ enum Rule {
     FourAtOnce,
     /// The first call of each reader, until both reporters have come to their second.
     ReportersFirst,
-    /// Each call: the readers take a reading, then the reporters enter an event, and so on.
-    InStep,
-}
-
-/// How many readings each reader takes under a rule.
-fn readings_of(rule: Rule) -> u32 {
-    if rule == Rule::InStep { 7 } else { 1 }
 }
 
 /// How often a gate looks before it lets a worker pass all the same.
@@ -83,7 +75,7 @@ fn counts([first, second]: &[AtomicU32; 2]) -> [u32; 2] {
 }
 
 /// A gate that counts the calls of the reporters and of the readers and the screens of these, and notes a worker that is late, a call out of turn,
-/// and a screen that is not that of its reading or of its turn.
+/// and a screen that is not that of its reading.
 #[derive(Drop)]
 struct Watch {
     alloc: Global,
@@ -99,7 +91,7 @@ impl Watch {
     fn new(alloc: Global, rule: Rule) -> Result<Watch, Fail> {
         Ok(Watch {
             alloc,
-            roster: night_of(alloc, "", "")?.roster,
+            roster: night_of(alloc, "")?.roster,
             rule,
             reporters: pair(),
             readers: pair(),
@@ -122,28 +114,20 @@ impl Watch {
 
     /// Whether a call is let through in time.
     fn is_in_time(&self, is_reader: bool, call: u32) -> bool {
-        let next = call.saturating_add(1);
         match self.rule {
             Rule::FourAtOnce if call == 0 => {
                 have_come_to(&self.reporters, 1) && have_come_to(&self.readers, 1)
             }
             Rule::ReportersFirst if is_reader && call == 0 => have_come_to(&self.reporters, 2),
-            Rule::InStep if is_reader => have_come_to(&self.reporters, next),
-            Rule::InStep if call < 7 => have_come_to(&self.screens, next),
             _ => true,
         }
     }
 
-    /// Whether a text is the screen of a reading, and its version that of the turn.
-    fn is_right(&self, reading: &Reading, text: &str, turn: u32) -> bool {
-        let version = u32::from(reading.version);
-        let is_of_turn = match self.rule {
-            Rule::FourAtOnce => true,
-            Rule::ReportersFirst => version >= 2,
-            Rule::InStep => version == turn.saturating_mul(2),
-        };
+    /// Whether a text is the screen of a reading, which has what both reporters entered first if they went first.
+    fn is_right(&self, reading: &Reading, text: &str) -> bool {
+        let is_late = self.rule == Rule::FourAtOnce || reading.version >= 2;
         match screen(self.alloc, &reading.board, &self.roster, b'A', Uefa) {
-            Ok(wanted) => is_of_turn && wanted.as_str() == text,
+            Ok(wanted) => is_late && wanted.as_str() == text,
             Err(_) => false,
         }
     }
@@ -165,8 +149,7 @@ impl Gate for Watch {
 
     fn shown(&self, worker: u8, reading: &Reading, text: &str) {
         let own = &self.screens[usize::from(worker != 3)];
-        let turn = own.load(Ordering::SeqCst);
-        if !self.is_right(reading, text, turn) || worker < 3 {
+        if !self.is_right(reading, text) || worker < 3 {
             self.is_wrong.store(true, Ordering::SeqCst);
         }
         own.fetch_add(1, Ordering::SeqCst);
@@ -177,16 +160,15 @@ impl Gate for Watch {
 #[test]
 fn gates(rt: HostRuntime) -> Result<(), Fail> {
     let alloc = rt.alloc();
-    let night = night_of(alloc, HEAD_TO_HEAD, "")?;
-    for rule in [Rule::FourAtOnce, Rule::ReportersFirst, Rule::InStep] {
-        let readings = readings_of(rule);
+    let night = night_of(alloc, HEAD_TO_HEAD)?;
+    for rule in [Rule::FourAtOnce, Rule::ReportersFirst] {
         let gates = [Watch::new(alloc, rule)?, Watch::new(alloc, rule)?];
         let (board, pass) = CellBoard::open(&rt, alloc)?;
-        let (in_cell, _) = held(&rt, alloc, &board, pass, &night, readings, &gates[0])?;
+        let (in_cell, _) = held(&rt, alloc, &board, pass, &night, 1, &gates[0])?;
         let (board, pass) = WordBoard::open(&rt, alloc)?;
-        let (in_words, _) = held(&rt, alloc, &board, pass, &night, readings, &gates[1])?;
+        let (in_words, _) = held(&rt, alloc, &board, pass, &night, 1, &gates[1])?;
         assert_eq!(rt; (in_cell, in_words), (40, 40), "{rule:?}");
-        let wanted = ([[19, 21], [readings; 2], [readings; 2]], false);
+        let wanted = ([[19, 21], [1; 2], [1; 2]], false);
         for gate in &gates {
             assert_eq!(rt; gate.notes(), wanted, "{rule:?}");
         }
@@ -197,7 +179,7 @@ fn gates(rt: HostRuntime) -> Result<(), Fail> {
 #[test]
 fn fifty_nights(rt: HostRuntime) -> Result<(), Fail> {
     let alloc = rt.alloc();
-    let night = night_of(alloc, HEAD_TO_HEAD, "")?;
+    let night = night_of(alloc, HEAD_TO_HEAD)?;
     for _ in 0..50 {
         let (board, pass) = CellBoard::open(&rt, alloc)?;
         let (_, in_cell) = held(&rt, alloc, &board, pass, &night, 20, &OpenGate)?;
@@ -205,93 +187,6 @@ fn fifty_nights(rt: HostRuntime) -> Result<(), Fail> {
         let (_, in_words) = held(&rt, alloc, &board, pass, &night, 20, &OpenGate)?;
         let wanted = (HEAD_TO_HEAD_SCREEN, HEAD_TO_HEAD_SCREEN);
         assert_eq!(rt; (in_cell.as_str(), in_words.as_str()), wanted);
-    }
-    Ok(())
-}
-
-/// Enlists so many reporters, each of whom kicks match 1 off, if no other has.
-fn enlist_others<B: LiveBoard, R: Wait>(
-    rt: &R,
-    board: &B,
-    pass: &mut B::ReaderPass,
-    others: u8,
-    kick_off: &EventCall,
-)
-    requires { B.is_reader board.now pass.old }
-    ensures { B.is_reader board.now pass.new }
-{
-    for _ in 0..others {
-        let reader = board.split(rt, pass);
-        if let Ok(mut reporter) = board.enlist(rt, reader) {
-            let _reply = board.report(rt, &mut reporter, kick_off);
-        }
-    }
-}
-
-/// How a night ends beside so many others, and the version that a pass reads which was split off before, and the number that it gets.
-fn held_beside<B: LiveBoard, R: Threads + Wait + Sync>(
-    rt: &R,
-    alloc: Global,
-    board: &B,
-    mut pass: B::ReaderPass,
-    night: &Night,
-    readings: u32,
-    others: u8,
-) -> Option<(Result<u16, RunFault>, u16, Option<u8>)>
-    requires { B.is_reader board.now pass }
-{
-    let kick_off = EventCall {
-        game: MatchNo::new(1)?,
-        expected: 0,
-        kind: Kind::KickOff,
-    };
-    enlist_others(rt, board, &mut pass, others, &kick_off);
-    let mut watcher = board.split(rt, &mut pass);
-    let answer = match held(rt, alloc, board, pass, night, readings, &OpenGate) {
-        Ok((version, _)) => Ok(version),
-        Err(fault) => Err(fault),
-    };
-    let version = board.read(rt, &mut watcher).version;
-    let number = match board.enlist(rt, watcher) {
-        Ok(reporter) => Some(B::number_of(&reporter).get()),
-        Err(_) => None,
-    };
-    Some((answer, version, number))
-}
-
-/// A row of a third reporter changes nothing on the board, however many readings are asked for; an event of one before the night, and a
-/// board with one number left, are told.
-#[test]
-fn refused_nights(rt: HostRuntime) -> Result<(), Fail> {
-    let alloc = rt.alloc();
-    let on_duty = RunFault::NotOnDuty { row: 45 };
-    let strangers = RunFault::Strangers { version: 1 };
-    for (rows, more, most, others, fault, version, number) in [
-        (
-            HEAD_TO_HEAD,
-            "3,1,0,kickoff\n",
-            1000,
-            0,
-            on_duty,
-            0,
-            Some(1),
-        ),
-        ("", "", 1, 1, strangers, 1, Some(4)),
-        ("", "", 1, 254, RunFault::TooManyReporters, 1, None),
-    ] {
-        let night = night_of(alloc, rows, more)?;
-        for readings in 0..=most {
-            let (board, pass) = CellBoard::open(&rt, alloc)?;
-            let in_cell = held_beside(&rt, alloc, &board, pass, &night, readings, others);
-            let (board, pass) = WordBoard::open(&rt, alloc)?;
-            let in_words = held_beside(&rt, alloc, &board, pass, &night, readings, others);
-            let wanted = Some((Err(fault), version, number));
-            assert_eq!(rt;
-                (in_cell, in_words),
-                (wanted, wanted),
-                "{readings} readings"
-            );
-        }
     }
     Ok(())
 }

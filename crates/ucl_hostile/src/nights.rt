@@ -1,0 +1,384 @@
+//! Nights of each group and each number of readings, on both boards, with random rows: how each ends, and what its gate sees.
+
+ghost use Rattle.ucl_screen.specs.Screen.{IsGroup};
+
+use crate::soak::Random;
+use std::alloc::{AllocError, Global};
+use std::sync::{Condvar, Mutex, Wait};
+use std::thread::Threads;
+use ucl_board::{Board, Reading};
+use ucl_order::Profile::Uefa;
+use ucl_pass::{CellBoard, LiveBoard};
+use ucl_rows::RunFault;
+use ucl_runs::{Gate, night_run};
+use ucl_screen::{Night, NightEvent, night_of_bytes, screen};
+use ucl_word::{EventCall, Kind, MatchNo, ReporterNo};
+use ucl_words::WordBoard;
+
+/// The letter of a group.
+fn letter(group: u8) -> u8
+    ensures { IsGroup result }
+{
+    b'A' + group % 8
+}
+
+/// The kick-off of match 12.
+pub(crate) fn kick_off() -> Option<EventCall> {
+    Some(EventCall {
+        game: MatchNo::new(12)?,
+        expected: 0,
+        kind: Kind::KickOff,
+    })
+}
+
+/// How often a worker of a night has come, how many screens it has shown, and the version of the last.
+#[derive(Clone, Copy, Debug, Default, PartialEq, Eq)]
+struct Worker {
+    calls: u32,
+    screens: u32,
+    last: Option<u16>,
+}
+
+/// What a gate has seen: its workers, how many turns are over, and whether anything was wrong.
+#[derive(Drop)]
+struct Seen {
+    workers: [Worker; 4],
+    turn: usize,
+    is_wrong: bool,
+}
+
+/// A gate that lets no worker begin before all have come, and, if it has a list of turns, lets one call at a time through, in that order. It
+/// notes a call and a screen that is out of turn or not of its worker; then it lets all through.
+#[derive(Drop)]
+struct Watch<'n, R> {
+    rt: &'n R,
+    alloc: Global,
+    night: &'n Night,
+    group: u8,
+    /// How many calls each worker makes.
+    most: [u32; 4],
+    /// The worker of each turn, and the version that a reader finds then.
+    turns: Vec<(u8, u16)>,
+    seen: Mutex<Seen>,
+    moved: Condvar,
+}
+
+impl<'n, R: Wait + Sync> Watch<'n, R> {
+    fn new(rt: &'n R, alloc: Global, night: &'n Night, group: u8, readings: u32) -> Watch<'n, R> {
+        let mut most = [0, 0, readings, readings];
+        for event in &night.events {
+            match event.reporter.get() {
+                1 => most[0] = most[0].saturating_add(1),
+                _ => most[1] = most[1].saturating_add(1),
+            }
+        }
+        let seen = Seen {
+            workers: [Worker::default(); 4],
+            turn: 0,
+            is_wrong: false,
+        };
+        Watch {
+            rt,
+            alloc,
+            night,
+            group,
+            most,
+            turns: Vec::new(alloc),
+            seen: Mutex::new(seen),
+            moved: Condvar::new(),
+        }
+    }
+
+    /// Makes the list of turns of a night on this board, and returns the version at its end: the rows come in the order of the script, and
+    /// readings evenly among them, of worker 3 before a row and of worker 4 after it.
+    fn hold(&mut self, mut board: Board) -> Result<u16, AllocError> {
+        let (rows, readings) = (self.night.events.len(), self.most[2] as usize);
+        let due = |row: usize| {
+            let least = row.saturating_mul(readings);
+            let most = least.saturating_add(rows).saturating_sub(1);
+            most.checked_div(rows).unwrap_or(0)
+        };
+        for (row, event) in self.night.events.iter().enumerate() {
+            let many = due(row.saturating_add(1)).saturating_sub(due(row));
+            for _ in 0..many {
+                self.turns.push((3, board.version()))?;
+            }
+            self.turns.push((event.reporter.get(), 0))?;
+            let _reply = board.report(event.reporter, &event.call);
+            for _ in 0..many {
+                self.turns.push((4, board.version()))?;
+            }
+        }
+        Ok(board.version())
+    }
+
+    /// Whether all was right, each worker has come so often, and each reader has shown as many screens.
+    fn has_seen(&self, calls: [u32; 4]) -> bool {
+        let seen = self.seen.lock(self.rt);
+        let screens = seen.workers.map(|own| own.screens);
+        let is_each = seen.workers.map(|own| own.calls) == calls;
+        !seen.is_wrong && is_each && screens == [0, 0, calls[2], calls[3]]
+    }
+
+    /// Whether these are the screens that the readers have shown last.
+    fn are_last(&self, last: &[Option<String>; 2]) -> bool {
+        let shown = self.seen.lock(self.rt).workers;
+        let version = |text: &Option<String>| text.as_ref()?.as_str().get(9..14)?.parse().ok();
+        [version(&last[0]), version(&last[1])] == [shown[2].last, shown[3].last]
+    }
+}
+
+impl<R> Watch<'_, R> {
+    /// Whether a worker has to wait for its turn.
+    fn holds(&self, seen: &Seen, worker: u8, call: u32) -> bool {
+        let mut pairs = seen.workers.iter().zip(&self.most);
+        let have_all_come = pairs.all(|(worker, most)| *most == 0 || worker.calls > 0);
+        let next = self.turns.get(seen.turn).copied();
+        let is_next = next.is_none_or(|next| next.0 == worker);
+        !seen.is_wrong && !(is_next && (call > 0 || have_all_come))
+    }
+}
+
+impl<R: Wait + Sync> Gate for Watch<'_, R> {
+    /// The last row of a reporter changes nothing, so its turn is over at once; any other row's is when the reporter comes again.
+    fn come(&self, worker: u8, call: u32) {
+        let at = usize::from(worker).wrapping_sub(1);
+        let is_reporter = worker < 3;
+        let mut seen = self.seen.lock(self.rt);
+        match seen.workers.get_mut(at) {
+            Some(own) if own.calls == call && (is_reporter || own.screens == call) => {
+                own.calls = call.saturating_add(1);
+            }
+            _ => seen.is_wrong = true,
+        }
+        let is_again = is_reporter && call > 0;
+        seen.turn = seen.turn.saturating_add(usize::from(is_again));
+        self.moved.notify_all();
+        let mut seen = self
+            .moved
+            .wait_while(self.rt, seen, |seen| self.holds(seen, worker, call));
+        let is_last = is_reporter && call.checked_add(1) == self.most.get(at).copied();
+        seen.turn = seen.turn.saturating_add(usize::from(is_last));
+        self.moved.notify_all();
+    }
+
+    fn shown(&self, worker: u8, reading: &Reading, text: &str) {
+        let roster = &self.night.roster;
+        let wanted = screen(self.alloc, &reading.board, roster, letter(self.group), Uefa);
+        let is_screen = wanted.is_ok_and(|wanted| wanted.as_str() == text);
+        let mut seen = self.seen.lock(self.rt);
+        let next = self.turns.get(seen.turn).copied();
+        let is_in_turn = next.is_none_or(|next| next == (worker, reading.version));
+        match seen.workers.get_mut(usize::from(worker).wrapping_sub(1)) {
+            Some(own) if own.screens < own.calls && is_screen && is_in_turn => {
+                own.screens = own.calls;
+                own.last = Some(reading.version);
+            }
+            _ => seen.is_wrong = true,
+        }
+        seen.turn = seen.turn.saturating_add(1);
+        self.moved.notify_all();
+    }
+}
+
+/// A night: how many reporters have a number before it, and whether one of them has entered an event; the row that is of none on duty, if one
+/// is; and whether its gate has turns.
+#[derive(Clone, Copy, Debug)]
+struct Case {
+    others: u8,
+    strangers: bool,
+    row: Option<usize>,
+    is_held: bool,
+}
+
+/// Whether a night ends as it has to, and what a pass reads afterwards that was split off before, and which number it gets.
+fn is_right<B: LiveBoard, R: Threads + Wait + Sync>(
+    rt: &R,
+    alloc: Global,
+    board: &B,
+    mut pass: B::ReaderPass,
+    watch: &mut Watch<'_, R>,
+    case: Case,
+) -> Result<bool, AllocError>
+    requires { B.is_reader board.now pass }
+{
+    let mut alone = Board::fresh();
+    for other in 0..case.others {
+        let part = board.split(rt, &mut pass);
+        if let (Ok(mut reporter), Some(call)) = (board.enlist(rt, part), kick_off()) {
+            if case.strangers && other == 0 {
+                let _reply = board.report(rt, &mut reporter, &call);
+                let _reply = alone.report(B::number_of(&reporter), &call);
+            }
+        }
+    }
+    let before = alone.version();
+    let held = if case.is_held {
+        Some(watch.hold(alone)?)
+    } else {
+        None
+    };
+    let (lent, group) = (board.split(rt, &mut pass), letter(watch.group));
+    let ended = night_run(
+        rt,
+        alloc,
+        board,
+        lent,
+        watch.night,
+        group,
+        watch.most[2],
+        watch,
+        Uefa,
+    );
+    let version = board.read(rt, &mut pass).version;
+    let number = board
+        .enlist(rt, pass)
+        .ok()
+        .map(|pass| B::number_of(&pass).get());
+    let (fault, is_numbered) = match ended {
+        Ok(end) => {
+            let numbers = [B::number_of(&end.reporter_1), B::number_of(&end.reporter_2)];
+            let numbers = numbers.map(|number| number.get().checked_sub(case.others));
+            let is_last = watch.are_last(&end.last) && end.settled.version == version;
+            (None, is_last && numbers == [Some(1), Some(2)])
+        }
+        Err(fault) => (Some(fault), true),
+    };
+    let (wanted, enlisted, is_begun) = match case.row {
+        Some(row) => (Some(RunFault::NotOnDuty { row }), Some(1), false),
+        None if case.others > 253 => (Some(RunFault::TooManyReporters), None, false),
+        None if case.strangers => (Some(RunFault::Strangers { version }), Some(3), true),
+        None => (None, Some(3), true),
+    };
+    let is_told = fault == wanted && number == enlisted.and_then(|it| case.others.checked_add(it));
+    let is_left = if is_begun {
+        held.is_none_or(|held| held == version)
+    } else {
+        before == version
+    };
+    let is_seen = watch.has_seen(if is_begun { watch.most } else { [0; 4] });
+    Ok(is_told && is_numbered && is_left && is_seen)
+}
+
+/// The same on a new board.
+fn is_right_on<R: Threads + Wait + Sync>(
+    rt: &R,
+    alloc: Global,
+    in_cell: bool,
+    watch: &mut Watch<'_, R>,
+    case: Case,
+) -> anyhow::Result<bool> {
+    if in_cell {
+        let (board, pass) = CellBoard::open(rt, alloc)?;
+        Ok(is_right(rt, alloc, &board, pass, watch, case)?)
+    } else {
+        let (board, pass) = WordBoard::open(rt, alloc)?;
+        Ok(is_right(rt, alloc, &board, pass, watch, case)?)
+    }
+}
+
+/// Random rows of reporters 1 and 2, most of which the rules take.
+fn random_rows(alloc: Global, random: &mut Random) -> Result<Vec<NightEvent>, AllocError> {
+    let (mut board, mut rows) = (Board::fresh(), Vec::new(alloc));
+    let more = if random.below(32) == 0 { 50 } else { 1 };
+    for _ in 0..u16::from(random.below(50)).saturating_mul(more) {
+        let reporter = ReporterNo::new(random.below(2).saturating_add(1));
+        let game = MatchNo::new(random.below(12).saturating_add(1));
+        if let (Some(reporter), Some(game)) = (reporter, game) {
+            let expected = board
+                .game(game)
+                .number
+                .saturating_add(u16::from(random.below(8) / 7));
+            let kind = if expected == 0 {
+                Kind::KickOff
+            } else {
+                random.kind()
+            };
+            let call = EventCall {
+                game,
+                expected,
+                kind,
+            };
+            let _reply = board.report(reporter, &call);
+            rows.push(NightEvent { reporter, call })?;
+        }
+    }
+    end_with_stale(&mut rows)?;
+    Ok(rows)
+}
+
+/// Adds a row of each reporter that is refused, since no match has had so many events.
+fn end_with_stale(rows: &mut Vec<NightEvent>) -> Result<(), AllocError> {
+    for reporter in [1, 2].into_iter().filter_map(ReporterNo::new) {
+        if let Some(mut call) = kick_off() {
+            call.expected = u16::MAX;
+            rows.push(NightEvent { reporter, call })?;
+        }
+    }
+    Ok(())
+}
+
+/// Makes a random row one of a reporter who is not on duty, and tells its number.
+fn off_duty(rows: &mut [NightEvent], random: &mut Random) -> Option<usize> {
+    let at = usize::from(random.below(u8::try_from(rows.len()).unwrap_or(u8::MAX)));
+    rows.get_mut(at)?.reporter = ReporterNo::new(random.below(253).saturating_add(3))?;
+    at.checked_add(5)
+}
+
+/// Runs the script on each board, with readings from its first row to the last; then a night of each group and each number of readings up to the
+/// most, on either board: with nothing against it, with a stranger, with a row of nobody on duty, and with one of the other sets of causes.
+pub fn run<R: Print + Threads + Wait + Sync>(
+    rt: &R,
+    alloc: Global,
+    seed: u64,
+    most: u32,
+    input: &[u8],
+) -> anyhow::Result<()> {
+    let mut random = Random::of(seed);
+    let mut night = night_of_bytes(alloc, input)?;
+    end_with_stale(&mut night.events)?;
+    let readings = u32::try_from(night.events.len())? / 16 + u32::from(random.below(255));
+    for in_cell in [false, true] {
+        let case = Case {
+            others: 0,
+            strangers: false,
+            row: None,
+            is_held: true,
+        };
+        let mut watch = Watch::new(rt, alloc, &night, 0, readings);
+        if !is_right_on(rt, alloc, in_cell, &mut watch, case)? {
+            anyhow::bail!("the night of the script, in a cell {in_cell}");
+        }
+    }
+    for at in 0..most.saturating_add(1).saturating_mul(32) {
+        let (readings, group) = (at / 32, (at / 4 % 8) as u8);
+        let causes = match at % 4 {
+            0 => 0,
+            1 => 1,
+            2 => 2,
+            _ => random.below(5).saturating_add(3),
+        };
+        night.events = random_rows(alloc, &mut random)?;
+        let most = if random.below(64) == 0 { 254 } else { 4 };
+        let case = Case {
+            others: if causes & 4 == 0 {
+                random.below(most).max(causes & 1)
+            } else {
+                random.below(2).saturating_add(254)
+            },
+            strangers: causes & 1 != 0,
+            row: if causes & 2 == 0 {
+                None
+            } else {
+                off_duty(&mut night.events, &mut random)
+            },
+            is_held: readings < 8 || random.below(64) == 0,
+        };
+        let mut watch = Watch::new(rt, alloc, &night, group, readings);
+        if !is_right_on(rt, alloc, random.below(2) == 0, &mut watch, case)? {
+            anyhow::bail!("group {group}, {readings} readings, {case:?}");
+        }
+    }
+    println!(rt; "all nights are right")?;
+    Ok(())
+}
