@@ -20,14 +20,14 @@ pub fn boards_have_one_history()
 
 /// Shows that the history of a word board only grows. After steps of any passes (`steps_are_monotone` of `ucl_words`) the log begins with
 /// what it was before, and no finished call moves. The order of calls, even of passes that told each other nothing, is that of real time: a
-/// call that had ended in some state goes before each call that began in that state or later.
+/// call that had ended in some state goes before each call that a pass of that state began in it or later.
 pub fn histories_go_on()
     ensures { HistoriesGoOn (⟦<WordRule as TableRule<Entry, View, ()>>⟧.holds tt) }
 {}
 
 /// Shows that every run of the protocol's machine has one history, for every list of steps of any reporters and readers, with calls cut off
 /// anywhere and left unfinished: a history of the sequential board holds each finished call once, with the reply that it got, between its
-/// invocation and its response. So no reading mixes two boards, no reader reads a lower version later, and each screen is the text of the
+/// first step and its last. So no reading mixes two boards, no reader reads a lower version later, and each screen is the text of the
 /// board that its reading copied, with its clubs in order.
 pub fn every_run_has_one_history()
     ensures history { EveryRunHasOneHistory }
