@@ -27,7 +27,7 @@ pub fn histories_go_on()
 
 /// Shows that every run of the protocol's machine has one history, for every list of steps of any reporters and readers, with calls cut off
 /// anywhere and left unfinished: a history of the sequential board holds each finished call once, with the reply that it got, between its
-/// first step and its last. So no reading mixes two boards, no reader reads a lower version later, and each screen is the text of the
+/// invocation and its response. So no reading mixes two boards, no reader reads a lower version later, and each screen is the text of the
 /// board that its reading copied, with its clubs in order.
 pub fn every_run_has_one_history()
     ensures history { EveryRunHasOneHistory }
