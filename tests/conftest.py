@@ -48,8 +48,9 @@ def pytest_addoption(parser):
 
 
 def pytest_configure(config):
-    # A shell that starts the tests in the background has them ignore Ctrl-C, and what they start too: some tests end a program by it.
+    # Who starts the tests in the background has them ignore Ctrl-C and SIGHUP, and what they start too: some tests end a program by these.
     signal.signal(signal.SIGINT, signal.default_int_handler)
+    signal.signal(signal.SIGHUP, signal.SIG_DFL)
     config.addinivalue_line("markers", "quick: needs words and input alone, or no program at all, so that --unproved can try it")
     config.addinivalue_line("markers", "limit(seconds): how long the test may take; more by the profile `night` and with more kills")
 

@@ -108,6 +108,7 @@ def test_night_of_any_length(run, length, readings):
     assert night.output.endswith("FINAL\n" + shown.output)
 
 
+@pytest.mark.limit(900)
 def test_nights_of_each_group_and_number_of_readings(run):
     """Each ends as it has to, whatever is against it, and its gate sees all calls and screens; also at versions from the first to the last."""
     seed, rows = random.randrange(1 << 32), NIGHT.splitlines(True)[: 4 + 12 * 4094]

@@ -51,8 +51,8 @@ pub record IsOfLog (log : Log) (seat : ℕ) (pass : View) : Type 0 where
 
 -- A word board, between two steps of any threads, has one history. There is one log of all steps, each the next one of the protocol, whose
 -- history has the words that are there. Each pass knows a prefix of it, which has its own steps; no step is of a seat without a pass, and
--- no two passes have one number. The history holds each finished call of each pass once, with the reply that it got, between its first step
--- and its last.
+-- no two reporters have one number (a reader has 0). The history holds each finished call of each pass once, with the reply that it got,
+-- between its first step and its last.
 pub record IsOneHistory (state : State Entry View) : Type 0 where
   pub log : Log
   pub is_log : IsLog log
@@ -74,7 +74,7 @@ abbrev pub BeganSince : State Entry View → ℕ → FinishedCall → Type 0
 BeganSince state seat c = (pass : View) × (get_elem? state.views seat ≡ some pass) × (length pass.log ≤ c.first)
 
 -- The log of a state goes on in a later one: that begins with it, and each call that had finished is the same call there. In real time: of
--- two calls, if one had ended in the earlier state, and the other began in it or later, the one goes before the other.
+-- two calls, if one had ended in the earlier state, and the other's pass was there and began it then or later, the one goes first.
 pub record LogGoesOn (state : State Entry View) (log later : Log) : Type 0 where
   pub begins : IsPrefix log later
   pub calls : (seat k : ℕ) (c : FinishedCall) → IsCall log seat k c → IsCall later seat k c
@@ -82,7 +82,7 @@ pub record LogGoesOn (state : State Entry View) (log later : Log) : Type 0 where
       → IsCall log seat k a → IsCall later other l b → BeganSince state other b → GoesBefore a b
 
 -- The history of a board that satisfies `rule`, its invariant, only grows, whichever steps of whichever passes come between two states: no
--- entry and no call ever moves, and the order of calls is that of real time.
+-- entry and no finished call ever moves, and the order of calls is that of real time.
 pub record HistoriesGoOn (rule : State Entry View → Type 0) : Type 0 where
   pub boards : BoardsHaveOneHistory rule
   pub later : (s t : State Entry View) (r : rule s) (q : rule t) → LaterState s t → LogGoesOn s (boards s r).log (boards t q).log

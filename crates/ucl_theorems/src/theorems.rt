@@ -20,7 +20,7 @@ pub fn boards_have_one_history()
 
 /// Shows that the history of a word board only grows. After steps of any passes (`steps_are_monotone` of `ucl_words`) the log begins with
 /// what it was before, and no finished call moves. The order of calls, even of passes that told each other nothing, is that of real time: a
-/// call that had ended in some state goes before each call that began in that state or later.
+/// call that had ended in some state goes before each call that a pass of that state began in it or later.
 pub fn histories_go_on()
     ensures { HistoriesGoOn (⟦<WordRule as TableRule<Entry, View, ()>>⟧.holds tt) }
 {}
