@@ -11,7 +11,7 @@ ghost use Rattle.ucl_rows.specs.BadRows.{shown_text};
 ghost use Rattle.ucl_rows.specs.Answers.{bytes_of, bad_answer, matches_answer, reply_answer, screen_answer, words_answer};
 
 use crate::bad_row::{BadField, shown_text};
-use crate::words::{WordLines, word_lines};
+use crate::words::word_lines;
 use arrayvec::ArrayString;
 use itoa::Buffer;
 use std::alloc::{AllocError, Global};
@@ -36,8 +36,8 @@ pub enum Answer {
     Short(ReplyLine),
     /// Any text.
     Long(String),
-    /// The twelve lines of the words of a board.
-    Words(WordLines),
+    /// The twelve lines of the words of a board. They are not kept in place: each answer would be as large.
+    Words(Vec<u8>),
 }
 
 impl Text for Answer {
@@ -237,7 +237,7 @@ pub fn matches_answer(
 ///
 /// # Errors
 ///
-/// If there is no memory for an answer in JSON.
+/// If there is no memory.
 pub fn words_answer(
     alloc: Global,
     format: Format,
@@ -247,7 +247,11 @@ pub fn words_answer(
     ensures { IfOk result (λ answer. bytes_of answer ≡ words_answer format row board.now) }
 {
     match format {
-        Format::Text => Ok(Answer::Words(word_lines(board))),
+        Format::Text => {
+            let mut lines = Vec::new(alloc);
+            lines.extend_from_slice(word_lines(board).as_slice())?;
+            Ok(Answer::Words(lines))
+        }
         Format::Json => Ok(Answer::Long(words_json(alloc, row, board)?)),
     }
 }
