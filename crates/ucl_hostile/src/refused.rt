@@ -248,10 +248,13 @@ fn taken_of(night: &Night) -> u16 {
 }
 
 /// Whether a board has no event but rows of the script and what it had before: each match is as its rows make it, as many of them as it has events.
-fn is_of_rows(read: &Board, night: &Night, mut alone: Board) -> bool {
+/// The reporters of the night have the numbers after the `earlier` ones.
+fn is_of_rows(read: &Board, night: &Night, mut alone: Board, earlier: u8) -> bool {
     for event in &night.events {
         if event.call.expected < read.game(event.call.game).number {
-            let _reply = alone.report(event.reporter, &event.call);
+            let number = event.reporter.get().saturating_add(earlier);
+            let reporter = ReporterNo::new(number).unwrap_or(event.reporter);
+            let _reply = alone.report(reporter, &event.call);
         }
     }
     alone == *read
@@ -271,7 +274,7 @@ fn nights<B: LiveBoard + Drop, R: Print + Threads + Wait + Sync>(
     requires { B.is_reader first.0 first.1 × B.is_reader second.0 second.1 }
 {
     let (board, mut pass) = first;
-    let mut begun = Board::fresh();
+    let (mut begun, earlier) = (Board::fresh(), u8::from(entered.is_some()));
     let part = board.split(rt, &mut pass);
     if let Some(call) = entered {
         let mut stranger = board.enlist(rt, part).ok().context("no number is left")?;
@@ -287,7 +290,7 @@ fn nights<B: LiveBoard + Drop, R: Print + Threads + Wait + Sync>(
     let number = board.enlist(rt, watcher).ok();
     let most = begun.version().saturating_add(3);
     let is_alone = number.is_some_and(|pass| u16::from(B::number_of(&pass).get()) <= most);
-    let is_kept = is_whole && is_alone && is_of_rows(&kept.board, night, begun);
+    let is_kept = is_whole && is_alone && is_of_rows(&kept.board, night, begun, earlier);
     let (board, pass) = second;
     let other = night_run(rt, alloc, &board, pass, night, b'A', 1, &OpenGate, Uefa)?;
     tell(rt, one.err(), is_kept, other.closing.as_str())
