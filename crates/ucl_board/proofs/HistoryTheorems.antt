@@ -1,10 +1,10 @@
 -- Histories: the entries of a match and the board after one entry more, the theorems, and prefixes of histories.
 use Rattle.std.proofs.Common.{◌≡◌, ◌≢◌, ℕ, ◌+◌, ◌-◌, ◌<◌, Bool, cond, ◌==◌, List, [], ◌∷◌, ◌++◌, length, map, filter, get_or, set}
-use Rattle.std.proofs.Common.{replicate, Option, Some, None, Ok, Err, refl, sym, ap, ◌∙◌, subst, arith, append-nil, eq-eqb, ne_eqb, ◌*◌}
+use Rattle.std.proofs.Common.{replicate, zero, suc, Option, Some, None, Ok, Err, refl, sym, ap, ◌∙◌, subst, arith, append-nil, eq-eqb, ne_eqb, ◌*◌}
 use Rattle.std.proofs.Common.{◌≤◌, take, drop, length-append, slice_get, append_assoc, true, true≢false}
 use Rattle.std.proofs.lemmas.List.{map-append, get_or-map, get_or-set_same, get_or-set_other, length-set, get_or_default, nil_from_length}
 use Rattle.std.proofs.lemmas.List.{take-append-drop, take-take, take-append-le}
-use Rattle.std.proofs.lemmas.List.Elements.{filter-append, All-head, All-tail}
+use Rattle.std.proofs.lemmas.List.Elements.{filter-append, All-cons, All-head, All-nil, All-tail}
 use Rattle.std.proofs.lemmas.Grind.{same_number_lists}
 use mathlib.Core.Logic.{dite}
 use native.Mathlib.Decide.{ℕ_discrete, dec_le}
@@ -14,19 +14,20 @@ use Rattle.ucl_word.specs.declared.event.EventCall.{EventCall}
 use Rattle.ucl_word.specs.declared.refusal.Refusal.{Refusal}
 use Rattle.ucl_word.specs.Rules.{refusal_of, answer, reply_of, after}
 use Rattle.ucl_word.specs.Record.{scheduled, IsValid, max_number}
-use Rattle.ucl_word.specs.Layout.{word_of, record_at}
+use Rattle.ucl_word.specs.Layout.{word_of, record_at, IsWord}
 use Rattle.ucl_word.specs.Counts.{MatchEntry, counted_match, IsAccepted, IsLegalMatch}
 use Rattle.ucl_word.proofs.Sequences.{may_none, may_next, may_last, may_induction, may_begin, at_longer}
 use Rattle.ucl_word.proofs.EntryCounts.{entered, legal_valid, number_of_count, counted}
 use Rattle.ucl_word.proofs.Words.{record_back, word_valid, words_apart}
 use Rattle.ucl_board.specs.declared.entry.Entry.{Entry}
 use Rattle.ucl_board.specs.Fixtures.{match_numbers, IsMatch, IsSlot, Fixture, at, fixture_of}
-use Rattle.ucl_board.specs.Words.{AreWords, word_at, game_at, AreReadable, AreReadAs, version_of}
+use Rattle.ucl_board.specs.Words.{AreWords, word_at, game_at, before_words, version_of}
+unfoldable use Rattle.ucl_board.specs.Words.{read_words}
 use Rattle.ucl_board.specs.History.{of_match, entries_of, match_after, board_of, MayFollow, IsLegal, followed_by, sequential_reply}
 use Rattle.ucl_board.specs.History.{Attempt, IsAttempt, entry_of, after_attempt, board_after, accepted_of}
-use Rattle.ucl_word.specs.Migration.{IsReadAs}
-use Rattle.ucl_word.proofs.FirstWords.{read_valid, read_kept, readable}
-use Rattle.std.specs.Prelude.{if◌then◌else◌}
+use Rattle.ucl_word.specs.Migration.{read_word}
+use Rattle.ucl_word.proofs.FirstWords.{read_valid, reads_word}
+use Rattle.std.specs.Prelude.{if◌then◌else◌, Result}
 use Rattle.std.specs.List.{fold, All}
 use Rattle.std.specs.Result.{is_ok}
 use Rattle.std.proofs.lemmas.List.Sums.{sum_by-set, sum_by-le}
@@ -149,15 +150,36 @@ refused_reply m g call refusal same some = subst (λ (g : MatchRecord). Err refu
 
 -- one word more
 pub next_read : (words read : List ℕ) (i from at word : ℕ) → length read ≡ 12 → i < 12 → from ≡ i → at ≡ i
-    → ((k : ℕ) → k < i → IsReadAs (get_or words k 0) (get_or read k 0)) → IsReadAs (get_or words from 0) word
-    → (k : ℕ) → k < i + 1 → IsReadAs (get_or words k 0) (get_or (set read at word) k 0)
+    → ((k : ℕ) → k < i → read_word (get_or words k 0) ≡ Some (get_or read k 0)) → read_word (get_or words from 0) ≡ Some word
+    → (k : ℕ) → k < i + 1 → read_word (get_or words k 0) ≡ Some (get_or (set read at word) k 0)
 next_read words read i from at word long few from_is at_is before now k below = rw at_is (dite (ℕ_discrete k i)
-    (λ is. rw (is, get_or-set_same read i word 0 (omega arith)) (subst (λ (n : ℕ). IsReadAs (get_or words n 0) word) from_is now))
+    (λ is. rw (is, get_or-set_same read i word 0 (omega arith)) (subst (λ (n : ℕ). read_word (get_or words n 0) ≡ Some word) from_is now))
     (λ not. rw (get_or-set_other read i k word 0 not) (before k (omega arith))))
 
-module _ (words read : List ℕ) (long : length words ≡ 12) (read_long : length read ≡ 12) (each : (k : ℕ) → k < 12 → IsReadAs (get_or words k 0) (get_or read k 0)) where
-  pub are_read : AreReadAs words read
-  are_read = record { twelve = read_long; each = λ game is. each (game - 1) (omega arith) }
+all_read : (index : ℕ) (words read : List ℕ) → length read ≡ length words
+    → ((k : ℕ) → k < length words → read_word (get_or words k 0) ≡ Some (get_or read k 0)) → read_words index words ≡ Ok read
+unfolding read_words
+all_read index [] [] long each = refl
+all_read index (w ∷ words) (r ∷ read) long each =
+    let first : read_word w ≡ Some r = each 0 (omega arith) in
+    let rest = all_read (index + 1) words read (omega arith) (λ k below. each (suc k) (omega arith)) in rw (first, rest) refl
+all_read index words read long each = absurd (omega arith)
+
+-- the first bad word, where the words before it are read as `read` has them
+pub first_bad : (index k : ℕ) (words : List ℕ) (read : ℕ → ℕ) → k < length words → read_word (get_or words k 0) ≡ None
+    → ((j : ℕ) → j < k → read_word (get_or words j 0) ≡ Some (read j)) → read_words index words ≡ Err (index + k)
+unfolding read_words
+first_bad index k [] read below bad before = absurd (omega arith)
+first_bad index zero (w ∷ words) read below bad before = let now : read_word w ≡ None = bad in rw now (ap (λ (n : ℕ). Err n) (omega arith))
+first_bad index (suc k) (w ∷ words) read below bad before =
+    let first : read_word w ≡ Some (read 0) = before 0 (omega arith) in
+    let rest = first_bad (index + 1) k words (λ j. read (suc j)) (omega arith) bad (λ j less. before (suc j) (omega arith)) in
+    rw (first, rest) (ap (λ (n : ℕ). Err n) (omega arith))
+
+module _ (words read : List ℕ) (long : length words ≡ 12) (read_long : length read ≡ 12)
+    (each : (k : ℕ) → k < 12 → read_word (get_or words k 0) ≡ Some (get_or read k 0)) where
+  pub are_read : read_words 1 words ≡ Ok read
+  are_read = all_read 1 words read (omega arith) (λ k below. each k (omega arith))
 
   pub are_words : AreWords read
   are_words = record {
@@ -165,15 +187,23 @@ module _ (words read : List ℕ) (long : length words ≡ 12) (read_long : lengt
     each = λ k d below. let in_range : k < 12 = omega arith in rw (get_or_default read k d 0 below) (read_valid (get_or words k 0) (get_or read k 0) (each k in_range));
   }
 
-  pub are_readable : AreReadable words
-  are_readable = record {
-    twelve = long;
-    each = λ k d below. let in_range : k < 12 = omega arith in rw (get_or_default words k d 0 below) (readable (get_or words k 0) (get_or read k 0) (each k in_range));
-  }
+-- words of this layout are read as they are, and what is read are words of this layout
+pub read_again : (words : List ℕ) → AreWords words → read_words 1 words ≡ Ok words
+read_again words are = are_read words words are.twelve are.twelve (λ k below. reads_word (get_or words k 0) (are.each k 0 (let long = are.twelve in omega arith)))
 
-  pub are_kept : AreWords words → read ≡ words
-  are_kept is = same_boards read words read_long long (λ game within. let in_range : game - 1 < 12 = omega arith in let below : game - 1 < length words = omega arith in
-      read_kept (get_or words (game - 1) 0) (get_or read (game - 1) 0) (is.each (game - 1) 0 below) (each (game - 1) in_range))
+one_read : (word : Option ℕ) (index : ℕ) (rest : Result (List ℕ) ℕ) (board : List ℕ) → before_words word index rest ≡ Ok board
+    → (new : ℕ) × (later : List ℕ) × (word ≡ Some new) × (rest ≡ Ok later) × (new ∷ later ≡ board)
+one_read (Some new) index (Ok later) board is = (new, later, refl, refl, cc)
+one_read (Some new) index (Err bad) board is = absurd cc
+one_read None index rest board is = absurd cc
+
+pub read_are_words : (index : ℕ) (words board : List ℕ) → read_words index words ≡ Ok board → (length board ≡ length words) × All IsWord board
+unfolding read_words
+read_are_words index [] board is = let none : [] ≡ board = cc in rw (← none) (refl, All-nil IsWord)
+read_are_words index (w ∷ words) board is =
+    let one = one_read (read_word w) index (read_words (index + 1) words) board is in
+    let rest = read_are_words (index + 1) words one.1 one.3 in
+    rw (← one.4) (ap suc rest.0, All-cons IsWord one.0 one.1 (read_valid w one.0 one.2) rest.1)
 
 key : Fixture → ℕ
 key f = 10 * f.home + f.away

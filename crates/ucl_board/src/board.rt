@@ -2,12 +2,12 @@
 //! a match packed into 64 bits; a *layout* says where its fields stand, and words of the first layout are read too. The *event number* of a
 //! match is how many events it accepted; the sum of these is the board's *version*. A record of a match is *valid* if a match can have it.
 
-ghost use Rattle.std.specs.Prelude.{◌≡◌, ℕ, ◌+◌, ◌-◌, ◌≤◌, List, [], ◌↔◌, Ok, IsOk, IfOk, IfErr};
+ghost use Rattle.std.specs.Prelude.{◌≡◌, ℕ, ◌+◌, ◌-◌, ◌≤◌, List, [], Ok, Err, IfOk, IfErr};
 ghost use Rattle.ucl_word.specs.Record.{IsValid};
 ghost use Rattle.ucl_word.specs.Counts.{GainsOne};
 ghost use Rattle.ucl_word.specs.Rules.{reply_of};
 ghost use Rattle.ucl_board.specs.declared.entry.Entry.{Entry};
-ghost use Rattle.ucl_board.specs.Words.{AreWords, AreReadable, AreReadAs, IsFirstBad, game_at, max_version, version_of};
+ghost use Rattle.ucl_board.specs.Words.{AreWords, game_at, max_version, read_words, version_of};
 ghost use Rattle.ucl_board.specs.History.{IsLegal, board_of, board_after, sequential_reply, attempted, entry_of};
 
 use std::marker::Model;
@@ -73,10 +73,9 @@ impl Board {
     ///
     /// [`BadWordAt`] with the place of the first word that is the packing of no valid record in either layout.
     pub fn of_words(words: &[u64; 12]) -> Result<Board, BadWordAt>
-        ensures board { IfOk result (λ b. AreReadAs words.now b) }
+        ensures board { IfOk result (λ b. read_words 1 words.now ≡ Ok b) }
         ensures again { AreWords words.now → result ≡ Ok words.now }
-        ensures exactly { IsOk result ↔ AreReadable words.now }
-        ensures refused { IfErr result (λ bad. IsFirstBad words.now bad.index) }
+        ensures refused { IfErr result (λ bad. read_words 1 words.now ≡ Err bad.index) }
     {
         let mut read = [0; 12];
         for i in 0..12u8 {

@@ -1,42 +1,30 @@
 -- Boards and rosters of inputs with no fault, and tables by coefficients.
-use Rattle.std.proofs.Common.{◌≡◌, ℕ, ◌+◌, ◌-◌, ◌==◌, Bool, true, false, List, [], ◌∷◌, length, map, get_or, Option, Some, None, refl, ap, subst, arith, All, inl}
-use Rattle.std.proofs.Common.{inr}
+use Rattle.std.proofs.Common.{◌≡◌, ℕ, ◌+◌, ◌==◌, ◌∙◌, Bool, true, false, List, [], ◌∷◌, length, map, Option, Some, None, refl, ap, arith, All, inl, inr}
 use Rattle.std.specs.Prelude.{Result, Ok, Err, option_map}
 use Rattle.std.proofs.lemmas.Bool.{cases_Bool}
 use Rattle.std.proofs.lemmas.Bool.Decides.{nat_tests}
-use Rattle.std.proofs.lemmas.List.Elements.{All-cons, All-from_get_or, All-nil}
-use Rattle.ucl_word.specs.Layout.{IsWord}
-use Rattle.ucl_word.proofs.FirstWords.{read_valid}
-use Rattle.ucl_board.specs.Words.{AreReadAs, AreWords, IsFirstBad}
+use Rattle.std.proofs.lemmas.List.Elements.{All-cons, All-nil}
+use Rattle.ucl_board.specs.Words.{AreWords, read_words}
+use Rattle.ucl_board.proofs.HistoryTheorems.{read_are_words}
 use Rattle.ucl_order.specs.declared.profile.Profile.{Profile}
 use Rattle.ucl_order.specs.Names.{profile_with}
 use Rattle.ucl_order.specs.Roster.{NamedClub, IsClub, IsRoster, bad_slot, bad_slot_from, coefficients_in, is_club}
 use Rattle.ucl_order.specs.Rows.{rows_of}
 use Rattle.ucl_order.proofs.Coefficients.{table-same}
 use Rattle.ucl_c.specs.declared.table.RowOfC.{RowOfC}
-use Rattle.ucl_screen.specs.WordsRead.{read_words}
-use Rattle.ucl_screen.proofs.ReadWords.{are-read, first-bad}
 use Rattle.ucl_c.specs.declared.fault.Fault.TheVariants.{BadRoster, BadWord, NotFour}
 use Rattle.ucl_c.specs.Faults.{club_with, fault_of_clubs, fault_of_words, fault_unless, first_fault}
 use Rattle.ucl_c.specs.Tables.{row_seen, shown_with, table_shown}
 
-pub board-read : (words twelve board : List ℕ) → length words ≡ 12 → twelve ≡ words → AreReadAs twelve board → (read_words 1 words ≡ Ok board) × (fault_of_words words ≡ None)
+pub board-read : (words twelve board : List ℕ) → length words ≡ 12 → twelve ≡ words → read_words 1 twelve ≡ Ok board
+    → (read_words 1 words ≡ Ok board) × (fault_of_words words ≡ None) × AreWords board
 board-read words twelve board long same read =
-    let is : read_words 1 words ≡ Ok board = are-read words board long (subst (λ (w : List ℕ). AreReadAs w board) same read) in
-    (is, rw (long, is))
+    let is : read_words 1 words ≡ Ok board = rw same at read in
+    let are = read_are_words 1 words board is in
+    (is, rw (long, is), record { twelve = are.0 ∙ long; each = are.1 })
 
-pub words-bad : (words twelve : List ℕ) (index : ℕ) → length words ≡ 12 → twelve ≡ words → IsFirstBad twelve index → fault_of_words words ≡ Some (BadWord index)
-words-bad words twelve index long same bad =
-    let is : read_words 1 words ≡ Err index = first-bad words index (subst (λ (w : List ℕ). IsFirstBad w index) same bad) in
-    rw (long, is)
-
-pub board-words : (words board : List ℕ) → AreReadAs words board → AreWords board
-board-words words board r =
-    let twelve : length board ≡ 12 = r.twelve in record {
-      twelve = r.twelve;
-      each = All-from_get_or IsWord board 0 (λ k less. let e : k + 1 - 1 ≡ k = omega arith in
-          read_valid (get_or words k 0) (get_or board k 0) (rw e at (r.each (k + 1) (omega arith, omega arith))));
-    }
+pub words-bad : (words twelve : List ℕ) (index : ℕ) → length words ≡ 12 → twelve ≡ words → read_words 1 twelve ≡ Err index → fault_of_words words ≡ Some (BadWord index)
+words-bad words twelve index long same bad = let is : read_words 1 words ≡ Err index = rw same at bad in rw (long, is)
 
 all-good : (slot : ℕ) (clubs : List NamedClub) → bad_slot_from slot clubs ≡ None → All IsClub clubs
 unfolding bad_slot_from

@@ -1,12 +1,13 @@
 -- Which words are those of valid records, by what they hold.
 use Rattle.std.proofs.Common.{◌≡◌, ℕ, zero, suc, ◌<◌, ◌≤◌, ◌==◌, ◌||◌, ◌⊎◌, Bool, true, false, refl, sym, ap, ◌∙◌, inl, inr, arith, eq-eqb, eqb-true}
-use Rattle.std.proofs.lemmas.Bool.{and_parts, cases_Bool}
+use Rattle.std.proofs.lemmas.Bool.{cases_Bool}
 use Rattle.std.proofs.lemmas.Bool.Decides.{nat_tests}
-use Rattle.ucl_word.specs.Record.{is_valid, is_within_limits, scheduled, suits_state, IsValid}
+use Rattle.ucl_word.specs.Record.{is_within_limits, scheduled, suits_state, IsValid}
 use Rattle.ucl_word.specs.Layout.{IsWord, layout, held_at, record_at, state_at, word_of, HoldsRecord}
 use Rattle.ucl_word.proofs.ValidRecords.{parts, scheduled_valid, untouched as untouched_is, whole}
-use Rattle.ucl_word.proofs.Words.{held_word, word_holds, word_packed, word_valid}
-use Rattle.ucl_screen.specs.WordsRead.{is_word}
+use Rattle.ucl_word.proofs.Words.{held_word, word_holds}
+use Rattle.ucl_word.specs.Migration.{is_word}
+use Rattle.ucl_word.proofs.FirstWords.{word_tested}
 use Rattle.ucl_c.specs.Inputs.{HasBegun}
 
 -- the word of a match before its kick-off
@@ -70,14 +71,6 @@ word_tests word true is w = refl
 word_tests word false is w = elim (word_begun word w) [ inl b ↦ absurd (let e = is b in cc) | inr e ↦ eq-eqb word untouched e ]
 
 -- the test of the definitions
-pub word_is : (word : ℕ) → is_word word ≡ true → IsWord word
-word_is word h =
-    let p = and_parts (is_valid (record_at word)) (word_of (record_at word) == word) h in
-    record { of = record_at word; valid = p.0; packed = eqb-true (word_of (record_at word)) word p.1 }
-
-pub is_of_word : (word : ℕ) → IsWord word → is_word word ≡ true
-is_of_word word w = rw (word_valid word w, eq-eqb (word_of (record_at word)) word (word_packed word w)) refl
-
 pub same_as_test : (word : ℕ) (found : Bool) → (found ≡ true → IsWord word) → (IsWord word → found ≡ true) → found ≡ is_word word
-same_as_test word true a b = sym (is_of_word word (a refl))
-same_as_test word false a b = elim (cases_Bool (is_word word)) [ inl y ↦ absurd (let e = b (word_is word y) in cc) | inr n ↦ sym n ]
+same_as_test word true a b = sym ((word_tested word).1 (a refl))
+same_as_test word false a b = elim (cases_Bool (is_word word)) [ inl y ↦ absurd (let e = b ((word_tested word).0 y) in cc) | inr n ↦ sym n ]

@@ -8,14 +8,15 @@ use Rattle.ucl_word.specs.declared.event.Kind.{Kind}
 use Rattle.ucl_word.specs.Record.{is_reporter}
 use Rattle.ucl_word.specs.declared.record.MatchRecord.{MatchRecord}
 use Rattle.ucl_word.specs.Layout.{record_at}
+use Rattle.ucl_word.specs.Migration.{is_word}
 use Rattle.ucl_word.specs.Names.{found_of, kind_with, refusal_code}
 use Rattle.ucl_word.specs.Rules.{refusal_of}
+use Rattle.ucl_board.specs.Words.{read_words}
 use Rattle.ucl_order.specs.Names.{profile_with}
 use Rattle.ucl_order.specs.Roster.{NamedClub, bad_slot}
 use Rattle.ucl_screen.specs.declared.fault.InputFault.{InputFault}
 use Rattle.ucl_screen.specs.declared.fault.InputFault.TheVariants as input
 use Rattle.ucl_screen.specs.Script.{Script, night_of}
-use Rattle.ucl_screen.specs.WordsRead.{is_word, read_words}
 use Rattle.ucl_c.specs.Codes.{expected_told}
 use Rattle.ucl_c.specs.declared.fault.Fault.{Fault}
 use Rattle.ucl_c.specs.declared.fault.Fault.TheVariants.{Refused, BadWord, BadRow, BadRoster, OutOfMemory, TooLong, FullBoard, NoReporter, NoKind, NoProfile}

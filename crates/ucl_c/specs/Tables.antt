@@ -2,14 +2,13 @@
 -- are read as a board if each is of today's layout or the first. A profile, which has a code, is the set of tie-break rules that order its
 -- table. A screen is the table as text; a line of JSON has one as the answer to a row, given by its number, that asked for it.
 use Rattle.std.specs.Prelude.{◌≡◌, ◌≢◌, ◌⊎◌, ℕ, ◌+◌, ◌<◌, ◌≤◌, ◌++◌, nat_le, if◌then◌else◌, List, [], ◌∷◌, map, take, drop, length, Option, None, Some, Result, Ok, Err}
-use Rattle.ucl_board.specs.Words.{version_of}
+use Rattle.ucl_board.specs.Words.{read_words, version_of}
 use Rattle.ucl_order.specs.declared.profile.Profile.{Profile}
 use Rattle.ucl_order.specs.declared.table.Row.{Row}
 use Rattle.ucl_order.specs.Names.{profile_with}
 use Rattle.ucl_order.specs.Roster.{NamedClub}
 use Rattle.ucl_order.specs.Rows.{rows_of}
 use Rattle.ucl_screen.specs.Screen.{screen_text}
-use Rattle.ucl_screen.specs.WordsRead.{read_words}
 use Rattle.ucl_json.specs.Lines.{json_line}
 use Rattle.ucl_json.specs.Values.{screen_value}
 use Rattle.ucl_c.specs.declared.table.RowOfC.{RowOfC}

@@ -1,30 +1,18 @@
--- What holds of all words, of the numbers of faults, and of how long screens are. A word is a match packed into 64 bits, of today's layout
--- or of the first; twelve are a board, and a screen is its table as text. A fault is why a call of C is not done.
-use Rattle.std.specs.Prelude.{◌≡◌, ◌↔◌, ◌<◌, ◌≤◌, ◌^◌, ℕ, ◌++◌, true, List, length, Some, Ok, Err, codes, decimal}
-use Rattle.ucl_word.specs.Layout.{IsWord}
-use Rattle.ucl_board.specs.Words.{AreReadAs, AreWords, IsFirstBad}
+-- What holds of the numbers of faults, and of how long screens are. A word is a match packed into 64 bits; twelve are a board, and a screen
+-- is its table as text. A fault is why a call of C is not done.
+use Rattle.std.specs.Prelude.{◌≡◌, ◌<◌, ◌≤◌, ◌^◌, ℕ, ◌++◌, List, length, Some, codes, decimal}
+use Rattle.ucl_board.specs.Words.{AreWords}
 use Rattle.ucl_order.specs.declared.profile.Profile.{Profile}
 use Rattle.ucl_order.specs.Roster.{IsRoster, NamedClub}
 use Rattle.ucl_screen.specs.declared.fault.InputFault.{InputFault}
 use Rattle.ucl_screen.specs.declared.fault.InputFault.TheVariants as input
 use Rattle.ucl_screen.specs.Screen.{IsGroup, screen_text}
 use Rattle.ucl_screen.specs.Texts.{input_fault_text}
-use Rattle.ucl_screen.specs.WordsRead.{is_word, read_words}
 use Rattle.ucl_json.specs.Lines.{json_line}
 use Rattle.ucl_json.specs.Values.{bad_row_value, bad_value, screen_value}
 use Rattle.ucl_c.specs.declared.fault.Fault.TheVariants.{BadRow, OutOfMemory}
 use Rattle.ucl_c.specs.Codes.{name_of_status}
 use Rattle.ucl_c.specs.Faults.{fault_code, of_input}
-
--- `read_words` gives the board that these words are by the definitions of both layouts, or else the index of the first that is of neither
-pub record AreJudged (words : List ℕ) : Type 0 where
-  pub read : (board : List ℕ) → AreReadAs words board → read_words 1 words ≡ Ok board
-  pub refused : (index : ℕ) → IsFirstBad words index → read_words 1 words ≡ Err index
-
--- any twelve words are read by `read_words` as the definitions of words say, and `is_word` holds of just the words of valid matches
-pub record WordsAreJudged : Type 0 where
-  pub twelve : (words : List ℕ) → length words ≡ 12 → AreJudged words
-  pub single : (word : ℕ) → (is_word word ≡ true) ↔ IsWord word
 
 -- the line that the programs write for this fault of their input has the number that calls of C return for it
 pub record IsWrittenByNumber (fault : InputFault) : Type 0 where

@@ -6,7 +6,7 @@
 ghost use Rattle.std.specs.Prelude.{◌≡◌, ◌≢◌, ◌↔◌, IsSome, IfSome};
 ghost use Rattle.ucl_word.specs.Record.{IsReporter};
 ghost use Rattle.ucl_word.specs.Layout.{IsWord, record_at};
-ghost use Rattle.ucl_word.specs.Migration.{IsReadable, IsReadAs};
+ghost use Rattle.ucl_word.specs.Migration.{read_word};
 ghost use Rattle.ucl_c.specs.Codes.{expected_told, match_seen, next_of, state_code_in_c};
 ghost use Rattle.ucl_c.specs.Faults.{fault_of_next, found_with, status_with};
 
@@ -90,8 +90,8 @@ pub extern "C" fn uclboard_next_word(
 /// Writes to `read` the word in today's layout for one of today's or the first, and returns 0; or returns 10 and writes nothing.
 #[unsafe(no_mangle)]
 pub extern "C" fn uclboard_read_word(word: u64, read: &mut u64) -> u32
-    ensures done { IsReadable word → (result ≡ 0) × IsReadAs word read.new }
-    ensures refused { (IsReadable word → ⊥) → (result ≡ 10) × (read.new ≡ read.old) }
+    ensures done { (new : ℕ) → read_word word ≡ Some new → (result ≡ 0) × (read.new ≡ new) }
+    ensures refused { read_word word ≡ None → (result ≡ 10) × (read.new ≡ read.old) }
 {
     match migrate(word) {
         Ok(new) => {

@@ -3,11 +3,10 @@
 //! its table is ordered. What C hands over wrong is answered by a `Fault`.
 
 ghost use Rattle.std.specs.Prelude.{◌≡◌, map, None, Some, Ok, IfOk, IfErr};
-ghost use Rattle.ucl_board.specs.Words.{AreWords};
+ghost use Rattle.ucl_board.specs.Words.{AreWords, read_words};
 ghost use Rattle.ucl_order.specs.Names.{profile_with};
 ghost use Rattle.ucl_order.specs.Roster.{club_lent};
 ghost use Rattle.ucl_screen.specs.Screen.{IsGroup};
-ghost use Rattle.ucl_screen.specs.WordsRead.{read_words};
 ghost use Rattle.ucl_c.specs.Faults.{club_with, fault_of_clubs, fault_of_coefficients, fault_of_group, fault_of_profile, fault_of_words};
 ghost use Rattle.ucl_c.specs.Tables.{club_handed, clubs_handed};
 

@@ -1,13 +1,7 @@
-//! Theorems on all words, on the numbers of faults, and on how long screens are. The functions are there for their contracts only.
+//! Theorems on the numbers of faults, and on how long screens are. The functions are there for their contracts only.
 //! A word is a match packed into 64 bits, twelve are a board, and a screen is its table as text. A fault is why a call of C is not done.
 
-ghost use Rattle.ucl_c.specs.Theorems.{FaultsAreWrittenByNumber, ScreensAreShort, WordsAreJudged};
-
-/// Proves that `read_words`, by which contracts read twelve words, gives the board that the definitions say, or else the first word that is
-/// no match's; and that `is_word`, which tests one word, holds of just the words of valid matches.
-pub fn words_are_judged()
-    ensures { WordsAreJudged }
-{}
+ghost use Rattle.ucl_c.specs.Theorems.{FaultsAreWrittenByNumber, ScreensAreShort};
 
 /// Proves that the programs write faults of their input under the numbers for C, and that `ucl_live` answers a bad row by number and name.
 pub fn faults_are_written_by_number()

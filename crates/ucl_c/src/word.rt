@@ -3,7 +3,7 @@
 
 ghost use Rattle.std.specs.Prelude.{◌≡◌, ◌<◌, ◌↔◌, IsTrue};
 ghost use Rattle.ucl_word.specs.Layout.{IsWord, bits_at};
-ghost use Rattle.ucl_screen.specs.WordsRead.{is_word};
+ghost use Rattle.ucl_word.specs.Migration.{is_word};
 ghost use Rattle.ucl_c.specs.Inputs.{HasBegun};
 
 /// The word of a match before its kick-off.

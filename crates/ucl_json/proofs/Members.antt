@@ -1,5 +1,5 @@
 -- What the members of a value tell.
-use Rattle.std.proofs.Common.{rules, Bool, List, None, Option, Some, [], ap, append_assoc, arith, cond, drop, false, get_or, inl, inr, le-leb, length, refl, sym}
+use Rattle.std.proofs.Common.{rules, Bool, List, None, Option, Some, [], ap, append_assoc, arith, cond, drop, false, get_or, inl, inr, le-leb, length, refl}
 use Rattle.std.proofs.Common.{true, ℕ, ◌&&◌, ◌++◌, ◌+◌, ◌<◌, ◌∷◌, ◌≡◌, ◌≤◌}
 use Rattle.std.specs.Result.{result_ok}
 use Rattle.std.specs.Prelude.{Err, IfOk, IsOk, IsUtf8, Ok, Result, map, nat_le, option_and_then}
@@ -14,9 +14,7 @@ use Rattle.serde_json.specs.Data.{Data}
 use Rattle.serde_json.specs.View.{items_view, view}
 use Rattle.serde_json.specs.declared.value.Value.{Value}
 use Rattle.ucl_order.specs.Roster.{NamedClub, bad_slot}
-use Rattle.ucl_board.specs.Words.{AreReadAs, IsFirstBad}
-use Rattle.ucl_screen.proofs.ReadWords.{are-read, first-bad}
-use Rattle.ucl_screen.specs.WordsRead.{read_words}
+use Rattle.ucl_board.specs.Words.{read_words}
 use Rattle.ucl_screen.specs.Events.{◌>>=◌}
 use Rattle.ucl_json.specs.BoardLines.{if_read, just, listed, parse_board_line, parse_board_state, parse_each, unless_bad}
 
@@ -80,11 +78,11 @@ just-four _ w x y z some few i j k l = absurd (omega arith)
 
 -- ---- twelve words
 
-pub words_read : (words board : List ℕ) → length words ≡ 12 → AreReadAs words board → Some board ≡ if_read (read_words 1 words)
-words_read words board long r = sym (ap if_read (are-read words board long r))
+pub words_read : (words board : List ℕ) → read_words 1 words ≡ Ok board → Some board ≡ if_read (read_words 1 words)
+words_read words board is = rw is refl
 
-pub words_bad : (words : List ℕ) (index : ℕ) → IsFirstBad words index → None ≡ if_read (read_words 1 words)
-words_bad words index r = sym (ap if_read (first-bad words index r))
+pub words_bad : (words : List ℕ) (index : ℕ) → read_words 1 words ≡ Err index → None ≡ if_read (read_words 1 words)
+words_bad words index is = rw is refl
 
 -- ---- a line
 

@@ -12,7 +12,7 @@ use Rattle.ucl_order.specs.Names.{profile_named}
 use Rattle.ucl_order.specs.Roster.{NamedClub, bad_slot, named}
 use Rattle.ucl_screen.specs.Events.{◌>>=◌}
 use Rattle.ucl_screen.specs.Numbers.{hex_word}
-use Rattle.ucl_screen.specs.WordsRead.{read_words}
+use Rattle.ucl_board.specs.Words.{read_words}
 use Rattle.ucl_screen.specs.Screen.{letter_in}
 use Rattle.ucl_json.specs.declared.header.BoardHeader.{BoardHeader}
 use Rattle.ucl_json.specs.declared.board_state.BoardState.{BoardState}

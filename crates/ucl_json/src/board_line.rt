@@ -5,7 +5,7 @@ ghost use Rattle.std.specs.Prelude.{◌≡◌, ◌<◌, ◌≤◌, [], ◌∷◌
 ghost use Rattle.serde_json.specs.View.{items_view, view};
 ghost use Rattle.ucl_order.specs.Roster.{bad_slot, club_lent};
 ghost use Rattle.ucl_screen.specs.Screen.{IsGroup};
-ghost use Rattle.ucl_screen.specs.WordsRead.{read_words};
+ghost use Rattle.ucl_board.specs.Words.{read_words};
 ghost use Rattle.ucl_json.specs.BoardLines.{parse_board, parse_club, parse_clubs, parse_each, edition_in, parse_edition, parse_group, if_read, just, list_at, parse_board_line, parse_board_state, parse_order, parse_roster, text_at, parse_header, unless_bad, parse_word};
 
 use crate::board_state::BoardState;

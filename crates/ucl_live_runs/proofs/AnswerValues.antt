@@ -1,5 +1,5 @@
 -- The values of answers: the board state that they carry, and that they are plain and short.
-use Rattle.std.proofs.Common.{List, None, Option, Some, [], ap, arith, codes, false, inl, le-leb, length, refl, suc, ℕ, ◌<◌, ◌^◌, ◌∙◌, ◌∷◌, ◌≡◌, ◌≤◌}
+use Rattle.std.proofs.Common.{List, None, Option, Some, [], ap, arith, codes, false, le-leb, length, refl, suc, ℕ, ◌<◌, ◌^◌, ◌∙◌, ◌∷◌, ◌≡◌, ◌≤◌}
 use Rattle.std.proofs.lemmas.Bool.{and_parts, eq-eqb}
 use Rattle.std.proofs.lemmas.List.Elements.{All-head, All-tail}
 use Rattle.std.specs.Prelude.{All, IfSome, decimal, nat_le, option_and_then}
@@ -8,7 +8,7 @@ use Rattle.serde_json.proofs.OnLiterals.{serde_json_on_literals}
 use Rattle.serde_json.specs.Data.{Data, member, no_members, number, object, string, unsigned}
 use Rattle.serde_json.specs.Find.{get}
 use Rattle.serde_json.specs.Written.{compact_text}
-use Rattle.ucl_board.specs.Words.{AreWords, version_of}
+use Rattle.ucl_board.specs.Words.{AreWords, read_words, version_of}
 use Rattle.ucl_json.proofs.AnswerSizes.{clubs-plain, digits-2, digits-5, digits-20, few-in-play, group-text, kind-text, matches-plain, order-text, places-plain, version-fits, words-plain}
 use Rattle.ucl_json.proofs.PlainValues.{ArePlain, IsShortPlain, IsText, items_size, line-short, parsed-line, size}
 use Rattle.ucl_json.specs.BoardLines.{edition_in, if_read, just, list_at, listed, parse_board_line, parse_club, parse_roster, parse_word, text_at}
@@ -25,9 +25,8 @@ unfoldable use Rattle.ucl_order.specs.Roster.{bad_slot_from, is_club}
 use Rattle.ucl_order.specs.declared.profile.Profile.{Profile}
 use Rattle.ucl_order.specs.declared.profile.Profile.TheVariants.{AwayInTie, Uefa}
 use Rattle.ucl_screen.proofs.HexDigits.{word-back}
-use Rattle.ucl_screen.proofs.ReadWords.{all-read}
+use Rattle.ucl_board.proofs.HistoryTheorems.{read_again}
 use Rattle.ucl_screen.specs.Screen.{IsGroup, in_play, letter_in}
-use Rattle.ucl_screen.specs.WordsRead.{read_words}
 use Rattle.ucl_screen.specs.declared.night.NightEvent.{NightEvent}
 use Rattle.ucl_word.specs.Names.{kind_name}
 
@@ -45,7 +44,7 @@ board-back : (board : List ℕ) → AreWords board → All (λ word. word < 2 ^ 
     → option_and_then (λ words. if_read (read_words 1 words)) (just 12 parse_word (listed (word_items board))) ≡ Some board
 board-back board w bits =
     let back = words-back board bits in
-    rw (back.1, eq-eqb (length board) 12 w.twelve, back.0, all-read 1 board board refl (λ k less. inl (w.each k 0 less, refl))) refl
+    rw (back.1, eq-eqb (length board) 12 w.twelve, back.0, read_again board w) refl
 
 club-back : (club : NamedClub) → IsClub club →
     parse_club (object (member (codes "club") (string club.name) (member (codes "coefficient") (number (unsigned club.coefficient)) no_members))) ≡ Some club

@@ -10,11 +10,11 @@ pub use Rattle.csv.specs.declared.parser.Action.{Action}
 pub use Rattle.csv.specs.declared.parser.State.{State}
 pub use Rattle.csv.specs.declared.reader.Reader.{Reader}
 pub use Rattle.std.proofs.Common.{Bool, List, None, Ok, Option, Some, [], add-one, ap, append-nil, append_assoc, arith, codes, cond, drop}
-pub use Rattle.std.proofs.Common.{drop-cons, eq-eqb, eqb-true, false, get_or, if◌then◌else◌, inl, inr, length, length-append, map, refl}
+pub use Rattle.std.proofs.Common.{drop-cons, eq-eqb, false, get_or, if◌then◌else◌, inl, inr, length, length-append, map, refl}
 pub use Rattle.std.proofs.Common.{replicate, rules, string_bytes, subst, suc, sym, take, true, true≢false, zero, ℕ, ◌&&◌, ◌*◌, ◌++◌, ◌+◌}
 pub use Rattle.std.proofs.Common.{◌-◌, ◌<◌, ◌==◌, ◌^◌, ◌∙◌, ◌∷◌, ◌≡◌, ◌≤◌, ◌⊎◌}
 pub use Rattle.std.proofs.Math.Nat.{pow-le-pow_right, pow-suc}
-pub use Rattle.std.proofs.lemmas.Bool.{and_parts, cases_Bool, false_from_ne_true}
+pub use Rattle.std.proofs.lemmas.Bool.{and_parts, cases_Bool}
 pub use Rattle.std.proofs.lemmas.Bool.Decides.{nat_tests}
 pub use Rattle.std.proofs.lemmas.Fmt.{length-decimal-le}
 pub use Rattle.std.proofs.lemmas.Grind.{common_steps, flat_map-append, take-set_at}
@@ -32,7 +32,7 @@ pub use Rattle.ucl_board.proofs.HistoryTheorems.{each_match}
 pub use Rattle.ucl_board.proofs.HistoryTheorems.{versions}
 pub use Rattle.ucl_board.specs.Fixtures.{match_numbers}
 pub use Rattle.ucl_board.specs.History.{after_attempt}
-pub use Rattle.ucl_board.specs.Words.{AreReadAs, IsFirstBad, max_version}
+pub use Rattle.ucl_board.specs.Words.{max_version, read_words}
 pub use Rattle.ucl_board.specs.declared.entry.Entry.{Entry}
 pub use Rattle.ucl_order.specs.Roster.{is_name, is_printed}
 pub use Rattle.ucl_order.specs.Rows.{IsWithinTable}
@@ -52,15 +52,8 @@ pub use Rattle.ucl_screen.specs.Screen.{IsGroup, in_play, letter_in, row_line}
 pub use Rattle.ucl_screen.specs.Script.{IsFaultOfScript, WrittenSheet, night_of_rows, said_by, sheet_of, sheet_of_rows, word_of_row, ◌>>=◌}
 unfoldable pub use Rattle.ucl_screen.specs.Script.{events_from, words_from}
 pub use Rattle.ucl_screen.specs.Theorems.{LinesHave53Columns}
-pub use Rattle.ucl_screen.specs.WordsRead.{before_words, is_first_word, is_word}
-unfoldable pub use Rattle.ucl_screen.specs.WordsRead.{first_record_at, read_word, read_words}
 pub use Rattle.ucl_screen.specs.declared.fault.InputFault.{InputFault}
 pub use Rattle.ucl_screen.specs.declared.fault.InputFault.TheVariants.{BadRow}
 pub use Rattle.ucl_screen.specs.declared.night.Night.{Night}
 pub use Rattle.ucl_screen.specs.declared.night.NightEvent.{NightEvent}
 pub use Rattle.ucl_screen.specs.declared.sheet.Sheet.{Sheet}
-pub use Rattle.ucl_word.proofs.FirstWords.{first_back, layouts_apart}
-pub use Rattle.ucl_word.proofs.Words.{record_told, word_packed, word_valid}
-pub use Rattle.ucl_word.specs.Layout.{IsWord, first_layout, record_at, word_of}
-pub use Rattle.ucl_word.specs.Migration.{IsFirstWord, IsReadAs, IsReadable, first_word_of, max_number_in_play_of_first_layout}
-pub use Rattle.ucl_word.specs.Record.{is_valid}

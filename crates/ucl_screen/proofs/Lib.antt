@@ -3,7 +3,6 @@ pub mod RowFacts
 pub mod Digits
 pub mod RowFaults
 pub mod Columns
-pub mod ReadWords
 pub mod EventsInTurn
 pub mod Letters
 pub mod HexDigits

@@ -1,5 +1,5 @@
 -- What the rows of an input are refused for.
-use Rattle.ucl_screen.proofs.Common.{AnswersAsSaid, AreReadAs, Bool, CallsRead, Err, IfErr, IfSome, InputFault, IsFaultOfScript, IsFirstBad}
+use Rattle.ucl_screen.proofs.Common.{AnswersAsSaid, Bool, CallsRead, Err, IfErr, IfSome, InputFault, IsFaultOfScript, read_words}
 use Rattle.ucl_screen.proofs.Common.{List, MeansNight, MeansSheet, Night, None, Ok, Option, Reads, Refuses, Result, Sheet, Some}
 use Rattle.ucl_screen.proofs.Common.{WrittenSheet, false, left, length, night_of_rows, night_seen, refl, rows_of, sheet_of, sheet_of_rows}
 use Rattle.ucl_screen.proofs.Common.{sheet_seen, subst, sym, true≢false, whole_input, ℕ, ◌+◌, ◌>>=◌, ◌∙◌, ◌≡◌, ◌≤◌}
@@ -42,13 +42,13 @@ both-known (Some xs) P Q p q = q xs p
 
 pub sheet-taken : (sheet : Sheet) (words : List ℕ) (old new : Option (List ℕ)) (failed : Bool) (bytes : List ℕ) → failed ≡ false
     → IfSome old (λ xs. whole_input xs ≡ Ok bytes) → rows_say bytes (Ok (record { clubs = sheet.roster; words = words }))
-    → AreReadAs words sheet.board → Reads MeansSheet sheet_seen old new failed (Ok sheet)
+    → read_words 1 words ≡ Ok sheet.board → Reads MeansSheet sheet_seen old new failed (Ok sheet)
 sheet-taken sheet words old new failed bytes f h g read =
     let written : WrittenSheet = record { clubs = sheet.roster; words = words } in
     (f, both-known old (λ xs. sheet_of xs ≡ Ok written) (λ xs. MeansSheet xs (Ok (sheet_seen sheet))) (sheet-known old bytes (Ok written) h g) (λ xs e. (written, e, refl, read)))
 
 pub sheet-tested : (sheet : WrittenSheet) (index : ℕ) (old new : Option (List ℕ)) (failed : Bool) (bytes : List ℕ) → failed ≡ false
-    → IfSome old (λ xs. whole_input xs ≡ Ok bytes) → rows_say bytes (Ok sheet) → IsFirstBad sheet.words index → Reads MeansSheet sheet_seen old new failed (Err (fault.BadWordAt index))
+    → IfSome old (λ xs. whole_input xs ≡ Ok bytes) → rows_say bytes (Ok sheet) → read_words 1 sheet.words ≡ Err index → Reads MeansSheet sheet_seen old new failed (Err (fault.BadWordAt index))
 sheet-tested sheet index old new failed bytes f h g bad =
     (f, both-known old (λ xs. sheet_of xs ≡ Ok sheet) (λ xs. MeansSheet xs (Err (fault.BadWordAt index))) (sheet-known old bytes (Ok sheet) h g) (λ xs e. (sheet, e, bad)))
 

@@ -9,4 +9,3 @@ pub mod Screen
 pub mod Matches
 pub mod Theorems
 pub mod Texts
-pub mod WordsRead

@@ -2,7 +2,7 @@
 -- A script is four clubs and the events that reporters enter; a sheet is four clubs and twelve words. A word is tested: it has to pack a
 -- valid match record, in the present layout or in the first one, which had fewer bits for the event number.
 use Rattle.std.specs.Prelude.{◌≡◌, ⊤, ℕ, List, Result, Ok, Err}
-use Rattle.ucl_board.specs.Words.{AreReadAs, IsFirstBad}
+use Rattle.ucl_board.specs.Words.{read_words}
 use Rattle.ucl_screen.specs.declared.fault.InputFault.{InputFault}
 use Rattle.ucl_screen.specs.declared.fault.InputFault.TheVariants.{BadWordAt, OutOfMemory}
 use Rattle.ucl_screen.specs.declared.night.Night.{Night}
@@ -24,8 +24,8 @@ MeansNight bytes night = night_of bytes ≡ night
 -- the sheet as it was written, `said`, is this sheet once its words are tested: each is read as a word of the present layout; or the fault
 -- is BadWordAt with the index of the first word of neither layout; or `said` is a fault already
 abbrev pub Tested : Result WrittenSheet InputFault → Result WrittenSheet InputFault → Type 0
-Tested said (Ok sheet) = (written : WrittenSheet) × (said ≡ Ok written) × (sheet.clubs ≡ written.clubs) × AreReadAs written.words sheet.words
-Tested said (Err (BadWordAt index)) = (sheet : WrittenSheet) × (said ≡ Ok sheet) × IsFirstBad sheet.words index
+Tested said (Ok sheet) = (written : WrittenSheet) × (said ≡ Ok written) × (sheet.clubs ≡ written.clubs) × (read_words 1 written.words ≡ Ok sheet.words)
+Tested said (Err (BadWordAt index)) = (sheet : WrittenSheet) × (said ≡ Ok sheet) × (read_words 1 sheet.words ≡ Err index)
 Tested said (Err fault) = said ≡ Err fault
 
 -- the bytes of an input mean this sheet once its words are tested, or have this as their first fault

@@ -1,13 +1,15 @@
 -- Words of the first layout: each is read back, no word is of both layouts, and what words are read as.
-use Rattle.ucl_word.proofs.Common.{BadWord, Err, HasLayoutTag, IsValid, IsWord, MatchRecord, Ok, Result, State, ap, arith, inl, inr, sym}
-use Rattle.ucl_word.proofs.Common.{true, word_of, ℕ, ◌<◌, ◌^◌, ◌∙◌, ◌≡◌, ◌≤◌}
-use Rattle.std.proofs.Common.{true≢false}
+use Rattle.ucl_word.proofs.Common.{BadWord, Err, HasLayoutTag, IsValid, IsWord, MatchRecord, None, Ok, Result, Some, State, ap, arith, eq-eqb}
+use Rattle.ucl_word.proofs.Common.{false, inl, inr, nat_le, record_at, refl, subst, sym, true, word_of, ℕ, ◌<◌, ◌==◌, ◌^◌, ◌∙◌, ◌≡◌, ◌≤◌}
+use Rattle.std.proofs.Common.{eqb-true, true≢false, ◌&&◌}
+use Rattle.std.proofs.lemmas.Bool.{and_parts, cases_Bool, false_from_ne_true, le-leb, leb-true}
 use Rattle.ucl_word.specs.Layout.{first_layout}
-use Rattle.std.specs.Prelude.{IfOk, is_ok}
-use Rattle.ucl_word.specs.Migration.{moved_up, max_number_in_play_of_first_layout, first_word_of, IsFirstValid, IsFirstWord, IsReadable}
-use Rattle.ucl_word.specs.Migration.{IsMoved, IsReadAs}
-use Rattle.ucl_word.specs.Theorems.{LayoutsDiffer, WordsAreReadOneWay}
-use Rattle.ucl_word.proofs.Words.{Tells, bounds, record_told, told_back, word_high}
+use Rattle.std.specs.Prelude.{IfErr, IfOk, is_ok, ◌↔◌}
+use Rattle.ucl_word.specs.Record.{is_valid}
+use Rattle.ucl_word.specs.Migration.{moved_up, max_number_in_play_of_first_layout, first_word_of, IsFirstValid, IsFirstWord, is_word, is_first_word}
+unfoldable use Rattle.ucl_word.specs.Migration.{first_record_at, read_word}
+use Rattle.ucl_word.specs.Theorems.{LayoutsDiffer}
+use Rattle.ucl_word.proofs.Words.{Tells, bounds, record_told, told_back, word_high, word_packed, word_valid}
 
 most_numbers : (s : State) (n : ℕ) → n ≤ max_number_in_play_of_first_layout s → n < 2 ^ first_layout.number.width
 most_numbers s n h = search arith
@@ -45,35 +47,68 @@ first_apart m n v w e = sym (first_back m v) ∙ (ap (record_told first_layout.n
 pub layouts_apart : LayoutsDiffer
 layouts_apart word is first = let a = word_high word is in let b = first_high word first in omega arith
 
-pub first_of_moved : (word new : ℕ) → IsMoved word new → IsFirstWord word
-first_of_moved word new moved = record { of = moved.of; valid = moved.valid; packed = moved.packed }
+-- a word that was unpacked is of a valid record
+pub word_unpacked : (r : Result MatchRecord BadWord) (word : ℕ) → IfOk r IsValid → IfOk r (λ m. word_of m ≡ word) → is_ok r ≡ true → IsWord word
+word_unpacked (Ok m) word valid packed is = record { of = m; valid = valid; packed = packed }
+word_unpacked (Err bad) word valid packed is = absurd (true≢false (sym is))
 
-word_of_moved : (word new : ℕ) → IsMoved word new → IsWord new
-word_of_moved word new moved = record { of = moved.of; valid = moved.valid.valid; packed = sym moved.moved }
+pub word_refused : (r : Result MatchRecord BadWord) (word : ℕ) → IfErr r (λ _. IsWord word → ⊥) → is_ok r ≡ false → IsWord word → ⊥
+word_refused (Ok m) word refused is = absurd (true≢false is)
+word_refused (Err bad) word refused is = refused
 
--- a word that was read is of a valid record
-pub read_word : (r : Result MatchRecord BadWord) (word : ℕ) → IfOk r IsValid → IfOk r (λ m. word_of m ≡ word) → is_ok r ≡ true → IsWord word
-read_word (Ok m) word valid packed is = record { of = m; valid = valid; packed = packed }
-read_word (Err bad) word valid packed is = absurd (true≢false (sym is))
-
--- what is read is a word of this layout, and a word of this layout is read as it is
-pub read_valid : (word new : ℕ) → IsReadAs word new → IsWord new
-read_valid word new (inl kept) = rw kept.1 kept.0
-read_valid word new (inr moved) = word_of_moved word new moved
-
-pub read_kept : (word new : ℕ) → IsWord word → IsReadAs word new → new ≡ word
-read_kept word new is (inl kept) = kept.1
-read_kept word new is (inr moved) = absurd (layouts_apart word is (first_of_moved word new moved))
-
-pub readable : (word new : ℕ) → IsReadAs word new → IsReadable word
-readable word new (inl kept) = inl kept.0
-readable word new (inr moved) = inr (first_of_moved word new moved)
-
-pub read_one_way : WordsAreReadOneWay
-read_one_way word a b (inl kept) (inl bs) = (rw kept.1 kept.0, kept.1 ∙ sym bs.1)
-read_one_way word a b (inl kept) (inr moved) = absurd (layouts_apart word kept.0 (first_of_moved word b moved))
-read_one_way word a b (inr moved) (inl bs) = absurd (layouts_apart word bs.0 (first_of_moved word a moved))
-read_one_way word a b (inr m) (inr n) = (
-  word_of_moved word a m,
-  m.moved ∙ (ap word_of (first_apart m.of n.of m.valid n.valid (m.packed ∙ sym n.packed)) ∙ sym n.moved),
+-- the tests of the two layouts
+pub word_tested : (word : ℕ) → (is_word word ≡ true) ↔ IsWord word
+word_tested word = (
+  λ h. let p = and_parts (is_valid (record_at word)) (word_of (record_at word) == word) h in
+      record { of = record_at word; valid = p.0; packed = eqb-true (word_of (record_at word)) word p.1 },
+  λ is. rw (word_valid word is, eq-eqb (word_of (record_at word)) word (word_packed word is)) refl,
 )
+
+pub record_of_first : (word : ℕ) (is : IsFirstWord word) → first_record_at word ≡ is.of
+unfolding first_record_at
+record_of_first word is = ap (record_told first_layout.number.width) (sym is.packed) ∙ first_back is.of is.valid
+
+pub first_tested : (word : ℕ) → (is_first_word word ≡ true) ↔ IsFirstWord word
+first_tested word = (
+  λ h. let m = first_record_at word in
+      let most = max_number_in_play_of_first_layout m.state in
+      let p = and_parts (is_valid m && nat_le m.number most) (first_word_of m == word) h in
+      let q = and_parts (is_valid m) (nat_le m.number most) p.0 in
+      record { of = m; valid = record { valid = q.0; number = leb-true m.number most q.1 }; packed = eqb-true (first_word_of m) word p.1 },
+  λ is. let m = is.of in
+      let room = le-leb m.number (max_number_in_play_of_first_layout m.state) is.valid.number in
+      rw (record_of_first word is, is.valid.valid, room, eq-eqb (first_word_of m) word is.packed) refl,
+)
+
+-- what a word of each layout is read as, and that no other word is read
+pub reads_word : (word : ℕ) → IsWord word → read_word word ≡ Some word
+unfolding read_word
+reads_word word is = rw ((word_tested word).1 is) refl
+
+pub reads_first : (word : ℕ) (is : IsFirstWord word) → read_word word ≡ Some (word_of is.of)
+unfolding read_word
+reads_first word is =
+    let none = false_from_ne_true (is_word word) (λ h. layouts_apart word ((word_tested word).0 h) is) in
+    rw (none, (first_tested word).1 is, record_of_first word is) refl
+
+pub reads_none : (word : ℕ) → (IsWord word → ⊥) × (IsFirstWord word → ⊥) → read_word word ≡ None
+unfolding read_word
+reads_none word not = rw (
+  false_from_ne_true (is_word word) (λ h. not.0 ((word_tested word).0 h)),
+  false_from_ne_true (is_first_word word) (λ h. not.1 ((first_tested word).0 h)),
+) refl
+
+-- what is read is a word of this layout
+pub read_valid : (word new : ℕ) → read_word word ≡ Some new → IsWord new
+unfolding read_word
+read_valid word new read = elim (cases_Bool (is_word word)) [
+  | inl here ↦ let told = rw here at read in let same : word ≡ new = cc in subst IsWord same ((word_tested word).0 here)
+  | inr not ↦ elim (cases_Bool (is_first_word word)) [
+    | inl first ↦
+        let is = (first_tested word).0 first in
+        let told = rw (not, first) at read in
+        let same : word_of (first_record_at word) ≡ new = cc in
+        record { of = is.of; valid = is.valid.valid; packed = ap word_of (sym (record_of_first word is)) ∙ same }
+    | inr other ↦ absurd (let told = rw (not, other) at read in cc)
+  ]
+]

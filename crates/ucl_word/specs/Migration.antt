@@ -1,12 +1,12 @@
 -- Words of the first layout, in which older boards were saved, and the words of the present layout that they are read as.
 -- A word is a match packed into 64 bits, and a layout says where its fields stand. A record of a match is valid if a match can have it.
 -- The event number of a match is how many events it accepted. The mark is a number above the fields of a word of the present layout.
-use Rattle.std.specs.Prelude.{◌≡◌, ℕ, ◌≤◌, ◌⊎◌, ◌+◌, ◌*◌, ◌/◌, ◌%◌, ◌^◌}
+use Rattle.std.specs.Prelude.{◌≡◌, ℕ, ◌≤◌, ◌+◌, ◌*◌, ◌/◌, ◌%◌, ◌^◌, ◌==◌, ◌&&◌, nat_le, if◌then◌else◌, Bool, Option, Some, None}
 use Rattle.ucl_word.specs.declared.record.MatchRecord.{MatchRecord}
 use Rattle.ucl_word.specs.declared.record.State.{State}
 use Rattle.ucl_word.specs.declared.record.State.TheVariants.{Scheduled, InPlay, Finished}
-use Rattle.ucl_word.specs.Record.{IsValid}
-use Rattle.ucl_word.specs.Layout.{first_layout, word_in, word_of, IsWord, layout}
+use Rattle.ucl_word.specs.Record.{is_valid, IsValid}
+use Rattle.ucl_word.specs.Layout.{first_layout, layout, word_in, word_of, record_in, record_at}
 
 -- the greatest event number that the first layout has room for in a state: 1023, and in play one less, so that full time has a number left
 abbrev pub max_number_in_play_of_first_layout : State → ℕ
@@ -29,20 +29,22 @@ pub record IsFirstWord (word : ℕ) : Type 0 where
   pub valid : IsFirstValid of
   pub packed : first_word_of of ≡ word
 
--- a word that can be read: it is the packing of a valid record, in the first or in the present layout
-abbrev pub IsReadable : ℕ → Type 0
-IsReadable word = IsWord word ⊎ IsFirstWord word
+-- the record with the numbers that the fields of a word hold in the first layout, whether or not it is valid
+unfoldable pub first_record_at : ℕ → MatchRecord
+first_record_at word = record_in first_layout word
 
--- `word` is of the first layout, and `new` is the word of the same record in the present layout
-pub record IsMoved (word new : ℕ) : Type 0 where
-  pub of : MatchRecord
-  pub valid : IsFirstValid of
-  pub packed : first_word_of of ≡ word
-  pub moved : new ≡ word_of of
+-- whether a word is the packing of a valid record in the present layout
+abbrev pub is_word : ℕ → Bool
+is_word word = is_valid (record_at word) && (word_of (record_at word) == word)
 
--- `word` is read as `new`: as itself if it is of the present layout, or as the same record's word there if it is of the first
-abbrev pub IsReadAs : ℕ → ℕ → Type 0
-IsReadAs word new = (IsWord word × (new ≡ word)) ⊎ IsMoved word new
+-- whether a word is, in the first layout, the packing of a record that was valid there
+abbrev pub is_first_word : ℕ → Bool
+is_first_word word =
+    let m = first_record_at word in is_valid m && nat_le m.number (max_number_in_play_of_first_layout m.state) && (first_word_of m == word)
+
+-- what a word is read as: itself in the present layout, or the same record's word there if it is of the first; None if it is of neither
+unfoldable pub read_word : ℕ → Option ℕ
+read_word word = if is_word word then Some word else (if is_first_word word then Some (word_of (first_record_at word)) else None)
 
 -- a word of the first layout with its fields moved to the present one: the event number stays, all above it moves up, and the mark is added
 abbrev pub moved_up : ℕ → ℕ

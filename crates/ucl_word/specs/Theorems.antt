@@ -1,7 +1,7 @@
 -- Theorems on all records, words and lists of entries.
 -- A word is a match packed into 64 bits; a layout says where its fields stand. A record of a match is valid if a match can have it.
 -- An entry is an accepted event; a list of them is legal if each is accepted after those before it.
-use Rattle.std.specs.Prelude.{◌≡◌, ◌↔◌, ℕ, ◌+◌, ◌≤◌, List, None}
+use Rattle.std.specs.Prelude.{◌≡◌, ◌↔◌, ℕ, ◌+◌, ◌≤◌, true, List, Some, None}
 use Rattle.ucl_word.specs.declared.record.MatchRecord.{MatchRecord}
 use Rattle.ucl_word.specs.declared.record.State.{State}
 use Rattle.ucl_word.specs.declared.record.State.TheVariants.{Scheduled, InPlay, Finished}
@@ -9,7 +9,7 @@ use Rattle.ucl_word.specs.declared.event.Side.{Side}
 use Rattle.ucl_word.specs.declared.event.Kind.TheVariants.{KickOff, Goal, Disallow, Yellow, SecondYellow, FullTime, Reopen}
 use Rattle.ucl_word.specs.Record.{IsReporter, IsValid}
 use Rattle.ucl_word.specs.Layout.{word_of, record_at, IsWord}
-use Rattle.ucl_word.specs.Migration.{IsFirstWord, IsReadAs}
+use Rattle.ucl_word.specs.Migration.{IsFirstWord, is_word, is_first_word, read_word}
 use Rattle.ucl_word.specs.Rules.{refusal_of, after}
 use Rattle.ucl_word.specs.Counts.{MatchEntry, count, counted_match, IsLegalMatch}
 
@@ -25,9 +25,11 @@ WordsAreRead = (game : MatchRecord) → IsValid game → record_at (word_of game
 abbrev pub LayoutsDiffer : Type 0
 LayoutsDiffer = (word : ℕ) → IsWord word → IsFirstWord word → ⊥
 
--- a word of the first or present layout is read as only one word of the present layout, and that is the word of a valid record
-abbrev pub WordsAreReadOneWay : Type 0
-WordsAreReadOneWay = (word new other : ℕ) → IsReadAs word new → IsReadAs word other → IsWord new × (new ≡ other)
+-- the test of a layout holds of just the words of that layout, and what a word is read as is the word of a valid record
+pub record WordsAreTested : Type 0 where
+  pub present : (word : ℕ) → (is_word word ≡ true) ↔ IsWord word
+  pub first : (word : ℕ) → (is_first_word word ≡ true) ↔ IsFirstWord word
+  pub read : (word new : ℕ) → read_word word ≡ Some new → IsWord new
 
 -- a match in play accepts full time, whatever its event number, which is how many events it accepted
 abbrev pub CanBeEnded : Type 0

@@ -3,9 +3,10 @@
 //! one of the first only zeros. The *event number* of a match is how many events it accepted; a record is *valid* if a match can have it.
 
 ghost use Rattle.std.specs.Prelude.{◌≡◌, ◌≤◌, ◌↔◌, IsTrue, Ok, IfOk, IfErr};
+ghost use Rattle.std.specs.Result.{result_ok};
 ghost use Rattle.ucl_word.specs.declared.record.MatchRecord.{MatchRecord};
 ghost use Rattle.ucl_word.specs.Layout.{first_layout, word_of, HasLayoutTag, IsWord};
-ghost use Rattle.ucl_word.specs.Migration.{moved_up, max_number_in_play_of_first_layout, first_word_of, IsFirstValid, IsFirstWord, IsReadAs};
+ghost use Rattle.ucl_word.specs.Migration.{moved_up, max_number_in_play_of_first_layout, first_word_of, IsFirstValid, IsFirstWord, read_word};
 
 use crate::record::{MatchRecord, State};
 use crate::refusal::BadWord;
@@ -82,7 +83,7 @@ pub fn migrate(word: u64) -> Result<u64, BadWord>
     ensures kept { IsWord word → result ≡ Ok word }
     ensures moved { (m : MatchRecord) → IsFirstValid m → first_word_of m ≡ word
         → result ≡ Ok (word_of m) }
-    ensures read { IfOk result (IsReadAs word) }
+    ensures read { read_word word ≡ result_ok result }
     ensures refused { IfErr result (λ _. (IsWord word → ⊥) × (IsFirstWord word → ⊥)) }
 {
     if unpack(word).is_ok() {

@@ -2,7 +2,7 @@
 //! packed into 64 bits; a *layout* says where its fields stand, and there are the first and the present one. A record of a match is *valid*
 //! if a match can have it. An *entry* is an accepted event; a list of entries is *legal* if each is accepted after those before it.
 
-ghost use Rattle.ucl_word.specs.Theorems.{WordsDiffer, WordsAreRead, LayoutsDiffer, WordsAreReadOneWay, CanBeEnded, ReopenedCanBeEnded, OneCaseHolds, CountsAreValid, CountsAreBalanced};
+ghost use Rattle.ucl_word.specs.Theorems.{WordsDiffer, WordsAreRead, LayoutsDiffer, WordsAreTested, CanBeEnded, ReopenedCanBeEnded, OneCaseHolds, CountsAreValid, CountsAreBalanced};
 
 /// Two valid records that pack to the same word are the same record.
 #[tactic(auto, using(crate::proofs::Words::words_apart))]
@@ -21,9 +21,9 @@ pub fn layouts_differ()
     ensures { LayoutsDiffer }
 {}
 
-/// A word of the first or of the present layout is read as exactly one word of the present layout, and that is the word of a valid record.
-pub fn words_are_read_one_way()
-    ensures { WordsAreReadOneWay }
+/// The test of a layout holds of just the words of that layout, and what a word is read as is the word of a valid record.
+pub fn words_are_tested()
+    ensures { WordsAreTested }
 {}
 
 /// A match in play accepts full time, whatever its event number, which is how many events it accepted.

