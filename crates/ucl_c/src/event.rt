@@ -3,7 +3,7 @@
 //! words of today's. An event has a kind (kick-off, goal, card ..), given by a code, and the expected number, which is the event number
 //! that its reporter saw last; if that is not the match's, the event is stale and is refused.
 
-ghost use Rattle.std.specs.Prelude.{◌≡◌, ◌≢◌, ◌↔◌, IsSome, IfSome};
+ghost use Rattle.std.specs.Prelude.{◌≡◌, ◌≢◌, ◌↔◌, ℕ, Some, None, IsSome, IfSome};
 ghost use Rattle.ucl_word.specs.Record.{IsReporter};
 ghost use Rattle.ucl_word.specs.Layout.{IsWord, record_at};
 ghost use Rattle.ucl_word.specs.Migration.{read_word};
