@@ -13,8 +13,7 @@ use Rattle.ucl_screen.specs.WordsRead.{is_word, read_words}
 use Rattle.ucl_json.specs.Lines.{json_line}
 use Rattle.ucl_json.specs.Values.{bad_row_value, bad_value, screen_value}
 use Rattle.ucl_c.specs.declared.fault.Fault.TheVariants.{BadRow, OutOfMemory}
-use Rattle.ucl_c.specs.Codes.{name_of_status}
-use Rattle.ucl_c.specs.Faults.{fault_code, of_input}
+use Rattle.ucl_c.specs.Faults.{fault_code, name_of_status, of_input}
 
 -- `read_words` gives the board that these words are by the definitions of both layouts, or else the index of the first that is of neither
 pub record AreJudged (words : List ℕ) : Type 0 where
