@@ -1,5 +1,5 @@
 """Looks at the sources for what no contract can see: what a value does when it is let go, steps that go beside the log, what a board and an evening
-hold, what threads share; and for what has gone out of step: wrong bodies, names of definitions, crates that are not used, numbers of statuses."""
+hold, what threads share; and for what has gone out of step: wrong bodies, names of definitions, crates that are not used."""
 
 import collections
 import hashlib
@@ -285,18 +285,6 @@ def crates_use_what_they_stand_on(top):
     return found
 
 
-def statuses_are_named(top):
-    """The numbers beside the names of statuses are 0 and those of faults, each once; none is that of a refusal, which has its own name."""
-    files = "ucl_c/specs/Codes.antt", "ucl_c/specs/Faults.antt", "ucl_word/specs/Names.antt"
-    codes, faults, refusals = ((top / "crates" / file).read_text() for file in files)
-    names = "".join(re.findall(r"^names_of_statuses =(.*?)∷ \[\]$", codes, re.M | re.S))
-    named = sorted(int(number) for number in re.findall(r"\((\d+), codes ", names))
-    given, refused = (re.findall(rf"^{function} .* = (\d+)$", text, re.M) for function, text in (("fault_code", faults), ("refusal_code", refusals)))
-    if named == sorted([0, *map(int, given)]) and {"0", *given}.isdisjoint(refused):
-        return []
-    return [f"ucl_c: {named} have names, and the codes are 0 and {', '.join(given)}, and of refusals {', '.join(refused)}"]
-
-
 def lemmas_of(lines):
     """The lemmas of a file, each by its first line and its number of lines: to the last that is no comment before what comes next."""
     starts, base = [], 0
@@ -360,7 +348,6 @@ LOOKS = [
     ("wrong bodies fit the text, and name clauses that exist", wrong_bodies_fit),
     ("each definition's name is defined once", names_are_defined_once),
     ("each crate uses what it stands on", crates_use_what_they_stand_on),
-    ("each status has a name", statuses_are_named),
     ("lines of proofs and lemmas are short", proofs_are_short),
     ("shell scripts are clean", scripts_are_clean),
     ("the package and the examples in Python are typed, and set by Black", python_is_typed),

@@ -16,6 +16,7 @@ HEADER, MODULE = TOP / "crates/ucl_c/uclboard.h", TOP / "examples/python/uclboar
 CRATES = TOP / "crates"
 SOURCES, SPECS = CRATES / "ucl_c/src", CRATES / "ucl_c/specs"
 NAMES = (CRATES / "ucl_word/specs/Names.antt").read_text()
+FAULTS = (SPECS / "Faults.antt").read_text()
 STRICT = "-O2 -Wall -Wextra -pedantic -Werror"
 
 
@@ -63,13 +64,21 @@ def in_header():
     return {name: int(number, 0) for name, number in re.findall(r"\b(UCLBOARD_[A-Z_]+)(?: = | )(?:UINT64_C\()?(0x[0-9a-f]+|\d+)\b", HEADER.read_text())}
 
 
+def numbers_of(function, text):
+    """The numbers that a definition gives to variants, by their names."""
+    return {name: int(number) for name, number in re.findall(rf"^{function} \(?(\w+)[\w ]*\)? = \(?(\d+)", text, re.M)}
+
+
+def statuses():
+    """The numbers of statuses but 0, by the names of refusals and faults."""
+    return {**numbers_of("refusal_code", NAMES), **numbers_of("status_of", FAULTS)}
+
+
 def defined():
     """The numbers of statuses, kinds, orders, states and marks by the definitions."""
-    codes, faults = (SPECS / "Codes.antt").read_text(), (SPECS / "Faults.antt").read_text()
-    numbers = {"UCLBOARD_DONE": 0}
-    for function, text in ("refusal_code", NAMES), ("mark_code", codes), ("state_code_in_c", codes), ("fault_code", faults):
-        for name, number in re.findall(rf"^{function} \(?(\w+)[\w ]*\)? = (\d+)$", text, re.M):
-            numbers["UCLBOARD_ENDED" if (function, name) == ("state_code_in_c", "Finished") else shouted(name)] = int(number)
+    codes = (SPECS / "Codes.antt").read_text()
+    states = {"Ended" if name == "Finished" else name: number for name, number in numbers_of("state_code_in_c", codes).items()}
+    numbers = {shouted(name): number for name, number in {"Done": 0, **statuses(), **numbers_of("mark_code", codes), **states}.items()}
     orders = re.search(r"^profiles = (.*) ∷ \[\]$", (CRATES / "ucl_order/specs/Names.antt").read_text(), re.M)[1].split(" ∷ ")
     kinds = re.search(r"^kinds =\n(.*?) ∷ \[\]$", NAMES, re.M | re.S)[1].replace("\n", "").split("∷")
     for names in kinds, orders:
@@ -156,10 +165,10 @@ def test_header_code_soname_and_pkg_config_have_one_version(library):
 
 
 def test_names_of_statuses(board):
-    names = {int(code): name for code, name in re.findall(r"\((\d+), codes \"(.*?)\"\)", (SPECS / "Codes.antt").read_text())}
+    names = {int(code): name for code, name in re.findall(r"\((\d+), codes \"(.*?)\"\)", FAULTS)}
     refusals = dict(re.findall(r"^refusal_code (.*) = (\d+)$", NAMES, re.M))
     names.update({int(refusals[refusal]): name for refusal, name in re.findall(r"^refusal_name (.*) = codes \"(.*)\"$", NAMES, re.M)})
-    assert set(names) == {0, *board.EXCEPTIONS}
+    assert statuses() == {raised.__name__: status for status, raised in board.EXCEPTIONS.items()}
     for code in [*range(70), 256, 2**32 - 1]:
         name = names.get(code, "")
         for room in (len(name), len(name) + 1):

@@ -91,57 +91,6 @@ class Refused(Exception):
         self.told = told
 
 
-def exception(name: str, status: int) -> type[Refused]:
-    """The exception of a status."""
-    return type(name, (Refused,), {"status": status, "__doc__": f"Status {status}."})
-
-
-NAMES = {
-    1: "Stale",
-    2: "Finished",
-    3: "NotStarted",
-    4: "AlreadyStarted",
-    5: "NumberFull",
-    6: "NoGoal",
-    7: "NoCaution",
-    8: "LimitReached",
-}
-NAMES.update(
-    {
-        9: "NotFinished",
-        10: "BadWord",
-        20: "BadRow",
-        21: "BadRoster",
-        23: "OutOfMemory",
-        24: "TooLong",
-        50: "NoReporter",
-    }
-)
-NAMES.update(
-    {
-        51: "NoKind",
-        52: "NoProfile",
-        53: "NoGroup",
-        54: "NotTwelve",
-        55: "NotFour",
-        56: "NoRoom",
-        57: "NotFourRows",
-        58: "NoStatus",
-    }
-)
-NAMES.update(
-    {
-        30: "FullBoard",
-        59: "InUse",
-        60: "NoPass",
-        61: "NotAReader",
-        62: "NoMatch",
-        63: "NotAReporter",
-    }
-)
-EXCEPTIONS = {status: exception(name, status) for status, name in NAMES.items()}
-globals().update({raised.__name__: raised for raised in EXCEPTIONS.values()})
-
 BESIDE = pathlib.Path(__file__).resolve().parent / "libuclboard.so"
 LIBRARY = c.CDLL(
     os.environ.get("UCLBOARD_LIBRARY", str(BESIDE) if BESIDE.exists() else "libuclboard.so.1")
@@ -216,17 +165,28 @@ if version() // 1000000 != VERSION_NUMBER // 1000000:
 
 
 def name_of(status: int) -> str:
-    """The name of a status."""
+    """The name of a status; it is empty if no status has this number."""
     name, length = c.create_string_buffer(NAME_ROOM), c.c_size_t()
-    if text_of_status(status, name, NAME_ROOM, length):
-        return f"status {status}"
-    return name.raw[: length.value].decode("ascii")
+    text_of_status(status, name, NAME_ROOM, length)
+    return name.value.decode("ascii")
+
+
+def exception(name: str, status: int) -> type[Refused]:
+    """The exception of a status: `BadRow` for "bad-row", and `NotTwelve` for "not twelve words"."""
+    title = name.title().replace("-", "").replace(" ", "")
+    short = title.replace("TwelveWords", "Twelve").replace("FourClubs", "Four")
+    return type(short, (Refused,), {"status": status, "__doc__": f"Status {status}."})
+
+
+NAMES = {status: name_of(status) for status in range(1, 256) if name_of(status)}
+EXCEPTIONS = {status: exception(name, status) for status, name in NAMES.items()}
+globals().update({raised.__name__: raised for raised in EXCEPTIONS.values()})
 
 
 def need(status: int, told: int | None = None) -> None:
     """Raises the exception of a status that is not 0."""
     if status:
-        raise EXCEPTIONS.get(status, Refused)(name_of(status), told)
+        raise EXCEPTIONS[status](NAMES[status], told)
 
 
 def has_room(value: object, bits: int) -> bool:
@@ -278,7 +238,7 @@ class Board:
     def word(self, match: int) -> int:
         """The word of a match, 1 to 12."""
         if not 1 <= match <= WORDS:
-            raise EXCEPTIONS[62](name_of(62), match)
+            raise EXCEPTIONS[62](NAMES[62], match)
         return self.words[match - 1]
 
     def match(self, match: int) -> Match:
@@ -316,7 +276,7 @@ class Board:
         """The screen as a line of JSON, which says that it answers this row. A row that has no room
         in 64 bits is a bad row."""
         if not has_room(row, 64):
-            raise EXCEPTIONS[20](name_of(20), row)
+            raise EXCEPTIONS[20](NAMES[20], row)
 
         def call(*given: Any) -> int:
             return int(screen_json(row, *given))

@@ -2,14 +2,15 @@
 -- layout of the bits or of the first; twelve are a board. A script is text with rows for four clubs and then for events. A roster is four
 -- clubs, in slots 1 to 4. A profile is a set of tie-break rules. Room is what the caller has for an output. An event is stale if it names
 -- an event number (how many events a match has had) that is not the match's; it has found the match's.
-use Rattle.std.specs.Prelude.{ℕ, ◌==◌, ◌&&◌, nat_le, nat_lt, Bool, true, false, codes, List, [], ◌∷◌, length, map, Option, Some, None, option_map, unwrap_or, Result, Ok, Err}
+use Rattle.std.specs.Prelude.{ℕ, ◌==◌, ◌&&◌, nat_le, nat_lt, Bool, true, false, codes, List, [], ◌∷◌, length, map, find, Option, Some, None, option_map, unwrap_or, Result, Ok, Err}
 use Rattle.std.specs.Result.{result_err}
 use Rattle.ucl_word.specs.declared.event.Kind.{Kind}
 use Rattle.ucl_word.specs.Record.{is_reporter}
 use Rattle.ucl_word.specs.declared.record.MatchRecord.{MatchRecord}
 use Rattle.ucl_word.specs.Layout.{record_at}
 use Rattle.ucl_word.specs.Migration.{is_word}
-use Rattle.ucl_word.specs.Names.{found_of, kind_with, refusal_code}
+use Rattle.ucl_word.specs.Names.{found_of, kind_with, refusal_code, refusal_name, refusal_with}
+use Rattle.ucl_word.specs.declared.refusal.Refusal.{Refusal}
 use Rattle.ucl_word.specs.Rules.{refusal_of}
 use Rattle.ucl_board.specs.Words.{read_words}
 use Rattle.ucl_order.specs.Names.{profile_with}
@@ -23,29 +24,48 @@ use Rattle.ucl_c.specs.declared.fault.Fault.TheVariants.{Refused, BadWord, BadRo
 use Rattle.ucl_c.specs.declared.fault.Fault.TheVariants.{NoGroup, NotTwelve, NotFour, NoRoom, NotFourRows, NoStatus, InUse, NoPass, NotAReader, NoMatch}
 use Rattle.ucl_c.specs.declared.fault.Fault.TheVariants.{NotAReporter}
 
--- the number of a fault, which a call returns; that of a rule that refuses an event is the rule's
+-- the number of a fault, which a call returns, and its name; those of a rule that refuses an event are the rule's
+abbrev pub status_of : Fault → ℕ × List ℕ
+status_of (Refused refusal) = (refusal_code refusal, refusal_name refusal)
+status_of (BadWord index) = (10, codes "bad word")
+status_of (BadRow row) = (20, codes "bad-row")
+status_of (BadRoster slot) = (21, codes "bad roster")
+status_of OutOfMemory = (23, codes "out of memory")
+status_of TooLong = (24, codes "too long")
+status_of FullBoard = (30, codes "full board")
+status_of NoReporter = (50, codes "no reporter")
+status_of NoKind = (51, codes "no kind")
+status_of NoProfile = (52, codes "no profile")
+status_of NoGroup = (53, codes "no group")
+status_of NotTwelve = (54, codes "not twelve words")
+status_of NotFour = (55, codes "not four clubs")
+status_of NoRoom = (56, codes "no room")
+status_of NotFourRows = (57, codes "not four rows")
+status_of NoStatus = (58, codes "no status")
+status_of InUse = (59, codes "in use")
+status_of NoPass = (60, codes "no pass")
+status_of NotAReader = (61, codes "not a reader")
+status_of NoMatch = (62, codes "no match")
+status_of NotAReporter = (63, codes "not a reporter")
+
+-- the number of a fault
 abbrev pub fault_code : Fault → ℕ
-fault_code (Refused refusal) = refusal_code refusal
-fault_code (BadWord index) = 10
-fault_code (BadRow row) = 20
-fault_code (BadRoster slot) = 21
-fault_code OutOfMemory = 23
-fault_code TooLong = 24
-fault_code FullBoard = 30
-fault_code NoReporter = 50
-fault_code NoKind = 51
-fault_code NoProfile = 52
-fault_code NoGroup = 53
-fault_code NotTwelve = 54
-fault_code NotFour = 55
-fault_code NoRoom = 56
-fault_code NotFourRows = 57
-fault_code NoStatus = 58
-fault_code InUse = 59
-fault_code NoPass = 60
-fault_code NotAReader = 61
-fault_code NoMatch = 62
-fault_code NotAReporter = 63
+fault_code fault = (status_of fault).0
+
+-- one fault for each number but those of rules
+abbrev pub faults : List Fault
+faults =
+    BadWord 1 ∷ BadRow 1 ∷ BadRoster 1 ∷ OutOfMemory ∷ TooLong ∷ FullBoard ∷ NoReporter ∷ NoKind ∷ NoProfile ∷ NoGroup ∷ NotTwelve ∷ NotFour
+    ∷ NoRoom ∷ NotFourRows ∷ NoStatus ∷ InUse ∷ NoPass ∷ NotAReader ∷ NoMatch ∷ NotAReporter ∷ []
+
+-- the name of this refusal, or if there is none, of this status: 0 or a fault's number
+abbrev pub name_by : Option Refusal → ℕ → Option (List ℕ)
+name_by (Some refusal) status = Some (refusal_name refusal)
+name_by None status = option_map (λ named. named.1) (find (λ named. named.0 == status) ((0, codes "done") ∷ map status_of faults))
+
+-- the name of a status; `None` if the number is no status
+abbrev pub name_of_status : ℕ → Option (List ℕ)
+name_of_status status = name_by (refusal_with status 0) status
 
 -- the status of a call whose inputs have this fault: 0 if they have none
 abbrev pub status_with : Option Fault → ℕ

@@ -6,11 +6,11 @@ use Rattle.ucl_word.specs.declared.event.Accepted.{Accepted}
 use Rattle.ucl_word.specs.declared.refusal.Refusal.{Refusal}
 use Rattle.ucl_word.specs.Names.{found_of, refusal_code}
 use Rattle.ucl_board.specs.declared.entry.Entry.{Entry}
-use Rattle.ucl_board.specs.History.{after_attempt, accepted_of, board_of, sequential_reply}
+use Rattle.ucl_board.specs.History.{accepted_of, board_of, sequential_reply}
 use Rattle.ucl_order.specs.Roster.{NamedClub, club_in}
 use Rattle.ucl_screen.specs.declared.night.NightEvent.{NightEvent}
-use Rattle.ucl_screen.specs.Script.{Script, night_of}
-use Rattle.ucl_screen.specs.Events.{attempt_of}
+use Rattle.ucl_screen.specs.Script.{Script, first_event_row, night_of}
+use Rattle.ucl_screen.specs.Events.{attempt_of, each_in_turn}
 use Rattle.ucl_c.specs.declared.script.ReplyOfC.{ReplyOfC}
 use Rattle.ucl_c.specs.declared.group.ClubOfC.{ClubOfC}
 
@@ -24,14 +24,9 @@ reply_by row game version (Err refusal) =
 abbrev pub reply_after : ℕ → List Entry → NightEvent → ReplyOfC
 reply_after row history event = reply_by row event.call.game (length history) (sequential_reply history event.call)
 
--- what C is told of events entered in turn, the first of which is in this row and comes after this history
-unfoldable pub replies_from : ℕ → List Entry → List NightEvent → List ReplyOfC
-replies_from row history [] = []
-replies_from row history (event ∷ events) = reply_after row history event ∷ replies_from (row + 1) (after_attempt history (attempt_of event)) events
-
 -- what C is told of the events of a script, the first of which is in row 5, on a fresh board
 abbrev pub replies_to : List NightEvent → List ReplyOfC
-replies_to events = replies_from 5 [] events
+replies_to events = each_in_turn (λ row history event. reply_after row history event ∷ []) first_event_row [] events
 
 -- the twelve words of a fresh board after the events of a script were entered in turn
 abbrev pub words_after : List NightEvent → List ℕ

@@ -11,8 +11,7 @@ use Rattle.ucl_screen.specs.Texts.{input_fault_text}
 use Rattle.ucl_json.specs.Lines.{json_line}
 use Rattle.ucl_json.specs.Values.{bad_row_value, bad_value, screen_value}
 use Rattle.ucl_c.specs.declared.fault.Fault.TheVariants.{BadRow, OutOfMemory}
-use Rattle.ucl_c.specs.Codes.{name_of_status}
-use Rattle.ucl_c.specs.Faults.{fault_code, of_input}
+use Rattle.ucl_c.specs.Faults.{fault_code, name_of_status, of_input}
 
 -- the line that the programs write for this fault of their input has the number that calls of C return for it
 pub record IsWrittenByNumber (fault : InputFault) : Type 0 where

@@ -2,7 +2,7 @@
 //! the number that a call of C returns: 0, or that of a fault or of a rule that refuses an event.
 
 ghost use Rattle.std.specs.Prelude.{◌≡◌, List, ℕ, None, Some, MatchOption};
-ghost use Rattle.ucl_c.specs.Codes.{name_of_status};
+ghost use Rattle.ucl_c.specs.Faults.{name_of_status};
 ghost use Rattle.ucl_c.specs.Tables.{HandsOver};
 
 use crate::fault::Fault;

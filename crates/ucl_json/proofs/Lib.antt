@@ -1,6 +1,5 @@
 pub mod Places
 pub mod OneLine
 pub mod Members
-pub mod MendedFlat
 pub mod PlainValues
 pub mod AnswerSizes

@@ -6,7 +6,7 @@ ghost use Rattle.serde_json.specs.View.{items_view, view};
 ghost use Rattle.ucl_order.specs.Roster.{bad_slot, club_lent};
 ghost use Rattle.ucl_screen.specs.Screen.{IsGroup};
 ghost use Rattle.ucl_board.specs.Words.{read_words};
-ghost use Rattle.ucl_json.specs.BoardLines.{parse_board, parse_club, parse_clubs, parse_each, edition_in, parse_edition, parse_group, if_read, just, list_at, parse_board_line, parse_board_state, parse_order, parse_roster, text_at, parse_header, unless_bad, parse_word};
+ghost use Rattle.ucl_json.specs.BoardLines.{parse_board, parse_club, parse_clubs, parse_each, edition_in, parse_edition, if_read, just, list_at, parse_board_line, parse_board_state, parse_roster, text_at, parse_header, unless_bad, parse_word};
 
 use crate::board_state::BoardState;
 use crate::header::BoardHeader;
@@ -31,21 +31,6 @@ fn text_in<'v>(value: &'v Value, name: &str) -> Option<&'v str>
     ensures { option_map (λ text. text.now) result ≡ text_at name.now (view value.now) }
 {
     value.get(name)?.as_str()
-}
-
-/// Returns the letter of the group, `A` to `H`, that the member `group` of a value names.
-fn group_in(value: &Value) -> Option<u8>
-    ensures parsed { result ≡ parse_group (view value.now) }
-    ensures letter { IfSome result IsGroup }
-{
-    letter_in(text_in(value, "group")?.as_bytes())
-}
-
-/// Returns the tie-break order of the clubs that the member `order` of a value names.
-fn order_in(value: &Value) -> Option<Profile>
-    ensures { result ≡ parse_order (view value.now) }
-{
-    Profile::from_name(text_in(value, "order")?.as_bytes())
 }
 
 /// Returns the edition that a value is, or `None` if it is no whole number from 0 to 65,535.
@@ -74,8 +59,8 @@ fn header_in(value: &Value) -> Option<BoardHeader>
     ensures parsed { result ≡ parse_header (view value.now) }
     ensures letter { IfSome result (λ header. IsGroup header.group) }
 {
-    let group = group_in(value)?;
-    let profile = order_in(value)?;
+    let group = letter_in(text_in(value, "group")?.as_bytes())?;
+    let profile = Profile::from_name(text_in(value, "order")?.as_bytes())?;
     let edition = edition_in(value)?;
     Some(BoardHeader {
         group,

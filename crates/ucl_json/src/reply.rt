@@ -114,6 +114,7 @@ fn refused_value(
 /// # Errors
 ///
 /// If there is no memory.
+#[tactic(auto, using(crate::proofs::Places::flat))]
 pub fn reply_json(alloc: Global, reply: &EventReply<'_>) -> Result<String, AllocError>
     requires { IsGroup reply.now.header.group }
     ensures { IfOk result (λ line. IsLineOf (reply_value reply.now.row reply.now.event.now
@@ -168,6 +169,7 @@ fn words_value(alloc: Global, row: u64, board: &Board) -> Result<Value, AllocErr
 /// # Errors
 ///
 /// If there is no memory.
+#[tactic(auto, using(crate::proofs::Places::flat))]
 pub fn words_json(alloc: Global, row: u64, board: &Board) -> Result<String, AllocError>
     ensures { IfOk result (λ line. IsLineOf (words_value row board.now) (string_bytes line)) }
 {
@@ -195,6 +197,7 @@ fn matches_value(
 /// # Errors
 ///
 /// If there is no memory.
+#[tactic(auto, using(crate::proofs::Places::flat))]
 pub fn matches_json(
     alloc: Global,
     row: u64,

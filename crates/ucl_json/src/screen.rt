@@ -105,6 +105,7 @@ fn screen_value(
 /// # Errors
 ///
 /// If there is no memory.
+#[tactic(auto, using(crate::proofs::Places::flat))]
 pub fn screen_json(
     alloc: Global,
     row: u64,
@@ -146,6 +147,7 @@ fn edition_screen_value(
 /// # Errors
 ///
 /// If there is no memory.
+#[tactic(auto, using(crate::proofs::Places::flat))]
 pub fn edition_screen_json(
     alloc: Global,
     row: u64,

@@ -95,31 +95,25 @@ tells value m is has = rw (
   board-back m.board is.words is.bits,
 ) refl
 
-mended-has : (without : Option ℕ) (row left_out : ℕ) (m : BoardState) → Has (mended_with without (mended_value row left_out m.header m.board m.roster)) m
+pub mended-has : (without : Option ℕ) (row left_out : ℕ) (m : BoardState) → Has (mended_with without (mended_value row left_out m.header m.board m.roster)) m
 unfolding mended_value serde_json_on_literals
 mended-has None row left_out m = record { group = refl; order = refl; edition = refl; clubs = refl; words = refl }
 mended-has (Some n) row left_out m = record { group = refl; order = refl; edition = refl; clubs = refl; words = refl }
 
-mended-tells : (without : Option ℕ) (row left_out : ℕ) (m : BoardState) → IsBoardState m
-    → parse_board_state (mended_with without (mended_value row left_out m.header m.board m.roster)) ≡ Some m
-mended-tells without row left_out m is = tells (mended_with without (mended_value row left_out m.header m.board m.roster)) m is (mended-has without row left_out m)
-
-screen-tells : (row : ℕ) (m : BoardState) → IsBoardState m → parse_board_state (edition_screen_value row m.header m.board m.roster) ≡ Some m
+pub screen-has : (row : ℕ) (m : BoardState) → Has (edition_screen_value row m.header m.board m.roster) m
 unfolding edition_screen_value screen_value serde_json_on_literals
-screen-tells row m is = tells (edition_screen_value row m.header m.board m.roster) m is (record { group = refl; order = refl; edition = refl; clubs = refl; words = refl })
+screen-has row m = record { group = refl; order = refl; edition = refl; clubs = refl; words = refl }
 
-reply-tells : (row : ℕ) (event : NightEvent) (event_number : ℕ) (m : BoardState) → IsBoardState m
-    → parse_board_state (accepted_value row event event_number m.header m.board m.roster) ≡ Some m
+pub accepted-has : (row : ℕ) (event : NightEvent) (event_number : ℕ) (m : BoardState) → Has (accepted_value row event event_number m.header m.board m.roster) m
 unfolding accepted_value serde_json_on_literals
-reply-tells row event event_number m is =
-    tells (accepted_value row event event_number m.header m.board m.roster) m is (record { group = refl; order = refl; edition = refl; clubs = refl; words = refl })
+accepted-has row event event_number m = record { group = refl; order = refl; edition = refl; clubs = refl; words = refl }
 
 pub answered : AnswersTellTheirBoardState
 unfolding AnswersTellTheirBoardState
 answered row event event_number m is = record {
-  reply = reply-tells row event event_number m is;
-  screen = screen-tells row m is;
-  mended = λ without left_out. mended-tells without row left_out m is;
+  reply = tells _ m is (accepted-has row event event_number m);
+  screen = tells _ m is (screen-has row m);
+  mended = λ without left_out. tells _ m is (mended-has without row left_out m);
 }
 
 -- ---- what a session answers in JSON is plain, and short: so each of its lines carries what its value carries
@@ -142,15 +136,7 @@ state-plain m is = record {
   edition = is.edition;
 }
 
-accepted-size : (row : ℕ) (event : NightEvent) (event_number : ℕ) (m : BoardState) (kind order : List ℕ) → kind ≡ kind_name event.call.kind → order ≡ profile_name m.header.profile
-    → length (decimal row) ≤ 20 → length (decimal event.call.expected) ≤ 20 → length (decimal event.call.game) ≤ 20 → length (decimal event_number) ≤ 20
-    → length (decimal event.reporter) ≤ 20 → length (decimal m.header.edition) ≤ 5 → length (decimal (version_of m.board)) ≤ 5
-    → items_size false (word_items m.board) ≤ 228 → items_size false (club_items m.roster) ≤ 292 → length (quoted kind) ≤ 20
-    → length (quoted (m.header.group ∷ [])) ≡ 3 → length (quoted order) ≤ 13 → size (accepted_value row event event_number m.header m.board m.roster) ≤ 4096
-unfolding accepted_value serde_json_on_literals
-accepted-size row event event_number m kind order of by a b c d e f g h i j k l = rw (← of, ← by) (omega arith)
-
-accepted-plain : (row : ℕ) (event : NightEvent) (number : ℕ) (m : BoardState) → IsBoardState m → row < 2 ^ 64 → HasNumbers event → number < 2 ^ 64
+pub accepted-plain : (row : ℕ) (event : NightEvent) (number : ℕ) (m : BoardState) → IsBoardState m → row < 2 ^ 64 → HasNumbers event → number < 2 ^ 64
     → IsShortPlain (accepted_value row event number m.header m.board m.roster)
 unfolding accepted_value serde_json_on_literals
 accepted-plain row event event_number m is r fits n =
@@ -160,12 +146,10 @@ accepted-plain row event event_number m is r fits n =
         (refl, refl),
         (p.clubs.0, (omega arith, (kind.0, (fits.expected, (p.group.0, (fits.game, (n, (p.order.0, (refl, (fits.reporter, (r, (omega arith, (p.words.0, tt))))))))))))),
       );
-      size = accepted-size row event event_number m (kind_name event.call.kind) (profile_name m.header.profile) refl refl (digits-20 row r)
-          (digits-20 event.call.expected fits.expected) (digits-20 event.call.game fits.game) (digits-20 event_number n) (digits-20 event.reporter fits.reporter)
-          (digits-5 m.header.edition (omega arith)) (digits-5 (version_of m.board) (omega arith)) p.words.1 p.clubs.1 kind.1 p.group.1 p.order.1;
+      size = omega (arith, digits-20, p.words.1, p.clubs.1, kind.1, p.group.1, p.order.1, fits.expected, fits.game, fits.reporter);
     }
 
-mended-plain : (without : Option ℕ) (row left_out : ℕ) (m : BoardState) → IsBoardState m → row < 2 ^ 64 → IfSome without (λ n. n < 2 ^ 64) → left_out < 2 ^ 64
+pub mended-plain : (without : Option ℕ) (row left_out : ℕ) (m : BoardState) → IsBoardState m → row < 2 ^ 64 → IfSome without (λ n. n < 2 ^ 64) → left_out < 2 ^ 64
     → IsShortPlain (mended_with without (mended_value row left_out m.header m.board m.roster))
 unfolding mended_value serde_json_on_literals
 mended-plain None row left_out m is r w l =
@@ -190,7 +174,7 @@ pub matches-fit : MatchesFitTheirLine
 unfolding MatchesFitTheirLine
 matches-fit row m is r = line-short (matches_value row m.board m.roster) (matches-short row m.board m.roster r is.clubs is.words)
 
-screen-plain : (row : ℕ) (m : BoardState) → IsBoardState m → row < 2 ^ 64 → IsShortPlain (edition_screen_value row m.header m.board m.roster)
+pub screen-plain : (row : ℕ) (m : BoardState) → IsBoardState m → row < 2 ^ 64 → IsShortPlain (edition_screen_value row m.header m.board m.roster)
 unfolding edition_screen_value screen_value serde_json_on_literals
 screen-plain row m is r =
     let p = state-plain m is in
@@ -218,23 +202,13 @@ screen-plain row m is r =
 
 -- ---- so are its lines
 
-pub reply-carried : (row : ℕ) (event : NightEvent) (event_number : ℕ) (m : BoardState) → IsBoardState m → row < 2 ^ 64 → HasNumbers event → event_number < 2 ^ 64
-    → parse_board_line (compact_text (accepted_value row event event_number m.header m.board m.roster)) ≡ Some m
-reply-carried row event event_number m is r fits n =
-    parsed-line (accepted_value row event event_number m.header m.board m.roster) (accepted-plain row event event_number m is r fits n) ∙ reply-tells row event event_number m is
-
-pub screen-carried : (row : ℕ) (m : BoardState) → IsBoardState m → row < 2 ^ 64 → parse_board_line (compact_text (edition_screen_value row m.header m.board m.roster)) ≡ Some m
-screen-carried row m is r = parsed-line (edition_screen_value row m.header m.board m.roster) (screen-plain row m is r) ∙ screen-tells row m is
-
-pub mended-carried : (without : Option ℕ) (row left_out : ℕ) (m : BoardState) → IsBoardState m → row < 2 ^ 64 → IfSome without (λ n. n < 2 ^ 64) → left_out < 2 ^ 64
-    → parse_board_line (compact_text (mended_with without (mended_value row left_out m.header m.board m.roster))) ≡ Some m
-mended-carried without row left_out m is r w l =
-    parsed-line (mended_with without (mended_value row left_out m.header m.board m.roster)) (mended-plain without row left_out m is r w l) ∙ mended-tells without row left_out m is
+pub carried : (value : Data) (m : BoardState) → IsBoardState m → Has value m → IsShortPlain value → parse_board_line (compact_text value) ≡ Some m
+carried value m is has short = parsed-line value short ∙ tells value m is has
 
 pub told-lines : LinesTellTheirBoardState
 unfolding LinesTellTheirBoardState
 told-lines row event event_number m is r fits n = record {
-  reply = reply-carried row event event_number m is r fits n;
-  screen = screen-carried row m is r;
-  mended = λ without left_out w l. mended-carried without row left_out m is r w l;
+  reply = carried _ m is (accepted-has row event event_number m) (accepted-plain row event event_number m is r fits n);
+  screen = carried _ m is (screen-has row m) (screen-plain row m is r);
+  mended = λ without left_out w l. carried _ m is (mended-has without row left_out m) (mended-plain without row left_out m is r w l);
 }

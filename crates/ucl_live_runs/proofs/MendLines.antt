@@ -16,14 +16,15 @@ use Rattle.ucl_live_runs.specs.declared.mend_refusal.MendRefusal.TheVariants.{La
 use Rattle.ucl_json.proofs.AnswerSizes.{digits-20, kind-text, refusal-text}
 use Rattle.ucl_json.proofs.PlainValues.{IsText}
 use Rattle.ucl_live_runs.proofs.AnswerLines.{CarriesAtMost, IsLineThat, silent-line, value-line}
-use Rattle.ucl_live_runs.proofs.AnswerValues.{mended-carried}
+use Rattle.ucl_live_runs.proofs.AnswerValues.{carried, mended-has, mended-plain}
 
 -- the answer to a mend carries the board state after it
 
 pub mended-line : (without : Option ℕ) (row left_out : ℕ) (m : BoardState) → IsBoardState m → row < 2 ^ 64 → IfSome without (λ n. n < 2 ^ 64) → left_out < 2 ^ 64
     → IsLineThat (Some m) (json_line (mended_with without (mended_value row left_out m.header m.board m.roster)))
 mended-line without row left_out m is r w l =
-    value-line (mended_with without (mended_value row left_out m.header m.board m.roster)) (Some m) (mended-carried without row left_out m is r w l)
+    value-line (mended_with without (mended_value row left_out m.header m.board m.roster)) (Some m)
+    (carried _ m is (mended-has without row left_out m) (mended-plain without row left_out m is r w l))
 
 -- ---- an event that is left out, and a mend that is refused, carry none
 

@@ -38,7 +38,7 @@ use Rattle.ucl_live_runs.specs.declared.standing.LeftOut.{LeftOut}
 use Rattle.ucl_live_runs.specs.declared.standing.StandingEvent.{StandingEvent}
 use Rattle.ucl_live_runs.proofs.AnswerLines.{CarriesAtMost, IsLineThat, IsShown, bad-line, begun-then, board-fits, carried-then, carried_in, found-fits}
 use Rattle.ucl_live_runs.proofs.AnswerLines.{matches-line, most-as, most-none, most-then, refused-line, value-line, words-line}
-use Rattle.ucl_live_runs.proofs.AnswerValues.{reply-carried, screen-carried}
+use Rattle.ucl_live_runs.proofs.AnswerValues.{accepted-has, accepted-plain, carried, screen-has, screen-plain}
 use Rattle.ucl_live_runs.proofs.Boards.{IsGood, IsPossible, good-after, good-club, good-clubs, good-first, good-mend, later-edition, possible, ranged, version-after}
 use Rattle.ucl_live_runs.proofs.Entered.{entered-board, entered-legal}
 use Rattle.ucl_live_runs.proofs.FollowShown.{IsOfSame}
@@ -250,8 +250,10 @@ module _ (options : LiveArgs) (header : BoardHeader) (row : ℕ) (clubs : List N
 
   screen-tells : (board : List ℕ) → AreWords board → CarriesAtMost (Here board) (screen_answer options.format header row clubs board)
   screen-tells board w =
+      let m = board_state_with header clubs board in
+      let there = board_state-good header clubs board good is w in
       rw json (most-as (Here board) (Here board) (json_line (edition_screen_value row header board clubs)) (value-line (edition_screen_value row header board clubs) (Here board)
-      (screen-carried row (board_state_with header clubs board) (board_state-good header clubs board good is w) fits)) (inr refl))
+      (carried _ m there (screen-has row m) (screen-plain row m there fits))) (inr refl))
 
   screen-if-tells : (board : List ℕ) → AreWords board → CarriesAtMost (Here board) (screen_if options header row clubs board)
   screen-if-tells board w = cond_both options.screens (screen_answer options.format header row clubs board) [] (CarriesAtMost (Here board)) (λ _. screen-tells board w) (λ _. most-none (Here board))
@@ -285,8 +287,10 @@ module _ (options : LiveArgs) (header : BoardHeader) (row : ℕ) (clubs : List N
 
     accepted-line : IsLineThat (At now) (reply-with None)
     accepted-line =
-        value-line (accepted_value row event ((game_of board).number + 1) header now clubs) (At now)
-        (reply-carried row event ((game_of board).number + 1) (board_state_with header clubs now) (board_state-good header clubs now good is good-now) fits small number-fits)
+        let m = board_state_with header clubs now in
+        let there = board_state-good header clubs now good is good-now in
+        let n = (game_of board).number + 1 in
+        value-line (accepted_value row event n header now clubs) (At now) (carried _ m there (accepted-has row event n m) (accepted-plain row event n m there fits small number-fits))
 
     pub accepted-reply : (before : ℕ) → refusal_of (game_of board) event.call.expected event.call.kind ≡ None
         → IsLineThat (At now) (reply_answer options.format header row clubs event before (reply_of (game_of board) event.call) now)

@@ -8,16 +8,13 @@ use Rattle.ucl_screen.specs.Script.{WrittenSheet}
 use Rattle.ucl_screen.specs.Parsing.{MeansSheet}
 use Rattle.ucl_screen.specs.Input.{Reads}
 use Rattle.ucl_screen.specs.declared.fault.InputFault.{InputFault}
-use Rattle.ucl_runs.specs.Feed.{feed_text, reply_lines}
+use Rattle.ucl_runs.specs.Feed.{feed_text}
 use Rattle.ucl_rows.specs.declared.fault.RunFault.TheVariants.{WriteFailed, Input, NotOnDuty, OutOfMemory}
 use Rattle.ucl_rows.specs.Faults.{handed_on}
 use Rattle.ucl_io.specs.Output.{StoppedShort}
 use Rattle.ucl_rows.specs.Run.{CallsWithin, DistinguishesMemory, IfInput, IfWriteFailed, is_read_failed}
 use Rattle.ucl_runs.specs.Nights.{IsDutyTold, IsFirstOffDuty, IsWhyNoNight}
 use Rattle.ucl_runs.specs.Program.{IsFaultOfNight, IsOfScript, IsOutputOfNight, IsPlayed, IsRun, Streams, Task, night_task}
-use Rattle.std.proofs.lemmas.List.{append-nil}
-use Rattle.ucl_screen.proofs.EventsInTurn.{past}
-use Rattle.ucl_rows.specs.Lines.{reply_line}
 use Rattle.std.proofs.Common.{take_all, length-take-le}
 use Rattle.std.proofs.lemmas.List.Elements.{All-more}
 use Rattle.std.specs.List.Sorted.{IsNonDecreasing}
@@ -141,19 +138,6 @@ module _ {B R P X : Type 0} (live : boards.Ghosts B R P) (Opens : Result (B × R
   failed_night sink w k b after f calls same reads why duty =
       stopped sink (night_task live Opens profile group readings) (record { left = known; calls = k; read_failed = b; sink = w }) after calls f tt same reads
       (fault_of f why duty) tt (λ bad. absurd (cc))
-
--- ---- the text of `feed`, one reply line more
-
-pub replies-step : (row i : ℕ) (events : List NightEvent) (e : NightEvent) (history : List Entry) (out new whole : List ℕ) → i < length events → e ≡ get_or events i e
-    → out ++ reply_lines row history (drop i events) ≡ whole → new ≡ out ++ reply_line row history e.call
-    → new ++ reply_lines (row + 1) (after_attempt history (attempt_of e)) (drop (i + 1) events) ≡ whole
-unfolding reply_lines
-replies-step row i events e history out new whole h is so_far line =
-    rw (line, append_assoc out (reply_line row history e.call) (reply_lines (row + 1) (after_attempt history (attempt_of e)) (drop (i + 1) events))) (rw (first-event i events e h is) at so_far)
-
-pub replies-end : (row i : ℕ) (events : List NightEvent) (history : List Entry) (out whole : List ℕ) → length events ≤ i → out ++ reply_lines row history (drop i events) ≡ whole → out ≡ whole
-unfolding reply_lines
-replies-end row i events history out whole h so_far = sym (append-nil out) ∙ (rw (past i events h) at so_far)
 
 -- ---- rows of reporters on duty
 

@@ -1,22 +1,21 @@
 -- The text of `feed`: a line with the reply to each event of a script, and then a line for each word of the board, a match in 64 bits.
 -- A history is the list of the accepted events, oldest first. The rows of a script are counted from 1, and its events begin in row 5.
-use Rattle.std.specs.Prelude.{◌≡◌, ℕ, ◌+◌, List, [], ◌∷◌, ◌++◌, map, Ok}
+use Rattle.std.specs.Prelude.{◌≡◌, ℕ, List, [], ◌++◌, map, Ok}
 use Rattle.ucl_board.specs.declared.entry.Entry.{Entry}
-use Rattle.ucl_board.specs.History.{after_attempt, accepted_of, board_of}
+use Rattle.ucl_board.specs.History.{accepted_of, board_of}
 use Rattle.ucl_screen.specs.declared.night.NightEvent.{NightEvent}
-use Rattle.ucl_screen.specs.Events.{attempt_of}
+use Rattle.ucl_screen.specs.Events.{attempt_of, each_in_turn}
 use Rattle.ucl_screen.specs.Script.{Script, first_event_row}
 use Rattle.ucl_screen.specs.Parsing.{MeansNight}
 use Rattle.ucl_rows.specs.Lines.{reply_line, word_lines}
 
--- the lines with the replies to events that are entered in turn, the first of which is in this row and comes after this history
-unfoldable pub reply_lines : ℕ → List Entry → List NightEvent → List ℕ
-reply_lines row history [] = []
-reply_lines row history (event ∷ events) = reply_line row history event.call ++ reply_lines (row + 1) (after_attempt history (attempt_of event)) events
+-- the line with the reply to the event of this row, entered after this history
+abbrev pub line_of_event : ℕ → List Entry → NightEvent → List ℕ
+line_of_event row history event = reply_line row history event.call
 
 -- the text of `feed` for the events of a script
 abbrev pub feed_text : List NightEvent → List ℕ
-feed_text events = reply_lines first_event_row [] events ++ word_lines 1 (board_of (accepted_of (map attempt_of events)))
+feed_text events = each_in_turn line_of_event first_event_row [] events ++ word_lines 1 (board_of (accepted_of (map attempt_of events)))
 
 -- the bytes of an input are a script, and this is the text of `feed` for it
 pub record IsFed (bytes text : List ℕ) : Type 0 where

@@ -1,8 +1,11 @@
 -- Events that are entered in turn.
 use Rattle.ucl_screen.proofs.Common.{Entry, IsBoardAfter, List, NightEvent, [], add-one, after_attempt, ap, append-nil, arith, attempt_of}
-use Rattle.ucl_screen.proofs.Common.{common_steps, drop, drop-cons, each_match, flat_map, flat_map-append, fold, get_or, length, map}
+use Rattle.ucl_screen.proofs.Common.{append_assoc, common_steps, drop, drop-cons, each_match, flat_map, flat_map-append, fold, get_or, length, map}
 use Rattle.ucl_screen.proofs.Common.{match_numbers, max_version, refl, suc, sym, take, take_more, versions, ℕ, ◌++◌, ◌+◌, ◌-◌, ◌<◌, ◌∙◌}
 use Rattle.ucl_screen.proofs.Common.{◌∷◌, ◌≡◌, ◌≤◌}
+use Rattle.ucl_board.specs.History.{accepted_of, board_of}
+use Rattle.ucl_screen.specs.Script.{first_event_row}
+unfoldable use Rattle.ucl_screen.specs.Events.{each_in_turn}
 
 pub past : {X : Type 0} (i : ℕ) (xs : List X) → length xs ≤ i → drop i xs ≡ []
 past i xs h = grind (arith, common_steps)
@@ -10,16 +13,37 @@ past i xs h = grind (arith, common_steps)
 pub first-event : (i : ℕ) (events : List NightEvent) (e : NightEvent) → i < length events → e ≡ get_or events i e → drop i events ≡ e ∷ drop (i + 1) events
 first-event i events e h is = rw (add-one i) (drop-cons events i e h ∙ ap (λ (x : NightEvent). x ∷ drop (suc i) events) (sym is))
 
-pub history-step : (i : ℕ) (events : List NightEvent) (e : NightEvent) (history whole : List Entry) → i < length events → e ≡ get_or events i e
-    → fold after_attempt history (map attempt_of (drop i events)) ≡ whole
-    → fold after_attempt (after_attempt history (attempt_of e)) (map attempt_of (drop (i + 1) events)) ≡ whole
-history-step i events e history whole h is so_far = rw (first-event i events e h is) at so_far
-
-pub history-end : (i : ℕ) (events : List NightEvent) (history whole : List Entry) → length events ≤ i → fold after_attempt history (map attempt_of (drop i events)) ≡ whole → history ≡ whole
-history-end i events history whole h so_far = rw (past i events h) at so_far
-
 pub version-bound : (history : List Entry) (words : List ℕ) (version : ℕ) → IsBoardAfter history words version → version ≤ max_version
 version-bound history words version is = rw is.version_is (versions history is.legal).1
+
+-- the first `i` events were entered in turn on a fresh board, which then has these words and this version, and `given` is what each of them gave
+pub record AreEntered {X : Type 0} (each : ℕ → List Entry → NightEvent → List X) (events : List NightEvent) (i row : ℕ) (words : List ℕ) (version : ℕ) (given : List X) : Type 0 where
+  pub history : List Entry
+  pub board_is : IsBoardAfter history words version
+  pub given_is : given ++ each_in_turn each row history (drop i events) ≡ each_in_turn each first_event_row [] events
+  pub entries : fold after_attempt history (map attempt_of (drop i events)) ≡ accepted_of (map attempt_of events)
+
+module _ {X : Type 0} (each : ℕ → List Entry → NightEvent → List X) (events : List NightEvent) (i row : ℕ) (words : List ℕ) (version : ℕ) (given : List X)
+    (so_far : AreEntered each events i row words version given) where
+  -- one event more is entered
+  pub entered-one : (e : NightEvent) (words_then : List ℕ) (version_then : ℕ) (given_then : List X) → i < length events → e ≡ get_or events i e
+      → IsBoardAfter (after_attempt so_far.history (attempt_of e)) words_then version_then → given_then ≡ given ++ each row so_far.history e
+      → AreEntered each events (i + 1) (row + 1) words_then version_then given_then
+  unfolding each_in_turn
+  entered-one e words_then version_then given_then below is board_is more =
+      let next = first-event i events e below is in record {
+        history = after_attempt so_far.history (attempt_of e);
+        board_is = board_is;
+        given_is = rw (more, append_assoc given (each row so_far.history e) (each_in_turn each (row + 1) (after_attempt so_far.history (attempt_of e)) (drop (i + 1) events)))
+            (rw next at so_far.given_is);
+        entries = rw next at so_far.entries;
+      }
+
+  -- all events are entered
+  pub entered-all : length events ≤ i → (given ≡ each_in_turn each first_event_row [] events) × (words ≡ board_of (accepted_of (map attempt_of events)))
+  unfolding each_in_turn
+  entered-all h =
+      let none = past i events h in (sym (append-nil given) ∙ (rw none at so_far.given_is), sym so_far.board_is.words_are ∙ ap board_of (rw none at so_far.entries))
 
 -- ---- the lines of matches, one after the other
 

@@ -1,11 +1,11 @@
 -- The event that the fields of a row mean, and the board after a history.
 -- A field is a list of bytes, an expected event number is that of the last event of the match that the reporter saw, and a history is a
 -- list of accepted events, the oldest first.
-use Rattle.std.specs.Prelude.{◌≡◌, ℕ, List, length, Option, Some, option_and_then}
+use Rattle.std.specs.Prelude.{◌≡◌, ℕ, ◌+◌, ◌++◌, List, [], ◌∷◌, length, Option, Some, option_and_then}
 use Rattle.ucl_word.specs.declared.event.EventCall.{EventCall}
 use Rattle.ucl_word.specs.Names.{kind_named}
 use Rattle.ucl_board.specs.declared.entry.Entry.{Entry}
-use Rattle.ucl_board.specs.History.{IsLegal, Attempt, attempted, board_of}
+use Rattle.ucl_board.specs.History.{IsLegal, Attempt, after_attempt, attempted, board_of}
 use Rattle.ucl_screen.specs.declared.night.NightEvent.{NightEvent}
 use Rattle.ucl_screen.specs.Numbers.{number, in_range}
 use Rattle.ucl_screen.specs.Rows.{FourFields}
@@ -51,3 +51,8 @@ pub record IsBoardAfter (history : List Entry) (words : List ℕ) (version : ℕ
   pub legal : IsLegal history
   pub words_are : board_of history ≡ words
   pub version_is : version ≡ length history
+
+-- what `each` gives for events that are entered in turn, the first of which is in this row and comes after this history
+unfoldable pub each_in_turn : {X : Type 0} → (ℕ → List Entry → NightEvent → List X) → ℕ → List Entry → List NightEvent → List X
+each_in_turn each row history [] = []
+each_in_turn each row history (event ∷ events) = each row history event ++ each_in_turn each (row + 1) (after_attempt history (attempt_of event)) events

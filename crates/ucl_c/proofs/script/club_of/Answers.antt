@@ -1,6 +1,13 @@
-use Rattle.ucl_order.specs.Roster.{club_in}
-use Rattle.ucl_c.proofs.PlayedScripts.{club-written}
+use Rattle.std.proofs.Common.{◌≡◌, ℕ, List, ◌++◌, length, drop, replicate, refl}
+use Rattle.std.proofs.lemmas.List.{drop-replicate}
+use Rattle.ucl_order.specs.Roster.{NamedClub, club_in}
+use Rattle.ucl_c.specs.Replies.{club_written}
 use Rattle.ucl_c.proofs.script.club_of.Goals as goal
+
+-- a club with the bytes of a name at the front of twenty zeros
+club-written : (club : NamedClub) (name text : List ℕ) (coefficient : ℕ) → name ≡ text → text ≡ club.name → coefficient ≡ club.coefficient
+    → record { name = name ++ drop (length text) (replicate 20 0); length = length text; coefficient = coefficient } ≡ club_written club
+club-written club name text coefficient copied is of = rw (copied, drop-replicate {X = ℕ} (length text) 20 0, is, of) refl
 
 pub returns : goal.returns
 returns c =
