@@ -23,7 +23,7 @@ SUM = re.compile(r"\blogic(?: sum)?(?: is)? `?([0-9a-f]{16})\b")
 # A path of the machine that a text was written on, and how the work is organised; data and marks of matches are no such texts.
 STRAY = re.compile(r"(?<![\w.])/(?:work|root)/|\.\./shared/|\bissue #?\d|\b(?:sessions? of the project|handover)\b", re.I)
 LABEL = re.compile(r"(?<![\w.'\"`-])(?:T[1-5]\.[1-7]|[DRW][1-9]\d?|K[1-8]|G2|S6)(?![\w'\"`])")
-MAP, CRATES = "crates/DEFINITIONS.md", "docs/ARCHITECTURE.md"
+MAP, CRATES = "crates/DEFINITIONS.md", "README.md"
 THEOREMS = "BoardsHaveOneHistory", "HistoriesGoOn"  # what is proved of running boards
 
 
@@ -107,7 +107,7 @@ def pages_name_their_readers(top):
 
 def crates_are_listed(top):
     """The table of crates has each crate of crates.txt, once. The crates of the kit that are trusted are those on which ours stand, but for those of tests."""
-    section = (top / CRATES).read_text().split("\n## The crates\n", 1)[-1].split("\n## ", 1)[0]
+    section = (top / CRATES).read_text().split("\n## Crate by crate\n", 1)[-1].split("\n## ", 1)[0]
     told = [name for line in section.split("\n") if line.startswith("| `") for name in re.findall(r"`(\w+)`", line.split("|")[1])]
     uses, [trusted] = sources.crates_of(top), re.findall(r"Statements of the kit's crates\*\*:([^.]*), and `mathlib`\.", (top / "docs/PROOF.md").read_text())
     kit = {it for crate, below in uses.items() if not UNPROVED.search(crate) for it in below} - {*uses}
