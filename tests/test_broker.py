@@ -50,6 +50,12 @@ def fsync(file):
     real(file)
 os.fsync = fsync
 """
+# Has a board acknowledge no message while a file `silent` is there, so that the broker sends it again.
+SILENT = """import os
+import paho.mqtt.client as mqtt
+real = mqtt.Client._send_puback
+mqtt.Client._send_puback = lambda self, mid: mqtt.MQTT_ERR_SUCCESS if os.path.exists("silent") else real(self, mid)
+"""
 BOARD = "hall.board"
 # Passes lines on in another order, within windows of a hundred, and loses a tenth of them.
 TURNED = """import itertools, random, sys
@@ -157,6 +163,13 @@ class Site:
         """Begins an evening: a broker, with these lines more in its file, and the board. Gives the line of the board."""
         self.open_broker(more)
         return self.line(LINES["The board"].strip())
+
+    def begin_with(self, hook):
+        """Begins an evening whose board runs this text in Python first. Gives the line of the board."""
+        (self.path / "hook").mkdir()
+        (self.path / "hook/sitecustomize.py").write_text(hook)
+        self.open_broker()
+        return self.line("PYTHONPATH=hook " + LINES["The board"].strip())
 
     def answers(self):
         """The answers to the record."""
@@ -283,10 +296,7 @@ def test_after_a_start_the_last_screen_is_told_and_no_answer_again(site):
 
 def test_an_answer_waits_for_the_disk_once_for_what_came_at_once(site):
     """While the disk is busy a hundred rows come, and have no answer."""
-    (site.path / "hook").mkdir()
-    (site.path / "hook/sitecustomize.py").write_text(SLOW_DISK)
-    site.open_broker()
-    site.line("PYTHONPATH=hook " + LINES["The board"].strip())
+    site.begin_with(SLOW_DISK)
     assert site.done("mosquitto_sub -q 1 -C 1 -t ucl/a/desk")
     site.line("mosquitto_sub -q 1 -t ucl/a/answers >answers")
     (site.path / "busy").touch()
@@ -457,6 +467,25 @@ def test_a_row_that_is_sent_again_is_answered_again(site):
     client.end()
 
 
+def test_a_row_that_the_broker_sends_again(site):
+    """A board is killed once a row is in the record, and before it has acknowledged the row: the next board has it again, with no mark of its sender,
+    and answers it as entered."""
+    board = site.begin_with(SILENT)
+    assert desk(site)["version"] == 0
+    (site.path / "silent").touch()
+    client = Client(site)
+    assert client.sent("1,1,0,kickoff", b"t.1") == [("ok", 6, None)]
+    board.kill()
+    site.await_no_board()
+    (site.path / "silent").unlink()
+    count = len(client.heard)
+    board.start()
+    assert until(lambda: client.heard[count:], 20) and desk(site)["version"] == 1
+    assert [(data, said["reply"], said["row"]) for data, said in client.heard[count:]] == [(b"t.1", "ok", 6)]
+    assert site.record.read_text().count("kickoff") == 1
+    client.end()
+
+
 def test_a_reporter_is_told_of_rows_that_are_refused_anothers_or_none(site):
     site.begin()
     state, stale = "Bravo 0-0 Charlie, in play, event 1 by 1", "match 1 has event number {} by now, and you had seen {}: look at it, and type yours again if it is not there"
@@ -521,10 +550,7 @@ def test_a_full_disk_behind_a_broker(site):
 
 def test_a_disk_that_fails_behind_a_broker(site):
     """The reporter is told that the row may be in the record, and when it is sent again that it is; the board goes on."""
-    (site.path / "hook").mkdir()
-    (site.path / "hook/sitecustomize.py").write_text(FAILING_DISK)
-    site.open_broker()
-    site.line("PYTHONPATH=hook " + LINES["The board"].strip())
+    site.begin_with(FAILING_DISK)
     reporter = site.terminal("--again 1").sees("12 Delta")
     (site.path / "broken").touch()
     reporter.type("1 kickoff\r").sees("it may be in the record").sees("1 kickoff               entered, row 6")
