@@ -70,7 +70,8 @@ class Terminal:
         loop = asyncio.get_running_loop()
         over = self._typist.source.over
         over.add_done_callback(self._give_up)
-        loop.add_signal_handler(signal.SIGTERM, self._exit, 128 + signal.SIGTERM)
+        for number in (signal.SIGTERM, signal.SIGHUP):
+            loop.add_signal_handler(number, self._exit, 128 + number)
         loop.add_signal_handler(signal.SIGTSTP, self._suspend)
         unheard = self._typist.source.listen(lambda reply: self._refresh())
         if not self._is_watching:
@@ -84,7 +85,7 @@ class Terminal:
         finally:
             unheard()
             over.remove_done_callback(self._give_up)
-            for number in (signal.SIGTERM, signal.SIGTSTP):
+            for number in (signal.SIGTERM, signal.SIGHUP, signal.SIGTSTP):
                 loop.remove_signal_handler(number)
         if over.done():
             over.result()

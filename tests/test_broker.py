@@ -687,6 +687,19 @@ def test_a_thousand_hostile_messages(site, seed):
     assert (site.path / "errors").read_text().count("board a: passed over") <= 2
 
 
+def test_what_a_broker_tells_is_printed_without_escapes_and_ends_nobody(site):
+    """A notice, a club's name, a refusal of a rule that is not known, a screen without matches, a blank in a topic, an answer that is none."""
+    board = site.begin()
+    reporter = site.terminal().sees("12 Delta")
+    screen, raw = desk(site), len(reporter.raw)
+    refused = {"reply": "refused", "row": 9, "code": 77, "name": "new-rule", "reporter": 1, "match": 1, "expected": 0, "event": "kickoff"}
+    said = [("desk", {**screen, "version": 1, "clubs": [{"club": "\x1b[31mX", "coefficient": 1}] * 4}), ("desk", {**screen, "version": 2, "matches": []}), ("desk", {**screen, "row": 1 << 70, "version": 3}), ("answers", refused), ("answers", {})]
+    for topic, it in [*said, ("0 x/rows/1", "hi"), ("answers", {"reply": "notice", "reporter": 1, "text": "boo\x1b[2J\x1b]0;x\x07"})]:
+        site.done(f"mosquitto_pub -V 5 -q 1 -t 'ucl/a/{topic}' -s", json.dumps(it))
+    reporter.sees("boo?[2J?]0;x?").enter("1 kickoff", "1 kickoff               entered, row 6").board()
+    assert not re.search(rb"\x1b\[2J|\x1b\]|\x1b\[31m", reporter.raw[raw:]) and "Traceback" not in reporter.text() and board.shell.poll() is None
+
+
 @pytest.mark.parametrize("topic", ["ucl/a/0/rows/1", "ucl/a/answers", "ucl/a/desk"])
 def test_a_payload_of_megabytes(site, topic):
     """Nobody is deaf for it."""

@@ -19,7 +19,7 @@ import pytest
 from conftest import needs, text_of
 from model import Session
 
-from hall import disk
+from hall import disk, told
 from hall.answers import Accepted, LeftOut, Mended, Moment, Refused
 from hall.beginning import begin
 from hall.faults import Dropped, MaybeEntered, NotEntered, Over
@@ -55,15 +55,15 @@ EVENING = STARTED + '1,1,9,red-home\nx\n1,2,0,goal-home\n1,1,3,disallow-away\nme
 def test_each_answer_is_read():
     """What each kind of line says; nothing of an evening is passed over."""
     kinds = [answer_of(line.encode()) for line in answers_to(EVENING)]
-    told = {type(answer): answer for answer in kinds}
-    assert {it.__name__ for it in told} == {"Moment", "Accepted", "Refused", "LeftOut", "Mended", "Other"}
-    assert (told[LeftOut].row, told[LeftOut].event, told[LeftOut].name) == (12, "disallow-away", "no-goal")
+    of = {type(answer): answer for answer in kinds}
+    assert {it.__name__ for it in of} == {"Moment", "Accepted", "Refused", "LeftOut", "Mended", "Other"}
+    assert (of[LeftOut].row, of[LeftOut].event, of[LeftOut].name) == (12, "disallow-away", "no-goal")
     mended = [answer for answer in kinds if isinstance(answer, Mended)]
     assert [(it.row, it.without, it.left_out, it.title.edition, it.version) for it in mended] == [(13, 8, 1, 1, 2), (15, None, 0, 7, 2), (17, None, 0, 8, 2)]
     assert [(it.row, it.code, it.name, it.number) for it in kinds if isinstance(it, Refused)] == [
         (9, 1, "stale", 3), (10, 20, "bad-row", None), (11, 3, "not-started", None), (14, 11, "no-event", None), (16, 12, "last-edition", None)]
-    assert told[Moment].title.clubs[1] == Club('B, "2"', 7) and told[Moment].match(1).score == (1, 0) and told[Moment].age == (8, 2)
-    assert told[Accepted].event == Row(1, 3, "disallow-away") and told[Accepted].line.startswith(b'{"clubs"')
+    assert of[Moment].title.clubs[1] == Club('B, "2"', 7) and of[Moment].match(1).score == (1, 0) and of[Moment].age == (8, 2)
+    assert of[Accepted].event == Row(1, 3, "disallow-away") and of[Accepted].line.startswith(b'{"clubs"')
 
 
 def changed(value, chance):
@@ -111,6 +111,22 @@ def test_values_that_are_nearly_right():
     for wrong in {"row": True}, {"row": 0}, {"row": 1 << 32}, {"code": True}, {"name": "no\x1b[2J"}, {"name": "x" * 41}, {"name": ""}, {"row": "9"}:
         with pytest.raises(NoAnswer):
             answer_of(json.dumps({**said, **wrong}).encode())
+
+
+@pytest.mark.parametrize("change", [
+    {"matches": []}, {"table": []}, {"clubs": []}, {"clubs": [{"club": "\x1b[2J", "coefficient": 1}] * 4}, {"words": 7}, {"row": 1 << 70}, {"version": -1}, {"group": "Z"}, {"edition": "0"}], ids=str_of)
+def test_a_screen_that_is_well_formed_and_wrong(change):
+    """It is no answer, so no list of it is ever too short, and no escape of it is printed."""
+    screen = json.loads([line for line in answers_to(STARTED) if '"screen"' in line][-1])
+    assert isinstance(answer_of(json.dumps(screen).encode()), Moment)
+    with pytest.raises(NoAnswer):
+        answer_of(json.dumps({**screen, **change}).encode())
+
+
+def test_a_refusal_of_a_rule_that_is_not_known_yet():
+    """It is told by its name."""
+    said = {"reply": "refused", "row": 9, "code": 77, "name": "new-rule", "reporter": 1, "match": 1, "expected": 0, "event": "kickoff"}
+    assert told.advice(answer_of(json.dumps(said).encode())) == "new-rule"
 
 
 def test_answers_of_one_row():
