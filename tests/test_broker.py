@@ -310,6 +310,31 @@ def test_an_answer_waits_for_the_disk_once_for_what_came_at_once(site):
     assert len((site.path / "synced").read_text()) <= before + 10
 
 
+def test_no_screen_shows_what_the_disk_does_not_have(site):
+    """A row that another program appends, and has not forced to the disk."""
+    site.begin_with(SLOW_DISK)
+    assert desk(site)["version"] == 0
+    (site.path / "busy").touch()
+    site.append("a", "1,1,0,kickoff\n")
+    assert desk(site, more="-R")["version"] == 0
+    (site.path / "busy").unlink()
+    assert until(lambda: desk(site)["version"] == 1, 20)
+
+
+def test_a_row_that_comes_twice_while_another_is_written(site):
+    """It is one row, with one answer."""
+    site.begin_with(SLOW_DISK)
+    assert desk(site)["version"] == 0
+    client = Client(site)
+    (site.path / "busy").touch()
+    for row, data in ("1,1,0,kickoff", b"t.1"), ("1,2,0,kickoff", b"t.2"), ("1,2,0,kickoff", b"t.2"):
+        assert client.sent(row, data, wait=0.3) == []
+    (site.path / "busy").unlink()
+    assert until(lambda: client.heard, 20) and client.sent("1,3,0,kickoff", b"t.3") == [("ok", 8, None)]
+    assert [(data, said["row"]) for data, said in client.heard] == [(b"t.1", 6), (b"t.2", 7), (b"t.3", 8)]
+    client.end()
+
+
 def test_a_board_that_is_killed_as_it_starts_leaves_nothing(site):
     """It is killed when its program starts; at the test's end nothing may run in its folder."""
     board = site.begin()
@@ -421,14 +446,14 @@ class Client:
         self.client.subscribe("ucl/a/answers", 1)
         time.sleep(0.3)
 
-    def sent(self, row, data, again=False, topic="0/rows/1"):
-        """Sends a row, and gives what is answered with its correlation data: the reply, the row, the name."""
+    def sent(self, row, data, again=False, topic="0/rows/1", wait=3):
+        """Sends a row, and gives what is answered with its correlation data in so many seconds: the reply, the row, the name."""
         properties, count = self.properties(), len(self.heard)
         properties.CorrelationData = data
         if again:
             properties.UserProperty = "again", "1"
         self.client.publish(f"ucl/a/{topic}", row, 1, False, properties)
-        until(lambda: len(self.heard) > count, 3)
+        until(lambda: len(self.heard) > count, wait)
         time.sleep(0.3)
         told = [(it, said) for it, said in self.heard[count:] if said["reply"] != "notice"]
         assert all(it == data for it, _ in told)
@@ -463,6 +488,7 @@ def test_a_row_that_is_sent_again_is_answered_again(site):
     assert until(lambda: desk(site)["edition"] == 1, 20)
     time.sleep(0.2)
     assert sent("1,1,0,kickoff", b"t.1", True) == []
+    assert "the last of another edition on ucl/a/0/rows/1: 1,1,0,kickoff" in (site.path / "errors").read_text()
     assert sent("1,2,0,kickoff", b"w.1", True, "1/rows/1") == [("ok", 9, None)]
     client.end()
 
