@@ -38,24 +38,25 @@ class Live:
         self._process: asyncio.subprocess.Process | None = None
         self._task: asyncio.Task[None] | None = None
         self._listeners: list[Listener] = []
-        self._waiting: dict[int, list[asyncio.Future[Reply]]] = {}
-        # The lines of a row that is not answered whole yet; the newest screen, read when asked for.
+        self._waiting: dict[int, asyncio.Future[Reply]] = {}
+        # The lines of a row that is not answered whole yet.
         self._begun: list[bytes] = []
-        self._newest: Moment | bytes | None = None
         self._grown = asyncio.Event()
         # Up to which row all is answered, and up to which nothing is handed on.
-        self.row = 0
-        self.quiet = 0
+        self._row = self._quiet = 0
+        self.moment: Moment
         self.history = History()
         self.passed_over = 0
         # Gets the fault by which the child can go on no more.
         self.over: asyncio.Future[None] = asyncio.get_running_loop().create_future()
 
-    async def start(self) -> None:
-        """Starts the child and feeds it what there is.
+    async def start(self, moment: Moment) -> None:
+        """Starts the child and feeds it what there is; of the rows up to this moment, as another run
+        has told it, the child tells nothing.
 
         Raises Over where the program can not be started.
         """
+        self.moment, self._quiet = moment, moment.row
         await self._launch()
         self._task = asyncio.create_task(self._run())
 
@@ -70,23 +71,10 @@ class Live:
         self._listeners.append(listener)
         return lambda: self._listeners.remove(listener)
 
-    @property
-    def moment(self) -> Moment | None:
-        """The newest screen; None where no row has had one."""
-        if isinstance(self._newest, bytes):
-            self._newest = _moment_of(self._newest)
-        return self._newest
-
-    def begin_at(self, moment: Moment, row: int) -> None:
-        """Takes the moment after this row, as another run has told it: of the rows up to this one
-        the child tells nothing."""
-        self._newest, self.quiet = moment, row
-
     def expect(self, row: int) -> asyncio.Future[Reply]:
-        """What a row will be answered with."""
-        future: asyncio.Future[Reply] = asyncio.get_running_loop().create_future()
-        self._waiting.setdefault(row, []).append(future)
-        return future
+        """What a row will be answered with; it is asked once."""
+        self._waiting[row] = asyncio.get_running_loop().create_future()
+        return self._waiting[row]
 
     async def reach(self, row: int, seconds: float) -> None:
         """Waits until all rows up to this one are answered.
@@ -95,7 +83,7 @@ class Live:
         """
         try:
             async with asyncio.timeout(seconds):
-                while self.row < row:
+                while self._row < row:
                     if self.over.done():
                         self.over.result()
                     self._grown.clear()
@@ -134,14 +122,14 @@ class Live:
             self.fail(fault)
 
     async def _supervise(self) -> None:
-        starts, reached = 0, self.row
+        starts, reached = 0, self._row
         while not self.over.done():
             assert self._process is not None
             told = asyncio.create_task(_read_all(self._process.stderr))
             await self._read_answers()
             status, errors = await self._process.wait(), await told
-            starts = starts + 1 if self.row == reached else 0
-            reached = self.row
+            starts = starts + 1 if self._row == reached else 0
+            reached = self._row
             if status >= 0:
                 why = printable(errors.strip()) or f"it has ended with status {status}"
                 self.fail(Over(f"ucl_live: {why}"))
@@ -157,10 +145,9 @@ class Live:
             self.over.set_exception(fault)
             self.over.exception()
         self._grown.set()
-        for futures in self._waiting.values():
-            for future in futures:
-                if not future.done():
-                    future.set_exception(fault)
+        for future in self._waiting.values():
+            if not future.done():
+                future.set_exception(fault)
 
     async def _read_answers(self) -> None:
         assert self._process is not None and self._process.stdout is not None
@@ -174,21 +161,16 @@ class Live:
     def _take(self, line: bytes) -> None:
         """Takes a line: a row's answers are whole with its screen, or where none follows."""
         self._begun.append(line)
-        kind = kind_in(line)
-        if kind in ("ok", "mended", "left-out"):
+        if kind_in(line) in ("ok", "mended", "left-out"):
             return
         lines, self._begun = self._begun, []
-        row = row_in(lines[-1])
-        if row <= self.row:
-            return
-        for noted in lines:
-            if noted is not line:
+        row = row_in(line)
+        if row > self._row:
+            self._row = row
+            for noted in lines[:-1]:
                 self.history.note(noted)
-        if kind == "screen" and row > self.quiet:
-            self._newest = line
-        self.row = row
-        if row > self.quiet or row in self._waiting:
-            self._hand_on(row, lines)
+            if row > self._quiet:
+                self._hand_on(row, lines)
 
     def _hand_on(self, row: int, lines: list[bytes]) -> None:
         try:
@@ -197,21 +179,12 @@ class Live:
             self.passed_over += 1
             return
         if reply.screen is not None:
-            self._newest = reply.screen
-        for future in self._waiting.pop(row, []):
-            if not future.done():
-                future.set_result(reply)
-        if row > self.quiet:
-            for listener in [*self._listeners]:
-                listener(reply)
-
-
-def _moment_of(line: bytes) -> Moment | None:
-    try:
-        answer = answer_of(line)
-    except NoAnswer:
-        return None
-    return answer if isinstance(answer, Moment) else None
+            self.moment = reply.screen
+        future = self._waiting.pop(row, None)
+        if future is not None and not future.done():
+            future.set_result(reply)
+        for listener in [*self._listeners]:
+            listener(reply)
 
 
 async def _read_all(stream: asyncio.StreamReader | None) -> bytes:

@@ -3,12 +3,10 @@
 import asyncio
 import contextlib
 import os
-import sys
 import threading
 
 from hall import told
 from hall.faults import MaybeEntered, NotEntered
-from hall.printable import printable
 from hall.typed import ClubTyped, Help, MendTyped, Numbered, typed
 from hall.typist import Typist
 from hall.underway import Seen
@@ -38,7 +36,6 @@ async def enter_lines(typist: Typist, edition: int) -> int:
                     loop.call_soon_threadsafe(lines.put_nowait, line + b"\n")
             loop.call_soon_threadsafe(lines.put_nowait, b"")
 
-    typist.source.tell_to(_warn)
     threading.Thread(target=read, daemon=True).start()
     await typist.source.ready()
     while line := await lines.get():
@@ -62,10 +59,6 @@ async def watch_lines(typist: Typist) -> int:
         await changed.wait()
     typist.source.over.result()
     return 0
-
-
-def _warn(text: str) -> None:
-    print(printable(text), file=sys.stderr, flush=True)
 
 
 async def _enter(typist: Typist, text: str, edition: int) -> None:

@@ -70,9 +70,7 @@ class Record:
     @property
     def moment(self) -> Moment:
         """The moment that stands, as far as the record is read and answered."""
-        moment = self._live.moment
-        assert moment is not None
-        return moment
+        return self._live.moment
 
     def listen(self, listener: Listener) -> Callable[[], None]:
         """Has a listener called with each new reply. Gives a function that ends this."""
@@ -155,8 +153,7 @@ class Record:
             moment = await last_screen(self.program, self._file.whole())
         except Over as fault:
             raise Over(f"{self.path} has no board, or ucl_live failed: {fault}") from fault
-        self._live.begin_at(moment, self._file.count)
-        await self._live.start()
+        await self._live.start(moment)
         self._started(self._follow())
 
     def _started(self, work: Coroutine[Any, Any, Value]) -> asyncio.Task[Value]:

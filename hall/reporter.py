@@ -11,7 +11,7 @@ from hall import told
 from hall.beginning import begin, rows_by_questions
 from hall.faults import NotEntered, Over
 from hall.pipe import enter_lines, watch_lines
-from hall.printable import printable
+from hall.printable import warn
 from hall.programs import live_program
 from hall.record import Record
 from hall.rows import LAST_EDITION, MATCHES, REPORTERS, number_in
@@ -114,11 +114,7 @@ async def _opened(options: argparse.Namespace, first: bytes | None, is_terminal:
     if is_terminal:
         print(f"Waiting for the board of group {options.broker.upper()}", flush=True)
     limit = options.limit or (None if is_terminal else 60.0)
-    return await Desk.open(options.broker, options.number or 1, options.again or 2.0, limit, _warn)
-
-
-def _warn(text: str) -> None:
-    print(printable(text), file=sys.stderr, flush=True)
+    return await Desk.open(options.broker, options.number or 1, options.again or 2.0, limit, warn)
 
 
 def _first_rows(options: argparse.Namespace) -> bytes | None:

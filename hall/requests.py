@@ -24,13 +24,17 @@ class Request:
 
 def request_of(group: str, message: Message) -> Request | None:
     """The row of a message; None where it is no event of the reporter of its topic."""
-    found = topics.edition_and_reporter(group, message.topic)
-    if found is None or len(message.payload) > topics.LONGEST_ROW:
+    found, correlation = (
+        topics.edition_and_reporter(group, message.topic),
+        message.correlation or b"",
+    )
+    is_long = len(message.payload) > topics.LONGEST_ROW
+    if found is None or is_long or len(correlation) > topics.LONGEST_CORRELATION:
         return None
     said = event_row(message.payload.decode(errors="replace").removesuffix("\n"))
     if said is None or said[0] != found[1]:
         return None
-    return Request(said[0], found[0], said[1], message.correlation or None, message.is_again)
+    return Request(said[0], found[0], said[1], correlation or None, message.is_again)
 
 
 class People:

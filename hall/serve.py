@@ -17,7 +17,7 @@ from hall.group import Group
 from hall.keys import held as keys_held
 from hall.keys import keys_of
 from hall.options import Options, options_of
-from hall.printable import printable
+from hall.printable import warn
 from hall.programs import live_program
 from hall.record import Record
 from hall.running import ending, text_of, until_ended
@@ -130,8 +130,7 @@ def _watch(group: Group, over: "asyncio.Future[None]") -> None:
     def fail(_: object) -> None:
         if not over.cancelled() and not group.fault:
             group.fault = text_of(over.exception())
-            told = f"ucl_serve: group {group.letter}: {group.fault}"
-            print(printable(told), file=sys.stderr, flush=True)
+            warn(f"ucl_serve: group {group.letter}: {group.fault}")
 
     over.add_done_callback(fail)
 

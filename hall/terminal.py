@@ -41,7 +41,6 @@ class Terminal:
         self._drawing = typist.source.moment
         self._seen: Seen | None = None
         self._status = 0
-        self._is_ended = False
         self._text = Buffer(
             history=InMemoryHistory(),
             completer=Words(lambda: typist.source.moment),
@@ -61,6 +60,7 @@ class Terminal:
         )
         self._app.ttimeoutlen = 0.05
         typist.show, typist.refresh = self.show, self._refresh
+        typist.source.tell_to(self.show)
 
     async def run(self) -> int:
         """Takes what is typed until Ctrl-D and the answers after it; gives the exit status.

@@ -7,8 +7,9 @@ screen, the newest kept; `ucl/a/answers` the answers of the board of group a.
 import re
 
 GROUPS = "abcdefgh"
-# The most bytes of a packet towards a board, and towards who looks at the desk; of one row.
-ROWS, DESK, LONGEST_ROW = 1_024, 8_192, 256
+# The most bytes of a packet towards a board, and towards who looks at the desk; of one row, and of
+# its correlation data.
+ROWS, DESK, LONGEST_ROW, LONGEST_CORRELATION = 1_024, 8_192, 256, 64
 # After so many seconds without a screen the last comes again.
 PULSE = 2.0
 _ROWS = re.compile(r"ucl/([a-h])/(0|[1-9][0-9]{0,4})/rows/([1-9][0-9]{0,2})")

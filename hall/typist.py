@@ -40,7 +40,6 @@ class Typist:
         self.question: Question | None = None
         self.underway = Underway(source.moment)
         self._edition = source.moment.edition
-        source.tell_to(lambda text: self.show(text))
         self._tasks: set[asyncio.Task[None]] = set()
 
     async def idle(self, seconds: float | None = None) -> None:

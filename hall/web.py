@@ -44,7 +44,7 @@ class Server:
         self._report = Page("report.html")
         self._begun: dict[web.RequestHandler, asyncio.TimerHandle] = {}
         self._runner: web.AppRunner | None = None
-        self._tasks: list[asyncio.Task[None]] = []
+        self._pulsing: asyncio.Task[None] | None = None
         self._listener: asyncio.Server | None = None
 
     async def start(self, host: str, port: int, context: ssl.SSLContext | None) -> None:
@@ -55,7 +55,10 @@ class Server:
 
         @web.middleware
         async def whole(request: web.Request, handler: Handler) -> web.StreamResponse:
-            self._is_whole(request)
+            # It is whole: its connection has no more to send in time.
+            timer = self._begun.pop(request.protocol, None)
+            if timer is not None:
+                timer.cancel()
             return await handler(request)
 
         app = web.Application(middlewares=[whole])
@@ -84,14 +87,14 @@ class Server:
             # The kernel keeps no queue either, and gives up who has acknowledged nothing for long.
             one.setsockopt(socket.IPPROTO_TCP, TCP_NOTSENT_LOWAT, 1)
             one.setsockopt(socket.IPPROTO_TCP, TCP_USER_TIMEOUT, int(1_000 * GONE))
-        self._tasks.append(asyncio.create_task(self._pulse()))
+        self._pulsing = asyncio.create_task(self._pulse())
 
     async def close(self) -> None:
         """Listens no more, and ends all connections."""
         if self._listener is not None:
             self._listener.close()
-        for task in self._tasks:
-            task.cancel()
+        if self._pulsing is not None:
+            self._pulsing.cancel()
         for screens in (self.screens, *(group.phones for group in self.groups)):
             screens.abort()
         if self._runner is not None:
@@ -119,12 +122,6 @@ class Server:
         elif not is_late:
             loop = asyncio.get_running_loop()
             self._begun[handler] = loop.call_later(WHOLE, self._expire, handler, True)
-
-    def _is_whole(self, request: web.Request) -> None:
-        """A request that is whole: its connection has no more to send in time."""
-        timer = self._begun.pop(request.protocol, None)
-        if timer is not None:
-            timer.cancel()
 
     async def _pulse(self) -> None:
         """Tells each second which boards are there; no phone hears of one that is not."""

@@ -373,12 +373,18 @@ def test_a_late_screen_has_the_table_and_the_pulse_is_beside_the_record(site):
 # ---- reporters
 
 
+def two_reporters(site, words=""):
+    """Two reporters at terminals, the second with these words, and a match that the first has kicked off."""
+    first, second = site.terminal().sees("12 Delta v Charlie, to come"), site.terminal(words).sees(" 2 Delta v Alpha, to come")
+    first.enter("1 kickoff", "1 kickoff               entered, row 6: Bravo 0-0 Charlie, in play, event 1 by 1")
+    second.sees("row 6: 1 kickoff by reporter 1: Bravo 0-0 Charlie, in play, event 1 by 1")
+    return first, second
+
+
 def test_two_reporters_who_type_one_goal_do_not_count_it_twice(site):
     """A row has the number that stood on the screen at its first letter, not the newest. Its answer is beside it, and a refusal comes once."""
     site.begin()
-    first, second = site.terminal().sees("12 Delta v Charlie, to come"), site.terminal("--number 7 --matches 1,2").sees(" 2 Delta v Alpha, to come")
-    first.enter("1 kickoff", "1 kickoff               entered, row 6: Bravo 0-0 Charlie, in play, event 1 by 1")
-    second.sees("row 6: 1 kickoff by reporter 1: Bravo 0-0 Charlie, in play, event 1 by 1")
+    first, second = two_reporters(site, "--number 7 --matches 1,2")
     first.type("1 goal h").sees("> 1 goal h")
     second.type("1 goal homf\x7fe\r").sees("1 goal home             entered, row 7: Bravo 1-0 Charlie, in play, event 2 by 7")
     first.sees("row 7: 1 goal home by reporter 7: Bravo 1-0 Charlie, in play, event 2 by 7").sees("> 1 goal h")
@@ -396,9 +402,7 @@ def test_two_reporters_who_type_one_goal_do_not_count_it_twice(site):
 def test_two_people_with_one_number(site):
     """Both are told, and each is answered for itself: the second is not told that a goal was entered which was refused."""
     site.begin()
-    first, second = site.terminal().sees("12 Delta"), site.terminal().sees("12 Delta")
-    first.enter("1 kickoff", "entered, row 6")
-    second.sees("row 6: 1 kickoff by reporter 1")
+    first, second = two_reporters(site)
     first.type("1 goal home").sees("> 1 goal home")
     second.type("1 goal home").sees("> 1 goal home")
     first.type("\r").sees("1 goal home             entered, row 7")
@@ -488,7 +492,7 @@ def test_a_row_that_is_sent_again_is_answered_again(site):
     assert until(lambda: desk(site)["edition"] == 1, 20)
     time.sleep(0.2)
     assert sent("1,1,0,kickoff", b"t.1", True) == []
-    assert "the last of another edition on ucl/a/0/rows/1: 1,1,0,kickoff" in (site.path / "errors").read_text()
+    assert "board a: passed over 1, the last no event of its reporter on ucl/a/0/rows/1: 1,2,1,goal-home\n" in (site.path / "errors").read_text()
     assert sent("1,2,0,kickoff", b"w.1", True, "1/rows/1") == [("ok", 9, None)]
     client.end()
 
@@ -593,6 +597,8 @@ def test_a_reporter_begins_in_the_edition_of_the_board_and_not_in_that_which_the
     for count in range(3):
         site.done("mosquitto_pub -r -q 1 -t ucl/a/desk -s", kept)
         assert site.done("./ucl_reporter --broker a 2>/dev/null", f"{count + 1} kickoff\n").startswith(f"{count + 1} kickoff               entered, row ")
+    site.done("mosquitto_pub -q 1 -t ucl/a/0/rows/1 -m 1,4,0,kickoff")
+    assert until(lambda: "board a: passed over 1, the last of another edition on ucl/a/0/rows/1: 1,4,0,kickoff\n" in (site.path / "errors").read_text(), 20)
 
 
 def test_access_lists(site):

@@ -11,6 +11,7 @@ import resource
 import subprocess
 import threading
 import time
+import types
 
 import hypothesis
 import hypothesis.strategies as some
@@ -202,7 +203,29 @@ def test_events_that_stand():
     for line in answers_to(EVENING):
         history.note(line.encode())
     assert [(it.row, it.reporter, it.match, it.event) for it in history.of(1)] == session.events and history.has(1, Row(1, 1, "goal-home")) and not history.has(2, Row(1, 1, "goal-home"))
-    assert history.at(Row(1, 2, "red-home")) is None and history.of(2) == []
+    assert not history.has(1, Row(1, 2, "red-home")) and history.of(2) == []
+
+
+def test_what_waits_at_a_terminal_is_taken_before_a_newer_moment_is_drawn(monkeypatch):
+    """Also what comes between the reading of keys and the drawing."""
+    terminal = pytest.importorskip("hall.terminal", reason="not installed: python3-prompt-toolkit").Terminal
+    one, asked = terminal.__new__(terminal), []
+    one._typist, one._is_watching, one._drawing = types.SimpleNamespace(source=types.SimpleNamespace(moment="newer")), False, "older"
+    one._app = types.SimpleNamespace(invalidate=lambda: asked.append("again"))
+    reading, writing = os.pipe()
+    with os.fdopen(reading) as keys:
+        monkeypatch.setattr("sys.stdin", keys)
+        os.write(writing, b"1")
+
+        async def drawn():
+            one._before_render(None)
+            await asyncio.sleep(0)
+            return one._drawing
+
+        assert asyncio.run(drawn()) == "older" and asked == ["again"]
+        os.read(reading, 1)
+        assert asyncio.run(drawn()) == "newer" and asked == ["again"]
+    os.close(writing)
 
 
 # ---- the record
@@ -473,6 +496,19 @@ def test_a_share(tmp_path):
     for kind, wanted in ("nfs4", True), ("cifs", True), ("fuse.sshfs", True), ("ext4", False), ("fuse.other", False), ("", False):
         assert disk.is_on_share(str(tmp_path), f"1 2 0:99 / /x rw - nfs x x\n27 1 {number} / / rw,relatime shared:1 - {kind} host:/x rw\n") is wanted
     assert not disk.is_on_share(str(tmp_path), "") and not disk.is_on_share(str(tmp_path), "rubbish\n") and not disk.is_on_share(str(tmp_path))
+
+
+def test_a_record_on_a_share_is_only_looked_at(tmp_path, live, monkeypatch):
+    """It is neither begun nor appended to there."""
+    monkeypatch.setattr(disk, "is_on_share", lambda path: True)
+
+    async def looked_at(record):
+        return record.moment.version
+
+    for work in lambda: held(tmp_path, STARTED, looked_at, live), lambda: asyncio.run(begin(str(tmp_path / "other.csv"), live, BEGUN.encode())):
+        with pytest.raises(Over, match="is on a share: keep the record on a disk of this machine"):
+            work()
+    assert held(tmp_path, None, looked_at, live, is_read_only=True) == 3 and os.listdir(tmp_path) == ["evening.csv"]
 
 
 def test_many_who_append_at_once(tmp_path, live):
