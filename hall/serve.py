@@ -83,7 +83,7 @@ def first_rows(options: Options) -> dict[str, bytes]:
             rows[path] = beginning.rows_of_file(options.clubs[place], letter, options.order)
         elif sys.stdin.isatty():
             print(f"{path} is not there yet.")
-            rows[path] = beginning.rows_by_questions(input, print)
+            rows[path] = beginning.rows_by_questions()
         else:
             raise Over(f"there is no {path}: give --clubs FILE, or type this line at a terminal")
     return rows
