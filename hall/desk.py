@@ -88,10 +88,9 @@ class Desk:
         assert self._moment is not None
         return self._moment
 
-    def listen(self, listener: Listener) -> Callable[[], None]:
-        """Has a listener called with each new reply. Gives a function that ends this."""
+    def listen(self, listener: Listener) -> None:
+        """Has a listener called with each new reply."""
         self._listeners.append(listener)
-        return lambda: self._listeners.remove(listener)
 
     def tell_to(self, told: Told) -> None:
         """Has what is amiss told there, in a line."""
@@ -197,7 +196,7 @@ class Desk:
         self._call(reply)
 
     def _call(self, reply: Reply) -> None:
-        for listener in [*self._listeners]:
+        for listener in self._listeners:
             listener(reply)
 
     def _pass_over(self) -> None:

@@ -12,15 +12,13 @@ import contextlib
 from collections.abc import Callable
 
 from hall.answers import Moment, Reply, kind_in, row_in
-from hall.asking import program_words
+from hall.asking import PIECE, started
 from hall.faults import Over
 from hall.history import History
 from hall.lines import NoAnswer, answer_of, reply_of
 from hall.printable import printable
 
 Listener = Callable[[Reply], None]
-# How much of the child's output is read at once, in bytes.
-PIECE = 1 << 20
 # How often the child may end without an answer more before the program gives up.
 MOST_STARTS = 20
 # How long to wait until the child is started again, in seconds.
@@ -66,10 +64,9 @@ class Live:
             with contextlib.suppress(ConnectionError, RuntimeError):
                 self._process.stdin.write(lines)
 
-    def listen(self, listener: Listener) -> Callable[[], None]:
-        """Has a listener called with each reply from now on. Gives a function that ends this."""
+    def listen(self, listener: Listener) -> None:
+        """Has a listener called with each reply from now on."""
         self._listeners.append(listener)
-        return lambda: self._listeners.remove(listener)
 
     def expect(self, row: int) -> asyncio.Future[Reply]:
         """What a row will be answered with; it is asked once."""
@@ -104,40 +101,28 @@ class Live:
                 await self._process.wait()
 
     async def _launch(self) -> None:
-        pipe = asyncio.subprocess.PIPE
-        words = program_words(self._program)
-        try:
-            self._process = await asyncio.create_subprocess_exec(
-                *words, stdin=pipe, stdout=pipe, stderr=pipe, start_new_session=True, limit=PIECE
-            )
-        except OSError as error:
-            raise Over(f"{self._program}: {error.strerror}") from error
+        self._process = await started(self._program, "--screens")
         self._begun = []
         self.feed(self._whole())
 
     async def _run(self) -> None:
+        starts = 0
         try:
-            await self._supervise()
-        except Exception as fault:  # whatever it is, who waits has to know
-            self.fail(fault)
-
-    async def _supervise(self) -> None:
-        starts, reached = 0, self._row
-        while not self.over.done():
-            assert self._process is not None
-            told = asyncio.create_task(_read_all(self._process.stderr))
-            await self._read_answers()
-            status, errors = await self._process.wait(), await told
-            starts = starts + 1 if self._row == reached else 0
-            reached = self._row
-            if status >= 0:
-                why = printable(errors.strip()) or f"it has ended with status {status}"
-                self.fail(Over(f"ucl_live: {why}"))
-            elif starts >= MOST_STARTS:
-                self.fail(Over(f"ucl_live is killed by signal {-status} again and again"))
-            else:
+            while True:
+                assert self._process is not None
+                told, reached = asyncio.create_task(_read_all(self._process.stderr)), self._row
+                await self._read_answers()
+                status, errors = await self._process.wait(), await told
+                if status >= 0:
+                    why = printable(errors.strip()) or f"it has ended with status {status}"
+                    raise Over(f"ucl_live: {why}")
+                starts = starts + 1 if self._row == reached else 0
+                if starts >= MOST_STARTS:
+                    raise Over(f"ucl_live is killed by signal {-status} again and again")
                 await asyncio.sleep(PAUSE)
                 await self._launch()
+        except Exception as fault:  # whatever it is, who waits has to know
+            self.fail(fault)
 
     def fail(self, fault: Exception) -> None:
         """Tells all who wait that it can go on no more."""
@@ -183,7 +168,7 @@ class Live:
         future = self._waiting.pop(row, None)
         if future is not None and not future.done():
             future.set_result(reply)
-        for listener in [*self._listeners]:
+        for listener in self._listeners:
             listener(reply)
 
 

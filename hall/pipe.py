@@ -2,7 +2,6 @@
 
 import asyncio
 import contextlib
-import os
 import threading
 
 from hall import told
@@ -25,15 +24,9 @@ async def enter_lines(typist: Typist, edition: int) -> int:
 
     def read() -> None:
         # Not by `sys.stdin`, whose lock would be held at the program's end.
-        rest, piece = b"", b"\n"
-        with contextlib.suppress(RuntimeError):
-            while piece:
-                piece = os.read(0, LONGEST)
-                *whole, rest = (rest + piece).split(b"\n") if piece else (rest, b"")
-                if len(rest) > LONGEST:
-                    whole, rest = [*whole, rest], b""
-                for line in whole:
-                    loop.call_soon_threadsafe(lines.put_nowait, line + b"\n")
+        with contextlib.suppress(RuntimeError), open(0, "rb", closefd=False) as source:
+            while line := source.readline(LONGEST):
+                loop.call_soon_threadsafe(lines.put_nowait, line)
             loop.call_soon_threadsafe(lines.put_nowait, b"")
 
     threading.Thread(target=read, daemon=True).start()

@@ -72,9 +72,9 @@ class Record:
         """The moment that stands, as far as the record is read and answered."""
         return self._live.moment
 
-    def listen(self, listener: Listener) -> Callable[[], None]:
-        """Has a listener called with each new reply. Gives a function that ends this."""
-        return self._live.listen(listener)
+    def listen(self, listener: Listener) -> None:
+        """Has a listener called with each new reply."""
+        self._live.listen(listener)
 
     def tell_to(self, told: Callable[[str], None]) -> None:
         """Nothing is amiss with a record that is no fault."""

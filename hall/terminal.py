@@ -73,9 +73,10 @@ class Terminal:
         for number in (signal.SIGTERM, signal.SIGHUP):
             loop.add_signal_handler(number, self._exit, 128 + number)
         loop.add_signal_handler(signal.SIGTSTP, self._suspend)
-        unheard = self._typist.source.listen(lambda reply: self._refresh())
-        if not self._is_watching:
-            self._typist.listen()
+        if self._is_watching:
+            self._typist.source.listen(lambda reply: self._refresh())
+        else:
+            self._typist.source.listen(self._typist.heard)
             print(f"Reporter {self._typist.own}: {HINT}", flush=True)
         # What was typed before anything was shown was typed at nothing.
         termios.tcflush(sys.stdin, termios.TCIFLUSH)
@@ -83,7 +84,6 @@ class Terminal:
             await self._app.run_async()
             await self._finish()
         finally:
-            unheard()
             over.remove_done_callback(self._give_up)
             for number in (signal.SIGTERM, signal.SIGHUP, signal.SIGTSTP):
                 loop.remove_signal_handler(number)

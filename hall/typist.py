@@ -117,10 +117,6 @@ class Typist:
         self.show(f"{match:2} {told.match(self.source.moment, match)}")
         self.show(*(f"   {event}" for event in self.source.events(match)))
 
-    def listen(self) -> None:
-        """Has shown what others enter."""
-        self.source.listen(self._heard)
-
     async def propose(self, text: str, line: MendTyped | ClubTyped) -> None:
         """Shows what a mend would do, and asks.
 
@@ -178,7 +174,8 @@ class Typist:
         self._tasks.add(task)
         task.add_done_callback(self._tasks.discard)
 
-    def _heard(self, reply: Reply) -> None:
+    def heard(self, reply: Reply) -> None:
+        """Shows what others enter: a listener of the board."""
         answer = reply.answer
         if self._edition != self.source.moment.edition:
             self._edition = self.source.moment.edition
