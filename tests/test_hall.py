@@ -2,6 +2,8 @@
 
 import asyncio
 import contextlib
+import ctypes
+import errno
 import fcntl
 import json
 import os
@@ -487,6 +489,23 @@ def test_a_record_begins_on_fat(tmp_path, live):
         assert text_of(path) == BEGUN and os.listdir(folder) == ["evening.csv"]
     finally:
         subprocess.run(["umount", folder], check=True)
+
+
+@pytest.mark.parametrize("code", [errno.ENOSYS, errno.EINVAL])
+def test_a_record_begins_where_a_file_can_not_be_moved_so(tmp_path, monkeypatch, code):
+    """It gets its name by a link then; where there are no links either, as on some FAT, that is told, and nothing stays."""
+    monkeypatch.setattr(disk, "_LIBC", types.SimpleNamespace(renameat2=lambda *_: ctypes.set_errno(code) or -1))
+    path = str(tmp_path / "evening.csv")
+    assert disk.begin(path, BEGUN.encode()) and not disk.begin(path, STARTED.encode())
+    assert text_of(path) == BEGUN and os.listdir(tmp_path) == ["evening.csv"]
+
+    def no_link(*_):
+        raise OSError(errno.EPERM, "Operation not permitted")
+
+    monkeypatch.setattr(os, "link", no_link)
+    with pytest.raises(OSError, match="Operation not permitted"):
+        disk.begin(str(tmp_path / "other.csv"), BEGUN.encode())
+    assert os.listdir(tmp_path) == ["evening.csv"]
 
 
 def test_a_share(tmp_path):
