@@ -720,7 +720,8 @@ def test_a_thousand_hostile_messages(site, seed):
 
 
 def test_what_a_broker_tells_is_printed_without_escapes_and_ends_nobody(site):
-    """A notice, a club's name, a refusal of a rule that is not known, a screen without matches, a blank in a topic, an answer that is none."""
+    """A notice, a club's name, a refusal of a rule that is not known, a screen without matches, a blank in a topic, an answer that is none, and at last
+    a screen that is older than the one that stands."""
     board = site.begin()
     reporter = site.terminal().sees("12 Delta")
     screen, raw = desk(site), len(reporter.raw)
@@ -730,6 +731,11 @@ def test_what_a_broker_tells_is_printed_without_escapes_and_ends_nobody(site):
         site.done(f"mosquitto_pub -V 5 -q 1 -t 'ucl/a/{topic}' -s", json.dumps(it))
     reporter.sees("boo?[2J?]0;x?").enter("1 kickoff", "1 kickoff               entered, row 6").board()
     assert not re.search(rb"\x1b\[2J|\x1b\]|\x1b\[31m", reporter.raw[raw:]) and "Traceback" not in reporter.text() and board.shell.poll() is None
+    board.kill()
+    site.await_no_board()
+    site.done("mosquitto_pub -V 5 -q 1 -t ucl/a/desk -s", json.dumps(screen))
+    time.sleep(1)
+    assert reporter.board().startswith("GROUP A v00001")
 
 
 @pytest.mark.parametrize("topic", ["ucl/a/0/rows/1", "ucl/a/answers", "ucl/a/desk"])

@@ -473,22 +473,48 @@ def test_rows_that_begin_no_record(tmp_path, live):
     assert [*tmp_path.iterdir()] == []
 
 
+@contextlib.contextmanager
+def file_system(folder, kind, size):
+    """A file system of this kind, in a file of so many bytes."""
+    needs(f"mkfs.{kind}", "mount")
+    image, stick = folder / "image", folder / "stick"
+    stick.mkdir()
+    with open(image, "wb") as file:
+        file.truncate(size)
+    subprocess.run([f"mkfs.{kind}", image], check=True, capture_output=True)
+    if subprocess.run(["mount", "-o", "loop", image, stick], capture_output=True).returncode:
+        pytest.skip(f"this system mounts no {kind}")
+    try:
+        yield stick
+    finally:
+        subprocess.run(["umount", "-l", stick], check=True)
+
+
 def test_a_record_begins_on_fat(tmp_path, live):
     """Where there are no links."""
-    needs("mkfs.vfat", "mount")
-    image, folder = tmp_path / "image", tmp_path / "stick"
-    folder.mkdir()
-    with open(image, "wb") as file:
-        file.truncate(4 << 20)
-    subprocess.run(["mkfs.vfat", image], check=True, capture_output=True)
-    if subprocess.run(["mount", "-o", "loop", image, folder], capture_output=True).returncode:
-        pytest.skip("no loop devices here")
-    try:
+    with file_system(tmp_path, "vfat", 4 << 20) as folder:
         path = str(folder / "evening.csv")
         assert asyncio.run(begin(path, live, BEGUN.encode())) and not asyncio.run(begin(path, live, STARTED.encode()))
         assert text_of(path) == BEGUN and os.listdir(folder) == ["evening.csv"]
-    finally:
-        subprocess.run(["umount", folder], check=True)
+
+
+@pytest.mark.parametrize("room, told", [(0, "the disk is full: nothing was entered"), (4, "the disk is full, and the row was cut off: it may be in the record")])
+def test_a_full_disk_that_reserves_nothing(tmp_path, live, room, told):
+    """ext2 has no call for it: what has no room is told as not entered, and as perhaps entered where a part of it had room."""
+    with file_system(tmp_path, "ext2", 1 << 20) as folder:
+        text = STARTED + "\n" * (os.sysconf("SC_PAGE_SIZE") - len(STARTED) - room)
+
+        async def work(record):
+            with contextlib.suppress(OSError), open(folder / "rest", "wb", buffering=0) as rest:
+                while rest.write(b"x" * 1024):
+                    pass
+            with pytest.raises((NotEntered, MaybeEntered), match=told):
+                await record.append([goal(record)], 0)
+            assert text_of(record.path) == text + goal(record).decode()[:room]
+            (folder / "rest").unlink()
+            assert isinstance((await record.append([goal(record)], 0))[0].answer, Accepted)
+
+        held(folder, text, work, live)
 
 
 @pytest.mark.parametrize("code", [errno.ENOSYS, errno.EINVAL])
