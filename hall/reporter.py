@@ -9,7 +9,7 @@ import sys
 import time
 from typing import Any
 
-from hall import told
+from hall import told, topics
 from hall.beginning import begin, rows_by_questions
 from hall.faults import NotEntered, Over
 from hall.pipe import enter_lines, watch_lines
@@ -41,7 +41,7 @@ def options_of(words: list[str]) -> argparse.Namespace:
         "--edition": {"type": functools.partial(_within, range(LAST_EDITION + 1))},
         **{name: {"action": "store_true"} for name in ("--watch", "--sheet", "--yes")},
         "--mend": {"nargs": "?", "const": ""},
-        "--broker": {"choices": tuple("abcdefgh")},
+        "--broker": {"choices": tuple(topics.GROUPS)},
         **{name: {"type": _seconds} for name in ("--again", "--limit")},
     }
     for name, how in known.items():

@@ -119,10 +119,7 @@ class Terminal:
 
     def _refresh(self) -> None:
         """Draws what is new, as soon as nothing that was typed waits."""
-        if self._is_watching or self._typist.question is None:
-            wanted = self._text
-        else:
-            wanted = self._answer
+        wanted = self._text if self._typist.question is None else self._answer
         if not self._is_watching and self._app.layout.current_buffer is not wanted:
             self._app.layout.focus(wanted)
         self._app.invalidate()
@@ -193,17 +190,15 @@ class Terminal:
 
     def _paste(self, data: str) -> None:
         """Takes a paste: each line by itself, as seen at the paste; the last stays in the line."""
-        *lines, rest = data.replace("\r\n", "\n").replace("\r", "\n").split("\n")
+        lines = data.replace("\r\n", "\n").replace("\r", "\n").split("\n")
         buffer = self._app.current_buffer
         moment = (self._seen or self._typist.underway.look()).moment
-        for line in lines:
+        for place, line in enumerate(lines):
+            if place:
+                buffer.validate_and_handle()
             buffer.insert_text("".join(letter for letter in line if letter.isprintable()))
-            if buffer is self._text and self._seen is not None:
+            if buffer is self._text and self._seen is not None and len(lines) > 1:
                 self._seen = Seen(moment, self._typist.underway.look().waiting)
-            buffer.validate_and_handle()
-        buffer.insert_text("".join(letter for letter in rest if letter.isprintable()))
-        if buffer is self._text and self._seen is not None and lines:
-            self._seen = Seen(moment, self._typist.underway.look().waiting)
 
     # ---- how it ends, and is stopped
 
