@@ -43,9 +43,9 @@ class Server:
         self._files = {"/": Page("index.html"), "/replay.jsonl": Page("replay.jsonl")}
         self._report = Page("report.html")
         self._begun: dict[web.RequestHandler, asyncio.TimerHandle] = {}
-        self._runner: web.AppRunner | None = None
-        self._pulsing: asyncio.Task[None] | None = None
-        self._listener: asyncio.Server | None = None
+        self._runner: web.AppRunner
+        self._pulsing: asyncio.Task[None]
+        self._listener: asyncio.Server
 
     async def start(self, host: str, port: int, context: ssl.SSLContext | None) -> None:
         """Listens, and sends pulses from then on.
@@ -91,14 +91,11 @@ class Server:
 
     async def close(self) -> None:
         """Listens no more, and ends all connections."""
-        if self._listener is not None:
-            self._listener.close()
-        if self._pulsing is not None:
-            self._pulsing.cancel()
+        self._listener.close()
+        self._pulsing.cancel()
         for screens in (self.screens, *(group.phones for group in self.groups)):
             screens.abort()
-        if self._runner is not None:
-            await self._runner.cleanup()
+        await self._runner.cleanup()
 
     def _note(self, _: asyncio.AbstractEventLoop, about: dict[str, object]) -> None:
         """Keeps what went wrong outside any request, for who asks after it."""
@@ -106,7 +103,7 @@ class Server:
 
     def _connection(self) -> web.RequestHandler:
         """A new connection, which has to send a whole request in time."""
-        assert self._runner is not None and self._runner.server is not None
+        assert self._runner.server is not None
         handler = self._runner.server()
         if len(self._begun) >= MOST_BEGUN:
             self._expire(next(iter(self._begun)))
