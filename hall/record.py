@@ -120,7 +120,7 @@ class Record:
     async def trial(self, row: bytes) -> Trial:
         """What a row that mends would do.
 
-        Raises Refusal where it is refused, and Over where `ucl_live` fails.
+        Raises NotEntered where it is refused, and Over where `ucl_live` fails.
         """
         return await tried(self.program, self._file.text(), row)
 

@@ -36,7 +36,7 @@ class Typist:
     def __init__(self, source: Source, own: int, matches: Sequence[int]) -> None:
         self.source, self.own, self.matches = source, own, matches
         self.show: Callable[..., None] = _print
-        self.refresh: Callable[[], None] = _nothing
+        self.refresh: Callable[[], None] = lambda: None
         self.question: Question | None = None
         self.underway = Underway(source.moment)
         self._edition = source.moment.edition
@@ -203,7 +203,3 @@ class Typist:
 def _print(*lines: str) -> None:
     for line in lines:
         print(printable(line), flush=True)
-
-
-def _nothing() -> None:
-    pass

@@ -28,7 +28,7 @@ from hall.beginning import begin
 from hall.faults import Dropped, MaybeEntered, NotEntered, Over
 from hall.history import History
 from hall.lines import LONGEST_LINE, NoAnswer, answer_of, reply_of
-from hall.mends import Changed, Refusal
+from hall.mends import Changed
 from hall.printable import printable
 from hall.record import Record
 from hall.rows import EVENTS, Club, Row, club_mend, club_row, edition_mend, event_mend, event_row, later_group
@@ -279,7 +279,7 @@ def test_a_mend_is_asked_about_and_appended(tmp_path, live):
     """It shows what else is left out; if rows come by which that changes it is not appended, and else it is."""
 
     async def work(record):
-        with pytest.raises(Refusal):
+        with pytest.raises(NotEntered, match="refused: it is no event that stands"):
             await record.trial(event_mend(5))
         trial = await record.trial(event_mend(8))
         assert (trial.before.version, trial.after.version, trial.left_out, trial.after.edition) == (3, 2, (), 1)
