@@ -261,7 +261,7 @@ def test_a_record_is_read_and_appended_to(tmp_path, live):
         heard = []
         record.listen(heard.append)
         await record.ready()
-        assert record.moment.version == 3 and [it.row for it in record.history.of(1)] == [6, 7, 8]
+        assert record.moment.version == 3 and [it.row for it in record.events(1)] == [6, 7, 8]
         reader = await Record.open(record.path, live, is_read_only=True)
         replies = await record.append([goal(record), b"1,1,4,yellow-home\n", b"1,1,4,red-home\n"], 0)
         assert [type(it.answer) for it in replies] == [Accepted, Accepted, Refused] and replies[1].screen.version == 5 and [it.row for it in heard] == [9, 10, 11]
@@ -293,7 +293,7 @@ def test_a_mend_is_asked_about_and_appended(tmp_path, live):
             await record.mend(event_mend(7), trial)
         assert [it.row for it in changed.value.trial.left_out] == [11]
         assert (await record.mend(event_mend(7), changed.value.trial)).screen.age == (2, 2)
-        assert [it.row for it in record.history.of(1)] == [6]
+        assert [it.row for it in record.events(1)] == [6]
 
     held(tmp_path, STARTED, work, live)
 
@@ -311,7 +311,7 @@ def test_ucl_live_is_killed(tmp_path, live):
             replies = await record.append([goal(record)], 0)
             assert isinstance(replies[0].answer, Accepted), number
         assert [it.row for it in heard] == [*range(9, 39)] and [it.screen.version for it in heard] == [*range(4, 34)]
-        assert [it.row for it in record.history.of(1)] == [*range(6, 39)]
+        assert [it.row for it in record.events(1)] == [*range(6, 39)]
 
     held(tmp_path, STARTED, work, live)
 
