@@ -16,7 +16,7 @@ try:
     from prompt_toolkit.buffer import Buffer
     from prompt_toolkit.history import InMemoryHistory
     from prompt_toolkit.input import create_input
-    from prompt_toolkit.key_binding import KeyBindings, KeyPressEvent
+    from prompt_toolkit.key_binding import KeyBindings
     from prompt_toolkit.keys import Keys
     from prompt_toolkit.output.color_depth import ColorDepth
 except ImportError as error:
@@ -140,33 +140,15 @@ class Terminal:
 
     def _bindings(self) -> KeyBindings:
         keys = KeyBindings()
-
-        @keys.add("c-c", eager=True)
-        @keys.add(Keys.SIGINT)
-        def interrupt(event: KeyPressEvent) -> None:
-            self._exit(128 + signal.SIGINT)
-
-        @keys.add("c-z", eager=True)
-        def suspend(event: KeyPressEvent) -> None:
-            self._suspend()
-
+        for key in ("c-c", Keys.SIGINT):
+            keys.add(key, eager=True)(lambda event: self._exit(128 + signal.SIGINT))
+        keys.add("c-z", eager=True)(lambda event: self._suspend())
         if self._is_watching:
-
-            @keys.add(Keys.Any)
-            @keys.add(Keys.BracketedPaste)
-            def ignore(event: KeyPressEvent) -> None:
-                pass
-
-            return keys
-
-        @keys.add("c-d", eager=True)
-        def end(event: KeyPressEvent) -> None:
-            self._exit(0)
-
-        @keys.add(Keys.BracketedPaste, eager=True)
-        def paste(event: KeyPressEvent) -> None:
-            self._paste(event.data)
-
+            for key in (Keys.Any, Keys.BracketedPaste):
+                keys.add(key)(lambda event: None)
+        else:
+            keys.add("c-d", eager=True)(lambda event: self._exit(0))
+            keys.add(Keys.BracketedPaste, eager=True)(lambda event: self._paste(event.data))
         return keys
 
     def _changed(self, buffer: Buffer) -> None:
