@@ -31,7 +31,7 @@ import time
 from collections import OrderedDict
 from collections.abc import AsyncIterator
 
-from hall import topics
+from hall import disk, topics
 from hall.address import Address
 from hall.answers import Moment, Reply
 from hall.beginning import begin, rows_of_file
@@ -42,11 +42,13 @@ from hall.printable import printable, warn
 from hall.programs import live_program
 from hall.record import Record
 from hall.requests import MINUTE, People, Request, request_of
-from hall.running import ending, locked, until_ended
+from hall.running import ending, until_ended
 
 # How many answers are kept for rows that come again, how many rows may wait, and for how many
 # seconds a broker keeps rows for a board that is down.
 ANSWERS, WAITING, SESSION = 10_000, 10_000, 7 * 86_400
+# How long a lock is waited for, in seconds: who only asks whether it is free has it for a moment.
+LOCK = 0.5
 
 
 class Board:
@@ -197,7 +199,12 @@ async def held(record: Record, address: Address) -> AsyncIterator[asyncio.Task[N
     """
     group = record.moment.title.group.lower()
     path = os.path.join(os.path.dirname(record.path), f"{group}.lock")
-    with locked(path, f"board of group {group}"):
+    with open(path, "ab") as file:
+        try:
+            disk.lock(file.fileno(), LOCK, path)
+        except disk.Held as error:
+            text = f"another board of group {group} runs here: it holds {path}"
+            raise Over(text) from error
         broker = Broker(address, f"board-{group}", [topics.all_rows(group)])
         board = Board(group, record, broker)
         broker.open(topics.ROWS, session=SESSION)

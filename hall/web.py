@@ -209,8 +209,7 @@ class Server:
         except ValueError:
             phone.transport.close()
             return
-        answer = await (reporter.ask(tap) if is_asked else reporter.enter(tap))
-        phone.write(frame_of(answer.line(tap)))
+        phone.write(frame_of((await reporter.answer(tap, is_asked)).line(tap)))
 
 
 async def _opened(request: web.Request) -> tuple[web.WebSocketResponse, Screen]:
