@@ -69,7 +69,7 @@ class Terminal:
         """
         loop = asyncio.get_running_loop()
         over = self._typist.source.over
-        over.add_done_callback(self._give_up)
+        over.add_done_callback(lambda _: self._exit(1))
         for number in (signal.SIGTERM, signal.SIGHUP):
             loop.add_signal_handler(number, self._exit, 128 + number)
         loop.add_signal_handler(signal.SIGTSTP, self._suspend)
@@ -84,7 +84,6 @@ class Terminal:
             await self._app.run_async()
             await self._finish()
         finally:
-            over.remove_done_callback(self._give_up)
             for number in (signal.SIGTERM, signal.SIGHUP, signal.SIGTSTP):
                 loop.remove_signal_handler(number)
         if over.done():
@@ -188,9 +187,6 @@ class Terminal:
         self._status = status
         if self._app.is_running and not self._app.is_done:
             self._app.exit()
-
-    def _give_up(self, _: object) -> None:
-        self._exit(1)
 
     def _suspend(self) -> None:
         asyncio.ensure_future(self._stop())
