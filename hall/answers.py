@@ -25,7 +25,6 @@ Number = Annotated[int, range(4_096)]
 Version = Annotated[int, range(49_141)]
 Games = Annotated[int, range(7)]
 Goals = Annotated[int, range(379)]
-Words = Annotated[tuple[str, ...], 12, _WORD]
 
 
 @dataclass(frozen=True, slots=True)
@@ -43,11 +42,10 @@ class Match:
 
 @dataclass(frozen=True, slots=True)
 class Place:
-    """A line of the table: numbers of matches in play and finished, and the club's slot."""
+    """A line of the table: its numbers are of matches in play and finished."""
 
     place: Annotated[int, range(1, 5)]
     mark: Annotated[str, ("", "+", "-")]
-    slot: Annotated[int, range(1, 5)]
     club: Annotated[str, NAME]
     played: Games
     won: Games
@@ -77,10 +75,9 @@ class Moment:
     title: Title
     version: Version
     in_play: Annotated[int, range(13)]
-    words: Words
+    words: Annotated[tuple[str, ...], 12, _WORD]
     matches: Annotated[tuple[Match, ...], 12]
     table: Annotated[tuple[Place, ...], 4]
-    pulse: Annotated[int | None, range(1 << 40)]
     line: bytes
 
     @property
@@ -107,7 +104,6 @@ class Accepted:
     event: Row
     number: Annotated[int, range(1, 4_096)]
     version: Version
-    words: Words
     title: Title
     line: bytes
 
@@ -158,7 +154,6 @@ class Mended:
     row: Line
     title: Title
     version: Version
-    words: Words
     left_out: Version
     without: Annotated[int | None, range(1, LAST_ROW + 1)]
     line: bytes

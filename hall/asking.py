@@ -10,10 +10,19 @@ from hall.lines import answer_of
 from hall.printable import printable
 from hall.rows import SCREEN
 
+# How much of the output is read at once, in bytes.
+PIECE = 1 << 20
 
-def program_words(program: str, *, screens: bool = True) -> list[str]:
-    """The command line of `ucl_live`."""
-    return [program, "--format", "json", *(["--screens"] if screens else [])]
+
+async def started(program: str, *more: str) -> asyncio.subprocess.Process:
+    """Starts `ucl_live`, with these words more. Raises Over where it can not be started."""
+    pipe, words = asyncio.subprocess.PIPE, (program, "--format", "json", *more)
+    try:
+        return await asyncio.create_subprocess_exec(
+            *words, stdin=pipe, stdout=pipe, stderr=pipe, start_new_session=True, limit=PIECE
+        )
+    except OSError as error:
+        raise Over(f"{program}: {error.strerror}") from error
 
 
 async def ask(program: str, rows: bytes) -> list[Answer]:
@@ -40,27 +49,16 @@ async def last_screen(program: str, rows: bytes) -> Moment:
 
 async def _output(program: str, rows: bytes) -> bytes:
     """All that a run writes; one that is killed is repeated."""
-    pipe = asyncio.subprocess.PIPE
-    status, output, errors = -1, b"", b""
     for _ in range(3):
-        try:
-            process = await asyncio.create_subprocess_exec(
-                *program_words(program, screens=False),
-                stdin=pipe,
-                stdout=pipe,
-                stderr=pipe,
-                start_new_session=True,
-            )
-        except OSError as error:
-            raise Over(f"{program}: {error.strerror}") from error
+        process = await started(program)
         try:
             output, errors = await process.communicate(rows)
         finally:
             with contextlib.suppress(ProcessLookupError):
                 process.kill()
-        status = process.returncode if process.returncode is not None else -1
-        if status >= 0:
+        if process.returncode == 0:
+            return output
+        if (process.returncode or 0) > 0:
             break
-    if status != 0:
-        raise Over(printable(errors.strip()) or f"ucl_live has ended with status {status}")
-    return output
+    why = f"ucl_live has ended with status {process.returncode}"
+    raise Over(printable(errors.strip()) or why)

@@ -12,7 +12,6 @@ from hall.rows import GROUPS, ORDERS, SCREEN, SLOTS, Club, checked_coefficient, 
 from hall.rows import club_row, group_row
 
 Value = TypeVar("Value")
-Input = Callable[[str], str]
 
 
 async def begin(path: str, program: str, rows: bytes) -> bool:
@@ -37,24 +36,24 @@ def rows_of_file(path: str, group: str, order: str) -> bytes:
     return group_row(group, order) + b"".join(line + b"\n" for line in lines[:4])
 
 
-def rows_by_questions(answer: Input, tell: Callable[[str], None]) -> bytes:
+def rows_by_questions() -> bytes:
     """Asks for the group and its clubs, until each answer is as it should be."""
 
     def asked(question: str, check: Callable[[str], Value], otherwise: str = "") -> Value:
         while True:
-            text = answer(question).strip() or otherwise
+            text = input(question).strip() or otherwise
             try:
                 return check(text)
             except NotEntered as fault:
-                tell(str(fault))
+                print(fault)
 
     group = asked("The group's letter on screens, A to H [A]: ", _group, "A")
-    tell(
+    print(
         "The order of clubs that are level: uefa is that of the Regulations; away-in-tie counts "
         "away goals among tied clubs too."
     )
     order = asked("Order, uefa or away-in-tie [uefa]: ", _order, "uefa")
-    tell(
+    print(
         "Four clubs: by their slots matches have their numbers. A name has 1 to 20 letters without "
         "accents.\nA club's coefficient decides a tie last of all: 35.500 or, in thousandths, "
         "35500; 0 if it is not known."

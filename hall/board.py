@@ -31,22 +31,24 @@ import time
 from collections import OrderedDict
 from collections.abc import AsyncIterator
 
-from hall import topics
+from hall import disk, topics
 from hall.address import Address
 from hall.answers import Moment, Reply
 from hall.beginning import begin, rows_of_file
 from hall.broker import Broker, Message
 from hall.faults import Dropped, Fault, Over
 from hall.lines import line_of
-from hall.printable import printable
+from hall.printable import printable, warn
 from hall.programs import live_program
 from hall.record import Record
 from hall.requests import MINUTE, People, Request, request_of
-from hall.running import ending, locked, until_ended
+from hall.running import ending, until_ended
 
 # How many answers are kept for rows that come again, how many rows may wait, and for how many
 # seconds a broker keeps rows for a board that is down.
 ANSWERS, WAITING, SESSION = 10_000, 10_000, 7 * 86_400
+# How long a lock is waited for, in seconds: who only asks whether it is free has it for a moment.
+LOCK = 0.5
 
 
 class Board:
@@ -55,9 +57,7 @@ class Board:
     def __init__(self, group: str, record: Record, broker: Broker) -> None:
         self.group, self.record, self.broker = group, record, broker
         self._heard: asyncio.Queue[Request] = asyncio.Queue(WAITING)
-        # Correlation data of rows that wait, by their lines in the record once they are written;
-        # what was answered; who types.
-        self._pending: set[bytes] = set()
+        # Correlation data of rows by their lines in the record; what was answered; who types.
         self._asked: dict[int, bytes] = {}
         self._answered: OrderedDict[bytes, list[bytes]] = OrderedDict()
         self._people = People()
@@ -100,22 +100,19 @@ class Board:
             requests = [await self._heard.get()]
             while not self._heard.empty():
                 requests.append(self._heard.get_nowait())
-            edition = self.record.moment.edition
-            fresh = [it for it in requests if it.edition == edition and self._is_new(it)]
+            edition, fresh = self.record.moment.edition, dict[object, Request]()
+            for it in requests:
+                if it.edition == edition and self._is_new(it):
+                    fresh.setdefault(it.correlation or len(fresh), it)
             if fresh:
-                await self._enter(fresh, edition)
+                await self._enter([*fresh.values()], edition)
 
     def _is_new(self, request: Request) -> bool:
         """Whether a row is to be judged: one that was, or is, is answered by its answer."""
-        correlation = request.correlation
-        if correlation in self._pending:
-            return False
-        known = self._answered.get(correlation or b"", [])
+        known = self._answered.get(request.correlation or b"", [])
         if not known and request.is_again and self.record.has(request.reporter, request.row):
             known = [self._entered(request)]
-        self._publish(known, correlation)
-        if correlation is not None and not known:
-            self._pending.add(correlation)
+        self._publish(known, request.correlation)
         return not known
 
     async def _enter(self, requests: list[Request], edition: int) -> None:
@@ -132,8 +129,6 @@ class Board:
         except Fault as fault:
             for reporter in {it.reporter for it in requests}:
                 self._notice(reporter, str(fault))
-        finally:
-            self._pending.difference_update(it.correlation for it in requests if it.correlation)
 
     def _answer(self, reply: Reply) -> None:
         """Tells what was answered to a row, and the screen after it."""
@@ -192,7 +187,7 @@ class Board:
             self._passed_over = 0
 
     def _tell(self, text: str) -> None:
-        print(f"board {self.group}: {printable(text)}", file=sys.stderr, flush=True)
+        warn(f"board {self.group}: {text}")
 
 
 @contextlib.asynccontextmanager
@@ -204,7 +199,12 @@ async def held(record: Record, address: Address) -> AsyncIterator[asyncio.Task[N
     """
     group = record.moment.title.group.lower()
     path = os.path.join(os.path.dirname(record.path), f"{group}.lock")
-    with locked(path, f"board of group {group}"):
+    with open(path, "ab") as file:
+        try:
+            disk.lock(file.fileno(), LOCK, path)
+        except disk.Held as error:
+            text = f"another board of group {group} runs here: it holds {path}"
+            raise Over(text) from error
         broker = Broker(address, f"board-{group}", [topics.all_rows(group)])
         board = Board(group, record, broker)
         broker.open(topics.ROWS, session=SESSION)

@@ -24,8 +24,6 @@ from hall.faults import Over
 
 # In seconds: how often a connection shows that it lives, and how long to wait for a next one.
 KEEP_ALIVE, NEXT = 15, (1, 4)
-# The most bytes of correlation data.
-LONGEST_CORRELATION = 64
 # A reason from here on is a refusal (MQTT 5, 2.4).
 _REFUSED = 0x80
 _AGAIN = ("again", "1")
@@ -56,7 +54,6 @@ class Broker:
         self.told: Callable[[str], None] = _nothing
         self.refused: Callable[[bytes], None] = _nothing
         self.is_connected = False
-        self.passed_over = 0
         self._loop = asyncio.get_running_loop()
         self._sent: dict[int, bytes] = {}
         self._client = _client_of(identity)
@@ -149,18 +146,16 @@ class Broker:
             self._in_loop(self.told, "the broker lets this name not hear what it has to hear")
 
     def _on_message(self, client: Any, data: Any, message: Any) -> None:
-        # Whatever is raised here would end the thread, and the program would be deaf.
-        try:
-            correlation = getattr(message.properties, "CorrelationData", None)
-            again = message.dup or _AGAIN in getattr(message.properties, "UserProperty", [])
-            if message.retain or len(correlation or b"") > LONGEST_CORRELATION:
-                self.passed_over += 1
-                return
-            heard = Message(message.topic, bytes(message.payload), correlation, again)
-        except Exception:  # pylint: disable=broad-except
-            self.passed_over += 1
+        if message.retain:
             return
-        self._in_loop(self.heard, heard)
+        correlation = getattr(message.properties, "CorrelationData", None)
+        again = message.dup or _AGAIN in getattr(message.properties, "UserProperty", [])
+        try:
+            topic = message.topic
+        except UnicodeDecodeError:
+            # It would end the thread, and the program would be deaf.
+            topic = ""
+        self._in_loop(self.heard, Message(topic, bytes(message.payload), correlation, again))
 
     def _watch_refusals(self) -> None:
         """Has `refused` called where the answer to a message is a refusal, which paho hides."""

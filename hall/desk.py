@@ -88,10 +88,9 @@ class Desk:
         assert self._moment is not None
         return self._moment
 
-    def listen(self, listener: Listener) -> Callable[[], None]:
-        """Has a listener called with each new reply. Gives a function that ends this."""
+    def listen(self, listener: Listener) -> None:
+        """Has a listener called with each new reply."""
         self._listeners.append(listener)
-        return lambda: self._listeners.remove(listener)
 
     def tell_to(self, told: Told) -> None:
         """Has what is amiss told there, in a line."""
@@ -107,8 +106,8 @@ class Desk:
 
     def events(self, match: int) -> list[Event]:
         """The events of a match that came here, of the edition that stands."""
-        rows = sorted((row for row in self._events if row.match == match), key=_expected)
-        return [self._events[row] for row in rows]
+        rows = [row for row in self._events if row.match == match]
+        return [self._events[row] for row in sorted(rows, key=lambda row: row.expected)]
 
     async def enter(
         self, reporter: int, rows: Sequence[Row], edition: int, is_again: bool = False
@@ -149,24 +148,20 @@ class Desk:
             self._take(answer, message.correlation)
 
     def _see(self, moment: Moment) -> None:
-        """Takes a screen that is not older than the one that stands."""
+        """Takes a screen that is newer than the one that stands."""
         before = self._moment
-        if before is not None and moment.age < before.age:
+        if before is not None and moment.age <= before.age:
             return
-        if before is None or moment.age > before.age:
-            self._moment = moment
+        self._moment = moment
         self._begun.set()
         if before is not None and moment.edition > before.edition:
             self._events.clear()
             self._left_out.clear()
             self._held.clear()
             self._outbox.drop(moment.edition)
-        held = [*self._held]
-        self._held.clear()
-        for answer, mine in held:
-            self._decide(answer, mine)
-        if before is None or moment.age > before.age:
-            self._call(Reply(moment, moment))
+        for _ in range(len(self._held)):
+            self._decide(*self._held.popleft())
+        self._call(Reply(moment, moment))
 
     def _take(self, answer: Answer, correlation: bytes | None) -> None:
         if isinstance(answer, Notice):
@@ -201,7 +196,7 @@ class Desk:
         self._call(reply)
 
     def _call(self, reply: Reply) -> None:
-        for listener in [*self._listeners]:
+        for listener in self._listeners:
             listener(reply)
 
     def _pass_over(self) -> None:
@@ -214,7 +209,3 @@ class Desk:
         if text != self._last:
             self._last = text
             self._told(text)
-
-
-def _expected(row: Row) -> int:
-    return row.expected

@@ -50,11 +50,6 @@ def lock(file: int, seconds: float, name: str) -> None:
             time.sleep(0.01)
 
 
-def unlock(file: int) -> None:
-    """Gives the lock back."""
-    fcntl.flock(file, fcntl.LOCK_UN)
-
-
 def reserve(file: int, count: int) -> None:
     """Has the file system keep so many bytes free for the end of a file, whose size stays.
 
@@ -96,24 +91,17 @@ def begin(path: str, data: bytes) -> bool:
     """
     folder = os.path.dirname(path) or "."
     beside = os.path.join(folder, f".{os.path.basename(path)}.{secrets.token_hex(8)}")
-    file = os.open(beside, os.O_WRONLY | os.O_CREAT | os.O_EXCL | os.O_NOFOLLOW, 0o666)
     try:
-        try:
-            _write_all(file, data)
-            os.fsync(file)
-        finally:
-            os.close(file)
+        with open(beside, "xb") as file:
+            file.write(data)
+            file.flush()
+            os.fsync(file.fileno())
         is_made = _moved(beside, path)
         _sync_folder(folder)
         return is_made
     finally:
         with contextlib.suppress(FileNotFoundError):
             os.unlink(beside)
-
-
-def _write_all(file: int, data: bytes) -> None:
-    while data:
-        data = data[os.write(file, data) :]
 
 
 def _moved(old: str, new: str) -> bool:

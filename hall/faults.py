@@ -26,7 +26,6 @@ class Dropped(NotEntered):
     """Another edition has begun since."""
 
     def __init__(self, edition: int) -> None:
-        self.edition = edition
         super().__init__(
             f"dropped: edition {edition} has begun; look at the match, and type it again "
             "if it still holds"

@@ -44,14 +44,8 @@ class History:
 
     def has(self, reporter: int, row: Row) -> bool:
         """Whether the board has just this event of this reporter, as this row enters it."""
-        return self.at(row) == (reporter, row.event)
-
-    def at(self, row: Row) -> tuple[int, str] | None:
-        """Who entered what with the number of this row; None where the match is not so far."""
-        events = self.of(row.match)
-        if row.expected >= len(events):
-            return None
-        return events[row.expected].reporter, events[row.expected].event
+        events = self.of(row.match)[row.expected : row.expected + 1]
+        return [(it.reporter, it.event) for it in events] == [(reporter, row.event)]
 
     def _read(self) -> None:
         noted, self._noted = self._noted, []

@@ -8,6 +8,7 @@ of this file (`flock`): a record is served once.
 import contextlib
 import fcntl
 import hmac
+import io
 import os
 import re
 import secrets
@@ -27,25 +28,20 @@ def held(record: str, numbers: Iterable[int], *, are_new: bool) -> Iterator[dict
     another program serves the record, or others can read the file, and OSError where it can not be
     opened or written.
     """
-    path = f"{record}.keys"
-    flags = os.O_RDWR | os.O_APPEND | os.O_CREAT | os.O_NOFOLLOW | os.O_CLOEXEC
-    file = os.open(path, flags, 0o600)
-    try:
+    with open(f"{record}.keys", "a+b", buffering=0, opener=_opener) as file:
         try:
             fcntl.flock(file, fcntl.LOCK_EX | fcntl.LOCK_NB)
         except BlockingIOError as error:
             raise Over(f"{record} is served already") from error
-        known = _read(file, path)
+        known = _read(file)
         wanted = sorted({number for number in numbers if are_new or number not in known})
         made = {number: secrets.token_hex(16) for number in wanted}
         if made:
             lines = "".join(f"{number} {key}\n" for number, key in made.items())
             # A line that was cut off ends before the new ones.
-            os.write(file, f"\n{lines}".encode())
-            os.fsync(file)
+            file.write(f"\n{lines}".encode())
+            os.fsync(file.fileno())
         yield {**known, **made}
-    finally:
-        os.close(file)
 
 
 def keys_of(record: str) -> dict[int, str]:
@@ -53,15 +49,11 @@ def keys_of(record: str) -> dict[int, str]:
 
     Raises Over where others can read the file, and OSError where it can not be read.
     """
-    path = f"{record}.keys"
     try:
-        file = os.open(path, os.O_RDONLY | os.O_NOFOLLOW | os.O_CLOEXEC)
+        with open(f"{record}.keys", "rb", buffering=0, opener=_opener) as file:
+            return _read(file)
     except FileNotFoundError:
         return {}
-    try:
-        return _read(file, path)
-    finally:
-        os.close(file)
 
 
 def is_key(text: str, key: str) -> bool:
@@ -69,11 +61,15 @@ def is_key(text: str, key: str) -> bool:
     return hmac.compare_digest(text.encode(errors="replace"), key.encode())
 
 
-def _read(file: int, path: str) -> dict[int, str]:
-    about = os.fstat(file)
-    if stat.S_IMODE(about.st_mode) & 0o077:
+def _opener(path: str, flags: int) -> int:
+    return os.open(path, flags | os.O_NOFOLLOW, 0o600)
+
+
+def _read(file: io.FileIO) -> dict[int, str]:
+    path = str(file.name)
+    if stat.S_IMODE(os.fstat(file.fileno()).st_mode) & 0o077:
         raise Over(f"others can read {path}, which has keys: chmod 600 {path}, and give --new-keys")
-    text = os.pread(file, 1 << 20, 0).decode(errors="replace")
+    text = os.pread(file.fileno(), 1 << 20, 0).decode(errors="replace")
     # A line counts with its end alone: a key that was cut off is none.
     whole = text[: text.rfind("\n") + 1]
     return {int(number): key for number, key in _LINE.findall(whole)}

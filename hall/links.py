@@ -1,5 +1,6 @@
 """Links that people open: the addresses of this machine, and codes that a phone's camera reads."""
 
+import contextlib
 import fcntl
 import io
 import socket
@@ -15,24 +16,17 @@ def hosts_of(host: str) -> list[str]:
     """
     if host not in ("0.0.0.0", "::", ""):
         return [host]
-    found = []
+    found, names = [], list[tuple[int, str]]()
+    # A service may not ask for the interfaces, and one may have no such address.
+    with contextlib.suppress(OSError):
+        names = socket.if_nameindex()
     with socket.socket(socket.AF_INET, socket.SOCK_DGRAM) as probe:
-        for name in _interfaces():
-            try:
+        for _, name in names:
+            with contextlib.suppress(OSError):
                 asked = struct.pack("256s", name.encode()[:15])
                 found.append(socket.inet_ntoa(fcntl.ioctl(probe, _SIOCGIFADDR, asked)[20:24]))
-            except OSError:
-                continue
     others = [address for address in found if not address.startswith("127.")]
     return others or ["127.0.0.1"]
-
-
-def _interfaces() -> list[str]:
-    """The network interfaces, where this program may ask for them."""
-    try:
-        return [name for _, name in socket.if_nameindex()]
-    except OSError:
-        return []
 
 
 def is_of_this_machine(host: str) -> bool:

@@ -12,15 +12,13 @@ import contextlib
 from collections.abc import Callable
 
 from hall.answers import Moment, Reply, kind_in, row_in
-from hall.asking import program_words
+from hall.asking import PIECE, started
 from hall.faults import Over
 from hall.history import History
 from hall.lines import NoAnswer, answer_of, reply_of
 from hall.printable import printable
 
 Listener = Callable[[Reply], None]
-# How much of the child's output is read at once, in bytes.
-PIECE = 1 << 20
 # How often the child may end without an answer more before the program gives up.
 MOST_STARTS = 20
 # How long to wait until the child is started again, in seconds.
@@ -38,24 +36,25 @@ class Live:
         self._process: asyncio.subprocess.Process | None = None
         self._task: asyncio.Task[None] | None = None
         self._listeners: list[Listener] = []
-        self._waiting: dict[int, list[asyncio.Future[Reply]]] = {}
-        # The lines of a row that is not answered whole yet; the newest screen, read when asked for.
+        self._waiting: dict[int, asyncio.Future[Reply]] = {}
+        # The lines of a row that is not answered whole yet.
         self._begun: list[bytes] = []
-        self._newest: Moment | bytes | None = None
         self._grown = asyncio.Event()
         # Up to which row all is answered, and up to which nothing is handed on.
-        self.row = 0
-        self.quiet = 0
+        self._row = self._quiet = 0
+        self.moment: Moment
         self.history = History()
         self.passed_over = 0
         # Gets the fault by which the child can go on no more.
         self.over: asyncio.Future[None] = asyncio.get_running_loop().create_future()
 
-    async def start(self) -> None:
-        """Starts the child and feeds it what there is.
+    async def start(self, moment: Moment) -> None:
+        """Starts the child and feeds it what there is; of the rows up to this moment, as another run
+        has told it, the child tells nothing.
 
         Raises Over where the program can not be started.
         """
+        self.moment, self._quiet = moment, moment.row
         await self._launch()
         self._task = asyncio.create_task(self._run())
 
@@ -65,28 +64,14 @@ class Live:
             with contextlib.suppress(ConnectionError, RuntimeError):
                 self._process.stdin.write(lines)
 
-    def listen(self, listener: Listener) -> Callable[[], None]:
-        """Has a listener called with each reply from now on. Gives a function that ends this."""
+    def listen(self, listener: Listener) -> None:
+        """Has a listener called with each reply from now on."""
         self._listeners.append(listener)
-        return lambda: self._listeners.remove(listener)
-
-    @property
-    def moment(self) -> Moment | None:
-        """The newest screen; None where no row has had one."""
-        if isinstance(self._newest, bytes):
-            self._newest = _moment_of(self._newest)
-        return self._newest
-
-    def begin_at(self, moment: Moment, row: int) -> None:
-        """Takes the moment after this row, as another run has told it: of the rows up to this one
-        the child tells nothing."""
-        self._newest, self.quiet = moment, row
 
     def expect(self, row: int) -> asyncio.Future[Reply]:
-        """What a row will be answered with."""
-        future: asyncio.Future[Reply] = asyncio.get_running_loop().create_future()
-        self._waiting.setdefault(row, []).append(future)
-        return future
+        """What a row will be answered with; it is asked once."""
+        self._waiting[row] = asyncio.get_running_loop().create_future()
+        return self._waiting[row]
 
     async def reach(self, row: int, seconds: float) -> None:
         """Waits until all rows up to this one are answered.
@@ -95,7 +80,7 @@ class Live:
         """
         try:
             async with asyncio.timeout(seconds):
-                while self.row < row:
+                while self._row < row:
                     if self.over.done():
                         self.over.result()
                     self._grown.clear()
@@ -116,40 +101,28 @@ class Live:
                 await self._process.wait()
 
     async def _launch(self) -> None:
-        pipe = asyncio.subprocess.PIPE
-        words = program_words(self._program)
-        try:
-            self._process = await asyncio.create_subprocess_exec(
-                *words, stdin=pipe, stdout=pipe, stderr=pipe, start_new_session=True, limit=PIECE
-            )
-        except OSError as error:
-            raise Over(f"{self._program}: {error.strerror}") from error
+        self._process = await started(self._program, "--screens")
         self._begun = []
         self.feed(self._whole())
 
     async def _run(self) -> None:
+        starts = 0
         try:
-            await self._supervise()
-        except Exception as fault:  # whatever it is, who waits has to know
-            self.fail(fault)
-
-    async def _supervise(self) -> None:
-        starts, reached = 0, self.row
-        while not self.over.done():
-            assert self._process is not None
-            told = asyncio.create_task(_read_all(self._process.stderr))
-            await self._read_answers()
-            status, errors = await self._process.wait(), await told
-            starts = starts + 1 if self.row == reached else 0
-            reached = self.row
-            if status >= 0:
-                why = printable(errors.strip()) or f"it has ended with status {status}"
-                self.fail(Over(f"ucl_live: {why}"))
-            elif starts >= MOST_STARTS:
-                self.fail(Over(f"ucl_live is killed by signal {-status} again and again"))
-            else:
+            while True:
+                assert self._process is not None
+                told, reached = asyncio.create_task(_read_all(self._process.stderr)), self._row
+                await self._read_answers()
+                status, errors = await self._process.wait(), await told
+                if status >= 0:
+                    why = printable(errors.strip()) or f"it has ended with status {status}"
+                    raise Over(f"ucl_live: {why}")
+                starts = starts + 1 if self._row == reached else 0
+                if starts >= MOST_STARTS:
+                    raise Over(f"ucl_live is killed by signal {-status} again and again")
                 await asyncio.sleep(PAUSE)
                 await self._launch()
+        except Exception as fault:  # whatever it is, who waits has to know
+            self.fail(fault)
 
     def fail(self, fault: Exception) -> None:
         """Tells all who wait that it can go on no more."""
@@ -157,10 +130,9 @@ class Live:
             self.over.set_exception(fault)
             self.over.exception()
         self._grown.set()
-        for futures in self._waiting.values():
-            for future in futures:
-                if not future.done():
-                    future.set_exception(fault)
+        for future in self._waiting.values():
+            if not future.done():
+                future.set_exception(fault)
 
     async def _read_answers(self) -> None:
         assert self._process is not None and self._process.stdout is not None
@@ -174,21 +146,16 @@ class Live:
     def _take(self, line: bytes) -> None:
         """Takes a line: a row's answers are whole with its screen, or where none follows."""
         self._begun.append(line)
-        kind = kind_in(line)
-        if kind in ("ok", "mended", "left-out"):
+        if kind_in(line) in ("ok", "mended", "left-out"):
             return
         lines, self._begun = self._begun, []
-        row = row_in(lines[-1])
-        if row <= self.row:
-            return
-        for noted in lines:
-            if noted is not line:
+        row = row_in(line)
+        if row > self._row:
+            self._row = row
+            for noted in lines[:-1]:
                 self.history.note(noted)
-        if kind == "screen" and row > self.quiet:
-            self._newest = line
-        self.row = row
-        if row > self.quiet or row in self._waiting:
-            self._hand_on(row, lines)
+            if row > self._quiet:
+                self._hand_on(row, lines)
 
     def _hand_on(self, row: int, lines: list[bytes]) -> None:
         try:
@@ -197,21 +164,12 @@ class Live:
             self.passed_over += 1
             return
         if reply.screen is not None:
-            self._newest = reply.screen
-        for future in self._waiting.pop(row, []):
-            if not future.done():
-                future.set_result(reply)
-        if row > self.quiet:
-            for listener in [*self._listeners]:
-                listener(reply)
-
-
-def _moment_of(line: bytes) -> Moment | None:
-    try:
-        answer = answer_of(line)
-    except NoAnswer:
-        return None
-    return answer if isinstance(answer, Moment) else None
+            self.moment = reply.screen
+        future = self._waiting.pop(row, None)
+        if future is not None and not future.done():
+            future.set_result(reply)
+        for listener in self._listeners:
+            listener(reply)
 
 
 async def _read_all(stream: asyncio.StreamReader | None) -> bytes:

@@ -29,14 +29,6 @@ class Trial:
         return self.after.title == other.after.title and here == [it.row for it in other.left_out]
 
 
-class Refusal(NotEntered):
-    """A mend that `ucl_live` refuses."""
-
-    def __init__(self, refused: Refused) -> None:
-        self.refused = refused
-        super().__init__(f"refused: {told.advice(refused)}")
-
-
 class Changed(NotEntered):
     """By now a mend would do something else than was asked about; `trial` says what."""
 
@@ -48,14 +40,14 @@ class Changed(NotEntered):
 async def tried(program: str, text: bytes, row: bytes) -> Trial:
     """What this row would do at the end of a record with this text, which ends in a line end.
 
-    Raises Refusal where the row is refused, and Over where `ucl_live` fails.
+    Raises NotEntered where the row is refused, and Over where `ucl_live` fails.
     """
     number = text.count(b"\n") + 2
     answers = await ask(program, text + SCREEN + row + SCREEN)
     mended: Mended | None = None
     for answer in answers:
         if isinstance(answer, Refused) and answer.row == number:
-            raise Refusal(answer)
+            raise NotEntered(f"refused: {told.advice(answer)}")
         if isinstance(answer, Mended) and answer.row == number:
             mended = answer
     screens = [answer for answer in answers if isinstance(answer, Moment)]

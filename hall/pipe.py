@@ -2,13 +2,10 @@
 
 import asyncio
 import contextlib
-import os
-import sys
 import threading
 
 from hall import told
 from hall.faults import MaybeEntered, NotEntered
-from hall.printable import printable
 from hall.typed import ClubTyped, Help, MendTyped, Numbered, typed
 from hall.typist import Typist
 from hall.underway import Seen
@@ -27,18 +24,11 @@ async def enter_lines(typist: Typist, edition: int) -> int:
 
     def read() -> None:
         # Not by `sys.stdin`, whose lock would be held at the program's end.
-        rest, piece = b"", b"\n"
-        with contextlib.suppress(RuntimeError):
-            while piece:
-                piece = os.read(0, LONGEST)
-                *whole, rest = (rest + piece).split(b"\n") if piece else (rest, b"")
-                if len(rest) > LONGEST:
-                    whole, rest = [*whole, rest], b""
-                for line in whole:
-                    loop.call_soon_threadsafe(lines.put_nowait, line + b"\n")
+        with contextlib.suppress(RuntimeError), open(0, "rb", closefd=False) as source:
+            while line := source.readline(LONGEST):
+                loop.call_soon_threadsafe(lines.put_nowait, line)
             loop.call_soon_threadsafe(lines.put_nowait, b"")
 
-    typist.source.tell_to(_warn)
     threading.Thread(target=read, daemon=True).start()
     await typist.source.ready()
     while line := await lines.get():
@@ -62,10 +52,6 @@ async def watch_lines(typist: Typist) -> int:
         await changed.wait()
     typist.source.over.result()
     return 0
-
-
-def _warn(text: str) -> None:
-    print(printable(text), file=sys.stderr, flush=True)
 
 
 async def _enter(typist: Typist, text: str, edition: int) -> None:

@@ -1,5 +1,7 @@
 """Text from outside: what comes of a broker, of a file or of a person goes to a screen through here."""
 
+import sys
+
 # The most characters of such a text that one line shows.
 LONGEST = 200
 
@@ -16,3 +18,8 @@ def printable(text: str | bytes, most: int = LONGEST) -> str:
     if len(text) > most:
         text = text[: most - 3] + "..."
     return "".join(letter if letter.isprintable() else "?" for letter in text)
+
+
+def warn(text: str) -> None:
+    """Tells what is amiss, in a line on standard error."""
+    print(printable(text), file=sys.stderr, flush=True)

@@ -20,16 +20,13 @@ def live_program() -> str:
     named = os.environ.get(VARIABLE)
     if named:
         return named
-    if (TOP / "build").exists():
-        if not _is_built(TOP / "build"):
+    build = TOP / "build"
+    if build.exists():
+        words = [str(build), "--built", "ucl_live"]
+        if subprocess.run(words, stdout=subprocess.DEVNULL, check=False).returncode != 0:
             raise Over("ucl_live is not built; type ./build, and then this line again")
         return str(TOP / "crates" / "ucl_live" / "out" / "ucl_live")
     found = shutil.which("ucl_live")
     if found is None:
         raise Over("there is no ucl_live here or on the PATH")
     return found
-
-
-def _is_built(build: pathlib.Path) -> bool:
-    words = [str(build), "--built", "ucl_live"]
-    return subprocess.run(words, stdout=subprocess.DEVNULL, check=False).returncode == 0

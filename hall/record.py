@@ -13,8 +13,7 @@ from hall import disk
 from hall.answers import Moment, Reply
 from hall.asking import last_screen
 from hall.faults import Dropped, MaybeEntered, NotEntered, Over
-from hall.history import Event
-from hall.live import Listener, Live
+from hall.live import Live
 from hall.mends import Changed, Trial, tried
 from hall.rowfile import RowFile
 from hall.rows import Row, later_group
@@ -34,10 +33,12 @@ class Record:
         self.path, self.program = file.path, program
         self._file, self._is_durable = file, is_durable
         self._reading, self._appending = asyncio.Lock(), asyncio.Lock()
-        self._live = Live(program, file.whole)
+        self._live = live = Live(program, file.whole)
         self._tasks: set[asyncio.Task[Any]] = set()
-        # The events that stand; what gets the fault by which the record can be followed no more.
-        self.history, self.over = self._live.history, self._live.over
+        # How listeners of replies are added; what gets the fault by which the record can be followed
+        # no more; whether a row stands as an event, and the events of a match.
+        self.listen, self.over = live.listen, live.over
+        self.has, self.events = live.history.has, live.history.of
 
     @classmethod
     async def open(
@@ -70,24 +71,10 @@ class Record:
     @property
     def moment(self) -> Moment:
         """The moment that stands, as far as the record is read and answered."""
-        moment = self._live.moment
-        assert moment is not None
-        return moment
-
-    def listen(self, listener: Listener) -> Callable[[], None]:
-        """Has a listener called with each new reply. Gives a function that ends this."""
-        return self._live.listen(listener)
+        return self._live.moment
 
     def tell_to(self, told: Callable[[str], None]) -> None:
         """Nothing is amiss with a record that is no fault."""
-
-    def has(self, reporter: int, row: Row) -> bool:
-        """Whether the board has just this event of this reporter."""
-        return self.history.has(reporter, row)
-
-    def events(self, match: int) -> list[Event]:
-        """The events of a match that stand."""
-        return self.history.of(match)
 
     async def ready(self) -> None:
         """Waits until the child has answered all that is read: the events that stand are known.
@@ -122,7 +109,7 @@ class Record:
     async def trial(self, row: bytes) -> Trial:
         """What a row that mends would do.
 
-        Raises Refusal where it is refused, and Over where `ucl_live` fails.
+        Raises NotEntered where it is refused, and Over where `ucl_live` fails.
         """
         return await tried(self.program, self._file.text(), row)
 
@@ -155,8 +142,7 @@ class Record:
             moment = await last_screen(self.program, self._file.whole())
         except Over as fault:
             raise Over(f"{self.path} has no board, or ucl_live failed: {fault}") from fault
-        self._live.begin_at(moment, self._file.count)
-        await self._live.start()
+        await self._live.start(moment)
         self._started(self._follow())
 
     def _started(self, work: Coroutine[Any, Any, Value]) -> asyncio.Task[Value]:

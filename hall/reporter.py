@@ -2,16 +2,18 @@
 
 import argparse
 import asyncio
+import functools
 import io
 import os
 import sys
 import time
+from typing import Any
 
-from hall import told
+from hall import told, topics
 from hall.beginning import begin, rows_by_questions
 from hall.faults import NotEntered, Over
 from hall.pipe import enter_lines, watch_lines
-from hall.printable import printable
+from hall.printable import warn
 from hall.programs import live_program
 from hall.record import Record
 from hall.rows import LAST_EDITION, MATCHES, REPORTERS, number_in
@@ -23,33 +25,27 @@ from hall.usage import HELP, USAGE
 SURE = ("y", "yes")
 
 
-def parser() -> argparse.ArgumentParser:
-    """The arguments."""
-    it = argparse.ArgumentParser(
+def options_of(words: list[str]) -> argparse.Namespace:
+    """What the command line says; ends the program where it has none of the forms of the usage."""
+    arguments = argparse.ArgumentParser(
         prog="ucl_reporter",
         usage=USAGE,
         description=HELP,
         formatter_class=argparse.RawDescriptionHelpFormatter,
         allow_abbrev=False,
     )
-    hidden = argparse.SUPPRESS
-    it.add_argument("record", nargs="?", help=hidden)
-    it.add_argument("--number", type=_number, help=hidden)
-    it.add_argument("--matches", type=_matches, help=hidden)
-    it.add_argument("--edition", type=_edition, help=hidden)
-    it.add_argument("--watch", action="store_true", help=hidden)
-    it.add_argument("--sheet", action="store_true", help=hidden)
-    it.add_argument("--mend", nargs="?", const="", help=hidden)
-    it.add_argument("--yes", action="store_true", help=hidden)
-    it.add_argument("--broker", choices=tuple("abcdefgh"), help=hidden)
-    it.add_argument("--again", type=_seconds, help=hidden)
-    it.add_argument("--limit", type=_seconds, help=hidden)
-    return it
-
-
-def options_of(words: list[str]) -> argparse.Namespace:
-    """What the command line says; ends the program where it has none of the forms of the usage."""
-    arguments = parser()
+    known: dict[str, dict[str, Any]] = {
+        "record": {"nargs": "?"},
+        "--number": {"type": functools.partial(_within, REPORTERS)},
+        "--matches": {"type": _matches},
+        "--edition": {"type": functools.partial(_within, range(LAST_EDITION + 1))},
+        **{name: {"action": "store_true"} for name in ("--watch", "--sheet", "--yes")},
+        "--mend": {"nargs": "?", "const": ""},
+        "--broker": {"choices": tuple(topics.GROUPS)},
+        **{name: {"type": _seconds} for name in ("--again", "--limit")},
+    }
+    for name, how in known.items():
+        arguments.add_argument(name, help=argparse.SUPPRESS, **how)
     it = arguments.parse_args(words)
     if (it.record is None) == (it.broker is None):
         arguments.error("name a record, or a group behind a broker")
@@ -114,11 +110,7 @@ async def _opened(options: argparse.Namespace, first: bytes | None, is_terminal:
     if is_terminal:
         print(f"Waiting for the board of group {options.broker.upper()}", flush=True)
     limit = options.limit or (None if is_terminal else 60.0)
-    return await Desk.open(options.broker, options.number or 1, options.again or 2.0, limit, _warn)
-
-
-def _warn(text: str) -> None:
-    print(printable(text), file=sys.stderr, flush=True)
+    return await Desk.open(options.broker, options.number or 1, options.again or 2.0, limit, warn)
 
 
 def _first_rows(options: argparse.Namespace) -> bytes | None:
@@ -131,7 +123,7 @@ def _first_rows(options: argparse.Namespace) -> bytes | None:
     if not sys.stdin.isatty() or options.mend is not None or options.sheet:
         raise Over(f"there is no {path}; type ./ucl_reporter {path} at a terminal to begin it")
     live_program()
-    return rows_by_questions(input, print)
+    return rows_by_questions()
 
 
 async def _mend(typist: Typist, what: str, is_sure: bool) -> int:
@@ -155,22 +147,14 @@ def _is_agreed() -> bool:
     return sys.stdin.isatty() and input("append it? y or n> ").strip().lower() in SURE
 
 
-def _number(text: str) -> int:
-    return _within(text, REPORTERS[0], REPORTERS[-1])
-
-
-def _edition(text: str) -> int:
-    return _within(text, 0, LAST_EDITION)
-
-
 def _matches(text: str) -> list[int]:
-    return sorted({_within(part, MATCHES[0], MATCHES[-1]) for part in text.split(",")})
+    return sorted({_within(MATCHES, part) for part in text.split(",")})
 
 
-def _within(text: str, low: int, high: int) -> int:
-    number = number_in(text, low, high)
+def _within(known: range, text: str) -> int:
+    number = number_in(text, known[0], known[-1])
     if number is None:
-        raise argparse.ArgumentTypeError(f"{text[:40]!r} is not {low} to {high}")
+        raise argparse.ArgumentTypeError(f"{text[:40]!r} is not {known[0]} to {known[-1]}")
     return number
 
 

@@ -1,14 +1,17 @@
 """Rows that come to a board behind a broker, and who sends them."""
 
+import re
 import time
 from dataclasses import dataclass
 
-from hall import topics
 from hall.broker import Message
 from hall.rows import Row, event_row
 
 # For how long, in seconds, a person is thought to type on, and is not told of another again.
 MINUTE = 60.0
+# The most bytes of a row, and of its correlation data.
+LONGEST_ROW, LONGEST_CORRELATION = 256, 64
+_TOPIC = re.compile(r"ucl/([a-h])/(0|[1-9][0-9]{0,4})/rows/([1-9][0-9]{0,2})")
 
 
 @dataclass(frozen=True, slots=True)
@@ -24,13 +27,13 @@ class Request:
 
 def request_of(group: str, message: Message) -> Request | None:
     """The row of a message; None where it is no event of the reporter of its topic."""
-    found = topics.edition_and_reporter(group, message.topic)
-    if found is None or len(message.payload) > topics.LONGEST_ROW:
+    found, correlation = _TOPIC.fullmatch(message.topic), message.correlation or b""
+    if len(message.payload) > LONGEST_ROW or len(correlation) > LONGEST_CORRELATION:
         return None
     said = event_row(message.payload.decode(errors="replace").removesuffix("\n"))
-    if said is None or said[0] != found[1]:
+    if found is None or found[1] != group or said is None or said[0] != int(found[3]):
         return None
-    return Request(said[0], found[0], said[1], message.correlation or None, message.is_again)
+    return Request(said[0], int(found[2]), said[1], correlation or None, message.is_again)
 
 
 class People:

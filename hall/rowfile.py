@@ -5,6 +5,7 @@ is here meanwhile, which is for `hall.record` to see to.
 """
 
 import errno
+import fcntl
 import os
 
 from hall import disk
@@ -86,7 +87,7 @@ class RowFile:
 
     def unlock(self) -> None:
         """Gives the lock back."""
-        disk.unlock(self._file)
+        fcntl.flock(self._file, fcntl.LOCK_UN)
 
     def write(self, data: bytes) -> int:
         """Appends by one write, and forces it to the disk.

@@ -91,9 +91,9 @@ def event_row(text: str) -> tuple[int, Row] | None:
     return reporter, Row(match, expected, fields[3])
 
 
-def group_row(group: str, order: str, edition: int = 0) -> bytes:
+def group_row(group: str, order: str) -> bytes:
     """The row with which a record begins."""
-    return f"group,{group},{order},{edition}\n".encode()
+    return f"group,{group},{order},0\n".encode()
 
 
 def club_row(slot: int, club: Club) -> bytes:

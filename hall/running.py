@@ -1,4 +1,4 @@
-"""How a program runs: one at a time, until a signal, and to an end that is told in one line."""
+"""How a program runs: until a signal, and to an end that is told in one line."""
 
 import asyncio
 import contextlib
@@ -8,27 +8,13 @@ import sys
 from collections.abc import Coroutine, Iterator
 from typing import Any
 
-from hall import disk
 from hall.faults import Fault, Over
 from hall.printable import printable
 
 # The status after Ctrl-C.
 INTERRUPTED = 130
-# How long a lock is waited for, in seconds: who only asks whether it is free has it for a moment.
-LOCK = 0.5
 # The most characters of a fault that are told.
 LONGEST = 600
-
-
-@contextlib.contextmanager
-def locked(path: str, what: str) -> Iterator[None]:
-    """Holds the lock of a file, as `flock` does. Raises Over where another keeps it."""
-    with open(path, "ab") as file:
-        try:
-            disk.lock(file.fileno(), LOCK, path)
-        except disk.Held as error:
-            raise Over(f"another {what} runs here: it holds {path}") from error
-        yield
 
 
 async def until_ended(work: Coroutine[Any, Any, int]) -> int:

@@ -6,7 +6,6 @@ and nobody else waits for it. All is of one event loop; there is no lock.
 """
 
 import asyncio
-from collections.abc import Iterable
 
 # How often a slow connection is looked at, in seconds.
 AGAIN = 0.05
@@ -65,11 +64,8 @@ class Screens:
 
     def send(self, topic: str, line: bytes) -> None:
         """Sends a line to all; one of the same topic that waits for a slow one is left out."""
-        self.write(topic, frame_of(line), self._all)
-
-    def write(self, topic: str, frame: bytes, screens: Iterable[Screen]) -> None:
-        """Writes a frame to these, or keeps it until they take more."""
-        for screen in screens:
+        frame = frame_of(line)
+        for screen in self._all:
             if screen.due or screen.is_slow:
                 self.left_out += topic in screen.due
                 screen.due[topic] = frame

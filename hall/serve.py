@@ -8,7 +8,7 @@ import pathlib
 import resource
 import ssl
 import sys
-from collections.abc import AsyncIterator, Mapping, Sequence
+from collections.abc import Mapping, Sequence
 
 from hall import beginning, links
 from hall.address import Address
@@ -17,7 +17,7 @@ from hall.group import Group
 from hall.keys import held as keys_held
 from hall.keys import keys_of
 from hall.options import Options, options_of
-from hall.printable import printable
+from hall.printable import warn
 from hall.programs import live_program
 from hall.record import Record
 from hall.running import ending, text_of, until_ended
@@ -83,15 +83,15 @@ def first_rows(options: Options) -> dict[str, bytes]:
             rows[path] = beginning.rows_of_file(options.clubs[place], letter, options.order)
         elif sys.stdin.isatty():
             print(f"{path} is not there yet.")
-            rows[path] = beginning.rows_by_questions(input, print)
+            rows[path] = beginning.rows_by_questions()
         else:
             raise Over(f"there is no {path}: give --clubs FILE, or type this line at a terminal")
     return rows
 
 
-@contextlib.asynccontextmanager
-async def served(options: Options, first: Mapping[str, bytes]) -> AsyncIterator[list[Group]]:
-    """Serves groups until the block ends, each record held for this server alone.
+async def serve(options: Options, first: Mapping[str, bytes]) -> int:
+    """Serves until no record can be followed any more, each held for this server alone, and gives
+    the status.
 
     Begins the records of which there are first rows. Raises SameGroup where two are of one group,
     Over where the port is taken, and what `keys.held`, `Record.open` and `board.held` raise.
@@ -119,9 +119,11 @@ async def served(options: Options, first: Mapping[str, bytes]) -> AsyncIterator[
             address = Address.read(pathlib.Path(options.broker))
             for group in groups:
                 _watch(group, await stack.enter_async_context(board.held(group.record, address)))
-        stack.push_async_callback(server.close)
         await _listen(server, options)
-        yield groups
+        stack.push_async_callback(server.close)
+        tell(options, groups)
+        await asyncio.wait([group.record.over for group in groups])
+    return 1
 
 
 def _watch(group: Group, over: "asyncio.Future[None]") -> None:
@@ -130,8 +132,7 @@ def _watch(group: Group, over: "asyncio.Future[None]") -> None:
     def fail(_: object) -> None:
         if not over.cancelled() and not group.fault:
             group.fault = text_of(over.exception())
-            told = f"ucl_serve: group {group.letter}: {group.fault}"
-            print(printable(told), file=sys.stderr, flush=True)
+            warn(f"ucl_serve: group {group.letter}: {group.fault}")
 
     over.add_done_callback(fail)
 
@@ -161,14 +162,6 @@ def files_for_screens() -> int:
     return max(1, (1 << 20 if soft == resource.RLIM_INFINITY else soft) - OTHER_FILES)
 
 
-async def serve(options: Options, first: Mapping[str, bytes]) -> int:
-    """Serves until no record can be followed any more, and gives the status."""
-    async with served(options, first) as groups:
-        tell(options, groups)
-        await asyncio.wait([group.record.over for group in groups])
-    return 1
-
-
 def main() -> None:
     """The command."""
     options = options_of(sys.argv[1:])
@@ -178,7 +171,3 @@ def main() -> None:
         for path in options.records:
             named = [(f"{path}, reporter {it}", key) for it, key in keys_of(path).items()]
             tell_links(options, named)
-
-
-if __name__ == "__main__":
-    main()

@@ -101,28 +101,18 @@ class Reporter:
         self._record = record
         self._answers: dict[str, asyncio.Future[Answer]] = {}
 
-    async def enter(self, tap: Tap) -> Answer:
-        """Enters a tap, if none of this id was entered or asked about before, and answers it."""
+    async def answer(self, tap: Tap, is_asked: bool) -> Answer:
+        """Enters a tap, or says what became of it, and answers the same to its id from then on. One
+        that has not come by the time that it is asked about is never entered."""
         if tap.id not in self._answers:
-            self._keep(tap, asyncio.ensure_future(self._entered(tap)))
-        return await asyncio.shield(self._answers[tap.id])
-
-    async def ask(self, tap: Tap) -> Answer:
-        """Answers what became of a tap. One that has not come by now is never entered."""
-        if tap.id not in self._answers:
-            future: asyncio.Future[Answer] = asyncio.get_running_loop().create_future()
-            future.set_result(self._found(tap))
-            self._keep(tap, future)
-        return await asyncio.shield(self._answers[tap.id])
-
-    def _keep(self, tap: Tap, answer: asyncio.Future[Answer]) -> None:
-        self._answers[tap.id] = answer
-        if len(self._answers) > MOST_ANSWERS:
+            work = self._found if is_asked else self._entered
+            self._answers[tap.id] = asyncio.ensure_future(work(tap))
             oldest = next(iter(self._answers))
-            if self._answers[oldest].done():
+            if len(self._answers) > MOST_ANSWERS and self._answers[oldest].done():
                 del self._answers[oldest]
+        return await asyncio.shield(self._answers[tap.id])
 
-    def _found(self, tap: Tap) -> Answer:
+    async def _found(self, tap: Tap) -> Answer:
         """What the record says of a tap that this run of the server has not seen."""
         if tap.edition != self._record.moment.edition:
             return _refusal("dropped")

@@ -16,7 +16,7 @@ try:
     from prompt_toolkit.buffer import Buffer
     from prompt_toolkit.history import InMemoryHistory
     from prompt_toolkit.input import create_input
-    from prompt_toolkit.key_binding import KeyBindings, KeyPressEvent
+    from prompt_toolkit.key_binding import KeyBindings
     from prompt_toolkit.keys import Keys
     from prompt_toolkit.output.color_depth import ColorDepth
 except ImportError as error:
@@ -41,7 +41,6 @@ class Terminal:
         self._drawing = typist.source.moment
         self._seen: Seen | None = None
         self._status = 0
-        self._is_ended = False
         self._text = Buffer(
             history=InMemoryHistory(),
             completer=Words(lambda: typist.source.moment),
@@ -61,6 +60,7 @@ class Terminal:
         )
         self._app.ttimeoutlen = 0.05
         typist.show, typist.refresh = self.show, self._refresh
+        typist.source.tell_to(self.show)
 
     async def run(self) -> int:
         """Takes what is typed until Ctrl-D and the answers after it; gives the exit status.
@@ -69,12 +69,14 @@ class Terminal:
         """
         loop = asyncio.get_running_loop()
         over = self._typist.source.over
-        over.add_done_callback(self._give_up)
-        loop.add_signal_handler(signal.SIGTERM, self._exit, 128 + signal.SIGTERM)
+        over.add_done_callback(lambda _: self._exit(1))
+        for number in (signal.SIGTERM, signal.SIGHUP):
+            loop.add_signal_handler(number, self._exit, 128 + number)
         loop.add_signal_handler(signal.SIGTSTP, self._suspend)
-        unheard = self._typist.source.listen(lambda reply: self._refresh())
-        if not self._is_watching:
-            self._typist.listen()
+        if self._is_watching:
+            self._typist.source.listen(lambda reply: self._refresh())
+        else:
+            self._typist.source.listen(self._typist.heard)
             print(f"Reporter {self._typist.own}: {HINT}", flush=True)
         # What was typed before anything was shown was typed at nothing.
         termios.tcflush(sys.stdin, termios.TCIFLUSH)
@@ -82,9 +84,7 @@ class Terminal:
             await self._app.run_async()
             await self._finish()
         finally:
-            unheard()
-            over.remove_done_callback(self._give_up)
-            for number in (signal.SIGTERM, signal.SIGTSTP):
+            for number in (signal.SIGTERM, signal.SIGHUP, signal.SIGTSTP):
                 loop.remove_signal_handler(number)
         if over.done():
             over.result()
@@ -118,10 +118,7 @@ class Terminal:
 
     def _refresh(self) -> None:
         """Draws what is new, as soon as nothing that was typed waits."""
-        if self._is_watching or self._typist.question is None:
-            wanted = self._text
-        else:
-            wanted = self._answer
+        wanted = self._text if self._typist.question is None else self._answer
         if not self._is_watching and self._app.layout.current_buffer is not wanted:
             self._app.layout.focus(wanted)
         self._app.invalidate()
@@ -142,33 +139,15 @@ class Terminal:
 
     def _bindings(self) -> KeyBindings:
         keys = KeyBindings()
-
-        @keys.add("c-c", eager=True)
-        @keys.add(Keys.SIGINT)
-        def interrupt(event: KeyPressEvent) -> None:
-            self._exit(128 + signal.SIGINT)
-
-        @keys.add("c-z", eager=True)
-        def suspend(event: KeyPressEvent) -> None:
-            self._suspend()
-
+        for key in ("c-c", Keys.SIGINT):
+            keys.add(key, eager=True)(lambda event: self._exit(128 + signal.SIGINT))
+        keys.add("c-z", eager=True)(lambda event: self._suspend())
         if self._is_watching:
-
-            @keys.add(Keys.Any)
-            @keys.add(Keys.BracketedPaste)
-            def ignore(event: KeyPressEvent) -> None:
-                pass
-
-            return keys
-
-        @keys.add("c-d", eager=True)
-        def end(event: KeyPressEvent) -> None:
-            self._exit(0)
-
-        @keys.add(Keys.BracketedPaste, eager=True)
-        def paste(event: KeyPressEvent) -> None:
-            self._paste(event.data)
-
+            for key in (Keys.Any, Keys.BracketedPaste):
+                keys.add(key)(lambda event: None)
+        else:
+            keys.add("c-d", eager=True)(lambda event: self._exit(0))
+            keys.add(Keys.BracketedPaste, eager=True)(lambda event: self._paste(event.data))
         return keys
 
     def _changed(self, buffer: Buffer) -> None:
@@ -192,17 +171,15 @@ class Terminal:
 
     def _paste(self, data: str) -> None:
         """Takes a paste: each line by itself, as seen at the paste; the last stays in the line."""
-        *lines, rest = data.replace("\r\n", "\n").replace("\r", "\n").split("\n")
+        lines = data.replace("\r\n", "\n").replace("\r", "\n").split("\n")
         buffer = self._app.current_buffer
         moment = (self._seen or self._typist.underway.look()).moment
-        for line in lines:
+        for place, line in enumerate(lines):
+            if place:
+                buffer.validate_and_handle()
             buffer.insert_text("".join(letter for letter in line if letter.isprintable()))
-            if buffer is self._text and self._seen is not None:
+            if buffer is self._text and self._seen is not None and len(lines) > 1:
                 self._seen = Seen(moment, self._typist.underway.look().waiting)
-            buffer.validate_and_handle()
-        buffer.insert_text("".join(letter for letter in rest if letter.isprintable()))
-        if buffer is self._text and self._seen is not None and lines:
-            self._seen = Seen(moment, self._typist.underway.look().waiting)
 
     # ---- how it ends, and is stopped
 
@@ -210,9 +187,6 @@ class Terminal:
         self._status = status
         if self._app.is_running and not self._app.is_done:
             self._app.exit()
-
-    def _give_up(self, _: object) -> None:
-        self._exit(1)
 
     def _suspend(self) -> None:
         asyncio.ensure_future(self._stop())

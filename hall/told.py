@@ -20,8 +20,7 @@ _ADVICE = {
     "limit-reached": "the {side} side of match {match} has as many as a board counts; look whether "
     "it is this match",
     "not-finished": "match {match} is not over, so it need not be reopened; there is nothing to do",
-}
-_OTHER_ADVICE = {
+    # Of rows that are no events.
     "bad-row": "it came behind a line that was cut off; type it again",
     "no-event": "it is no event that stands; a match alone, as 1, shows its events with their rows",
     "last-edition": "the edition is not later than that which stands, or there is none any more",
@@ -72,12 +71,11 @@ def clubs(moment: Moment) -> str:
 
 def advice(refused: Refused, row: Row | None = None) -> str:
     """What to do about a refusal, in a sentence; of one whose name is not known, its name."""
-    event = refused.event or row
-    if event is not None and refused.name in _ADVICE:
-        values = {"match": event.match, "expected": event.expected, "side": event.side}
-        found = event.expected if refused.number is None else refused.number
-        return _ADVICE[refused.name].format(found=found, **values)
-    return _OTHER_ADVICE.get(refused.name, refused.name)
+    event, text = refused.event or row, _ADVICE.get(refused.name, refused.name)
+    if event is None:
+        return text
+    found = event.expected if refused.number is None else refused.number
+    return text.format(match=event.match, expected=event.expected, side=event.side, found=found)
 
 
 def left_out(event: LeftOut) -> str:

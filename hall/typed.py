@@ -5,7 +5,7 @@ import re
 from dataclasses import dataclass
 
 from hall.faults import NotEntered
-from hall.rows import EVENTS, SIDES, Row, checked_coefficient, checked_name, event_row
+from hall.rows import EVENTS, LAST_ROW, SIDES, Row, checked_coefficient, checked_name, event_row
 from hall.rows import number_in, result_events
 
 COMMANDS = ("mend", "club", "coefficient", "help")
@@ -138,7 +138,7 @@ def no_line(words: list[str]) -> str:
 def _mend(words: list[str]) -> MendTyped:
     if not words:
         return MendTyped(None)
-    row = number_in(words[0], 1, 4_294_967_295)
+    row = number_in(words[0], 1, LAST_ROW)
     if row is None or len(words) > 1:
         raise NotEntered("type mend 17 with the row of an event, or mend alone")
     return MendTyped(row)

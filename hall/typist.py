@@ -36,11 +36,10 @@ class Typist:
     def __init__(self, source: Source, own: int, matches: Sequence[int]) -> None:
         self.source, self.own, self.matches = source, own, matches
         self.show: Callable[..., None] = _print
-        self.refresh: Callable[[], None] = _nothing
+        self.refresh: Callable[[], None] = lambda: None
         self.question: Question | None = None
         self.underway = Underway(source.moment)
         self._edition = source.moment.edition
-        source.tell_to(lambda text: self.show(text))
         self._tasks: set[asyncio.Task[None]] = set()
 
     async def idle(self, seconds: float | None = None) -> None:
@@ -118,10 +117,6 @@ class Typist:
         self.show(f"{match:2} {told.match(self.source.moment, match)}")
         self.show(*(f"   {event}" for event in self.source.events(match)))
 
-    def listen(self) -> None:
-        """Has shown what others enter."""
-        self.source.listen(self._heard)
-
     async def propose(self, text: str, line: MendTyped | ClubTyped) -> None:
         """Shows what a mend would do, and asks.
 
@@ -179,7 +174,8 @@ class Typist:
         self._tasks.add(task)
         task.add_done_callback(self._tasks.discard)
 
-    def _heard(self, reply: Reply) -> None:
+    def heard(self, reply: Reply) -> None:
+        """Shows what others enter: a listener of the board."""
         answer = reply.answer
         if self._edition != self.source.moment.edition:
             self._edition = self.source.moment.edition
@@ -207,7 +203,3 @@ class Typist:
 def _print(*lines: str) -> None:
     for line in lines:
         print(printable(line), flush=True)
-
-
-def _nothing() -> None:
-    pass

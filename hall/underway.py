@@ -45,11 +45,8 @@ class Underway:
 
     def look(self) -> Seen:
         """What stands on the screen, and which own rows do not yet."""
-        waiting = []
-        for line in self._lines:
-            for row in line.rows:
-                if self._is_on_its_way(line, row):
-                    waiting.append(row.match)
+        on_its_way, lines = self._is_on_its_way, self._lines
+        waiting = [row.match for it in lines for row in it.rows if on_its_way(it, row)]
         return Seen(self._drawn, tuple(waiting))
 
     def is_drawn(self, moment: Moment) -> None:

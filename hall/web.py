@@ -43,9 +43,9 @@ class Server:
         self._files = {"/": Page("index.html"), "/replay.jsonl": Page("replay.jsonl")}
         self._report = Page("report.html")
         self._begun: dict[web.RequestHandler, asyncio.TimerHandle] = {}
-        self._runner: web.AppRunner | None = None
-        self._tasks: list[asyncio.Task[None]] = []
-        self._listener: asyncio.Server | None = None
+        self._runner: web.AppRunner
+        self._pulsing: asyncio.Task[None]
+        self._listener: asyncio.Server
 
     async def start(self, host: str, port: int, context: ssl.SSLContext | None) -> None:
         """Listens, and sends pulses from then on.
@@ -55,7 +55,10 @@ class Server:
 
         @web.middleware
         async def whole(request: web.Request, handler: Handler) -> web.StreamResponse:
-            self._is_whole(request)
+            # It is whole: its connection has no more to send in time.
+            timer = self._begun.pop(request.protocol, None)
+            if timer is not None:
+                timer.cancel()
             return await handler(request)
 
         app = web.Application(middlewares=[whole])
@@ -84,18 +87,15 @@ class Server:
             # The kernel keeps no queue either, and gives up who has acknowledged nothing for long.
             one.setsockopt(socket.IPPROTO_TCP, TCP_NOTSENT_LOWAT, 1)
             one.setsockopt(socket.IPPROTO_TCP, TCP_USER_TIMEOUT, int(1_000 * GONE))
-        self._tasks.append(asyncio.create_task(self._pulse()))
+        self._pulsing = asyncio.create_task(self._pulse())
 
     async def close(self) -> None:
         """Listens no more, and ends all connections."""
-        if self._listener is not None:
-            self._listener.close()
-        for task in self._tasks:
-            task.cancel()
+        self._listener.close()
+        self._pulsing.cancel()
         for screens in (self.screens, *(group.phones for group in self.groups)):
             screens.abort()
-        if self._runner is not None:
-            await self._runner.cleanup()
+        await self._runner.cleanup()
 
     def _note(self, _: asyncio.AbstractEventLoop, about: dict[str, object]) -> None:
         """Keeps what went wrong outside any request, for who asks after it."""
@@ -103,7 +103,7 @@ class Server:
 
     def _connection(self) -> web.RequestHandler:
         """A new connection, which has to send a whole request in time."""
-        assert self._runner is not None and self._runner.server is not None
+        assert self._runner.server is not None
         handler = self._runner.server()
         if len(self._begun) >= MOST_BEGUN:
             self._expire(next(iter(self._begun)))
@@ -119,12 +119,6 @@ class Server:
         elif not is_late:
             loop = asyncio.get_running_loop()
             self._begun[handler] = loop.call_later(WHOLE, self._expire, handler, True)
-
-    def _is_whole(self, request: web.Request) -> None:
-        """A request that is whole: its connection has no more to send in time."""
-        timer = self._begun.pop(request.protocol, None)
-        if timer is not None:
-            timer.cancel()
 
     async def _pulse(self) -> None:
         """Tells each second which boards are there; no phone hears of one that is not."""
@@ -215,8 +209,7 @@ class Server:
         except ValueError:
             phone.transport.close()
             return
-        answer = await (reporter.ask(tap) if is_asked else reporter.enter(tap))
-        phone.write(frame_of(answer.line(tap)))
+        phone.write(frame_of((await reporter.answer(tap, is_asked)).line(tap)))
 
 
 async def _opened(request: web.Request) -> tuple[web.WebSocketResponse, Screen]:

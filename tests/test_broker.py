@@ -50,6 +50,12 @@ def fsync(file):
     real(file)
 os.fsync = fsync
 """
+# Has a board acknowledge no message while a file `silent` is there, so that the broker sends it again.
+SILENT = """import os
+import paho.mqtt.client as mqtt
+real = mqtt.Client._send_puback
+mqtt.Client._send_puback = lambda self, mid: mqtt.MQTT_ERR_SUCCESS if os.path.exists("silent") else real(self, mid)
+"""
 BOARD = "hall.board"
 # Passes lines on in another order, within windows of a hundred, and loses a tenth of them.
 TURNED = """import itertools, random, sys
@@ -157,6 +163,13 @@ class Site:
         """Begins an evening: a broker, with these lines more in its file, and the board. Gives the line of the board."""
         self.open_broker(more)
         return self.line(LINES["The board"].strip())
+
+    def begin_with(self, hook):
+        """Begins an evening whose board runs this text in Python first. Gives the line of the board."""
+        (self.path / "hook").mkdir()
+        (self.path / "hook/sitecustomize.py").write_text(hook)
+        self.open_broker()
+        return self.line("PYTHONPATH=hook " + LINES["The board"].strip())
 
     def answers(self):
         """The answers to the record."""
@@ -283,10 +296,7 @@ def test_after_a_start_the_last_screen_is_told_and_no_answer_again(site):
 
 def test_an_answer_waits_for_the_disk_once_for_what_came_at_once(site):
     """While the disk is busy a hundred rows come, and have no answer."""
-    (site.path / "hook").mkdir()
-    (site.path / "hook/sitecustomize.py").write_text(SLOW_DISK)
-    site.open_broker()
-    site.line("PYTHONPATH=hook " + LINES["The board"].strip())
+    site.begin_with(SLOW_DISK)
     assert site.done("mosquitto_sub -q 1 -C 1 -t ucl/a/desk")
     site.line("mosquitto_sub -q 1 -t ucl/a/answers >answers")
     (site.path / "busy").touch()
@@ -298,6 +308,31 @@ def test_an_answer_waits_for_the_disk_once_for_what_came_at_once(site):
     (site.path / "busy").unlink()
     assert until(lambda: (site.path / "answers").read_text().count('"reply":"ok"') == 100, 20)
     assert len((site.path / "synced").read_text()) <= before + 10
+
+
+def test_no_screen_shows_what_the_disk_does_not_have(site):
+    """A row that another program appends, and has not forced to the disk."""
+    site.begin_with(SLOW_DISK)
+    assert desk(site)["version"] == 0
+    (site.path / "busy").touch()
+    site.append("a", "1,1,0,kickoff\n")
+    assert desk(site, more="-R")["version"] == 0
+    (site.path / "busy").unlink()
+    assert until(lambda: desk(site)["version"] == 1, 20)
+
+
+def test_a_row_that_comes_twice_while_another_is_written(site):
+    """It is one row, with one answer."""
+    site.begin_with(SLOW_DISK)
+    assert desk(site)["version"] == 0
+    client = Client(site)
+    (site.path / "busy").touch()
+    for row, data in ("1,1,0,kickoff", b"t.1"), ("1,2,0,kickoff", b"t.2"), ("1,2,0,kickoff", b"t.2"):
+        assert client.sent(row, data, wait=0.3) == []
+    (site.path / "busy").unlink()
+    assert until(lambda: client.heard, 20) and client.sent("1,3,0,kickoff", b"t.3") == [("ok", 8, None)]
+    assert [(data, said["row"]) for data, said in client.heard] == [(b"t.1", 6), (b"t.2", 7), (b"t.3", 8)]
+    client.end()
 
 
 def test_a_board_that_is_killed_as_it_starts_leaves_nothing(site):
@@ -338,12 +373,18 @@ def test_a_late_screen_has_the_table_and_the_pulse_is_beside_the_record(site):
 # ---- reporters
 
 
+def two_reporters(site, words=""):
+    """Two reporters at terminals, the second with these words, and a match that the first has kicked off."""
+    first, second = site.terminal().sees("12 Delta v Charlie, to come"), site.terminal(words).sees(" 2 Delta v Alpha, to come")
+    first.enter("1 kickoff", "1 kickoff               entered, row 6: Bravo 0-0 Charlie, in play, event 1 by 1")
+    second.sees("row 6: 1 kickoff by reporter 1: Bravo 0-0 Charlie, in play, event 1 by 1")
+    return first, second
+
+
 def test_two_reporters_who_type_one_goal_do_not_count_it_twice(site):
     """A row has the number that stood on the screen at its first letter, not the newest. Its answer is beside it, and a refusal comes once."""
     site.begin()
-    first, second = site.terminal().sees("12 Delta v Charlie, to come"), site.terminal("--number 7 --matches 1,2").sees(" 2 Delta v Alpha, to come")
-    first.enter("1 kickoff", "1 kickoff               entered, row 6: Bravo 0-0 Charlie, in play, event 1 by 1")
-    second.sees("row 6: 1 kickoff by reporter 1: Bravo 0-0 Charlie, in play, event 1 by 1")
+    first, second = two_reporters(site, "--number 7 --matches 1,2")
     first.type("1 goal h").sees("> 1 goal h")
     second.type("1 goal homf\x7fe\r").sees("1 goal home             entered, row 7: Bravo 1-0 Charlie, in play, event 2 by 7")
     first.sees("row 7: 1 goal home by reporter 7: Bravo 1-0 Charlie, in play, event 2 by 7").sees("> 1 goal h")
@@ -361,9 +402,7 @@ def test_two_reporters_who_type_one_goal_do_not_count_it_twice(site):
 def test_two_people_with_one_number(site):
     """Both are told, and each is answered for itself: the second is not told that a goal was entered which was refused."""
     site.begin()
-    first, second = site.terminal().sees("12 Delta"), site.terminal().sees("12 Delta")
-    first.enter("1 kickoff", "entered, row 6")
-    second.sees("row 6: 1 kickoff by reporter 1")
+    first, second = two_reporters(site)
     first.type("1 goal home").sees("> 1 goal home")
     second.type("1 goal home").sees("> 1 goal home")
     first.type("\r").sees("1 goal home             entered, row 7")
@@ -411,14 +450,14 @@ class Client:
         self.client.subscribe("ucl/a/answers", 1)
         time.sleep(0.3)
 
-    def sent(self, row, data, again=False, topic="0/rows/1"):
-        """Sends a row, and gives what is answered with its correlation data: the reply, the row, the name."""
+    def sent(self, row, data, again=False, topic="0/rows/1", wait=3):
+        """Sends a row, and gives what is answered with its correlation data in so many seconds: the reply, the row, the name."""
         properties, count = self.properties(), len(self.heard)
         properties.CorrelationData = data
         if again:
             properties.UserProperty = "again", "1"
         self.client.publish(f"ucl/a/{topic}", row, 1, False, properties)
-        until(lambda: len(self.heard) > count, 3)
+        until(lambda: len(self.heard) > count, wait)
         time.sleep(0.3)
         told = [(it, said) for it, said in self.heard[count:] if said["reply"] != "notice"]
         assert all(it == data for it, _ in told)
@@ -453,7 +492,27 @@ def test_a_row_that_is_sent_again_is_answered_again(site):
     assert until(lambda: desk(site)["edition"] == 1, 20)
     time.sleep(0.2)
     assert sent("1,1,0,kickoff", b"t.1", True) == []
+    assert "board a: passed over 1, the last no event of its reporter on ucl/a/0/rows/1: 1,2,1,goal-home\n" in (site.path / "errors").read_text()
     assert sent("1,2,0,kickoff", b"w.1", True, "1/rows/1") == [("ok", 9, None)]
+    client.end()
+
+
+def test_a_row_that_the_broker_sends_again(site):
+    """A board is killed once a row is in the record, and before it has acknowledged the row: the next board has it again, with no mark of its sender,
+    and answers it as entered."""
+    board = site.begin_with(SILENT)
+    assert desk(site)["version"] == 0
+    (site.path / "silent").touch()
+    client = Client(site)
+    assert client.sent("1,1,0,kickoff", b"t.1") == [("ok", 6, None)]
+    board.kill()
+    site.await_no_board()
+    (site.path / "silent").unlink()
+    count = len(client.heard)
+    board.start()
+    assert until(lambda: client.heard[count:], 20) and desk(site)["version"] == 1
+    assert [(data, said["reply"], said["row"]) for data, said in client.heard[count:]] == [(b"t.1", "ok", 6)]
+    assert site.record.read_text().count("kickoff") == 1
     client.end()
 
 
@@ -521,10 +580,7 @@ def test_a_full_disk_behind_a_broker(site):
 
 def test_a_disk_that_fails_behind_a_broker(site):
     """The reporter is told that the row may be in the record, and when it is sent again that it is; the board goes on."""
-    (site.path / "hook").mkdir()
-    (site.path / "hook/sitecustomize.py").write_text(FAILING_DISK)
-    site.open_broker()
-    site.line("PYTHONPATH=hook " + LINES["The board"].strip())
+    site.begin_with(FAILING_DISK)
     reporter = site.terminal("--again 1").sees("12 Delta")
     (site.path / "broken").touch()
     reporter.type("1 kickoff\r").sees("it may be in the record").sees("1 kickoff               entered, row 6")
@@ -541,6 +597,8 @@ def test_a_reporter_begins_in_the_edition_of_the_board_and_not_in_that_which_the
     for count in range(3):
         site.done("mosquitto_pub -r -q 1 -t ucl/a/desk -s", kept)
         assert site.done("./ucl_reporter --broker a 2>/dev/null", f"{count + 1} kickoff\n").startswith(f"{count + 1} kickoff               entered, row ")
+    site.done("mosquitto_pub -q 1 -t ucl/a/0/rows/1 -m 1,4,0,kickoff")
+    assert until(lambda: "board a: passed over 1, the last of another edition on ucl/a/0/rows/1: 1,4,0,kickoff\n" in (site.path / "errors").read_text(), 20)
 
 
 def test_access_lists(site):
@@ -659,6 +717,25 @@ def test_a_thousand_hostile_messages(site, seed):
     assert b"owned" not in reporter.raw[raw:].replace(b"?]0;owned", b"") and b"\x1b[2J" not in reporter.raw[raw:] and b"\x1b[31m" not in reporter.raw[raw:] and b"\x1b]0" not in reporter.raw[raw:]
     assert reporter.end() == 0 and "Traceback" not in reporter.text() + (site.path / "errors").read_text()
     assert (site.path / "errors").read_text().count("board a: passed over") <= 2
+
+
+def test_what_a_broker_tells_is_printed_without_escapes_and_ends_nobody(site):
+    """A notice, a club's name, a refusal of a rule that is not known, a screen without matches, a blank in a topic, an answer that is none, and at last
+    a screen that is older than the one that stands."""
+    board = site.begin()
+    reporter = site.terminal().sees("12 Delta")
+    screen, raw = desk(site), len(reporter.raw)
+    refused = {"reply": "refused", "row": 9, "code": 77, "name": "new-rule", "reporter": 1, "match": 1, "expected": 0, "event": "kickoff"}
+    said = [("desk", {**screen, "version": 1, "clubs": [{"club": "\x1b[31mX", "coefficient": 1}] * 4}), ("desk", {**screen, "version": 2, "matches": []}), ("desk", {**screen, "row": 1 << 70, "version": 3}), ("answers", refused), ("answers", {})]
+    for topic, it in [*said, ("0 x/rows/1", "hi"), ("answers", {"reply": "notice", "reporter": 1, "text": "boo\x1b[2J\x1b]0;x\x07"})]:
+        site.done(f"mosquitto_pub -V 5 -q 1 -t 'ucl/a/{topic}' -s", json.dumps(it))
+    reporter.sees("boo?[2J?]0;x?").enter("1 kickoff", "1 kickoff               entered, row 6").board()
+    assert not re.search(rb"\x1b\[2J|\x1b\]|\x1b\[31m", reporter.raw[raw:]) and "Traceback" not in reporter.text() and board.shell.poll() is None
+    board.kill()
+    site.await_no_board()
+    site.done("mosquitto_pub -V 5 -q 1 -t ucl/a/desk -s", json.dumps(screen))
+    time.sleep(1)
+    assert reporter.board().startswith("GROUP A v00001")
 
 
 @pytest.mark.parametrize("topic", ["ucl/a/0/rows/1", "ucl/a/answers", "ucl/a/desk"])

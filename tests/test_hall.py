@@ -2,6 +2,8 @@
 
 import asyncio
 import contextlib
+import ctypes
+import errno
 import fcntl
 import json
 import os
@@ -11,6 +13,7 @@ import resource
 import subprocess
 import threading
 import time
+import types
 
 import hypothesis
 import hypothesis.strategies as some
@@ -19,13 +22,13 @@ import pytest
 from conftest import needs, text_of
 from model import Session
 
-from hall import disk
+from hall import disk, told
 from hall.answers import Accepted, LeftOut, Mended, Moment, Refused
 from hall.beginning import begin
 from hall.faults import Dropped, MaybeEntered, NotEntered, Over
 from hall.history import History
 from hall.lines import LONGEST_LINE, NoAnswer, answer_of, reply_of
-from hall.mends import Changed, Refusal
+from hall.mends import Changed
 from hall.printable import printable
 from hall.record import Record
 from hall.rows import EVENTS, Club, Row, club_mend, club_row, edition_mend, event_mend, event_row, later_group
@@ -55,15 +58,15 @@ EVENING = STARTED + '1,1,9,red-home\nx\n1,2,0,goal-home\n1,1,3,disallow-away\nme
 def test_each_answer_is_read():
     """What each kind of line says; nothing of an evening is passed over."""
     kinds = [answer_of(line.encode()) for line in answers_to(EVENING)]
-    told = {type(answer): answer for answer in kinds}
-    assert {it.__name__ for it in told} == {"Moment", "Accepted", "Refused", "LeftOut", "Mended", "Other"}
-    assert (told[LeftOut].row, told[LeftOut].event, told[LeftOut].name) == (12, "disallow-away", "no-goal")
+    of = {type(answer): answer for answer in kinds}
+    assert {it.__name__ for it in of} == {"Moment", "Accepted", "Refused", "LeftOut", "Mended", "Other"}
+    assert (of[LeftOut].row, of[LeftOut].event, of[LeftOut].name) == (12, "disallow-away", "no-goal")
     mended = [answer for answer in kinds if isinstance(answer, Mended)]
     assert [(it.row, it.without, it.left_out, it.title.edition, it.version) for it in mended] == [(13, 8, 1, 1, 2), (15, None, 0, 7, 2), (17, None, 0, 8, 2)]
     assert [(it.row, it.code, it.name, it.number) for it in kinds if isinstance(it, Refused)] == [
         (9, 1, "stale", 3), (10, 20, "bad-row", None), (11, 3, "not-started", None), (14, 11, "no-event", None), (16, 12, "last-edition", None)]
-    assert told[Moment].title.clubs[1] == Club('B, "2"', 7) and told[Moment].match(1).score == (1, 0) and told[Moment].age == (8, 2)
-    assert told[Accepted].event == Row(1, 3, "disallow-away") and told[Accepted].line.startswith(b'{"clubs"')
+    assert of[Moment].title.clubs[1] == Club('B, "2"', 7) and of[Moment].match(1).score == (1, 0) and of[Moment].age == (8, 2)
+    assert of[Accepted].event == Row(1, 3, "disallow-away") and of[Accepted].line.startswith(b'{"clubs"')
 
 
 def changed(value, chance):
@@ -111,6 +114,22 @@ def test_values_that_are_nearly_right():
     for wrong in {"row": True}, {"row": 0}, {"row": 1 << 32}, {"code": True}, {"name": "no\x1b[2J"}, {"name": "x" * 41}, {"name": ""}, {"row": "9"}:
         with pytest.raises(NoAnswer):
             answer_of(json.dumps({**said, **wrong}).encode())
+
+
+@pytest.mark.parametrize("change", [
+    {"matches": []}, {"table": []}, {"clubs": []}, {"clubs": [{"club": "\x1b[2J", "coefficient": 1}] * 4}, {"words": 7}, {"row": 1 << 70}, {"version": -1}, {"group": "Z"}, {"edition": "0"}], ids=str_of)
+def test_a_screen_that_is_well_formed_and_wrong(change):
+    """It is no answer, so no list of it is ever too short, and no escape of it is printed."""
+    screen = json.loads([line for line in answers_to(STARTED) if '"screen"' in line][-1])
+    assert isinstance(answer_of(json.dumps(screen).encode()), Moment)
+    with pytest.raises(NoAnswer):
+        answer_of(json.dumps({**screen, **change}).encode())
+
+
+def test_a_refusal_of_a_rule_that_is_not_known_yet():
+    """It is told by its name."""
+    said = {"reply": "refused", "row": 9, "code": 77, "name": "new-rule", "reporter": 1, "match": 1, "expected": 0, "event": "kickoff"}
+    assert told.advice(answer_of(json.dumps(said).encode())) == "new-rule"
 
 
 def test_answers_of_one_row():
@@ -186,7 +205,29 @@ def test_events_that_stand():
     for line in answers_to(EVENING):
         history.note(line.encode())
     assert [(it.row, it.reporter, it.match, it.event) for it in history.of(1)] == session.events and history.has(1, Row(1, 1, "goal-home")) and not history.has(2, Row(1, 1, "goal-home"))
-    assert history.at(Row(1, 2, "red-home")) is None and history.of(2) == []
+    assert not history.has(1, Row(1, 2, "red-home")) and history.of(2) == []
+
+
+def test_what_waits_at_a_terminal_is_taken_before_a_newer_moment_is_drawn(monkeypatch):
+    """Also what comes between the reading of keys and the drawing."""
+    terminal = pytest.importorskip("hall.terminal", reason="not installed: python3-prompt-toolkit").Terminal
+    one, asked = terminal.__new__(terminal), []
+    one._typist, one._is_watching, one._drawing = types.SimpleNamespace(source=types.SimpleNamespace(moment="newer")), False, "older"
+    one._app = types.SimpleNamespace(invalidate=lambda: asked.append("again"))
+    reading, writing = os.pipe()
+    with os.fdopen(reading) as keys:
+        monkeypatch.setattr("sys.stdin", keys)
+        os.write(writing, b"1")
+
+        async def drawn():
+            one._before_render(None)
+            await asyncio.sleep(0)
+            return one._drawing
+
+        assert asyncio.run(drawn()) == "older" and asked == ["again"]
+        os.read(reading, 1)
+        assert asyncio.run(drawn()) == "newer" and asked == ["again"]
+    os.close(writing)
 
 
 # ---- the record
@@ -220,7 +261,7 @@ def test_a_record_is_read_and_appended_to(tmp_path, live):
         heard = []
         record.listen(heard.append)
         await record.ready()
-        assert record.moment.version == 3 and [it.row for it in record.history.of(1)] == [6, 7, 8]
+        assert record.moment.version == 3 and [it.row for it in record.events(1)] == [6, 7, 8]
         reader = await Record.open(record.path, live, is_read_only=True)
         replies = await record.append([goal(record), b"1,1,4,yellow-home\n", b"1,1,4,red-home\n"], 0)
         assert [type(it.answer) for it in replies] == [Accepted, Accepted, Refused] and replies[1].screen.version == 5 and [it.row for it in heard] == [9, 10, 11]
@@ -238,7 +279,7 @@ def test_a_mend_is_asked_about_and_appended(tmp_path, live):
     """It shows what else is left out; if rows come by which that changes it is not appended, and else it is."""
 
     async def work(record):
-        with pytest.raises(Refusal):
+        with pytest.raises(NotEntered, match="refused: it is no event that stands"):
             await record.trial(event_mend(5))
         trial = await record.trial(event_mend(8))
         assert (trial.before.version, trial.after.version, trial.left_out, trial.after.edition) == (3, 2, (), 1)
@@ -252,7 +293,7 @@ def test_a_mend_is_asked_about_and_appended(tmp_path, live):
             await record.mend(event_mend(7), trial)
         assert [it.row for it in changed.value.trial.left_out] == [11]
         assert (await record.mend(event_mend(7), changed.value.trial)).screen.age == (2, 2)
-        assert [it.row for it in record.history.of(1)] == [6]
+        assert [it.row for it in record.events(1)] == [6]
 
     held(tmp_path, STARTED, work, live)
 
@@ -270,7 +311,7 @@ def test_ucl_live_is_killed(tmp_path, live):
             replies = await record.append([goal(record)], 0)
             assert isinstance(replies[0].answer, Accepted), number
         assert [it.row for it in heard] == [*range(9, 39)] and [it.screen.version for it in heard] == [*range(4, 34)]
-        assert [it.row for it in record.history.of(1)] == [*range(6, 39)]
+        assert [it.row for it in record.events(1)] == [*range(6, 39)]
 
     held(tmp_path, STARTED, work, live)
 
@@ -432,22 +473,65 @@ def test_rows_that_begin_no_record(tmp_path, live):
     assert [*tmp_path.iterdir()] == []
 
 
+@contextlib.contextmanager
+def file_system(folder, kind, size):
+    """A file system of this kind, in a file of so many bytes."""
+    needs(f"mkfs.{kind}", "mount")
+    image, stick = folder / "image", folder / "stick"
+    stick.mkdir()
+    with open(image, "wb") as file:
+        file.truncate(size)
+    subprocess.run([f"mkfs.{kind}", image], check=True, capture_output=True)
+    if subprocess.run(["mount", "-o", "loop", image, stick], capture_output=True).returncode:
+        pytest.skip(f"this system mounts no {kind}")
+    try:
+        yield stick
+    finally:
+        subprocess.run(["umount", "-l", stick], check=True)
+
+
 def test_a_record_begins_on_fat(tmp_path, live):
     """Where there are no links."""
-    needs("mkfs.vfat", "mount")
-    image, folder = tmp_path / "image", tmp_path / "stick"
-    folder.mkdir()
-    with open(image, "wb") as file:
-        file.truncate(4 << 20)
-    subprocess.run(["mkfs.vfat", image], check=True, capture_output=True)
-    if subprocess.run(["mount", "-o", "loop", image, folder], capture_output=True).returncode:
-        pytest.skip("no loop devices here")
-    try:
+    with file_system(tmp_path, "vfat", 4 << 20) as folder:
         path = str(folder / "evening.csv")
         assert asyncio.run(begin(path, live, BEGUN.encode())) and not asyncio.run(begin(path, live, STARTED.encode()))
         assert text_of(path) == BEGUN and os.listdir(folder) == ["evening.csv"]
-    finally:
-        subprocess.run(["umount", folder], check=True)
+
+
+@pytest.mark.parametrize("room, told", [(0, "the disk is full: nothing was entered"), (4, "the disk is full, and the row was cut off: it may be in the record")])
+def test_a_full_disk_that_reserves_nothing(tmp_path, live, room, told):
+    """ext2 has no call for it: what has no room is told as not entered, and as perhaps entered where a part of it had room."""
+    with file_system(tmp_path, "ext2", 1 << 20) as folder:
+        text = STARTED + "\n" * (os.sysconf("SC_PAGE_SIZE") - len(STARTED) - room)
+
+        async def work(record):
+            with contextlib.suppress(OSError), open(folder / "rest", "wb", buffering=0) as rest:
+                while rest.write(b"x" * 1024):
+                    pass
+            with pytest.raises((NotEntered, MaybeEntered), match=told):
+                await record.append([goal(record)], 0)
+            assert text_of(record.path) == text + goal(record).decode()[:room]
+            (folder / "rest").unlink()
+            assert isinstance((await record.append([goal(record)], 0))[0].answer, Accepted)
+
+        held(folder, text, work, live)
+
+
+@pytest.mark.parametrize("code", [errno.ENOSYS, errno.EINVAL])
+def test_a_record_begins_where_a_file_can_not_be_moved_so(tmp_path, monkeypatch, code):
+    """It gets its name by a link then; where there are no links either, as on some FAT, that is told, and nothing stays."""
+    monkeypatch.setattr(disk, "_LIBC", types.SimpleNamespace(renameat2=lambda *_: ctypes.set_errno(code) or -1))
+    path = str(tmp_path / "evening.csv")
+    assert disk.begin(path, BEGUN.encode()) and not disk.begin(path, STARTED.encode())
+    assert text_of(path) == BEGUN and os.listdir(tmp_path) == ["evening.csv"]
+
+    def no_link(*_):
+        raise OSError(errno.EPERM, "Operation not permitted")
+
+    monkeypatch.setattr(os, "link", no_link)
+    with pytest.raises(OSError, match="Operation not permitted"):
+        disk.begin(str(tmp_path / "other.csv"), BEGUN.encode())
+    assert os.listdir(tmp_path) == ["evening.csv"]
 
 
 def test_a_share(tmp_path):
@@ -457,6 +541,19 @@ def test_a_share(tmp_path):
     for kind, wanted in ("nfs4", True), ("cifs", True), ("fuse.sshfs", True), ("ext4", False), ("fuse.other", False), ("", False):
         assert disk.is_on_share(str(tmp_path), f"1 2 0:99 / /x rw - nfs x x\n27 1 {number} / / rw,relatime shared:1 - {kind} host:/x rw\n") is wanted
     assert not disk.is_on_share(str(tmp_path), "") and not disk.is_on_share(str(tmp_path), "rubbish\n") and not disk.is_on_share(str(tmp_path))
+
+
+def test_a_record_on_a_share_is_only_looked_at(tmp_path, live, monkeypatch):
+    """It is neither begun nor appended to there."""
+    monkeypatch.setattr(disk, "is_on_share", lambda path: True)
+
+    async def looked_at(record):
+        return record.moment.version
+
+    for work in lambda: held(tmp_path, STARTED, looked_at, live), lambda: asyncio.run(begin(str(tmp_path / "other.csv"), live, BEGUN.encode())):
+        with pytest.raises(Over, match="is on a share: keep the record on a disk of this machine"):
+            work()
+    assert held(tmp_path, None, looked_at, live, is_read_only=True) == 3 and os.listdir(tmp_path) == ["evening.csv"]
 
 
 def test_many_who_append_at_once(tmp_path, live):

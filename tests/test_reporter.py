@@ -624,7 +624,7 @@ def test_a_record_that_becomes_another(hall):
 # ---- signals
 
 
-@pytest.mark.parametrize("sent, status", [(signal.SIGINT, 130), (signal.SIGTERM, 143), ("\x03", 130), ("\x04", 0)])
+@pytest.mark.parametrize("sent, status", [(signal.SIGINT, 130), (signal.SIGTERM, 143), (signal.SIGHUP, 129), ("\x03", 130), ("\x04", 0)])
 @pytest.mark.parametrize("typed", ["", "1 goal ho", "mend 7\r"])
 def test_it_is_ended_in_the_middle_of_a_line_or_a_question(hall, sent, status, typed):
     """The terminal is as it was, and nothing was appended."""
@@ -635,7 +635,7 @@ def test_it_is_ended_in_the_middle_of_a_line_or_a_question(hall, sent, status, t
     assert one.ends() == status and one.is_as_before() and text_of(ended.record) == STARTED and "Traceback" not in one.text()
 
 
-@pytest.mark.parametrize("sent, status", [(signal.SIGINT, 130), (signal.SIGTERM, 143)])
+@pytest.mark.parametrize("sent, status", [(signal.SIGINT, 130), (signal.SIGTERM, 143), (signal.SIGHUP, 129)])
 def test_it_is_ended_in_the_middle_of_an_append(hall, sent, status):
     """While another has the lock, and while the disk is busy: what came of the row is told, and the terminal is as it was."""
     needs("strace")
@@ -656,6 +656,18 @@ def test_it_is_ended_in_the_middle_of_an_append(hall, sent, status):
         assert one.ends() == status and one.is_as_before() and len(busy.rows()) == 9
 
 
+def test_its_terminal_is_gone(hall):
+    """It ends, and what was on its way is in the record, whole."""
+    gone = hall(STARTED)
+    one = gone.reporter().sees("12 Delta").type("1 goal home\r1 goal aw")
+    one.sees("1 goal aw")
+    for file in one.master, one.slave:
+        os.close(file)
+    one.master = one.slave = os.open(os.devnull, os.O_RDONLY)
+    one.slave = os.dup(one.master)
+    assert one.process.wait(20) and gone.rows()[8:] in ([], ["1,1,3,goal-home\n"])
+
+
 @pytest.mark.parametrize("sent", ["\x1a", signal.SIGTSTP])
 def test_it_is_suspended(hall, sent):
     """By Ctrl-Z and by a signal, with nothing held: the terminal is as it was, and once it goes on it shows what came since."""
@@ -670,6 +682,24 @@ def test_it_is_suspended(hall, sent):
         file.write("2,1,4,goal-away\n")
     one.type("fg; stty -a >after; echo ov''er\r").sees("row 10: 1 goal away by reporter 2").sees("event 5 by 2").type("\x15").enter("1 red home", "entered, row 11").type("\x04").sees("over\n")
     assert len({text_of(held.path / name) for name in ("before", "stopped", "after")}) == 1 and len(held.rows()) == 11
+
+
+@pytest.mark.parametrize("typed, seen, told", [("mend 7\r", "append it?", "append it?"), ("1 red home\r", "1 red home .. >", "entered, row 9")])
+def test_it_is_suspended_in_the_middle_of_a_question_or_an_append(hall, typed, seen, told):
+    """An append that waits for the lock ends first; a question is asked still once it goes on."""
+    held = hall(STARTED)
+    one = held.terminal(shell="bash --norc --noprofile -i")
+    one.type("stty -a >before; echo re''ady\r").sees("ready").type("./ucl_reporter evening.csv; stty -a >stopped; echo stop''ped\r").sees("12 Delta")
+    with open(held.record) as file:
+        fcntl.flock(file, fcntl.LOCK_EX)
+        one.type(typed).sees(seen)
+        os.kill(child_named(one.process.pid, "ucl_reporter"), signal.SIGTSTP)
+        time.sleep(0.5)
+    one.sees(told).sees("stopped\n").type("fg; stty -a >after; echo ov''er\r").sees("./ucl_reporter evening.csv\n", 2)
+    if "mend" in typed:
+        one.enter("y", "Edition 1 has begun")
+    one.type("\x04").sees("over\n")
+    assert len({text_of(held.path / name) for name in ("before", "stopped", "after")}) == 1 and len(held.rows()) == 9
 
 
 def child_named(parent, name):

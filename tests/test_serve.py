@@ -592,7 +592,7 @@ def test_a_slow_screen_gets_the_newest_and_holds_nobody_up(hall):
 
 def test_a_server_behind_a_broker(hall, live, tmp_path):
     """Reporters behind the broker and phones enter into one record; the desk has each screen, and no second board runs beside it."""
-    conftest.needs("mosquitto", "mosquitto_sub")
+    conftest.needs("mosquitto", "mosquitto_sub", "mosquitto_pub")
     command(["/usr/bin/python3", "-c", "import paho.mqtt"]).status and pytest.skip("not installed: python3-paho-mqtt")
     port, room = free_port(), tmp_path / "broker"
     room.mkdir()
@@ -602,12 +602,15 @@ def test_a_server_behind_a_broker(hall, live, tmp_path):
     env = {**os.environ, "UCL_LIVE": str(live), "XDG_CONFIG_HOME": str(room)}
     with Started(["mosquitto", "-c", room / "conf"]) as broker:
         assert until(lambda: not socket.socket().connect_ex(("127.0.0.1", port)))
-        one = hall("--reporter", "1", "--broker", "address", records=("a.rows",))
+        one = hall("--reporter", "1", "--broker", "address", records=("a.rows", "b.rows"))
+        for topic, text in ("ucl/z/desk", "x"), ("ucl/a/answers", "{}"), ("ucl/b/desk", "{}"), ("ucl/a/0 x/rows/1", "hi"), ("ucl/b/0/rows/1", "x" * 300):
+            command(["mosquitto_pub", "-p", str(port), "-q", "1", "-t", topic, "-m", text])
+        assert one.phone(1, "b.rows").answer(1, 0, "kickoff") == "entered" and one.rows("a.rows") == []
         phone, screen = one.phone(1, "a.rows"), one.screen()
         assert phone.answer(1, 0, "kickoff") == "entered"
         typed = command(["/usr/bin/python3", TOP / "ucl_reporter", "--broker", "a", "--number", "2"], "1 goal home\n2 kickoff\n", env=env, cwd=tmp_path)
         assert (typed.status, typed.output.count(" entered")) == (0, 2), typed
-        assert screen.until("screen", version=3)["matches"][0]["score"] == [1, 0] and phone.until("screen", version=3)
+        assert screen.until("screen", group="A", version=3)["matches"][0]["score"] == [1, 0] and phone.until("screen", version=3)
         assert one.rows("a.rows") == ["1,1,0,kickoff", "2,1,1,goal-home", "2,2,0,kickoff"]
         desk = command(["mosquitto_sub", "-h", "127.0.0.1", "-p", str(port), "-t", "ucl/a/desk", "-C", "1", "-W", "5"]).output
         assert json.loads(desk)["version"] == 3
