@@ -297,6 +297,7 @@ same_word h i j g legal same =
     let m = words_apart (match_after (take i h) g) (match_after (take j h) g) (match_valid g (take i h) (legal_take h i legal)) (match_valid g (take j h) (legal_take h j legal)) same in
     (same_number h i j g (ap (λ (m : MatchRecord). m.number) m)).0
 
+-- one more entry changes the word of its match, and no other
 pub one_word : OneWordChanges
 one_word h e legal =
     let before = may_begin MayFollow h (e ∷ []) legal in
@@ -367,6 +368,7 @@ entry_after h e legal =
 same_record : (h k : List Entry) (game : ℕ) → IsLegal h → IsLegal k → IsMatch game → word_at (board_of h) game ≡ word_at (board_of k) game → match_after h game ≡ match_after k game
 same_record h k game a b is same = words_apart (match_after h game) (match_after k game) (match_valid game h a) (match_valid game k b) (sym (word_after h game is) ∙ (same ∙ word_after k game is))
 
+-- two histories with the same word of a match before and after one entry more have the same entry
 pub entry_known : EntryIsKnown
 entry_known h k e f legal_e legal_f game was is =
     let before_h = may_begin MayFollow h (e ∷ []) legal_e in

@@ -1,7 +1,5 @@
 -- Histories: which are legal, the board after one, and the reply of a board to the next event.
--- An entry is an event that was accepted, with its match and its reporter. A history is a list of entries, oldest first.
--- A match word is the record of a match packed into 64 bits. The version of a board is how many events its twelve matches accepted.
--- A reading is a copy of the words of a board with its version. The fresh board is the one before any event.
+-- A history is a list of entries, which are accepted events, oldest first. The fresh board is the one before any event.
 use Rattle.std.specs.Prelude.{ℕ, ◌-◌, ◌==◌, List, [], ◌∷◌, ◌++◌, map, filter, take, slice_set, if◌then◌else◌, Result}
 use Rattle.std.specs.List.{fold}
 use Rattle.std.specs.Result.{is_ok}

@@ -1,9 +1,5 @@
--- The log of boards that threads share. It stands here since the cell board has one too, and does not use the machine of `ucl_steps`.
--- The log lists all atomic steps of passes on a board's words, oldest first, but for the loads by which a pass is split or a note of one
--- joined to another: those ignore what they find. A match word is a match in 64 bits. A pass is a thread's permission to use the board; its
--- seat is a number that tells it from other passes. To enlist a reader's pass is to make it a reporter's, with a reporter's number. The
--- history has the accepted events, its entries, oldest first. A report loads a match word, then compares and exchanges it; a reading loads
--- all twelve (its first collect), then loads them again (its second).
+-- The log of boards that threads share: all atomic steps, oldest first, but for those that ignore what they find: split, and notes joined.
+-- It stands here since the cell board has one too, and does not use the machine of `ucl_steps`.
 use Rattle.std.specs.Prelude.{◌≡◌, ℕ, ◌+◌, ◌==◌, ◌<◌, ◌≤◌, Bool, List, [], ◌∷◌, All, map, filter, length, Option, Some, None}
 use Rattle.std.specs.List.{flat_map, fold}
 use Rattle.ucl_word.specs.declared.event.EventCall.{EventCall}

@@ -1,7 +1,5 @@
 -- Theorems on all fixtures and histories.
--- An entry is an accepted event, and a history a list of entries, oldest first; it is legal if each is accepted after those before it.
--- An attempt is an event that is entered, accepted or refused; it is stale if it expects another event number than its match has, which is
--- how many events the match accepted. A board has a word for each match, its record in 64 bits; its version is the sum of event numbers.
+-- An attempt is an event that is entered, accepted or refused; it is stale if it expects another event number than its match has.
 use Rattle.std.specs.Prelude.{◌≡◌, ◌≢◌, ℕ, ◌≤◌, List, [], ◌∷◌, All, ◌++◌, length, take, true, Err}
 use Rattle.std.specs.List.{fold}
 use Rattle.std.specs.Result.{is_ok}

@@ -1,6 +1,4 @@
-//! The board of one thread: twelve words, and the calls on them. The rules by which an event changes a word are in `ucl_word`. A *word* is
-//! a match packed into 64 bits; a *layout* says where its fields stand, and words of the first layout are read too. The *event number* of a
-//! match is how many events it accepted; the sum of these is the board's *version*. A record of a match is *valid* if a match can have it.
+//! The board of one thread: twelve words, and the calls on them. The rules by which an event changes a word are in `ucl_word`.
 
 ghost use Rattle.std.specs.Prelude.{◌≡◌, ℕ, ◌+◌, ◌-◌, ◌≤◌, List, [], Ok, Err, IfOk, IfErr};
 ghost use Rattle.ucl_word.specs.Record.{IsValid};

@@ -1,5 +1,4 @@
-//! `Reading`, a copy of a board with its version. The *version* of a board is the sum of the event numbers of its twelve matches, and an
-//! event number is how many events a match accepted.
+//! `Reading`, a copy of a board with its version.
 
 ghost use Rattle.std.specs.Prelude.{◌≡◌};
 ghost use Rattle.ucl_board.specs.History.{reading_of};

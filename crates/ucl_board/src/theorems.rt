@@ -1,7 +1,4 @@
-//! Theorems on all fixtures and histories. The functions do nothing: each is there for its contract. A *history* is a list of accepted
-//! events, its *entries*; it is *legal* if each is accepted after those before it. A match's *event number* is how many events it accepted,
-//! its *word* is its record packed into 64 bits, and a board has twelve; the board's *version* is the sum of their event numbers. An event
-//! is refused as *stale* if it expects another event number than its match has.
+//! Theorems on all fixtures and histories. The functions do nothing: each is there for its contract.
 
 ghost use Rattle.ucl_board.specs.Theorems.{EachPairMeetsOnce, BeginningsAreLegal, BoardsAreCounted, VersionsAreLengths, SameNumberSameWord, SameWordSameEntries, OneWordChanges, EntryIsKnown, AttemptsAreCounted, AcceptedEventsGoStale, RepeatsChangeNothing, BoardsGoOn};
 

@@ -88,6 +88,7 @@ most-as most o text l h = record { begun = l.begun; each = rw l.carried (All-con
 pub silent-line : (v : Data) (most : Option BoardState) → IsShortPlain v → parse_board_state v ≡ None → CarriesAtMost most (json_line v)
 silent-line v most short none = most-as most None (json_line v) (value-line v None (parsed-line v short ∙ none)) (inl refl)
 
+-- the answer to an event that is refused carries no board state
 refused-by-line : (o : Option BoardState) (row : ℕ) (event : NightEvent) (refusal : Refusal) (found : Option ℕ) (m : MatchRecord)
     → row < 2 ^ 64 → HasNumbers event → IfSome found (λ n. n < 2 ^ 64) → IsValid m
     → CarriesAtMost o (json_line (refused_by row event (refusal_code refusal) (refusal_name refusal) found m))

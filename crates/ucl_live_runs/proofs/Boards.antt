@@ -111,6 +111,7 @@ module _ (words : List ℕ) (a : Attempt) (w : AreWords words) (is : IsAttempt a
 
 -- an event is of a reporter and a match that there are
 
+-- a number that is read within limits is within them
 pub ranged : (low high : ℕ) (o : Option ℕ) (n : ℕ) → in_range low high o ≡ Some n → (low ≤ n) × (n ≤ high)
 ranged low high None n h = cc
 ranged low high (Some m) n h =
@@ -339,8 +340,6 @@ good-club row clubs (Some club) =
     cond_both (length all == 4) (with_roster all (bad_slot all)) (Ok (AwaitingClubs all)) IsGood
     (λ e. good-roster all (bad_slot all) (eqb-true (length all) 4 e) refl) (λ _. tt)
 
--- the edition after a mend is later, and one that there can be
-
 after-edition : (edition later : ℕ) → edition ≤ 65535 → edition_after edition ≡ Ok later → (edition < later) × (later ≤ 65535)
 after-edition edition later most h = elim (cases_Bool (edition == 65535)) [
   | inl y ↦ cc (rw y at h)
@@ -350,6 +349,7 @@ after-edition edition later most h = elim (cases_Bool (edition == 65535)) [
       let less : edition < 65535 = grind (arith, nat_tests) in (omega (arith, same), omega (arith, same, less))
 ]
 
+-- the edition after a mend is later, and one that there can be
 pub later-edition : (edition : ℕ) (events : List StandingEvent) (mend : Mend) (later : ℕ) → edition ≤ 65535 → IsPossible (Mends mend) → edition_reply edition events mend ≡ Ok later
     → (edition < later) × (later ≤ 65535)
 later-edition edition events Club later most p h = after-edition edition later most h

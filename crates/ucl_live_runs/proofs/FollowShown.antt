@@ -201,6 +201,7 @@ module _ (args : FollowArgs) (m : BoardState) (asked : is_asked args.group args.
   abbrev EndsWith : FollowState → List BoardState → Type 0
   EndsWith end ms = (end.newest ≡ Some m) × ((before : List BoardState) × (ms ≡ before ++ m ∷ []))
 
+  -- a follower to which the newest board state came ends with it, and shows it last
   ends : (f : FollowState) (lines : Lines) → IsOpenTo f → IsBelow f.newest → IsCarriedIn lines m → AllFit lines → EndsWith (followed f lines) (board_states_shown f lines)
   unfolding followed board_states_shown
   ends f [] h below is all = absurd (omega (arith, is.1))

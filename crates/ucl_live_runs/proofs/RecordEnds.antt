@@ -27,6 +27,7 @@ older m o b = (same-asked m.header o.header (sym b.same.0, sym b.same.1), later 
     later m o (inl less) = grind (arith, nat_tests)
     later m o (inr less) = grind (arith, nat_tests)
 
+-- what is behind a board state is behind each later one
 further : (a b c : BoardState) → (a ≡ b) ⊎ IsBehind a b → IsBehind b c → IsBehind a c
 further a b c (inl same) q = subst (λ (x : BoardState). IsBehind x c) (sym same) q
 further a b c (inr p) q = record {
@@ -153,6 +154,7 @@ record Walks (e : Session) (out : Carried) (lines : Lines) : Type 0 where
   told : AreNoNewer (after_lines e lines) (out ++ carried_in (answers e lines))
   falls : NeverFall (out ++ carried_in (answers e lines))
 
+-- along the lines of a session what its answers carry never falls
 walks : (e : Session) (out : Carried) (lines : Lines) → e.options.format ≡ Json → e.row + length lines ≤ 2 ^ 64 → IsSound e → AreNoNewer e out → NeverFall out → Walks e out lines
 unfolding answers after_lines
 walks e out [] json fits g told falls = record { begun = begun_none 4097 []; told = rw (carried-none, append-nil out) told; falls = rw (carried-none, append-nil out) falls }

@@ -156,6 +156,7 @@ left-by-tells : (o : Option BoardState) (events : List StandingEvent) (mend : Me
 left-by-tells o events (Without row) all = left-tells o row [] events all
 left-by-tells o events _ all = most-none o
 
+-- the row that a mend names fits 64 bits
 without-fits : (mend : Mend) → IsPossible (Mends mend) → IfSome (row_named mend) (λ n. n < 2 ^ 64)
 without-fits (Without row) p = omega (arith, p)
 without-fits _ p = tt
@@ -422,6 +423,7 @@ module _ (options : LiveArgs) (header : BoardHeader) (row : ℕ) (clubs : List N
         (mended_answer format row (new mend edition p later) (all mend edition p later) (left_out_by events mend) (row_named mend) (events_after events mend)
         ++ screen_now mend edition p later)) (sym json) (mended-tells mend edition p later)
 
+    -- the answer to a request tells the board state after it, or none
     request-tells : (q : Request) (shown : List ℕ) → IsPossible q → IsShown shown → Tells At_now
         (board_state_at (request_stage header row clubs events said q).header (request_stage header row clubs events said q).phase)
         (answer_of options header row clubs events said q shown)

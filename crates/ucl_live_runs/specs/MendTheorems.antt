@@ -1,5 +1,4 @@
--- What holds of all mends. The events that stand are a history, legal if each is accepted after those before it. A mend that names a row
--- keeps each event that the rules accept after those kept before it, but for the one of this row, and leaves out those that they refuse.
+-- What holds of all mends.
 use Rattle.std.specs.Prelude.{◌≡◌, ◌≢◌, ℕ, ◌==◌, List, [], ◌++◌, All, filter}
 use mathlib.Core.List.{IsPrefix}
 use Rattle.ucl_board.specs.History.{IsLegal}

@@ -1,7 +1,5 @@
--- What a mend makes of the events that stand on a board. An entry is an accepted event with its match and its reporter. A history is a list
--- of entries, oldest first, legal if each is accepted after those before it. An event that stands is an entry with the number of its row.
--- A mend names a row: of the events that stand it keeps, in their order, each that the rules accept after those kept before it, but for the
--- one of this row. An event that it keeps or refuses expects the event number that its match then has.
+-- What a mend makes of the events that stand: it keeps, in their order, those that the rules still accept, but for the one that it names.
+-- An event is entered again after those kept before it, with the event number that its match then has.
 use Rattle.std.specs.Prelude.{ℕ, ◌+◌, ◌==◌, ◌&&◌, not, nat_le, Bool, if◌then◌else◌, List, [], ◌∷◌, ◌++◌, map, Result, Ok, Err}
 use Rattle.std.specs.List.{fold, list_any}
 use Rattle.std.specs.Result.{is_ok}

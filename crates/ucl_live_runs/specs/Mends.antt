@@ -1,5 +1,5 @@
--- What a mend does to the board of a session: it takes the event of a row back, names a later edition, or puts a club in its slot; and its
--- answer. An event that stands is an accepted event with the number of its row. A refused mend changes nothing.
+-- What a mend does to the board of a session, and its answer: it takes the event of a row back, names a later edition, or puts a club
+-- in its slot. A refused mend changes nothing.
 use Rattle.std.specs.Prelude.{if◌then◌else◌, ◌≡◌, ◌+◌, ◌++◌, ◌-◌, ◌==◌, ℕ, string_bytes, codes, decimal, flat_map, length, nat_lt, set, List, [], Option, Some, None, Result, Ok, Err}
 use Rattle.ucl_board.specs.History.{board_of}
 use Rattle.ucl_command.specs.declared.options.Format.{Format}

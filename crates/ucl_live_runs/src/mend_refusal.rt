@@ -1,4 +1,4 @@
-//! Why a mend is refused. A mend takes an event back by the number of its row, and begins the next edition of its board.
+//! Why a mend is refused.
 
 ghost use Rattle.std.specs.Prelude.{◌≡◌, Some};
 ghost use Rattle.ucl_live_runs.specs.MendNames.{mend_refusal_code, mend_refusal_name};

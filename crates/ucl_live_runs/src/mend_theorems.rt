@@ -1,6 +1,4 @@
-//! Theorems on all mends. The functions do nothing: each is there for its contract. The events that stand on a board are a history, *legal* if
-//! each is accepted after those before it. A mend names a row: it keeps each event that the rules accept after those kept before it, but
-//! for the one of this row, and leaves out those that they refuse.
+//! Theorems on all mends. The functions do nothing: each is there for its contract.
 
 ghost use Rattle.ucl_live_runs.specs.MendTheorems.{LaterEventsGoOn, MendsAreLegal, OtherMatchesStay, WholeHistoriesAreKept};
 

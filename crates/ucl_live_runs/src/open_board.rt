@@ -1,5 +1,5 @@
 //! The board of a session whose four clubs are named, and what it answers to a row: the row enters an event, asks to show the board, or
-//! mends it. An edition is a number from 0 that rises with each mend.
+//! mends it.
 
 ghost use Rattle.std.specs.Prelude.{◌≡◌, ◌+◌, ◌++◌, if◌then◌else◌, [], List, IfOk, IsOk, OnOk, string_bytes};
 ghost use Rattle.ucl_live_runs.specs.declared.standing.LeftOut.{LeftOut};

@@ -1,6 +1,5 @@
-//! The events that stand on an open board, in their order, and what a mend makes of them. A *history* is a list of accepted events, *legal* if
-//! each is accepted after those before it. A mend names a row: it keeps each event that the rules accept after those kept before it, but
-//! for the one of this row. An event that is entered again expects the event number that its match then has.
+//! The events that stand on an open board, in their order, and what a mend makes of them. A mend names a row: it keeps each event that the
+//! rules accept after those kept before it, but for the one of this row.
 
 ghost use Rattle.std.specs.Prelude.{◌≡◌, ◌≤◌, ℕ, List, [], IfOk, length};
 ghost use Rattle.std.specs.Iterator.{YieldsFirst, item_count};

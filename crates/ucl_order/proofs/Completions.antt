@@ -92,6 +92,7 @@ plays_same club game board later = plays_alike ((fixture_of game).home == club) 
 match_kept : (board later : List ℕ) (game : ℕ) → game_at later game ≡ game_at board game → match_at later game ≡ match_at board game
 match_kept board later game e = rw e
 
+-- what a club has in a completion lies between its points from finished matches and three more for each other match
 between : (club : ℕ) (games board later : List ℕ) → All IsMatch games → IsCompletion board later → Between club games board later
 unfolding board_part
 between club [] board later are done = record { low = omega arith; high = omega arith }

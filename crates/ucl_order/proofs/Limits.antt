@@ -125,6 +125,7 @@ three board club slot = each_slot (λ c. length (away_matches c (matches_of boar
 few_cards : (y e : ℕ) → y ≤ 63 → e ≤ 31 → y + 3 * e ≤ 156
 few_cards y e h k = omega arith
 
+-- the totals of a club with at most six matches, three of them away, fit the bits of its keys
 fits : (club : ℕ) (ms : List Match) → All HasScore ms → played club ms ≤ 6 → length (away_matches club ms) ≤ 3 → FitsKeys ms club
 unfolding totals
 fits club ms valid most away =

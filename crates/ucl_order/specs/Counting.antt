@@ -1,7 +1,4 @@
 -- What a club has done, counted one match at a time as the code counts it, and the limits of the numbers.
--- A club is named by its slot, 1 to 4. Results are the numbers of one club in some matches: how many it played and won, its goals, cards.
--- An appearance is a match from the side of one of its clubs. A mark is plus, minus or blank: whether the club is sure to be among the
--- first two, sure not to be, or neither.
 use Rattle.std.specs.Prelude.{ℕ, ◌+◌, ◌*◌, ◌≤◌, ◌&&◌, if◌then◌else◌, All, List, length}
 use Rattle.ucl_board.specs.Fixtures.{IsSlot}
 use Rattle.ucl_order.specs.declared.game.Match.{Match}

@@ -1,6 +1,5 @@
 -- Marks: which clubs are certain to be among the first two of the group when it ends, and which are certain not to be.
--- A board is the list of twelve words that pack its match records, a club is named by its slot, 1 to 4, and an order is the list of the
--- clubs' slots by place; a profile is a rule of tie-breaks. A club can reach its points from finished matches and three for each one left.
+-- A club can reach its points from finished matches and three for each one left.
 use Rattle.std.specs.Prelude.{◌≡◌, ℕ, ◌+◌, ◌*◌, ◌==◌, ◌&&◌, not, nat_lt, nat_le, if◌then◌else◌, Bool, List, count_by, take, Contains, map}
 use Rattle.std.specs.List.{list_all}
 use Rattle.ucl_word.specs.declared.record.State.TheVariants.{Finished}

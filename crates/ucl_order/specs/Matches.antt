@@ -1,6 +1,4 @@
--- The matches of a board with their scores.
--- A board is the list of twelve words that pack its match records, a club is named by its slot, 1 to 4, and an appearance is a match from
--- the side of one of its clubs. Which two clubs play the match with a number, 1 to 12, is fixed for every group.
+-- The matches of a board with their scores. An appearance is a match from the side of one of its clubs.
 use Rattle.std.specs.Prelude.{◌≢◌, ◌≤◌, ℕ, not, Bool, List, map, filter, ◌+◌, ◌*◌, ◌==◌, nat_lt, true, false, if◌then◌else◌, Option, Some, None}
 use Rattle.ucl_word.specs.declared.record.MatchRecord.{MatchRecord}
 use Rattle.ucl_word.specs.Rules.{is_scheduled, is_finished}

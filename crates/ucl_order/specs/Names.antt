@@ -1,5 +1,4 @@
--- Names and codes of the profiles.
--- A profile says by what clubs that are level on points are compared head to head; a code is the number that stands for it in C.
+-- Names and codes of the profiles. A code is the number that stands for a profile in C.
 use Rattle.std.specs.Prelude.{ℕ, List, [], ◌∷◌, codes, find, slice_get, Option}
 use Rattle.std.specs.Str.{bytes_eq}
 use Rattle.ucl_order.specs.declared.profile.Profile.{Profile}

@@ -1,6 +1,4 @@
--- What a club has done in a list of matches.
--- A club is named by its slot, 1 to 4; an appearance is a match from the side of one club. Results are the numbers of one club in some
--- matches, in one value: how many it played and won, its goals, and so on.
+-- What a club has done in a list of matches, its results.
 use Rattle.std.specs.Prelude.{ℕ, ◌+◌, ◌*◌, List, length, filter, count_by, sum_by, ℤ, pos, ◌-ℤ◌}
 use Rattle.std.specs.List.{filter_map}
 use Rattle.ucl_order.specs.declared.game.Match.{Match}

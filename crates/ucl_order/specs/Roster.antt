@@ -1,6 +1,4 @@
--- The clubs of a group, and which clubs a roster takes in.
--- A roster is the list of its four clubs, by slots 1 to 4. A coefficient is UEFA's rating of a club, in whole thousandths. A name is a list
--- of bytes. A roster takes a club in if the name is 1 to 20 bytes of printed ASCII and the coefficient is at most 999,999.
+-- The clubs of a group, and which clubs a roster takes in. A coefficient is UEFA's rating of a club, in whole thousandths.
 use Rattle.std.specs.Prelude.{◌≡◌, ℕ, ◌+◌, ◌-◌, ◌&&◌, nat_le, Bool, true, if◌then◌else◌, List, [], ◌∷◌, All, length, map, slice_index_or, Option, Some, None}
 use Rattle.std.specs.List.{list_all}
 use Rattle.ucl_order.specs.declared.roster.Club.{Club}

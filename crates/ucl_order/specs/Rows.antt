@@ -1,7 +1,4 @@
--- The rows of the table of a board, which is the list of twelve words that pack its match records.
--- A club is named by its slot, 1 to 4. A mark is plus, minus or blank, a roster is the list of the four clubs, and a profile says by what
--- clubs that are level on points are compared in the matches among them. A completion of a board has all matches finished, and those that
--- are finished on the board are the same.
+-- The rows of the table of a board.
 use Rattle.std.specs.Prelude.{◌≡◌, ℕ, ◌-◌, ◌≤◌, List, [], ◌∷◌, map, slice_index}
 use Rattle.ucl_board.specs.Fixtures.{IsSlot}
 use Rattle.ucl_order.specs.declared.game.Match.{Match}

@@ -1,5 +1,4 @@
-//! The matches of a group with their scores. An appearance is a match from the side of one of its clubs, named by its slot, 1 to 4. A key
-//! is a number of a club in the order: clubs with the same key are tied so far.
+//! The matches of a group with their scores. An appearance is a match from the side of one of its clubs.
 
 ghost use Rattle.std.specs.Prelude.{◌≡◌, ℕ, ◌≤◌, []};
 ghost use Rattle.ucl_word.specs.Record.{IsValid};

@@ -1,5 +1,4 @@
-//! Marks: which clubs are sure of a place among the first two, or sure of none, by finished matches only. A club is named by its slot, 1 to 4.
-//! A club can reach its points from finished matches and three for each match that it has left.
+//! Marks: which clubs are sure of a place among the first two, or sure of none, by finished matches only.
 
 ghost use Rattle.std.specs.Prelude.{◌≡◌, ℕ, All, List, map};
 ghost use Rattle.std.specs.List.{list_all};

@@ -1,5 +1,4 @@
-//! What a club has done in several matches: wins, goals, cards and points. An appearance is a match from the side of one club, and a club
-//! is named by its slot, 1 to 4.
+//! What a club has done in several matches: wins, goals, cards and points.
 
 ghost use Rattle.std.specs.Prelude.{◌≡◌, ℕ, ◌≤◌, ◌+◌, ◌++◌, ◌∷◌, [], All, List, filter};
 ghost use Rattle.ucl_order.specs.declared.game.Match.{Match};

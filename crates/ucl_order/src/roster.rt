@@ -1,6 +1,5 @@
-//! Rosters: the four clubs of a group, in slots 1 to 4. A roster takes a club in if the name is 1 to 20 bytes of printed ASCII, 0x20 to
-//! 0x7e, and the coefficient, which is UEFA's rating of the club in whole thousandths, is at most 999,999. A lent name is borrowed, and a
-//! member is a club as a roster keeps it, with a copy of the name.
+//! Rosters: the four clubs of a group, in slots 1 to 4. A coefficient is UEFA's rating of a club, in whole thousandths. A lent name is
+//! borrowed; a member is a club as a roster keeps it, with a copy of the name.
 
 ghost use Rattle.std.specs.Prelude.{◌≡◌, ◌-◌, ◌≤◌, None, Some, true, false, IfOk, IfErr, OnOk, length, map, set};
 ghost use Rattle.std.specs.List.{list_all};

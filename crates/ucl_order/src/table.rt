@@ -1,5 +1,4 @@
-//! The table of a group: a row for each place, made from the clubs' results (their numbers in some matches), order and marks. A club is
-//! named by its slot, 1 to 4, and an order is the clubs' slots by place. A mark says whether a club is sure to be among the first two.
+//! The table of a group: a row for each place, made from the clubs' results, order and marks.
 
 ghost use Rattle.std.specs.Prelude.{◌≡◌, ◌-◌, ◌≤◌, List, [], ◌∷◌, All, length, map, slice_index};
 ghost use Rattle.ucl_board.specs.Fixtures.{IsSlot};

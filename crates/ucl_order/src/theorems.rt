@@ -1,5 +1,4 @@
-//! Theorems on every order and every mark. The functions do nothing: each is there for its contract, which is proved. Head to head compares
-//! clubs by the matches among them, and a profile says by what. A key packs the numbers that a club is compared by.
+//! Theorems on every order and every mark. The functions do nothing: each is there for its contract.
 
 ghost use Rattle.ucl_order.specs.Theorems.{BoardsFitKeys, ClassesAreLevel, HigherHasGreaterKey, MinusIsCertain, OrderGoesByStanding, OrderHasEachClub, OrderIsUnique, PlusIsCertain, RankingsAreOrders, TableGoesByCoefficients, TiesFollowRule};
 

@@ -101,6 +101,7 @@ record HasPoint (old new : PassView) (call : EventCall) : Type 0 where
   alone : (p : ℕ) (e : Entry) → slice_get new.seen p ≡ Some e → e.reporter ≡ old.number → length old.seen ≤ p
       → (p ≡ point) × IsEnteredAt new.seen (attempted old.number call) point
 
+-- a report has a point in the history at which its reply is the sequential one
 point_of : (old new : PassView) (call : EventCall) (reply : Result Accepted Refusal) → IsSound old → LiveReported old call reply new → HasPoint old new call
 point_of old new call (Ok accepted) sound says =
     let a = says.accepted in
@@ -270,6 +271,7 @@ module _ {B R P : Type 0} (live : boards.Ghosts B R P) where
               (suc there.0, shifted p there.0 there.1)
         ]
 
+        -- with one row more in front each row still has its point, in the order of rows
         first_placed : ArePlaced (row ∷ rows) old
         first_placed = record {
           point = points;

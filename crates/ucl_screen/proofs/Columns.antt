@@ -29,6 +29,7 @@ added : (a b c d e f g h i j k l : List ℕ) → length (a ++ b ++ c ++ d ++ e +
     ≡ length a + length b + length c + length d + length e + length f + length g + length h + length i + length j + length k + length l
 added a b c d e f g h i j k l = simp length-append
 
+-- a line of the table has 53 columns, and its line feed
 wide_line : (row : Row) (name : List ℕ) → IsWithinTable row → row.place ≤ 4 → length name ≤ 20 → length (place_line row name) ≡ 54
 unfolding place_line
 wide_line row name w place fits =

@@ -44,6 +44,7 @@ alone k j n rest y =
       filled = rw (count, none) (sym (low-zero k (digit_glyph false (n % 16) ∷ rest)));
     }
 
+-- a number below a power of 16 is spelled by at most as many digits as the exponent says
 spelled : (k j n : ℕ) (rest : List ℕ) → k ≤ j → n < 16 ^ suc k → Spelled k n rest (digits_onto (suc j) 16 false n rest)
 spelled zero j n rest h small = alone zero j n rest (let none : n / 16 ≡ 0 = omega arith in rw none refl)
 spelled (suc k) zero n rest h small = absurd (omega arith)

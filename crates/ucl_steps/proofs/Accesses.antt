@@ -104,6 +104,7 @@ pub record Shows (h : List Entry) (low high : ℕ) (reading : Reading) (ms : Lis
   pub within : (low ≤ reading.version) × (reading.version ≤ high)
   pub accesses : length ms ≡ 24
 
+-- a clean try shows the board as it was at one length of the history, between its first access and its last
 pub clean_shows : (h : List Entry) (low high : ℕ) (reading : Reading) (ms : List Access) → IsLegal h → Follows h low ms high → IsClean reading ms → Shows h low high reading ms
 clean_shows h low high reading ms legal f clean =
     let parts = follows_parts h low high clean.firsts clean.seconds (subst (λ (z : List Access). Follows h low z high) clean.accesses f) in
@@ -141,6 +142,7 @@ none_of_ok n o is = search (arith, false≢true)
 pub found_record : (h : List Entry) (m : Access) (game : ℕ) → IsLegal h → IsFoundIn h m → m.game ≡ game → record_at m.found ≡ match_after (take m.at h) game
 found_record h m game legal found is = ap record_at (found ∙ ap (λ (z : ℕ). word_of (match_after (take m.at h) z)) is) ∙ read_back (take m.at h) game (legal_take h m.at legal)
 
+-- the reply to a report is the sequential one at the place of its last access
 pub report_whole : ReportsAreSequential
 report_whole h low high now call (Ok reply) ms legal f won =
     let swapped : Access = access Swap call.game won.looked won.places.1 won.before in

@@ -199,6 +199,7 @@ goes_before : (h : List Entry) (a b : FinishedCall) → IsExplained h a → IsEx
 goes_before h a b x y turn le = grind arith
 
 module _ {I : Type 0} (h : List Entry) (IsCall : I → FinishedCall → Type 0) where
+  -- calls that are explained, each entry by one of them and in the order of time, are linearizable
   pub linear : IsLegal h → ((i : I) (c : FinishedCall) → IsCall i c → IsExplained h c)
       → ((place : ℕ) → place < length h → (i : I) × MadeBy IsCall place i × ((j : I) → MadeBy IsCall place j → j ≡ i))
       → ((i j : I) (a b : FinishedCall) → IsCall i a → IsCall j b → a.last < b.first → a.ended ≤ b.begun) → IsLinearizable h IsCall

@@ -106,12 +106,12 @@ collecting words is = cc
 pub checking : (words : List ℕ) (checked point : ℕ) → Checking words checked point ≢ NoCall
 checking words checked point is = cc
 
--- a step adds an entry exactly if it answers that an event is accepted
-
+-- the entry of a step fits this outcome: there is one exactly if an event is accepted, now
 abbrev AddsBy : Pending → ℕ → Option Entry → Outcome → Type 0
 AddsBy held now entry (Answers (Accepted accepted)) = ((e : Entry) × (entry ≡ Some e)) × (point_of held now ≡ now)
 AddsBy held now entry outcome = entry ≡ None
 
+-- a step adds an entry exactly if it answers that an event is accepted
 adds_by : (number : ℕ) (h : Pending) (t : Target) (now : ℕ) → AddsBy h now (entry_by number h t) (outcome number h t now)
 adds_by number (Holding e old new) (Match Swap game found) now = by (found == old)
   where
@@ -156,6 +156,7 @@ begun_by : (log : Log) (h : Pending) (begun first place now : ℕ) → now ≡ l
     → (h ≢ NoCall → begun ≡ entries_before log first) → first_place h begun now ≡ entries_before log (first_place h first place)
 begun_by log h begun first place now is here was = search (arith, holding, collecting, checking, entries_all)
 
+-- the point of a call lies between the first step of the call and the present
 point_within : (log : Log) (h : Pending) (first place now : ℕ) → now ≡ length (history_of log) → Noted log first h
     → (entries_before log (first_place h first place) ≤ point_of h now) × (point_of h now ≤ now)
 point_within log h first place now is s = search (arith, entries_low, le_refl)
@@ -173,6 +174,7 @@ pub record IsTimed (log : Log) (seat : ℕ) (c : FinishedCall) : Type 0 where
   pub within : (c.begun ≤ c.point) × (c.point ≤ entries_before log c.last)
   pub by_end : accepts c.reply ≡ true → (c.point ≡ entries_before log c.last) × (c.point < c.ended)
 
+-- the first step of a call is of the pass that makes the call
 first_own : (log : Log) (seat : ℕ) (h : Pending) (first place : ℕ) → IsOwnStep log seat place → (h ≢ NoCall → IsOwnStep log seat first)
     → IsOwnStep log seat (first_place h first place)
 first_own log seat h first place here was = search (arith, holding, collecting, checking)
@@ -218,6 +220,7 @@ module _ (log : Log) (x : Logged) where
   own_later : (seat place : ℕ) → IsOwnStep log seat place → IsOwnStep (log ++ x ∷ []) seat place
   own_later seat place own = (own.0, at_longer log (x ∷ []) place own.0 own.1, own.2)
 
+  -- a call of a log has the same times in the log with one step more
   timed_later : (seat : ℕ) (c : FinishedCall) → IsTimed log seat c → IsTimed (log ++ x ∷ []) seat c
   timed_later seat c t =
       let below = last_below log seat c t in
@@ -272,6 +275,7 @@ module _ (log : Log) (x : Logged) where
     added (Accepted accepted) adds made = adds
     added reply adds made = absurd (false≢true made)
 
+    -- a call that this step ends has its first step, its last and its point in order
     timed_now : (reply : Reply) → AddsBy d.held x.step.at x.step.entry (Answers reply) → IsTimed (log ++ x ∷ []) x.seat (call_answered reply x.step d)
     timed_now reply adds =
         let first = first_place d.held d.first x.step.place in
@@ -299,6 +303,7 @@ module _ (log : Log) (x : Logged) where
               (omega arith, omega arith);
         }
 
+    -- after a step the calls of its pass come one after another as before
     outcome_in_turn : (o : Outcome) → NotedBy (log ++ x ∷ []) (first_place d.held d.first x.step.place) o → AddsBy d.held x.step.at x.step.entry o
         → InTurn (log ++ x ∷ []) x.seat (with_outcome o x.step d)
     outcome_in_turn (GoesOn held) noted adds =
@@ -358,6 +363,7 @@ module _ (log : Log) (x : Logged) where
 pub calls_kept : (target : Target) (y : Taken) (d : ClientState) (k : ℕ) (a : FinishedCall) → slice_get d.calls k ≡ Some a → slice_get (with_target target y d).calls k ≡ Some a
 calls_kept target y d k a at = search (arith, at_longer)
 
+-- in a log with one step more the calls of each pass come one after another, and each entry is of a call
 next_in_turn : (log : Log) (x : Logged) → AllInTurn log → MayBeTaken log x → IsNextOfProtocol log x → AllInTurn (log ++ x ∷ [])
 next_in_turn log x r may next =
     let d = client_at x.seat log in

@@ -36,6 +36,7 @@ module _ (log : Log) (is : IsLog log) (follows : FollowsProtocol log) where
   not_next : (seat k l : ℕ) (a b : FinishedCall) → IsCall log seat k a → IsCall log seat l b → a.last ≡ b.last → k < l → ⊥
   not_next seat k l a b at bt same less = grind (arith, ((all.turn seat).timed l b bt).first, (all.turn seat).turns k l a b at bt less)
 
+  -- each entry of the history was made by exactly one call
   once : (place : ℕ) → place < length (history_of log) → (i : ℕ × ℕ) × MadeBy Is place i × ((j : ℕ × ℕ) → MadeBy Is place j → j ≡ i)
   once place low = let m = all.made place low in (m.call, m.by, λ j made. one m j made)
     where

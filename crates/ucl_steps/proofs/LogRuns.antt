@@ -1,4 +1,4 @@
--- A log is a run of the machine, with one caller for each pass: the steps that a function makes of it are enabled, and lead to its history; a longer log is a longer run.
+-- A log is a run of the machine, with one caller for each pass; a longer log is a longer run.
 use Rattle.ucl_steps.proofs.Common.{◌≡◌, ◌≢◌, inl, inr, ℕ, zero, suc, ◌+◌, ◌-◌, ◌<◌, ◌≤◌, ◌==◌, ◌&&◌, nat_le, Bool, true, false, cond, List, ◌∷◌, ◌++◌}
 use Rattle.ucl_steps.proofs.Common.{length, get_or_append_left, get_or_push, length_push, Option, Some, None, refl, sym, ap, ◌∙◌, subst, arith, []}
 use Rattle.ucl_steps.proofs.Common.{append-nil, append_assoc, le-leb, same_Some, option_and_then, option_and_then_some, slice_get, slice_index, All, Entry}
@@ -51,6 +51,7 @@ longer_logs log later p = (steps_after log p.0, sym (steps_append [] log p.0) �
 one_then : (s : Step) (steps : List Step) (w v u : MachineState) → after_step w s ≡ Some v → after_steps steps v ≡ Some u → after_steps (s ∷ steps) w ≡ Some u
 one_then s steps w v u one rest = ap (option_and_then (after_steps steps)) one ∙ rest
 
+-- steps and then more steps lead where the later ones lead from the state between them
 run_append : (xs ys : List Step) (w v : MachineState) → after_steps xs w ≡ Some v → after_steps (xs ++ ys) w ≡ after_steps ys v
 run_append [] ys w v e = ap (after_steps ys) (same_Some w v e)
 run_append (s ∷ xs) ys w v e = option_and_then_some (after_steps xs) (after_step w s) v e (λ u is rest. ap (option_and_then (after_steps (xs ++ ys))) is
@@ -181,6 +182,7 @@ module _ (steps : List Step) (w : MachineState) (kept : Keeps steps w) (number g
       (may_report number e reporter (subst IsMatch of is))
       (leaves_by c v v (machine.Look c) k at (Wanting k e) (Event e) (looked number e found) holds refl (begun_now c (Event e) w) one))
 
+  -- the exchange of a pass is that of its caller in the machine
   swap_gives : (e : EventCall) (old new k : ℕ) → game ≡ e.game → held_by w.callers (Reporter number) ≡ Some (Within k (Holding e old new))
       → Gives (Reporter number) Swap (Holding e old new) (entry_list (cond (found == old) (Some (entry_of number e)) None))
   swap_gives e old new k of holds = by (found == old) refl
@@ -470,6 +472,7 @@ module _ (readers : ℕ) (log : Log) (r : Leads readers log) (is_log : IsLog log
   count_does : (found : ℕ) (h : Pending) → outcome number h (Enlisted found) at ≡ GoesOn h
   count_does found h = search arith
 
+  -- a log that leads to a state of the machine does so with one step more
   leads_by : (target : Target) → IsThere log target → IsNextFor (client_at seat log) target → entry ≡ entry_by number held target
       → Leads readers (log ++ placed seat target place at entry ∷ [])
   leads_by (Match (Look e) game found) there next is = leads_look game found there.0 there.1 e next.0 next.1 next.2 (is ∙ look_none held number game found e)
@@ -500,6 +503,7 @@ idle_in : (n k : ℕ) → k < n → slice_get (replicate n Idle) k ≡ Some Idle
 idle_in (suc n) (suc k) l = idle_in n k (omega arith)
 idle_in n k l = search arith
 
+-- the empty log leads to the first state of the machine
 leads_none : (readers : ℕ) → Leads readers []
 leads_none readers = record {
   state = initial_state (cast_for readers);

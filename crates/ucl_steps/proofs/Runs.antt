@@ -79,6 +79,7 @@ module _ (steps : List Step) (w : MachineState) (kept : Keeps steps w) (c : Call
     other_call : (d : Caller) (i : ℕ) (b : CallRecord) → d ≢ c → slice_get w.calls i ≡ Some b → b.caller ≡ d → i ≢ k
     other_call d i b not at is same = search (arith, same_Some b (kept.knows c x k holds within).call (sym at ∙ (ap (slice_get w.calls) same ∙ (kept.knows c x k holds within).at)))
 
+    -- a step within a call keeps what a run keeps, if it changes only the words, the history and this call
     pub moved : (s : Step) (y : CallerState) (h' : List Entry) (words' : List ℕ) (f : CallRecord → CallRecord) → IsInner s → IsPrefix w.history h' → IsLegal h' → words' ≡ board_of h'
         → ((a : CallRecord) → time_of (f a) ≡ time_of a) → EntryHasOneCall h' (change_at k f w.calls)
         → Explains h' (f mine.call) (f mine.call).point (f mine.call).reply × Sees h' (f mine.call) y → in_call y ≡ Some k
@@ -242,6 +243,7 @@ module _ (steps : List Step) (w : MachineState) (kept : Keeps steps w) where
       new_number : (record_at new).number ≡ (match_after w.history e.game).number + 1
       new_number = ap (λ (z : ℕ). (record_at z).number) new_is ∙ number_next w.history (entered e n) kept.legal may_follow
 
+      -- an exchange that finds the word it expects keeps what a run keeps, and adds its entry
       won : Keeps (steps ++ Swap (Reporter n) ∷ []) (after_reply (Reporter n) k now (Accepted (record { number = (record_at new).number })) (stored n e new w))
       won =
           let m = kept.knows (Reporter n) (Within k (Holding e old new)) k holds refl in
@@ -439,6 +441,7 @@ module _ (steps : List Step) (w : MachineState) (kept : Keeps steps w) where
           (timed i x.recorded x.at) (timed j y.recorded y.at)) in
           grind (arith, e.0, y.begins.0)
 
+  -- of two calls of one caller the earlier ends before the later begins
   in_turn : (i j : ℕ) (a b : FinishedCall) (x : Is i a) (y : Is j b) → x.recorded.caller ≡ y.recorded.caller → i < j → a.last < b.first
   in_turn i j a b x y same less = by x.recorded.ended refl x.ends
     where

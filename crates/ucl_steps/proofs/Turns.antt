@@ -65,6 +65,7 @@ module _ (steps : List Step) (s : Step) where
   pub old_or_last : (p : ℕ) (x : Step) → slice_get (steps ++ s ∷ []) p ≡ Some x → (p < length steps) ⊎ ((p ≡ length steps) × (s ≡ x))
   old_or_last p x e = elim (at_either steps s p x e) [ inl t ↦ inl t.0 | inr t ↦ inr t ]
 
+  -- the call that the last step begins has as its number how many calls began before
   pub number_at_end : (i : ℕ) (c : Caller) (p : ℕ) → p ≡ length steps → BeginsAt (steps ++ s ∷ []) p i c → i ≡ length (begun_in steps)
   number_at_end i c p is b = search (arith, take-append-le, take-length)
 
@@ -226,6 +227,7 @@ module _ (steps : List Step) (n : ℕ) (ts : List Time) (c : Caller) (k : ℕ) (
   time_before : (i : ℕ) (after : Time) → slice_get (change_at k (ended_at n) ts) i ≡ Some after → TimeBefore k n ts i after
   time_before i after at = search (arith, get-change_at, same_Some)
 
+  -- a step that ends a call keeps the calls in their order of time
   pub turns_end : Turns (steps ++ End c ∷ []) n (change_at k (ended_at n) ts)
   turns_end =
       let s = End c in

@@ -1,7 +1,5 @@
--- The protocol as seen from one pass, a thread's permission on a shared board. The log lists all steps that passes took on the board's
--- words; a pass's seat is its index from 0, and enlisting makes it a reporter's, with a number from 1. A step's target is what it looked
--- at: a match word (Look, Swap: a report's load and exchange; First, Second: loads of a reading's two collects), the number of enlisted
--- reporters, or the whole board. The history is the list of accepted events, the entries; `now` is its length just before a step.
+-- The protocol as seen from one pass. `now` is the length of the history just before a step.
+-- A step's target is what it looked at: a match word, the number of enlisted reporters, or the whole board.
 use Rattle.std.specs.Prelude.{◌≡◌, ℕ, ◌+◌, ◌==◌, if◌then◌else◌, List, [], ◌∷◌, ◌++◌, length, Option, Some, None}
 use Rattle.std.specs.List.{fold}
 use Rattle.ucl_word.specs.Record.{IsReporter}

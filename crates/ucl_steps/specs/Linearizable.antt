@@ -1,7 +1,5 @@
--- Linearizability (Herlihy and Wing): one history of the board of one thread explains all calls that have their replies. A history lists
--- entries, the accepted events; it is legal if the rules accept each after those before it. A call with linearization point k takes effect
--- after the first k entries. The board of one thread is the sequential board, which says what reply is right there. Of which list of steps
--- the calls are, and by whom, is said where this is used: of runs of the machine (RunHistory.antt), and of logs (LogHistory.antt).
+-- Linearizability (Herlihy and Wing): one history of the board of one thread explains all calls that have their replies.
+-- A call with linearization point k takes effect after the first k entries. Of which calls: RunHistory.antt (runs), LogHistory.antt (logs).
 use Rattle.std.specs.Prelude.{◌≡◌, ℕ, ◌<◌, ◌≤◌, ◌⊎◌, Bool, true, false, List, length, take, Some, slice_get}
 use Rattle.ucl_word.specs.declared.event.EventCall.{EventCall}
 use Rattle.ucl_board.specs.declared.entry.Entry.{Entry}

@@ -1,5 +1,4 @@
--- Linearizability of a log: which calls passes, threads' permissions, have finished by its end, and between which steps. The log is the list
--- of all steps that passes took on the words of a shared board; a pass's seat is its index among the passes.
+-- Linearizability of a log: which calls passes have finished by its end, and between which steps.
 use Rattle.std.specs.Prelude.{◌≡◌, ℕ, ◌+◌, ◌<◌, ◌≤◌, length, take, Some, slice_get}
 use Rattle.ucl_board.specs.Log.{Log, IsLog, history_of}
 use Rattle.ucl_steps.specs.ClientState.{client_at, FollowsProtocol}

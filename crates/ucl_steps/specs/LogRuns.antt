@@ -1,7 +1,4 @@
--- A log as a run of the machine. The log lists all steps that passes, threads' permissions, took on the words of a shared board; a pass's
--- seat is its index from 0, and a reporter's pass has a number from 1. The machine (Machine.antt) is the protocol with numbered reporters
--- and readers as its callers, who also take steps to begin and to end a call. Look and Swap are the load and the exchange of a report,
--- First and Second the loads of a reading's two collects. What a pass or a caller holds is what it keeps of its call under way.
+-- A log as a run of the machine (Machine.antt), whose callers also take steps to begin and to end a call.
 use Rattle.std.specs.Prelude.{◌≡◌, ℕ, zero, suc, ◌+◌, ◌<◌, List, [], ◌∷◌, ◌++◌, All, Option, Some}
 use mathlib.Core.List.{IsPrefix}
 use Rattle.ucl_board.specs.History.{board_of}

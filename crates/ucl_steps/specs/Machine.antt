@@ -1,7 +1,5 @@
--- The snapshot protocol as a state machine: which step is enabled when, and what it does. Callers are numbered reporters and readers; their
--- cast says how many there are. A report loads its match's word (Look), then exchanges it (Swap); a reading loads all twelve words (First),
--- then again (Second). The history is the list of entries, the accepted events; a call's linearization point is a length of it.
--- Protocol.antt says what comes of a step on a match word; here are the board, the callers, the calls.
+-- The snapshot protocol as a state machine: the board, the callers, the calls; which step is enabled when, and what it does.
+-- Protocol.antt says what comes of a step on a match word. A call's linearization point is a length of the history.
 use Rattle.std.specs.Prelude.{ℕ, zero, suc, ◌-◌, ◌==◌, ◌&&◌, nat_le, Bool, true, false, if◌then◌else◌, List, [], ◌∷◌, ◌++◌, length, replicate, Option, Some}
 use Rattle.std.specs.Prelude.{None}
 use Rattle.std.specs.Prelude.{IsSome, slice_get, slice_set, slice_index}

@@ -1,6 +1,5 @@
--- The snapshot protocol: what a caller holds between two steps on match words (the 64-bit words of the matches), and what comes of each
--- step. A report loads its match's word (Look), then exchanges it for the next one (Swap). A reading loads the twelve words (First), loads
--- them again (Second), and begins anew at the first that differs. `found` is the word that a step finds.
+-- The snapshot protocol: what a caller holds between two steps on match words, and what comes of each step.
+-- A report loads a word (Look), then exchanges it (Swap). A reading loads all (First), then again (Second), and begins anew if they differ.
 use Rattle.std.specs.Prelude.{ℕ, ◌+◌, ◌==◌, if◌then◌else◌, List, [], ◌∷◌, ◌++◌, length, Option, Some, None, Result, Ok, Err, slice_index}
 use Rattle.ucl_word.specs.declared.event.EventCall.{EventCall}
 use Rattle.ucl_word.specs.declared.event.Accepted as event

@@ -1,6 +1,5 @@
--- Linearizability of a list of steps by which callers (reporters and readers) begin, make and end calls: which calls have their replies,
--- and between which steps. Places in time are lengths of the history, the list of accepted events, or places in the list of steps. Call i
--- is the one that the i-th Begin in the list begins, counted from 0.
+-- Linearizability of a list of steps by which callers begin, make and end calls: which calls have their replies, and between which steps.
+-- Call i is the one that the i-th Begin in the list begins, counted from 0.
 use Rattle.std.specs.Prelude.{◌≡◌, ◌≢◌, ◌↔◌, ℕ, ◌<◌, List, [], ◌∷◌, length, take, map, Option, Some, None, IsSome, IfSome, slice_get}
 use Rattle.ucl_board.specs.declared.entry.Entry.{Entry}
 use Rattle.ucl_steps.specs.declared.step.Caller.{Caller}

@@ -1,5 +1,4 @@
--- How a value of the program's struct `Machine` stands for a state of the machine as defined in Machine.antt: the snapshot protocol, with a
--- cast of reporters and readers as callers. What a caller holds is what it keeps of its call between two steps.
+-- How a value of the program's struct `Machine` stands for a state of the machine as defined in Machine.antt.
 use Rattle.std.specs.Prelude.{◌≡◌, Bool, List, map, take, Some, None, MatchBool}
 use Rattle.ucl_steps.specs.declared.step.Cast.{Cast}
 use Rattle.ucl_steps.specs.declared.step.Step.{Step}

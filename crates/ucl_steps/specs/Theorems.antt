@@ -1,7 +1,5 @@
--- Theorems of every run of the machine (the snapshot protocol), and of the accesses of a call: its loads and exchanges of match words. A
--- reading tries to load all words twice; if it finds another word the second time, the try was unclean, and the next begins. The history is
--- the list of entries, the accepted events; accesses follow it if each found the word that its match had then. `low` and `high` are lengths
--- of the history before a call and after it, and `at` is that at an access.
+-- Theorems of every run of the machine, and of the accesses of a call: its loads and exchanges of match words.
+-- `low` and `high` are lengths of the history before a call and after it, and `at` is that at an access.
 use Rattle.std.specs.Prelude.{◌≡◌, ℕ, ◌+◌, ◌*◌, ◌<◌, ◌≤◌, List, length, take, Some, Result, slice_get}
 use Rattle.std.specs.List.{AllByRecursion}
 use Rattle.ucl_word.specs.declared.event.EventCall.{EventCall}

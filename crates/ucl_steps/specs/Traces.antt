@@ -1,5 +1,5 @@
--- What a run of a list of steps of the machine (the snapshot protocol) answers: its trace (the history, the calls and the words that it
--- leaves), or its first disabled step. A cast says how many reporters and readers take the steps.
+-- What a run of a list of steps of the machine answers: its trace, or its first disabled step.
+-- A trace is the history, the calls and the words that the steps leave.
 use Rattle.std.specs.Prelude.{◌≡◌, ℕ, List, take, slice_get, IsSomeAnd}
 use Rattle.ucl_steps.specs.declared.step.Cast.{Cast}
 use Rattle.ucl_steps.specs.declared.step.Step.{Step}

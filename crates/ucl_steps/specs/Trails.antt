@@ -1,7 +1,5 @@
--- The trail of a pass, a thread's permission on a shared board: its accesses, the loads and exchanges of match words, oldest first; and
--- which accesses each call leaves in it. A report loads its match's word (Look) and exchanges it (Swap). A reading tries to load all twelve
--- words twice (First, then Second). An access has the word that it found, its place among all steps on the board, and `at`, the length of
--- the history just before it; the history is the list of entries, the accepted events.
+-- The trail of a pass: its loads and exchanges of match words, the accesses, oldest first; and which of them each call leaves in it.
+-- An access has the word that it found, its place among all steps on the board, and `at`, the length of the history just before it.
 use Rattle.std.specs.Prelude.{◌≡◌, ◌≢◌, ℕ, ◌+◌, ◌-◌, ◌*◌, ◌<◌, ◌≤◌, ◌⊎◌, List, [], ◌∷◌, ◌++◌, take, length, Some, Result, Ok, Err, IsOk, slice_get, slice_index}
 use Rattle.std.specs.List.{AllByRecursion}
 use Rattle.ucl_word.specs.declared.event.EventCall.{EventCall}

@@ -1,7 +1,4 @@
-//! The machine, the snapshot protocol: a board of twelve match words, each a match packed into a `u64`, and callers (a cast of reporters
-//! and readers) that take one step at a time. A report loads its match's word and exchanges it. A reading loads all words twice: its first
-//! collect, and a second one that is to find the same words. The history is the list of accepted events; places in time are lengths of it.
-//! A step is enabled if it may be taken.
+//! The machine, the snapshot protocol: a board of twelve match words, and callers that take one step at a time.
 
 ghost use Rattle.std.specs.Prelude.{◌≡◌, ◌<◌, [], length, IfOk, IsSome};
 ghost use Rattle.std.specs.Option.{option_map};

@@ -1,5 +1,4 @@
-//! The call that runs a list of steps on the machine, the snapshot protocol: reporters and readers, as many as a cast says, take one step
-//! at a time. The history is the list of accepted events, and a step is enabled if its caller may take it then.
+//! The call that runs a list of steps on the machine. A step is enabled if its caller may take it then.
 
 ghost use Rattle.std.specs.Prelude.{◌≡◌, ℕ, IfOk, Err};
 ghost use Rattle.ucl_board.specs.History.{board_of};

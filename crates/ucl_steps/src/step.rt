@@ -1,5 +1,4 @@
-//! Who takes part in a run of the machine, which is the snapshot protocol of the shared board, and the steps that each can take. A match
-//! word is a match packed into a `u64`; a reading collects, that is loads, the twelve match words twice.
+//! Who takes part in a run of the machine, and the steps that each can take. A cast says how many reporters and readers there are.
 
 use ucl_word::{EventCall, ReporterNo};
 

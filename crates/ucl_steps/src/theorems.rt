@@ -1,6 +1,5 @@
-//! Theorems of every list of steps of the machine, the snapshot protocol, and of every log: the list of all steps that passes, the
-//! permissions of threads, took on a shared board. A log follows the protocol if each pass makes its reports and readings by the protocol's
-//! steps. The history is the list of entries, the accepted events. The functions do nothing: each is there for its contract.
+//! Theorems of every list of steps of the machine, and of every log: the steps that passes took on a shared board. The functions do
+//! nothing: each is there for its contract.
 
 ghost use Rattle.ucl_board.specs.Log.{Log, IsLog, IsLegalRule, LogFacts};
 ghost use Rattle.ucl_steps.specs.ClientState.{FollowsProtocol, IsNextOfProtocol};

@@ -1,5 +1,4 @@
-//! What a list of steps of the machine, the snapshot protocol, leaves. The history is the list of accepted events; places in time are its
-//! lengths.
+//! What a list of steps of the machine leaves. Places in time are lengths of the history.
 
 ghost use Rattle.std.specs.Prelude.{◌≡◌};
 ghost use Rattle.ucl_steps.specs.declared.trace.StepFault.TheVariants.{OutOfMemory};

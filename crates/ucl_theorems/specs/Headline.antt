@@ -1,7 +1,5 @@
--- One history for all callers of a shared board, and the screens of what its readers read: of every run of the protocol's pure machine, and
--- of every running word board (thirteen atomic words). An entry is an accepted event. A pass is a thread's permission on a board; its seat
--- is its place in the list of all passes; the log has all atomic steps of all passes, oldest first. A call is a report or a reading; its
--- point is how many entries of the history come before it takes effect. A profile is a choice of tie-break rules, a roster the four clubs.
+-- One history for all callers, and the screens of what readers read: of every run of the protocol's machine, and of every word board.
+-- A call's point is how many entries of the history come before it takes effect.
 use Rattle.std.specs.Prelude.{◌≡◌, ℕ, ◌<◌, ◌≤◌, ◌++◌, List, All, length, take, drop, flat_map, Some}
 use mathlib.Core.List.{IsPrefix}
 use mathlib.Core.Option.{some}

@@ -1,5 +1,4 @@
-//! What shared boards, the protocol's machine and the screen claim together: one history for all callers. The functions do nothing: each is
-//! there for its contract.
+//! What shared boards, the protocol's machine and the screen claim together: one history for all callers.
 #![tactic(auto)]
 
 mod theorems;

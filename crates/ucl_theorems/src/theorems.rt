@@ -1,6 +1,5 @@
 //! The main theorems: one history for all callers of a shared board, and the screens of what they read. The functions do nothing: they are
-//! there for their contracts. A word board has thirteen atomic words; a pass is a thread's permission on it; the log has all steps in
-//! order, its history the accepted events. The protocol's machine is a pure state machine of these steps (`ucl_steps`).
+//! there for their contracts.
 
 ghost use Rattle.ucl_theorems.specs.Headline.{EveryRunHasOneHistory, BoardsHaveOneHistory, HistoriesGoOn, ScreensShowTheHistory};
 

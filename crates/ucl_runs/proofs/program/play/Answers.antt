@@ -16,6 +16,7 @@ returns-then-version-settled g c =
       promise.duty,
     )
 
+-- a night that no stranger came to writes its output
 pub returns : goal.returns
 returns g c =
     let reporter = g.B.LiveBoard.reporter in

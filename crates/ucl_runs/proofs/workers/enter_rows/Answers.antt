@@ -9,6 +9,7 @@ use Rattle.ucl_runs.proofs.workers.enter_rows.Goals as goal
 pub loop-row-init : goal.loop-row-init
 loop-row-init g c = record { own = c.requires.own; entered = λ end reported. reported }
 
+-- a worker enters the rows of its own reporter, and passes over those of others
 pub loop-row-preserved : goal.loop-row-preserved
 loop-row-preserved g c =
     let row = c.row-item.result in

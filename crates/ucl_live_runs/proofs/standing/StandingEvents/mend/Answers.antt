@@ -6,6 +6,7 @@ use Rattle.ucl_live_runs.proofs.Mends.{in-place-kept, in-place-left}
 use Rattle.ucl_live_runs.proofs.standing.StandingEvents.mend.Goals as goal
 use Rattle.ucl_live_runs.proofs.standing.StandingEvents.mend.Goals.{in-Kept, in-Named, in-Refused}
 
+-- a mend in place goes on with one event more, whatever becomes of it
 pub loop-at-preserved : goal.loop-at-preserved
 loop-at-preserved c =
     let row = c.args.row in
