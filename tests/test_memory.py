@@ -28,16 +28,21 @@ def refuses(tmp_path_factory):
     return path
 
 
+def refused(refuses, nth, mode, start, words, text):
+    """A run whose request with this number is refused, and what was told of refusals."""
+    reading, writing = os.pipe()
+    environment = {**os.environ, "LD_PRELOAD": refuses, "REFUSE_NTH": str(nth), "REFUSE_MODE": mode, "REFUSE_FROM": start, "REFUSE_TELLS": str(writing)}
+    run = conftest.command(words, text, env=environment, pass_fds=[writing])
+    os.close(writing)
+    with open(reading) as told:
+        return run, told.read().split()
+
+
 def swept(refuses, mode, start, words, text):
     """The runs whose first request is refused, whose second is, and so on, each with whether no more was asked for then; and the one that meets none."""
     met = []
     for nth in itertools.count(1):
-        reading, writing = os.pipe()
-        environment = {**os.environ, "LD_PRELOAD": refuses, "REFUSE_NTH": str(nth), "REFUSE_MODE": mode, "REFUSE_FROM": start, "REFUSE_TELLS": str(writing)}
-        run = conftest.command(words, text, env=environment, pass_fds=[writing])
-        os.close(writing)
-        with open(reading) as told:
-            lines = told.read().split()
+        run, lines = refused(refuses, nth, mode, start, words, text)
         if not lines:
             return met, run
         met.append((run, mode == "one" and "again" in lines))
@@ -82,6 +87,24 @@ def test_a_call_of_the_library(program, refuses, call, mode):
 def test_a_night_with_a_row_that_is_off_duty_asks_for_nothing(program, refuses):
     met, whole = swept(refuses, "all", "call", [program("ucl_hostile"), "refused", "night_run"], text_of(f"{H2H}.csv", "3,1,0,kickoff\n"))
     assert met == [] and "input refused 25: row 45" in whole.errors
+
+
+def test_a_night_on_a_full_board_asks_for_nothing(program, refuses):
+    met, whole = swept(refuses, "all", "call", [program("ucl_hostile"), "refused", "night_run_on_a_full_board"], text_of(f"{H2H}.csv"))
+    assert met == [] and whole.output == "first Some(TooManyReporters)\nkept true\n"
+
+
+@pytest.mark.parametrize("call", ["night_run", "night_run_in_a_cell", "night_run_beside_a_stranger"])
+def test_a_thread_that_did_not_start_is_told_before_a_screen_without_memory(program, refuses, call):
+    words, text = [program("ucl_hostile"), "refused", call], text_of(f"{H2H}.csv")
+    alone, whole = swept(refuses, "main", "call", words, text)
+    first = [run.output.splitlines()[0] for run, _ in alone]
+    no_thread, no_memory = f"first {NO_THREAD}", f"first {NO_MEMORY}"
+    # The first thread of a process asks for the memory of four workers, and of the closing screen.
+    assert first.count(no_thread) >= 4
+    for nth, answer in enumerate(first, 1):
+        run, _ = refused(refuses, nth, "workers", "call", words, text)
+        assert run.output.splitlines()[0] == (no_thread if answer == no_thread else no_memory)
 
 
 ROWS = "two_matches.csv", "screen,,,\nwords,,,\nmatches,,,\n"

@@ -296,6 +296,28 @@ fn nights<B: LiveBoard + Drop, R: Print + Threads + Wait + Sync>(
     tell(rt, one.err(), is_kept, other.closing.as_str())
 }
 
+/// A night on a board that has one number of a reporter left: it is refused, and takes that one.
+fn full_night<B: LiveBoard, R: Print + Threads + Wait + Sync>(
+    rt: &R,
+    alloc: Global,
+    board: &B,
+    mut pass: B::ReaderPass,
+    night: &Night,
+) -> anyhow::Result<()>
+    requires { B.is_reader board.now pass }
+{
+    for _number in 0..254 {
+        let part = board.split(rt, &mut pass);
+        let _reporter = board.enlist(rt, part).ok().context("no number is left")?;
+    }
+    let watcher = board.split(rt, &mut pass);
+    mark(alloc, BEGINS)?;
+    let one = night_run(rt, alloc, board, pass, night, b'A', 1, &OpenGate, Uefa);
+    mark(alloc, ENDS)?;
+    let is_full = board.enlist(rt, watcher).is_err();
+    tell(rt, one.err(), is_full, "")
+}
+
 /// Makes the call that the word names.
 pub fn run<R: Print + Threads + Wait + Sync>(
     rt: &R,
@@ -314,6 +336,10 @@ pub fn run<R: Print + Threads + Wait + Sync>(
             let (first, second) = (WordBoard::open(rt, alloc)?, WordBoard::open(rt, alloc)?);
             let entered = kick_off().filter(|_| call != "night_run");
             nights(rt, alloc, first, second, &night, entered)
+        }
+        "night_run_on_a_full_board" => {
+            let (board, pass) = WordBoard::open(rt, alloc)?;
+            full_night(rt, alloc, &board, pass, &night_of_bytes(alloc, input)?)
         }
         "night_run_in_a_cell" => {
             let night = night_of_bytes(alloc, input)?;
