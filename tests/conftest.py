@@ -11,10 +11,12 @@ import functools
 import itertools
 import os
 import pathlib
+import random
 import re
 import select
 import shutil
 import signal
+import socket
 import subprocess
 import sys
 import tempfile
@@ -159,6 +161,17 @@ def command(words, input="", **how):
     how = {"stdout": subprocess.PIPE, "stderr": subprocess.PIPE, "cwd": TOP, **(how if "stdin" in how else {**how, "input": encoded(input)})}
     ran = subprocess.run([*words], **how)
     return Run(ran.returncode, decoded(ran.stdout or b""), decoded(ran.stderr or b""))
+
+
+def is_reached(port):
+    """Whether somebody listens at a port."""
+    with socket.socket() as one:
+        return one.connect_ex(("127.0.0.1", port)) == 0
+
+
+def free_port():
+    """A free port below those that the system hands out: a client that looks for a broker which is down could else be handed its port."""
+    return next(port for port in iter(lambda: random.randint(20_000, 32_000), None) if not is_reached(port))
 
 
 # ---- programs

@@ -15,7 +15,6 @@ import random
 import re
 import resource
 import signal
-import socket
 import subprocess
 import sys
 import threading
@@ -24,7 +23,7 @@ import time
 import conftest
 import model
 import pytest
-from conftest import EXAMPLES, TOP
+from conftest import EXAMPLES, TOP, free_port, is_reached
 from model import random_rows
 from terminals import Terminal
 
@@ -71,17 +70,6 @@ def until(holds, seconds=float("inf"), pause=0.05):
     while not (got := holds()) and time.monotonic() < end:
         time.sleep(pause)
     return got
-
-
-def is_reached(port):
-    """Whether somebody listens at a port."""
-    with socket.socket() as one:
-        return one.connect_ex(("127.0.0.1", port)) == 0
-
-
-def free_port():
-    """A free port below those that the system hands out: a client that looks for a broker which is down could else be handed its port."""
-    return next(port for port in iter(lambda: random.randint(20_000, 32_000), None) if not is_reached(port))
 
 
 class Line:

@@ -18,7 +18,7 @@ import time
 import conftest
 import model
 import pytest
-from conftest import TOP, Started, command, text_of
+from conftest import TOP, Started, command, free_port, text_of
 from terminals import Terminal
 
 pytestmark = pytest.mark.limit(200)
@@ -26,13 +26,6 @@ SERVE = TOP / "ucl_serve"
 CLUBS = conftest.EXAMPLES / "one_goal.csv"
 HEADERS = {"cache-control": "no-store", "referrer-policy": "no-referrer", "x-content-type-options": "nosniff"}
 NOTHING = "default-src 'none'; frame-ancestors 'none'; base-uri 'none'; form-action 'none'"
-
-
-def free_port():
-    """A port that nothing listens on."""
-    with socket.socket() as one:
-        one.bind(("127.0.0.1", 0))
-        return one.getsockname()[1]
 
 
 def until(holds, seconds=10):
