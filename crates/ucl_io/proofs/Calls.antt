@@ -1,42 +1,40 @@
 -- A source that is called once more.
 use Rattle.std.proofs.Common.{◌≡◌, ℕ, ◌+◌, List, [], ◌∷◌, ◌++◌, length, Option, Some, None, sym, ap, ◌∙◌, subst, append_assoc, append-nil}
-use Rattle.std.proofs.Common.{arith, length-append}
+use Rattle.std.proofs.Common.{arith, length-append, suc, ◌≤◌}
 use Rattle.std.specs.Prelude.{IfSome}
 use Rattle.std.specs.Io.KnownBytes.{Consumes, IsAtEnd}
-use Rattle.std.proofs.lemmas.List.Elements.{All-nil, All-push}
-use Rattle.ucl_io.specs.Calls.{HasEnded, InTurn, LogsCalls}
+use Rattle.ucl_io.specs.Calls.{HasEnded, InTurn, LogsCalls, call, none}
 
-turn-then : {T : Type 0} (count : T → ℕ) (calls : ℕ) (times : List T) (time : T) → InTurn count calls times → count time ≡ calls + length times → InTurn count calls (times ++ time ∷ [])
-unfolding InTurn
-turn-then count calls [] time p e = (omega arith, tt)
-turn-then count calls (first ∷ times) time p e = (p.0, turn-then count (calls + 1) times time p.1 (omega arith))
+abbrev pub logs-none : {T : Type 0} (count : T → ℕ) (old : List T) (calls : ℕ) (P : T → List ℕ → Type 0) → LogsCalls count old old calls calls P
+logs-none count old calls P = record { times = []; more = sym (append-nil old); each = omega arith; least = 0; in_turn = none }
 
-pub logs-none : {T : Type 0} (count : T → ℕ) (old : List T) (calls : ℕ) (P : T → Type 0) → LogsCalls count old old calls calls P
-unfolding InTurn
-logs-none count old calls P = record { times = []; more = sym (append-nil old); each = omega arith; in_turn = tt; held = All-nil P }
-
--- it is called once more, just before this call
-pub logs-then : {T : Type 0} (count : T → ℕ) (old mid new : List T) (calls calls2 calls3 : ℕ) (P : T → Type 0) (time : T) → LogsCalls count old mid calls calls2 P → new ≡ mid ++ time ∷ []
-    → calls3 ≡ calls2 + 1 → count time ≡ calls2 → P time → LogsCalls count old new calls calls3 P
-logs-then count old mid new calls calls2 calls3 P time p e k is h =
+-- it is called once more, just before this call, when more bytes had come than at the last
+abbrev pub logs-then : {T : Type 0} (count : T → ℕ) (old mid new : List T) (calls calls2 calls3 : ℕ) (P : T → List ℕ → Type 0) (time : T) (bytes : List ℕ) (p : LogsCalls count old mid calls calls2 P)
+    → new ≡ mid ++ time ∷ [] → calls3 ≡ calls2 + 1 → count time ≡ calls2 → p.least ≤ length bytes → P time bytes → LogsCalls count old new calls calls3 P
+logs-then count old mid new calls calls2 calls3 P time bytes p e k is least h =
     let long = length-append p.times (time ∷ []) in
     let each = p.each in record {
       times = p.times ++ time ∷ [];
       more = e ∙ ap (λ l. l ++ time ∷ []) p.more ∙ append_assoc old p.times (time ∷ []);
       each = omega arith;
-      in_turn = turn-then count calls p.times time p.in_turn (is ∙ each);
-      held = All-push P p.times time p.held h;
+      least = suc (length bytes);
+      in_turn = call time bytes p.in_turn (is ∙ each) least h;
     }
 
 -- where P gives Q
-pub logs-as : {T : Type 0} (count : T → ℕ) (old new : List T) (calls calls2 : ℕ) (P Q : T → Type 0) → ((time : T) → P time → Q time) → LogsCalls count old new calls calls2 P
-    → LogsCalls count old new calls calls2 Q
+pub turns-as : {T : Type 0} (count : T → ℕ) (calls : ℕ) (P Q : T → List ℕ → Type 0) → ((time : T) (bytes : List ℕ) → P time bytes → Q time bytes) → {times : List T} {least : ℕ}
+    → InTurn count calls P times least → InTurn count calls Q times least
+turns-as count calls P Q gives none = none
+turns-as count calls P Q gives (call time bytes p is more h) = call time bytes (turns-as count calls P Q gives p) is more (gives time bytes h)
+
+abbrev pub logs-as : {T : Type 0} (count : T → ℕ) (old new : List T) (calls calls2 : ℕ) (P Q : T → List ℕ → Type 0) → ((time : T) (bytes : List ℕ) → P time bytes → Q time bytes)
+    → LogsCalls count old new calls calls2 P → LogsCalls count old new calls calls2 Q
 logs-as count old new calls calls2 P Q gives p = record {
   times = p.times;
   more = p.more;
   each = p.each;
-  in_turn = p.in_turn;
-  held = λ i d below. gives _ (p.held i d below);
+  least = p.least;
+  in_turn = turns-as count calls P Q gives p.in_turn;
 }
 
 -- ---- the end of a source
@@ -57,5 +55,5 @@ pub whole : (P : List ℕ → Type 0) (left left2 : Option (List ℕ)) (bytes : 
 whole P None left2 bytes over took p = tt
 whole P (Some xs) None bytes over took p = absurd took
 whole P (Some xs) (Some ys) bytes over took p =
-    let none : ys ≡ [] = ap (elim [ None ↦ ys | Some l ↦ l ]) over in
-    subst P (sym (took ∙ ap (λ (l : List ℕ). bytes ++ l) none ∙ append-nil bytes)) p
+    let no_byte : ys ≡ [] = ap (elim [ None ↦ ys | Some l ↦ l ]) over in
+    subst P (sym (took ∙ ap (λ (l : List ℕ). bytes ++ l) no_byte ∙ append-nil bytes)) p

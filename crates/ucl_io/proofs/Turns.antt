@@ -1,7 +1,7 @@
--- Lines that a handler has answered, one after the other, and what a run comes to.
+-- Lines that a handler was given, one after the other, and what a run comes to.
 use Rattle.std.proofs.Common.{◌≡◌, ℕ, ◌+◌, List, [], ◌∷◌, ◌++◌, length, refl, sym, ap, ◌∙◌, subst, append_assoc, arith, ◌-◌, ◌^◌, ◌≤◌, inl, inr, append-nil}
-use Rattle.std.proofs.Common.{length-append, ◌<◌, take, drop}
-use Rattle.ucl_io.specs.Turns.{AreTurns, Turn, lines_in, state_after, text_in, AreAnswered, Closed, FallShort, IsLeftAfter, Progress, Rules, StopsNext, Turned, WhyShort}
+use Rattle.std.proofs.Common.{length-append, ◌<◌, take, drop, Option, Some, None, suc}
+use Rattle.ucl_io.specs.Turns.{Answered, Closed, ComesOut, Progress, Rules, Turns, done, stops, turn}
 use Rattle.ucl_io.specs.declared.fault.ServeFault.{ServeFault}
 use Rattle.ucl_io.specs.declared.fault.ServeFault.TheVariants.{Handler, WriteFailed, ReadFailed, TooLong}
 use Rattle.std.specs.Prelude.{⊤, Result, Ok, Err, OnOk}
@@ -13,187 +13,140 @@ use Rattle.ucl_io.proofs.Cuts.{begun_append, begun_ended, begun_none, begun_shor
 use Rattle.ucl_io.proofs.Cuts.{line_within, rest_begun, rest_ended, rest_of}
 use Rattle.std.specs.Io.KnownBytes.{Appends, Consumes, IsAtEnd, Keeps}
 use Rattle.ucl_io.specs.Calls.{HasEnded, LogsCalls}
-use Rattle.ucl_io.specs.Serving.{ServeEnds, HasClosed, IsOut, IsPromptAt, LineRules, Served, Run, Seen}
+use Rattle.ucl_io.specs.Serving.{AnswersLast, Given, HasClosed, IsOut, IsPromptAt, LineRules, Run, Seen, ServeEnds, ServedBy}
 use Rattle.ucl_io.proofs.Calls.{ended, ended-since, logs-as, logs-none, logs-then}
 
-module _ (M : Type 0) where
-  pub lines_then : (xs ys : List (Turn M)) → lines_in (xs ++ ys) ≡ lines_in xs ++ lines_in ys
-  unfolding lines_in
-  lines_then [] ys = refl
-  lines_then (t ∷ xs) ys = ap (λ (l : List (List ℕ)). t.line ∷ l) (lines_then xs ys)
+-- the last of these lines is the one to which the handler has no answer: the lines before it, and the handler there
+pub record Front {M F : Type 0} (R : Rules M F) (row : ℕ) (m : M) (lines : List (List ℕ)) (text : List ℕ) (n : M) (fault : F) : Type 0 where
+  pub front : List (List ℕ)
+  pub line : List ℕ
+  pub state : M
+  pub lines_are : lines ≡ front ++ line ∷ []
+  pub run : Turns R row m front text state None
+  pub why : R.Stops state (row + length front) line n fault
 
-  pub text_then : (xs ys : List (Turn M)) → text_in (xs ++ ys) ≡ text_in xs ++ text_in ys
-  unfolding text_in
-  text_then [] ys = refl
-  text_then (t ∷ xs) ys = ap (λ (l : List ℕ). t.text ++ l) (text_then xs ys) ∙ sym (append_assoc t.text (text_in xs) (text_in ys))
+-- a text was put, or the sink failed in it
+ends_put : {M F : Type 0} (a b : Progress M) (given : List (List ℕ)) (text : List ℕ) (r : Result ⊤ (ServeFault F)) → b.row ≡ a.row + length given
+    → PutsOrStops a.outlet b.outlet text r → ComesOut a b given [] text None r
+ends_put a b given text (Ok v) row p = (refl, refl, row, p)
+ends_put a b given text (Err (WriteFailed n)) row p = p
+ends_put _ _ _ _ _ _ p = absurd p
 
-  pub state_then : (m : M) (xs ys : List (Turn M)) → state_after m (xs ++ ys) ≡ state_after (state_after m xs) ys
-  unfolding state_after
-  state_then m [] ys = refl
-  state_then m (t ∷ xs) ys = state_then t.after xs ys
+-- the same lines, written in another way
+abbrev pub answered_as : {V M F : Type 0} {R : Rules M F} {a b : Progress M} {xs ys : List (List ℕ)} {r : Result V (ServeFault F)} → ys ≡ xs → Answered R a b xs r → Answered R a b ys r
+answered_as e p = record { given = p.given; rest = p.rest; text = p.text; fault = p.fault; lines_are = e ∙ p.lines_are; run = p.run; ends = p.ends }
 
-  pub lines_count : (xs : List (Turn M)) → length (lines_in xs) ≡ length xs
-  unfolding lines_in
-  lines_count [] = refl
-  lines_count (t ∷ xs) = let n = lines_count xs in omega arith
+module _ {M F : Type 0} {R : Rules M F} where
+  -- more lines after lines that were all answered
+  pub runs_then : (row row2 : ℕ) {m k n : M} {a b : List (List ℕ)} {s t : List ℕ} {fault : Option F} → Turns R row m a s k None → row2 ≡ row + length a → Turns R row2 k b t n fault
+      → Turns R row m (a ++ b) (s ++ t) n fault
+  runs_then row row2 done e q = let same : row2 ≡ row = omega arith in rw same at q
+  runs_then row row2 (turn line text k h p) e q = rw append_assoc (turn line text k h (runs_then (row + 1) row2 p (omega arith) q))
 
-  module _ (A : M → ℕ → List ℕ → M → List ℕ → Type 0) where
-    pub turns_then : (row : ℕ) (m : M) (xs ys : List (Turn M)) → AreTurns A row m xs → AreTurns A (row + length xs) (state_after m xs) ys → AreTurns A row m (xs ++ ys)
-    unfolding AreTurns state_after
-    turns_then row m [] ys p q = subst (λ (n : ℕ). AreTurns A n m ys) (omega arith) q
-    turns_then row m (t ∷ xs) ys p q = (p.0, turns_then (row + 1) t.after xs ys p.1 (subst (λ (n : ℕ). AreTurns A n (state_after t.after xs) ys) (omega arith) q))
+  -- the lines before the one to which the handler has no answer
+  pub runs_front : (row : ℕ) {m n : M} {lines : List (List ℕ)} {text : List ℕ} {fault : F} → Turns R row m lines text n (Some fault) → Front R row m lines text n fault
+  runs_front row (turn line text k h p) =
+      let f = runs_front (row + 1) p in
+      let there : row + length (line ∷ f.front) ≡ row + 1 + length f.front = omega arith in record {
+        front = line ∷ f.front;
+        line = f.line;
+        state = f.state;
+        lines_are = ap (λ (l : List (List ℕ)). line ∷ l) f.lines_are;
+        run = turn line text k h f.run;
+        why = rw there f.why;
+      }
+  runs_front row {m} (stops line h) =
+      let here : row + length {A = List ℕ} [] ≡ row = omega arith in
+      record { front = []; line = line; state = m; lines_are = refl; run = done; why = rw here h }
 
-    -- the first turns
-    pub turns_front : (row : ℕ) (m : M) (first later : List (Turn M)) → AreTurns A row m (first ++ later) → AreTurns A row m first
-    unfolding AreTurns
-    turns_front row m [] later p = tt
-    turns_front row m (t ∷ first) later p = (p.0, turns_front (row + 1) t.after first later p.1)
+  -- ---- lines whose answers were put
 
--- ---- lines whose answers were put, one after the other
+  -- no line was given, and no text is put
+  pub answered_none : (a b : Progress M) (r : Result ⊤ (ServeFault F)) → b.row ≡ a.row → b.handler ≡ a.handler → PutsOrStops a.outlet b.outlet [] r → Answered R a b [] r
+  answered_none a b r row same p =
+      record { given = []; rest = []; text = []; fault = None; lines_are = refl; run = rw same done; ends = ends_put a b [] [] r (omega arith) p }
 
-module _ (M F : Type 0) (R : Rules M F) where
-  -- no line
-  pub answered_none : (a : Progress M) → a.outlet.out ≤ 2 ^ 64 - 1 → AreAnswered R a a [] []
-  unfolding lines_in text_in state_after AreTurns
-  answered_none a bound = record { turned = tt; lines_are = refl; row = omega arith; handler = refl; put = put_nothing a.outlet bound }
-
-  -- one line
-  pub answered_one : (a b : Progress M) (line text : List ℕ) → b.row ≡ a.row + 1 → R.Answers a.handler a.row line b.handler text → HasPut a.outlet b.outlet text
-      → AreAnswered R a b (line ∷ []) (record { line = line; text = text; after = b.handler } ∷ [])
-  unfolding lines_in text_in state_after AreTurns
-  answered_one a b line text row h put = record { turned = (h, tt); lines_are = refl; row = row; handler = refl; put = rw append-nil put }
-
-  module _ (a b c : Progress M) (lines : List (List ℕ)) (turns : List (Turn M)) (p : AreAnswered R a b lines turns) where
-    -- what waits is given to the sink
-    pub answered_flushed : c.row ≡ b.row → c.handler ≡ b.handler → HasPut b.outlet c.outlet [] → AreAnswered R a c lines turns
-    answered_flushed row handler q = record {
-      turned = p.turned;
-      lines_are = p.lines_are;
-      row = row ∙ p.row;
-      handler = handler ∙ p.handler;
-      put = put_flushed a.outlet b.outlet c.outlet (text_in turns) p.put q;
-    }
-
-    pub answered_cut : (f : ServeFault F) → c.handler ≡ b.handler → PutsOrStops {V = ⊤} b.outlet c.outlet [] (Err f) → FallShort R a c lines f
-    answered_cut (WriteFailed written) same s = record {
-      turns = turns;
-      rest = [];
-      turned = p.turned;
-      lines_are = p.lines_are ∙ sym (append-nil (lines_in turns));
-      why = (put_cut a.outlet b.outlet c.outlet (text_in turns) written p.put s, inl (same ∙ p.handler));
-    }
-    answered_cut _ _ s = absurd s
-
-    module _ (more : List (List ℕ)) where
-      pub more_lines : (later : List (Turn M)) (rest : List (List ℕ)) → more ≡ lines_in later ++ rest → lines ++ more ≡ lines_in (turns ++ later) ++ rest
-      more_lines later rest e = rw (p.lines_are, e, lines_then M turns later) (sym (append_assoc (lines_in turns) (lines_in later) rest))
-
-      pub more_turned : (later : List (Turn M)) → AreTurns R.Answers b.row b.handler later → AreTurns R.Answers a.row a.handler (turns ++ later)
-      more_turned later q =
-          turns_then M R.Answers a.row a.handler turns later p.turned
-          (subst (λ (n : ℕ). AreTurns R.Answers n (state_after a.handler turns) later) p.row (subst (λ (m : M). AreTurns R.Answers b.row m later) p.handler q))
-
-      reached : (later : List (Turn M)) → state_after b.handler later ≡ state_after a.handler (turns ++ later)
-      reached later = ap (λ (m : M). state_after m later) p.handler ∙ sym (state_then M a.handler turns later)
-
-      -- more lines were answered
-      pub answered_then : (later : List (Turn M)) → AreAnswered R b c more later → AreAnswered R a c (lines ++ more) (turns ++ later)
-      answered_then later q = record {
-        turned = more_turned later q.turned;
-        lines_are = rw (p.lines_are, q.lines_are) (sym (lines_then M turns later));
-        row = (let long = length-append turns later in let x = p.row in let y = q.row in omega arith);
-        handler = q.handler ∙ reached later;
-        put = rw (text_then M turns later) (put_then a.outlet b.outlet c.outlet (text_in turns) (text_in later) p.put q.put);
+  -- one line was answered
+  pub answered_one : (a b : Progress M) (line text : List ℕ) (r : Result ⊤ (ServeFault F)) → b.row ≡ a.row + 1 → R.Answers a.handler a.row line b.handler text
+      → PutsOrStops a.outlet b.outlet text r → Answered R a b (line ∷ []) r
+  answered_one a b line text r row h p =
+      let none = append-nil text in record {
+        given = line ∷ [];
+        rest = [];
+        text = text ++ [];
+        fault = None;
+        lines_are = refl;
+        run = turn line text b.handler h done;
+        ends = ends_put a b (line ∷ []) (text ++ []) r (omega arith) (rw none p);
       }
 
-      stops_then : (later : List (Turn M)) (rest : List (List ℕ)) (fault : F) → StopsNext R.Stops b.row b.handler c.handler later rest fault
-          → StopsNext R.Stops a.row a.handler c.handler (turns ++ later) rest fault
-      stops_then later rest fault s = record {
-        line = s.line;
-        later = s.later;
-        next = s.next;
-        stops = (let long = length-append turns later in let x = p.row in
-            subst (λ (n : ℕ). R.Stops (state_after a.handler (turns ++ later)) n s.line c.handler fault) (omega arith)
-            (subst (λ (m : M). R.Stops m (b.row + length later) s.line c.handler fault) (reached later) s.stops));
-      }
+  -- the handler has no answer to a line, and what waits is given to the sink
+  pub stopped_one : (a b : Progress M) (line : List ℕ) (fault : F) → R.Stops a.handler a.row line b.handler fault → HasPut a.outlet b.outlet [] → b.outlet.held ≡ []
+      → Answered {V = ⊤} R a b (line ∷ []) (Err (Handler fault))
+  stopped_one a b line fault h p none =
+      record { given = line ∷ []; rest = []; text = []; fault = Some fault; lines_are = refl; run = stops line h; ends = (refl, p, none) }
 
-      left_then : (later : List (Turn M)) (rest : List (List ℕ)) → IsLeftAfter R.Stops b.row b.handler c.handler later rest
-          → IsLeftAfter R.Stops a.row a.handler c.handler (turns ++ later) rest
-      left_then later rest (inl same) = inl (same ∙ reached later)
-      left_then later rest (inr (fault, s)) = inr (fault, stops_then later rest fault s)
-
-      pub why_then : (f : ServeFault F) (later : List (Turn M)) (rest : List (List ℕ)) → WhyShort R b c later rest f → WhyShort R a c (turns ++ later) rest f
-      why_then (WriteFailed written) later rest (s, left) =
-          (rw (text_then M turns later) (put_stops a.outlet b.outlet c.outlet (text_in turns) (text_in later) written p.put s), left_then later rest left)
-      why_then (Handler fault) later rest (s, put, none) =
-          (stops_then later rest fault s, rw (text_then M turns later) (put_then a.outlet b.outlet c.outlet (text_in turns) (text_in later) p.put put), none)
-      why_then _ _ _ s = absurd s
-
-      -- some were not
-      abbrev pub short_then : (f : ServeFault F) → FallShort R b c more f → FallShort R a c (lines ++ more) f
-      short_then f q = record {
-        turns = turns ++ q.turns;
-        rest = q.rest;
-        turned = more_turned q.turns q.turned;
-        lines_are = more_lines q.turns q.rest q.lines_are;
-        why = why_then f q.turns q.rest q.why;
-      }
-
-  -- one line was not answered
-  stops_one : (a b : Progress M) (line : List ℕ) (fault : F) → R.Stops a.handler a.row line b.handler fault → StopsNext R.Stops a.row a.handler b.handler [] (line ∷ []) fault
-  unfolding state_after
-  stops_one a b line fault s =
-      record { line = line; later = []; next = refl; stops = subst (λ (n : ℕ). R.Stops a.handler n line b.handler fault) (omega arith) s }
-
-  pub short_one : (a b : Progress M) (line : List ℕ) (f : ServeFault F) → Turned {V = ⊤} R a b line (Err f) → FallShort R a b (line ∷ []) f
-  unfolding lines_in text_in state_after AreTurns
-  short_one a b line (WriteFailed written) (inl s) =
-      let t : Turn M = record { line = line; text = s.0; after = b.handler } in
-      record { turns = t ∷ []; rest = []; turned = (s.1, tt); lines_are = refl; why = (rw append-nil s.2, inl refl) }
-  short_one a b line (WriteFailed written) (inr (fault, s, short)) =
-      record { turns = []; rest = line ∷ []; turned = tt; lines_are = refl; why = (short, inr (fault, stops_one a b line fault s)) }
-  short_one a b line (Handler fault) s =
-      record { turns = []; rest = line ∷ []; turned = tt; lines_are = refl; why = (stops_one a b line fault s.0, s.1, s.2) }
-  short_one _ _ _ _ s = absurd s
+  pub stopped_short : (a b : Progress M) (line : List ℕ) (fault : F) (f : ServeFault F) → R.Stops a.handler a.row line b.handler fault
+      → PutsOrStops {V = ⊤} a.outlet b.outlet [] (Err f) → Answered {V = ⊤} R a b (line ∷ []) (Err f)
+  stopped_short a b line fault (WriteFailed n) h p =
+      record { given = line ∷ []; rest = []; text = []; fault = Some fault; lines_are = refl; run = stops line h; ends = p }
+  stopped_short _ _ _ _ _ _ p = absurd p
 
   -- of more lines
-  stops_more : (a b : Progress M) (turns : List (Turn M)) (rest more : List (List ℕ)) (fault : F) → StopsNext R.Stops a.row a.handler b.handler turns rest fault
-      → StopsNext R.Stops a.row a.handler b.handler turns (rest ++ more) fault
-  stops_more a b turns rest more fault s =
-      record { line = s.line; later = s.later ++ more; next = ap (λ (l : List (List ℕ)). l ++ more) s.next; stops = s.stops }
-
-  left_more : (a b : Progress M) (turns : List (Turn M)) (rest more : List (List ℕ)) → IsLeftAfter R.Stops a.row a.handler b.handler turns rest
-      → IsLeftAfter R.Stops a.row a.handler b.handler turns (rest ++ more)
-  left_more a b turns rest more (inl same) = inl same
-  left_more a b turns rest more (inr (fault, s)) = inr (fault, stops_more a b turns rest more fault s)
-
-  why_more : (a b : Progress M) (turns : List (Turn M)) (rest more : List (List ℕ)) (f : ServeFault F) → WhyShort R a b turns rest f → WhyShort R a b turns (rest ++ more) f
-  why_more a b turns rest more (WriteFailed written) (s, left) = (s, left_more a b turns rest more left)
-  why_more a b turns rest more (Handler fault) (s, put, none) = (stops_more a b turns rest more fault s, put, none)
-  why_more _ _ _ _ _ _ s = absurd s
-
-  pub short_more : (a b : Progress M) (lines more : List (List ℕ)) (f : ServeFault F) → FallShort R a b lines f → FallShort R a b (lines ++ more) f
-  short_more a b lines more f q = record {
-    turns = q.turns;
-    rest = q.rest ++ more;
-    turned = q.turned;
-    lines_are = ap (λ (l : List (List ℕ)). l ++ more) q.lines_are ∙ append_assoc (lines_in q.turns) q.rest more;
-    why = why_more a b q.turns q.rest more f q.why;
+  pub answered_more : (a b : Progress M) (lines more : List (List ℕ)) (f : ServeFault F) → Answered {V = ⊤} R a b lines (Err f) → Answered {V = ⊤} R a b (lines ++ more) (Err f)
+  answered_more a b lines more f p = record {
+    given = p.given;
+    rest = p.rest ++ more;
+    text = p.text;
+    fault = p.fault;
+    lines_are = ap (λ (l : List (List ℕ)). l ++ more) p.lines_are ∙ append_assoc p.given p.rest more;
+    run = p.run;
+    ends = still f p.ends;
   }
+    where
+      still : (f : ServeFault F) → ComesOut {V = ⊤} a b p.given p.rest p.text p.fault (Err f) → ComesOut {V = ⊤} a b p.given (p.rest ++ more) p.text p.fault (Err f)
+      still (WriteFailed n) e = e
+      still (Handler g) e = e
+      still _ e = absurd e
 
-  -- ---- what giving a line to the handler comes to
+module _ {M F : Type 0} {R : Rules M F} {a b : Progress M} {lines : List (List ℕ)} (p : Answered {V = ⊤} R a b lines (Ok tt)) where
+  pub answered_given : lines ≡ p.given
+  answered_given = p.lines_are ∙ ap (λ (l : List (List ℕ)). p.given ++ l) p.ends.0 ∙ append-nil p.given
 
-  pub turned_by : (a b : Progress M) (line text : List ℕ) (r : Result ⊤ (ServeFault F)) → R.Answers a.handler a.row line b.handler text →
-      PutsOrStops a.outlet b.outlet text r → Turned R a b line r
-  turned_by a b line text (Ok done) h p = (text, h, p)
-  turned_by a b line text (Err (WriteFailed n)) h p = inl (text, h, p)
-  turned_by _ _ _ _ _ _ p = absurd p
+  pub answered_row : b.row ≡ a.row + length lines
+  answered_row = p.ends.2 ∙ ap (λ (l : List (List ℕ)). a.row + length l) (sym answered_given)
 
-  pub turned_cut : (a b : Progress M) (line : List ℕ) (fault : F) (f : ServeFault F) → R.Stops a.handler a.row line b.handler fault
-      → PutsOrStops {V = ⊤} a.outlet b.outlet [] (Err f) → Turned {V = ⊤} R a b line (Err f)
-  turned_cut a b line fault (WriteFailed n) s p = inr (fault, s, p)
-  turned_cut _ _ _ _ _ _ p = absurd p
+  pub answered_run : Turns R a.row a.handler lines p.text b.handler None
+  answered_run = subst (λ (l : List (List ℕ)). Turns R a.row a.handler l p.text b.handler None) (sym answered_given) (rw p.ends.1 at p.run)
 
+  module _ (c : Progress M) {more : List (List ℕ)} (r : Result ⊤ (ServeFault F)) (q : Answered R b c more r) where
+    pub ends_then : (r : Result ⊤ (ServeFault F)) → ComesOut b c q.given q.rest q.text q.fault r → ComesOut a c (lines ++ q.given) q.rest (p.text ++ q.text) q.fault r
+    ends_then (Ok v) (none, all, row, put) =
+        let long = length-append lines q.given in
+        let here = answered_row in (none, all, omega arith, put_then a.outlet b.outlet c.outlet p.text q.text p.ends.3 put)
+    ends_then (Err (WriteFailed n)) s = put_stops a.outlet b.outlet c.outlet p.text q.text n p.ends.3 s
+    ends_then (Err (Handler why)) (is, put, none) = (is, put_then a.outlet b.outlet c.outlet p.text q.text p.ends.3 put, none)
+    ends_then _ e = absurd e
+
+    -- more lines were given
+    abbrev pub answered_then : Answered R a c (lines ++ more) r
+    answered_then = record {
+      given = lines ++ q.given;
+      rest = q.rest;
+      text = p.text ++ q.text;
+      fault = q.fault;
+      lines_are = ap (λ (l : List (List ℕ)). lines ++ l) q.lines_are ∙ sym (append_assoc lines q.given q.rest);
+      run = runs_then a.row b.row answered_run answered_row q.run;
+      ends = ends_then r q.ends;
+    }
+
+  -- what waits is given to the sink
+  pub answered_flushed : (c : Progress M) (r : Result ⊤ (ServeFault F)) → c.row ≡ b.row → c.handler ≡ b.handler → PutsOrStops b.outlet c.outlet [] r → Answered R a c lines r
+  answered_flushed c r row same q = subst (λ (l : List (List ℕ)). Answered R a c l r) (append-nil lines) (answered_then c r (answered_none b c r row same q))
+
+-- ---- what giving the bytes after the last line feed to the handler comes to
+
+module _ (M F : Type 0) (R : Rules M F) where
   pub closed_cut : (a b : Progress M) (line text : List ℕ) (f : ServeFault F) → R.Answers a.handler a.row line b.handler text → PutsOrStops {V = ⊤} a.outlet b.outlet text (Err f)
       → Closed {V = ⊤} R a b line (Err f)
   closed_cut a b line text (WriteFailed n) h p = (text, h, p)
@@ -202,7 +155,7 @@ module _ (M F : Type 0) (R : Rules M F) where
   pub closed_by : (a b : Progress M) (mid : Outlet) (line text : List ℕ) (r : Result ⊤ (ServeFault F)) → R.Answers a.handler a.row line b.handler text → HasPut a.outlet mid text
       → PutsOrStops mid b.outlet [] r
       → OnOk r (b.outlet.held ≡ []) → Closed R a b line r
-  closed_by a b mid line text (Ok done) h p q none = (text, h, put_flushed a.outlet mid b.outlet text p q, none)
+  closed_by a b mid line text (Ok v) h p q none = (text, h, put_flushed a.outlet mid b.outlet text p q, none)
   closed_by a b mid line text (Err (WriteFailed n)) h p q none = (text, h, put_cut a.outlet mid b.outlet text n p q)
   closed_by _ _ _ _ _ _ _ _ q _ = absurd q
 
@@ -210,17 +163,15 @@ module _ (M F : Type 0) (R : Rules M F) where
 
 -- the lines that ended before byte i were answered, and this has begun of the next
 pub record Entered {M F : Type 0} (R : Rules M F) (cap : ℕ) (line bytes : List ℕ) (a b : Progress M) (begun : List ℕ) (i : ℕ) : Type 0 where
-  pub turns : List (Turn M)
   pub within : i ≤ length bytes
   pub begun_is : begun ≡ begun_line cap line (take i bytes)
-  pub answered : AreAnswered R a b (ended_lines cap line (take i bytes)) turns
+  pub answered : Answered {V = ⊤} R a b (ended_lines cap line (take i bytes)) (Ok tt)
 
 pub entered_none : {M F : Type 0} (R : Rules M F) (cap : ℕ) (line bytes : List ℕ) (a : Progress M) → a.outlet.out ≤ 2 ^ 64 - 1 → Entered R cap line bytes a a line 0
 entered_none {M} {F} R cap line bytes a low = record {
-  turns = [];
   within = omega arith;
   begun_is = sym (begun_none cap line);
-  answered = rw (ended_none cap line) (answered_none M F R a low);
+  answered = answered_as (ended_none cap line) (answered_none a a (Ok tt) refl refl (put_nothing a.outlet low));
 }
 
 module _ {M F : Type 0} {R : Rules M F} {cap i : ℕ} {line bytes begun : List ℕ} {a b : Progress M} (s : Entered R cap line bytes a b begun i) (short : length line ≤ cap) where
@@ -244,32 +195,29 @@ module _ {M F : Type 0} {R : Rules M F} {cap i : ℕ} {line bytes begun : List �
     -- there is room for one row more
     pub row_below : a.row + length bytes < 2 ^ 64 → b.row < 2 ^ 64 - 1
     row_below few =
-        let count = ap (length {A = List ℕ}) s.answered.lines_are ∙ lines_count M s.turns in
         let lines = few_lines cap line (take i bytes) in
         let long = length-take i bytes in
         let past = line_within bytes i end here s.within in
-        let row = s.answered.row in omega arith
+        let row = answered_row s.answered in omega arith
 
     line_ended : ended_lines cap line (take next bytes) ≡ before ++ (kept ∷ [])
     line_ended = rw s.begun_is (
         ap (ended_lines cap line) (line_taken bytes i end here) ∙ ended_append cap line (take i bytes) (end ++ 10 ∷ [])
         ∙ ap (λ (l : List (List ℕ)). before ++ l) (ended_line cap (begun_line cap line (take i bytes)) end here.clean (begun_short cap line (take i bytes) short)))
 
-    pub line_answered : (c : Progress M) (begun2 : List ℕ) → c.row ≡ b.row + 1 → begun2 ≡ [] → Turned {V = ⊤} R b c kept (Ok tt) → Entered R cap line bytes a c begun2 next
-    line_answered c begun2 row none (text, answered, put) =
-        let t : Turn M = record { line = kept; text = text; after = c.handler } in record {
-          turns = s.turns ++ t ∷ [];
-          within = line_within bytes i end here s.within;
-          begun_is = none ∙ sym (ap (begun_line cap line) (line_taken bytes i end here) ∙ begun_append cap line (take i bytes) (end ++ 10 ∷ [])
-              ∙ begun_ended cap (begun_line cap line (take i bytes)) end);
-          answered = rw line_ended (answered_then M F R a b c before s.turns s.answered (kept ∷ []) (t ∷ []) (answered_one M F R b c kept text row answered put));
-        }
+    pub line_answered : (c : Progress M) (begun2 : List ℕ) → begun2 ≡ [] → Answered {V = ⊤} R b c (kept ∷ []) (Ok tt) → Entered R cap line bytes a c begun2 next
+    line_answered c begun2 none q = record {
+      within = line_within bytes i end here s.within;
+      begun_is = none ∙ sym (ap (begun_line cap line) (line_taken bytes i end here) ∙ begun_append cap line (take i bytes) (end ++ 10 ∷ [])
+          ∙ begun_ended cap (begun_line cap line (take i bytes)) end);
+      answered = answered_as line_ended (answered_then s.answered c (Ok tt) q);
+    }
 
-    pub line_short : (c : Progress M) (f : ServeFault F) → Turned {V = ⊤} R b c kept (Err f) → FallShort R a c (ended_lines cap line bytes) f
+    pub line_short : (c : Progress M) (f : ServeFault F) → Answered {V = ⊤} R b c (kept ∷ []) (Err f) → Answered {V = ⊤} R a c (ended_lines cap line bytes) (Err f)
     line_short c f q =
         let later = ended_lines cap (begun_line cap line (take next bytes)) (drop next bytes) in
-        rw (ended_all cap line bytes next ∙ ap (λ (l : List (List ℕ)). l ++ later) line_ended) (short_more M F R a c (before ++ kept ∷ []) later f
-        (short_then M F R a b c before s.turns s.answered (kept ∷ []) f (short_one M F R b c kept f q)))
+        answered_as (ended_all cap line bytes next ∙ ap (λ (l : List (List ℕ)). l ++ later) line_ended)
+        (answered_more a c (before ++ kept ∷ []) later f (answered_then s.answered c (Err f) q))
 
   -- no other line ends
   module _ (clean : HasNoFeed rest) where
@@ -279,8 +227,9 @@ module _ {M F : Type 0} {R : Rules M F} {cap i : ℕ} {line bytes begun : List �
     pub rest_kept : take cap (begun ++ rest) ≡ begun_line cap line bytes
     rest_kept = rw (s.begun_is, rest_of i bytes) (rest_begun cap line bytes i clear short)
 
-    pub rest_answered : AreAnswered R a b (ended_lines cap line bytes) s.turns
-    rest_answered = rw (← rest_ended cap line bytes i clear) s.answered
+    pub rest_answered : (c : Progress M) (r : Result ⊤ (ServeFault F)) → c.row ≡ b.row → c.handler ≡ b.handler → PutsOrStops b.outlet c.outlet [] r
+        → Answered R a c (ended_lines cap line bytes) r
+    rest_answered c r row same put = answered_as (sym (rest_ended cap line bytes i clear)) (answered_flushed s.answered c r row same put)
 
 -- ---- a whole run
 
@@ -292,26 +241,31 @@ first_of s = record { row = 1; handler = s.handler; outlet = record { held = [];
 abbrev pub stands : {M : Type 0} → Seen M → ℕ → List ℕ → ℕ → Progress M
 stands s row held out = record { row = row; handler = s.handler; outlet = record { held = held; out = out; taken = s.device.taken; failed = s.device.failed } }
 
+-- the lines that were given between two states
+abbrev pub given_by : {V M F : Type 0} {R : Rules M F} {a b : Progress M} {lines : List (List ℕ)} {r : Result V (ServeFault F)} → Answered R a b lines r → Given M F
+given_by {b = b} p = record { lines = p.given; text = p.text; handler = b.handler; fault = p.fault }
+
 -- where a run stands before a call for bytes: it took these bytes, answered all their lines that have an end, and nothing waits
 pub record Standing {M F T : Type 0} (D : LineRules M F) (cap : ℕ) (at : T → Seen M) (count : T → ℕ) (start now : T) (log log2 : List T) (row : ℕ) (begun held : List ℕ) (out : ℕ) : Type 0 where
   pub bytes : List ℕ
-  pub turns : List (Turn M)
   pub consumed : Consumes (at start).device.left (at now).device.left bytes
   pub begun_is : begun ≡ begun_line cap [] bytes
   pub none : held ≡ []
-  pub answered : AreAnswered D.line (first_of (at start)) (stands (at now) row held out) (ended_lines cap [] bytes) turns
-  pub logged : LogsCalls count log log2 (count start) (count now) (λ time. IsPromptAt cap (at start) (at time) turns)
+  pub answered : Answered {V = ⊤} D.line (first_of (at start)) (stands (at now) row held out) (ended_lines cap [] bytes) (Ok tt)
+  pub logged : LogsCalls count log log2 (count start) (count now) (λ time. IsPromptAt D.line cap (at start) (at time) (given_by answered))
+  pub more : logged.least ≤ length bytes
 
 abbrev pub standing_first : {M F T : Type 0} (D : LineRules M F) (cap : ℕ) (at : T → Seen M) (count : T → ℕ) (start : T) (log : List T) (row : ℕ) (begun held : List ℕ) (out : ℕ)
     → row ≡ 1 → begun ≡ [] → held ≡ [] → out ≡ 0 → Standing D cap at count start start log log row begun held out
 standing_first {M} {F} D cap at count start log row begun held out row_is begun_is none out_is = record {
   bytes = [];
-  turns = [];
   consumed = consumes-none (at start).device.left;
   begun_is = begun_is ∙ sym (begun_none cap []);
   none = none;
-  answered = rw (row_is, none, out_is, ended_none cap []) (answered_none M F D.line (first_of (at start)) (omega arith));
+  answered = rw (row_is, none, out_is, ended_none cap [])
+      (answered_none (first_of (at start)) (first_of (at start)) (Ok tt) refl refl (put_nothing (first_of (at start)).outlet (omega arith)));
   logged = logs-none _ _ _ _;
+  more = omega arith;
 }
 
 module _ {M F T : Type 0} {D : LineRules M F} {cap : ℕ} {at : T → Seen M} {count : T → ℕ} {start now : T} {log log2 : List T} {row : ℕ} {begun held : List ℕ} {out : ℕ}
@@ -319,169 +273,162 @@ module _ {M F T : Type 0} {D : LineRules M F} {cap : ℕ} {at : T → Seen M} {c
   abbrev current : Progress M
   current = stands (at now) row held out
 
-  abbrev Logged : List T → T → List (Turn M) → Type 0
-  Logged log3 new turns = LogsCalls count log log3 (count start) (count new) (λ time. IsPromptAt cap (at start) (at time) turns)
+  abbrev lines : List (List ℕ)
+  lines = ended_lines cap [] s.bytes
 
-  abbrev with_last : List ℕ → Run M
-  with_last text = record { bytes = s.bytes; turns = s.turns; rest = []; last = text }
+  abbrev Logged : List T → T → Given M F → Type 0
+  Logged log3 new given = LogsCalls count log log3 (count start) (count new) (λ time. IsPromptAt D.line cap (at start) (at time) given)
 
   -- there were no more lines than bytes
   pub row_low : row ≤ 1 + length s.bytes
-  row_low =
-      let count : length (ended_lines cap [] s.bytes) ≡ length s.turns = ap (length {A = List ℕ}) s.answered.lines_are ∙ lines_count M s.turns in
-      let few = few_lines cap [] s.bytes in let is = s.answered.row in omega arith
+  row_low = let few = few_lines cap [] s.bytes in let is = answered_row s.answered in omega arith
 
-  gone : Appends (at start).device.taken (at now).device.taken (text_in s.turns)
-  gone = all_out (first_of (at start)).outlet current.outlet (text_in s.turns) s.answered.put refl s.none
-
-  prompt_now : IsPromptAt cap (at start) (at now) s.turns
-  prompt_now = record {
-    bytes = s.bytes;
-    first = s.turns;
-    later = [];
-    among = sym (append-nil s.turns);
-    consumed = s.consumed;
-    lines = sym s.answered.lines_are;
-    handler = s.answered.handler;
-    out = gone;
-  }
+  pub gone : Appends (at start).device.taken (at now).device.taken s.answered.text
+  gone = all_out (first_of (at start)).outlet current.outlet s.answered.text s.answered.ends.3 refl s.none
 
   -- all lines were answered
-  served : (new : T) {log3 : List T} (last : List ℕ) (result : Result ℕ (ServeFault F)) → Consumes (at start).device.left (at new).device.left s.bytes → Logged log3 new s.turns
-      → IsOut (at start).device (at new).device (text_in s.turns ++ last) result → ServeEnds D cap (at start) (at new) (with_last last) result
-      → Served D cap (at start) (at new) result (Logged log3 new)
+  served : (new : T) {log3 : List T} (last : List ℕ) (result : Result ℕ (ServeFault F)) → Consumes (at start).device.left (at new).device.left s.bytes
+      → Logged log3 new (given_by s.answered) → IsOut (at start).device (at new).device (s.answered.text ++ last) result
+      → ServeEnds D cap (at start) (at new) (record { bytes = s.bytes; given = given_by s.answered; rest = s.answered.rest; last = last }) result
+      → ServedBy D cap (at start) (at new) result (Logged log3 new)
   served new last result consumed logged out ends = record {
-    run = with_last last;
+    run = record { bytes = s.bytes; given = given_by s.answered; rest = s.answered.rest; last = last };
     consumed = consumed;
-    turned = s.answered.turned;
-    lines_are = s.answered.lines_are ∙ sym (append-nil (lines_in s.turns));
+    lines_are = s.answered.lines_are;
+    answered = s.answered.run;
     prompt = logged;
     out = out;
     ends = ends;
   }
 
+  all_text : (new : T) → (at new).device.taken ≡ (at now).device.taken → (at new).device.failed ≡ (at now).device.failed
+      → Appends (at start).device.taken (at new).device.taken (s.answered.text ++ []) × ((at new).device.failed ≡ (at start).device.failed)
+  all_text new same sound = (rw (same, append-nil) gone, sound ∙ s.answered.ends.3.sound)
+
   -- more bytes came than any input has
-  pub run_too_long : 2 ^ 62 < length s.bytes → Served D cap (at start) (at now) (Err TooLong) (Logged log2 now)
-  run_too_long long = served now [] (Err TooLong) s.consumed s.logged (rw append-nil gone, s.answered.put.sound) (long, refl, refl, s.answered.handler)
+  pub run_too_long : 2 ^ 62 < length s.bytes → ServedBy D cap (at start) (at now) (Err TooLong) (Logged log2 now)
+  run_too_long long = served now [] (Err TooLong) s.consumed s.logged (all_text now refl refl) (long, (s.answered.ends.0, s.answered.ends.1), (refl, refl))
 
   -- the source is called once more
   module _ (new : T) {log3 : List T} (logs : log3 ≡ log2 ++ now ∷ []) (counts : count new ≡ count now + 1) where
-    asked : Logged log3 new s.turns
-    asked = logs-then count log log2 log3 (count start) (count now) (count new) _ now s.logged logs counts refl prompt_now
-
-    pub asked_before : (later : List (Turn M)) → Logged log3 new (s.turns ++ later)
-    asked_before later = logs-as count log log3 (count start) (count new) _ _ (λ time p. record {
-      bytes = p.bytes;
-      first = p.first;
-      later = p.later ++ later;
-      among = ap (λ (l : List (Turn M)). l ++ later) p.among ∙ append_assoc p.first p.later later;
-      consumed = p.consumed;
-      lines = p.lines;
-      handler = p.handler;
-      out = p.out;
-    }) asked
-
-    all_text : (at new).device.taken ≡ (at now).device.taken → (at new).device.failed ≡ (at now).device.failed
-        → Appends (at start).device.taken (at new).device.taken (text_in s.turns ++ []) × ((at new).device.failed ≡ (at start).device.failed)
-    all_text same sound = (rw (same, append-nil) gone, sound ∙ s.answered.put.sound)
+    abbrev pub asked : Logged log3 new (given_by s.answered)
+    asked = logs-then count log log2 log3 (count start) (count now) (count new) _ now s.bytes s.logged logs counts refl s.more (record {
+      text = s.answered.text;
+      later = [];
+      more = [];
+      consumed = s.consumed;
+      answered = answered_run s.answered;
+      out = gone;
+      lines_are = sym (answered_given s.answered) ∙ sym (append-nil lines);
+      text_is = sym (append-nil s.answered.text);
+      goes_on = rw s.answered.ends.1 done;
+    })
 
     -- the source failed
     pub run_read_failed : (read : ℕ) → Keeps (at now).device.left (at new).device.left → (at new).device.taken ≡ (at now).device.taken → (at new).device.failed ≡ (at now).device.failed
-        → (at new).handler ≡ (at now).handler → read ≡ length s.bytes → Served D cap (at start) (at new) (Err (ReadFailed read)) (Logged log3 new)
+        → (at new).handler ≡ (at now).handler → read ≡ length s.bytes → ServedBy D cap (at start) (at new) (Err (ReadFailed read)) (Logged log3 new)
     run_read_failed read kept same sound left is =
         served new [] (Err (ReadFailed read)) (consumes-kept (at start).device.left (at now).device.left (at new).device.left s.bytes s.consumed kept)
-        asked (all_text same sound) (is, refl, refl, left ∙ s.answered.handler)
+        asked (all_text new same sound) (is, (s.answered.ends.0, s.answered.ends.1), (left, refl))
 
     module _ (row2 : ℕ) (held2 : List ℕ) (out2 : ℕ) (more : List ℕ) (moved : Consumes (at now).device.left (at new).device.left more) where
       abbrev there : Progress M
       there = stands (at new) row2 held2 out2
 
-      abbrev longer : List (Turn M) → List (List ℕ) → Run M
-      longer all rest = record { bytes = s.bytes ++ more; turns = all; rest = rest; last = [] }
-
       pub took_more : Consumes (at start).device.left (at new).device.left (s.bytes ++ more)
       took_more = consumes-then (at start).device.left (at now).device.left (at new).device.left s.bytes more s.consumed moved
 
-      pub more_ended : ended_lines cap [] (s.bytes ++ more) ≡ ended_lines cap [] s.bytes ++ ended_lines cap begun more
+      pub more_ended : ended_lines cap [] (s.bytes ++ more) ≡ lines ++ ended_lines cap begun more
       more_ended = rw s.begun_is (ended_append cap [] s.bytes more)
 
+      -- the lines among more bytes were given
+      module _ (r : Result ⊤ (ServeFault F)) (q : Answered D.line current there (ended_lines cap begun more) r) where
+        abbrev all : Answered D.line (first_of (at start)) there (lines ++ ended_lines cap begun more) r
+        all = answered_then s.answered there r q
+
+        abbrev pub asked_before : Logged log3 new (given_by all)
+        asked_before = logs-as count log log3 (count start) (count new) _ _ (λ time bytes p. record {
+          text = p.text;
+          later = p.later ++ q.given;
+          more = p.more ++ q.text;
+          consumed = p.consumed;
+          answered = p.answered;
+          out = p.out;
+          lines_are = ap (λ (l : List (List ℕ)). l ++ q.given) (answered_given s.answered ∙ p.lines_are) ∙ append_assoc (ended_lines cap [] bytes) p.later q.given;
+          text_is = ap (λ (l : List ℕ). l ++ q.text) p.text_is ∙ append_assoc p.text p.more q.text;
+          goes_on = (let is = answered_row s.answered in let long = length-append (ended_lines cap [] bytes) p.later in
+              let same : length lines ≡ length (ended_lines cap [] bytes ++ p.later) = ap (length {A = List ℕ}) (answered_given s.answered ∙ p.lines_are) in
+              runs_then (1 + length (ended_lines cap [] bytes)) row (rw s.answered.ends.1 at p.goes_on) (omega arith) q.run);
+        }) asked
+
       -- it goes on
-      abbrev pub standing_then : {begun2 : List ℕ} (later : List (Turn M)) → AreAnswered D.line current there (ended_lines cap begun more) later → held2 ≡ [] → begun2 ≡ begun_line cap begun more
-          → Standing D cap at count start new log log3 row2 begun2 held2 out2
-      standing_then later q none begun_is = record {
+      abbrev pub standing_then : {begun2 : List ℕ} (q : Answered {V = ⊤} D.line current there (ended_lines cap begun more) (Ok tt)) → held2 ≡ [] → begun2 ≡ begun_line cap begun more
+          → 0 < length more → Standing D cap at count start new log log3 row2 begun2 held2 out2
+      standing_then q none begun_is some = record {
         bytes = s.bytes ++ more;
-        turns = s.turns ++ later;
         consumed = took_more;
         begun_is = begun_is ∙ (rw s.begun_is (sym (begun_append cap [] s.bytes more)));
         none = none;
-        answered = rw more_ended (answered_then M F D.line (first_of (at start)) current there (ended_lines cap [] s.bytes) s.turns s.answered (ended_lines cap begun more) later q);
-        logged = asked_before later;
+        answered = answered_as more_ended (all (Ok tt) q);
+        logged = asked_before (Ok tt) q;
+        more = (let long = length-append s.bytes more in omega arith);
       }
 
-      why : (all : List (Turn M)) (rest : List (List ℕ)) (f : ServeFault F) → WhyShort D.line (first_of (at start)) there all rest f
-          → IsOut (at start).device (at new).device (text_in all ++ []) (Err f) × ServeEnds D cap (at start) (at new) (longer all rest) (Err f)
-      why all rest (WriteFailed count) (w, left) = (rw append-nil w, inl (refl, left))
-      why all rest (Handler fault) (w, put, none2) =
-          ((rw append-nil (all_out (first_of (at start)).outlet there.outlet (text_in all) put refl none2), put.sound), (inl w, refl))
-      why _ _ _ w = absurd w
-
       -- the sink failed in some lines of more bytes, or the handler had no answer to one
-      pub run_stopped : (f : ServeFault F) → FallShort D.line current there (ended_lines cap begun more) f → Served D cap (at start) (at new) (Err f) (Logged log3 new)
+      pub run_stopped : (f : ServeFault F) → Answered {V = ⊤} D.line current there (ended_lines cap begun more) (Err f)
+          → ServedBy D cap (at start) (at new) (Err f) (Logged log3 new)
       run_stopped f q =
-          let t = short_then M F D.line (first_of (at start)) current there (ended_lines cap [] s.bytes) s.turns s.answered (ended_lines cap begun more) f q in
-          let w = why t.turns t.rest f t.why in record {
-            run = longer t.turns t.rest;
+          let t = all (Err f) q in
+          let w = why f t in record {
+            run = record { bytes = s.bytes ++ more; given = given_by t; rest = t.rest; last = [] };
             consumed = took_more;
-            turned = t.turned;
             lines_are = more_ended ∙ t.lines_are;
-            prompt = asked_before q.turns;
+            answered = t.run;
+            prompt = asked_before (Err f) q;
             out = w.0;
             ends = w.1;
           }
+        where
+          why : (f : ServeFault F) (t : Answered {V = ⊤} D.line (first_of (at start)) there (lines ++ ended_lines cap begun more) (Err f))
+              → IsOut (at start).device (at new).device (t.text ++ []) (Err f)
+              × ServeEnds D cap (at start) (at new) (record { bytes = s.bytes ++ more; given = given_by t; rest = t.rest; last = [] }) (Err f)
+          why (WriteFailed count) t = (rw append-nil t.ends, inl (refl, refl))
+          why (Handler fault) t =
+              ((rw append-nil (all_out (first_of (at start)).outlet there.outlet t.text t.ends.1 refl t.ends.2), t.ends.1.sound), inl (t.ends.0, (refl, refl)))
+          why _ t = absurd t.ends
 
     module _ (row2 : ℕ) (held2 : List ℕ) (out2 : ℕ) (over : IsAtEnd (at now).device.left) (moved : Consumes (at now).device.left (at new).device.left []) where
       abbrev end : Progress M
       end = stands (at new) row2 held2 out2
 
-      last_of : {X : Type 0} (P : M → ℕ → List ℕ → X → Type 0) (x : X) → P (at now).handler row begun x → P (state_after (at start).handler s.turns) (1 + length s.turns) (begun_line cap [] s.bytes) x
-      last_of P x h = rw (← s.answered.handler, ← s.answered.row, ← s.begun_is) h
-
       took_all : Consumes (at start).device.left (at new).device.left s.bytes
       took_all = subst (Consumes (at start).device.left (at new).device.left) (append-nil s.bytes)
           (consumes-then (at start).device.left (at now).device.left (at new).device.left s.bytes [] s.consumed moved)
 
-      at_end : HasEnded (at start).device.left (at new).device.left
-      at_end = ended-since (at start).device.left (at now).device.left (at new).device.left s.bytes s.consumed (ended (at now).device.left (at new).device.left over moved)
-
-      closed : (text : List ℕ) → D.last.Answers (at now).handler row begun (at new).handler text → HasClosed D cap (at start) (at new) (with_last text)
-      closed text h = record {
-        ended = at_end;
-        all = refl;
-        answer = last_of (λ (k : M) (n : ℕ) (l t : List ℕ). D.last.Answers k n l (at new).handler t) text h;
+      closed : (last : List ℕ) (Holds : M → ℕ → List ℕ → Type 0) → Holds (at now).handler row begun
+          → HasClosed cap (at start) (at new) (record { bytes = s.bytes; given = given_by s.answered; rest = s.answered.rest; last = last }) Holds
+      closed last Holds h = record {
+        ended = ended-since (at start).device.left (at now).device.left (at new).device.left s.bytes s.consumed (ended (at now).device.left (at new).device.left over moved);
+        all = (s.answered.ends.0, s.answered.ends.1);
+        holds = rw (← answered_row s.answered, ← s.begun_is) h;
       }
 
       -- what has begun of a last line was answered, at the end of the input
-      pub run_ended : (rows : ℕ) → rows + 1 ≡ row → Closed {V = ⊤} D.last current end begun (Ok tt) → Served D cap (at start) (at new) (Ok rows) (Logged log3 new)
+      pub run_ended : (rows : ℕ) → rows + 1 ≡ row → Closed {V = ⊤} D.last current end begun (Ok tt) → ServedBy D cap (at start) (at new) (Ok rows) (Logged log3 new)
       run_ended rows is (text, answered, put, none2) =
-          let all = put_then (first_of (at start)).outlet current.outlet end.outlet (text_in s.turns) text s.answered.put put in
-          served new text (Ok rows) took_all asked (all_out (first_of (at start)).outlet end.outlet (text_in s.turns ++ text) all refl none2, all.sound)
-          ((let e = s.answered.row in omega arith), closed text answered)
+          let all = put_then (first_of (at start)).outlet current.outlet end.outlet s.answered.text text s.answered.ends.3 put in
+          served new text (Ok rows) took_all asked (all_out (first_of (at start)).outlet end.outlet (s.answered.text ++ text) all refl none2, all.sound)
+          ((let e = answered_row s.answered in omega arith), closed text _ answered)
 
       -- it was not
-      ends_badly : (f : ServeFault F) → Closed {V = ⊤} D.last current end begun (Err f) → Served D cap (at start) (at new) (Err f) (Logged log3 new)
+      ends_badly : (f : ServeFault F) → Closed {V = ⊤} D.last current end begun (Err f) → ServedBy D cap (at start) (at new) (Err f) (Logged log3 new)
       ends_badly (WriteFailed count) (text, answered, w) =
           served new text (Err (WriteFailed count)) took_all asked
-          (put_stops (first_of (at start)).outlet current.outlet end.outlet (text_in s.turns) text count s.answered.put w) (inr (closed text answered))
+          (put_stops (first_of (at start)).outlet current.outlet end.outlet s.answered.text text count s.answered.ends.3 w) (inr (closed text _ answered))
       ends_badly (Handler fault) (w, same) =
-          served new [] (Err (Handler fault)) took_all asked (all_text (ap (λ (o : Outlet). o.taken) same) (ap (λ (o : Outlet). o.failed) same)) (
-            inr (record {
-              ended = at_end;
-              all = refl;
-              stops = last_of (λ (k : M) (n : ℕ) (l : List ℕ) (g : F). D.last.Stops k n l (at new).handler g) fault w;
-            }),
-            refl,
-          )
+          served new [] (Err (Handler fault)) took_all asked (all_text new (ap (λ (o : Outlet). o.taken) same) (ap (λ (o : Outlet). o.failed) same))
+          (inr (refl, closed [] _ w))
       ends_badly _ q = absurd q
 
-      pub run_ends_badly : (f : ServeFault F) (b : Progress M) → Closed {V = ⊤} D.last b end begun (Err f) → b ≡ current → Served D cap (at start) (at new) (Err f) (Logged log3 new)
+      pub run_ends_badly : (f : ServeFault F) (b : Progress M) → Closed {V = ⊤} D.last b end begun (Err f) → b ≡ current → ServedBy D cap (at start) (at new) (Err f) (Logged log3 new)
       run_ends_badly f b q same = ends_badly f (subst (λ (x : Progress M). Closed {V = ⊤} D.last x end begun (Err f)) same q)

@@ -1,7 +1,7 @@
--- What a handler answers to lines, one after the other. A turn is one line with its answer; `row` is the number of a line.
+-- What a handler answers to lines, one after the other. `row` is the number of a line.
 -- An outlet is a sink (bytes go to it) and the text that waits for it. An answer that is put has gone out or waits, after those before it.
 -- `a` is the progress before lines and `b` after them; R are the rules of the handler.
-use Rattle.std.specs.Prelude.{◌≡◌, ◌⊎◌, ⊤, ℕ, ◌+◌, Bool, List, [], ◌∷◌, ◌++◌, length, Option, Result, Ok, Err}
+use Rattle.std.specs.Prelude.{◌≡◌, ℕ, ◌+◌, Bool, List, [], ◌∷◌, ◌++◌, length, Option, Some, None, Result, Ok, Err}
 use Rattle.ucl_io.specs.declared.fault.ServeFault.{ServeFault}
 use Rattle.ucl_io.specs.declared.fault.ServeFault.TheVariants.{Handler, WriteFailed}
 use Rattle.ucl_io.specs.Output.{HasPut, Outlet, StopsIn, Waiting, outlet}
@@ -16,6 +16,14 @@ pub record Rules (M F : Type 0) : Type 1 where
 abbrev pub rules : {M F : Type 0} → (M → ℕ → List ℕ → M → List ℕ → Type 0) → (M → ℕ → List ℕ → M → F → Type 0) → Rules M F
 rules answers stops = record { Answers = answers; Stops = stops }
 
+-- a handler, which is m at first and n in the end, was given these lines, one after the other; the first has the number `row`. It answered each,
+-- and its answers make up the text; but if there is a fault, it has no answer to the last line, for this fault
+pub data Turns {M F : Type 0} (R : Rules M F) : ℕ → M → List (List ℕ) → List ℕ → M → Option F → Type 0 where
+  done : {row : ℕ} {m : M} → Turns R row m [] [] m None
+  turn : {row : ℕ} {m n : M} {lines : List (List ℕ)} {more : List ℕ} {fault : Option F} (line text : List ℕ) (k : M) → R.Answers m row line k text
+      → Turns R (row + 1) k lines more n fault → Turns R row m (line ∷ lines) (text ++ more) n fault
+  stops : {row : ℕ} {m n : M} {fault : F} (line : List ℕ) → R.Stops m row line n fault → Turns R row m (line ∷ []) [] n (Some fault)
+
 -- the state between two lines: the number of the next, the handler, and the sink with the answers that wait
 pub record Progress (M : Type 0) : Type 0 where
   pub row : ℕ
@@ -26,87 +34,27 @@ pub record Progress (M : Type 0) : Type 0 where
 abbrev pub progress : {W M : Type 0} → (W → Option (List ℕ)) → (W → Bool) → ℕ → M → Waiting → W → Progress M
 progress taken failed row handler waiting sink = record { row = row; handler = handler; outlet = outlet taken failed waiting sink }
 
--- a line was answered and the answer put; or the sink failed in this, or, if the handler has no answer, in what waited; or the handler has no
--- answer, and nothing waits
-abbrev pub Turned : {V M F : Type 0} → Rules M F → Progress M → Progress M → List ℕ → Result V (ServeFault F) → Type 0
-Turned R a b line (Ok done) = (text : List ℕ) × R.Answers a.handler a.row line b.handler text × HasPut a.outlet b.outlet text
-Turned {F = F} R a b line (Err (WriteFailed written)) =
-    ((text : List ℕ) × R.Answers a.handler a.row line b.handler text × StopsIn a.outlet b.outlet text written)
-    ⊎ ((fault : F) × R.Stops a.handler a.row line b.handler fault × StopsIn a.outlet b.outlet [] written)
-Turned R a b line (Err (Handler fault)) = R.Stops a.handler a.row line b.handler fault × HasPut a.outlet b.outlet [] × (b.outlet.held ≡ [])
-Turned R a b line (Err _) = ⊥
+-- what came of lines, by the result: all were given and answered, and the answers put; or the sink failed in the answers; or the handler has no
+-- answer to the last that was given, and nothing waits
+abbrev pub ComesOut : {V M F : Type 0} → Progress M → Progress M → List (List ℕ) → List (List ℕ) → List ℕ → Option F → Result V (ServeFault F) → Type 0
+ComesOut a b given rest text fault (Ok v) = (rest ≡ []) × (fault ≡ None) × (b.row ≡ a.row + length given) × HasPut a.outlet b.outlet text
+ComesOut a b given rest text fault (Err (WriteFailed written)) = StopsIn a.outlet b.outlet text written
+ComesOut a b given rest text fault (Err (Handler why)) = (fault ≡ Some why) × HasPut a.outlet b.outlet text × (b.outlet.held ≡ [])
+ComesOut a b given rest text fault (Err _) = ⊥
+
+-- the first of these lines were given to the handler and the rest was not, and the result says why
+pub record Answered {V M F : Type 0} (R : Rules M F) (a b : Progress M) (lines : List (List ℕ)) (result : Result V (ServeFault F)) : Type 0 where
+  pub given : List (List ℕ)
+  pub rest : List (List ℕ)
+  pub text : List ℕ
+  pub fault : Option F
+  pub lines_are : lines ≡ given ++ rest
+  pub run : Turns R a.row a.handler given text b.handler fault
+  pub ends : ComesOut a b given rest text fault result
 
 -- the bytes after the last line feed were answered and nothing waits; or the sink failed; or the handler has no answer, and no text is put
 abbrev pub Closed : {V M F : Type 0} → Rules M F → Progress M → Progress M → List ℕ → Result V (ServeFault F) → Type 0
-Closed R a b line (Ok done) = (text : List ℕ) × R.Answers a.handler a.row line b.handler text × HasPut a.outlet b.outlet text × (b.outlet.held ≡ [])
+Closed R a b line (Ok v) = (text : List ℕ) × R.Answers a.handler a.row line b.handler text × HasPut a.outlet b.outlet text × (b.outlet.held ≡ [])
 Closed R a b line (Err (WriteFailed written)) = (text : List ℕ) × R.Answers a.handler a.row line b.handler text × StopsIn a.outlet b.outlet text written
 Closed R a b line (Err (Handler fault)) = R.Stops a.handler a.row line b.handler fault × (b.outlet ≡ a.outlet)
 Closed R a b line (Err _) = ⊥
-
--- ---- several lines
-
--- a line that was answered, its answer, and the handler after it
-pub record Turn (M : Type 0) : Type 0 where
-  pub line : List ℕ
-  pub text : List ℕ
-  pub after : M
-
--- the lines of these turns, one after the other
-unfoldable pub lines_in : {M : Type 0} → List (Turn M) → List (List ℕ)
-lines_in [] = []
-lines_in (t ∷ turns) = t.line ∷ lines_in turns
-
--- the answers of these turns, joined into one text
-unfoldable pub text_in : {M : Type 0} → List (Turn M) → List ℕ
-text_in [] = []
-text_in (t ∷ turns) = t.text ++ text_in turns
-
--- the handler after these turns, if it was m before them
-unfoldable pub state_after : {M : Type 0} → M → List (Turn M) → M
-state_after m [] = m
-state_after m (t ∷ turns) = state_after t.after turns
-
--- a handler, which is m at first, answers the line of each turn by its text, one after the other; the first line has the number `row`
-unfoldable pub AreTurns : {M : Type 0} → (M → ℕ → List ℕ → M → List ℕ → Type 0) → ℕ → M → List (Turn M) → Type 0
-AreTurns Answers row m [] = ⊤
-AreTurns Answers row m (t ∷ turns) = Answers m row t.line t.after t.text × AreTurns Answers (row + 1) t.after turns
-
--- the lines were answered by these turns, and their answers were put into the outlet
-pub record AreAnswered {M F : Type 0} (R : Rules M F) (a b : Progress M) (lines : List (List ℕ)) (turns : List (Turn M)) : Type 0 where
-  pub turned : AreTurns R.Answers a.row a.handler turns
-  pub lines_are : lines ≡ lines_in turns
-  pub row : b.row ≡ a.row + length turns
-  pub handler : b.handler ≡ state_after a.handler turns
-  pub put : HasPut a.outlet b.outlet (text_in turns)
-
--- after these turns, from the handler m and line `row` on, the handler has no answer to the first line of the rest, and is m2 then
-pub record StopsNext {M F : Type 0} (Stops : M → ℕ → List ℕ → M → F → Type 0) (row : ℕ) (m m2 : M) (turns : List (Turn M)) (rest : List (List ℕ)) (fault : F) : Type 0 where
-  pub line : List ℕ
-  pub later : List (List ℕ)
-  pub next : rest ≡ line ∷ later
-  pub stops : Stops (state_after m turns) (row + length turns) line m2 fault
-
--- when the sink fails the handler is as these turns left it; or, if it has no answer to the next line, as it is after that
-abbrev pub IsLeftAfter : {M F : Type 0} → (M → ℕ → List ℕ → M → F → Type 0) → ℕ → M → M → List (Turn M) → List (List ℕ) → Type 0
-IsLeftAfter {F = F} Stops row m m2 turns rest = (m2 ≡ state_after m turns) ⊎ ((fault : F) × StopsNext Stops row m m2 turns rest fault)
-
--- why lines were left: the sink failed in the answers of the turns; or these were put, and the handler has no answer to the next line
-abbrev pub WhyShort : {M F : Type 0} → Rules M F → Progress M → Progress M → List (Turn M) → List (List ℕ) → ServeFault F → Type 0
-WhyShort R a b turns rest (WriteFailed written) =
-    StopsIn a.outlet b.outlet (text_in turns) written × IsLeftAfter R.Stops a.row a.handler b.handler turns rest
-WhyShort R a b turns rest (Handler fault) =
-    StopsNext R.Stops a.row a.handler b.handler turns rest fault × HasPut a.outlet b.outlet (text_in turns) × (b.outlet.held ≡ [])
-WhyShort R a b turns rest _ = ⊥
-
--- only the first of the lines were answered, by `turns`, and the rest were not, for this fault
-pub record FallShort {M F : Type 0} (R : Rules M F) (a b : Progress M) (lines : List (List ℕ)) (fault : ServeFault F) : Type 0 where
-  pub turns : List (Turn M)
-  pub rest : List (List ℕ)
-  pub turned : AreTurns R.Answers a.row a.handler turns
-  pub lines_are : lines ≡ lines_in turns ++ rest
-  pub why : WhyShort R a b turns rest fault
-
--- all lines were answered and nothing waits; or, if the result is a fault, only the first of them were answered
-abbrev pub Answered : {V M F : Type 0} → Rules M F → Progress M → Progress M → List (List ℕ) → Result V (ServeFault F) → Type 0
-Answered {M = M} R a b lines (Ok done) = (turns : List (Turn M)) × AreAnswered R a b lines turns × (b.outlet.held ≡ [])
-Answered R a b lines (Err fault) = FallShort R a b lines fault

@@ -1,9 +1,8 @@
 //! The driver: it reads the bytes of a source, hands each line to a handler, and writes the answers to a sink. In contracts `left` and
-//! `taken` are the bytes that the source has left and the sink has taken; a turn is one answered line; a time is a state of all three.
+//! `taken` are the bytes that the source has left and the sink has taken.
 
 ghost use Rattle.std.specs.Prelude.{◌≡◌, ◌≤◌};
-ghost use Rattle.ucl_io.specs.Calls.{LogsCalls};
-ghost use Rattle.ucl_io.specs.Serving.{IsPromptAt, Served, rules_of, is_source_failed, seen};
+ghost use Rattle.ucl_io.specs.Serving.{Served, rules_of, is_source_failed};
 
 use crate::fault::ServeFault;
 use crate::handler::{LineHandler, Text};
@@ -37,22 +36,15 @@ pub fn serve_lines<S: Source, W: Sink, M: LineHandler>(
     ensures ready { M.ready handler.new }
 
     // Says which bytes were taken, which lines the handler answered and how, what is out, and how the run ended. Just before each call for
-    // bytes, also in a run that failed, the answers to all lines that had an end by then were out, and nothing else.
-    ensures served { Served (rules_of M.answers M.stops M.ends M.stops_at_end) cap
-        (seen S.left W.taken W.failed (logged_io.old.source, logged_io.old.sink, handler.old))
-        (seen S.left W.taken W.failed (logged_io.new.source, logged_io.new.sink, handler.new))
-        result
-        (λ turns. LogsCalls (λ time. S.calls time.0)
-        logged_io.old.log.times logged_io.new.log.times
-        (S.calls logged_io.old.source) (S.calls logged_io.new.source)
-        (λ time. IsPromptAt cap
-        (seen S.left W.taken W.failed (logged_io.old.source, logged_io.old.sink, handler.old))
-        (seen S.left W.taken W.failed time) turns)) }
+    // bytes, also in a run that failed, the answers to all lines that had an end by then were out, and nothing else. No call comes after one
+    // that gave no byte.
+    ensures served { Served S.Source W.Sink (rules_of M.answers M.stops M.ends M.stops_at_end) cap
+        logged_io.old logged_io.new handler.old handler.new result }
 
     // A failed read is answered exactly if the source has failed.
     ensures read_failed { S.failed logged_io.new.source ≡ is_source_failed result }
 {
-    let mut lines = LineBuffer::new();
+    let mut lines = LineBuffer::new(cap);
     let mut text = M::Answer::new();
     let mut piece = [0; PIECE];
     let mut read: usize = 0;
@@ -67,7 +59,7 @@ pub fn serve_lines<S: Source, W: Sink, M: LineHandler>(
                 return Ok(lines.row - 1);
             }
             Some(n) => {
-                lines.enter(handler, cap, &piece[..n], &mut text, &mut logged_io.sink)?;
+                lines.enter(handler, &piece[..n], &mut text, &mut logged_io.sink)?;
                 read += n;
             }
         }

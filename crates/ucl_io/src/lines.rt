@@ -2,9 +2,9 @@
 //! Of a line at most `cap` first bytes are kept; `begun` is what is kept of a line without its end yet, and `row` its number, from 1;
 //! `text` is the buffer for an answer. In contracts `progress` is the next line's number, the handler, the output and the sink.
 
-ghost use Rattle.std.specs.Prelude.{◌≡◌, ◌+◌, ◌-◌, ◌^◌, ◌<◌, ◌≤◌, [], ◌++◌, length, take, IfSome, None, OnOk};
+ghost use Rattle.std.specs.Prelude.{◌≡◌, ◌+◌, ◌-◌, ◌^◌, ◌<◌, ◌≤◌, [], ◌∷◌, ◌++◌, length, take, IfSome, None, OnOk};
 ghost use Rattle.ucl_io.specs.Lines.{BeginsWithLine, HasNoFeed, begun_line, ended_lines};
-ghost use Rattle.ucl_io.specs.Turns.{Answered, Closed, Turned, progress, rules};
+ghost use Rattle.ucl_io.specs.Turns.{Answered, Closed, progress, rules};
 
 use crate::fault::ServeFault;
 use crate::handler::{LineHandler, Text};
@@ -49,87 +49,82 @@ fn keep(line: &mut ArrayVec<u8, MAX_KEPT_BYTES>, cap: usize, bytes: &[u8])
     let _fits = line.try_extend_from_slice(at_most(bytes, room));
 }
 
-/// The state between two bytes of the input: what is kept of the line that has begun, its number, and the answers that wait.
+/// Returns the first `cap` bytes of the line that is `begun` and then `end`. If `begun` is empty, nothing is copied.
+fn whole_line<'a>(
+    begun: &'a mut ArrayVec<u8, MAX_KEPT_BYTES>,
+    cap: usize,
+    end: &'a [u8],
+) -> &'a [u8]
+    requires cap { cap ≤ 4097 }
+    requires short { length begun.old.items ≤ cap }
+    ensures { result.now ≡ take cap (begun.old.items ++ end.now) }
+{
+    if begun.is_empty() {
+        return at_most(end, cap);
+    }
+    keep(begun, cap, end);
+    begun.as_slice()
+}
+
+/// The state between two bytes of the input: how many bytes are kept of a line, what is kept of the line that has begun, its number, and
+/// the answers that wait.
 #[derive(Drop)]
 pub(crate) struct LineBuffer {
+    pub(crate) cap: usize,
     pub(crate) begun: ArrayVec<u8, MAX_KEPT_BYTES>,
     pub(crate) row: u64,
     pub(crate) output: Output,
 }
 
-/// Gives line `row` to the handler, and puts the answer into `output`. If the handler has no answer, the answers that wait go to the sink,
-/// and its fault is returned. `WriteFailed` if the sink fails.
-fn answer_line<W: Sink, M: LineHandler>(
-    handler: &mut M,
-    row: u64,
-    line: &[u8],
-    text: &mut M::Answer,
-    output: &mut Output,
-    sink: &mut W,
-) -> Result<(), ServeFault<M::Fault>>
-    requires { M.ready handler.old }
-    ensures ready { M.ready handler.new }
-    ensures turned { Turned (rules M.answers M.stops)
-        (progress W.taken W.failed row handler.old output.old sink.old)
-        (progress W.taken W.failed (row + 1) handler.new output.new sink.new)
-        line.now result }
-{
-    match handler.answer(row, line, text) {
-        Ok(()) => output.put(sink, text.text()),
-        Err(fault) => {
-            output.flush(sink)?;
-            Err(ServeFault::Handler(fault))
-        }
-    }
-}
-
 impl LineBuffer {
     /// Creates the state before the first byte of an input: in line 1, with nothing kept and no answer that waits.
-    pub(crate) fn new() -> LineBuffer
+    pub(crate) fn new(cap: usize) -> LineBuffer
+        ensures cap { result.cap ≡ cap }
         ensures begun { result.begun.items ≡ [] }
         ensures row { result.row ≡ 1 }
         ensures output { result.output ≡ record { held = []; out = 0 } }
     {
         LineBuffer {
+            cap,
             begun: ArrayVec::new(),
             row: 1,
             output: Output::new(),
         }
     }
 
-    /// Answers the line that is `begun` and then `end`, and goes on to the next. If `begun` is empty, `end` is the whole line and is not
-    /// copied. `Err` if the handler has no answer or the sink fails.
+    /// Answers the line that is `begun` and then `end`, puts the answer into `output`, and goes on to the next line. If the handler has no
+    /// answer, the answers that wait go to the sink, and its fault is returned. `WriteFailed` if the sink fails.
     fn end_line<W: Sink, M: LineHandler>(
         &mut self,
         handler: &mut M,
-        cap: usize,
         end: &[u8],
         text: &mut M::Answer,
         sink: &mut W,
     ) -> Result<(), ServeFault<M::Fault>>
         requires ready { M.ready handler.old }
-        requires cap { cap ≤ 4097 }
-        requires short { length self.old.begun.items ≤ cap }
+        requires cap { self.old.cap ≤ 4097 }
+        requires short { length self.old.begun.items ≤ self.old.cap }
         requires row { self.old.row < 2 ^ 64 - 1 }
         ensures ready { M.ready handler.new }
+        ensures cap { self.new.cap ≡ self.old.cap }
         ensures begun { OnOk result (self.new.begun.items ≡ []) }
-        ensures row { OnOk result (self.new.row ≡ self.old.row + 1) }
-        ensures turned { Turned (rules M.answers M.stops)
+        ensures answered { Answered (rules M.answers M.stops)
             (progress W.taken W.failed self.old.row handler.old self.old.output sink.old)
-            (progress W.taken W.failed (self.old.row + 1) handler.new self.new.output sink.new)
-            (take cap (self.old.begun.items ++ end.now)) result }
+            (progress W.taken W.failed self.new.row handler.new self.new.output sink.new)
+            (take self.old.cap (self.old.begun.items ++ end.now) ∷ []) result }
     {
-        if self.begun.is_empty() {
-            let line = at_most(end, cap);
-            answer_line(handler, self.row, line, text, &mut self.output, sink)?;
-        } else {
-            keep(&mut self.begun, cap, end);
-            let line = self.begun.as_slice();
-            answer_line(handler, self.row, line, text, &mut self.output, sink)?;
-            self.begun.clear();
+        let line = whole_line(&mut self.begun, self.cap, end);
+        match handler.answer(self.row, line, text) {
+            Ok(()) => {
+                self.begun.clear();
+                self.row += 1;
+                self.output.put(sink, text.text())
+            }
+            Err(fault) => {
+                self.output.flush(sink)?;
+                Err(ServeFault::Handler(fault))
+            }
         }
-        self.row += 1;
-        Ok(())
     }
 
     /// Takes the next bytes of the input, answers each line that ends among them, and gives all answers to the sink. `Err` if the handler
@@ -137,23 +132,24 @@ impl LineBuffer {
     pub(crate) fn enter<W: Sink, M: LineHandler>(
         &mut self,
         handler: &mut M,
-        cap: usize,
         bytes: &[u8],
         text: &mut M::Answer,
         sink: &mut W,
     ) -> Result<(), ServeFault<M::Fault>>
         requires ready { M.ready handler.old }
-        requires cap { cap ≤ 4097 }
-        requires short { length self.old.begun.items ≤ cap }
+        requires cap { self.old.cap ≤ 4097 }
+        requires short { length self.old.begun.items ≤ self.old.cap }
         requires few { self.old.row + length bytes.now < 2 ^ 64 }
         ensures ready { M.ready handler.new }
+        ensures cap { self.new.cap ≡ self.old.cap }
         ensures begun { OnOk result (self.new.begun.items
-            ≡ begun_line cap self.old.begun.items bytes.now) }
-        ensures short { OnOk result (length self.new.begun.items ≤ cap) }
+            ≡ begun_line self.old.cap self.old.begun.items bytes.now) }
+        ensures short { OnOk result (length self.new.begun.items ≤ self.old.cap) }
+        ensures empty { OnOk result (self.new.output.held ≡ []) }
         ensures answered { Answered (rules M.answers M.stops)
             (progress W.taken W.failed self.old.row handler.old self.old.output sink.old)
             (progress W.taken W.failed self.new.row handler.new self.new.output sink.new)
-            (ended_lines cap self.old.begun.items bytes.now) result }
+            (ended_lines self.old.cap self.old.begun.items bytes.now) result }
     {
         // For the prover only: how many bytes went out fits into its type.
         let _written = self.output.written();
@@ -161,11 +157,11 @@ impl LineBuffer {
         'lines: loop {
             match first_line(&bytes[start..]) {
                 Some(end) => {
-                    self.end_line(handler, cap, end, text, sink)?;
+                    self.end_line(handler, end, text, sink)?;
                     start += end.len() + 1;
                 }
                 None => {
-                    keep(&mut self.begun, cap, &bytes[start..]);
+                    keep(&mut self.begun, self.cap, &bytes[start..]);
                     self.output.flush(sink)?;
                     return Ok(());
                 }

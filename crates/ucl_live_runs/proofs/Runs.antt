@@ -1,18 +1,18 @@
 -- Whole runs of handlers whose text is a function of the lines, and of sessions and followers, from what the driver says of them.
 use Rattle.ucl_live_runs.proofs.Common.{Closes, Err, FollowArgs, FollowState, HasNoAnswer, HasNoEnd, IsRejected, List, LiveFault, None, Ok}
 use Rattle.ucl_live_runs.proofs.Common.{OutOfMemory, IsOutInPart, Result, Session, Some, [], RunFault, after_bytes, after_line, after_lines, answer_said}
-use Rattle.ucl_live_runs.proofs.Common.{answers, answers_to, ap, append-nil, append_assoc, ap₂, arith, begun_line, cut_at, ended_lines, false, follow_outputs}
+use Rattle.ucl_live_runs.proofs.Common.{answers, answers_to, ap, append-nil, append_assoc, arith, begun_line, cut_at, ended_lines, false, follow_outputs}
 use Rattle.ucl_live_runs.proofs.Common.{follow_text, followed, inl, inr, last_lines, length, line_output, live_text, missing_after, missing_at, next, refl}
-use Rattle.ucl_live_runs.proofs.Common.{said_on, session_due, session_of, shown_text, sym, unseen, ℕ, ◌++◌, ◌+◌, ◌∙◌, ◌∷◌, ◌≡◌, ◌≤◌, ◌⊎◌}
+use Rattle.ucl_live_runs.proofs.Common.{Option, said_on, session_due, session_of, shown_text, subst, sym, unseen, ℕ, ◌++◌, ◌+◌, ◌∙◌, ◌∷◌, ◌≡◌, ◌≤◌, ◌⊎◌}
 use Rattle.std.specs.Io.KnownBytes.{Appends}
 use Rattle.ucl_command.specs.declared.follow.FollowShape.{FollowShape}
 use Rattle.ucl_io.proofs.Calls.{logs-as, whole}
 use Rattle.ucl_io.proofs.Puts.{stopped_first}
-use Rattle.ucl_io.proofs.Turns.{turns_front}
+use Rattle.ucl_io.proofs.Turns.{Front, runs_front}
 use Rattle.ucl_io.specs.Calls.{Device, HasEnded, LogsCalls, device}
 use Rattle.ucl_io.specs.Output.{StoppedShort}
-use Rattle.ucl_io.specs.Serving.{HasClosed, IsPromptAt, LineRules, Run, Seen, Served, StopsLast, is_source_failed, rules_of, seen}
-use Rattle.ucl_io.specs.Turns.{AreTurns, StopsNext, Turn, lines_in, state_after, text_in}
+use Rattle.ucl_io.specs.Serving.{AnsweredAll, AnswersLast, Given, IsLeft, IsPromptAt, LineRules, Run, Seen, ServedBy, StopsLast, is_source_failed, rules_of, seen}
+use Rattle.ucl_io.specs.Turns.{Turns, done, turn}
 use Rattle.ucl_io.specs.declared.fault.ServeFault.{ServeFault}
 use Rattle.ucl_io.specs.declared.fault.ServeFault.TheVariants.{Handler, WriteFailed}
 use Rattle.ucl_io.specs.declared.logged_io.LoggedIo.{LoggedIo}
@@ -30,16 +30,14 @@ pub record Drives {M V F : Type 0} (R : LineRules M F) (cap : ℕ) (D : Due V F)
   pub text : List (List ℕ) → List ℕ
   pub so_far : (bytes : List ℕ) → D.so_far bytes ≡ text (ended_lines cap [] bytes)
   pub parts : (a b : List (List ℕ)) → (more : List ℕ) × (text (a ++ b) ≡ text a ++ more)
-  pub turns : (turns : List (Turn M)) → AreTurns R.line.Answers 1 m turns → text_in turns ≡ text (lines_in turns)
-  pub closes : (bytes last : List ℕ) (turns : List (Turn M)) (n : M) → AreTurns R.line.Answers 1 m turns → lines_in turns ≡ ended_lines cap [] bytes
-      → R.last.Answers (state_after m turns) (1 + length turns) (begun_line cap [] bytes) n last → (D.so_far bytes ++ last ≡ D.whole bytes) × D.Ends (v n) bytes
-  pub stops_next : (bytes : List ℕ) (turns : List (Turn M)) (line : List ℕ) (later : List (List ℕ)) (n : M) (fault : F) (before after : Device)
-      → AreTurns R.line.Answers 1 m turns → ended_lines cap [] bytes ≡ lines_in turns ++ line ∷ later
-      → R.line.Stops (state_after m turns) (1 + length turns) line n fault → Appends before.taken after.taken (text_in turns) → D.Stops bytes before after fault
-  pub stops_last : (bytes : List ℕ) (turns : List (Turn M)) (n : M) (fault : F) (before after : Device)
-      → AreTurns R.line.Answers 1 m turns → lines_in turns ≡ ended_lines cap [] bytes → HasEnded before.left after.left
-      → R.last.Stops (state_after m turns) (1 + length turns) (begun_line cap [] bytes) n fault → Appends before.taken after.taken (text_in turns)
-      → D.Stops bytes before after fault
+  pub turns : (lines : List (List ℕ)) (t : List ℕ) (n : M) → Turns R.line 1 m lines t n None → t ≡ text lines
+  pub closes : (bytes t last : List ℕ) (k n : M) → Turns R.line 1 m (ended_lines cap [] bytes) t k None
+      → R.last.Answers k (1 + length (ended_lines cap [] bytes)) (begun_line cap [] bytes) n last → (D.so_far bytes ++ last ≡ D.whole bytes) × D.Ends (v n) bytes
+  pub stops_next : (bytes : List ℕ) (front : List (List ℕ)) (t line : List ℕ) (later : List (List ℕ)) (k n : M) (fault : F) (before after : Device)
+      → Turns R.line 1 m front t k None → ended_lines cap [] bytes ≡ front ++ line ∷ later → R.line.Stops k (1 + length front) line n fault
+      → Appends before.taken after.taken t → D.Stops bytes before after fault
+  pub stops_last : (bytes t : List ℕ) (k n : M) (fault : F) (before after : Device) → Turns R.line 1 m (ended_lines cap [] bytes) t k None → HasEnded before.left after.left
+      → R.last.Stops k (1 + length (ended_lines cap [] bytes)) (begun_line cap [] bytes) n fault → Appends before.taken after.taken t → D.Stops bytes before after fault
 
 module _ {M V F S W : Type 0} {R : LineRules M F} {cap : ℕ} {D : Due V F} {m : M} {v : M → V} (d : Drives R cap D m v) (source : reads.Ghosts S) (sink : writes.Ghosts W)
     (a b : LoggedIo S W M) (n : M) where
@@ -55,46 +53,66 @@ module _ {M V F S W : Type 0} {R : LineRules M F} {cap : ℕ} {D : Due V F} {m :
   abbrev new : Seen M
   new = record { device = after; handler = n }
 
-  abbrev Prompt : List (Turn M) → Type 0
-  Prompt turns = LogsCalls (λ time. source.calls time.0) a.log.times b.log.times (source.calls a.source) (source.calls b.source)
-      (λ time. IsPromptAt cap old (seen source.left sink.taken sink.failed time) turns)
+  abbrev Prompt : Given M F → Type 0
+  Prompt given = LogsCalls (λ time. source.calls time.0) a.log.times b.log.times (source.calls a.source) (source.calls b.source)
+      (λ time. IsPromptAt R.line cap old (seen source sink time) given)
 
-  module _ {r : Result ℕ (ServeFault F)} (p : Served R cap old new r Prompt) where
-    abbrev run : Run M
+  module _ {r : Result ℕ (ServeFault F)} (p : ServedBy R cap old new r Prompt) where
+    abbrev run : Run M F
     run = p.run
 
-    all_lines : run.rest ≡ [] → lines_in run.turns ≡ ended_lines cap [] run.bytes
-    all_lines none = sym (p.lines_are ∙ ap (λ (l : List (List ℕ)). lines_in run.turns ++ l) none ∙ append-nil (lines_in run.turns))
+    abbrev given : Given M F
+    given = p.run.given
 
-    all_text : run.rest ≡ [] → text_in run.turns ≡ D.so_far run.bytes
-    all_text none = d.turns run.turns p.turned ∙ ap d.text (all_lines none) ∙ sym (d.so_far run.bytes)
+    abbrev lines : List (List ℕ)
+    lines = ended_lines cap [] p.run.bytes
 
-    only : run.last ≡ [] → text_in run.turns ++ run.last ≡ text_in run.turns
-    only none = ap (λ (l : List ℕ). text_in run.turns ++ l) none ∙ append-nil (text_in run.turns)
+    all_run : AnsweredAll run → Turns R.line 1 m lines given.text given.handler None
+    all_run all =
+        let same = p.lines_are ∙ ap (λ (l : List (List ℕ)). given.lines ++ l) all.0 ∙ append-nil given.lines in
+        subst (λ (l : List (List ℕ)). Turns R.line 1 m l given.text given.handler None) (sym same) (rw all.1 at p.answered)
 
-    closed : HasClosed R cap old new run → (text_in run.turns ++ run.last ≡ D.whole run.bytes) × D.Ends (v n) run.bytes
+    all_text : AnsweredAll run → given.text ≡ D.so_far run.bytes
+    all_text all = d.turns lines given.text given.handler (all_run all) ∙ sym (d.so_far run.bytes)
+
+    only : run.last ≡ [] → given.text ++ run.last ≡ given.text
+    only none = ap (λ (l : List ℕ). given.text ++ l) none ∙ append-nil given.text
+
+    closed : AnswersLast R cap old new run → (given.text ++ run.last ≡ D.whole run.bytes) × D.Ends (v n) run.bytes
     closed e =
-        let c = d.closes run.bytes run.last run.turns n p.turned (all_lines e.all) e.answer in
+        let c = d.closes run.bytes given.text run.last given.handler n (all_run e.all) e.holds in
         (ap (λ (l : List ℕ). l ++ run.last) (all_text e.all) ∙ c.0, c.1)
 
     prompt : LogsCalls (λ time. source.calls time.0) a.log.times b.log.times (source.calls a.source) (source.calls b.source)
         (λ time. IsOutSoFar D.so_far (source.left a.source) (source.left time.0) (sink.taken a.sink) (sink.taken time.1))
-    prompt = logs-as _ _ _ _ _ _ _ (λ time u.
-        let first = turns_front M R.line.Answers 1 m u.first u.later (rw u.among at p.turned) in
-        (u.bytes, u.consumed, rw (d.turns u.first first ∙ ap d.text u.lines ∙ sym (d.so_far u.bytes)) at u.out)) p.prompt
+    prompt = logs-as _ _ _ _ _ _ _ (λ time bytes u.
+        (u.consumed, rw (d.turns (ended_lines cap [] bytes) u.text time.2 u.answered ∙ sym (d.so_far bytes)) at u.out)) p.prompt
 
-    cut : {X : Type 0} {written : ℕ} → ((run.last ≡ []) × X) ⊎ HasClosed R cap old new run → StoppedShort 0 after.failed before.taken after.taken (text_in run.turns ++ run.last) written
+    -- the lines before the one to which the handler has no answer
+    front_of : {fault : F} (f : Front R.line 1 m given.lines given.text given.handler fault) → lines ≡ f.front ++ f.line ∷ run.rest
+    front_of f = p.lines_are ∙ ap (λ (l : List (List ℕ)). l ++ run.rest) f.lines_are ∙ append_assoc f.front (f.line ∷ []) run.rest
+
+    -- what is due of the lines that came begins with the answers
+    begins : (fault : Option F) → Turns R.line 1 m given.lines given.text given.handler fault → (more : List ℕ) × (given.text ++ more ≡ D.so_far run.bytes)
+    begins None answered =
+        let more = d.parts given.lines run.rest in
+        (more.0, ap (λ (l : List ℕ). l ++ more.0) (d.turns given.lines given.text given.handler answered) ∙ sym (d.so_far run.bytes ∙ ap d.text p.lines_are ∙ more.1))
+    begins (Some fault) answered =
+        let f = runs_front 1 answered in
+        let more = d.parts f.front (f.line ∷ run.rest) in
+        (more.0, ap (λ (l : List ℕ). l ++ more.0) (d.turns f.front given.text f.state f.run) ∙ sym (d.so_far run.bytes ∙ ap d.text (front_of f) ∙ more.1))
+
+    cut : {written : ℕ} → IsLeft n run ⊎ AnswersLast R cap old new run → StoppedShort 0 after.failed before.taken after.taken (given.text ++ run.last) written
         → StopsInText D run.bytes before after written
-    cut {written} (inl (none, _)) s =
-        let more = d.parts (lines_in run.turns) run.rest in record {
+    cut {written} (inl (_, none)) s =
+        let more = begins given.fault p.answered in record {
           text = D.so_far run.bytes;
           text_is = inl refl;
-          stopped = rw (ap (λ (l : List ℕ). l ++ more.0) (d.turns run.turns p.turned) ∙ sym (d.so_far run.bytes ∙ ap d.text p.lines_are ∙ more.1)) at
-              (stopped_first 0 after.failed before.taken after.taken (text_in run.turns) more.0 written (rw (only none) at s));
+          stopped = rw more.1 at (stopped_first 0 after.failed before.taken after.taken given.text more.0 written (rw (only none) at s));
         }
     cut (inr e) s = record { text = D.whole run.bytes; text_is = inr (e.ended, refl); stopped = rw (closed e).0 at s }
 
-  pub ends : (count : ℕ) → Served R cap old new (Ok count) Prompt → source.failed b.source ≡ false → IsDriven D source sink a b (Ok (v n))
+  pub ends : (count : ℕ) → ServedBy R cap old new (Ok count) Prompt → source.failed b.source ≡ false → IsDriven D source sink a b (Ok (v n))
   ends count p read =
       let e = p.ends.1 in record {
         text = whole _ before.left after.left p.run.bytes e.ended p.consumed (rw (closed p e).0 at p.out.0);
@@ -105,19 +123,20 @@ module _ {M V F S W : Type 0} {R : LineRules M F} {cap : ℕ} {D : Due V F} {m :
         fails = tt;
       }
 
-  why : (f : ServeFault F) (p : Served R cap old new (Err f) Prompt) → FailsAfter D p.run.bytes before after f × SinkEnds {Value = V} before.failed after.failed (Err f)
+  why : (f : ServeFault F) (p : ServedBy R cap old new (Err f) Prompt) → FailsAfter D p.run.bytes before after f × SinkEnds {Value = V} before.failed after.failed (Err f)
   why (WriteFailed written) p = (cut p p.ends p.out, p.out.failed_is)
-  why (Handler fault) p = (stops p.ends.0 (rw (only p p.ends.1) at p.out.0), p.out.1)
+  why (Handler fault) p = (stops p.ends, p.out.1)
     where
-      stops : StopsNext R.line.Stops 1 m n p.run.turns p.run.rest fault ⊎ StopsLast R cap old new p.run fault → Appends before.taken after.taken (text_in p.run.turns)
-          → D.Stops p.run.bytes before after fault
-      stops (inl s) out =
-          d.stops_next p.run.bytes p.run.turns s.line s.later n fault before after p.turned (p.lines_are ∙ ap (λ (l : List (List ℕ)). lines_in p.run.turns ++ l) s.next) s.stops out
-      stops (inr e) out = d.stops_last p.run.bytes p.run.turns n fault before after p.turned (all_lines p e.all) e.ended e.stops out
-  why _ p = ((p.ends.0, rw (only p p.ends.2, all_text p p.ends.1) at p.out.0), p.out.1)
+      stops : ((p.run.given.fault ≡ Some fault) × IsLeft n p.run) ⊎ ((p.run.last ≡ []) × StopsLast R cap old new p.run fault) → D.Stops p.run.bytes before after fault
+      stops (inl (is, left, none)) =
+          let f = runs_front 1 (rw is at p.answered) in
+          d.stops_next p.run.bytes f.front p.run.given.text f.line p.run.rest f.state p.run.given.handler fault before after f.run (front_of p f) f.why (rw (only p none) at p.out.0)
+      stops (inr (none, e)) =
+          d.stops_last p.run.bytes p.run.given.text p.run.given.handler n fault before after (all_run p e.all) e.ended e.holds (rw (only p none) at p.out.0)
+  why _ p = ((p.ends.0, rw (only p p.ends.3, all_text p p.ends.1) at p.out.0), p.out.1)
 
   -- a run that fails has done what is due of it up to there
-  pub fails : (f : ServeFault F) → Served R cap old new (Err f) Prompt → source.failed b.source ≡ is_source_failed {V = V} (Err f) → IsDriven D source sink a b (Err f)
+  pub fails : (f : ServeFault F) → ServedBy R cap old new (Err f) Prompt → source.failed b.source ≡ is_source_failed {V = V} (Err f) → IsDriven D source sink a b (Err f)
   fails f p read =
       let w = why f p in record {
         text = tt;
@@ -138,60 +157,59 @@ SessionRules = rules_of
     (λ m row begun n text. Closes (session_of m row) begun text)
     (λ m row begun n fault. HasNoEnd (session_of m row) begun fault)
 
--- what turns come to
-session_turns : (row : ℕ) (m : Held) (turns : List (Turn Held)) → AreTurns SessionRules.line.Answers row m turns
-    → (session_of (state_after m turns) (row + length turns) ≡ after_lines (session_of m row) (lines_in turns))
-    × (text_in turns ≡ answers (session_of m row) (lines_in turns))
-unfolding AreTurns lines_in text_in state_after after_lines answers
-session_turns row m [] p = (let same : row + length {A = Turn Held} [] ≡ row = omega arith in rw same, refl)
-session_turns row m (t ∷ turns) p =
-    let x = session_turns (row + 1) t.after turns p.1 in
-    let there : row + length (t ∷ turns) ≡ row + 1 + length turns = omega arith in
-    (rw there (x.0 ∙ ap (λ (k : Session). after_lines k (lines_in turns)) p.0.0), rw (p.0.1, x.1, p.0.0))
+-- what lines that were answered come to
+session_turns : (row : ℕ) (m : Held) (lines : List (List ℕ)) {text : List ℕ} {n : Held} → Turns SessionRules.line row m lines text n None
+    → (session_of n (row + length lines) ≡ after_lines (session_of m row) lines) × (text ≡ answers (session_of m row) lines)
+unfolding after_lines answers
+session_turns row m [] done = (let same : row + length {A = List ℕ} [] ≡ row = omega arith in rw same, refl)
+session_turns row m (line ∷ lines) (turn _ text k h p) =
+    let x = session_turns (row + 1) k lines p in
+    let there : row + length (line ∷ lines) ≡ row + 1 + length lines = omega arith in
+    (rw there (x.0 ∙ ap (λ (s : Session). after_lines s lines) h.0), rw (h.1, x.1, h.0))
 
 module _ (m : Held) where
   abbrev start : Session
   start = session_of m 1
 
-  shows : (turns : List (Turn Held)) → AreTurns SessionRules.line.Answers 1 m turns → text_in turns ≡ answers start (lines_in turns)
-  shows turns p = (session_turns 1 m turns p).1
+  shows : (lines : List (List ℕ)) (t : List ℕ) (n : Held) → Turns SessionRules.line 1 m lines t n None → t ≡ answers start lines
+  shows lines t n p = (session_turns 1 m lines p).1
 
-  module _ (bytes : List ℕ) (turns : List (Turn Held)) (p : AreTurns SessionRules.line.Answers 1 m turns) where
+  module _ (bytes : List ℕ) (front : List (List ℕ)) (t : List ℕ) (k : Held) (p : Turns SessionRules.line 1 m front t k None) where
     abbrev reached : Session
-    reached = session_of (state_after m turns) (1 + length turns)
+    reached = session_of k (1 + length front)
 
-    reaches : reached ≡ after_lines start (lines_in turns)
-    reaches = (session_turns 1 m turns p).0
+    reaches : reached ≡ after_lines start front
+    reaches = (session_turns 1 m front p).0
 
-    closes : (last : List ℕ) → lines_in turns ≡ ended_lines 258 [] bytes → Closes reached (begun_line 258 [] bytes) last
+    closes : (last : List ℕ) → front ≡ ended_lines 258 [] bytes → Closes reached (begun_line 258 [] bytes) last
         → (answers_to start bytes ++ last ≡ live_text start bytes) × (missing_after start bytes ≡ None)
     closes last lines c =
         let here : reached ≡ after_bytes start bytes = reaches ∙ ap (after_lines start) lines in
         (cc (c.text_is, here, whole-text start bytes), rw (whole-missing start bytes, ← here) c.complete)
 
-    module _ (line : List ℕ) (later : List (List ℕ)) (next_is : ended_lines 258 [] bytes ≡ lines_in turns ++ line ∷ later) (before after : Device)
-        (out : Appends before.taken after.taken (text_in turns)) where
+    module _ (line : List ℕ) (later : List (List ℕ)) (next_is : ended_lines 258 [] bytes ≡ front ++ line ∷ later) (before after : Device)
+        (out : Appends before.taken after.taken t) where
       abbrev then : Session
       then = next reached (said_on reached.row line)
 
       in_part : IsOutInPart start bytes before after
       in_part =
-          let at = cut_at 258 [] bytes (lines_in turns) line later next_is in
-          record { front = at.front; rest = 10 ∷ at.more; parts = at.parts; out = rw (shows turns p, ← at.before) at out }
+          let at = cut_at 258 [] bytes front line later next_is in
+          record { front = at.front; rest = 10 ∷ at.more; parts = at.parts; out = rw (shows front t k p, ← at.before) at out }
 
       rejects : (fault : LiveFault) → then.phase ≡ Err fault → IsRejected start bytes before after fault
       unfolding after_lines
       rejects fault h =
-          let here = ap (after_lines start) next_is ∙ after-append start (lines_in turns) (line ∷ later) in
+          let here = ap (after_lines start) next_is ∙ after-append start front (line ∷ later) in
           let refused : (after_bytes start bytes).phase ≡ Err fault = rw (here, ← reaches) (stays-refused then later fault h) in
           let shut = rw here at (ap is_open refused) in
-          let none = shows turns p ∙ silent start (lines_in turns) (shut-lines (after_lines start (lines_in turns)) (line ∷ later) shut) in
+          let none = shows front t k p ∙ silent start front (shut-lines (after_lines start front) (line ∷ later) shut) in
           record { refused = inl refused; out = rw none at out }
 
-    module _ (lines : lines_in turns ≡ ended_lines 258 [] bytes) (before after : Device) (ended : HasEnded before.left after.left)
-        (out : Appends before.taken after.taken (text_in turns)) where
-      whole_text : text_in turns ≡ answers_to start bytes
-      whole_text = shows turns p ∙ ap (answers start) lines
+    module _ (lines : front ≡ ended_lines 258 [] bytes) (before after : Device) (ended : HasEnded before.left after.left)
+        (out : Appends before.taken after.taken t) where
+      whole_text : t ≡ answers_to start bytes
+      whole_text = shows front t k p ∙ ap (answers start) lines
 
       here : reached ≡ after_bytes start bytes
       here = reaches ∙ ap (after_lines start) lines
@@ -213,14 +231,14 @@ module _ (m : Held) where
     so_far = λ bytes. refl;
     parts = λ a b. (answers (after_lines start a) b, answers-append start a b);
     turns = shows;
-    closes = λ bytes last turns n p. closes bytes turns p last;
-    stops_next = λ bytes turns line later n fault before after p lines s out. elim s [
-      | inl none ↦ inl (none, in_part bytes turns p line later lines before after out)
-      | inr refused ↦ inr (rejects bytes turns p line later lines before after out fault refused)
+    closes = λ bytes t last k n p. closes bytes (ended_lines 258 [] bytes) t k p last refl;
+    stops_next = λ bytes front t line later k n fault before after p lines s out. elim s [
+      | inl none ↦ inl (none, in_part bytes front t k p line later lines before after out)
+      | inr refused ↦ inr (rejects bytes front t k p line later lines before after out fault refused)
     ];
-    stops_last = λ bytes turns n fault before after p lines ended s out. elim s [
-      | inl none ↦ inl (none, in_part_last bytes turns p lines before after ended out)
-      | inr missing ↦ inr (rejects_last bytes turns p lines before after ended out fault missing)
+    stops_last = λ bytes t k n fault before after p ended s out. elim s [
+      | inl none ↦ inl (none, in_part_last bytes (ended_lines 258 [] bytes) t k p refl before after ended out)
+      | inr missing ↦ inr (rejects_last bytes (ended_lines 258 [] bytes) t k p refl before after ended out fault missing)
     ];
   }
 
@@ -242,16 +260,15 @@ module _ (T : Type 0) (others : writes.Ghosts T) where
       (λ m row begun n text. (n ≡ m) × (text ≡ []))
       (λ m row begun n fault. ⊥)
 
-  -- what turns come to
-  follow_turns : (row : ℕ) (m : M) (turns : List (Turn M)) → AreTurns FollowRules.line.Answers row m turns
-      → ((state_after m turns).shape ≡ m.shape) × ((state_after m turns).follow_state ≡ followed m.follow_state (lines_in turns))
-      × (text_in turns ≡ follow_outputs m.shape m.follow_state (lines_in turns))
-  unfolding AreTurns lines_in text_in state_after followed follow_outputs
-  follow_turns row m [] p = (refl, refl, refl)
-  follow_turns row m (t ∷ turns) p =
-      let x = follow_turns (row + 1) t.after turns p.1 in
-      let heard = p.0.0 in
-      (x.0 ∙ heard.0, x.1 ∙ ap (λ (f : FollowState). followed f (lines_in turns)) heard.1, rw (p.0.1, x.2, heard.0, heard.1))
+  -- what lines that were answered come to
+  follow_turns : (row : ℕ) (m : M) (lines : List (List ℕ)) {text : List ℕ} {n : M} → Turns FollowRules.line row m lines text n None
+      → (n.shape ≡ m.shape) × (n.follow_state ≡ followed m.follow_state lines) × (text ≡ follow_outputs m.shape m.follow_state lines)
+  unfolding followed follow_outputs
+  follow_turns row m [] done = (refl, refl, refl)
+  follow_turns row m (line ∷ lines) (turn _ text k h p) =
+      let x = follow_turns (row + 1) k lines p in
+      let heard = h.0 in
+      (x.0 ∙ heard.0, x.1 ∙ ap (λ (f : FollowState). followed f lines) heard.1, rw (h.1, x.2, heard.0, heard.1))
 
   -- a follower that reads lines does what is due of it
   pub follow_drives : (args : FollowArgs) (m : M) → m.follow_state ≡ unseen args → m.shape ≡ args.shape → Drives FollowRules 4097 (follow_due args) m (λ n. counts_of n.follow_state)
@@ -260,16 +277,17 @@ module _ (T : Type 0) (others : writes.Ghosts T) where
     so_far = λ bytes. refl;
     parts = λ a b. (follow_outputs args.shape (followed (unseen args) a) b, follow_outputs-then args.shape (unseen args) a b);
     turns = shows;
-    closes = λ bytes last turns n p lines c. (
+    closes = λ bytes t last k n p c. (
       ap (λ (l : List ℕ). follow_text args bytes ++ l) c.1 ∙ append-nil (follow_text args bytes),
-      ap counts_of (ap (λ (n : M). n.follow_state) c.0 ∙ (follow_turns 1 m turns p).1 ∙ ap₂ (λ (f : FollowState) (ls : List (List ℕ)). followed f ls) fresh lines),
+      ap counts_of (ap (λ (n : M). n.follow_state) c.0 ∙ (follow_turns 1 m (ended_lines 4097 [] bytes) p).1
+      ∙ ap (λ (f : FollowState). followed f (ended_lines 4097 [] bytes)) fresh),
     );
-    stops_next = λ bytes turns line later n fault before after p lines s out. let at = cut_at 4097 [] bytes (lines_in turns) line later lines in (
+    stops_next = λ bytes front t line later k n fault before after p lines s out. let at = cut_at 4097 [] bytes front line later lines in (
       s.0,
-      record { front = at.front; rest = at.more; parts = at.parts; short = rw at.begun s.1; out = rw (shows turns p, ← at.before) at out },
+      record { front = at.front; rest = at.more; parts = at.parts; short = rw at.begun s.1; out = rw (shows front t k p, ← at.before) at out },
     );
-    stops_last = λ bytes turns n fault before after p lines ended s out. absurd s;
+    stops_last = λ bytes t k n fault before after p ended s out. absurd s;
   }
     where
-      shows : (turns : List (Turn M)) → AreTurns FollowRules.line.Answers 1 m turns → text_in turns ≡ follow_outputs args.shape (unseen args) (lines_in turns)
-      shows turns p = rw ((follow_turns 1 m turns p).2, same, fresh) refl
+      shows : (lines : List (List ℕ)) (t : List ℕ) (n : M) → Turns FollowRules.line 1 m lines t n None → t ≡ follow_outputs args.shape (unseen args) lines
+      shows lines t n p = rw ((follow_turns 1 m lines p).2, same, fresh) refl

@@ -20,9 +20,9 @@ pub record Due (Value Fault : Type 0) : Type 1 where
   pub Stops : List ℕ → Device → Device → Fault → Type 0
   pub Ends : Value → List ℕ → Type 0
 
--- since `left` some bytes were taken from the source, and since `taken` the sink got just the text that `so_far` makes of them
-abbrev pub IsOutSoFar : (List ℕ → List ℕ) → Option (List ℕ) → Option (List ℕ) → Option (List ℕ) → Option (List ℕ) → Type 0
-IsOutSoFar so_far left left_after taken taken_after = (bytes : List ℕ) × Consumes left left_after bytes × Appends taken taken_after (so_far bytes)
+-- since `left` these bytes were taken from the source, and since `taken` the sink got just the text that `so_far` makes of them
+abbrev pub IsOutSoFar : (List ℕ → List ℕ) → Option (List ℕ) → Option (List ℕ) → Option (List ℕ) → Option (List ℕ) → List ℕ → Type 0
+IsOutSoFar so_far left left_after taken taken_after bytes = Consumes left left_after bytes × Appends taken taken_after (so_far bytes)
 
 -- a run returns a failed write only if the sink has failed at its end; after any other outcome the sink has failed only if it had before
 abbrev pub SinkEnds : {Value Fault : Type 0} → Bool → Bool → Result Value (ServeFault Fault) → Type 0
@@ -54,7 +54,8 @@ module _ {Value Fault : Type 0} (due : Due Value Fault) where
   pub record IsDriven {S W State : Type 0} (source : reads.Ghosts S) (sink : writes.Ghosts W) (before after : LoggedIo S W State) (outcome : Result Value (ServeFault Fault)) : Type 0 where
     pub text : OnOk outcome (IfSome (source.left before.source) (λ bytes. Appends (sink.taken before.sink) (sink.taken after.sink) (due.whole bytes)))
     pub ends : IfOk outcome (λ value. IfSome (source.left before.source) (due.Ends value))
-    -- just before each call for bytes, also in a run that failed, what was due of all lines that had an end by then was out
+    -- just before each call for bytes, also in a run that failed, what was due of all lines that had an end by then was out; and no call
+    -- came after one that gave no byte
     pub prompt : LogsCalls (λ time. source.calls time.0) before.log.times after.log.times (source.calls before.source) (source.calls after.source)
         (λ time. IsOutSoFar due.so_far (source.left before.source) (source.left time.0) (sink.taken before.sink) (sink.taken time.1))
     -- a failed read is answered exactly if the source has failed, and a failed write if the sink has

@@ -1,11 +1,10 @@
 //! A session of `ucl_live`, which answers the row on each line of its input. Its first rows name its header (group, tie-break order,
 //! edition) and its four clubs; then its board is open. A mend takes an accepted event back, or puts a club in its slot, in a later edition.
 
-ghost use Rattle.std.specs.Prelude.{◌≡◌, ◌+◌, ⊤, IfErr, OnOk};
-ghost use Rattle.ucl_rows.specs.Answers.{bytes_of};
+ghost use Rattle.std.specs.Prelude.{◌≡◌, ◌+◌, ⊤, IfOk};
 ghost use Rattle.ucl_rows.specs.BadRows.{shown_text};
-ghost use Rattle.ucl_rows.specs.Rows.{said_on, fields_seen};
-ghost use Rattle.ucl_live_runs.specs.SessionRuns.{Closes, HasNoAnswer, HasNoEnd, session_at, session_due, session_of};
+ghost use Rattle.ucl_rows.specs.Rows.{line_seen, said_on};
+ghost use Rattle.ucl_live_runs.specs.SessionRuns.{Closes, HasNoAnswer, HasNoEnd, session_due, session_of};
 ghost use Rattle.ucl_live_runs.specs.LiveText.{answer_said, next, start_of};
 ghost use Rattle.ucl_live_runs.specs.Driven.{IsDriven};
 
@@ -14,7 +13,7 @@ use crate::header::{HeaderState, asked_header};
 use crate::live_fault::LiveFault;
 use crate::phase::{Phase, with_club, with_first};
 use csv::ByteRecord;
-use std::alloc::Global;
+use std::alloc::{AllocError, Global};
 use std::mem;
 use ucl_command::LiveArgs;
 use ucl_io::{LineHandler, LoggedIo, ServeFault, serve_lines};
@@ -29,36 +28,19 @@ pub struct Session {
     phase: Phase,
 }
 
-impl Phase {
-    /// Puts the answer to a row in `answer`: none if the board is not open yet. Fails if out of memory, or if the row has to name the
-    /// group or a club and does not.
-    fn answer(
-        &mut self,
-        config: &Config,
-        heading: &mut HeaderState,
-        line: &Line<'_, '_>,
-        answer: &mut Answer,
-    ) -> Result<(), LiveFault>
-        ensures next { OnOk result (session_at config.now.options heading.new (line.now.row + 1) self.new
-            ≡ next (session_at config.now.options heading.old line.now.row self.old) (fields_seen line.now.said)) }
-        ensures text { OnOk result (bytes_of answer.new
-            ≡ answer_said (session_at config.now.options heading.old line.now.row self.old)
-            (fields_seen line.now.said) (shown_text line.now.text.now)) }
-        ensures stops { IfErr result
-            (HasNoAnswer (session_at config.now.options heading.old line.now.row self.old)
-            (fields_seen line.now.said)) }
-    {
-        if let Phase::Open(table) = self {
-            table.answer(config, heading, line, answer)?;
-            return Ok(());
-        }
-        *answer = Answer::nothing();
-        *self = match mem::replace(self, Phase::AwaitingHeader) {
-            Phase::AwaitingHeader => with_first(config, line, heading)?,
-            Phase::AwaitingClubs(clubs) => with_club(config.alloc, line, clubs)?,
-            Phase::Open(table) => Phase::Open(table),
-        };
-        Ok(())
+/// Returns what the line with this number says, `None` if it has no row: by `csv`, which reads it into `record`, unless it is a row of four
+/// fields without quotes. Fails only if out of memory.
+fn fields_on<'a>(
+    alloc: Global,
+    row: u64,
+    text: &'a [u8],
+    record: &'a mut ByteRecord,
+) -> Result<Option<RowFields<'a>>, AllocError>
+    ensures { IfOk result (λ said. line_seen said ≡ said_on row text.now) }
+{
+    match plain_row(row, text) {
+        Some(four) => Ok(Some(RowFields::Four(four))),
+        None => read_row(alloc, row, text, record),
     }
 }
 
@@ -97,27 +79,26 @@ impl LineHandler for Session {
 
     ghost stops_at_end = { λ m row begun _ fault. HasNoEnd (session_of m row) begun fault };
 
-    /// Answers the row on the line: none is an empty answer, and several, or one that is too long, are a bad row.
+    /// Answers the row on the line: none is an empty answer, and several, or one that is too long, are a bad row. Until the board is open a
+    /// row names the group or a club, and its answer is empty.
     fn answer(&mut self, row: u64, text: &[u8], answer: &mut Answer) -> Result<(), LiveFault> {
-        if let Some(four) = plain_row(row, text) {
-            let said = RowFields::Four(four);
-            let line = Line { row, said, text };
-            return self
-                .phase
-                .answer(&self.config, &mut self.heading, &line, answer);
-        }
         let mut record = ByteRecord::new(self.config.alloc);
-        match read_row(self.config.alloc, row, text, &mut record)? {
-            None => {
-                *answer = Answer::nothing();
-                Ok(())
-            }
-            Some(said) => {
-                let line = Line { row, said, text };
-                self.phase
-                    .answer(&self.config, &mut self.heading, &line, answer)
-            }
+        let Some(said) = fields_on(self.config.alloc, row, text, &mut record)? else {
+            *answer = Answer::nothing();
+            return Ok(());
+        };
+        let line = Line { row, said, text };
+        if let Phase::Open(table) = &mut self.phase {
+            table.answer(&self.config, &mut self.heading, &line, answer)?;
+            return Ok(());
         }
+        *answer = Answer::nothing();
+        self.phase = match mem::replace(&mut self.phase, Phase::AwaitingHeader) {
+            Phase::AwaitingHeader => with_first(&self.config, &line, &mut self.heading)?,
+            Phase::AwaitingClubs(clubs) => with_club(self.config.alloc, &line, clubs)?,
+            Phase::Open(table) => Phase::Open(table),
+        };
+        Ok(())
     }
 
     /// Answers `begun`, a last line without a line feed, if it has a byte. Fails if a club is missing at the end.
