@@ -32,6 +32,7 @@ pub use reporter_no::ReporterNo;
 pub use rules::{apply, next_word};
 pub use theorems::{
     a_match_in_play_can_be_ended, a_reopened_match_can_be_ended, counts_are_balanced,
-    counts_are_valid, layouts_differ, one_case_holds, words_are_read, words_are_tested, words_differ,
+    counts_are_valid, layouts_differ, one_case_holds, words_are_read, words_are_tested,
+    words_differ,
 };
 pub use word::{number_of, pack, record_of, unpack};
