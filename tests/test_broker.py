@@ -947,17 +947,24 @@ def test_followers_are_killed_come_late_miss_lines_or_are_not_read(site):
 
 def test_boards_and_brokers_are_killed_while_three_reporters_type(site, seed, kills):
     """A board and its broker are killed and started again: each row that was told as entered is on the board once, and the desk ends with its table."""
-    site.begin()
-    chance, print_seed = random.Random(seed), print(f"seed {seed}, {kills} kills")
-    board = site.started[-1]
-    rows, boards = random_rows(chance, 90), []
+    print(f"seed {seed}, {kills} kills")
+    site.open_broker()
+    begun, board = time.monotonic(), site.line(LINES["The board"].strip())
+    assert desk(site)["version"] == 0
+    # Rows come as long as there are kills, some kills in the midst of a start, and before each tenth a row is entered.
+    start, chance = time.monotonic() - begun, random.Random(seed)
+    rows = random_rows(chance, min(90 + kills, ROWS))
     for number in 1, 2, 3:
         own = [f"{number}{row[1:]}" for row in rows if int(row.split(",")[1]) % 3 == number % 3]
         (site.path / f"rows-{number}").write_text("".join(own))
-    report = lambda number: site.line(f"./ucl_reporter --broker a --number {number} --again 0.5 --limit 90 <rows-{number} >entered-{number}")
+    typed = lambda number: f"while read row; do sleep {2 * start:.2f}; echo $row; done <rows-{number}"
+    report = lambda number: site.line(f"{typed(number)} | ./ucl_reporter --broker a --number {number} --again 0.5 --limit 3600 >entered-{number}")
     reporters = {number: report(number) for number in (1, 2, 3)}
-    for _ in range(kills):
-        time.sleep(chance.uniform(0, 0.4))
+    entered = lambda: sum(path.read_text().count(" entered") for path in site.path.glob("entered-?"))
+    for number in range(kills):
+        time.sleep(chance.uniform(0, 1.5 * start))
+        before = entered()
+        until(lambda: number % 10 or entered() > before or all(it.shell.poll() is not None for it in reporters.values()), 30)
         if chance.random() < 0.3:
             site.broker.kill()
             site.broker.start()
@@ -965,6 +972,7 @@ def test_boards_and_brokers_are_killed_while_three_reporters_type(site, seed, ki
         else:
             board.kill()
             board.start()
+    print(f"{entered()} of {len(rows)} rows were entered meanwhile")
     for number, reporter in reporters.items():
         assert reporter.shell.wait() == 0, (seed, (site.path / "errors").read_text()[-300:])
         told, own = (site.path / f"entered-{number}").read_text(), (site.path / f"rows-{number}").read_text().splitlines()
