@@ -115,7 +115,6 @@ unfolding accepted_value serde_json_on_literals
 reply-tells row event event_number m is =
     tells (accepted_value row event event_number m.header m.board m.roster) m is (record { group = refl; order = refl; edition = refl; clubs = refl; words = refl })
 
--- each answer that carries a board state tells the one that it was written from
 pub answered : AnswersTellTheirBoardState
 unfolding AnswersTellTheirBoardState
 answered row event event_number m is = record {
@@ -192,7 +191,6 @@ pub matches-fit : MatchesFitTheirLine
 unfolding MatchesFitTheirLine
 matches-fit row m is r = line-short (matches_value row m.board m.roster) (matches-short row m.board m.roster r is.clubs is.words)
 
--- a screen in JSON is a plain value that fits a line
 screen-plain : (row : ℕ) (m : BoardState) → IsBoardState m → row < 2 ^ 64 → IsShortPlain (edition_screen_value row m.header m.board m.roster)
 unfolding edition_screen_value screen_value serde_json_on_literals
 screen-plain row m is r =

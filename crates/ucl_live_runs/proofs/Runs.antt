@@ -116,7 +116,6 @@ module _ {M V F S W : Type 0} {R : LineRules M F} {cap : ℕ} {D : Due V F} {m :
       stops (inr e) out = d.stops_last p.run.bytes p.run.turns n fault before after p.turned (all_lines p e.all) e.ended e.stops out
   why _ p = ((p.ends.0, rw (only p p.ends.2, all_text p p.ends.1) at p.out.0), p.out.1)
 
-  -- a run that fails has done what is due of it up to there
   pub fails : (f : ServeFault F) → Served R cap old new (Err f) Prompt → source.failed b.source ≡ is_source_failed {V = V} (Err f) → IsDriven D source sink a b (Err f)
   fails f p read =
       let w = why f p in record {
@@ -206,7 +205,6 @@ module _ (m : Held) where
           let shut = shut-lines (after_bytes start bytes) (last_lines (begun_line 258 [] bytes)) (missing-shut last.row last.phase fault missing) in
           record { refused = inr (ended, whole-missing start bytes ∙ missing); out = rw (whole_text ∙ silent start (ended_lines 258 [] bytes) shut) at out }
 
-  -- a session that reads lines does what is due of it
   pub session_drives : Drives SessionRules 258 (session_due start) m (λ n. tt)
   session_drives = record {
     text = answers start;
@@ -253,7 +251,6 @@ module _ (T : Type 0) (others : writes.Ghosts T) where
       let heard = p.0.0 in
       (x.0 ∙ heard.0, x.1 ∙ ap (λ (f : FollowState). followed f (lines_in turns)) heard.1, rw (p.0.1, x.2, heard.0, heard.1))
 
-  -- a follower that reads lines does what is due of it
   pub follow_drives : (args : FollowArgs) (m : M) → m.follow_state ≡ unseen args → m.shape ≡ args.shape → Drives FollowRules 4097 (follow_due args) m (λ n. counts_of n.follow_state)
   follow_drives args m fresh same = record {
     text = follow_outputs args.shape (unseen args);
