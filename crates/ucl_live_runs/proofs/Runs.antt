@@ -280,7 +280,7 @@ module _ (T : Type 0) (others : writes.Ghosts T) where
     closes = λ bytes t last k n p c. (
       ap (λ (l : List ℕ). follow_text args bytes ++ l) c.1 ∙ append-nil (follow_text args bytes),
       ap counts_of (ap (λ (n : M). n.follow_state) c.0 ∙ (follow_turns 1 m (ended_lines 4097 [] bytes) p).1
-      ∙ ap (λ (f : FollowState). followed f (ended_lines 4097 [] bytes)) fresh),
+          ∙ ap (λ (f : FollowState). followed f (ended_lines 4097 [] bytes)) fresh),
     );
     stops_next = λ bytes front t line later k n fault before after p lines s out. let at = cut_at 4097 [] bytes front line later lines in (
       s.0,

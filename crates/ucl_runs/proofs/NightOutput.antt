@@ -48,7 +48,7 @@ module _ {B R P : Type 0} (live : boards.Ghosts B R P) (lent : B) (pass : R) (ro
       rw (← take_beginning (live.reporter end.reporter_2).seen met end.settled.version on ends.count.0)
       (begins_take seen met end.settled.version before (omega arith))
 
-  -- what a night without strangers wrote are the screens of a merge of its rows
+  -- what a night without strangers wrote is the output of a merge of its rows
   pub output : IsPrefix (live.reader end.reader_1).seen met → IsPrefix (live.reader end.reader_2).seen met → length met ≤ end.settled.version
       → IsOutputOfNight rows style asked (night_text (last_shown end.last 0) (last_shown end.last 1) (string_bytes end.closing))
   output one two low =

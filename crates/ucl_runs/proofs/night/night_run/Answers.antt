@@ -8,7 +8,7 @@ use Rattle.ucl_runs.specs.Nights.{calls_of}
 use Rattle.ucl_runs.proofs.Merges.{night_board_read}
 use Rattle.ucl_runs.proofs.night.night_run.Goals as goal
 
--- a night that ends well promises its end
+-- what holds at the end of a night that ends well
 pub returns : goal.returns
 returns g c =
     let reporter = g.B.LiveBoard.reporter in
@@ -70,7 +70,7 @@ returns g c =
       };
     }
 
--- a night that ends beside strangers says so
+-- what holds at the end of a night beside strangers
 pub returns-in_err-settled : goal.returns-in_err-settled
 returns-in_err-settled g c =
     let known = g.B.LiveBoard.reporter in
