@@ -71,7 +71,7 @@ def test_lines_of_c():
 @pytest.mark.quick
 def test_line_that_is_broken():
     """The change of one line that the README shows refused is a mutant, which the gate has refused."""
-    new, old = re.search(r"by `(\S+)` in\s+place\s+of\s+`(\S+)`", README).groups()
+    new, old = re.search(r"put\s+`(\S+)`\s+in\s+place\s+of\s+`(\S+)`", README).groups()
     edits = [text_of(path) for path in TOP.glob("crates/ucl_order/must-fail/*.edit")]
     assert [edit for edit in edits if f"file: src/order.rt\nold: for _round in {old} {{\nnew: for _round in {new} {{\n" in edit]
 
