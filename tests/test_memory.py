@@ -108,9 +108,10 @@ def test_a_thread_that_did_not_start_is_told_before_a_screen_without_memory(prog
 
 
 ROWS = "two_matches.csv", "screen,,,\nwords,,,\nmatches,,,\n"
+BAD_ROWS = "one_goal.csv", "1,1\n\n1,1,0,kickoff,\n\r1,1,0,kickoff\r\r\n1,2,0,kickoff\r3,4\n,\n" + "x" * 300 + "\n1,1,2,goal-away"
 MORE_ROWS = "one_goal.csv", "group,A,uefa,1\nclub,1,Echo,7\n1,1,0,kickoff\nscreen,,,\n1,1,0,kickoff\n"
 # Each run of a program with its input and its status, and how many lines of its output may be out where want of memory is told: in an evening the
-# clubs ask for memory, the screen, the words, the matches, a screen after an accepted event, and all in JSON.
+# clubs ask for memory, the screen, the words, the matches, a screen after an accepted event, and all in JSON. A line without quotes asks for none.
 RUNS = {
     "ucl_night --help": ([], 0, [0]),
     "ucl_night feed": (["two_matches.csv"], 0, [0]),
@@ -122,6 +123,7 @@ RUNS = {
     "ucl_live --help": ([], 0, [0]),
     "ucl_live --order none": ([], 2, [0]),
     "ucl_live": (ROWS, 0, [0, 10, 16, 28]),
+    "ucl_live --order uefa": (BAD_ROWS, 0, [0]),
     "ucl_live --screens": (ROWS, 0, [0, 7, 16, 23, 30, 37, 45, 52, 58, 70]),
     "ucl_live --format json": (ROWS, 0, range(13)),
     "ucl_live --format text": (MORE_ROWS, 0, [0, 5]),

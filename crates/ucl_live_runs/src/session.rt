@@ -127,8 +127,8 @@ impl LineHandler for Session {
 ///
 /// If the source fails, the answers before are out. If the sink fails, the error says how many bytes of the answers are out. If there is no
 /// memory for the answer to a line, those before it are out, whole. Memory is needed only for the names of clubs, for screens and matches,
-/// for each answer in JSON, and to read line 1 and a line that is no row of four fields without quotes. If the clubs have a fault, nothing
-/// is out. `TooLong` comes after more than 2^62 bytes, which no session has.
+/// for each answer in JSON, and to read a line with a quote. If the clubs have a fault, nothing is out. `TooLong` comes after more than 2^62
+/// bytes, which no session has.
 pub fn live_run<S: Source, W: Sink>(
     alloc: Global,
     options: LiveArgs,

@@ -38,9 +38,13 @@ of_rows [] = Nothing
 of_rows (row ∷ []) = of_row (four_of row)
 of_rows (row ∷ other ∷ rows) = Other
 
--- what the line with this number says, given with its line feed: at the start of line 1 a byte order mark is ignored
+-- the rows of the line with this number: at the start of line 1 a byte order mark is ignored
+abbrev pub rows_on : ℕ → List ℕ → List Fields
+rows_on row text = if row == 1 then rows_of text else records default_config text
+
+-- what the line with this number says, given with its line feed
 unfoldable pub said_by_text : ℕ → List ℕ → Said
-said_by_text row text = if fits text then of_rows (if row == 1 then rows_of text else records default_config text) else Other
+said_by_text row text = if fits text then of_rows (rows_on row text) else Other
 
 -- what the line with this number says, given without its line feed
 abbrev pub said_on : ℕ → List ℕ → Said

@@ -2,10 +2,11 @@
 //! end is not read, and counts as one of several rows. In contracts `said_on` is what a line says.
 
 ghost use Rattle.std.specs.Prelude.{◌≡◌, ◌+◌, ◌≤◌, ◌∷◌, [], ◌++◌, IfOk, IfSome, length, true};
+ghost use Rattle.csv.specs.Reading.{default_config, records};
 ghost use Rattle.ucl_screen.specs.Rows.{four_seen, rows_of};
 ghost use Rattle.ucl_rows.specs.Rows.{Row, fits, line_seen, of_rows, said_on};
 
-use crate::plain::plain_four;
+use crate::plain::{ends_length, has_no_quote, plain_four, unmarked};
 use arrayvec::ArrayVec;
 use csv::ByteRecord;
 use std::alloc::{AllocError, Global};
@@ -52,6 +53,22 @@ pub fn plain_row(row: u64, line: &[u8]) -> Option<Four<'_>>
     }
 }
 
+/// Returns what a text says, given without its line feed, `None` if it has no row; or `None` if it has a quote, so that `csv` has to read it.
+fn plain_text(text: &[u8]) -> Option<Option<RowFields<'_>>>
+    ensures { IfSome result (λ said.
+        line_seen said ≡ of_rows (records default_config (text.now ++ 10 ∷ []))) }
+{
+    let row = &text[ends_length(text)..];
+    if row.is_empty() {
+        return Some(None);
+    }
+    match plain_four(row) {
+        Some(four) => Some(Some(RowFields::Four(four))),
+        None if has_no_quote(row) => Some(Some(RowFields::Other)),
+        None => None,
+    }
+}
+
 /// Returns some bytes, and then a line with its line feed.
 fn fed(before: &[u8], line: &[u8]) -> ArrayVec<u8, 259>
     requires { length before.now + length line.now ≤ 258 }
@@ -90,18 +107,21 @@ fn read_text<'a>(
 ///
 /// # Errors
 ///
-/// If there is no memory.
+/// If there is no memory. Only a line with a quote needs any.
 #[tactic(auto, using(crate::proofs::PlainRows::rows_after_feed), unfolding(crate::specs::Rows::said_by_text))]
 pub fn read_row<'a>(
     alloc: Global,
     row: u64,
-    line: &[u8],
+    line: &'a [u8],
     record: &'a mut ByteRecord,
 ) -> Result<Option<RowFields<'a>>, AllocError>
     ensures { IfOk result (λ said. line_seen said ≡ said_on row line.now) }
 {
     if !fits(line) {
         return Ok(Some(RowFields::Other));
+    }
+    if let Some(said) = plain_text(unmarked(row, line)) {
+        return Ok(said);
     }
     if row == 1 {
         let text = fed(b"".as_slice(), line);
