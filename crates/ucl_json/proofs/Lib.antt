@@ -1,5 +1,6 @@
 pub mod Places
 pub mod OneLine
 pub mod Members
+pub mod MendedFlat
 pub mod PlainValues
 pub mod AnswerSizes

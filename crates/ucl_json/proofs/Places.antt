@@ -1,12 +1,13 @@
 -- Elements that are added one after the other, and answers that have no float and are not nested deep.
-use Rattle.std.proofs.Common.{List, [], ap, arith, codes, false, get_or, length, negsuc, pos, refl, take, ℕ, ℤ, ◌++◌, ◌+◌, ◌-ℤ◌, ◌<◌, ◌∙◌, ◌∷◌, ◌≡◌, ◌≤◌, ◌-◌}
+use Rattle.std.proofs.Common.{List, [], ap, arith, false, get_or, length, negsuc, pos, refl, take, ℕ, ℤ, ◌++◌, ◌+◌, ◌-ℤ◌, ◌<◌, ◌∙◌, ◌∷◌, ◌≡◌, ◌≤◌, ◌-◌}
 use Rattle.std.proofs.lemmas.List.{take_all, take_more}
 use Rattle.serde_json.specs.Data.{Data, Items, depth, item, items_depth, no_items, string}
 use Rattle.serde_json.specs.Find.{is_float, of_integer}
 use Rattle.serde_json.specs.Written.{has_float, items_have_float}
 use Rattle.serde_json.specs.View.{items_view, view}
 use Rattle.serde_json.specs.declared.value.Value.{Value}
-use Rattle.std.specs.Prelude.{None, Option, Some}
+use Rattle.std.specs.Prelude.{Err, None, Ok, Option, Result, Some}
+use Rattle.ucl_word.specs.declared.event.Accepted.{Accepted}
 use Rattle.ucl_word.specs.declared.record.MatchRecord.{MatchRecord}
 use Rattle.ucl_word.specs.declared.refusal.Refusal.{Refusal}
 use Rattle.ucl_word.specs.Names.{found_of, refusal_code, refusal_name}
@@ -18,10 +19,9 @@ use Rattle.ucl_order.specs.Rows.{rows_of}
 use Rattle.ucl_order.specs.Roster.{NamedClub}
 use Rattle.ucl_screen.specs.Numbers.{hex_digits}
 use Rattle.ucl_json.specs.declared.header.BoardHeader.{BoardHeader}
-use Rattle.ucl_json.specs.Values.{accepted_value, items_of, number_value, place_items, place_value, refused_by, refused_value, screen_value, word_items, words_value}
+use Rattle.ucl_json.specs.Values.{accepted_value, items_of, place_items, place_value, refused_by, reply_value, screen_value, word_items, words_value}
 use Rattle.ucl_json.specs.Values.{match_value, with_member, edition_screen_value, match_items, matches_value}
 use Rattle.ucl_json.specs.Lines.{IsFlat}
-use Rattle.ucl_json.specs.Mended.{mended_value}
 use Rattle.serde_json.proofs.OnLiterals.{serde_json_on_literals}
 use Rattle.ucl_board.specs.Fixtures.{match_numbers}
 use Rattle.ucl_screen.proofs.EventsInTurn.{match-numbered}
@@ -78,7 +78,7 @@ items-flat value_of n each (x ∷ xs) =
 pub words-flat : (words : List ℕ) → AreFlat (word_items words) 0
 words-flat words = items-flat (λ (word : ℕ). string (hex_digits word)) 0 (λ word. (refl, omega arith)) words
 
-words_value_flat : (row : ℕ) (ws : List ℕ) → IsFlat (words_value row ws)
+pub words_value_flat : (row : ℕ) (ws : List ℕ) → IsFlat (words_value row ws)
 words_value_flat row ws = let w = words-flat ws in record { whole = rw w.whole refl; shallow = omega (arith, w.shallow) }
 
 int-whole : (z : ℤ) → is_float (of_integer z) ≡ false
@@ -92,7 +92,7 @@ place-flat roster row = (rw (int-whole (pos row.goals_for -ℤ pos row.goals_aga
 pub places-flat : (roster : List NamedClub) (rows : List Row) → AreFlat (place_items roster rows) 1
 places-flat roster rows = items-flat (place_value roster) 1 (place-flat roster) rows
 
-screen_flat : (row : ℕ) (profile : Profile) (board : List ℕ) (roster : List NamedClub) (group : ℕ) → IsFlat (screen_value row profile board roster group)
+pub screen_flat : (row : ℕ) (profile : Profile) (board : List ℕ) (roster : List NamedClub) (group : ℕ) → IsFlat (screen_value row profile board roster group)
 unfolding screen_value
 screen_flat row profile board roster group =
     let p = places-flat roster (rows_of profile board roster) in
@@ -103,35 +103,24 @@ unfolding serde_json_on_literals
 refused-flat row event code name None m = record { whole = refl; shallow = omega arith }
 refused-flat row event code name (Some found) m = record { whole = refl; shallow = omega arith }
 
-accepted_flat : (row : ℕ) (event : NightEvent) (n : ℕ) (header : BoardHeader) (board : List ℕ) (roster : List NamedClub) → IsFlat (accepted_value row event n header board roster)
+pub reply_flat : (row : ℕ) (event : NightEvent) (reply : Result Accepted Refusal) (header : BoardHeader) (board : List ℕ) (roster : List NamedClub)
+    → IsFlat (reply_value row event reply header board roster)
 unfolding accepted_value
-accepted_flat row event n header board roster = let w = words-flat board in record { whole = rw w.whole refl; shallow = omega (arith, w.shallow) }
-
-refused_flat : (row : ℕ) (event : NightEvent) (refusal : Refusal) (m : MatchRecord) → IsFlat (refused_value row event refusal m)
-refused_flat row event refusal m = refused-flat row event (refusal_code refusal) (refusal_name refusal) (found_of refusal) m
+reply_flat row event (Ok accepted) header board roster = let w = words-flat board in record { whole = rw w.whole refl; shallow = omega (arith, w.shallow) }
+reply_flat row event (Err refusal) header board roster =
+    refused-flat row event (refusal_code refusal) (refusal_name refusal) (found_of refusal) (game_at board event.call.game)
 
 games-flat : (board games : List ℕ) → AreFlat (match_items board games) 2
 games-flat board games = items-flat (λ (g : ℕ). match_value g (game_at board g)) 2 (λ g. (refl, omega arith)) games
 
-matches_flat : (row : ℕ) (board : List ℕ) (roster : List NamedClub) → IsFlat (matches_value row board roster)
+pub matches_flat : (row : ℕ) (board : List ℕ) (roster : List NamedClub) → IsFlat (matches_value row board roster)
 unfolding matches_value
 matches_flat row board roster = let m = games-flat board match_numbers in record { whole = rw m.whole refl; shallow = omega (arith, m.shallow) }
 
 -- and the screen with them
-edition_flat : (row : ℕ) (header : BoardHeader) (board : List ℕ) (roster : List NamedClub) → IsFlat (edition_screen_value row header board roster)
+pub edition_flat : (row : ℕ) (header : BoardHeader) (board : List ℕ) (roster : List NamedClub) → IsFlat (edition_screen_value row header board roster)
 unfolding edition_screen_value screen_value serde_json_on_literals
 edition_flat row header board roster =
     let p = places-flat roster (rows_of header.profile board roster) in
     let w = words-flat board in
     let m = games-flat board match_numbers in record { whole = rw (p.whole, w.whole, m.whole) refl; shallow = omega (arith, p.shallow, w.shallow, m.shallow) }
-
-mended_flat : (row left_out : ℕ) (header : BoardHeader) (board : List ℕ) (roster : List NamedClub) → IsFlat (mended_value row left_out header board roster)
-unfolding mended_value
-mended_flat row left_out header board roster = let w = words-flat board in record { whole = rw w.whole refl; shallow = omega (arith, w.shallow) }
-
-named_flat : (n row left_out : ℕ) (header : BoardHeader) (board : List ℕ) (roster : List NamedClub)
-    → IsFlat (with_member (codes "without") (number_value n) (mended_value row left_out header board roster))
-unfolding mended_value serde_json_on_literals
-named_flat n row left_out header board roster = let w = words-flat board in record { whole = rw w.whole refl; shallow = omega (arith, w.shallow) }
-
-pub ruleset flat = (accepted_flat, edition_flat, matches_flat, mended_flat, named_flat, refused_flat, screen_flat, words_value_flat)

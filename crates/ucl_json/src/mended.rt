@@ -99,7 +99,6 @@ fn mended_value(alloc: Global, reply: &MendReply<'_>) -> Result<Value, AllocErro
 /// # Errors
 ///
 /// If there is no memory.
-#[tactic(auto, using(crate::proofs::Places::flat))]
 pub fn mended_json(alloc: Global, reply: &MendReply<'_>) -> Result<String, AllocError>
     requires { IsGroup reply.now.header.group }
     ensures { IfOk result (λ line. IsLineOf (mended_with reply.now.without

@@ -114,7 +114,6 @@ fn refused_value(
 /// # Errors
 ///
 /// If there is no memory.
-#[tactic(auto, using(crate::proofs::Places::flat))]
 pub fn reply_json(alloc: Global, reply: &EventReply<'_>) -> Result<String, AllocError>
     requires { IsGroup reply.now.header.group }
     ensures { IfOk result (λ line. IsLineOf (reply_value reply.now.row reply.now.event.now
@@ -169,7 +168,6 @@ fn words_value(alloc: Global, row: u64, board: &Board) -> Result<Value, AllocErr
 /// # Errors
 ///
 /// If there is no memory.
-#[tactic(auto, using(crate::proofs::Places::flat))]
 pub fn words_json(alloc: Global, row: u64, board: &Board) -> Result<String, AllocError>
     ensures { IfOk result (λ line. IsLineOf (words_value row board.now) (string_bytes line)) }
 {
@@ -197,7 +195,6 @@ fn matches_value(
 /// # Errors
 ///
 /// If there is no memory.
-#[tactic(auto, using(crate::proofs::Places::flat))]
 pub fn matches_json(
     alloc: Global,
     row: u64,

@@ -105,7 +105,6 @@ fn screen_value(
 /// # Errors
 ///
 /// If there is no memory.
-#[tactic(auto, using(crate::proofs::Places::flat))]
 pub fn screen_json(
     alloc: Global,
     row: u64,
@@ -147,7 +146,6 @@ fn edition_screen_value(
 /// # Errors
 ///
 /// If there is no memory.
-#[tactic(auto, using(crate::proofs::Places::flat))]
 pub fn edition_screen_json(
     alloc: Global,
     row: u64,

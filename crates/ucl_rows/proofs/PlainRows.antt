@@ -309,9 +309,11 @@ not_last text at all stops some plain = elim (cases_lt at (length text)) [
           let end = ends-line b j q o in
           let rest : list_all is_line_end tail ≡ false = list_all-append is_line_end (drop (at + 1) text) (10 ∷ []) ∙ rw (rw end at more) refl in
           record {
-            other = λ fields three.
-                ((fields ++ xs ∷ [], after_end term.CRLF b, tail), field-read xs (b ∷ tail) fields all ∙ row-ends xs tail b fields end,
-                  inr (follows (after_end term.CRLF b) tail (between b) quoteless rest));
+            other = λ fields three. (
+              (fields ++ xs ∷ [], after_end term.CRLF b, tail),
+              field-read xs (b ∷ tail) fields all ∙ row-ends xs tail b fields end,
+              inr (follows (after_end term.CRLF b) tail (between b) quoteless rest),
+            );
           }
     ]
 
