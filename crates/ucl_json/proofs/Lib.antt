@@ -4,3 +4,4 @@ pub mod Members
 pub mod MendedFlat
 pub mod PlainValues
 pub mod AnswerSizes
+pub mod ScreenLength

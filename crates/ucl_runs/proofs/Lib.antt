@@ -3,4 +3,5 @@ pub mod Elements
 pub mod RunFacts
 pub mod EnteredRows
 pub mod Merges
+pub mod NightLength
 pub mod NightOutput

@@ -12,10 +12,11 @@ use Rattle.ucl_runs.specs.Feed.{feed_text}
 use Rattle.ucl_rows.specs.declared.fault.RunFault.TheVariants.{WriteFailed, Input, NotOnDuty, OutOfMemory}
 use Rattle.ucl_rows.specs.Faults.{handed_on}
 use Rattle.ucl_io.specs.Output.{StoppedShort}
+use Rattle.ucl_io.specs.Stream.{WroteFirst}
 use Rattle.ucl_rows.specs.Run.{CallsWithin, DistinguishesMemory, IfInput, IfWriteFailed, is_read_failed}
 use Rattle.ucl_runs.specs.Nights.{IsDutyTold, IsFirstOffDuty, IsWhyNoNight}
 use Rattle.ucl_runs.specs.Program.{IsFaultOfNight, IsOfScript, IsOutputOfNight, IsPlayed, IsRun, Streams, Task, night_task}
-use Rattle.std.proofs.Common.{take_all, length-take-le}
+use Rattle.std.proofs.Common.{take_all, length-take-le, min, ◌^◌}
 use Rattle.std.proofs.lemmas.List.Elements.{All-more}
 use Rattle.std.specs.List.Sorted.{IsNonDecreasing}
 use Rattle.std.proofs.lemmas.List.Sorted.{IsNonDecreasingBy-push}
@@ -36,18 +37,28 @@ pub shown : (profile : Profile) (known : Option (List ℕ)) (group : ℕ) (sheet
 shown profile None group sheet text means is = tt
 shown profile (Some bytes) group sheet text means is = record { sheet = sheet; means = means; text_is = is }
 
-text-has : (CallsFor : List ℕ → List ℕ → Type 0) (known : Option (List ℕ)) (text : List ℕ) (P : List ℕ → Type 0) → IfSome known (λ bytes. CallsFor bytes text) → P text → TextHas CallsFor known P
+text-has : (CallsFor : List ℕ → List ℕ → Type 0) (known : Option (List ℕ)) (text : List ℕ) (P : List ℕ → Type 0) → IfSome known (λ bytes. CallsFor bytes text)
+    → ((bytes : List ℕ) → CallsFor bytes text → P text) → TextHas CallsFor known P
 text-has CallsFor None text P is h = tt
-text-has CallsFor (Some bytes) text P is h = (text, is, h)
+text-has CallsFor (Some bytes) text P is h = (text, is, h bytes is)
+
+-- of a text of less than 2^64 bytes those that went out are counted exactly
+exact : (failed : Bool) (old new : Option (List ℕ)) (text : List ℕ) (written : ℕ) → length text < 2 ^ 64 → StoppedShort 0 failed old new text written → WroteFirst old new written text
+exact failed old new text written short s =
+    let cut = s.first.cut in
+    let told = s.told in
+    let same : written ≡ s.count = omega arith in
+    rw same s.first
 
 module _ {W : Type 0} (known : writes.Ghosts W) (task : Task) (before after : Streams W) (calls : CallsWithin before.calls after.calls) where
   -- the text was written, or the output failed within it
   pub wrote : (text : List ℕ) (r : Result ⊤ RunFault) → after.read_failed ≡ false → IfSome before.left (λ bytes. task.calls_for bytes text)
+      → ((bytes : List ℕ) → task.calls_for bytes text → length text < 2 ^ 64)
       → ((written : ℕ) → task.may_fail before.left (WriteFailed written)) → OnOk r (Appends (known.taken before.sink) (known.taken after.sink) text)
       → IfErr r (IsStopped 0 (known.failed after.sink) (known.taken before.sink) (known.taken after.sink) text)
       → OnOk r (known.failed after.sink ≡ known.failed before.sink) → IsRun known task before after r
-  wrote text (Ok done) reads is may out part sound = record {
-    text = text-has task.calls_for before.left text (Appends (known.taken before.sink) (known.taken after.sink)) is out;
+  wrote text (Ok done) reads is short may out part sound = record {
+    text = text-has task.calls_for before.left text (Appends (known.taken before.sink) (known.taken after.sink)) is (λ bytes called. out);
     kinds = tt;
     input = tt;
     unwritten = tt;
@@ -58,7 +69,7 @@ module _ {W : Type 0} (known : writes.Ghosts W) (task : Task) (before after : St
     sound = sound;
     calls = calls;
   }
-  wrote text (Err (WriteFailed written)) reads is may out part sound = record {
+  wrote text (Err (WriteFailed written)) reads is short may out part sound = record {
     text = tt;
     kinds = may written;
     input = tt;
@@ -66,11 +77,12 @@ module _ {W : Type 0} (known : writes.Ghosts W) (task : Task) (before after : St
     memory = λ bad. absurd (cc);
     read_failed = reads;
     write_failed = part.failed_is;
-    written = text-has task.calls_for before.left text (λ t. StoppedShort 0 (known.failed after.sink) (known.taken before.sink) (known.taken after.sink) t written) is part;
+    written = text-has task.calls_for before.left text (WroteFirst (known.taken before.sink) (known.taken after.sink) written) is
+        (λ bytes called. exact (known.failed after.sink) (known.taken before.sink) (known.taken after.sink) text written (short bytes called) part);
     sound = tt;
     calls = calls;
   }
-  wrote _ _ _ _ _ _ part _ = absurd part
+  wrote _ _ _ _ _ _ _ part _ = absurd part
 
   -- nothing was written
   pub stopped : (f : RunFault) → IfWriteFailed f (λ _. ⊥) → after.sink ≡ before.sink → after.read_failed ≡ is_read_failed {U = ⊤} (Err f) → task.may_fail before.left f

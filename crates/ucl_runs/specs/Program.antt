@@ -23,7 +23,7 @@ use Rattle.ucl_runs.specs.Feed.{IsFed}
 use Rattle.ucl_runs.specs.Show.{IsShown, Style, styled, styled_screen}
 use Rattle.ucl_live_board.specs.declared.live_board.LiveBoard as boards
 use Rattle.ucl_runs.specs.Nights.{EachMatchHasOneReporter, IsFirstOffDuty, IsInterleaving, IsOnDuty, IsWhyNoNight, night_board, night_text}
-use Rattle.ucl_io.specs.Output.{StoppedShort}
+use Rattle.ucl_io.specs.Stream.{WroteFirst}
 use Rattle.ucl_rows.specs.Run.{BlamesOutput, CallsWithin, IfInput, IfWriteFailed, DistinguishesMemory, TextHas, WritesAll, WritesNothing, is_read_failed}
 
 -- What a run promises. --
@@ -59,8 +59,8 @@ pub record IsRun {W : Type 0} (known : writes.Ghosts W) (task : Task) (before af
   -- a failed read is reported exactly if the source has failed, and a failed write only if the sink has
   pub read_failed : after.read_failed ≡ is_read_failed result
   pub write_failed : BlamesOutput (known.failed after.sink) result
-  pub written : IfErr result (λ f. IfWriteFailed f (λ count. TextHas task.calls_for before.left
-      (λ text. StoppedShort 0 (known.failed after.sink) (known.taken before.sink) (known.taken after.sink) text count)))
+  -- a write that failed has the number of bytes of the text that went out
+  pub written : IfErr result (λ f. IfWriteFailed f (λ count. TextHas task.calls_for before.left (WroteFirst (known.taken before.sink) (known.taken after.sink) count)))
   -- a run that ends well has not made the sink fail
   pub sound : OnOk result (known.failed after.sink ≡ known.failed before.sink)
   -- the source is called at most as often as the longest input has bytes, and two times more

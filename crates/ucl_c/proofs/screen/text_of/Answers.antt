@@ -1,6 +1,6 @@
 use Rattle.ucl_c.specs.Tables.{clubs_handed}
 use Rattle.ucl_c.proofs.Boards.{good-roster}
-use Rattle.ucl_c.proofs.ScreenLength.{line_short, screen_short}
+use Rattle.ucl_json.proofs.ScreenLength.{line_short, screen_short}
 use Rattle.ucl_c.proofs.screen.text_of.Goals as goal
 
 pub returns-in_ok-screen_json-in-Some-clause-short : goal.returns-in_ok-screen_json-in-Some-clause-short

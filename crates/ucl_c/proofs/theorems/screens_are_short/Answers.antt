@@ -1,4 +1,4 @@
-use Rattle.ucl_c.proofs.ScreenLength.{line_short, screen_short}
+use Rattle.ucl_json.proofs.ScreenLength.{line_short, screen_short}
 use Rattle.ucl_c.proofs.theorems.screens_are_short.Goals as goal
 
 pub returns : goal.returns

@@ -1,4 +1,4 @@
-use Rattle.ucl_runs.proofs.Common.{MeansNight, err_from_is_err_and, night_seen, refl, ◌∙◌}
+use Rattle.ucl_runs.proofs.Common.{MeansNight, arith, err_from_is_err_and, night_seen, refl, ◌∙◌}
 use Rattle.ucl_rows.specs.declared.fault.RunFault.TheVariants.{OutOfMemory}
 use Rattle.ucl_runs.proofs.RunFacts.{fed, refused, stopped, wrote}
 use Rattle.ucl_runs.specs.Program.{feed_task}
@@ -21,5 +21,5 @@ returns g c =
     let known = g.S.Source.left c.args.source.now in
     let text = rw c.deref.ensures.value at c.in_ok-text.ensures in
     let is = fed known (night_seen c.in_ok-night.night) c.as_slice.result.now c.in_ok-night.ensures.reads.1 (c.as_slice.ensures.value ∙ text) in
-    wrote g.W.Sink feed_task _ _ c.in_ok-night.ensures.calls c.as_slice.result.now c.put_text.result c.in_ok-night.ensures.reads.0 is (λ written. tt) c.put_text.ensures.all
-    c.put_text.ensures.part c.put_text.ensures.sound
+    wrote g.W.Sink feed_task _ _ c.in_ok-night.ensures.calls c.as_slice.result.now c.put_text.result c.in_ok-night.ensures.reads.0 is
+    (λ bytes called. omega arith) (λ written. tt) c.put_text.ensures.all c.put_text.ensures.part c.put_text.ensures.sound

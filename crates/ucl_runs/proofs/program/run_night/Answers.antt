@@ -2,6 +2,7 @@ use Rattle.ucl_runs.proofs.Common.{All, Err, IsOnDuty, MeansNight, night_seen, r
 use Rattle.ucl_rows.specs.declared.fault.RunFault.TheVariants.{OutOfMemory}
 use Rattle.ucl_runs.specs.Nights.{night_output}
 use Rattle.ucl_runs.specs.Program.{night_task}
+use Rattle.ucl_runs.proofs.NightLength.{played_fits}
 use Rattle.ucl_runs.proofs.RunFacts.{failed_night, played, refused, scripted, stopped, wrote}
 use Rattle.ucl_runs.proofs.program.run_night.Goals as goal
 
@@ -35,6 +36,7 @@ returns-in-Ok-play g c =
     let is = played c.args.profile c.args.group c.args.readings known night text read.reads.1 c.in-Ok-play.ensures in (
       c.put_night.result,
       wrote g.W.Sink (night_task g.B.LiveBoard opens c.args.profile c.args.group c.args.readings) _ _ read.calls text c.put_night.result read.reads.0 is
+          (λ bytes called. played_fits c.args.profile c.args.group c.args.readings bytes text called)
           (λ written. scripted known night (All IsOnDuty) read.reads.1 c.in-Ok-play.ensures.duty) put.all put.part put.sound,
       c.ended-in-Ok-play.ensures,
     )

@@ -1,4 +1,4 @@
-use Rattle.ucl_runs.proofs.Common.{err_from_is_err_and, refl, ◌∙◌}
+use Rattle.ucl_runs.proofs.Common.{arith, err_from_is_err_and, refl, ◌∙◌}
 use Rattle.ucl_screen.specs.Parsing.{MeansSheet, sheet_seen}
 use Rattle.ucl_rows.specs.declared.fault.RunFault.TheVariants.{OutOfMemory}
 use Rattle.ucl_runs.proofs.RunFacts.{refused, shown, stopped, wrote}
@@ -22,5 +22,6 @@ returns g c =
     let known = g.S.Source.left c.args.source.now in
     let is = shown c.args.profile known c.args.group (sheet_seen c.in_ok-sheet.sheet) c.as_bytes.result.now
     c.in_ok-sheet.ensures.reads.1 (c.as_bytes.ensures.value ∙ c.in_ok-text.ensures) in
-    wrote g.W.Sink (show_task c.args.profile c.args.group) _ _ c.in_ok-sheet.ensures.calls c.as_bytes.result.now c.put_text.result c.in_ok-sheet.ensures.reads.0 is (λ written. tt)
+    wrote g.W.Sink (show_task c.args.profile c.args.group) _ _ c.in_ok-sheet.ensures.calls c.as_bytes.result.now c.put_text.result c.in_ok-sheet.ensures.reads.0 is
+    (λ bytes called. omega arith) (λ written. tt)
     c.put_text.ensures.all c.put_text.ensures.part c.put_text.ensures.sound
