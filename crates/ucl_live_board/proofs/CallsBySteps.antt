@@ -2,9 +2,8 @@
 use Rattle.ucl_live_board.proofs.Common.{◌≡◌, ℕ, ◌+◌, ◌≤◌, List, ◌∷◌, ◌++◌, length, refl, sym, ap, ◌∙◌, arith, le_refl, true≢false, true, length-append}
 use Rattle.ucl_live_board.proofs.Common.{append-nil, append_assoc, [], Result, Ok, Err, is_ok, IfOk, max_version, Target, Taken, added_by, number_of}
 use Rattle.ucl_live_board.proofs.Common.{history_of, enlisted_by, begins_same, IsPrefix, begins_through, View, PassView, IsSound, AcceptedReport}
-use Rattle.ucl_live_board.proofs.Common.{pass_view_by, count_of, Takes, left_pass, second_pass, IsOnEnlisted, EnlistSteps, Entry, SeesOn, Continues, Meeting}
+use Rattle.ucl_live_board.proofs.Common.{pass_view_by, count_of, Takes, left_pass, second_pass, Entry, SeesOn, Continues, Meeting}
 use Rattle.ucl_live_board.proofs.Common.{All-head, All-tail, note_pass, told_pass}
-use Rattle.std.specs.List.{AllByRecursion}
 use Rattle.ucl_word.specs.declared.event.EventCall.{EventCall}
 use Rattle.ucl_word.specs.declared.event.Accepted.{Accepted}
 use Rattle.ucl_word.specs.declared.refusal.Refusal.{Refusal}
@@ -67,14 +66,6 @@ module _ (shown : List Taken → List ℕ) where
       mine = sees.mine;
       shown = same;
     }
-
-pub all_more : {X : Type 0} (P : X → Type 0) (xs : List X) (x : X) → AllByRecursion P xs → P x → AllByRecursion P (xs ++ x ∷ [])
-all_more P [] x all one = (one, tt)
-all_more P (y ∷ xs) x all one = (all.0, all_more P xs x all.1 one)
-
--- one step more on the number of the enlisted
-pub one_more : (v w u : View) (x : Taken) → EnlistSteps v w → IsOnEnlisted x → Takes w (x ∷ []) u → EnlistSteps v u
-one_more v w u x s on t = record { steps = s.steps ++ x ∷ []; takes = takes_on v w u s.steps (x ∷ []) s.takes t; on_enlisted = all_more IsOnEnlisted s.steps x s.on_enlisted on }
 
 pub sound_second : (shown : List Taken → List ℕ) (v : View) → IsSound (pass_view_by shown v) → IsSound (pass_view_by shown (second_pass v))
 sound_second shown v s = search (arith, none_by_zero, half_acts, half_not_whole)

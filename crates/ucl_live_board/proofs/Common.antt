@@ -9,11 +9,10 @@ pub use Rattle.std.proofs.lemmas.List.Elements.{All-append, All-cons, All-head, 
 pub use Rattle.std.specs.Prelude.{All, Err, IfOk, IsSome, Option, IsTrue, None, Ok, Result, Some, filter, is_ok, not, ◌&&◌}
 pub use Rattle.ucl_board.proofs.HistoryTheorems.{begins_length, begins_more, begins_none, begins_same, begins_take, begins_through}
 pub use Rattle.ucl_board.specs.History.{IsLegal, MayFollow, followed_by}
-pub use Rattle.ucl_board.specs.Log.{Enlisted, Enlists, IsLegalRule, IsLog, IsThere, Log, Logged, Match, MayBeTaken, Taken, Target, added_by, enlisted_by}
+pub use Rattle.ucl_board.specs.Log.{Enlists, IsLegalRule, IsLog, IsThere, Log, Logged, MayBeTaken, Taken, Target, added_by, enlisted_by}
 pub use Rattle.ucl_board.specs.Log.{enlists, entry_list, history_of, logged_by, number_by, number_of, step_taken, taken_by}
 pub use Rattle.ucl_board.specs.Words.{max_version}
 pub use Rattle.ucl_board.specs.declared.entry.Entry.{Entry}
-pub use Rattle.ucl_live_board.specs.CallSteps.{EnlistSteps, IsOnEnlisted}
 pub use Rattle.ucl_live_board.specs.BoardInvariant.{BoardsOpenFresh, DidAllAlone, ViewInvariant, HoldersDidAll, IsHeld, BoardInvariant, LastStepsSeeAll, Covers}
 pub use Rattle.ucl_live_board.specs.BoardInvariant.{NumbersAreApart, StepsComeLast, WholeIsAlone}
 pub use Rattle.ucl_live_board.specs.Passes.{AcceptedReport, Continues, IsSound, Meeting, PassView, SeesOn, SharedReading, entries_by}

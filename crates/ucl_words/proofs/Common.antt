@@ -1,5 +1,5 @@
 -- The words and lemmas from elsewhere that the proofs of this crate share.
-pub use Rattle.atomic_table.proofs.Lists.{at_last, at_longer, exchanged, set_else, set_here}
+pub use Rattle.atomic_table.proofs.Lists.{at_longer, exchanged, set_else, set_here}
 pub use Rattle.atomic_table.specs.Table.{Allows, Joins, Me, Splits, State, Valid, carried_after, keeps, opening, step, stepped}
 pub use Rattle.std.proofs.Common.{Bool, List, None, Option, Some, [], ap, append-nil, append_assoc, arith, cond, eq-eqb, false, get_or}
 pub use Rattle.std.proofs.Common.{get_or-set_same, inl, inr, le_refl, length, length-append, length-set, map, ne_eqb, refl, rules, set}

@@ -5,16 +5,16 @@ use Rattle.ucl_words.proofs.Common.{Follows, GivesNumber, GoesOn, HasTrail, Hold
 use Rattle.ucl_words.proofs.Common.{IsPrefix, IsReporter, IsSome, IsThere, IsWord, Joins, List, Look, LookStep, Match, MatchRecord, subst}
 use Rattle.ucl_words.proofs.Common.{MayBeTaken, MayFollow, Me, NoCall, None, OccurAfterSplit, Occurs, Option, Pending, Second, SecondStep}
 use Rattle.ucl_words.proofs.Common.{Sees, Some, Splits, State, Steps, Swap, TableInvariant, Taken, Takes, Target, Valid, View, Walks}
-use Rattle.ucl_words.proofs.Common.{access, accesses_append, accesses_in, adds, after, append-nil, append_assoc, arith, at_last}
-use Rattle.ucl_words.proofs.Common.{at_longer, attempted, begins_length, begins_same, begins_through, board_next, board_of, calls_low}
+use Rattle.ucl_words.proofs.Common.{access, accesses_append, accesses_in, adds, after, append-nil, append_assoc, arith}
+use Rattle.ucl_words.proofs.Common.{attempted, begins_length, begins_same, begins_through, board_next, board_of, calls_low}
 use Rattle.ucl_words.proofs.Common.{carried_after, client_at, client_number, client_of, cond, count_none, either, enlist_none, enlisted}
 use Rattle.ucl_words.proofs.Common.{enlisted_by, entry_by, entry_of, eq-eqb, exchanged, first_none, first_pass, flat_map, fold-append}
 use Rattle.ucl_words.proofs.Common.{follows_append, follows_longer, follows_one, follows_wider, get_elem?, get_or, history_of, joins_keep}
 use Rattle.ucl_words.proofs.Common.{keeps, le_refl, left_pass, legal_steps, length, length-append, logged_by, logs_legal, logs_sound}
 use Rattle.ucl_words.proofs.Common.{look_none, map, map-append, match_after, match_valid, may_attempt, ne_eqb, new_client, new_pass}
 use Rattle.ucl_words.proofs.Common.{next_game, note_pass, notes_keep, number_of, opening, opens_keep, outcome, own_is, pass_view_of}
-use Rattle.ucl_words.proofs.Common.{place_below, read_back, record_at, refl, refusal_of, second_none, second_pass, seconds_keep, sees, set}
-use Rattle.ucl_words.proofs.Common.{set-get_or, set_here, some, sound, step, step_keeps, step_taken, step_tells, stepped, stepped_to}
+use Rattle.ucl_words.proofs.Common.{read_back, record_at, refl, refusal_of, second_none, second_pass, seconds_keep, sees, set}
+use Rattle.ucl_words.proofs.Common.{set-get_or, some, sound, step, step_keeps, step_taken, step_tells, stepped, stepped_to}
 use Rattle.ucl_words.proofs.Common.{steps_with, sym, takes_count, takes_none, takes_on, there_before, told_pass, trail_of}
 use Rattle.ucl_words.proofs.Common.{version_in, versions_by, versions_shown, with_step, with_target, word_after, word_of, words_after}
 use Rattle.ucl_words.proofs.Common.{words_enlisted, words_entered, words_stay, ◌++◌, ◌+◌, ◌-◌, ◌<◌, ◌==◌, ◌∙◌, ◌∷◌, ◌≡◌, ◌≢◌, ◌≤◌, ℕ}
