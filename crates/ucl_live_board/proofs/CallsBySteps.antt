@@ -1,16 +1,12 @@
 -- What a call leaves after its steps, on any shared board.
-use Rattle.ucl_live_board.proofs.Common.{◌≡◌, ℕ, ◌+◌, ◌≤◌, List, ◌∷◌, ◌++◌, length, refl, sym, ap, ◌∙◌, arith, le_refl, true≢false, true, length-append}
-use Rattle.ucl_live_board.proofs.Common.{append-nil, append_assoc, [], Result, Ok, Err, is_ok, IfOk, max_version, Target, Taken, added_by, number_of}
-use Rattle.ucl_live_board.proofs.Common.{history_of, enlisted_by, begins_same, IsPrefix, begins_through, View, PassView, IsSound, AcceptedReport}
-use Rattle.ucl_live_board.proofs.Common.{pass_view_by, count_of, Takes, left_pass, second_pass, IsOnEnlisted, EnlistSteps, Entry, SeesOn, Continues, Meeting}
-use Rattle.ucl_live_board.proofs.Common.{All-head, All-tail, note_pass, told_pass}
-use Rattle.std.specs.List.{AllByRecursion}
-use Rattle.ucl_word.specs.declared.event.EventCall.{EventCall}
-use Rattle.ucl_word.specs.declared.event.Accepted.{Accepted}
-use Rattle.ucl_word.specs.declared.refusal.Refusal.{Refusal}
-use Rattle.ucl_live_board.proofs.Lists.{none_by_zero, few_mine}
+use Rattle.ucl_live_board.proofs.Common.{◌≡◌, ℕ, ◌+◌, ◌≤◌, List, ◌∷◌, ◌++◌, length, refl, sym, ap, ◌∙◌, arith, le_refl, length-append, append-nil, append_assoc}
+use Rattle.ucl_live_board.proofs.Common.{[], Target, Taken, added_by, number_of, history_of, enlisted_by, begins_same, IsPrefix, begins_through, View, IsSound}
+use Rattle.ucl_live_board.proofs.Common.{pass_view_by, count_of, Takes, left_pass, second_pass, Entry, SeesOn, Continues, All-head, All-tail, note_pass}
+use Rattle.ucl_live_board.proofs.Common.{told_pass}
+use Rattle.ucl_live_board.proofs.Lists.{none_by_zero}
 use Rattle.ucl_live_board.proofs.Halves.{half_acts, half_not_whole}
 use Rattle.ucl_board.proofs.Logs.{history_on, enlisted_on}
+use Rattle.ucl_live_board.specs.LiveRecords.{LiveMet}
 use Rattle.ucl_live_board.specs.Passes.{Enlistment}
 use Rattle.ucl_live_board.proofs.StepFacts.{Goes, Sees, Adds, GivesNumber, sound}
 
@@ -61,29 +57,21 @@ module _ (shown : List Taken → List ℕ) where
     pub hears : Stays v w
     hears = record { seen = history_on v.log w.log first; listed = enlisted_on v.log w.log first; share = sees.goes.share; mine = sees.mine; number = sees.number }
 
-    pub meets : shown w.own ≡ shown v.own → Meeting (pass_view_by shown a) (pass_view_by shown v) (pass_view_by shown w)
-    meets same = record {
-      met = history_on a.log w.log (All-head (λ l. IsPrefix l w.log) a.log v.told (All-tail (λ l. IsPrefix l w.log) v.log (a.log ∷ v.told) sees.goes.heard));
-      mine = sees.mine;
-      shown = same;
+    pub meets : (b : View) → b ≡ a → IsSound (pass_view_by shown a) → shown w.own ≡ shown v.own
+        → LiveMet (pass_view_by shown a) (pass_view_by shown b) (pass_view_by shown v) (pass_view_by shown w)
+    meets b unchanged first_sound same = record {
+      sound = first_sound;
+      always = stays_continue v (told_pass v (note_pass a)) w hears sees.goes;
+      unchanged = ap (λ (u : View). pass_view_by shown u) unchanged;
+      meeting = record {
+        met = history_on a.log w.log (All-head (λ l. IsPrefix l w.log) a.log v.told (All-tail (λ l. IsPrefix l w.log) v.log (a.log ∷ v.told) sees.goes.heard));
+        mine = sees.mine;
+        shown = same;
+      };
     }
-
-pub all_more : {X : Type 0} (P : X → Type 0) (xs : List X) (x : X) → AllByRecursion P xs → P x → AllByRecursion P (xs ++ x ∷ [])
-all_more P [] x all one = (one, tt)
-all_more P (y ∷ xs) x all one = (all.0, all_more P xs x all.1 one)
-
--- one step more on the number of the enlisted
-pub one_more : (v w u : View) (x : Taken) → EnlistSteps v w → IsOnEnlisted x → Takes w (x ∷ []) u → EnlistSteps v u
-one_more v w u x s on t = record { steps = s.steps ++ x ∷ []; takes = takes_on v w u s.steps (x ∷ []) s.takes t; on_enlisted = all_more IsOnEnlisted s.steps x s.on_enlisted on }
 
 pub sound_second : (shown : List Taken → List ℕ) (v : View) → IsSound (pass_view_by shown v) → IsSound (pass_view_by shown (second_pass v))
 sound_second shown v s = search (arith, none_by_zero, half_acts, half_not_whole)
 
 pub sound_left : (shown : List Taken → List ℕ) (v : View) → IsSound (pass_view_by shown v) → IsSound (pass_view_by shown (left_pass v))
 sound_left shown v s = search (arith, half_acts, half_not_whole)
-
--- the count of accepted events has room for one more
-pub room : (k m : PassView) (call : EventCall) (r : Result Accepted Refusal) (n : ℕ) → IfOk r (λ reply. AcceptedReport k call reply m) → is_ok r ≡ true → IsSound m → length k.mine ≡ n
-    → n + 1 ≤ max_version
-room k m call (Ok reply) n a is s len = search (arith, few_mine m s, length-append)
-room k m call (Err why) n a is s len = absurd (true≢false (sym is))

@@ -2,7 +2,7 @@
 use Rattle.ucl_live_board.proofs.Common.{◌≡◌, ◌≢◌, ◌⊎◌, inl, inr, ℕ, zero, suc, ◌+◌, ◌<◌, Bool, true, false, cond, List, ◌∷◌, ◌++◌, length, set, None, refl}
 use Rattle.ucl_live_board.proofs.Common.{sym, ap, ◌∙◌, subst, arith, [], length-append, length-set, All, All-cons, All-nil, All-append, IsSome, IsPrefix}
 use Rattle.ucl_live_board.proofs.Common.{nat_lt, ltb-true, begins_same, begins_through, some, some-injective, some-ne-none, get_elem?, at_set, set_here}
-use Rattle.ucl_live_board.proofs.Common.{may_none, Entry, Target, Taken, Logged, logged_by, Log, taken_by, entry_list, history_of, enlists, enlisted_by}
+use Rattle.ucl_live_board.proofs.Common.{may_none, Entry, Taken, Logged, logged_by, Log, taken_by, entry_list, history_of, enlists, enlisted_by}
 use Rattle.ucl_live_board.proofs.Common.{MayBeTaken, View, Share, Overlap, new_pass, first_pass, left_pass, second_pass, note_pass, told_pass, ViewInvariant}
 use Rattle.ucl_live_board.proofs.Common.{BoardInvariant, BoardStep, stepped_to}
 use Rattle.atomic_table.proofs.Lists as lists
@@ -161,29 +161,32 @@ module _ (words_after : List Entry → ℕ → List ℕ) (May : Log → Logged �
           shared = apart_kept views seat v here r.shared w refl;
         }
 
-    -- what the step tells its pass
-    abbrev pub step_tells : (after : List ℕ) (x : Taken) (target : Target) → x.target ≡ target → IsSome v.share → MayBeTaken r.log (logged_by seat x) → May r.log (logged_by seat x)
-        → BoardInvariant words_after May after (set views seat (stepped_to r.log seat x v)) → BoardStep words_after May seat target v (stepped_to r.log seat x v)
-    step_tells after x target of acts may next rule = let f = r.fits seat v here in record {
-      before = r.log;
-      is_log = r.is_log;
-      follows = r.follows;
-      since = f.knows;
-      heard = f.told;
-      own = f.own.1;
-      step = x;
-      of = of;
-      may = may;
-      next = next;
-      is = refl;
-      acts = acts;
-      occurs = record {
-        words = after;
-        views = set views seat (stepped_to r.log seat x v);
-        rule = rule;
-        here = set_here views seat (stepped_to r.log seat x v) (place_below views seat v here);
-      };
-    }
+    -- the view after a step, which keeps the invariant, and what the step tells its pass
+    abbrev pub takes_step : (after : List ℕ) (x : Taken) → IsSome v.share → MayBeTaken r.log (logged_by seat x) → May r.log (logged_by seat x)
+        → after ≡ words_after (history_of (r.log ++ logged_by seat x ∷ [])) (enlisted_by (r.log ++ logged_by seat x ∷ []))
+        → (w : View) × BoardInvariant words_after May after (set views seat w) × BoardStep words_after May seat x.target v w
+    takes_step after x acts may next are =
+        let f = r.fits seat v here in
+        let w = stepped_to r.log seat x v in
+        let rule = step_keeps after x acts may next are in (
+          w,
+          rule,
+          record {
+            before = r.log;
+            is_log = r.is_log;
+            follows = r.follows;
+            since = f.knows;
+            heard = f.told;
+            own = f.own.1;
+            step = x;
+            of = refl;
+            may = may;
+            next = next;
+            is = refl;
+            acts = acts;
+            occurs = record { words = after; views = set views seat w; rule = rule; here = set_here views seat w (place_below views seat v here) };
+          },
+        )
 
     -- the words after a step: they stay, or are those of one entry or one reporter more
 
@@ -290,8 +293,8 @@ module _ (words_after : List Entry → ℕ → List ℕ) (May : Log → Logged �
       only (suc i) v e = absurd (some-ne-none v (sym e))
 
 -- a pass that another was split off still occurs, beside that one
-pub split_occurs : (words_after : List Entry → ℕ → List ℕ) (May : Log → Logged → Type 0) (v : View) → BothOccur words_after May v (left_pass v) (second_pass v)
-split_occurs words_after May v seat was =
+both_there : (words_after : List Entry → ℕ → List ℕ) (May : Log → Logged → Type 0) (v : View) → BothOccur words_after May v (left_pass v) (second_pass v)
+both_there words_after May v seat was =
     let left = set was.views seat (left_pass v) in
     let here = set_here was.views seat (left_pass v) (place_below was.views seat v was.here) in
     let below = place_below left seat (left_pass v) here in
@@ -304,6 +307,11 @@ split_occurs words_after May v seat was =
       apart = λ e. omega arith;
       there = lists.at_last left (second_pass v) (length left) refl;
     }
+
+pub split_occurs : (words_after : List Entry → ℕ → List ℕ) (May : Log → Logged → Type 0) (v left second : View) → left ≡ left_pass v → second ≡ second_pass v
+    → BothOccur words_after May v left second
+split_occurs words_after May v left second kept given = subst (λ (u : View). BothOccur words_after May v u second) (sym kept)
+    (subst (λ (u : View). BothOccur words_after May v (left_pass v) u) (sym given) (both_there words_after May v))
 
 -- and so do both
 pub both_occur : (words_after : List Entry → ℕ → List ℕ) (May : Log → Logged → Type 0) (v left second : View) → BothOccur words_after May v left second

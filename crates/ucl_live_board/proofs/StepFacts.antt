@@ -7,7 +7,7 @@ use Rattle.ucl_live_board.proofs.Common.{◌==◌}
 use Rattle.std.proofs.lemmas.List.Filters.{length-filter_both}
 use Rattle.ucl_word.specs.Counts.{EachMay}
 use Rattle.ucl_word.proofs.Sequences.{may_next, may_last}
-use Rattle.ucl_board.specs.Log.{Whole, MayBeTaken, MayEnlist, IsLegalStep, HasLegalSteps, LogFacts}
+use Rattle.ucl_board.specs.Log.{MayBeTaken, MayEnlist, IsLegalStep, HasLegalSteps, LogFacts}
 use Rattle.ucl_board.proofs.Logs.{history_more, history_on, enlisted_more, enlisted_on, taken_own, added_more, number_more}
 use Rattle.ucl_board.proofs.Logs.{log_facts, legal_history}
 use Rattle.ucl_live_board.proofs.Lists.{none_by_zero}

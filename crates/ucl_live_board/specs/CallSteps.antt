@@ -1,8 +1,7 @@
 -- Which steps a call on any shared board takes. The log is the list of all steps of all passes, threads' permissions on the board. A view
 -- is what contracts see of a pass: the prefix of the log that it knows, its own steps, and a copy of those of the passes that it was split
 -- off from. To enlist a pass is to make it a reporter's, with a number. `v` is the view before the call, and `w` after it.
-use Rattle.std.specs.Prelude.{◌≡◌, ◌⊎◌, ℕ, List, [], ◌∷◌, ◌++◌, length, Option, Some, None, Result, Ok, Err}
-use Rattle.std.specs.List.{AllByRecursion}
+use Rattle.std.specs.Prelude.{◌≡◌, ◌⊎◌, ℕ, List, [], ◌∷◌, length, Option, Some, None, Result, Ok, Err}
 use Rattle.ucl_word.specs.declared.event.EventCall.{EventCall}
 use Rattle.ucl_word.specs.declared.event.Accepted.{Accepted}
 use Rattle.ucl_word.specs.declared.refusal.Refusal.{Refusal}
@@ -27,21 +26,11 @@ entry_made number call (Err refusal) = None
 abbrev pub FoundEnlisted : ℕ → Taken → Type 0
 FoundEnlisted found step = ((step.target ≡ Enlisted found) ⊎ (step.target ≡ Enlists found)) × (step.entry ≡ None)
 
--- a step is on the number of enlisted reporters
-abbrev pub IsOnEnlisted : Taken → Type 0
-IsOnEnlisted step = (found : ℕ) × FoundEnlisted found step
-
 -- the pass took one step, on the number of enlisted reporters, and found so many
 pub record CountsReporters (found : ℕ) (v w : View) : Type 0 where
   pub step : Taken
   pub takes : Takes v (step ∷ []) w
   pub found_is : FoundEnlisted found step
-
--- the pass took steps only on the number of enlisted reporters, as it does when it is enlisted, or told what another has seen
-pub record EnlistSteps (v w : View) : Type 0 where
-  pub steps : List Taken
-  pub takes : Takes v steps w
-  pub on_enlisted : AllByRecursion IsOnEnlisted steps
 
 -- told at a meeting what another pass has seen, the pass took one step: it loaded how many reporters are enlisted, and then knows it
 pub record MeetingSteps (v w : View) : Type 0 where
@@ -49,7 +38,3 @@ pub record MeetingSteps (v w : View) : Type 0 where
   pub place : ℕ
   pub takes : Takes v (step_taken (Enlisted found) place (length (history_of w.log)) None ∷ []) w
   pub listed : enlisted_by w.log ≡ found
-
--- the pass with view w, split off from the one with view v, has a copy of all steps of that, and has taken none of its own
-abbrev pub HasCopyOf : View → View → Type 0
-HasCopyOf w v = (w.copied ≡ v.copied ++ v.own) × (w.own ≡ [])

@@ -12,14 +12,13 @@ use Rattle.ucl_board.specs.Log.{Enlists, Whole}
 use Rattle.ucl_board.specs.declared.reading.Reading.{Reading}
 use Rattle.ucl_board.proofs.Logs.{legal_history}
 use Rattle.ucl_board.proofs.Logs.{history_on}
-use Rattle.ucl_live_board.proofs.CallsBySteps.{adds_continue, enlists, hears, meets, stays_continue}
+use Rattle.ucl_live_board.proofs.CallsBySteps.{adds_continue, enlists, meets, stays_continue}
 use Rattle.ucl_live_board.proofs.StepFacts as facts
 use Rattle.ucl_live_board.proofs.StepFacts.{Goes, Sees, Adds, GivesNumber, sound}
 use Rattle.std.proofs.Common.{append-nil, suc, zero, ◌≢◌}
 use Rattle.std.specs.Prelude.{IsOk}
 use Rattle.ucl_live_board.proofs.InvariantIsKept.{both_occur, split_occurs}
 use Rattle.ucl_live_board.specs.Views.{left_pass, second_pass, steps_of}
-use Rattle.ucl_live_board.specs.PossibleViews.{BothOccur}
 use Rattle.ucl_pass.specs.CellCalls.{Accepts, HasNumberLeft, LoadsAtLast, LostTries}
 use Rattle.ucl_pass.specs.CellRecords.{CellSplit, IsCellPassOf}
 use Rattle.ucl_pass.proofs.InvariantIsKept.{match_words, last_word}
@@ -303,12 +302,8 @@ was_met a b k m x same own sound_first looked =
     let loads : Sees (Whole false) told w = sees (Whole false) None told w x x looked refl refl in
     record {
       own = (ap (λ (c : CellPass). c.board) same, own);
-      says = record {
-        sound = sound_first;
-        always = stays_continue versions_loaded v told w (hears versions_loaded a.view v w (Whole false) loads) loads.goes;
-        unchanged = ap (λ (c : CellPass). cell_pass_view c.view) same;
-        meeting = meets versions_loaded a.view v w (Whole false) loads (shown_then (Whole false) None told w x x looked);
-      };
+      says = meets versions_loaded a.view v w (Whole false) loads b.view (ap (λ (c : CellPass). c.view) same) sound_first
+          (shown_then (Whole false) None told w x x looked);
       step = (x, looked);
       unchanged = same;
       acts = one_act (Whole false) None told w x x looked;
@@ -324,8 +319,7 @@ was_split k m n sound own other left given = record {
   says = record { sound = sound; kept = ap (λ (u : View). cell_pass_view u) left; given = ap (λ (u : View). cell_pass_view u) given };
   kept = left;
   acts = ap (λ (u : View). count_of u) given ∙ ap length (append-nil (steps_of k.view));
-  occurs = subst (λ (u : View). BothOccur words_after IsLegalStep k.view u n.view) (sym left)
-      (subst (λ (u : View). BothOccur words_after IsLegalStep k.view (left_pass k.view) u) (sym given) (split_occurs words_after IsLegalStep k.view));
+  occurs = split_occurs words_after IsLegalStep k.view m.view n.view left given;
 }
 
 -- and both are passes of the board

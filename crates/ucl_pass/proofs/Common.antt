@@ -11,13 +11,13 @@ pub use Rattle.ucl_board.proofs.HistoryTheorems.{board_words}
 pub use Rattle.ucl_board.proofs.HistoryTheorems.{one_word, versions}
 pub use Rattle.ucl_board.specs.History.{IsLegal, board_of, entry_of, followed_by, reading_of, sequential_reply}
 pub use Rattle.ucl_board.specs.Log.{IsLegalStep, Taken, Target, enlisted_by, history_of, number_of, taken_by}
-pub use Rattle.ucl_board.specs.Words.{AreWords, max_version, version_of}
+pub use Rattle.ucl_board.specs.Words.{AreWords, version_of}
 pub use Rattle.ucl_board.specs.declared.entry.Entry.{Entry}
 pub use Rattle.ucl_pass.specs.CellRecords.{CellEnlisted, CellFull, CellMet, CellPass, CellRead, CellReported, cell_pass_of}
 pub use Rattle.ucl_pass.specs.CellInvariants.{CellInvariant, IsUpToDate, cell_pass_view, shown_after, versions_loaded, words_after}
 pub use Rattle.ucl_pass.specs.CellSteps.{CellStep, Exchanges, IsNextBoard, LooksAndShows, LooksOnly, MayStore, StoresEvent, StoresReporter, entry_at}
 pub use Rattle.ucl_pass.specs.CellSteps.{with_one_more}
-pub use Rattle.ucl_live_board.proofs.CallsBySteps.{Stays, room, sound_left, sound_second, stays_more, stays_none, takes_count}
+pub use Rattle.ucl_live_board.proofs.CallsBySteps.{Stays, sound_left, sound_second, stays_more, stays_none, takes_count}
 pub use Rattle.ucl_live_board.specs.Passes.{Continues, IsSound, SharedReading}
 pub use Rattle.ucl_live_board.specs.Views.{Takes, count_of, first_pass, left_pass, new_pass, note_pass, second_pass, told_pass}
 pub use Rattle.ucl_live_board.specs.declared.view.View.{View}

@@ -7,9 +7,9 @@ use Rattle.ucl_pass.proofs.Common.{StoresEvent, StoresReporter, MayStore, Exchan
 use lib.Pointwise.{pointwise, bytes_decides}
 use Rattle.ucl_word.proofs.Sequences.{may_last}
 use Rattle.ucl_board.specs.History.{board_of, MayFollow}
-use Rattle.ucl_board.specs.Log.{Enlists, Whole, step_taken, logged_by, IsThere, MayAdd, MayBeTaken, MayEnlist}
+use Rattle.ucl_board.specs.Log.{Enlists, Whole, step_taken, logged_by, IsThere, MayAdd, MayEnlist}
 use Rattle.ucl_board.proofs.Logs.{legal_history}
-use Rattle.ucl_live_board.proofs.InvariantIsKept.{step_keeps, step_tells, words_stay, words_entered, words_enlisted, seconds_keep, notes_keep, joins_keep}
+use Rattle.ucl_live_board.proofs.InvariantIsKept.{takes_step, words_stay, words_entered, words_enlisted, seconds_keep, notes_keep, joins_keep}
 use Rattle.ucl_live_board.proofs.InvariantIsKept.{opens_keep}
 use Rattle.ucl_pass.specs.CellInvariants.{CellOccurs}
 
@@ -50,20 +50,9 @@ module _ (x : List ℕ) (views : List View) (r : CellInvariant x views) (seat : 
       → y ≡ words_after (history_of (r.log ++ logged_by seat (taken target entry) ∷ [])) (enlisted_by (r.log ++ logged_by seat (taken target entry) ∷ []))
       → (w : View) × CellInvariant y (set views seat w) × CellStep target entry v x y w
   one_step target entry y there adds enlists are =
-      let t = taken target entry in
-      let may : MayBeTaken r.log (logged_by seat t) = record { place = (refl, refl); there = there } in
-      let next : IsLegalStep r.log (logged_by seat t) = record { adds = adds; enlists = enlists } in
-      let rule = step_keeps words_after IsLegalStep x views r seat v here y t acts may next are in (
-        _,
-        rule,
-        record {
-          seat = seat;
-          steps = step_tells words_after IsLegalStep x views r seat v here y t target refl acts may next rule;
-          entry_is = refl;
-          found = r.words_are;
-          left = are;
-        },
-      )
+      let t = takes_step words_after IsLegalStep x views r seat v here y (taken target entry) acts (record { place = (refl, refl); there = there })
+      (record { adds = adds; enlists = enlists }) are in
+      (t.0, t.1, record { seat = seat; steps = t.2; entry_is = refl; found = r.words_are; left = are })
 
   -- that stores nothing
   load : (shown : Bool) → (w : View) × CellInvariant x (set views seat w) × CellStep (Whole shown) None v x x w

@@ -2,7 +2,7 @@
 -- what contracts read off the view of a pass, that is, of what they know of a thread's permission on the board. A state is the words and the
 -- views of all passes at one moment. The log has all steps of
 -- all passes; its history is the accepted events. A reading is a load that shows the version, the length of the history.
-use Rattle.std.specs.Prelude.{◌≡◌, ℕ, Bool, true, List, [], ◌∷◌, ◌++◌}
+use Rattle.std.specs.Prelude.{◌≡◌, ℕ, true, List, [], ◌∷◌, ◌++◌}
 use Rattle.std.specs.List.{fold}
 use Rattle.ucl_board.specs.declared.entry.Entry.{Entry}
 use Rattle.ucl_board.specs.History.{board_of}

@@ -3,21 +3,22 @@
 use Rattle.ucl_words.proofs.Common.{Access, Bool, CountsReporters, DoneAsBefore, EnlistStep, EnlistTries, Enlisted, EnlistedStep, Enlisting}
 use Rattle.ucl_words.proofs.Common.{Enlists, FindsEnlisted, Follows, FoundEnlisted, Goes, HasTrail, IsConsistent, IsLog, IsNextOfProtocol}
 use Rattle.ucl_words.proofs.Common.{IsPrefix, IsSound, IsThere, JoinIsMonotone, LaterBoardsExtend, LaterState, LaterStatesCompose, List, []}
-use Rattle.ucl_words.proofs.Common.{Log, Logged, Match, MayBeTaken, None, NumbersRiseInTime, OccurAfterSplit, Occurs, Sees, Some, ap, subst}
+use Rattle.ucl_words.proofs.Common.{Log, Logged, Match, MayBeTaken, None, NumbersRiseInTime, Occurs, Sees, Some, ap, subst}
 use Rattle.ucl_words.proofs.Common.{SplitIsMonotone, Stays, Steps, Taken, Takes, Target, View, Whole, WordEnlisted, WordFull, WordMet}
 use Rattle.ucl_words.proofs.Common.{WordPass, WordSplit, accesses_in, acts_some, append-nil, append_assoc, arith, at_longer}
 use Rattle.ucl_words.proofs.Common.{begins_same, begins_through, by_seat, cases_eq, cond, count_of, enlisted_by, enlisted_on}
 use Rattle.ucl_words.proofs.Common.{false, get_elem?, half_acts, hears, history_of, inl, inr, left_pass, length, log_begins, logs_facts}
 use Rattle.ucl_words.proofs.Common.{ltb-true, may_begin, may_last, meets, nat_lt, new_pass, note_pass, number_by, number_more, number_of}
 use Rattle.ucl_words.proofs.Common.{pass_view_of, place_below, refl, seat_there, second_pass, set, set_else, set_here, shorter, since}
-use Rattle.ucl_words.proofs.Common.{slice_index, some, some-injective, some_acts, sound, sound_left, sound_second, stays_continue}
+use Rattle.ucl_words.proofs.Common.{slice_index, some, some-injective, some_acts, sound, sound_left, sound_second}
 use Rattle.ucl_words.proofs.Common.{stays_more, stays_none, step, step_taken, steps_of, sym, taken_by, taken_on, takes_count}
 use Rattle.ucl_words.proofs.Common.{takes_none, takes_on, told_pass, trail_of, true, versions_shown, words_after, ◌++◌, ◌+◌, ◌<◌, ◌==◌, ◌∙◌}
 use Rattle.ucl_words.proofs.Common.{◌∷◌, ◌≡◌, ◌≢◌, ◌≤◌, ◌⊎◌, ℕ}
-use Rattle.ucl_words.proofs.Steps.{EnlistWon, Position, count_there, enlist_won, loads_enlisted, split_occurs}
+use Rattle.ucl_words.proofs.Steps.{EnlistWon, Position, count_there, enlist_won, loads_enlisted}
 use Rattle.ucl_words.proofs.Steps.{takes_trail, trail_longer}
 use Rattle.ucl_words.proofs.Clients.{counted_does, done_shown}
 use Rattle.ucl_live_board.proofs.CallsBySteps.{enlists, stays_on as stays_seen}
+use Rattle.ucl_live_board.proofs.InvariantIsKept.{split_occurs}
 
 -- a step on the number of reporters leaves no access
 no_access : (v w : View) (x : Taken) → accesses_in (x ∷ []) ≡ [] → Takes v (x ∷ []) w → trail_of w ≡ trail_of v
@@ -137,8 +138,7 @@ was_split k m n sound own other seat left given = record {
   says = record { sound = sound; kept = ap (λ (u : View). pass_view_of u) left; given = ap (λ (u : View). pass_view_of u) given };
   kept = left;
   given = given;
-  occurs = subst (λ (u : View). OccurAfterSplit k.pass u n.pass) (sym left)
-      (subst (λ (u : View). OccurAfterSplit k.pass (left_pass k.pass) u) (sym given) (split_occurs k.pass));
+  occurs = split_occurs words_after IsNextOfProtocol k.pass m.pass n.pass left given;
 }
 
 -- a note of the pass a was joined to k, which then loaded the number of reporters
@@ -175,12 +175,8 @@ module _ (a b k m : WordPass) (n : ℕ) (consistent : IsConsistent k.pass) (s : 
       record {
         own = (ap (λ (p : WordPass). p.board) same, own);
         seat = seat;
-        says = record {
-          sound = first_sound;
-          always = stays_continue versions_shown k.pass told m.pass stays loads.goes;
-          unchanged = ap (λ (p : WordPass). pass_view_of p.pass) same;
-          meeting = meets versions_shown a.pass k.pass m.pass (Enlisted n) loads (done_shown told m.pass done.calls loads.number);
-        };
+        says = meets versions_shown a.pass k.pass m.pass (Enlisted n) loads b.pass (ap (λ (p : WordPass). p.pass) same) first_sound
+            (done_shown told m.pass done.calls loads.number);
         unchanged = same;
         trail = record { trail = met_trail; whole_trail = met_consistent.trail };
         does = record { calls = done.calls; held = done.held };

@@ -1,5 +1,5 @@
 -- The words and lemmas from elsewhere that the proofs of this crate share.
-pub use Rattle.atomic_table.proofs.Lists.{at_last, at_longer, exchanged, set_else, set_here}
+pub use Rattle.atomic_table.proofs.Lists.{at_longer, exchanged, set_else, set_here}
 pub use Rattle.atomic_table.specs.Table.{Allows, Joins, Me, Splits, State, Valid, carried_after, keeps, opening, step, stepped}
 pub use Rattle.std.proofs.Common.{Bool, List, None, Option, Some, [], ap, append-nil, append_assoc, arith, cond, eq-eqb, false, get_or}
 pub use Rattle.std.proofs.Common.{get_or-set_same, inl, inr, le_refl, length, length-append, length-set, map, ne_eqb, refl, rules, set}
@@ -27,16 +27,15 @@ pub use Rattle.ucl_board.specs.Words.{AreWords, max_version, version_of, word_at
 pub use Rattle.ucl_board.specs.declared.entry.Entry.{Entry}
 pub use Rattle.ucl_board.specs.declared.reading.Reading.{Reading}
 pub use Rattle.ucl_live_board.proofs.Alone.{seat_there, some_acts}
-pub use Rattle.ucl_live_board.proofs.CallsBySteps.{Stays, adds_continue, hears, meets, sound_left, sound_second, stays_continue}
+pub use Rattle.ucl_live_board.proofs.CallsBySteps.{Stays, adds_continue, hears, meets, sound_left, sound_second}
 pub use Rattle.ucl_live_board.proofs.CallsBySteps.{stays_more, stays_none, takes_count, takes_none, takes_on}
 pub use Rattle.ucl_live_board.proofs.Halves.{acts_some, half_acts}
-pub use Rattle.ucl_live_board.proofs.InvariantIsKept.{joins_keep, notes_keep, opens_keep, place_below, seconds_keep, step_keeps, step_tells}
+pub use Rattle.ucl_live_board.proofs.InvariantIsKept.{joins_keep, notes_keep, opens_keep, place_below, seconds_keep, takes_step}
 pub use Rattle.ucl_live_board.proofs.InvariantIsKept.{words_enlisted, words_entered, words_stay}
 pub use Rattle.ucl_live_board.proofs.StepFacts.{Adds, GivesNumber, Goes, Sees, adds, at_is, enlisted, first_later, log_long, own_is, sees}
 pub use Rattle.ucl_live_board.proofs.StepFacts.{since, sound, there_before}
 pub use Rattle.ucl_live_board.specs.CallSteps.{CountsReporters, FoundEnlisted, steps_with}
 pub use Rattle.ucl_live_board.specs.Passes.{AcceptedReport, Continues, IsSound, RefusedReport, SharedReading}
-pub use Rattle.ucl_live_board.specs.Steps.{stepped_to}
 pub use Rattle.ucl_live_board.specs.Views.{Takes, count_of, first_pass, left_pass, new_pass, note_pass, second_pass, steps_of, told_pass}
 pub use Rattle.ucl_live_board.specs.Views.{trail_of}
 pub use Rattle.ucl_live_board.specs.declared.view.View.{View}
@@ -70,7 +69,7 @@ pub use Rattle.ucl_word.specs.declared.refusal.Refusal.TheVariants.{Stale}
 pub use Rattle.ucl_words.specs.CollectSteps.{Collects, FindsAgain, FindsAnother, Finishes, IsBegun, IsHoldingFor, MayCollect, StaysIn}
 pub use Rattle.ucl_words.specs.CollectSteps.{Walks}
 pub use Rattle.ucl_words.specs.LaterState.{FindsEnlisted, JoinIsMonotone, LaterState, LaterStatesCompose, SplitIsMonotone}
-pub use Rattle.ucl_words.specs.TableInvariants.{EnlistStep, EnlistedStep, ExchangeStep, FirstStep, LookStep, OccurAfterSplit, Occurs}
+pub use Rattle.ucl_words.specs.TableInvariants.{EnlistStep, EnlistedStep, ExchangeStep, FirstStep, LookStep, Occurs}
 pub use Rattle.ucl_words.specs.TableInvariants.{SecondStep, Steps, TableInvariant, words_after}
 pub use Rattle.ucl_words.specs.Theorems.{LaterBoardsExtend, NumbersRiseInTime}
 pub use Rattle.ucl_words.specs.WordCalls.{CompletesCall, DoneAsBefore, EnlistTries, Enlisting, HasTrail, IsAnswered, IsConsistent}

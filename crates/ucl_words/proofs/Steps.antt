@@ -3,23 +3,22 @@ use Rattle.ucl_words.proofs.Common.{Access, AccessKind, Adds, All, All-head, All
 use Rattle.ucl_words.proofs.Common.{Enlisted, EnlistedStep, Enlists, Entry, EventCall, ExchangeStep, FinishedCall, First, FirstStep, ap}
 use Rattle.ucl_words.proofs.Common.{Follows, GivesNumber, GoesOn, HasTrail, Holding, IsConsistent, IsMatch, IsNextFor, IsNextOfProtocol}
 use Rattle.ucl_words.proofs.Common.{IsPrefix, IsReporter, IsSome, IsThere, IsWord, Joins, List, Look, LookStep, Match, MatchRecord, subst}
-use Rattle.ucl_words.proofs.Common.{MayBeTaken, MayFollow, Me, NoCall, None, OccurAfterSplit, Occurs, Option, Pending, Second, SecondStep}
+use Rattle.ucl_words.proofs.Common.{MayFollow, Me, NoCall, None, Occurs, Option, Pending, Second, SecondStep}
 use Rattle.ucl_words.proofs.Common.{Sees, Some, Splits, State, Steps, Swap, TableInvariant, Taken, Takes, Target, Valid, View, Walks}
-use Rattle.ucl_words.proofs.Common.{access, accesses_append, accesses_in, adds, after, append-nil, append_assoc, arith, at_last}
-use Rattle.ucl_words.proofs.Common.{at_longer, attempted, begins_length, begins_same, begins_through, board_next, board_of, calls_low}
+use Rattle.ucl_words.proofs.Common.{access, accesses_append, accesses_in, adds, after, append-nil, append_assoc, arith}
+use Rattle.ucl_words.proofs.Common.{attempted, begins_length, begins_same, begins_through, board_next, board_of, calls_low}
 use Rattle.ucl_words.proofs.Common.{carried_after, client_at, client_number, client_of, cond, count_none, either, enlist_none, enlisted}
 use Rattle.ucl_words.proofs.Common.{enlisted_by, entry_by, entry_of, eq-eqb, exchanged, first_none, first_pass, flat_map, fold-append}
 use Rattle.ucl_words.proofs.Common.{follows_append, follows_longer, follows_one, follows_wider, get_elem?, get_or, history_of, joins_keep}
 use Rattle.ucl_words.proofs.Common.{keeps, le_refl, left_pass, legal_steps, length, length-append, logged_by, logs_legal, logs_sound}
 use Rattle.ucl_words.proofs.Common.{look_none, map, map-append, match_after, match_valid, may_attempt, ne_eqb, new_client, new_pass}
 use Rattle.ucl_words.proofs.Common.{next_game, note_pass, notes_keep, number_of, opening, opens_keep, outcome, own_is, pass_view_of}
-use Rattle.ucl_words.proofs.Common.{place_below, read_back, record_at, refl, refusal_of, second_none, second_pass, seconds_keep, sees, set}
-use Rattle.ucl_words.proofs.Common.{set-get_or, set_here, some, sound, step, step_keeps, step_taken, step_tells, stepped, stepped_to}
+use Rattle.ucl_words.proofs.Common.{read_back, record_at, refl, refusal_of, second_none, second_pass, seconds_keep, sees, set}
+use Rattle.ucl_words.proofs.Common.{set-get_or, some, sound, step, step_taken, stepped, takes_step}
 use Rattle.ucl_words.proofs.Common.{steps_with, sym, takes_count, takes_none, takes_on, there_before, told_pass, trail_of}
 use Rattle.ucl_words.proofs.Common.{version_in, versions_by, versions_shown, with_step, with_target, word_after, word_of, words_after}
 use Rattle.ucl_words.proofs.Common.{words_enlisted, words_entered, words_stay, ◌++◌, ◌+◌, ◌-◌, ◌<◌, ◌==◌, ◌∙◌, ◌∷◌, ◌≡◌, ◌≢◌, ◌≤◌, ℕ}
 use mathlib.Core.Option as core
-use Rattle.ucl_live_board.proofs.InvariantIsKept as after_split
 use Rattle.ucl_board.specs.Log.{enlists}
 use Rattle.ucl_steps.proofs.LogFacts.{Offers, Sees as SeesPending}
 
@@ -53,63 +52,48 @@ module _ (s : Position) (r : TableInvariant s) (seat : ℕ) (v : View) (here : g
   client_here : client_of v.own ≡ client_at seat r.log
   client_here = ap client_of (r.fits seat v here).own.1
 
+  abbrev taken : Target → Option Entry → Taken
+  taken target entry = step_taken target (length r.log) (length (history_of r.log)) entry
+
   -- any step that the invariant lets come next
-  module _ (target : Target) (entry : Option Entry) (there : IsThere r.log target) (next : IsNextFor (client_of v.own) target)
-      (adds : entry ≡ entry_by (client_of v.own).number (client_of v.own).held target) where
-    abbrev x : Taken
-    x = record { target = target; place = length r.log; at = length (history_of r.log); entry = entry }
+  one_step : (target : Target) (entry : Option Entry) → IsThere r.log target → IsNextFor (client_of v.own) target
+      → entry ≡ entry_by (client_of v.own).number (client_of v.own).held target → (i n : ℕ) (cs : List (ℕ × Entry)) (place : ℕ) → place ≡ seat
+      → set s.words i n ≡ words_after (history_of (r.log ++ logged_by seat (taken target entry) ∷ [])) (enlisted_by (r.log ++ logged_by seat (taken target entry) ∷ []))
+      → (w : View) × TableInvariant (stepped s i n seat cs w keeps) × Steps place target v w
+  one_step target entry there next adds i n cs place is_seat are =
+      let t = takes_step words_after IsNextOfProtocol s.words s.views r seat v here (set s.words i n) (taken target entry) acts
+      (record { place = (refl, refl); there = there })
+      (record {
+        next = subst (λ (d : ClientState). IsNextFor d target) client_here next;
+        entry = adds ∙ ap (λ (d : ClientState). entry_by d.number d.held target) client_here;
+      }) are in
+      (t.0, t.1, subst (λ (k : ℕ). Steps k target v t.0) (sym is_seat) t.2)
 
-    abbrev then : View
-    then = stepped_to r.log seat x v
-
-    may_be : MayBeTaken r.log (logged_by seat x)
-    may_be = record { place = (refl, refl); there = there }
-
-    is_next : IsNextOfProtocol r.log (logged_by seat x)
-    is_next = record {
-      next = subst (λ (d : ClientState). IsNextFor d target) client_here next;
-      entry = adds ∙ ap (λ (d : ClientState). entry_by d.number d.held target) client_here;
-    }
-
-    keeps_rule : (i n : ℕ) (cs : List (ℕ × Entry)) → set s.words i n ≡ words_after (history_of (r.log ++ logged_by seat x ∷ [])) (enlisted_by (r.log ++ logged_by seat x ∷ []))
-        → TableInvariant (stepped s i n seat cs then keeps)
-    keeps_rule i n cs are = step_keeps words_after IsNextOfProtocol s.words s.views r seat v here (set s.words i n) x acts may_be is_next are
-
-    tells : (i n : ℕ) (cs : List (ℕ × Entry)) → TableInvariant (stepped s i n seat cs then keeps) → (place : ℕ) → place ≡ seat → Steps place target v then
-    tells i n cs rule place is_seat = subst (λ (k : ℕ). Steps k target v then) (sym is_seat)
-        (step_tells words_after IsNextOfProtocol s.words s.views r seat v here (set s.words i n) x target refl acts may_be is_next rule)
-
-    -- words that stay
-    stays : (i : ℕ) (cs : List (ℕ × Entry)) → length (enlists target) ≡ 0 → entry ≡ None → TableInvariant (stepped s i (get_or s.words i 0) seat cs then keeps)
-    stays i cs none no_entry =
-        keeps_rule i (get_or s.words i 0) cs (set-get_or s.words i 0 ∙ words_stay words_after IsNextOfProtocol s.words s.views r seat v here x no_entry none)
+  -- one that leaves the words as they are
+  one_look : (target : Target) → IsThere r.log target → IsNextFor (client_of v.own) target → entry_by (client_of v.own).number (client_of v.own).held target ≡ None
+      → length (enlists target) ≡ 0 → (i : ℕ) (cs : List (ℕ × Entry)) (place : ℕ) → place ≡ seat
+      → (w : View) × TableInvariant (stepped s i (get_or s.words i 0) seat cs w keeps) × Steps place target v w
+  one_look target there next none few i cs place is_seat = one_step target None there next (sym none) i (get_or s.words i 0) cs place is_seat
+      (set-get_or s.words i 0 ∙ words_stay words_after IsNextOfProtocol s.words s.views r seat v here (taken target None) refl few)
 
   -- a load of a match word, or an exchange of it that was missed
-  load_by : (act : AccessKind) (game i : ℕ) (cs : List (ℕ × Entry)) (place : ℕ) → place ≡ seat → IsMatch game → IsNextFor (client_of v.own) (Match act game (get_or s.words game 0))
+  load_by : (act : AccessKind) (game : ℕ) (cs : List (ℕ × Entry)) (place : ℕ) → place ≡ seat → IsMatch game → IsNextFor (client_of v.own) (Match act game (get_or s.words game 0))
       → entry_by (client_of v.own).number (client_of v.own).held (Match act game (get_or s.words game 0)) ≡ None
       → (w : View) × TableInvariant (stepped s game (get_or s.words game 0) seat cs w keeps) × Steps place (Match act game (get_or s.words game 0)) v w
-  load_by act game i cs place is_seat is next none =
-      let target = Match act game (get_or s.words game 0) in
-      let there : IsThere r.log target = (is, word_there game is) in
-      let rule = stays target None there next (sym none) game cs refl refl in
-      (then target None there next (sym none), rule, tells target None there next (sym none) game (get_or s.words game 0) cs rule place is_seat)
+  load_by act game cs place is_seat is next none = one_look (Match act game (get_or s.words game 0)) (is, word_there game is) next none refl game cs place is_seat
 
   -- a load of the enlist word, or an exchange of it that was missed
   count_by : (cs : List (ℕ × Entry)) (place : ℕ) → place ≡ seat
       → (w : View) × TableInvariant (stepped s 0 (get_or s.words 0 0) seat cs w keeps) × Steps place (Enlisted (get_or s.words 0 0)) v w
   count_by cs place is_seat =
-      let target = Enlisted (get_or s.words 0 0) in
-      let adds = sym (count_none (client_of v.own).held (client_of v.own).number (get_or s.words 0 0)) in
-      let there = count_there s r in
-      let rule = stays target None there tt adds 0 cs refl refl in
-      (then target None there tt adds, rule, tells target None there tt adds 0 (get_or s.words 0 0) cs rule place is_seat)
+      one_look (Enlisted (get_or s.words 0 0)) (count_there s r) tt (count_none (client_of v.own).held (client_of v.own).number (get_or s.words 0 0)) refl 0 cs place is_seat
 
 pub loads : (slots seat game place : ℕ) (act : AccessKind) (m : Me Entry View) → place ≡ seat → IsLoad act → IsSome m.0.share → IsMatch game →
     ((n : ℕ) → IsNextFor (client_of m.0.own) (Match act game n))
     → Allows TableInvariant slots seat m game (λ n. n) (λ n m'. Steps place (Match act game n) m.0 m'.0)
 loads slots seat game place act m is_seat load acts is next s r _ here _ =
     let n : ℕ = get_or s.words game 0 in
-    let t = load_by s r seat m.0 here acts act game game m.1 place is_seat is (next n) (load_none act load (client_of m.0.own).held (client_of m.0.own).number game n) in
+    let t = load_by s r seat m.0 here acts act game m.1 place is_seat is (next n) (load_none act load (client_of m.0.own).held (client_of m.0.own).number game n) in
     (t.0, keeps, tt, t.1, t.2)
 
 pub looks : (slots seat game place : ℕ) (m : Me Entry View) (e : EventCall) → place ≡ seat → IsSome m.0.share → IsMatch game → e.game ≡ game → IsReporter (number_of m.0.own)
@@ -143,18 +127,12 @@ enlisting slots seat place m old is_seat acts reader nothing room s r _ here _ =
     let there : IsThere r.log (Enlists n) = (found, omega arith) in
     let adds = sym (enlist_none (client_of m.0.own).held (client_of m.0.own).number n) in
     let next : IsNextFor (client_of m.0.own) (Enlists n) = (nothing, client_number m.0.own ∙ reader) in
-    let x : Taken = record { target = Enlists n; place = length r.log; at = length (history_of r.log); entry = None } in
+    let x : Taken = step_taken (Enlists n) (length r.log) (length (history_of r.log)) None in
     let are : set s.words 0 (old + 1) ≡ words_after (history_of (r.log ++ logged_by seat x ∷ [])) (enlisted_by (r.log ++ logged_by seat x ∷ [])) =
     ap (λ (ws : List ℕ). set ws 0 (old + 1)) r.words_are ∙ (ap (λ (k : ℕ). words_after (history_of r.log) (k + 1)) (sym hit ∙ found)
     ∙ words_enlisted words_after IsNextOfProtocol s.words s.views r seat m.0 here x refl refl) in
-    let rule = keeps_rule s r seat m.0 here acts (Enlists n) None there next adds 0 (old + 1) m.1 are in
-    let said = tells s r seat m.0 here acts (Enlists n) None there next adds 0 (old + 1) m.1 rule place is_seat in (
-      stepped_to r.log seat x m.0,
-      keeps,
-      tt,
-      rule,
-      (refl, subst (λ (b : Bool). Steps place (cond b (Enlists n) (Enlisted n)) m.0 (stepped_to r.log seat x m.0)) (sym (eq-eqb n old hit)) said),
-    ))
+    let t = one_step s r seat m.0 here acts (Enlists n) None there next adds 0 (old + 1) m.1 place is_seat are in
+    (t.0, keeps, tt, t.1, (refl, subst (λ (b : Bool). Steps place (cond b (Enlists n) (Enlisted n)) m.0 t.0) (sym (eq-eqb n old hit)) t.2)))
     (λ miss.
     let t = count_by s r seat m.0 here acts m.1 place is_seat in
     (t.0, keeps, tt, t.1, (refl, subst (λ (b : Bool). Steps place (cond b (Enlists n) (Enlisted n)) m.0 t.0) (sym (ne_eqb n old miss)) t.2)))
@@ -191,7 +169,7 @@ module _ (s : Position) (r : TableInvariant s) (seat : ℕ) (m : Me Entry View) 
   made = entry_of (client_of m.0.own).number e
 
   abbrev won_step : Taken
-  won_step = record { target = Match Swap game (get_or s.words game 0); place = length r.log; at = length (history_of r.log); entry = Some (entry_of (client_of m.0.own).number e) }
+  won_step = step_taken (Match Swap game found) (length r.log) (length (history_of r.log)) (Some made)
 
   -- the words then
   won_words : found ≡ old
@@ -210,12 +188,9 @@ module _ (s : Position) (r : TableInvariant s) (seat : ℕ) (m : Me Entry View) 
       ap (λ (ws : List ℕ). set ws game new) r.words_are ∙ (set_match (enlisted_by r.log) (board_of h) game new is_match.0
       ∙ (ap (λ (l : List ℕ). enlisted_by r.log ∷ l) board ∙ words_entered words_after IsNextOfProtocol s.words s.views r seat m.0 here won_step made refl refl))
 
-  won_by : found ≡ old → (place : ℕ) → place ≡ seat
-      → TableInvariant (stepped s game new seat m.1 (stepped_to r.log seat won_step m.0) keeps) × Steps place (Match Swap game found) m.0 (stepped_to r.log seat won_step m.0)
-  won_by hit place is_seat =
-      let there : IsThere r.log (Match Swap game found) = (is_match, word_there s r seat m.0 here acts game is_match) in
-      let rule = keeps_rule s r seat m.0 here acts (Match Swap game found) (Some made) there next (won_some hit) game new m.1 (won_words hit) in
-      (rule, tells s r seat m.0 here acts (Match Swap game found) (Some made) there next (won_some hit) game new m.1 rule place is_seat)
+  won_by : found ≡ old → (place : ℕ) → place ≡ seat → (w : View) × TableInvariant (stepped s game new seat m.1 w keeps) × Steps place (Match Swap game found) m.0 w
+  won_by hit place is_seat = one_step s r seat m.0 here acts (Match Swap game found) (Some made) (is_match, word_there s r seat m.0 here acts game is_match)
+      next (won_some hit) game new m.1 place is_seat (won_words hit)
 
 pub swaps : (slots seat place game : ℕ) (m : Me Entry View) (e : EventCall) (entry : Entry) (old new : ℕ) → place ≡ seat → IsSome m.0.share
     → (client_of m.0.own).held ≡ Holding e old new → game ≡ e.game
@@ -225,18 +200,14 @@ swaps slots seat place game m e entry old new is_seat acts holds of s r _ here _
     exchanged n old new
     (λ x. (w : View) × (a : Rattle.atomic_table.specs.Table.Act Entry) × Valid s.homes m.1 a × TableInvariant (stepped s game x seat m.1 w a)
     × ExchangeStep place (step slots game old new (core.some entry)) m n (w, carried_after m.1 a))
-    (λ hit. let t = won_by s r seat m here acts game old new e holds of hit place is_seat in (stepped_to r.log seat (won_step s r seat m here acts game old new e holds of) m.0, keeps, tt, t.0, t.1))
+    (λ hit. let t = won_by s r seat m here acts game old new e holds of hit place is_seat in (t.0, keeps, tt, t.1, t.2))
     (λ miss.
-    let t = load_by s r seat m.0 here acts Swap game game m.1 place is_seat (is_match s r seat m here acts game old new e holds of) (next s r seat m here acts game old new e holds of)
+    let t = load_by s r seat m.0 here acts Swap game m.1 place is_seat (is_match s r seat m here acts game old new e holds of) (next s r seat m here acts game old new e holds of)
     (missed_none s r seat m here acts game old new e holds of miss) in
     (t.0, keeps, tt, t.1, t.2))
 
 pub seconds : (seat : ℕ) (v : View) → Splits TableInvariant seat v (left_pass v) (second_pass v)
 seconds seat v s r here = seconds_keep words_after IsNextOfProtocol s.words s.views r seat v here
-
--- a pass that another was split off still occurs, beside that one
-pub split_occurs : (v : View) → OccurAfterSplit v (left_pass v) (second_pass v)
-split_occurs = after_split.split_occurs words_after IsNextOfProtocol
 
 pub notes : (seat : ℕ) (v : View) → Splits TableInvariant seat v v (note_pass v)
 notes seat v s r here = notes_keep words_after IsNextOfProtocol s.words s.views r seat v here

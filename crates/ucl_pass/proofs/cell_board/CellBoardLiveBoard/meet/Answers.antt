@@ -1,6 +1,6 @@
 use Rattle.ucl_pass.proofs.Common.{rules, sym, ap, ◌∙◌, subst, cell_view, Merges, View, told_pass, new_pass, CellInvariant, LooksOnly, arith, cell_pass_of}
 use Rattle.ucl_pass.proofs.Common.{length}
-use Rattle.ucl_pass.specs.CellRecords.{CellPass, IsCellPassOf}
+use Rattle.ucl_pass.specs.CellRecords.{CellMet, CellPass, IsCellPassOf}
 use Rattle.ucl_pass.proofs.InvariantIsKept.{notes, joins}
 use Rattle.ucl_pass.proofs.CallsBySteps.{met_own, was_met}
 use Rattle.ucl_pass.proofs.cell_board.CellBoardLiveBoard.meet.Goals as goal
@@ -17,42 +17,30 @@ join_pass-requires g c =
     (sym c.split_pass-note.ensures.given.1) (joins _ _ _ (cell_view c.first.inside.seat)) in
     (search rules, (search rules, (search rules, joined)))
 
-pub invariant_of-second : goal.invariant_of-second
-invariant_of-second g c =
-    let a = c.first.inside.seat in
-    let v = c.second.inside.seat in
+-- the passes before and after
+met : (g : _) (c : goal.After-load g)
+    → CellMet (cell_pass_of c.first.inside.seat) (cell_pass_of c.split_pass-note.new.pass) (cell_pass_of c.second.inside.seat) (cell_pass_of c.load.new.seat)
+met g c =
+    let v = cell_view c.second.inside.seat in
     let note = c.split_pass-note.ensures in
     let told = c.join_pass.ensures in
-    let w = cell_view c.load.new.seat in
-    let looked = subst (λ (u : View). LooksOnly u c.load.result c.load.result w) (told.1 ∙ ap (told_pass (cell_view v)) note.given.1) c.load.ensures.looks in
-    let all = was_met (cell_pass_of a) (cell_pass_of c.split_pass-note.new.pass) (cell_pass_of v) (cell_pass_of c.load.new.seat) c.load.result
-    (λ i. record { board = note.kept.0.0 i; view = note.kept.1 i }) (c.load.ensures.own ∙ told.0.0) c.first.invariant.0 looked in
+    let n = c.load.result in
+    let looked = subst (λ (u : View). LooksOnly u n n (cell_view c.load.new.seat)) (told.1 ∙ ap (told_pass v) note.given.1) c.load.ensures.looks in
+    was_met (cell_pass_of c.first.inside.seat) (cell_pass_of c.split_pass-note.new.pass) (cell_pass_of c.second.inside.seat) (cell_pass_of c.load.new.seat) n
+    (λ i. record { board = note.kept.0.0 i; view = note.kept.1 i }) (c.load.ensures.own ∙ told.0.0) c.first.invariant.0 looked
+
+pub invariant_of-second : goal.invariant_of-second
+invariant_of-second g c =
+    let all = met g c in
     (all.says.always.sound, all.says.always.number ∙ c.second.invariant.1, ap length all.says.meeting.mine ∙ c.second.invariant.2)
 
 pub returns-clause-met : goal.returns-clause-met
-returns-clause-met g c =
-    let a = c.first.inside.seat in
-    let v = c.second.inside.seat in
-    let note = c.split_pass-note.ensures in
-    let told = c.join_pass.ensures in
-    let w = cell_view c.load.new.seat in
-    let looked = subst (λ (u : View). LooksOnly u c.load.result c.load.result w) (told.1 ∙ ap (told_pass (cell_view v)) note.given.1) c.load.ensures.looks in
-    let all = was_met (cell_pass_of a) (cell_pass_of c.split_pass-note.new.pass) (cell_pass_of v) (cell_pass_of c.load.new.seat) c.load.result
-    (λ i. record { board = note.kept.0.0 i; view = note.kept.1 i }) (c.load.ensures.own ∙ told.0.0) c.first.invariant.0 looked in
-    search (arith, rules, all)
+returns-clause-met g c = let all = met g c in search (arith, rules, all)
 
 pub returns-clause-own : goal.returns-clause-own
 returns-clause-own g c =
-    let a = c.first.inside.seat in
-    let v = c.second.inside.seat in
-    let note = c.split_pass-note.ensures in
-    let told = c.join_pass.ensures in
-    let w = cell_view c.load.new.seat in
-    let looked = subst (λ (u : View). LooksOnly u c.load.result c.load.result w) (told.1 ∙ ap (told_pass (cell_view v)) note.given.1) c.load.ensures.looks in
-    let all = was_met (cell_pass_of a) (cell_pass_of c.split_pass-note.new.pass) (cell_pass_of v) (cell_pass_of c.load.new.seat) c.load.result
-    (λ i. record { board = note.kept.0.0 i; view = note.kept.1 i }) (c.load.ensures.own ∙ told.0.0) c.first.invariant.0 looked in
     let board = c.args.self.now in
     let first = subst (λ (p : CellPass). IsCellPassOf board p) (sym c.first.view_is) c.requires.0 in
     let second = subst (λ (p : CellPass). IsCellPassOf board p) (sym c.second.view_is) c.requires.1 in
-    let own = met_own board _ _ _ _ all (first, second) in
+    let own = met_own board _ _ _ _ (met g c) (first, second) in
     search (arith, rules, own)

@@ -1,5 +1,6 @@
-use Rattle.ucl_pass.proofs.Common.{ap, length, ℕ, ◌+◌, ◌≤◌, rules, arith, refl, sym, ◌∙◌, subst, length-append, cell_view, entry_of, cell_pass_view}
-use Rattle.ucl_pass.proofs.Common.{max_version, IsNextBoard, StoresEvent, Ok, room, CellReported, cell_pass_of}
+use Rattle.ucl_pass.proofs.Common.{ap, length, ℕ, rules, arith, sym, ◌∙◌, subst, length-append, cell_view, entry_of, cell_pass_view}
+use Rattle.ucl_pass.proofs.Common.{IsNextBoard, StoresEvent, Err, Ok, CellReported, cell_pass_of}
+use Rattle.ucl_live_board.proofs.Lists.{few_mine}
 use Rattle.ucl_pass.specs.CellCalls.{Accepts}
 use Rattle.ucl_pass.proofs.CallsBySteps.{accepts, are_words, looked_more, tries_again, next_words, refused_report, accepted_report}
 use Rattle.ucl_pass.proofs.cell_board.CellBoardLiveBoard.report.Goals as goal
@@ -7,20 +8,19 @@ use Rattle.ucl_pass.proofs.cell_board.CellBoardLiveBoard.report.Goals as goal
 pub board_at-board-requires : goal.board_at-board-requires
 board_at-board-requires g c = are_words _ _ (cell_view c.retry.pass-inside.seat) (cell_view c.load-words.new.seat) _ _ c.load-words.ensures.looks
 
-pub returns-in_err-accepted : goal.returns-in_err-accepted
-returns-in_err-accepted g c =
-    let all = refused_report _ _ (c.load-words.ensures.own ∙ c.retry.invariant.own) c.args.call.now
+refused : (g : _) (c : goal.After-drop-iterator g)
+    → CellReported (cell_pass_of c.pass.inside.seat) c.args.call.now (Err c.in_err-accepted.field-0.0) (cell_pass_of c.load-words.new.seat)
+refused g c = refused_report _ _ (c.load-words.ensures.own ∙ c.retry.invariant.own) c.args.call.now
     (cell_view c.pass.inside.seat) (cell_view c.retry.pass-inside.seat) (cell_view c.load-words.new.seat) c.load-words.result
     c.retry.invariant.tried c.load-words.ensures.looks c.in_err-accepted.field-0.0
-    (λ h legal is. c.in_err-accepted.ensures.sequential h legal (is ∙ sym c.board_at-board.ensures)) in
-    search (arith, rules, all)
+    (λ h legal is. c.in_err-accepted.ensures.sequential h legal (is ∙ sym c.board_at-board.ensures))
+
+pub returns-in_err-accepted : goal.returns-in_err-accepted
+returns-in_err-accepted g c = let all = refused g c in search (arith, rules, all)
 
 pub invariant_of-pass : goal.invariant_of-pass
 invariant_of-pass g c =
-    let all = refused_report _ _ (c.load-words.ensures.own ∙ c.retry.invariant.own) c.args.call.now
-    (cell_view c.pass.inside.seat) (cell_view c.retry.pass-inside.seat) (cell_view c.load-words.new.seat) c.load-words.result
-    c.retry.invariant.tried c.load-words.ensures.looks c.in_err-accepted.field-0.0
-    (λ h legal is. c.in_err-accepted.ensures.sequential h legal (is ∙ sym c.board_at-board.ensures)) in (
+    let all = refused g c in (
       all.says.always.sound,
       all.says.always.number ∙ (c.pass.invariant.1 ∙ sym c.retry.invariant.number),
       ap length all.says.refused.mine ∙ (c.pass.invariant.2 ∙ sym c.retry.invariant.accepted),
@@ -65,16 +65,8 @@ accepted g c = accepted_report _ _ (c.store_event-stored.ensures.own ∙ (c.load
 
 pub overflow_add-pass : goal.overflow_add-pass
 overflow_add-pass g c =
-    let v = cell_view c.pass.inside.seat in
-    let z = cell_view c.store_event-stored.new.seat in
-    let all = accepted_report _ _ (c.store_event-stored.ensures.own ∙ (c.load-words.ensures.own ∙ c.retry.invariant.own)) c.args.call.now
-    v (cell_view c.retry.pass-inside.seat) (cell_view c.load-words.new.seat) c.load-words.result c.retry.invariant.tried
-    c.load-words.ensures.looks z c.words_with-next.result c.store_event-stored.result c.in_ok-accepted.accepted
-    c.store_event-stored.ensures.stored (sym c.is_ok.ensures.value ∙ c.if-is_ok.true)
-    (λ h legal is. c.in_ok-accepted.ensures.sequential h legal (is ∙ sym c.board_at-board.ensures)) in
-    let r : c.retry.pass-inside.accepted + 1 ≤ max_version =
-    room (cell_pass_view v) (cell_pass_view z) c.args.call.now (Ok c.in_ok-accepted.accepted) c.retry.pass-inside.accepted
-    all.says.accepted refl all.says.always.sound (c.pass.invariant.2 ∙ sym c.retry.invariant.accepted) in
+    let few = few_mine (cell_pass_view (cell_view c.pass.inside.seat)) c.pass.invariant.0 in
+    let mine = c.pass.invariant.2 ∙ sym c.retry.invariant.accepted in
     omega arith
 
 pub invariant_of-pass-then-is_ok : goal.invariant_of-pass-then-is_ok
