@@ -1,7 +1,8 @@
 //! A session of `ucl_live`, which answers the row on each line of its input. Its first rows name its header (group, tie-break order,
 //! edition) and its four clubs; then its board is open. A mend takes an accepted event back, or puts a club in its slot, in a later edition.
 
-ghost use Rattle.std.specs.Prelude.{◌≡◌, ◌+◌, ⊤, IfOk};
+ghost use Rattle.std.specs.Prelude.{◌≡◌, ◌+◌, ⊤, IfErr, IfOk, OnOk};
+ghost use Rattle.ucl_rows.specs.Answers.{bytes_of};
 ghost use Rattle.ucl_rows.specs.BadRows.{shown_text};
 ghost use Rattle.ucl_rows.specs.Rows.{line_seen, said_on};
 ghost use Rattle.ucl_live_runs.specs.SessionRuns.{Closes, HasNoAnswer, HasNoEnd, session_due, session_of};
@@ -58,6 +59,32 @@ impl Session {
             phase: Phase::AwaitingHeader,
         }
     }
+
+    /// Answers the row on any line, as `answer` does.
+    fn answer_other(&mut self, row: u64, text: &[u8], answer: &mut Answer) -> Result<(), LiveFault>
+        ensures next { OnOk result (session_of self.new (row + 1) ≡ next (session_of self.old row) (said_on row text.now)) }
+        ensures text { OnOk result (bytes_of answer.new
+            ≡ answer_said (session_of self.old row) (said_on row text.now) (shown_text text.now)) }
+        ensures stops { IfErr result (HasNoAnswer (session_of self.old row) (said_on row text.now)) }
+    {
+        let mut record = ByteRecord::new(self.config.alloc);
+        let Some(said) = fields_on(self.config.alloc, row, text, &mut record)? else {
+            *answer = Answer::nothing();
+            return Ok(());
+        };
+        let line = Line { row, said, text };
+        if let Phase::Open(table) = &mut self.phase {
+            table.answer(&self.config, &mut self.heading, &line, answer)?;
+            return Ok(());
+        }
+        *answer = Answer::nothing();
+        self.phase = match mem::replace(&mut self.phase, Phase::AwaitingHeader) {
+            Phase::AwaitingHeader => with_first(&self.config, &line, &mut self.heading)?,
+            Phase::AwaitingClubs(clubs) => with_club(self.config.alloc, &line, clubs)?,
+            Phase::Open(table) => Phase::Open(table),
+        };
+        Ok(())
+    }
 }
 
 impl LineHandler for Session {
@@ -82,23 +109,15 @@ impl LineHandler for Session {
     /// Answers the row on the line: none is an empty answer, and several, or one that is too long, are a bad row. Until the board is open a
     /// row names the group or a club, and its answer is empty.
     fn answer(&mut self, row: u64, text: &[u8], answer: &mut Answer) -> Result<(), LiveFault> {
-        let mut record = ByteRecord::new(self.config.alloc);
-        let Some(said) = fields_on(self.config.alloc, row, text, &mut record)? else {
-            *answer = Answer::nothing();
-            return Ok(());
-        };
-        let line = Line { row, said, text };
         if let Phase::Open(table) = &mut self.phase {
-            table.answer(&self.config, &mut self.heading, &line, answer)?;
-            return Ok(());
+            if let Some(four) = plain_row(row, text) {
+                let said = RowFields::Four(four);
+                let line = Line { row, said, text };
+                table.answer(&self.config, &mut self.heading, &line, answer)?;
+                return Ok(());
+            }
         }
-        *answer = Answer::nothing();
-        self.phase = match mem::replace(&mut self.phase, Phase::AwaitingHeader) {
-            Phase::AwaitingHeader => with_first(&self.config, &line, &mut self.heading)?,
-            Phase::AwaitingClubs(clubs) => with_club(self.config.alloc, &line, clubs)?,
-            Phase::Open(table) => Phase::Open(table),
-        };
-        Ok(())
+        self.answer_other(row, text, answer)
     }
 
     /// Answers `begun`, a last line without a line feed, if it has a byte. Fails if a club is missing at the end.
