@@ -167,6 +167,7 @@ unfolding answers
 some-answers e [] some = absurd (some refl)
 some-answers e (b ∷ line) some = append-nil (answer_said e (said_on e.row (b ∷ line)) (shown_text (b ∷ line)))
 
+-- a last line without a line feed is answered as if it had one, if it has a byte
 some-end : (e : Session) (begun : List ℕ) → (begun ≡ [] → ⊥) → end_of e begun ≡ next e (said_on e.row begun)
 unfolding after_lines
 some-end e [] some = absurd (some refl)

@@ -133,7 +133,7 @@ module _ {M V F S W : Type 0} {R : LineRules M F} {cap : ℕ} {D : Due V F} {m :
           d.stops_next p.run.bytes f.front p.run.given.text f.line p.run.rest f.state p.run.given.handler fault before after f.run (front_of p f) f.why (rw (only p none) at p.out.0)
       stops (inr (none, e)) =
           d.stops_last p.run.bytes p.run.given.text p.run.given.handler n fault before after (all_run p e.all) e.ended e.holds (rw (only p none) at p.out.0)
-  why _ p = ((p.ends.0, rw (only p p.ends.3, all_text p p.ends.1) at p.out.0), p.out.1)
+  why _ p = ((p.ends.0, rw (only p p.ends.2.1, all_text p p.ends.1) at p.out.0), p.out.1)
 
   -- a run that fails has done what is due of it up to there
   pub fails : (f : ServeFault F) → ServedBy R cap old new (Err f) Prompt → source.failed b.source ≡ is_source_failed {V = V} (Err f) → IsDriven D source sink a b (Err f)

@@ -232,6 +232,7 @@ pub sound-next : (e : Session) (r : Said) → IsSound e → IsSound (next e r)
 sound-next e Nothing g = g
 sound-next e r g = sound-at e e.phase r g
 
+-- a session is sound as it begins: its phase, its header and its numbers are in range
 pub start-sound : (options : LiveArgs) → IsSound (start_of options)
 start-sound options = record { phase = tt; small = tt; header_is = first-header options }
 

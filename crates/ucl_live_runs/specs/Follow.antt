@@ -277,7 +277,8 @@ IsNoFall None later = ⊤
 IsNoFall (Some earlier) None = ⊤
 IsNoFall (Some earlier) (Some later) = (earlier ≡ later) ⊎ IsOlder later earlier
 
--- none of these board states is older than one before it, and two of the same edition and version are the same
+-- none of these board states, one for each answer that carries one (the others are None), is older than one before it, and two of the same
+-- edition and version are the same
 unfoldable pub NeverFall : List (Option BoardState) → Type 0
 NeverFall [] = ⊤
 NeverFall (first ∷ rest) = All (IsNoFall first) rest × NeverFall rest

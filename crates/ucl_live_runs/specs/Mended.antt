@@ -68,7 +68,8 @@ abbrev pub left_by : StandingEvent → Fate → List LeftOut
 left_by event (Refused refusal) = record { event = event; refusal = refusal } ∷ []
 left_by event fate = []
 
--- those of these events that a mend which names this row leaves out after those that are kept, each with its refusal
+-- those of these events that a mend which names this row leaves out after those that are kept, each with its refusal; the event of the
+-- named row is left out too, but has no refusal and is not in the list
 unfoldable pub left_out_after : ℕ → List StandingEvent → List StandingEvent → List LeftOut
 left_out_after row kept [] = []
 left_out_after row kept (event ∷ events) = left_by event (fate_of row kept event) ++ left_out_after row (kept_after row kept event) events
