@@ -1,7 +1,7 @@
 -- The output of a night is short, so the bytes of it that went out are counted exactly.
 use Rattle.ucl_runs.proofs.Common.{All, Entry, IsLegal, List, NightEvent, None, Ok, Option, Profile, Result, Script, Some, [], arith, ap, codes, length, length-append}
 use Rattle.ucl_runs.proofs.Common.{refl, styled, subst, ℕ, ◌++◌, ◌+◌, ◌<◌, ◌∷◌, ◌≡◌, ◌≤◌}
-use Rattle.std.proofs.Common.{◌^◌, take}
+use Rattle.std.proofs.Common.{◌^◌, inl, inr, take}
 use Rattle.std.proofs.lemmas.Bool.{cases_Bool}
 use Rattle.std.proofs.lemmas.List.Elements.{All-cons, All-nil}
 use Rattle.std.specs.Prelude.{Err}
@@ -27,12 +27,12 @@ all-good slot (club ∷ clubs) none = elim (cases_Bool (is_club club)) [
   | inr bad ↦ cc (rw bad at none)
 ]
 
+same-ok : {A : Type 0} (x y : A) → ◌≡◌ {A = Result A InputFault} (Ok x) (Ok y) → x ≡ y
+same-ok x y e = cc
+
 good-clubs : (clubs four : List NamedClub) (slot : Option ℕ) → length four ≡ 4 → bad_slot four ≡ slot → if_good four slot ≡ Ok clubs → IsRoster clubs
 good-clubs clubs four None long none is = subst IsRoster (same-ok four clubs is) (record { four = long; each = all-good 1 four none })
 good-clubs clubs four (Some slot) long bad is = cc is
-
-same-ok : {A : Type 0} (x y : A) → ◌≡◌ {A = Result A InputFault} (Ok x) (Ok y) → x ≡ y
-same-ok x y e = cc
 
 step : {A B : Type 0} (r : Result A InputFault) (f : A → Result B InputFault) (b : B) → (r >>= f) ≡ Ok b → (x : A) × (f x ≡ Ok b)
 step (Ok x) f b is = (x, is)
