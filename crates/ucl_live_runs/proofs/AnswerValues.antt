@@ -73,7 +73,7 @@ edition-back edition h = rw (le-leb edition 65535 h) refl
 
 -- ---- a value that has the members of a board state tells it
 
-record Has (value : Data) (m : BoardState) : Type 0 where
+pub record Has (value : Data) (m : BoardState) : Type 0 where
   group : text_at (codes "group") value ≡ Some (m.header.group ∷ [])
   order : text_at (codes "order") value ≡ Some (profile_name m.header.profile)
   edition : get (codes "edition") value ≡ Some (number_value m.header.edition)
@@ -137,6 +137,16 @@ state-plain m is = record {
   edition = is.edition;
 }
 
+-- an accepted event in JSON fits a line, by the sizes of its parts
+accepted-size : (row : ℕ) (event : NightEvent) (event_number : ℕ) (m : BoardState) (kind order : List ℕ) → kind ≡ kind_name event.call.kind → order ≡ profile_name m.header.profile
+    → length (decimal row) ≤ 20 → length (decimal event.call.expected) ≤ 20 → length (decimal event.call.game) ≤ 20 → length (decimal event_number) ≤ 20
+    → length (decimal event.reporter) ≤ 20 → length (decimal m.header.edition) ≤ 5 → length (decimal (version_of m.board)) ≤ 5
+    → items_size false (word_items m.board) ≤ 228 → items_size false (club_items m.roster) ≤ 292 → length (quoted kind) ≤ 20
+    → length (quoted (m.header.group ∷ [])) ≡ 3 → length (quoted order) ≤ 13 → size (accepted_value row event event_number m.header m.board m.roster) ≤ 4096
+unfolding accepted_value serde_json_on_literals
+accepted-size row event event_number m kind order of by a b c d e f g h i j k l = rw (← of, ← by) (omega arith)
+
+-- an accepted event in JSON is a plain value that fits a line
 pub accepted-plain : (row : ℕ) (event : NightEvent) (number : ℕ) (m : BoardState) → IsBoardState m → row < 2 ^ 64 → HasNumbers event → number < 2 ^ 64
     → IsShortPlain (accepted_value row event number m.header m.board m.roster)
 unfolding accepted_value serde_json_on_literals
@@ -147,7 +157,9 @@ accepted-plain row event event_number m is r fits n =
         (refl, refl),
         (p.clubs.0, (omega arith, (kind.0, (fits.expected, (p.group.0, (fits.game, (n, (p.order.0, (refl, (fits.reporter, (r, (omega arith, (p.words.0, tt))))))))))))),
       );
-      size = omega (arith, digits-20, p.words.1, p.clubs.1, kind.1, p.group.1, p.order.1, fits.expected, fits.game, fits.reporter);
+      size = accepted-size row event event_number m (kind_name event.call.kind) (profile_name m.header.profile) refl refl (digits-20 row r)
+          (digits-20 event.call.expected fits.expected) (digits-20 event.call.game fits.game) (digits-20 event_number n) (digits-20 event.reporter fits.reporter)
+          (digits-5 m.header.edition (omega arith)) (digits-5 (version_of m.board) (omega arith)) p.words.1 p.clubs.1 kind.1 p.group.1 p.order.1;
     }
 
 pub mended-plain : (without : Option ℕ) (row left_out : ℕ) (m : BoardState) → IsBoardState m → row < 2 ^ 64 → IfSome without (λ n. n < 2 ^ 64) → left_out < 2 ^ 64

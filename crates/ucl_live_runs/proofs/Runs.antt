@@ -128,9 +128,9 @@ module _ {M V F S W : Type 0} {R : LineRules M F} {cap : ℕ} {D : Due V F} {m :
   why (Handler fault) p = (stops p.ends, p.out.1)
     where
       stops : ((p.run.given.fault ≡ Some fault) × IsLeft n p.run) ⊎ ((p.run.last ≡ []) × StopsLast R cap old new p.run fault) → D.Stops p.run.bytes before after fault
-      stops (inl (is, left, none)) =
+      stops (inl (is, left)) =
           let f = runs_front 1 (rw is at p.answered) in
-          d.stops_next p.run.bytes f.front p.run.given.text f.line p.run.rest f.state p.run.given.handler fault before after f.run (front_of p f) f.why (rw (only p none) at p.out.0)
+          d.stops_next p.run.bytes f.front p.run.given.text f.line p.run.rest f.state p.run.given.handler fault before after f.run (front_of p f) f.why (rw (only p left.1) at p.out.0)
       stops (inr (none, e)) =
           d.stops_last p.run.bytes p.run.given.text p.run.given.handler n fault before after (all_run p e.all) e.ended e.holds (rw (only p none) at p.out.0)
   why _ p = ((p.ends.0, rw (only p p.ends.2.1, all_text p p.ends.1) at p.out.0), p.out.1)
