@@ -6,9 +6,9 @@ use Rattle.ucl_word.proofs.Common.{subst, sym, true, ℕ, ◌++◌, ◌+◌, ◌
 use Rattle.std.proofs.Common.{cond, length-append, ne_eqb}
 use Rattle.std.proofs.Math.Nat.{zero-add, add-zero, add_assoc, le_refl}
 use Rattle.std.proofs.lemmas.List.Sums.{sum_by-append}
-use Rattle.ucl_word.specs.Counts.{MatchEntry, count, is_kind, state_of, last_reporter, counted_match, IsAccepted, IsLegalMatch}
+use Rattle.ucl_word.specs.Counts.{CountsOneMore, MatchEntry, count, is_kind, state_of, last_reporter, counted_match, IsAccepted, IsLegalMatch}
 use Rattle.ucl_word.specs.Theorems.{IsBalanced, CaseOf, IsCase, OneCaseHolds}
-use Rattle.ucl_word.proofs.ValidRecords.{scheduled_valid}
+use Rattle.ucl_word.proofs.ValidRecords.{has_reporter, scheduled_valid}
 use Rattle.ucl_word.proofs.AcceptedEvents.{Accepts, accepts, expects_number, begun, unbegun, over, after_valid, state_kept}
 use Rattle.ucl_word.proofs.Sequences.{may_induction, may_next}
 
@@ -177,3 +177,10 @@ counted es m reporter expected kind legal is r none =
       rw (← is) (sym (record_next es reporter kind (legal_balanced es legal) (legal_case es legal) (accepts (counted_match es) (length es) kind none'))),
       may_next IsAccepted es (record { reporter = reporter; kind = kind }) legal (record { reporter = r; accepted = none' }),
     )
+
+-- an accepted event after which the record is valid takes any such count to that of the longer list
+pub counts_one_more : (m next : MatchRecord) (reporter expected : ℕ) (kind : Kind) → refusal_of m expected kind ≡ None → IsValid (after m reporter kind)
+    → next ≡ after m reporter kind → CountsOneMore m reporter kind next
+unfolding after
+counts_one_more m next reporter expected kind none valid same es legal is =
+    let count = counted es m reporter expected kind legal is (has_reporter (after m reporter kind) valid (omega arith)) none in (same ∙ count.0, count.1)

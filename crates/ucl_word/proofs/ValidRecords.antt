@@ -1,5 +1,5 @@
 -- What is known of a valid record.
-use Rattle.ucl_word.proofs.Common.{IsValid, MatchRecord, Scheduled, State, arith, is_within_limits, nat_tests, refl, scheduled, suits_state}
+use Rattle.ucl_word.proofs.Common.{IsReporter, IsValid, MatchRecord, Scheduled, State, arith, is_within_limits, nat_tests, refl, scheduled, suits_state}
 use Rattle.ucl_word.proofs.Common.{true, ◌≡◌, ◌≤◌}
 use Rattle.ucl_word.specs.Record.{is_untouched, is_valid, max_number}
 use Rattle.std.proofs.lemmas.Bool.{and_from, and_parts}
@@ -36,14 +36,18 @@ module _ (m : MatchRecord) (v : IsValid m) where
   pub away_expulsions_valid : m.away_expulsions ≤ 31
   away_expulsions_valid = let w = within in grind (arith, nat_tests)
 
-number_within : (s : State) (m : MatchRecord) → suits_state s m ≡ true → (m.number ≤ max_number) × (m.reporter ≤ 255)
-number_within s m h = (search (arith, nat_tests), search (arith, nat_tests))
+number_within : (s : State) (m : MatchRecord) → suits_state s m ≡ true → (m.number ≤ max_number) × (m.reporter ≤ 255) × (1 ≤ m.number → 1 ≤ m.reporter)
+number_within s m h = (search (arith, nat_tests), search (arith, nat_tests), search (arith, nat_tests))
 
 pub number_valid : (m : MatchRecord) → IsValid m → m.number ≤ max_number
 number_valid m v = (number_within m.state m (parts m v).1).0
 
 pub reporter_valid : (m : MatchRecord) → IsValid m → m.reporter ≤ 255
 reporter_valid m v = (number_within m.state m (parts m v).1).1
+
+-- a record with an event has a reporter
+pub has_reporter : (m : MatchRecord) → IsValid m → 1 ≤ m.number → IsReporter m.reporter
+has_reporter m v some = ((number_within m.state m (parts m v).1).2 some, reporter_valid m v)
 
 pub ruleset limits = (home_goals_valid, away_goals_valid, home_yellows_valid, away_yellows_valid, home_expulsions_valid, away_expulsions_valid, number_valid)
 

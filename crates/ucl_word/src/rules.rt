@@ -177,10 +177,7 @@ pub fn next_word(word: u64, reporter: ReporterNo, expected: u16, kind: Kind) -> 
     ensures refused { IfErr result (λ r. refusal_of (record_at word) expected kind ≡ Some r) }
     ensures accepted { IfOk result (λ next. (refusal_of (record_at word) expected kind ≡ None)
         × (next ≡ word_of (after (record_at word) reporter kind))) }
-    ensures record { IfOk result (λ next. record_at next ≡ after (record_at word) reporter kind) }
-    ensures valid { IfOk result IsWord }
-    ensures counted { IfOk result
-        (λ next. CountsOneMore (record_at word) reporter kind (record_at next)) }
+    ensures valid { IfOk result (λ _. IsValid (after (record_at word) reporter kind)) }
 {
     in_turn(word, expected, kind)?;
     let changed = changed(word, kind)?;

@@ -1,6 +1,4 @@
-use Rattle.ucl_word.proofs.Common.{IsReporter, None, after, ap, arith, record_at, refusal_of, sym, ◌∙◌, ◌≡◌}
-use Rattle.ucl_word.proofs.Words.{record_back}
-use Rattle.ucl_word.proofs.EntryCounts.{counted}
+use Rattle.ucl_word.proofs.Common.{IsReporter, None, after, arith, record_at, refusal_of, ◌∙◌, ◌≡◌}
 use Rattle.ucl_word.proofs.ChangedWords.{Entered, entered}
 use Rattle.ucl_word.proofs.rules.next_word.Goals.{After-from}
 use Rattle.ucl_word.proofs.rules.next_word.Goals as goal
@@ -26,13 +24,5 @@ overflow_add-result-2 c = let n = next c in let r = c.field.ensures.below in ome
 pub returns-clause-accepted : goal.returns-clause-accepted
 returns-clause-accepted c = let n = next c in let r = c.field.ensures.below in (none c, omega arith)
 
-pub returns-clause-record : goal.returns-clause-record
-returns-clause-record c = ap record_at (returns-clause-accepted c).1 ∙ record_back (after (record_at c.args.word) c.args.reporter c.args.kind) (next c).valid
-
 pub returns-clause-valid : goal.returns-clause-valid
-returns-clause-valid c = record { of = after (record_at c.args.word) c.args.reporter c.args.kind; valid = (next c).valid; packed = sym (returns-clause-accepted c).1 }
-
-pub returns-clause-counted : goal.returns-clause-counted
-returns-clause-counted c es legal is =
-    let count = counted es (record_at c.args.word) c.args.reporter c.args.expected c.args.kind legal is (by c) (none c) in
-    (returns-clause-record c ∙ count.0, count.1)
+returns-clause-valid c = (next c).valid

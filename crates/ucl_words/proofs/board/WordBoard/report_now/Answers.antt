@@ -1,5 +1,6 @@
 use Rattle.ucl_words.proofs.Common.{added_by, ℕ, ◌+◌, sym, ap, ◌∙◌, subst, arith, rules, length, length-append, Ok, Err, Stale}
 use Rattle.ucl_words.proofs.Common.{Entry, Steps, pass_view_of, pass_of, IsHoldingFor, client_of, Match, Swap}
+use Rattle.ucl_word.proofs.Words.{packing}
 use Rattle.ucl_words.proofs.Steps.{found_word}
 use Rattle.ucl_words.proofs.Reports.{Reported, refused_report, holding_for, accepted_report, missed_report, was_reported}
 use Rattle.ucl_live_board.proofs.Lists.{few_mine}
@@ -33,21 +34,23 @@ pub swap-found-requires-clause-next : goal.swap-found-requires-clause-next
 swap-found-requires-clause-next c =
     let said = c.look-loaded.ensures in
     let next = c.in_ok-next.ensures in
+    let held = packing _ _ next.valid next.accepted.1 in
     subst (λ (e : Entry). IsHoldingFor (client_of c.look-loaded.new.seat.me.0.own).held e.game c.look-loaded.result c.in_ok-next.next) (sym c.of-entry.ensures)
     (holding_for c.pass.inside.seat.me.0 c.look-loaded.new.seat.me.0 c.args.call.now c.pass.inside.number c.look-loaded.result c.look-loaded.new.seat.id said.game
     (search (arith, c.pass.ranges))
-    c.pass.invariant.0 c.pass.invariant.3 said.looks next.accepted.0 c.in_ok-next.next next.valid next.record)
+    c.pass.invariant.0 c.pass.invariant.3 said.looks next.accepted.0 c.in_ok-next.next held.0 held.1)
 
 -- the exchange was won
 won : (c : goal.After-pass-1) → Reported c.pass.inside.seat.me.0 c.args.call.now (Ok (record { number = c.number_of-number.result })) c.swap-found.new.seat.me.0
 won c =
     let said = c.look-loaded.ensures in
     let next = c.in_ok-next.ensures in
+    let held = packing _ _ next.valid next.accepted.1 in
     let step = subst (λ (e : Entry). Steps c.swap-found.new.seat.id
     (Match Swap e.game c.swap-found.result) c.look-loaded.new.seat.me.0 c.swap-found.new.seat.me.0) c.of-entry.ensures c.swap-found.ensures.swaps in
     accepted_report c.pass.inside.seat.me.0 c.look-loaded.new.seat.me.0 c.args.call.now c.pass.inside.number c.look-loaded.result c.look-loaded.new.seat.id said.game
     (search (arith, c.pass.ranges))
-    c.pass.invariant.0 c.pass.invariant.3 said.looks next.accepted.0 c.in_ok-next.next next.valid next.record
+    c.pass.invariant.0 c.pass.invariant.3 said.looks next.accepted.0 c.in_ok-next.next held.0 held.1
     c.swap-found.new.seat.me.0 c.swap-found.result c.swap-found.new.seat.id step c.if-found-loaded.true c.number_of-number.result c.number_of-number.ensures.value
 
 pub overflow_add-pass : goal.overflow_add-pass
@@ -78,11 +81,12 @@ missed : (c : goal.After-number_of) → Reported c.pass.inside.seat.me.0 c.args.
 missed c =
     let said = c.look-loaded.ensures in
     let next = c.in_ok-next.ensures in
+    let held = packing _ _ next.valid next.accepted.1 in
     let step = subst (λ (e : Entry). Steps c.swap-found.new.seat.id
     (Match Swap e.game c.swap-found.result) c.look-loaded.new.seat.me.0 c.swap-found.new.seat.me.0) c.of-entry.ensures c.swap-found.ensures.swaps in
     missed_report c.pass.inside.seat.me.0 c.look-loaded.new.seat.me.0 c.args.call.now c.pass.inside.number c.look-loaded.result c.look-loaded.new.seat.id said.game
     (search (arith, c.pass.ranges))
-    c.pass.invariant.0 c.pass.invariant.3 said.looks next.accepted.0 c.in_ok-next.next next.valid next.record
+    c.pass.invariant.0 c.pass.invariant.3 said.looks next.accepted.0 c.in_ok-next.next held.0 held.1
     c.swap-found.new.seat.me.0 c.swap-found.result c.swap-found.new.seat.id step c.if-found-loaded.false c.number_of.result c.number_of.ensures.value
 
 pub invariant_of-pass-else-found-loaded : goal.invariant_of-pass-else-found-loaded
