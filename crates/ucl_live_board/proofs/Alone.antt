@@ -4,8 +4,7 @@ use Rattle.ucl_live_board.proofs.Common.{All, IsSome, None, dite, some, get_elem
 use Rattle.ucl_live_board.proofs.Common.{added_by, number_of, history_of, enlisted_by, IsLegalRule, View, Share, whole, Overlap, BoardInvariant, DidAllAlone}
 use Rattle.ucl_live_board.proofs.Common.{WholeIsAlone}
 use Rattle.ucl_board.specs.Log.{LogFacts}
-use Rattle.ucl_board.proofs.Logs.{taken_none, below_more}
-use Rattle.ucl_board.proofs.Logs.{log_facts}
+use Rattle.ucl_board.proofs.Logs.{taken_none, below_more, log_facts}
 use Rattle.ucl_live_board.proofs.Halves.{in_whole}
 
 -- the first step of a log is the first of the seat that took it, and is not of another seat
@@ -82,7 +81,7 @@ module _ (words_after : List Entry → ℕ → List ℕ) (May : Log → Logged �
         let g = facts.given n low high in
         ap number_of (r.fits seat v here).own.1 ∙ (ap (λ (k : ℕ). number_of (taken_by k r.log)) (sym (only_it g.0 (number_some n (taken_by g.0 r.log) low g.1))) ∙ g.1)
 
-    -- it entered all entries of the log, and no other pass was enlisted
+    -- a pass with the whole board entered all entries of the log, and no other pass was enlisted
     pub alone_there : DidAllAlone r.log v
     alone_there =
         let f = r.fits seat v here in

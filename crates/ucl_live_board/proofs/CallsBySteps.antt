@@ -32,7 +32,7 @@ pub record Stays (v w : View) : Type 0 where
 pub stays_none : (v : View) → Stays v v
 stays_none v = record { seen = begins_same (history_of v.log); listed = le_refl (enlisted_by v.log); share = refl; mine = refl; number = refl }
 
--- one step more that added no entry and gave no number
+-- such steps, and then one that added no entry and gave no number, are such steps
 pub stays_more : (v w u : View) (target : Target) → Stays v w → Sees target w u → Stays v u
 stays_more v w u target t sees = search (arith, begins_through)
 
@@ -46,7 +46,7 @@ module _ (shown : List Taken → List ℕ) where
   pub stays_continue : (v w u : View) → Stays v u → Goes w u → Continues (pass_view_by shown v) (pass_view_by shown u)
   stays_continue v w u t goes = record { sound = sound shown w u goes; on = stays_on v u t; number = t.number }
 
-  -- so do such steps and a last one that added an entry
+  -- such steps, and a last one that added an entry, leave what holds of a pass after each call
   pub adds_continue : (v w u : View) (target : Target) (e : Entry) → Stays v w → Adds target e w u → Continues (pass_view_by shown v) (pass_view_by shown u)
   adds_continue v w u target e t adds = search (arith, sound, begins_through)
 
@@ -59,7 +59,7 @@ module _ (shown : List Taken → List ℕ) where
     first : IsPrefix v.log w.log
     first = All-head (λ l. IsPrefix l w.log) v.log (a.log ∷ v.told) sees.goes.heard
 
-    -- it entered nothing, and knows no less than before
+    -- a pass that took in a note entered nothing, and knows no less than before
     pub hears : Stays v w
     hears = record { seen = history_on v.log w.log first; listed = enlisted_on v.log w.log first; share = sees.goes.share; mine = sees.mine; number = sees.number }
 
@@ -81,6 +81,6 @@ module _ (shown : List Taken → List ℕ) where
 pub sound_second : (shown : List Taken → List ℕ) (v : View) → IsSound (pass_view_by shown v) → IsSound (pass_view_by shown (second_pass v))
 sound_second shown v s = search (arith, none_by_zero, half_acts, half_not_whole)
 
--- and so is what is left of the sound pass
+-- what is left of a sound pass after a split is sound
 pub sound_left : (shown : List Taken → List ℕ) (v : View) → IsSound (pass_view_by shown v) → IsSound (pass_view_by shown (left_pass v))
 sound_left shown v s = search (arith, half_acts, half_not_whole)

@@ -26,7 +26,7 @@ at_last views w u j e = search (arith, some-injective, some-ne-none)
 abbrev ApartShares : List View → Type 0
 ApartShares views = (i j : ℕ) (v w : View) → get_elem? views i ≡ some v → get_elem? views j ≡ some w → Overlap v.share w.share → i ≡ j
 
--- they stay apart if one view is set to a view whose share overlaps with no other view's
+-- shares of views stay apart if one view is set to one whose share overlaps with no other's
 apart_set : (views : List View) (seat : ℕ) (w : View) → ((j : ℕ) (u : View) → j ≢ seat → get_elem? views j ≡ some u → Overlap w.share u.share → ⊥)
     → ApartShares views → ApartShares (set views seat w)
 apart_set views seat w lone apart i j a b at bt over = elim (at_set views seat i w a at) [
@@ -40,7 +40,7 @@ apart_set views seat w lone apart i j a b at bt over = elim (at_set views seat i
   ]
 ]
 
--- and if one is added whose share overlaps with no other
+-- shares of views stay apart if a view is added whose share overlaps with none
 apart_last : (views : List View) (w : View) → ((j : ℕ) (u : View) → get_elem? views j ≡ some u → Overlap w.share u.share → ⊥)
     → ApartShares views → ApartShares (views ++ w ∷ [])
 apart_last views w lone apart i j a b at bt over = elim (at_last views w a i at) [
@@ -64,7 +64,7 @@ module _ (views : List View) (seat : ℕ) (v : View) (here : get_elem? views sea
   apart_kept : (w : View) → w.share ≡ v.share → ApartShares (set views seat w)
   apart_kept w same = apart_set views seat w (lone_by w (λ t over. subst (λ (s : Share). Overlap s t) same over)) apart
 
-  -- they stay apart after a split of its pass
+  -- the shares stay apart after a split
   apart_split : ApartShares (set views seat (left_pass v) ++ second_pass v ∷ [])
   apart_split = apart_last (set views seat (left_pass v)) (second_pass v)
       (λ j u at over. elim (at_set views seat j (left_pass v) u at) [
@@ -236,11 +236,11 @@ module _ (words_after : List Entry → ℕ → List ℕ) (May : Log → Logged �
           shared = apart;
         }
 
-    -- so a split of a pass keeps it
+    -- a split of a pass keeps the invariant
     pub seconds_keep : BoardInvariant words_after May words (set views seat (left_pass v) ++ second_pass v ∷ [])
     seconds_keep = split_keeps (left_pass v) (second_pass v) refl refl refl (half_none false v.share) refl refl refl (apart_split views seat v here r.shared)
 
-    -- so does making a note of what a pass knows
+    -- making a note of what a pass knows keeps the invariant
     pub notes_keep : BoardInvariant words_after May words (set views seat v ++ note_pass v ∷ [])
     notes_keep = split_keeps v (note_pass v) refl refl refl (λ e. e) refl refl refl
         (apart_last (set views seat v) (note_pass v) (λ j u at over. over) (apart_kept views seat v here r.shared v refl))

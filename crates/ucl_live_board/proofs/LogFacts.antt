@@ -4,18 +4,14 @@ use Rattle.ucl_live_board.proofs.Common.{arith, append-nil, [], length-set, All,
 use Rattle.ucl_live_board.proofs.Common.{ℕ_discrete, set_here, set_else, Entry, Taken, Logged, logged_by, Log, taken_by, number_of, history_of, enlisted_by}
 use Rattle.ucl_live_board.proofs.Common.{IsLog, IsLegalRule, View, Overlap, first_pass, BoardInvariant, BoardsOpenFresh, StepsComeLast, LastStepsSeeAll}
 use Rattle.ucl_live_board.proofs.Common.{NumbersAreApart, IsHeld, Covers, HoldersDidAll}
-use Rattle.ucl_board.proofs.Logs.{taken_append, log_begins, knows_all}
 use Rattle.std.proofs.Common.{◌≤◌}
+use Rattle.std.proofs.lemmas.List.{append_cancel_left}
 use Rattle.std.proofs.lemmas.List.Elements.{All-weaker}
 use Rattle.ucl_live_board.specs.BoardInvariant.{PassesSeePrefixes, WordsCountReporters}
-use Rattle.ucl_board.proofs.Logs.{enlisted_on, history_on, legal_history, log_facts}
+use Rattle.ucl_board.proofs.Logs.{enlisted_on, history_on, knows_all, legal_history, log_begins, log_facts, taken_append}
 use Rattle.ucl_live_board.proofs.Halves.{in_whole, on_a_side}
 use Rattle.ucl_live_board.proofs.Alone.{taken_else, some_here, only_own, view_at, none_beyond, number_some, seat_there}
 use Rattle.ucl_live_board.proofs.InvariantIsKept.{place_below}
-
-left_same : {X : Type 0} (xs ys zs : List X) → xs ++ ys ≡ xs ++ zs → ys ≡ zs
-left_same [] ys zs same = same
-left_same (x ∷ xs) ys zs same = left_same xs ys zs (cc)
 
 module _ (words_after : List Entry → ℕ → List ℕ) (May : Log → Logged → Type 0) where
   -- the steps that a pass took between two states of the invariant stand at the end of the later log
@@ -35,8 +31,8 @@ module _ (words_after : List Entry → ℕ → List ℕ) (May : Log → Logged �
       (λ not. ([], append-nil (taken_by j r.log) ∙ sym (else_same j not)))) in
       let rest : (j : ℕ) → taken_by j r.log ++ taken_by j p.0 ≡ taken_by j s.log = (λ j. sym (taken_append j r.log p.0) ∙ ap (taken_by j) p.1) in
       sym p.1 ∙ ap (λ (l : Log). r.log ++ l)
-      (only_own seat p.0 (λ j not. left_same (taken_by j r.log) (taken_by j p.0) [] (rest j ∙ (else_same j not ∙ sym (append-nil (taken_by j r.log)))))
-      ∙ ap (map (logged_by seat)) (left_same (taken_by seat r.log) (taken_by seat p.0) steps (rest seat ∙ own)))
+      (only_own seat p.0 (λ j not. append_cancel_left (taken_by j r.log) (taken_by j p.0) [] (rest j ∙ (else_same j not ∙ sym (append-nil (taken_by j r.log)))))
+      ∙ ap (map (logged_by seat)) (append_cancel_left (taken_by seat r.log) (taken_by seat p.0) steps (rest seat ∙ own)))
 
   -- the pass that took the last step of the log knows the whole log
   pub last_sees_all : LastStepsSeeAll words_after May
@@ -49,7 +45,7 @@ no_steps : (log : Log) → All (λ (x : Logged). x.seat < 1) log → taken_by 0 
 no_steps [] all none = refl
 no_steps (x ∷ log) all none = search (arith, All-head, some_here)
 
--- so a board opens with an empty log and the words of no event and no reporter
+-- a board opens with an empty log and the words of no event and no reporter
 pub opens_fresh : (words_after : List Entry → ℕ → List ℕ) (May : Log → Logged → Type 0) → BoardsOpenFresh words_after May
 opens_fresh words_after May words r =
     let none = no_steps r.log r.seated (sym (r.fits 0 first_pass refl).own.1) in
@@ -88,7 +84,7 @@ module _ (words_after : List Entry → ℕ → List ℕ) (May : Log → Logged �
   one_holds : (path : List Bool) → IsHeld views held path → (seat : ℕ) (u : View) → get_elem? views seat ≡ some u → Overlap u.share (Some path) → IsTrue (held seat)
   one_holds path h seat u here over = subst (λ (k : ℕ). IsTrue (held k)) (sym (r.shared seat h.seat u h.view here h.there (subst (Overlap u.share) (sym h.share) over))) h.held_is
 
-  -- and so is one whose share overlaps with what the held seats cover together
+  -- a pass whose share overlaps with what the held seats cover together is at one of them
   holds : (n : ℕ) (path : List Bool) → Covers views held n path → (seat : ℕ) (u : View) → get_elem? views seat ≡ some u → Overlap u.share (Some path) → IsTrue (held seat)
   holds zero path make seat u here over = one_holds path make seat u here over
   holds (suc n) path make seat u here over = ⊎_elim

@@ -3,19 +3,17 @@
 use Rattle.ucl_words.proofs.Common.{Access, Bool, CountsReporters, DoneAsBefore, EnlistStep, EnlistTries, Enlisted, EnlistedStep, Enlisting}
 use Rattle.ucl_words.proofs.Common.{Enlists, FindsEnlisted, Follows, FoundEnlisted, Goes, HasTrail, IsConsistent, IsLog, IsNextOfProtocol}
 use Rattle.ucl_words.proofs.Common.{IsPrefix, IsSound, IsThere, JoinIsMonotone, LaterBoardsExtend, LaterState, LaterStatesCompose, List, []}
-use Rattle.ucl_words.proofs.Common.{Log, Logged, Match, MayBeTaken, None, NumbersRiseInTime, Occurs, Sees, Some, ap, subst}
-use Rattle.ucl_words.proofs.Common.{SplitIsMonotone, Stays, Steps, Taken, Takes, Target, View, Whole, WordEnlisted, WordFull, WordMet}
-use Rattle.ucl_words.proofs.Common.{WordPass, WordSplit, accesses_in, acts_some, append-nil, append_assoc, arith, at_longer}
-use Rattle.ucl_words.proofs.Common.{begins_same, begins_through, by_seat, cases_eq, cond, count_of, enlisted_by, enlisted_on}
-use Rattle.ucl_words.proofs.Common.{false, get_elem?, half_acts, hears, history_of, inl, inr, left_pass, length, log_begins, logs_facts}
-use Rattle.ucl_words.proofs.Common.{ltb-true, may_begin, may_last, meets, nat_lt, new_pass, note_pass, number_by, number_more, number_of}
-use Rattle.ucl_words.proofs.Common.{pass_view_of, place_below, refl, seat_there, second_pass, set, set_else, set_here, shorter, since}
-use Rattle.ucl_words.proofs.Common.{slice_index, some, some-injective, some_acts, sound, sound_left, sound_second}
-use Rattle.ucl_words.proofs.Common.{stays_more, stays_none, step, step_taken, steps_of, sym, taken_by, taken_on, takes_count}
-use Rattle.ucl_words.proofs.Common.{takes_none, takes_on, told_pass, trail_of, true, versions_shown, words_after, ◌++◌, ◌+◌, ◌<◌, ◌==◌, ◌∙◌}
-use Rattle.ucl_words.proofs.Common.{◌∷◌, ◌≡◌, ◌≢◌, ◌≤◌, ◌⊎◌, ℕ}
-use Rattle.ucl_words.proofs.Steps.{EnlistWon, Position, count_there, enlist_won, loads_enlisted}
-use Rattle.ucl_words.proofs.Steps.{takes_trail, trail_longer}
+use Rattle.ucl_words.proofs.Common.{Log, Logged, Match, MayBeTaken, None, NumbersRiseInTime, Occurs, Sees, Some, ap, subst, SplitIsMonotone}
+use Rattle.ucl_words.proofs.Common.{Stays, Steps, Taken, Takes, Target, View, Whole, WordEnlisted, WordFull, WordMet, WordPass, WordSplit}
+use Rattle.ucl_words.proofs.Common.{accesses_in, acts_some, append-nil, append_assoc, arith, at_longer, begins_same, begins_through}
+use Rattle.ucl_words.proofs.Common.{by_seat, cases_eq, cond, count_of, enlisted_by, enlisted_on, false, get_elem?, half_acts, hears}
+use Rattle.ucl_words.proofs.Common.{history_of, inl, inr, left_pass, length, log_begins, logs_facts, ltb-true, may_begin, may_last, meets}
+use Rattle.ucl_words.proofs.Common.{nat_lt, new_pass, note_pass, number_by, number_more, number_of, pass_view_of, place_below, refl}
+use Rattle.ucl_words.proofs.Common.{seat_there, second_pass, set, set_else, set_here, shorter, since, slice_index, some, some-injective}
+use Rattle.ucl_words.proofs.Common.{some_acts, sound, sound_left, sound_second, stays_more, stays_none, step, step_taken, steps_of, sym}
+use Rattle.ucl_words.proofs.Common.{taken_by, taken_on, takes_count, takes_none, takes_on, told_pass, trail_of, true, versions_shown}
+use Rattle.ucl_words.proofs.Common.{words_after, ◌++◌, ◌+◌, ◌<◌, ◌==◌, ◌∙◌, ◌∷◌, ◌≡◌, ◌≢◌, ◌≤◌, ◌⊎◌, ℕ}
+use Rattle.ucl_words.proofs.Steps.{EnlistWon, Position, count_there, enlist_won, loads_enlisted, takes_trail, trail_longer}
 use Rattle.ucl_words.proofs.Clients.{counted_does, done_shown}
 use Rattle.ucl_live_board.proofs.CallsBySteps.{enlists, stays_on as stays_seen}
 use Rattle.ucl_live_board.proofs.InvariantIsKept.{split_occurs}
@@ -44,7 +42,7 @@ tries_more : (known n found place at : ℕ) (steps : List Taken) → MissedTries
 tries_more known n found place at [] same less other = (found, (inl refl, refl), (let e = same in omega arith), (λ z. other (z ∙ same)), refl)
 tries_more known n found place at (x ∷ steps) t less other = (t.0, t.1, t.2, t.3, tries_more t.0 n found place at steps t.4 less other)
 
--- one that expected n and found it is won: the tries give the number n + 1
+-- an exchange that expected n and found it is won: the tries give the number n + 1
 tries_won : (known n found place at : ℕ) (steps : List Taken) → MissedTries known steps n → n < 255 → found ≡ n
     → Enlisting known (steps ++ step_taken (Enlists found) place at None ∷ []) (Some (n + 1))
 tries_won known n found place at [] same less won =
@@ -85,7 +83,7 @@ module _ (v x w : View) (n found : ℕ) (was : Missed v x n) (other : found ≢ 
   pub missed_higher : (n < found) × (found ≤ 255)
   missed_higher = let a = was.known in let b = missed.goes.listed in let c = missed.there in let d = missed.goes.few in (omega arith, omega arith)
 
-  -- it is one of the missed exchanges, of which the last then found that number
+  -- an exchange that was missed is one missed try more, of which the last found that number
   pub missed_more : n < 255 → Missed v w found
   missed_more below =
       let there = missed.there in
@@ -136,7 +134,7 @@ second_consistent v consistent = record {
 pub left_consistent : (v : View) → IsConsistent v → IsConsistent (left_pass v)
 left_consistent v consistent = record { sound = sound_left versions_shown v consistent.sound; told = consistent.told; trail = consistent.trail }
 
--- so a split says what a word board promises of it
+-- a split says what a word board promises of it
 pub was_split : (k m n : WordPass) → IsSound (pass_view_of k.pass) → m.board ≡ k.board → n.board ≡ k.board → m.seat ≡ k.seat
     → m.pass ≡ left_pass k.pass → n.pass ≡ second_pass k.pass → WordSplit k m n
 was_split k m n sound own other seat left given = record {
@@ -177,7 +175,7 @@ module _ (a b k m : WordPass) (n : ℕ) (consistent : IsConsistent k.pass) (s : 
         (trail_longer (history_of k.pass.log) (history_of m.pass.log) (trail_of k.pass) stays.seen consistent.trail);
   }
 
-  -- so the two passes have met as a word board promises
+  -- two passes that met have done so as a word board promises
   pub was_met : b ≡ a → m.board ≡ k.board → m.seat ≡ k.seat → IsSound (pass_view_of a.pass) → WordMet a b k m
   was_met same own seat first_sound =
       let done = counted_does m.seat n told m.pass s in
@@ -267,7 +265,7 @@ later_set s seat v u words here p still j w at acts = elim (cases_eq j seat) [
   | inr not ↦ (w, set_else s.views seat j u not ∙ at, acts, begins_same w.log)
 ]
 
--- so a step of any kind leads to a later state
+-- a step of any kind leads to a later state
 pub steps_on : (seat : ℕ) (target : Target) (s : Position) (place : ℕ) (v w : View) (words : List ℕ) → get_elem? s.views place ≡ some v → Steps seat target v w
     → LaterState s (record s { words = words; views = set s.views place w })
 steps_on seat target s place v w words here t =
@@ -326,7 +324,7 @@ number_given (x ∷ since) log seat is =
       | inr more ↦ inr (omega arith)
     ]
 
--- so the number that a pass is given between two states is above all that were given by the first
+-- the number that a pass is given between two states is above all that were given by the first
 pub numbers_rise : NumbersRiseInTime
 numbers_rise s t r q later seat v w here none there some_number =
     let on = later_go_on s t r q later in
@@ -357,7 +355,7 @@ enlists_by place k n v w is true step =
     subst (λ (j : ℕ). CountsReporters j v w) is (record { step = _; takes = (enlist_won place n v w step).gives.takes; found_is = (inr refl, refl) })
 enlists_by place k n v w is false step = counts_reporters k n v w is (loads_enlisted place n v w step)
 
--- and so does an exchange of it
+-- an exchange of the number of reporters finds as many as the log has
 pub enlists_find : (place : ℕ) → FindsEnlisted (EnlistStep place)
 enlists_find place s r st m m' l =
     let n = slice_index s.words st.word in

@@ -1,14 +1,14 @@
 -- What the steps of a call leave as done and as held.
-use Rattle.ucl_words.proofs.Common.{AccessKind, Bool, Call, Checking, ClientState, Collecting, CompletesCall, DoneAsBefore, []}
-use Rattle.ucl_words.proofs.Common.{Enlisted, Enlists, EventCall, FinishedCall, Finishes, First, GoesOn, Holding, IsAnswered, IsBegun}
-use Rattle.ucl_words.proofs.Common.{IsNextOfProtocol, List, Look, Match, MayCollect, NoCall, None, Outcome, Pending, Refusal}
-use Rattle.ucl_words.proofs.Common.{Reply, Second, Some, Stale, StaysIn, Steps, Swap, View, after, ap, append-nil, arith, at_is, by_rules}
-use Rattle.ucl_words.proofs.Common.{call_answered, call_asked, checking, client_number, client_of, collected, collecting, cond, entry_by}
-use Rattle.ucl_words.proofs.Common.{entry_of, eq-eqb, false, first_later, first_place, flat_map, flat_map-append, history_of, inl, inr}
-use Rattle.ucl_words.proofs.Common.{legal_steps, length, length-take-le, log_long, ne_eqb, next_game, number_of, outcome, reading_of, subst}
-use Rattle.ucl_words.proofs.Common.{record_at, refl, refusal_of, set, slice_index, suc, sym, take, take-length, true}
-use Rattle.ucl_words.proofs.Common.{version_in, versions_shown, with_outcome, with_target, word_of, words_after, zero, ◌++◌, ◌+◌, ◌<◌, ◌==◌}
-use Rattle.ucl_words.proofs.Common.{◌∙◌, ◌∷◌, ◌≡◌, ◌≢◌, ◌≤◌, ◌⊎◌, ℕ}
+use Rattle.ucl_words.proofs.Common.{AccessKind, Bool, Call, Checking, ClientState, Collecting, CompletesCall, DoneAsBefore, [], Enlisted}
+use Rattle.ucl_words.proofs.Common.{Enlists, EventCall, FinishedCall, Finishes, First, GoesOn, Holding, IsAnswered, IsBegun}
+use Rattle.ucl_words.proofs.Common.{IsNextOfProtocol, List, Look, Match, MayCollect, NoCall, None, Outcome, Pending, Refusal, Reply, Second}
+use Rattle.ucl_words.proofs.Common.{Some, Stale, StaysIn, Steps, Swap, View, after, ap, append-nil, arith, at_is, by_rules, call_answered}
+use Rattle.ucl_words.proofs.Common.{call_asked, checking, client_number, client_of, collected, collecting, cond, entry_by, entry_of, eq-eqb}
+use Rattle.ucl_words.proofs.Common.{false, first_later, first_place, flat_map, flat_map-append, history_of, inl, inr, legal_steps, length}
+use Rattle.ucl_words.proofs.Common.{length-take-le, log_long, ne_eqb, next_game, number_of, outcome, reading_of, subst, record_at, refl}
+use Rattle.ucl_words.proofs.Common.{refusal_of, set, slice_index, sym, take, take-length, true, version_in, versions_shown, with_outcome}
+use Rattle.ucl_words.proofs.Common.{with_target, word_of, words_after, ◌++◌, ◌+◌, ◌<◌, ◌==◌, ◌∙◌, ◌∷◌, ◌≡◌, ◌≢◌, ◌≤◌, ◌⊎◌, ℕ}
+use Rattle.std.proofs.lemmas.List.{take_more_set}
 use Rattle.ucl_words.proofs.Steps.{ExchangeMissed, ExchangeWon, LoadsMatch, adds_none, client_is, count_stays, exchange_won, loads_match}
 use Rattle.ucl_words.proofs.Steps.{shown_of}
 use Rattle.ucl_steps.specs.declared.step.Call.TheVariants as calls
@@ -142,7 +142,7 @@ module _ (seat game n old new : ℕ) (e : EventCall) (v w : View) (s : Steps sea
       first = ap (λ (h : Pending). first_place h (client_of v.own).first s.step.place) held;
     }
 
-  -- one that found another word stored nothing
+  -- the exchange of a report that found another word stored nothing
   pub swap_missed : n ≢ old → ExchangeMissed e.game v n w
   swap_missed other =
       let none : s.step.entry ≡ None = s.next.entry ∙ ((λ i. entry_by (client_of (sym s.own i)).number (client_of (sym s.own i)).held (s.of i))
@@ -150,16 +150,10 @@ module _ (seat game n old new : ℕ) (e : EventCall) (v w : View) (s : Steps sea
       ∙ ap (λ (b : Bool). cond b (Some (Rattle.ucl_board.specs.History.entry_of (client_of v.own).number e)) None) (ne_eqb n old other))) in
       subst (λ (g : ℕ). ExchangeMissed g v n w) of (loads_match seat game n Swap v w s none)
 
-  -- one that found the word that it expected added the entry
+  -- the exchange of a report that found the word that it expected added the entry
   pub swap_won : n ≡ old → ExchangeWon (Rattle.ucl_board.specs.History.entry_of (number_of v.own) e) v n w
   swap_won same = subst (λ (k : ℕ). ExchangeWon (Rattle.ucl_board.specs.History.entry_of (number_of v.own) e) v k w) (sym same)
       (exchange_won seat game old new e v w (subst (λ (k : ℕ). Steps seat (Match Swap game k) v w) same s) held of)
-
--- if an element at place i is set, the first i + 1 elements are the first i and that one
-take_set : (ws : List ℕ) (i n : ℕ) → i < length ws → take (i + 1) (set ws i n) ≡ take i ws ++ n ∷ []
-take_set [] i n less = absurd (omega arith)
-take_set (x ∷ ws) zero n less = refl
-take_set (x ∷ ws) (suc i) n less = let e : suc i + 1 ≡ suc (i + 1) = omega arith in ap (λ (k : ℕ). take k (x ∷ set ws i n)) e ∙ ap (λ (l : List ℕ). x ∷ l) (take_set ws i n (omega arith))
 
 -- from v to x the pass has loaded the first i words of a first collect and holds them, or there are none and it is as it was
 abbrev pub Firsts : View → List ℕ → ℕ → View → Type 0
@@ -201,7 +195,7 @@ module _ (v x : View) (words : List ℕ) (i : ℕ) (less : i < 12) (long : lengt
     more = collected (take (i + 1) (set words i n)) (length (history_of w.log))
 
     words_on : take i words ++ n ∷ [] ≡ take (i + 1) (set words i n)
-    words_on = sym (take_set words i n (omega arith))
+    words_on = sym (take_more_set words i n (omega arith))
 
     comes : Firsts v words i x → outcome (client_of x.own).number (client_of x.own).held (Match First (i + 1) n) s.step.at ≡ GoesOn more
     comes so_far =

@@ -54,7 +54,7 @@ module _ (kind : AccessKind) (v x w : View) (words : List ℕ) (i n : ℕ) (belo
   pub collected_same : n ≡ slice_index words i → Collected kind v words (i + 1) w
   collected_same is = collected_more words was.words_are is
 
-  -- and another word ends the try
+  -- a second collect that finds another word ends the try
   pub collected_other : n ≢ slice_index words i → kind ≡ Second → FindsAnother v words w
   collected_other other is = search (arith, more_walks)
 
@@ -170,7 +170,7 @@ module _ (x u w : View) (words : List ℕ) (long : length words ≡ 12) (collect
     unfolding is_clean
     reading_accesses = record { tries = tried.tries; last = collects.accesses ++ again.accesses; accesses = refl; unclean = tried.unclean; clean = is_clean }
 
-    -- so the reading, all accesses counted, is the board at that point, within the bounds of its tries
+    -- a reading, with all its accesses, is the board at its point, within the bounds of its tries
     whole : IsReadFrom (history_of w.log) (length (history_of v.log)) (length (history_of w.log)) clean_reading all_accesses reading_accesses
     whole = reading_whole (history_of w.log) (length (history_of v.log)) (length (history_of w.log)) clean_reading all_accesses all_walks.consistent.sound.legal
         (le_refl (length (history_of w.log))) all_walks.leaves.follows reading_accesses
@@ -201,7 +201,7 @@ module _ (x u w : View) (words : List ℕ) (long : length words ≡ 12) (collect
           most = omega arith;
         }
 
-    -- so they are, for the reading that has these words
+    -- tries and then a clean one are the reading that has these words
     pub reads : (reading : Reading) → reading ≡ reading_of words → versions_shown w.own ≡ versions_shown v.own ++ version_of words ∷ [] → Reads v reading w
     reads reading is shown = subst (λ (r : Reading). Reads v r w) ((λ i. record { board = words; version = sym version_seen i }) ∙ sym is)
         (reads_clean (shown ∙ ap (λ (k : ℕ). versions_shown v.own ++ k ∷ []) version_seen))

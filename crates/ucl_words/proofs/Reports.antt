@@ -179,7 +179,7 @@ module _ (v u : View) (call : EventCall) (reporter loaded seat : ℕ) (game : Is
         won_whole = subst (λ (t : List Access). Follows seen 0 t (length seen)) (sym won_trail)
             (trail_on (history_of v.log) seen (trail_of v) (look_access ∷ won_access ∷ []) (begins_through (history_of v.log) before seen since_seen begun) consistent.trail won_follows)
 
-        -- so the event is accepted, with the event number of the word that it left
+        -- a report whose exchange was won: the event is accepted, with the event number of the word that it left
         pub accepted_report : (number : ℕ) → number ≡ (record_at next).number → Reported v call (Ok (record { number = number })) z
         accepted_report number is =
             let ok = accepted_as number is in

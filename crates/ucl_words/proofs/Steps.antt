@@ -3,25 +3,25 @@ use Rattle.ucl_words.proofs.Common.{Access, AccessKind, Adds, All, All-head, All
 use Rattle.ucl_words.proofs.Common.{Enlisted, EnlistedStep, Enlists, Entry, EventCall, ExchangeStep, FinishedCall, First, FirstStep, ap}
 use Rattle.ucl_words.proofs.Common.{Follows, GivesNumber, GoesOn, HasTrail, Holding, IsConsistent, IsMatch, IsNextFor, IsNextOfProtocol}
 use Rattle.ucl_words.proofs.Common.{IsPrefix, IsReporter, IsSome, IsThere, IsWord, Joins, List, Look, LookStep, Match, MatchRecord, subst}
-use Rattle.ucl_words.proofs.Common.{MayFollow, Me, NoCall, None, Occurs, Option, Pending, Second, SecondStep}
-use Rattle.ucl_words.proofs.Common.{Sees, Some, Splits, State, Steps, Swap, TableInvariant, Taken, Takes, Target, Valid, View, Walks}
-use Rattle.ucl_words.proofs.Common.{access, accesses_append, accesses_in, adds, after, append-nil, append_assoc, arith}
-use Rattle.ucl_words.proofs.Common.{attempted, begins_length, begins_same, begins_through, board_next, board_of, calls_low}
-use Rattle.ucl_words.proofs.Common.{carried_after, client_at, client_number, client_of, cond, count_none, either, enlist_none, enlisted}
-use Rattle.ucl_words.proofs.Common.{enlisted_by, entry_by, entry_of, eq-eqb, exchanged, first_none, first_pass, flat_map, fold-append}
-use Rattle.ucl_words.proofs.Common.{follows_append, follows_longer, follows_one, follows_wider, get_elem?, get_or, history_of, joins_keep}
-use Rattle.ucl_words.proofs.Common.{keeps, le_refl, left_pass, legal_steps, length, length-append, logged_by, logs_legal, logs_sound}
-use Rattle.ucl_words.proofs.Common.{look_none, map, map-append, match_after, match_valid, may_attempt, ne_eqb, new_client, new_pass}
-use Rattle.ucl_words.proofs.Common.{next_game, note_pass, notes_keep, number_of, opening, opens_keep, outcome, own_is, pass_view_of}
-use Rattle.ucl_words.proofs.Common.{read_back, record_at, refl, refusal_of, second_none, second_pass, seconds_keep, sees, set}
-use Rattle.ucl_words.proofs.Common.{set-get_or, some, sound, step, step_taken, stepped, takes_step}
-use Rattle.ucl_words.proofs.Common.{steps_with, sym, takes_count, takes_none, takes_on, there_before, told_pass, trail_of}
-use Rattle.ucl_words.proofs.Common.{version_in, versions_by, versions_shown, with_step, with_target, word_after, word_of, words_after}
-use Rattle.ucl_words.proofs.Common.{words_enlisted, words_entered, words_stay, ◌++◌, ◌+◌, ◌-◌, ◌<◌, ◌==◌, ◌∙◌, ◌∷◌, ◌≡◌, ◌≢◌, ◌≤◌, ℕ}
+use Rattle.ucl_words.proofs.Common.{MayFollow, Me, NoCall, None, Occurs, Option, Pending, Second, SecondStep, Sees, Some, Splits, State}
+use Rattle.ucl_words.proofs.Common.{Steps, Swap, TableInvariant, Taken, Takes, Target, Valid, View, Walks, access, accesses_append}
+use Rattle.ucl_words.proofs.Common.{accesses_in, adds, after, append-nil, append_assoc, arith, attempted, begins_length, begins_same}
+use Rattle.ucl_words.proofs.Common.{begins_through, board_next, board_of, calls_low, carried_after, client_at, client_number, client_of}
+use Rattle.ucl_words.proofs.Common.{cond, count_none, either, enlist_none, enlisted, enlisted_by, entry_by, entry_of, eq-eqb, exchanged}
+use Rattle.ucl_words.proofs.Common.{first_none, first_pass, flat_map, fold-append, follows_append, follows_longer, follows_one}
+use Rattle.ucl_words.proofs.Common.{follows_wider, get_elem?, get_or, history_of, joins_keep, keeps, le_refl, left_pass, legal_steps}
+use Rattle.ucl_words.proofs.Common.{length, length-append, logged_by, logs_legal, logs_sound, look_none, map, map-append, match_after}
+use Rattle.ucl_words.proofs.Common.{match_valid, may_attempt, ne_eqb, new_client, new_pass, next_game, note_pass, notes_keep, number_of}
+use Rattle.ucl_words.proofs.Common.{opening, opens_keep, outcome, own_is, pass_view_of, read_back, record_at, refl, refusal_of, second_none}
+use Rattle.ucl_words.proofs.Common.{second_pass, seconds_keep, sees, set, set-get_or, some, sound, step, step_taken, stepped, takes_step}
+use Rattle.ucl_words.proofs.Common.{steps_with, sym, takes_count, takes_none, takes_on, there_before, told_pass, trail_of, version_in}
+use Rattle.ucl_words.proofs.Common.{versions_by, versions_shown, with_step, with_target, word_after, word_of, words_after, words_enlisted}
+use Rattle.ucl_words.proofs.Common.{words_entered, words_stay, ◌++◌, ◌+◌, ◌-◌, ◌<◌, ◌==◌, ◌∙◌, ◌∷◌, ◌≡◌, ◌≢◌, ◌≤◌, ℕ}
 use mathlib.Core.Option as core
 use Rattle.ucl_board.specs.Log.{enlists}
 use Rattle.ucl_steps.proofs.LogFacts.{Offers, Sees as SeesPending}
 
+-- the words of a board and the views of its passes, between two steps
 abbrev pub Position : Type 0
 Position = State Entry View
 
@@ -73,7 +73,7 @@ module _ (s : Position) (r : TableInvariant s) (seat : ℕ) (v : View) (here : g
       }) are in
       (t.0, t.1, subst (λ (k : ℕ). Steps k target v t.0) (sym is_seat) t.2)
 
-  -- one that adds no entry and enlists no one leaves the words as they are, and keeps the invariant
+  -- a step that adds no entry and enlists no one leaves the words as they are, and keeps the invariant
   one_look : (target : Target) → IsThere r.log target → IsNextFor (client_of v.own) target → entry_by (client_of v.own).number (client_of v.own).held target ≡ None
       → length (enlists target) ≡ 0 → (i : ℕ) (cs : List (ℕ × Entry)) (place : ℕ) → place ≡ seat
       → (w : View) × TableInvariant (stepped s i (get_or s.words i 0) seat cs w keeps) × Steps place target v w
@@ -101,30 +101,30 @@ loads slots seat game place act m is_seat load acts is next s r _ here _ =
     let t = load_by s r seat m.0 here acts act game m.1 place is_seat is (next n) (load_none act load (client_of m.0.own).held (client_of m.0.own).number game n) in
     (t.0, keeps, tt, t.1, t.2)
 
--- it allows the load by which a reporter's pass that holds no call begins a report
+-- the table allows the load by which a reporter's pass that holds no call begins a report
 pub looks : (slots seat game place : ℕ) (m : Me Entry View) (e : EventCall) → place ≡ seat → IsSome m.0.share → IsMatch game → e.game ≡ game → IsReporter (number_of m.0.own)
     → (client_of m.0.own).held ≡ NoCall → Allows TableInvariant slots seat m game (λ n. n) (LookStep place e (step slots game 0 0 core.none) m)
 looks slots seat game place m e is_seat acts is of reporter nothing =
     loads slots seat game place (Look e) m is_seat tt acts is (λ n. (nothing, sym of, subst IsReporter (sym (client_number m.0.own)) reporter))
 
--- it allows the next load of a first collect
+-- the table allows the next load of a first collect
 pub firsts : (slots seat game : ℕ) (m : Me Entry View) → IsSome m.0.share → IsMatch game → game ≡ next_game First (client_of m.0.own).held
     → Allows TableInvariant slots seat m game (λ n. n) (FirstStep (step slots game 0 0 core.none) m)
 firsts slots seat game m acts is next s r hs here small =
     let t = loads slots seat game seat First m refl tt acts is (λ n. next) s r hs here small in
     (t.0, t.1, t.2, t.3, (seat, t.4))
 
--- it allows the next load of a second collect
+-- the table allows the next load of a second collect
 pub again : (slots seat game place : ℕ) (m : Me Entry View) → place ≡ seat → IsSome m.0.share → IsMatch game → game ≡ next_game Second (client_of m.0.own).held
     → Allows TableInvariant slots seat m game (λ n. n) (SecondStep place (step slots game 0 0 core.none) m)
 again slots seat game place m is_seat acts is next = loads slots seat game place Second m is_seat tt acts is (λ n. next)
 
--- it allows a load of the number of reporters
+-- the table allows a load of the number of reporters
 pub counts : (slots seat place : ℕ) (m : Me Entry View) → place ≡ seat → IsSome m.0.share →
     Allows TableInvariant slots seat m 0 (λ n. n) (EnlistedStep place (step slots 0 0 0 core.none) m)
 counts slots seat place m is_seat acts s r _ here _ = let t = count_by s r seat m.0 here acts m.1 place is_seat in (t.0, keeps, tt, t.1, (refl, t.2))
 
--- it allows the exchange of an enlistment, by a reader's pass that holds no call and expects fewer than 255 reporters
+-- the table allows the exchange of an enlistment, by a reader's pass that holds no call and expects fewer than 255 reporters
 pub enlisting : (slots seat place : ℕ) (m : Me Entry View) (old : ℕ) → place ≡ seat → IsSome m.0.share → number_of m.0.own ≡ 0 → (client_of m.0.own).held ≡ NoCall → old < 255
     → Allows TableInvariant slots seat m 0 (λ n. either (n == old) (old + 1) n) (EnlistStep place (step slots 0 old (old + 1) core.none) m)
 enlisting slots seat place m old is_seat acts reader nothing room s r _ here _ =
@@ -199,7 +199,7 @@ module _ (s : Position) (r : TableInvariant s) (seat : ℕ) (m : Me Entry View) 
       ap (λ (ws : List ℕ). set ws game new) r.words_are ∙ (set_match (enlisted_by r.log) (board_of h) game new is_match.0
       ∙ (ap (λ (l : List ℕ). enlisted_by r.log ∷ l) board ∙ words_entered words_after IsNextOfProtocol s.words s.views r seat m.0 here won_step made refl refl))
 
-  -- so an exchange that is won keeps the invariant
+  -- the exchange of a report that is won keeps the invariant
   won_by : found ≡ old → (place : ℕ) → place ≡ seat → (w : View) × TableInvariant (stepped s game new seat m.1 w keeps) × Steps place (Match Swap game found) m.0 w
   won_by hit place is_seat = one_step s r seat m.0 here acts (Match Swap game found) (Some made) (is_match, word_there s r seat m.0 here acts game is_match)
       next (won_some hit) game new m.1 place is_seat (won_words hit)
