@@ -65,7 +65,7 @@ pub const SCHEDULED: u64 = 0;
 pub const IN_PLAY: u64 = 1;
 pub const FINISHED: u64 = 2;
 
-/// The word of a match that has not kicked off: the mark of the layout alone.
+/// The word of a match that has not kicked off: the layout tag alone.
 pub const FRESH: u64 = 2 << 60;
 
 /// The greatest event number, and that of a match in play.

@@ -41,6 +41,7 @@ use Rattle.std.proofs.Math.Seq.{take-append-add}
 use mathlib.Core.List.{IsPrefix}
 use Rattle.ucl_word.specs.declared.refusal.Refusal.TheVariants.{Stale}
 
+-- the entries of a match in two histories, one after the other, and in one with an entry more, of this match or another
 pub entries-append : (g : ℕ) (h l : List Entry) → entries_of g (h ++ l) ≡ entries_of g h ++ entries_of g l
 entries-append g h l = ap (map of_match) (filter-append (λ e. e.game == g) h l) ∙ map-append of_match (filter (λ e. e.game == g) h) (filter (λ e. e.game == g) l)
 
@@ -59,6 +60,7 @@ legal_match g = may_induction MayFollow (λ h. IsLegalMatch (entries_of g h)) (m
 pub match_valid : (g : ℕ) (h : List Entry) → IsLegal h → IsValid (match_after h g)
 match_valid g h legal = legal_valid (entries_of g h) (legal_match g h legal)
 
+-- P holds of n if it holds of k, and of each n that is not k
 pub or_else : (P : ℕ → Type 0) (k : ℕ) → P k → (n : ℕ) → (n ≢ k → P n) → P n
 or_else P k p n other = dite (ℕ_discrete n k) (λ is. subst P (sym is) p) other
 
@@ -74,6 +76,7 @@ each_match P a b c d e f g h i j k l n is = or_else P 1 a n (λ not_1. or_else P
 pub each_slot : (P : ℕ → Type 0) → P 1 → P 2 → P 3 → P 4 → (n : ℕ) → IsSlot n → P n
 each_slot P a b c d n is = or_else P 1 a n (λ not_1. or_else P 2 b n (λ not_2. or_else P 3 c n (λ not_3. or_else P 4 d n (λ not_4. absurd (omega arith)))))
 
+-- match g is the one with place g - 1 in the list of matches
 pub number_listed : (g d : ℕ) → IsMatch g → get_or match_numbers (g - 1) d ≡ g
 number_listed g d is = each_match (λ g. get_or match_numbers (g - 1) d ≡ g) refl refl refl refl refl refl refl refl refl refl refl refl g is
 
@@ -82,10 +85,12 @@ pub board_none : replicate 12 (word_of scheduled) ≡ board_of []
 unfolding board_of counted_match
 board_none = refl
 
+-- a board has twelve words
 pub board_length : (h : List Entry) → length (board_of h) ≡ 12
 unfolding board_of
 board_length h = refl
 
+-- each is the word of its match's record
 word_listed : (h : List Entry) (k d : ℕ) → k < 12 → get_or (board_of h) k d ≡ word_of (match_after h (get_or match_numbers k 0))
 unfolding board_of
 word_listed h k d below = get_or-map (λ game. word_of (match_after h game)) match_numbers k 0 d below
@@ -101,6 +106,7 @@ pub same_boards : (xs ys : List ℕ) → length xs ≡ 12 → length ys ≡ 12 �
 same_boards xs ys a b each = same_number_lists xs ys (a ∙ sym b)
     (λ k l. let e : k + 1 - 1 ≡ k = omega arith in subst (λ (k : ℕ). get_or xs k 0 ≡ get_or ys k 0) e (each (k + 1) (omega arith, omega arith)))
 
+-- an entry changes the word of its match in the board
 pub board_next : (h : List Entry) (e : Entry) → IsMatch e.game → board_of (followed_by h e) ≡ set (board_of h) (e.game - 1) (word_of (match_after (followed_by h e) e.game))
 board_next h e game = let long = board_length h in
     same_boards (board_of (followed_by h e)) (set (board_of h) (e.game - 1) (word_of (match_after (followed_by h e) e.game))) (board_length (followed_by h e))
@@ -125,6 +131,7 @@ next_board h words game reporter kind m legal is range counted =
       may_next MayFollow h e legal (record { game = range; accepted = may_last IsAccepted (entries_of game h) (of_match e) next.1 }),
     )
 
+-- the board of a legal history has words of valid records
 pub board_words : (h : List Entry) → IsLegal h → AreWords (board_of h)
 board_words h legal = record {
   twelve = board_length h;
@@ -139,6 +146,7 @@ reply_is h words call legal is range =
     let was : game_at words call.game ≡ match_after h call.game = ap (λ (ws : List ℕ). game_at ws call.game) (sym is) ∙ game_after h call.game legal range in
     ap (λ (m : MatchRecord). reply_of m call) was
 
+-- the reply to an event that the rules accept, or refuse
 pub accepted_reply : (m g : MatchRecord) (call : EventCall) (number : ℕ) → m ≡ g → refusal_of m call.expected call.kind ≡ None → number ≡ m.number + 1
     → Ok (record { number = number }) ≡ reply_of g call
 accepted_reply m g call number same none is = subst (λ (g : MatchRecord). Ok (record { number = number }) ≡ reply_of g call) same (rw is (sym (ap (λ (o : Option Refusal). answer m.number o) none)))
@@ -156,6 +164,7 @@ next_read words read i from at word long few from_is at_is before now k below = 
     (λ is. rw (is, get_or-set_same read i word 0 (omega arith)) (subst (λ (n : ℕ). read_word (get_or words n 0) ≡ Some word) from_is now))
     (λ not. rw (get_or-set_other read i k word 0 not) (before k (omega arith))))
 
+-- words that were read one by one are read as a board
 all_read : (index : ℕ) (words read : List ℕ) → length read ≡ length words
     → ((k : ℕ) → k < length words → read_word (get_or words k 0) ≡ Some (get_or read k 0)) → read_words index words ≡ Ok read
 unfolding read_words
@@ -176,6 +185,7 @@ first_bad index (suc k) (w ∷ words) read below bad before =
     let rest = first_bad (index + 1) k words (λ j. read (suc j)) (omega arith) bad (λ j less. before (suc j) (omega arith)) in
     rw (first, rest) (ap (λ (n : ℕ). Err n) (omega arith))
 
+-- all twelve words were read, one by one
 module _ (words read : List ℕ) (long : length words ≡ 12) (read_long : length read ≡ 12)
     (each : (k : ℕ) → k < 12 → read_word (get_or words k 0) ≡ Some (get_or read k 0)) where
   pub are_read : read_words 1 words ≡ Ok read
@@ -191,12 +201,14 @@ module _ (words read : List ℕ) (long : length words ≡ 12) (read_long : lengt
 pub read_again : (words : List ℕ) → AreWords words → read_words 1 words ≡ Ok words
 read_again words are = are_read words words are.twelve are.twelve (λ k below. reads_word (get_or words k 0) (are.each k 0 (let long = are.twelve in omega arith)))
 
+-- a word and then words that were read were each read
 one_read : (word : Option ℕ) (index : ℕ) (rest : Result (List ℕ) ℕ) (board : List ℕ) → before_words word index rest ≡ Ok board
     → (new : ℕ) × (later : List ℕ) × (word ≡ Some new) × (rest ≡ Ok later) × (new ∷ later ≡ board)
 one_read (Some new) index (Ok later) board is = (new, later, refl, refl, cc)
 one_read (Some new) index (Err bad) board is = absurd cc
 one_read None index rest board is = absurd cc
 
+-- words that are read are as many, and words of valid records
 pub read_are_words : (index : ℕ) (words board : List ℕ) → read_words index words ≡ Ok board → (length board ≡ length words) × All IsWord board
 unfolding read_words
 read_are_words index [] board is = let none : [] ≡ board = cc in rw (← none) (refl, All-nil IsWord)
@@ -205,6 +217,7 @@ read_are_words index (w ∷ words) board is =
     let rest = read_are_words (index + 1) words one.1 one.3 in
     rw (← one.4) (ap suc rest.0, All-cons IsWord one.0 one.1 (read_valid w one.0 one.2) rest.1)
 
+-- a number that tells which two clubs play a match, and the match that it tells
 key : Fixture → ℕ
 key f = 10 * f.home + f.away
 
@@ -218,6 +231,7 @@ game_back : (game : ℕ) → IsMatch game → game_of (key (fixture_of game)) �
 unfolding key game_of
 game_back = each_match (λ game. game_of (key (fixture_of game)) ≡ game) refl refl refl refl refl refl refl refl refl refl refl refl
 
+-- each two clubs play one match, of which one is at home
 meet : (home : ℕ) → IsSlot home → (away : ℕ) → IsSlot away → home ≢ away → (game : ℕ) × IsMatch game × (fixture_of game ≡ at home away)
 meet = each_slot (λ home. (away : ℕ) → IsSlot away → home ≢ away → (game : ℕ) × IsMatch game × (fixture_of game ≡ at home away))
     (each_slot (λ away. 1 ≢ away → (game : ℕ) × IsMatch game × (fixture_of game ≡ at 1 away)) (λ not. absurd (not refl)) (λ not. (3, (omega arith, omega arith), refl))
@@ -237,9 +251,11 @@ fixtures_meet home away h a not = let m = meet home h away a not in record {
   alone = λ other is same. sym (game_back other is) ∙ (ap (λ (f : Fixture). game_of (key f)) (same ∙ sym m.2) ∙ game_back m.0 m.1);
 }
 
+-- each beginning of a legal history is legal
 pub beginnings : BeginningsAreLegal
 beginnings = may_begin MayFollow
 
+-- an entry adds one to the entries of its match
 pub more : (h : List Entry) (e : Entry) (g : ℕ) → e.game ≡ g → length (entries_of g (followed_by h e)) ≡ length (entries_of g h) + 1
 more h e g is = ap length (entries_same h e g is) ∙ length-append (entries_of g h) _
 
@@ -247,6 +263,7 @@ more h e g is = ap length (entries_same h e g is) ∙ length-append (entries_of 
 number_shown : (h : List Entry) (g : ℕ) → IsLegal h → (record_at (word_of (match_after h g))).number ≡ length (entries_of g h)
 number_shown h g legal = ap (λ (m : MatchRecord). m.number) (record_back (match_after h g) (match_valid g h legal)) ∙ number_of_count (entries_of g h)
 
+-- the version of the board is the length of the history
 version_none : version_of (board_of []) ≡ 0
 unfolding board_of counted_match word_of record_at
 version_none = refl
@@ -271,9 +288,11 @@ versions h legal =
     (λ k d below. number_valid _ (word_valid _ ((board_words h legal).each k d below))) in
     (is, omega arith)
 
+-- of two beginnings the longer is the shorter and more
 begin_of : (h : List Entry) (i j : ℕ) → i ≤ j → (rest : List Entry) × (take j h ≡ take i h ++ rest)
 begin_of h i j le = (drop i (take j h), sym (take-append-drop i (take j h)) ∙ ap (λ (l : List Entry). l ++ drop i (take j h)) (take-take i j h le))
 
+-- a match with as many entries at two places has the same entries there
 same_later : (h : List Entry) (i j g : ℕ) → i ≤ j → length (entries_of g (take i h)) ≡ length (entries_of g (take j h)) → entries_of g (take i h) ≡ entries_of g (take j h)
 same_later h i j g le same =
     let t = begin_of h i j le in
@@ -292,6 +311,7 @@ same_number h i j g same =
 pub legal_take : (h : List Entry) (k : ℕ) → IsLegal h → IsLegal (take k h)
 legal_take h k legal = may_begin MayFollow (take k h) (drop k h) (subst IsLegal (sym (take-append-drop k h)) legal)
 
+-- a match with the same word at two places of a legal history has the same entries there
 pub same_word : SameWordSameEntries
 same_word h i j g legal same =
     let m = words_apart (match_after (take i h) g) (match_after (take j h) g) (match_valid g (take i h) (legal_take h i legal)) (match_valid g (take j h) (legal_take h j legal)) same in
@@ -323,6 +343,7 @@ may_attempt h a legal is none = record {
       (counted (entries_of a.call.game h) (match_after h a.call.game) a.reporter a.call.expected a.call.kind (legal_match a.call.game h legal) refl is.0 none).1;
 }
 
+-- by whether the rules accept an attempt, the board after it is that of the history after it, which is legal
 attempt_cases : (h : List Entry) (a : Attempt) (o : Option Refusal) → refusal_of (match_after h a.call.game) a.call.expected a.call.kind ≡ o → IsLegal h → IsAttempt a
     → ((if is_ok (answer (match_after h a.call.game).number o) then set (board_of h) (a.call.game - 1) (word_of (after (match_after h a.call.game) a.reporter a.call.kind)) else board_of h)
     ≡ board_of (if is_ok (answer (match_after h a.call.game).number o) then followed_by h (entry_of a.reporter a.call) else h))
@@ -339,6 +360,7 @@ attempt_made h a legal is = rw (game_after h a.call.game legal is.1) (attempt_ca
 pub attempt_board : (h : List Entry) (a : Attempt) → IsLegal h → IsAttempt a → board_after (board_of h) a ≡ board_of (after_attempt h a)
 attempt_board h a legal is = (attempt_made h a legal is).0
 
+-- after attempts on the board of a legal history the board is that of the history after them
 pub attempts_from : (h : List Entry) (attempts : List Attempt) → IsLegal h → All IsAttempt attempts
     → IsLegal (fold after_attempt h attempts) × (fold board_after (board_of h) attempts ≡ board_of (fold after_attempt h attempts))
 attempts_from h [] legal all = (legal, refl)
@@ -365,6 +387,7 @@ entry_after h e legal =
           ∙ sym (counted (entries_of e.game h) (match_after h e.game) e.reporter (length (entries_of e.game h)) e.kind before refl may.accepted.reporter accepted).0,
     )
 
+-- the same word of a match in the boards of two legal histories is of one record
 same_record : (h k : List Entry) (game : ℕ) → IsLegal h → IsLegal k → IsMatch game → word_at (board_of h) game ≡ word_at (board_of k) game → match_after h game ≡ match_after k game
 same_record h k game a b is same = words_apart (match_after h game) (match_after k game) (match_valid game h a) (match_valid game k b) (sym (word_after h game is) ∙ (same ∙ word_after k game is))
 
@@ -386,6 +409,7 @@ entry_known h k e f legal_e legal_f game was is =
     let reporter = apart.0 in let kind = apart.1 in
     let same : record { game = e.game; reporter = e.reporter; kind = e.kind } ≡ record { game = f.game; reporter = f.reporter; kind = f.kind } = cc in same
 
+-- what one list that begins another has, the other has at its front
 module _ {X : Type 0} where
   pub begins_none : (h : List X) → IsPrefix [] h
   begins_none h = (h, refl)
@@ -406,7 +430,7 @@ module _ {X : Type 0} where
   begins_take s h v p le = let is : length s + (v - length s) ≡ v = omega arith in
       (take (v - length s) p.0, sym (take-append-add s p.0 (v - length s)) ∙ (ap (λ (n : ℕ). take n (s ++ p.0)) is ∙ ap (take v) p.1))
 
-  -- within the beginning, the lists agree
+  -- up to the length of the beginning both lists agree
   pub take_beginning : (s h : List X) (k : ℕ) → IsPrefix s h → k ≤ length s → take k h ≡ take k s
   take_beginning s h k p le = ap (take k) (sym p.1) ∙ take-append-le k s p.0 le
 
@@ -419,8 +443,7 @@ module _ {X : Type 0} where
   pub at_within : (s h : List X) (k : ℕ) (e : X) → IsPrefix s h → k < length s → slice_get h k ≡ Some e → slice_get s k ≡ Some e
   at_within s h k e p le at = get_back s p.0 k e le (ap (λ (z : List X). slice_get z k) p.1 ∙ at)
 
--- ---- accepted events that are entered again, and boards that go on from a history
-
+-- an attempt, and so attempts, leave the history as the beginning of that after them
 begins_attempt : (h : List Entry) (a : Attempt) (o : Option Refusal) → refusal_of (match_after h a.call.game) a.call.expected a.call.kind ≡ o → IsPrefix h (after_attempt h a)
 begins_attempt h a None none = rw none (begins_more h h (entry_of a.reporter a.call) (begins_same h))
 begins_attempt h a (Some r) some = rw some (begins_same h)
@@ -430,6 +453,7 @@ begins_all h [] = begins_same h
 begins_all h (a ∷ attempts) =
     begins_through h (after_attempt h a) _ (begins_attempt h a (refusal_of (match_after h a.call.game) a.call.expected a.call.kind) refl) (begins_all (after_attempt h a) attempts)
 
+-- the entries of a match only grow
 entries_grow : (game : ℕ) (h : List Entry) (attempts : List Attempt) → length (entries_of game h) ≤ length (entries_of game (fold after_attempt h attempts))
 entries_grow game h attempts = let p = begins_all h attempts in
     begins_length _ _ (entries_of game p.0, sym (entries-append game h p.0) ∙ ap (entries_of game) p.1)
@@ -456,6 +480,7 @@ stale_again h a legal is not =
     let same : after_attempt h a ≡ h = rw stale refl in
     record { refused = rw stale refl; history_is = same; board_is = attempt_board h a legal is ∙ ap board_of same }
 
+-- accepted events that are entered again are stale and change nothing, and a board goes on from a history
 pub go_stale : AcceptedEventsGoStale
 go_stale h a attempts legal all ok =
     let is = All-head IsAttempt a attempts all in

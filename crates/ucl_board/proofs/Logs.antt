@@ -4,7 +4,7 @@ use Rattle.std.proofs.Common.{length, Option, Some, None, refl, sym, ap, ◌∙�
 use Rattle.std.proofs.Common.{eq-eqb, ne_eqb, filter, slice_get, ◌⊎◌, le_refl}
 use Rattle.std.specs.List.{All, flat_map}
 use Rattle.std.proofs.lemmas.Bool.{cases_eq, eqb-true}
-use Rattle.std.proofs.lemmas.List.{map-append, length-take-le}
+use Rattle.std.proofs.lemmas.List.{append_cancel_left, map-append, length-take-le}
 use Rattle.std.proofs.lemmas.List.Concat.{flat_map-append}
 use Rattle.std.proofs.lemmas.List.Elements.{filter-append, All-head, All-tail, All-nil, All-cons, All-append}
 use Rattle.std.proofs.lemmas.List.Sums.{fold-append}
@@ -17,8 +17,7 @@ use Rattle.ucl_board.specs.Log.{IsLegalStep, HasLegalSteps, LogFacts}
 use Rattle.ucl_board.proofs.HistoryTheorems.{at_beginning}
 use Rattle.ucl_board.specs.History.{IsLegal, MayFollow}
 
--- the history and the number of the enlisted
-
+-- the history of two parts of a log, and how many they enlisted
 pub history_append : (xs ys : Log) → history_of (xs ++ ys) ≡ history_of xs ++ history_of ys
 history_append xs ys = flat_map-append (λ (y : Logged). entry_list y.step.entry) xs ys
 
@@ -35,14 +34,14 @@ enlisted_append xs ys = ap length (flat_map-append (λ (y : Logged). enlists y.s
 pub enlisted_more : (log : Log) (x : Logged) → enlisted_by (log ++ x ∷ []) ≡ enlisted_by log + length (enlists x.step.target)
 enlisted_more log x = enlisted_append log (x ∷ []) ∙ ap (λ (l : List ℕ). enlisted_by log + length l) (append-nil (enlists x.step.target))
 
+-- a longer log has a longer history, and enlisted no fewer
 pub history_on : (a b : Log) → IsPrefix a b → IsPrefix (history_of a) (history_of b)
 history_on a b p = (history_of p.0, sym (history_append a p.0) ∙ ap history_of p.1)
 
 pub enlisted_on : (a b : Log) → IsPrefix a b → enlisted_by a ≤ enlisted_by b
 enlisted_on a b p = let e = ap enlisted_by (sym p.1) ∙ enlisted_append a p.0 in omega arith
 
--- the steps of a seat
-
+-- the steps of a seat in two parts of a log
 pub taken_append : (seat : ℕ) (xs ys : Log) → taken_by seat (xs ++ ys) ≡ taken_by seat xs ++ taken_by seat ys
 taken_append seat xs ys = ap (map (λ (x : Logged). x.step)) (filter-append (λ (x : Logged). x.seat == seat) xs ys)
     ∙ map-append (λ (x : Logged). x.step) (filter (λ (x : Logged). x.seat == seat) xs) (filter (λ (x : Logged). x.seat == seat) ys)
@@ -50,6 +49,7 @@ taken_append seat xs ys = ap (map (λ (x : Logged). x.step)) (filter-append (λ 
 pub taken_on : (seat : ℕ) (a b : Log) → IsPrefix a b → IsPrefix (taken_by seat a) (taken_by seat b)
 taken_on seat a b p = (taken_by seat p.0, sym (taken_append seat a p.0) ∙ ap (taken_by seat) p.1)
 
+-- a step is of this seat or of another
 pub one_taken : (seat : ℕ) (x : Logged) (b : Bool) → (x.seat == seat) ≡ b → taken_by seat (x ∷ []) ≡ map (λ (y : Logged). y.step) (cond b (x ∷ []) [])
 one_taken seat x b is = ap (λ (c : Bool). map (λ (y : Logged). y.step) (cond c (x ∷ []) [])) is
 
@@ -78,11 +78,11 @@ taken_none seat (x ∷ log) all =
     ∙ (ap (λ (l : List Taken). l ++ taken_by seat log) (one_taken seat x false (ne_eqb x.seat seat (λ e. omega (arith, e, below))))
     ∙ taken_none seat log (All-tail (λ (y : Logged). y.seat < seat) x log all))
 
+-- seats that are below n are below each greater number
 pub below_more : (n m : ℕ) (log : Log) → n ≤ m → All (λ (x : Logged). x.seat < n) log → All (λ (x : Logged). x.seat < m) log
 below_more n m log le all k d l = let h = all k d l in omega arith
 
 -- a step of a seat in the log is one of its steps, and the other way round
-
 first_taken : (seat : ℕ) (y : Logged) (log : Log) (b : Bool) → (y.seat == seat) ≡ b → taken_by seat (y ∷ log) ≡ cond b (y.step ∷ taken_by seat log) (taken_by seat log)
 first_taken seat y log true is = ap (λ (c : Bool). map (λ (z : Logged). z.step) (cond c (y ∷ filter (λ (z : Logged). z.seat == seat) log) (filter (λ (z : Logged). z.seat == seat) log))) is
 first_taken seat y log false is = ap (λ (c : Bool). map (λ (z : Logged). z.step) (cond c (y ∷ filter (λ (z : Logged). z.seat == seat) log) (filter (λ (z : Logged). z.seat == seat) log))) is
@@ -113,9 +113,11 @@ of_taken seat (y ∷ log) j t at = by (of_taken seat log) (y.seat == seat) refl
     by rest true is = own rest j (eqb-true y.seat seat is) (ap (λ (l : List Taken). slice_get l j) (sym (first_taken seat y log true is)) ∙ at)
     by rest false is = let u = rest j t (ap (λ (l : List Taken). slice_get l j) (sym (first_taken seat y log false is)) ∙ at) in (suc u.0, u.1)
 
+-- each step of a log names its place in it
 place_is : (log : Log) (k : ℕ) (x : Logged) → IsLog log → slice_get log k ≡ Some x → x.step.place ≡ k
 place_is log k x is at = let below = at_below log k x at in (is.at k x at).place.0 ∙ length-take-le k log (omega arith)
 
+-- a log whose steps all stand at their places in another one begins it
 begins_by : (a b : Log) → ((k : ℕ) (x : Logged) → slice_get a k ≡ Some x → slice_get b k ≡ Some x) → IsPrefix a b
 begins_by [] b each = (b, refl)
 begins_by (x ∷ a) [] each = absurd (cc (each 0 x refl))
@@ -131,12 +133,6 @@ log_begins a b is_a is_b each = begins_by a b (λ k x at.
     let u = of_taken x.seat b t.0 x.step (at_beginning (taken_by x.seat a) (taken_by x.seat b) t.0 x.step (each x.seat) t.1) in
     subst (λ (n : ℕ). slice_get b n ≡ Some x) (sym (place_is b u.0 x is_b u.1) ∙ place_is a k x is_a at) u.1)
 
--- beginnings
-
-pub nil_left : {X : Type 0} (xs ys : List X) → xs ++ ys ≡ xs → ys ≡ []
-nil_left [] ys e = e
-nil_left (x ∷ xs) ys e = nil_left xs ys (cc)
-
 pub nil_front : {X : Type 0} (xs ys : List X) → xs ++ ys ≡ [] → xs ≡ []
 nil_front [] ys e = refl
 nil_front (x ∷ xs) ys e = absurd cc
@@ -148,7 +144,7 @@ between seat low p log a b same =
     let then : taken_by seat log ≡ taken_by seat p ++ taken_by seat b.0 = ap (taken_by seat) (sym b.1) ∙ taken_append seat p b.0 in
     let all : taken_by seat low ++ (taken_by seat a.0 ++ taken_by seat b.0) ≡ taken_by seat low =
     sym (append_assoc (taken_by seat low) (taken_by seat a.0) (taken_by seat b.0)) ∙ (ap (λ (l : List Taken). l ++ taken_by seat b.0) (sym first) ∙ (sym then ∙ sym same)) in
-    let none = nil_left (taken_by seat low) (taken_by seat a.0 ++ taken_by seat b.0) all in
+    let none = append_cancel_left (taken_by seat low) (taken_by seat a.0 ++ taken_by seat b.0) [] (all ∙ sym (append-nil (taken_by seat low))) in
     first ∙ (ap (λ (l : List Taken). taken_by seat low ++ l) (nil_front (taken_by seat a.0) (taken_by seat b.0) none) ∙ (append-nil (taken_by seat low) ∙ same))
 
 -- of two beginnings the shorter is one of the longer
@@ -188,8 +184,7 @@ knows_all v before x is p same =
     nothing [] none = refl
     nothing (y ∷ l) none = absurd (omega arith)
 
--- the entries, accesses and number of steps
-
+-- the entries, the accesses and the number of steps with more at their end
 pub added_more : (steps : List Taken) (t : Taken) → added_by (steps ++ t ∷ []) ≡ added_by steps ++ entry_list t.entry
 added_more steps t = flat_map-append (λ (x : Taken). entry_list x.entry) steps (t ∷ []) ∙ ap (λ (l : List Entry). added_by steps ++ l) (append-nil (entry_list t.entry))
 
@@ -205,8 +200,7 @@ entries_by number history = filter (λ e. e.reporter == number) history
 entries_append : (n : ℕ) (xs ys : List Entry) → entries_by n (xs ++ ys) ≡ entries_by n xs ++ entries_by n ys
 entries_append n xs ys = filter-append (λ (e : Entry). e.reporter == n) xs ys
 
--- the history
-
+-- a legal history with an entry that a step may add is legal, and the history of legal steps is
 legal_more : (h : List Entry) (n : ℕ) (o : Option Entry) → IsLegal h → MayAdd h n o → IsLegal (h ++ entry_list o)
 legal_more h n None legal may = subst IsLegal (sym (append-nil h)) legal
 legal_more h n (Some e) legal may = may_next MayFollow h e legal may.0
@@ -215,11 +209,11 @@ pub legal_history : (log : Log) → HasLegalSteps log → IsLegal (history_of lo
 legal_history = may_induction IsLegalStep (λ l. IsLegal (history_of l)) (may_none MayFollow)
     (λ xs x before may was. subst IsLegal (sym (history_more xs x)) (legal_more (history_of xs) (number_of (taken_by x.seat xs)) x.step.entry was may.adds))
 
--- the entry of a step
-
+-- the number of an entry's reporter is one of those that are given
 abbrev InRank : ℕ → Entry → Type 0
 InRank n e = (0 < e.reporter) × (e.reporter ≤ n)
 
+-- the entry of a step is of the reporter of its pass, and of no other
 own_entries : (h : List Entry) (n : ℕ) (o : Option Entry) → MayAdd h n o → entries_by n (entry_list o) ≡ entry_list o
 own_entries h n None may = refl
 own_entries h n (Some e) may = ap (λ (b : Bool). cond b (e ∷ []) []) (eq-eqb e.reporter n may.1)
@@ -233,14 +227,14 @@ ranked_list : (h : List Entry) (n m : ℕ) (o : Option Entry) → MayAdd h n o �
 ranked_list h n m None may low = All-nil (InRank m)
 ranked_list h n m (Some e) may low = let r = may.0.accepted.reporter.0 in let is = may.1 in All-cons (InRank m) e [] (omega arith, omega arith) (All-nil (InRank m))
 
+-- where no entry is of this reporter it has none
 entries_none : (n : ℕ) (xs : List Entry) → All (λ (e : Entry). e.reporter ≢ n) xs → entries_by n xs ≡ []
 entries_none n [] all = refl
 entries_none n (e ∷ xs) all =
     ap (λ (b : Bool). cond b (e ∷ entries_by n xs) (entries_by n xs)) (ne_eqb e.reporter n (All-head (λ (f : Entry). f.reporter ≢ n) e xs all))
     ∙ entries_none n xs (All-tail (λ (f : Entry). f.reporter ≢ n) e xs all)
 
--- one step more
-
+-- a log of which the facts hold, and one step more
 module _ (log : Log) (r : LogFacts log) (x : Logged) where
   abbrev number : ℕ → ℕ
   number seat = number_of (taken_by seat log)
@@ -316,6 +310,7 @@ module _ (log : Log) (r : LogFacts log) (x : Logged) where
         ];
       }
 
+-- the facts of a log (LogFacts) hold with each legal step more, and of each log of legal steps
 facts_next : (log : Log) → LogFacts log → (x : Logged) (t : Target) → x.step.target ≡ t → IsThere log t → MayEnlist (number_of (taken_by x.seat log)) t x.step.entry
     → MayAdd (history_of log) (number_of (taken_by x.seat log)) x.step.entry → LogFacts (log ++ x ∷ [])
 facts_next log r x (Enlists found) is there may adds = facts_more log r x found is there.0 there.1 may.0 may.1

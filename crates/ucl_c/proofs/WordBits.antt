@@ -8,12 +8,13 @@ use Rattle.ucl_word.proofs.ValidRecords.{parts, scheduled_valid, untouched as un
 use Rattle.ucl_word.proofs.Words.{held_word, word_holds}
 use Rattle.ucl_word.specs.Migration.{is_word}
 use Rattle.ucl_word.proofs.FirstWords.{word_tested}
-use Rattle.ucl_c.specs.Inputs.{HasBegun}
+use Rattle.ucl_c.specs.Inputs.{IsOfBegunMatch}
 
 -- the word of a match before its kick-off
 abbrev pub untouched : ℕ
 untouched = 2305843009213693952
 
+-- no field of a word is wide enough for a number beyond the limits of a record
 fields_within : (word : ℕ) → is_within_limits (record_at word) ≡ true
 unfolding record_at
 fields_within word = grind (arith, nat_tests)
@@ -22,22 +23,24 @@ byte_low : (word : ℕ) → (record_at word).reporter ≤ 255
 unfolding record_at
 byte_low word = grind arith
 
-suited : (word code : ℕ) → held_at word layout.state ≡ code → HasBegun word → suits_state (state_at code) (record_at word) ≡ true
+-- what the word of a begun match holds suits its state, in play or finished
+suited : (word code : ℕ) → held_at word layout.state ≡ code → IsOfBegunMatch word → suits_state (state_at code) (record_at word) ≡ true
 unfolding record_at
 suited word zero is h = absurd (let c = h.not_scheduled in omega arith)
 suited word (suc zero) is h = let l = h.low in let u = h.high in let r = h.reporter in let b = byte_low word in grind (arith, nat_tests)
 suited word (suc (suc zero)) is h = let l = h.low in let u = h.high in let r = h.reporter in let b = byte_low word in grind (arith, nat_tests)
 suited word (suc (suc (suc n))) is h = absurd (let k = h.known in omega arith)
 
-begun_valid : (word : ℕ) → HasBegun word → IsValid (record_at word)
+begun_valid : (word : ℕ) → IsOfBegunMatch word → IsValid (record_at word)
 unfolding record_at
 begun_valid word h = whole (record_at word) (fields_within word) (suited word (held_at word layout.state) refl h)
 
-begun_word : (word : ℕ) → HasBegun word → IsWord word
+-- a word that holds what that of a begun match does is the word of a valid record
+begun_word : (word : ℕ) → IsOfBegunMatch word → IsWord word
 begun_word word h =
     let valid = begun_valid word h in
     let known : held_at word layout.state < 3 = let k = h.known in omega arith in
-    record { of = record_at word; valid = valid; packed = held_word word (record { marked = h.marked; state = known; valid = valid }) }
+    record { of = record_at word; valid = valid; packed = held_word word (record { tag = h.tag; state = known; valid = valid }) }
 
 scheduled_packed : word_of scheduled ≡ untouched
 unfolding word_of
@@ -46,31 +49,33 @@ scheduled_packed = refl
 untouched_word : (word : ℕ) → word ≡ untouched → IsWord word
 untouched_word word is = record { of = scheduled; valid = scheduled_valid; packed = scheduled_packed ∙ sym is }
 
-told_by : (word code : ℕ) → held_at word layout.state ≡ code → HoldsRecord word → suits_state (state_at code) (record_at word) ≡ true → HasBegun word ⊎ (word ≡ untouched)
+-- a word that holds a valid record is that of a begun match, or that of a match before its kick-off
+told_by : (word code : ℕ) → held_at word layout.state ≡ code → HoldsRecord word → suits_state (state_at code) (record_at word) ≡ true → IsOfBegunMatch word ⊎ (word ≡ untouched)
 unfolding record_at
 told_by word zero is holds s = inr (sym (held_word word holds) ∙ (ap word_of (untouched_is (record_at word) (ap state_at is) holds.valid) ∙ scheduled_packed))
 told_by word (suc zero) is holds s =
-    inl (record { marked = holds.marked; reporter = grind (arith, nat_tests); not_scheduled = omega arith; known = omega arith; low = grind (arith, nat_tests); high = grind (arith, nat_tests) })
+    inl (record { tag = holds.tag; reporter = grind (arith, nat_tests); not_scheduled = omega arith; known = omega arith; low = grind (arith, nat_tests); high = grind (arith, nat_tests) })
 told_by word (suc (suc zero)) is holds s =
-    inl (record { marked = holds.marked; reporter = grind (arith, nat_tests); not_scheduled = omega arith; known = omega arith; low = grind (arith, nat_tests); high = grind (arith, nat_tests) })
+    inl (record { tag = holds.tag; reporter = grind (arith, nat_tests); not_scheduled = omega arith; known = omega arith; low = grind (arith, nat_tests); high = grind (arith, nat_tests) })
 told_by word (suc (suc (suc n))) is holds s = absurd (let k = holds.state in omega arith)
 
-word_begun : (word : ℕ) → IsWord word → HasBegun word ⊎ (word ≡ untouched)
+word_begun : (word : ℕ) → IsWord word → IsOfBegunMatch word ⊎ (word ≡ untouched)
 unfolding record_at
 word_begun word is =
     let holds = word_holds word is in
     told_by word (held_at word layout.state) refl holds (parts (record_at word) holds.valid).1
 
--- the two tests that tell a word
-pub tests_word : (word : ℕ) (begun : Bool) → (begun ≡ true → HasBegun word) → (begun || (word == untouched)) ≡ true → IsWord word
+-- if a test holds only of words of begun matches, it or the test for the word before the kick-off hold only of words of valid records
+pub tests_word : (word : ℕ) (begun : Bool) → (begun ≡ true → IsOfBegunMatch word) → (begun || (word == untouched)) ≡ true → IsWord word
 tests_word word true is t = begun_word word (is refl)
 tests_word word false is t = untouched_word word (eqb-true word untouched t)
 
-pub word_tests : (word : ℕ) (begun : Bool) → (HasBegun word → begun ≡ true) → IsWord word → (begun || (word == untouched)) ≡ true
+-- if a test holds of all words of begun matches, it or the one for the word before the kick-off hold of each word of a valid record
+pub word_tests : (word : ℕ) (begun : Bool) → (IsOfBegunMatch word → begun ≡ true) → IsWord word → (begun || (word == untouched)) ≡ true
 word_tests word true is w = refl
 word_tests word false is w = elim (word_begun word w) [ inl b ↦ absurd (let e = is b in cc) | inr e ↦ eq-eqb word untouched e ]
 
--- the test of the definitions
+-- a test that holds just of the words of valid records is the test of the definitions
 pub same_as_test : (word : ℕ) (found : Bool) → (found ≡ true → IsWord word) → (IsWord word → found ≡ true) → found ≡ is_word word
 same_as_test word true a b = sym ((word_tested word).1 (a refl))
 same_as_test word false a b = elim (cases_Bool (is_word word)) [ inl y ↦ absurd (let e = b ((word_tested word).0 y) in cc) | inr n ↦ sym n ]

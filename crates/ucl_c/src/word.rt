@@ -1,10 +1,10 @@
 //! Whether a word, 64 bits, holds a valid match, by its bits: 12 from bit 0 on are the event number, which is how many events the match has
-//! had, 2 the state, 8 from bit 48 on the number of the last reporter, and the top 8 mark today's layout of words.
+//! had, 2 the state, 8 from bit 48 on the number of the last reporter, and the top 8 the tag of today's layout.
 
 ghost use Rattle.std.specs.Prelude.{◌≡◌, ◌<◌, ◌↔◌, IsTrue};
 ghost use Rattle.ucl_word.specs.Layout.{IsWord, bits_at};
 ghost use Rattle.ucl_word.specs.Migration.{is_word};
-ghost use Rattle.ucl_c.specs.Inputs.{HasBegun};
+ghost use Rattle.ucl_c.specs.Inputs.{IsOfBegunMatch};
 
 /// The word of a match before its kick-off.
 const SCHEDULED_WORD: u64 = 0x2000_0000_0000_0000;
@@ -20,7 +20,7 @@ fn bits(word: u64, low: u32, width: u32) -> u64
 
 /// Returns whether a word is that of a match that has kicked off: in play or finished.
 fn has_begun(word: u64) -> bool
-    ensures { IsTrue result ↔ HasBegun word }
+    ensures { IsTrue result ↔ IsOfBegunMatch word }
 {
     let number = bits(word, 0, 12);
     let state = bits(word, 12, 2);

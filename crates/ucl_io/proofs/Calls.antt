@@ -5,10 +5,11 @@ use Rattle.std.specs.Prelude.{IfSome}
 use Rattle.std.specs.Io.KnownBytes.{Consumes, IsAtEnd}
 use Rattle.ucl_io.specs.Calls.{HasEnded, InTurn, LogsCalls, call, none}
 
+-- before a source is called, its calls and their times are what they were
 abbrev pub logs-none : {T : Type 0} (count : T → ℕ) (old : List T) (calls : ℕ) (P : T → List ℕ → Type 0) → LogsCalls count old old calls calls P
 logs-none count old calls P = record { times = []; more = sym (append-nil old); each = omega arith; least = 0; in_turn = none }
 
--- it is called once more, just before this call, when more bytes had come than at the last
+-- a source is called once more, when more bytes had come than at the call before: this time is added to the list
 abbrev pub logs-then : {T : Type 0} (count : T → ℕ) (old mid new : List T) (calls calls2 calls3 : ℕ) (P : T → List ℕ → Type 0) (time : T) (bytes : List ℕ) (p : LogsCalls count old mid calls calls2 P)
     → new ≡ mid ++ time ∷ [] → calls3 ≡ calls2 + 1 → count time ≡ calls2 → p.least ≤ length bytes → P time bytes → LogsCalls count old new calls calls3 P
 logs-then count old mid new calls calls2 calls3 P time bytes p e k is least h =
@@ -21,7 +22,7 @@ logs-then count old mid new calls calls2 calls3 P time bytes p e k is least h =
       in_turn = call time bytes p.in_turn (is ∙ each) least h;
     }
 
--- where P gives Q
+-- if P gives Q at each time, calls of which P holds are calls of which Q holds
 pub turns-as : {T : Type 0} (count : T → ℕ) (calls : ℕ) (P Q : T → List ℕ → Type 0) → ((time : T) (bytes : List ℕ) → P time bytes → Q time bytes) → {times : List T} {least : ℕ}
     → InTurn count calls P times least → InTurn count calls Q times least
 turns-as count calls P Q gives none = none
@@ -37,8 +38,7 @@ logs-as count old new calls calls2 P Q gives p = record {
   in_turn = turns-as count calls P Q gives p.in_turn;
 }
 
--- ---- the end of a source
-
+-- a source that is at its end, and gives no bytes, has told its end
 pub ended : (left left2 : Option (List ℕ)) → IsAtEnd left → Consumes left left2 [] → HasEnded left left2
 ended None left2 e moved = tt
 ended (Some xs) None e moved = absurd moved
@@ -50,7 +50,7 @@ ended-since None left left2 bytes took h = tt
 ended-since (Some xs) None left2 bytes took h = absurd took
 ended-since (Some xs) (Some ys) left2 bytes took h = h
 
--- a source that has told its end had no other bytes
+-- P holds of all bytes that a source had left, if it told its end after these, of which P holds
 pub whole : (P : List ℕ → Type 0) (left left2 : Option (List ℕ)) (bytes : List ℕ) → HasEnded left left2 → Consumes left left2 bytes → P bytes → IfSome left P
 whole P None left2 bytes over took p = tt
 whole P (Some xs) None bytes over took p = absurd took

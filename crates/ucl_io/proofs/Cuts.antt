@@ -8,6 +8,7 @@ use Rattle.std.proofs.lemmas.Bool.Decides.{nat_tests}
 use Rattle.std.proofs.lemmas.List.{length-drop, take-append-drop, take-append-le, take_all, take_more}
 use Rattle.ucl_io.specs.Lines.{HasNoFeed, BeginsWithLine, begun_line, ended_lines, longer}
 
+-- no bytes end no line, and what was kept of the line stays
 pub ended_none : (cap : ℕ) (line : List ℕ) → ended_lines cap line [] ≡ []
 unfolding ended_lines
 ended_none cap line = refl
@@ -16,6 +17,7 @@ pub begun_none : (cap : ℕ) (line : List ℕ) → begun_line cap line [] ≡ li
 unfolding begun_line
 begun_none cap line = refl
 
+-- the lines of two parts are those that end in the first, and then those that end in the second with what the first left begun
 pub ended_append : (cap : ℕ) (line xs ys : List ℕ) → ended_lines cap line (xs ++ ys) ≡ ended_lines cap line xs ++ ended_lines cap (begun_line cap line xs) ys
 unfolding ended_lines begun_line
 ended_append cap line [] ys = refl
@@ -24,6 +26,7 @@ ended_append cap line (b ∷ xs) ys = elim (cases_Bool (b == 10)) [
   | inr n ↦ rw n (ended_append cap (longer cap line b) xs ys)
 ]
 
+-- what has begun after two parts has begun after the second, with what the first left begun
 pub begun_append : (cap : ℕ) (line xs ys : List ℕ) → begun_line cap line (xs ++ ys) ≡ begun_line cap (begun_line cap line xs) ys
 unfolding begun_line
 begun_append cap line [] ys = refl
@@ -32,6 +35,7 @@ begun_append cap line (b ∷ xs) ys = elim (cases_Bool (b == 10)) [
   | inr n ↦ rw n (begun_append cap (longer cap line b) xs ys)
 ]
 
+-- no more lines end than there are bytes
 pub few_lines : (cap : ℕ) (line bytes : List ℕ) → length (ended_lines cap line bytes) ≤ length bytes
 unfolding ended_lines
 few_lines cap line [] = omega arith
@@ -40,8 +44,7 @@ few_lines cap line (b ∷ bytes) = elim (cases_Bool (b == 10)) [
   | inr n ↦ rw n (let k = few_lines cap (longer cap line b) bytes in omega arith)
 ]
 
--- one byte
-
+-- a line feed ends the line, and nothing of the next has begun
 pub ended_ten : (cap : ℕ) (line : List ℕ) (b : ℕ) → b ≡ 10 → ended_lines cap line (b ∷ []) ≡ line ∷ []
 unfolding ended_lines
 ended_ten cap line b e = rw e refl
@@ -54,12 +57,11 @@ begun_ten cap line b e = rw e refl
 pub ended_all : (cap : ℕ) (line bytes : List ℕ) (i : ℕ) → ended_lines cap line bytes ≡ ended_lines cap line (take i bytes) ++ ended_lines cap (begun_line cap line (take i bytes)) (drop i bytes)
 ended_all cap line bytes i = ap (ended_lines cap line) (sym (take-append-drop i bytes)) ∙ ended_append cap line (take i bytes) (drop i bytes)
 
--- ---- bytes among which no line ends
-
 -- none of the first so many bytes is a line feed
 abbrev pub NoFeedIn : List ℕ → ℕ → Type 0
 NoFeedIn text n = (k : ℕ) → k < n → get_or text k 0 ≡ 10 → ⊥
 
+-- a text none of whose first n bytes is a line feed has none in these
 no_feed_front : (text : List ℕ) (n : ℕ) → NoFeedIn text n → HasNoFeed (take n text)
 no_feed_front [] zero h = tt
 no_feed_front [] (suc n) h = tt
@@ -69,28 +71,33 @@ no_feed_front (b ∷ text) (suc n) h = (h 0 (omega arith), no_feed_front text n 
 pub no_feed_all : (text : List ℕ) → NoFeedIn text (length text) → HasNoFeed text
 no_feed_all text h = subst HasNoFeed (take-length text) (no_feed_front text (length text) h)
 
+-- no line ends where there is no line feed
 pub no_ended : (cap : ℕ) (line bytes : List ℕ) → HasNoFeed bytes → ended_lines cap line bytes ≡ []
 unfolding ended_lines
 no_ended cap line [] h = refl
 no_ended cap line (b ∷ bytes) h = rw (ne_eqb b 10 h.0) (no_ended cap (longer cap line b) bytes h.1)
 
+-- of a line with one byte more, and then more bytes, as much is kept as of the line with all of them
 take_longer : (cap : ℕ) (line bytes : List ℕ) (b : ℕ) → take cap (longer cap line b ++ bytes) ≡ take cap (line ++ b ∷ bytes)
 take_longer cap line bytes b = elim (cases_Bool (nat_le cap (length line))) [
   | inl y ↦ rw y (let h : cap ≤ length line = grind (arith, nat_tests) in take-append-le cap line bytes h ∙ sym (take-append-le cap line (b ∷ bytes) h))
   | inr n ↦ rw n (ap (take cap) (append_assoc line (b ∷ []) bytes))
 ]
 
+-- a line is kept no longer than `cap`
 pub longer_short : (cap : ℕ) (line : List ℕ) (b : ℕ) → length line ≤ cap → length (longer cap line b) ≤ cap
 longer_short cap line b h = elim (cases_Bool (nat_le cap (length line))) [
   | inl y ↦ rw y h
   | inr n ↦ rw n (let k = length-append line (b ∷ []) in grind (arith, nat_tests))
 ]
 
+-- without a line feed what has begun is the line and all bytes, as much as is kept
 pub begun_all : (cap : ℕ) (line bytes : List ℕ) → HasNoFeed bytes → length line ≤ cap → begun_line cap line bytes ≡ take cap (line ++ bytes)
 unfolding begun_line
 begun_all cap line [] h short = sym (ap (take cap) (append-nil line) ∙ take_all cap line short)
 begun_all cap line (b ∷ bytes) h short = rw (ne_eqb b 10 h.0) (begun_all cap (longer cap line b) bytes h.1 (longer_short cap line b short) ∙ take_longer cap line bytes b)
 
+-- nor is more kept of a line that has begun
 pub begun_short : (cap : ℕ) (line bytes : List ℕ) → length line ≤ cap → length (begun_line cap line bytes) ≤ cap
 unfolding begun_line
 begun_short cap line [] h = h
@@ -99,8 +106,7 @@ begun_short cap line (b ∷ bytes) h = elim (cases_Bool (b == 10)) [
   | inr n ↦ rw n (begun_short cap (longer cap line b) bytes (longer_short cap line b h))
 ]
 
--- ---- a line that ends with these bytes
-
+-- bytes without a line feed, and then one: they end the line, of which as much is kept as is kept, and nothing more has begun
 pub ended_line : (cap : ℕ) (line end : List ℕ) → HasNoFeed end → length line ≤ cap → ended_lines cap line (end ++ 10 ∷ []) ≡ take cap (line ++ end) ∷ []
 ended_line cap line end clean short =
     ended_append cap line end (10 ∷ []) ∙ rw (no_ended cap line end clean, begun_all cap line end clean short) (ended_ten cap (take cap (line ++ end)) 10 refl)
@@ -108,6 +114,7 @@ ended_line cap line end clean short =
 pub begun_ended : (cap : ℕ) (line end : List ℕ) → begun_line cap line (end ++ 10 ∷ []) ≡ []
 begun_ended cap line end = begun_append cap line end (10 ∷ []) ∙ begun_ten cap (begun_line cap line end) 10 refl
 
+-- a text begins with a line that ends at its first line feed
 pub first_line : (text : List ℕ) (at : ℕ) → at < length text → NoFeedIn text at → get_or text at 0 ≡ 10 → BeginsWithLine text (take at text)
 first_line text at h clean is = record {
   rest = drop (at + 1) text;
@@ -116,16 +123,17 @@ first_line text at h clean is = record {
   clean = no_feed_front text at clean;
 }
 
--- it is a part of more bytes
-
+-- what is left of bytes from place i on is all of it
 pub rest_of : (i : ℕ) (xs : List ℕ) → take (length xs - i) (drop i xs) ≡ drop i xs
 rest_of i xs = take_all (length xs - i) (drop i xs) (omega (arith, length-drop i xs))
 
+-- a line that begins at place i, with its line feed, lies within the bytes
 pub line_within : (bytes : List ℕ) (i : ℕ) (line : List ℕ) → BeginsWithLine (drop i bytes) line → i ≤ length bytes → i + (length line + 1) ≤ length bytes
 line_within bytes i line l h =
     let long : length (drop i bytes) ≡ length line + length (10 ∷ l.rest) = ap (λ (k : List ℕ). length k) l.parts ∙ length-append line (10 ∷ l.rest) in
     omega (arith, long, length-drop i bytes)
 
+-- the bytes up to its end are those before it, the line and its line feed
 pub line_taken : (bytes : List ℕ) (i : ℕ) (line : List ℕ) → BeginsWithLine (drop i bytes) line → take (i + (length line + 1)) bytes ≡ take i bytes ++ (line ++ 10 ∷ [])
 line_taken bytes i line l =
     let long : length (line ++ 10 ∷ []) ≡ length line + 1 = length-append line (10 ∷ []) in
@@ -134,13 +142,14 @@ line_taken bytes i line l =
     ∙ ap (λ (k : List ℕ). take i bytes ++ k)
     (ap (take (length line + 1)) parts ∙ ap (λ (n : ℕ). take n ((line ++ 10 ∷ []) ++ l.rest)) (sym long) ∙ take-append_seam (line ++ 10 ∷ []) l.rest)
 
--- where no other line ends
+-- if no line ends from place i on, what has begun then is what had begun at i and all later bytes, as much as is kept
 pub rest_begun : (cap : ℕ) (line bytes : List ℕ) (i : ℕ) → HasNoFeed (drop i bytes) → length line ≤ cap
     → take cap (begun_line cap line (take i bytes) ++ drop i bytes) ≡ begun_line cap line bytes
 rest_begun cap line bytes i clean short =
     sym (begun_all cap (begun_line cap line (take i bytes)) (drop i bytes) clean (begun_short cap line (take i bytes) short)) ∙ sym (begun_append cap line (take i bytes) (drop i bytes))
     ∙ ap (begun_line cap line) (take-append-drop i bytes)
 
+-- if no line ends from place i on, all lines have ended by then
 pub rest_ended : (cap : ℕ) (line bytes : List ℕ) (i : ℕ) → HasNoFeed (drop i bytes) → ended_lines cap line (take i bytes) ≡ ended_lines cap line bytes
 rest_ended cap line bytes i clean =
     sym (append-nil (ended_lines cap line (take i bytes))) ∙ ap (λ (l : List (List ℕ)). ended_lines cap line (take i bytes) ++ l)
@@ -155,11 +164,13 @@ pub record IsCutAt (cap : ℕ) (line bytes : List ℕ) (lines : List (List ℕ))
   pub before : ended_lines cap line front ≡ lines
   pub begun : begun_line cap line front ≡ last
 
+-- a line that is cut from bytes is cut from them with one byte more before
 more_cut : (cap : ℕ) (line line2 bytes : List ℕ) (b : ℕ) (lines lines2 : List (List ℕ)) (last : List ℕ) (q : IsCutAt cap line2 bytes lines2 last)
     → ended_lines cap line (b ∷ q.front) ≡ lines → begun_line cap line (b ∷ q.front) ≡ last → IsCutAt cap line (b ∷ bytes) lines last
 more_cut cap line line2 bytes b lines lines2 last q before begun =
     record { front = b ∷ q.front; more = q.more; parts = ap (λ (l : List ℕ). b ∷ l) q.parts; before = before; begun = begun }
 
+-- each of the lines that end is cut from bytes so
 pub cut_at : (cap : ℕ) (line bytes : List ℕ) (lines : List (List ℕ)) (last : List ℕ) (rest : List (List ℕ)) → ended_lines cap line bytes ≡ lines ++ last ∷ rest → IsCutAt cap line bytes lines last
 unfolding ended_lines begun_line
 cut_at cap line [] [] last rest e = cc

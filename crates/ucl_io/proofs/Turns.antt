@@ -1,19 +1,20 @@
 -- Lines that a handler was given, one after the other, and what a run comes to.
 use Rattle.std.proofs.Common.{◌≡◌, ℕ, ◌+◌, List, [], ◌∷◌, ◌++◌, length, refl, sym, ap, ◌∙◌, subst, append_assoc, arith, ◌-◌, ◌^◌, ◌≤◌, inl, inr, append-nil}
-use Rattle.std.proofs.Common.{length-append, ◌<◌, take, drop, Option, Some, None, suc}
+use Rattle.std.proofs.Common.{length-append, ◌<◌, take, drop, Option, Some, None}
 use Rattle.ucl_io.specs.Turns.{Answered, Closed, ComesOut, Progress, Rules, Turns, done, stops, turn}
 use Rattle.ucl_io.specs.declared.fault.ServeFault.{ServeFault}
 use Rattle.ucl_io.specs.declared.fault.ServeFault.TheVariants.{Handler, WriteFailed, ReadFailed, TooLong}
 use Rattle.std.specs.Prelude.{⊤, Result, Ok, Err, OnOk}
 use Rattle.ucl_io.specs.Output.{HasPut, Outlet, PutsOrStops}
-use Rattle.ucl_io.proofs.Puts.{put_cut, put_flushed, put_nothing, put_stops, put_then, all_out, consumes-kept, consumes-none, consumes-then}
+use Rattle.std.proofs.KnownBytes.{Consumes-kept, Consumes-nil, Consumes-trans}
+use Rattle.ucl_io.proofs.Puts.{put_cut, put_flushed, put_nothing, put_stops, put_then, all_out}
 use Rattle.std.proofs.lemmas.List.{length-take}
 use Rattle.ucl_io.specs.Lines.{BeginsWithLine, HasNoFeed, begun_line, ended_lines}
 use Rattle.ucl_io.proofs.Cuts.{begun_append, begun_ended, begun_none, begun_short, ended_all, ended_append, ended_line, ended_none, few_lines, line_taken}
 use Rattle.ucl_io.proofs.Cuts.{line_within, rest_begun, rest_ended, rest_of}
 use Rattle.std.specs.Io.KnownBytes.{Appends, Consumes, IsAtEnd, Keeps}
-use Rattle.ucl_io.specs.Calls.{HasEnded, LogsCalls}
-use Rattle.ucl_io.specs.Serving.{AnswersLast, Given, HasClosed, IsOut, IsPromptAt, LineRules, Run, Seen, ServeEnds, ServedBy}
+use Rattle.ucl_io.specs.Calls.{LogsCalls}
+use Rattle.ucl_io.specs.Serving.{Given, HasClosed, IsOut, IsPromptAt, LineRules, Seen, ServeEnds, ServedBy}
 use Rattle.ucl_io.proofs.Calls.{ended, ended-since, logs-as, logs-none, logs-then}
 
 -- the last of these lines is the one to which the handler has no answer: the lines before it, and the handler there
@@ -25,7 +26,7 @@ pub record Front {M F : Type 0} (R : Rules M F) (row : ℕ) (m : M) (lines : Lis
   pub run : Turns R row m front text state None
   pub why : R.Stops state (row + length front) line n fault
 
--- a text was put, or the sink failed in it
+-- the result after lines that were all answered: their text was put, or the sink failed in it
 ends_put : {M F : Type 0} (a b : Progress M) (given : List (List ℕ)) (text : List ℕ) (r : Result ⊤ (ServeFault F)) → b.row ≡ a.row + length given
     → PutsOrStops a.outlet b.outlet text r → ComesOut a b given [] text None r
 ends_put a b given text (Ok v) row p = (refl, refl, row, p)
@@ -37,13 +38,13 @@ abbrev pub answered_as : {V M F : Type 0} {R : Rules M F} {a b : Progress M} {xs
 answered_as e p = record { given = p.given; rest = p.rest; text = p.text; fault = p.fault; lines_are = e ∙ p.lines_are; run = p.run; ends = p.ends }
 
 module _ {M F : Type 0} {R : Rules M F} where
-  -- more lines after lines that were all answered
+  -- lines that were all answered, and then more lines, are lines that were given one after the other
   pub runs_then : (row row2 : ℕ) {m k n : M} {a b : List (List ℕ)} {s t : List ℕ} {fault : Option F} → Turns R row m a s k None → row2 ≡ row + length a → Turns R row2 k b t n fault
       → Turns R row m (a ++ b) (s ++ t) n fault
   runs_then row row2 done e q = let same : row2 ≡ row = omega arith in rw same at q
   runs_then row row2 (turn line text k h p) e q = rw append_assoc (turn line text k h (runs_then (row + 1) row2 p (omega arith) q))
 
-  -- the lines before the one to which the handler has no answer
+  -- the last line that was given is the one to which the handler has no answer, and those before it were answered
   pub runs_front : (row : ℕ) {m n : M} {lines : List (List ℕ)} {text : List ℕ} {fault : F} → Turns R row m lines text n (Some fault) → Front R row m lines text n fault
   runs_front row (turn line text k h p) =
       let f = runs_front (row + 1) p in
@@ -58,8 +59,6 @@ module _ {M F : Type 0} {R : Rules M F} where
   runs_front row {m} (stops line h) =
       let here : row + length {A = List ℕ} [] ≡ row = omega arith in
       record { front = []; line = line; state = m; lines_are = refl; run = done; why = rw here h }
-
-  -- ---- lines whose answers were put
 
   -- no line was given, and no text is put
   pub answered_none : (a b : Progress M) (r : Result ⊤ (ServeFault F)) → b.row ≡ a.row → b.handler ≡ a.handler → PutsOrStops a.outlet b.outlet [] r → Answered R a b [] r
@@ -86,13 +85,14 @@ module _ {M F : Type 0} {R : Rules M F} where
   stopped_one a b line fault h p none =
       record { given = line ∷ []; rest = []; text = []; fault = Some fault; lines_are = refl; run = stops line h; ends = (refl, p, none) }
 
+  -- the handler has no answer to a line, and the sink fails in what waits
   pub stopped_short : (a b : Progress M) (line : List ℕ) (fault : F) (f : ServeFault F) → R.Stops a.handler a.row line b.handler fault
       → PutsOrStops {V = ⊤} a.outlet b.outlet [] (Err f) → Answered {V = ⊤} R a b (line ∷ []) (Err f)
   stopped_short a b line fault (WriteFailed n) h p =
       record { given = line ∷ []; rest = []; text = []; fault = Some fault; lines_are = refl; run = stops line h; ends = p }
   stopped_short _ _ _ _ _ _ p = absurd p
 
-  -- of more lines
+  -- if lines ended in a fault, and so more lines behind them were not given, all of them end in it
   pub answered_more : (a b : Progress M) (lines more : List (List ℕ)) (f : ServeFault F) → Answered {V = ⊤} R a b lines (Err f) → Answered {V = ⊤} R a b (lines ++ more) (Err f)
   answered_more a b lines more f p = record {
     given = p.given;
@@ -109,6 +109,7 @@ module _ {M F : Type 0} {R : Rules M F} where
       still (Handler g) e = e
       still _ e = absurd e
 
+-- all these lines were answered
 module _ {M F : Type 0} {R : Rules M F} {a b : Progress M} {lines : List (List ℕ)} (p : Answered {V = ⊤} R a b lines (Ok tt)) where
   pub answered_given : lines ≡ p.given
   answered_given = p.lines_are ∙ ap (λ (l : List (List ℕ)). p.given ++ l) p.ends.0 ∙ append-nil p.given
@@ -119,7 +120,9 @@ module _ {M F : Type 0} {R : Rules M F} {a b : Progress M} {lines : List (List �
   pub answered_run : Turns R a.row a.handler lines p.text b.handler None
   answered_run = subst (λ (l : List (List ℕ)). Turns R a.row a.handler l p.text b.handler None) (sym answered_given) (rw p.ends.1 at p.run)
 
+  -- lines that were all answered, and then more lines that were given
   module _ (c : Progress M) {more : List (List ℕ)} (r : Result ⊤ (ServeFault F)) (q : Answered R b c more r) where
+    -- what came of the later lines has come of all
     pub ends_then : (r : Result ⊤ (ServeFault F)) → ComesOut b c q.given q.rest q.text q.fault r → ComesOut a c (lines ++ q.given) q.rest (p.text ++ q.text) q.fault r
     ends_then (Ok v) (none, all, row, put) =
         let long = length-append lines q.given in
@@ -140,18 +143,19 @@ module _ {M F : Type 0} {R : Rules M F} {a b : Progress M} {lines : List (List �
       ends = ends_then r q.ends;
     }
 
-  -- what waits is given to the sink
+  -- all are still answered when what waits is given to the sink, or the sink fails in it
   pub answered_flushed : (c : Progress M) (r : Result ⊤ (ServeFault F)) → c.row ≡ b.row → c.handler ≡ b.handler → PutsOrStops b.outlet c.outlet [] r → Answered R a c lines r
   answered_flushed c r row same q = subst (λ (l : List (List ℕ)). Answered R a c l r) (append-nil lines) (answered_then c r (answered_none b c r row same q))
 
--- ---- what giving the bytes after the last line feed to the handler comes to
-
+-- the bytes after the last line feed, given to the handler
 module _ (M F : Type 0) (R : Rules M F) where
+  -- the handler answered them, and the sink failed in the answer
   pub closed_cut : (a b : Progress M) (line text : List ℕ) (f : ServeFault F) → R.Answers a.handler a.row line b.handler text → PutsOrStops {V = ⊤} a.outlet b.outlet text (Err f)
       → Closed {V = ⊤} R a b line (Err f)
   closed_cut a b line text (WriteFailed n) h p = (text, h, p)
   closed_cut _ _ _ _ _ _ p = absurd p
 
+  -- the handler answered them, the answer was put, and what waits then is given to the sink, or the sink fails in it
   pub closed_by : (a b : Progress M) (mid : Outlet) (line text : List ℕ) (r : Result ⊤ (ServeFault F)) → R.Answers a.handler a.row line b.handler text → HasPut a.outlet mid text
       → PutsOrStops mid b.outlet [] r
       → OnOk r (b.outlet.held ≡ []) → Closed R a b line r
@@ -159,14 +163,13 @@ module _ (M F : Type 0) (R : Rules M F) where
   closed_by a b mid line text (Err (WriteFailed n)) h p q none = (text, h, put_cut a.outlet mid b.outlet text n p q)
   closed_by _ _ _ _ _ _ _ _ q _ = absurd q
 
--- ---- bytes whose lines a handler has answered, one after the other
-
 -- the lines that ended before byte i were answered, and this has begun of the next
 pub record Entered {M F : Type 0} (R : Rules M F) (cap : ℕ) (line bytes : List ℕ) (a b : Progress M) (begun : List ℕ) (i : ℕ) : Type 0 where
   pub within : i ≤ length bytes
   pub begun_is : begun ≡ begun_line cap line (take i bytes)
   pub answered : Answered {V = ⊤} R a b (ended_lines cap line (take i bytes)) (Ok tt)
 
+-- before the first byte no line was answered
 pub entered_none : {M F : Type 0} (R : Rules M F) (cap : ℕ) (line bytes : List ℕ) (a : Progress M) → a.outlet.out ≤ 2 ^ 64 - 1 → Entered R cap line bytes a a line 0
 entered_none {M} {F} R cap line bytes a low = record {
   within = omega arith;
@@ -174,6 +177,7 @@ entered_none {M} {F} R cap line bytes a low = record {
   answered = answered_as (ended_none cap line) (answered_none a a (Ok tt) refl refl (put_nothing a.outlet low));
 }
 
+-- the lines that ended before byte i were answered
 module _ {M F : Type 0} {R : Rules M F} {cap i : ℕ} {line bytes begun : List ℕ} {a b : Progress M} (s : Entered R cap line bytes a b begun i) (short : length line ≤ cap) where
   abbrev before : List (List ℕ)
   before = ended_lines cap line (take i bytes)
@@ -181,7 +185,7 @@ module _ {M F : Type 0} {R : Rules M F} {cap i : ℕ} {line bytes begun : List �
   abbrev rest : List ℕ
   rest = take (length bytes - i) (drop i bytes)
 
-  -- a line ends there
+  -- a line ends at these bytes, from byte i on
   module _ (end : List ℕ) (first : BeginsWithLine rest end) where
     here : BeginsWithLine (drop i bytes) end
     here = rw (rest_of i bytes) at first
@@ -200,11 +204,13 @@ module _ {M F : Type 0} {R : Rules M F} {cap i : ℕ} {line bytes begun : List �
         let past = line_within bytes i end here s.within in
         let row = answered_row s.answered in omega arith
 
+    -- the lines that have ended with it are those before and this one
     line_ended : ended_lines cap line (take next bytes) ≡ before ++ (kept ∷ [])
     line_ended = rw s.begun_is (
         ap (ended_lines cap line) (line_taken bytes i end here) ∙ ended_append cap line (take i bytes) (end ++ 10 ∷ [])
         ∙ ap (λ (l : List (List ℕ)). before ++ l) (ended_line cap (begun_line cap line (take i bytes)) end here.clean (begun_short cap line (take i bytes) short)))
 
+    -- if it is answered too, all lines that ended with it are
     pub line_answered : (c : Progress M) (begun2 : List ℕ) → begun2 ≡ [] → Answered {V = ⊤} R b c (kept ∷ []) (Ok tt) → Entered R cap line bytes a c begun2 next
     line_answered c begun2 none q = record {
       within = line_within bytes i end here s.within;
@@ -213,31 +219,32 @@ module _ {M F : Type 0} {R : Rules M F} {cap i : ℕ} {line bytes begun : List �
       answered = answered_as line_ended (answered_then s.answered c (Ok tt) q);
     }
 
+    -- if it ends in a fault, all lines of these bytes end in it
     pub line_short : (c : Progress M) (f : ServeFault F) → Answered {V = ⊤} R b c (kept ∷ []) (Err f) → Answered {V = ⊤} R a c (ended_lines cap line bytes) (Err f)
     line_short c f q =
         let later = ended_lines cap (begun_line cap line (take next bytes)) (drop next bytes) in
         answered_as (ended_all cap line bytes next ∙ ap (λ (l : List (List ℕ)). l ++ later) line_ended)
         (answered_more a c (before ++ kept ∷ []) later f (answered_then s.answered c (Err f) q))
 
-  -- no other line ends
+  -- no line ends from byte i on
   module _ (clean : HasNoFeed rest) where
     clear : HasNoFeed (drop i bytes)
     clear = rw (rest_of i bytes) at clean
 
+    -- all later bytes belong to the line that has begun
     pub rest_kept : take cap (begun ++ rest) ≡ begun_line cap line bytes
     rest_kept = rw (s.begun_is, rest_of i bytes) (rest_begun cap line bytes i clear short)
 
+    -- what waits is given to the sink, or the sink fails in it: all lines of these bytes were answered
     pub rest_answered : (c : Progress M) (r : Result ⊤ (ServeFault F)) → c.row ≡ b.row → c.handler ≡ b.handler → PutsOrStops b.outlet c.outlet [] r
         → Answered R a c (ended_lines cap line bytes) r
     rest_answered c r row same put = answered_as (sym (rest_ended cap line bytes i clear)) (answered_flushed s.answered c r row same put)
 
--- ---- a whole run
-
--- before the first line
+-- the progress of a run before the first line
 abbrev pub first_of : {M : Type 0} → Seen M → Progress M
 first_of s = record { row = 1; handler = s.handler; outlet = record { held = []; out = 0; taken = s.device.taken; failed = s.device.failed } }
 
--- before this line
+-- the progress of a run before the line with this number, if this text waits and so many bytes are out
 abbrev pub stands : {M : Type 0} → Seen M → ℕ → List ℕ → ℕ → Progress M
 stands s row held out = record { row = row; handler = s.handler; outlet = record { held = held; out = out; taken = s.device.taken; failed = s.device.failed } }
 
@@ -255,11 +262,12 @@ pub record Standing {M F T : Type 0} (D : LineRules M F) (cap : ℕ) (at : T →
   pub logged : LogsCalls count log log2 (count start) (count now) (λ time. IsPromptAt D.line cap (at start) (at time) (given_by answered))
   pub more : logged.least ≤ length bytes
 
+-- a run stands so before its first call for bytes
 abbrev pub standing_first : {M F T : Type 0} (D : LineRules M F) (cap : ℕ) (at : T → Seen M) (count : T → ℕ) (start : T) (log : List T) (row : ℕ) (begun held : List ℕ) (out : ℕ)
     → row ≡ 1 → begun ≡ [] → held ≡ [] → out ≡ 0 → Standing D cap at count start start log log row begun held out
 standing_first {M} {F} D cap at count start log row begun held out row_is begun_is none out_is = record {
   bytes = [];
-  consumed = consumes-none (at start).device.left;
+  consumed = Consumes-nil (at start).device.left;
   begun_is = begun_is ∙ sym (begun_none cap []);
   none = none;
   answered = rw (row_is, none, out_is, ended_none cap [])
@@ -276,6 +284,7 @@ module _ {M F T : Type 0} {D : LineRules M F} {cap : ℕ} {at : T → Seen M} {c
   abbrev lines : List (List ℕ)
   lines = ended_lines cap [] s.bytes
 
+  -- the list of calls of the source until `new`, when these lines were given
   abbrev Logged : List T → T → Given M F → Type 0
   Logged log3 new given = LogsCalls count log log3 (count start) (count new) (λ time. IsPromptAt D.line cap (at start) (at time) given)
 
@@ -283,10 +292,11 @@ module _ {M F T : Type 0} {D : LineRules M F} {cap : ℕ} {at : T → Seen M} {c
   pub row_low : row ≤ 1 + length s.bytes
   row_low = let few = few_lines cap [] s.bytes in let is = answered_row s.answered in omega arith
 
+  -- the answers to all lines are out
   pub gone : Appends (at start).device.taken (at now).device.taken s.answered.text
   gone = all_out (first_of (at start)).outlet current.outlet s.answered.text s.answered.ends.3 refl s.none
 
-  -- all lines were answered
+  -- a run that ends now, after an answer to a last line without an end, did what `serve_lines` says
   served : (new : T) {log3 : List T} (last : List ℕ) (result : Result ℕ (ServeFault F)) → Consumes (at start).device.left (at new).device.left s.bytes
       → Logged log3 new (given_by s.answered) → IsOut (at start).device (at new).device (s.answered.text ++ last) result
       → ServeEnds D cap (at start) (at new) (record { bytes = s.bytes; given = given_by s.answered; rest = s.answered.rest; last = last }) result
@@ -301,6 +311,7 @@ module _ {M F T : Type 0} {D : LineRules M F} {cap : ℕ} {at : T → Seen M} {c
     ends = ends;
   }
 
+  -- all answers are out still, if the sink has not changed since
   all_text : (new : T) → (at new).device.taken ≡ (at now).device.taken → (at new).device.failed ≡ (at now).device.failed
       → Appends (at start).device.taken (at new).device.taken (s.answered.text ++ []) × ((at new).device.failed ≡ (at start).device.failed)
   all_text new same sound = (rw (same, append-nil) gone, sound ∙ s.answered.ends.3.sound)
@@ -309,7 +320,7 @@ module _ {M F T : Type 0} {D : LineRules M F} {cap : ℕ} {at : T → Seen M} {c
   pub run_too_long : 2 ^ 62 < length s.bytes → ServedBy D cap (at start) (at now) (Err TooLong) (Logged log2 now)
   run_too_long long = served now [] (Err TooLong) s.consumed s.logged (all_text now refl refl) (long, (s.answered.ends.0, s.answered.ends.1), (refl, refl))
 
-  -- the source is called once more
+  -- the source is called once more: from `now` to `new`
   module _ (new : T) {log3 : List T} (logs : log3 ≡ log2 ++ now ∷ []) (counts : count new ≡ count now + 1) where
     abbrev pub asked : Logged log3 new (given_by s.answered)
     asked = logs-then count log log2 log3 (count start) (count now) (count new) _ now s.bytes s.logged logs counts refl s.more (record {
@@ -324,19 +335,20 @@ module _ {M F T : Type 0} {D : LineRules M F} {cap : ℕ} {at : T → Seen M} {c
       goes_on = rw s.answered.ends.1 done;
     })
 
-    -- the source failed
+    -- if it failed, the run ends
     pub run_read_failed : (read : ℕ) → Keeps (at now).device.left (at new).device.left → (at new).device.taken ≡ (at now).device.taken → (at new).device.failed ≡ (at now).device.failed
         → (at new).handler ≡ (at now).handler → read ≡ length s.bytes → ServedBy D cap (at start) (at new) (Err (ReadFailed read)) (Logged log3 new)
     run_read_failed read kept same sound left is =
-        served new [] (Err (ReadFailed read)) (consumes-kept (at start).device.left (at now).device.left (at new).device.left s.bytes s.consumed kept)
+        served new [] (Err (ReadFailed read)) (Consumes-kept (at start).device.left (at now).device.left (at new).device.left s.bytes s.consumed kept)
         asked (all_text new same sound) (is, (s.answered.ends.0, s.answered.ends.1), (left, refl))
 
+    -- the source gave these bytes
     module _ (row2 : ℕ) (held2 : List ℕ) (out2 : ℕ) (more : List ℕ) (moved : Consumes (at now).device.left (at new).device.left more) where
       abbrev there : Progress M
       there = stands (at new) row2 held2 out2
 
       pub took_more : Consumes (at start).device.left (at new).device.left (s.bytes ++ more)
-      took_more = consumes-then (at start).device.left (at now).device.left (at new).device.left s.bytes more s.consumed moved
+      took_more = Consumes-trans (at start).device.left (at now).device.left (at new).device.left s.bytes more s.consumed moved
 
       pub more_ended : ended_lines cap [] (s.bytes ++ more) ≡ lines ++ ended_lines cap begun more
       more_ended = rw s.begun_is (ended_append cap [] s.bytes more)
@@ -374,7 +386,7 @@ module _ {M F T : Type 0} {D : LineRules M F} {cap : ℕ} {at : T → Seen M} {c
         more = (let long = length-append s.bytes more in omega arith);
       }
 
-      -- the sink failed in some lines of more bytes, or the handler had no answer to one
+      -- a fault in the lines among them ends the run
       pub run_stopped : (f : ServeFault F) → Answered {V = ⊤} D.line current there (ended_lines cap begun more) (Err f)
           → ServedBy D cap (at start) (at new) (Err f) (Logged log3 new)
       run_stopped f q =
@@ -397,14 +409,16 @@ module _ {M F T : Type 0} {D : LineRules M F} {cap : ℕ} {at : T → Seen M} {c
               ((rw append-nil (all_out (first_of (at start)).outlet there.outlet t.text t.ends.1 refl t.ends.2), t.ends.1.sound), inl (t.ends.0, (refl, refl)))
           why _ t = absurd t.ends
 
+    -- the source gave none, since the input has ended
     module _ (row2 : ℕ) (held2 : List ℕ) (out2 : ℕ) (over : IsAtEnd (at now).device.left) (moved : Consumes (at now).device.left (at new).device.left []) where
       abbrev end : Progress M
       end = stands (at new) row2 held2 out2
 
       took_all : Consumes (at start).device.left (at new).device.left s.bytes
       took_all = subst (Consumes (at start).device.left (at new).device.left) (append-nil s.bytes)
-          (consumes-then (at start).device.left (at now).device.left (at new).device.left s.bytes [] s.consumed moved)
+          (Consumes-trans (at start).device.left (at now).device.left (at new).device.left s.bytes [] s.consumed moved)
 
+      -- the input has ended with all lines answered, and Holds is so of the bytes after the last line feed
       closed : (last : List ℕ) (Holds : M → ℕ → List ℕ → Type 0) → Holds (at now).handler row begun
           → HasClosed cap (at start) (at new) (record { bytes = s.bytes; given = given_by s.answered; rest = s.answered.rest; last = last }) Holds
       closed last Holds h = record {
@@ -413,14 +427,14 @@ module _ {M F T : Type 0} {D : LineRules M F} {cap : ℕ} {at : T → Seen M} {c
         holds = rw (← answered_row s.answered, ← s.begun_is) h;
       }
 
-      -- what has begun of a last line was answered, at the end of the input
+      -- if these are answered too, the run ends well
       pub run_ended : (rows : ℕ) → rows + 1 ≡ row → Closed {V = ⊤} D.last current end begun (Ok tt) → ServedBy D cap (at start) (at new) (Ok rows) (Logged log3 new)
       run_ended rows is (text, answered, put, none2) =
           let all = put_then (first_of (at start)).outlet current.outlet end.outlet s.answered.text text s.answered.ends.3 put in
           served new text (Ok rows) took_all asked (all_out (first_of (at start)).outlet end.outlet (s.answered.text ++ text) all refl none2, all.sound)
           ((let e = answered_row s.answered in omega arith), closed text _ answered)
 
-      -- it was not
+      -- if they end in a fault, the run ends in it
       ends_badly : (f : ServeFault F) → Closed {V = ⊤} D.last current end begun (Err f) → ServedBy D cap (at start) (at new) (Err f) (Logged log3 new)
       ends_badly (WriteFailed count) (text, answered, w) =
           served new text (Err (WriteFailed count)) took_all asked
@@ -430,5 +444,6 @@ module _ {M F T : Type 0} {D : LineRules M F} {cap : ℕ} {at : T → Seen M} {c
           (inr (refl, closed [] _ w))
       ends_badly _ q = absurd q
 
+      -- a fault in the bytes after the last line feed ends the run, also if it was told of a progress equal to this one
       pub run_ends_badly : (f : ServeFault F) (b : Progress M) → Closed {V = ⊤} D.last b end begun (Err f) → b ≡ current → ServedBy D cap (at start) (at new) (Err f) (Logged log3 new)
       run_ends_badly f b q same = ends_badly f (subst (λ (x : Progress M). Closed {V = ⊤} D.last x end begun (Err f)) same q)

@@ -1,56 +1,39 @@
 -- The values of answers are plain; and how long they are at most.
-use Rattle.std.proofs.Common.{List, [], arith, false, le-leb, leb-true, length, length-append, negsuc, pos, refl, suc, true, zero, ℕ, ℤ, ◌%◌, ◌&&◌, ◌*◌, ◌+◌, ◌-ℤ◌}
-use Rattle.std.proofs.Common.{◌-◌, ◌/◌, ◌<◌, ◌^◌, ◌∙◌, ◌∷◌, ◌≡◌, ◌≤◌}
-use Rattle.std.proofs.lemmas.Bool.{and_from, and_parts}
-use Rattle.std.proofs.lemmas.Fmt.{length-decimal-le}
+use Rattle.ucl_json.proofs.Common.{All, All-get_or, All-head, All-tail, AreWords, IsClub, IsGroup, IsRoster, IsSlot, IsWithinTable, List}
+use Rattle.ucl_json.proofs.Common.{MatchRecord, NamedClub, Profile, Refusal, Row, [], and_from, and_parts, arith, club_in, club_items}
+use Rattle.ucl_json.proofs.Common.{club_value, comma_if, decimal, digit_glyph, escape, escape_byte, escape_byte_plain, false, game_at}
+use Rattle.ucl_json.proofs.Common.{hex_digits, in_play, is_name, is_printed, kind_name, le-leb, leb-true, length, length-append}
+use Rattle.ucl_json.proofs.Common.{length-decimal-le, list_all, mark_name, match_items, match_numbers, match_value, named, nat_le, negsuc}
+use Rattle.ucl_json.proofs.Common.{number_text, of_integer, place_items, place_value, pos, quoted, refl, refusal_code, refusal_name, row_of}
+use Rattle.ucl_json.proofs.Common.{rows_of, rows_within, serde_json_on_literals, sides_value, slice_index_or, suc, true, version_of}
+use Rattle.ucl_json.proofs.Common.{word_at, word_items, words_valid, zero, ℕ, ℤ, ◌%◌, ◌&&◌, ◌*◌, ◌+◌, ◌-ℤ◌, ◌-◌, ◌/◌, ◌<◌, ◌^◌, ◌∙◌, ◌∷◌}
+use Rattle.ucl_json.proofs.Common.{◌≡◌, ◌≤◌}
 use Rattle.std.proofs.lemmas.Int.{ints}
-use Rattle.std.proofs.lemmas.List.Elements.{All-get_or, All-head, All-tail}
 use Rattle.std.proofs.lemmas.List.Sums.{count_by-le-length, sum_by-le}
-use Rattle.std.specs.Fmt.{digit_glyph}
-use Rattle.std.specs.List.{list_all}
-use Rattle.std.specs.Prelude.{All, Bool, decimal, nat_le, slice_index_or}
-use Rattle.json.proofs.Printed.Strings.{escape_byte_plain}
-use Rattle.json.specs.Print.{escape, escape_byte, quoted}
-use Rattle.serde_json.proofs.OnLiterals.{serde_json_on_literals}
-use Rattle.serde_json.specs.Find.{of_integer}
-use Rattle.serde_json.specs.Written.{comma_if, number_text}
+use Rattle.std.specs.Prelude.{Bool}
 use Rattle.ucl_word.proofs.ChangedWords.{word_below}
-use Rattle.ucl_word.proofs.ValidRecords.{away_expulsions_valid, away_goals_valid, away_yellows_valid, home_expulsions_valid, home_goals_valid, home_yellows_valid, number_valid, reporter_valid}
+use Rattle.ucl_word.proofs.ValidRecords.{away_expulsions_valid, away_goals_valid, away_yellows_valid, home_expulsions_valid}
+use Rattle.ucl_word.proofs.ValidRecords.{home_goals_valid, home_yellows_valid, number_valid, reporter_valid}
 use Rattle.ucl_word.proofs.Words.{word_valid}
 use Rattle.ucl_word.specs.Layout.{IsWord, record_at}
-use Rattle.ucl_word.specs.Names.{kind_name, refusal_code, refusal_name}
 use Rattle.ucl_word.specs.Record.{IsValid}
 use Rattle.ucl_word.specs.Rules.{is_in_play}
 use Rattle.ucl_word.specs.declared.event.Kind.{Kind}
 use Rattle.ucl_word.specs.declared.event.Kind.TheVariants.{Disallow, Goal, Red, SecondYellow, Yellow}
 use Rattle.ucl_word.specs.declared.event.Side.TheVariants.{Home}
-use Rattle.ucl_word.specs.declared.record.MatchRecord.{MatchRecord}
 use Rattle.ucl_word.specs.declared.record.State.{State}
 use Rattle.ucl_word.specs.declared.record.State.TheVariants.{Scheduled}
-use Rattle.ucl_word.specs.declared.refusal.Refusal.{Refusal}
 use Rattle.ucl_word.specs.declared.refusal.Refusal.TheVariants.{Stale}
-use Rattle.ucl_board.specs.Fixtures.{IsSlot, match_numbers}
-use Rattle.ucl_board.specs.Words.{AreWords, game_at, version_of, word_at}
-use Rattle.ucl_order.proofs.KeysFit.{words_valid}
-use Rattle.ucl_order.proofs.Limits.{rows_within}
 use Rattle.ucl_order.specs.Names.{profile_name}
-use Rattle.ucl_order.specs.Roster.{IsClub, IsRoster, NamedClub, club_in, is_name, is_printed, named}
 unfoldable use Rattle.ucl_order.specs.Roster.{is_club}
-use Rattle.ucl_order.specs.Rows.{IsWithinTable, row_of, rows_of}
 use Rattle.ucl_order.specs.declared.mark.Mark.{Mark}
 use Rattle.ucl_order.specs.declared.mark.Mark.TheVariants.{Plus}
-use Rattle.ucl_order.specs.declared.profile.Profile.{Profile}
 use Rattle.ucl_order.specs.declared.profile.Profile.TheVariants.{AwayInTie, Uefa}
-use Rattle.ucl_order.specs.declared.table.Row.{Row}
 use Rattle.ucl_screen.proofs.HexDigits.{low, word-digits}
 use Rattle.ucl_screen.specs.Matches.{state_name}
-use Rattle.ucl_screen.specs.Numbers.{hex_digits}
-use Rattle.ucl_screen.specs.Screen.{IsGroup, in_play}
-use Rattle.ucl_json.specs.Values.{club_items, club_value, mark_name, match_items, match_value, place_items, place_value, sides_value, word_items}
 use Rattle.ucl_json.proofs.PlainValues.{ArePlain, IsPlain, IsPlainNumber, IsText, items_size, quoted-length, size}
 
--- ---- numbers
-
+-- a number below 10 has one decimal digit, and so on: one below 10^k has at most k
 pub digits-1 : (n : ℕ) → n < 10 → length (decimal n) ≤ 1
 digits-1 n h = length-decimal-le 1 n (omega arith) h (omega arith)
 
@@ -69,14 +52,13 @@ digits-6 n h = length-decimal-le 6 n (omega arith) h (omega arith)
 pub digits-20 : (n : ℕ) → n < 2 ^ 64 → length (decimal n) ≤ 20
 digits-20 n h = length-decimal-le 20 n (omega arith) (omega arith) h
 
--- ---- words
-
 -- each hexadecimal digit is printed, and is written as it is
 glyph-plain : (d : ℕ) → d < 16 → (is_printed (digit_glyph false d) ≡ true) × (escape_byte (digit_glyph false d) ≡ digit_glyph false d ∷ [])
 unfolding escape_byte
 glyph-plain (suc (suc (suc (suc (suc (suc (suc (suc (suc (suc (suc (suc (suc (suc (suc (suc d)))))))))))))))) h = absurd (omega arith)
 glyph-plain _ _ = (refl, refl)
 
+-- the last k hexadecimal digits of a number are printed, and put into quotes as they are
 low-plain : (k n : ℕ) (rest : List ℕ) → IsText rest → IsText (low k n rest) × (length (escape (low k n rest)) ≡ k + length (escape rest))
 low-plain zero n rest h = (h, omega arith)
 low-plain (suc k) n rest h =
@@ -91,6 +73,7 @@ low-quoted k n = let plain = low-plain k n [] refl in (plain.0, omega (arith, pl
 word-text : (word : ℕ) → IsWord word → IsText (hex_digits word) × (length (quoted (hex_digits word)) ≡ 18)
 word-text word is = let below = word_below word is in rw (word-digits word (omega arith)) (low-quoted 16 word)
 
+-- behind an element the words of an array take at most 19 bytes each, with the quotes and the comma, and a bracket
 later-words : (words : List ℕ) → All IsWord words → ArePlain 125 (word_items words) × (items_size true (word_items words) ≤ 1 + 19 * length words)
 later-words [] are = (tt, omega arith)
 later-words (word ∷ words) are =
@@ -98,6 +81,7 @@ later-words (word ∷ words) are =
     let more = later-words words (All-tail IsWord word words are) in
     ((one.0, more.0), omega (arith, one.1, more.1))
 
+-- the twelve words of a board are plain values, and take at most 228 bytes in an array
 pub words-plain : (board : List ℕ) → AreWords board → ArePlain 125 (word_items board) × (items_size false (word_items board) ≤ 228)
 words-plain [] are = absurd (let t = are.twelve in omega arith)
 words-plain (word ∷ words) are =
@@ -105,6 +89,7 @@ words-plain (word ∷ words) are =
     let more = later-words words (All-tail IsWord word words are.each) in
     ((one.0, more.0), (let t = are.twelve in omega (arith, one.1, more.1)))
 
+-- no board has a version above 49,140, which is 4,095 for each match
 pub version-fits : (board : List ℕ) → AreWords board → version_of board ≤ 49140
 version-fits board w =
     let most : version_of board ≤ length board * 4095 =
@@ -114,8 +99,7 @@ version-fits board w =
 pub few-in-play : (board : List ℕ) → AreWords board → in_play board ≤ 12
 few-in-play board w = let t = w.twelve in omega (arith, t, count_by-le-length (λ word. is_in_play (record_at word).state) board)
 
--- ---- clubs
-
+-- what is known of a club that a roster takes: its name is printed and takes at most 42 bytes in quotes
 pub record IsPlainClub (club : NamedClub) : Type 0 where
   pub name : IsText club.name
   pub short : length club.name ≤ 20
@@ -131,12 +115,13 @@ club-plain club h =
     let few = leb-true (length club.name) 20 r.1 in
     record { name = q.1; short = few; coefficient = leb-true club.coefficient 999999 p.1; in_quotes = omega (arith, few, quoted-length club.name q.1) }
 
--- the club in a slot
+-- the club in a slot of a roster is such a club
 pub slot-plain : (clubs : List NamedClub) → IsRoster clubs → (slot : ℕ) → IsSlot slot → IsPlainClub (club_in clubs slot)
 slot-plain clubs is slot h =
     let four = is.four in let low = h.0 in let high = h.1 in
     club-plain (club_in clubs slot) (is.each (slot - 1) (named [] 0) (omega arith))
 
+-- the value of a club that a roster takes is plain, and has at most 72 bytes
 club-size : (clubs : List NamedClub) (slot : ℕ) → IsPlainClub (club_in clubs slot) → IsPlain 125 (club_value clubs slot) × (size (club_value clubs slot) ≤ 72)
 unfolding serde_json_on_literals
 club-size clubs slot c =
@@ -144,6 +129,7 @@ club-size clubs slot c =
     let long = c.in_quotes in
     (((refl, refl), (c.name, (omega arith, tt))), omega (arith, digits-6 (club_in clubs slot).coefficient (omega arith)))
 
+-- the four clubs of a roster are plain values, and take at most 292 bytes in an array
 pub clubs-plain : (clubs : List NamedClub) → IsRoster clubs → ArePlain 125 (club_items clubs) × (items_size false (club_items clubs) ≤ 292)
 clubs-plain clubs is =
     let one = club-size clubs 1 (slot-plain clubs is 1 (omega arith, omega arith)) in
@@ -152,8 +138,7 @@ clubs-plain clubs is =
     let four = club-size clubs 4 (slot-plain clubs is 4 (omega arith, omega arith)) in
     ((one.0, (two.0, (three.0, (four.0, tt)))), omega (arith, one.1, two.1, three.1, four.1))
 
--- ---- texts
-
+-- the texts that answers have are printed bytes, and take no more than so many bytes in quotes
 pub group-text : (group : ℕ) → IsGroup group → IsText (group ∷ []) × (length (quoted (group ∷ [])) ≡ 3)
 group-text group h =
     let low = h.0 in let high = h.1 in
@@ -188,14 +173,14 @@ unfolding escape_byte
 mark-text Plus = (refl, omega arith)
 mark-text _ = (refl, omega arith)
 
--- ---- matches
-
+-- the limits of the numbers of a valid record
 ruleset valid = (home_goals_valid, away_goals_valid, home_yellows_valid, away_yellows_valid, home_expulsions_valid, away_expulsions_valid, number_valid, reporter_valid)
 
+-- two numbers of at most 63 are a plain value, of at most 7 bytes
 sides-plain : (deep home away : ℕ) → home ≤ 63 → away ≤ 63 → IsPlain (suc deep) (sides_value home away) × (size (sides_value home away) ≤ 7)
 sides-plain deep home away h k = ((omega arith, (omega arith, tt)), omega (arith, digits-2 home (omega arith), digits-2 away (omega arith)))
 
--- a match as it stands
+-- a match as it stands is a plain value, of at most 150 bytes
 pub match-plain : (deep game : ℕ) (m : MatchRecord) → game < 2 ^ 64 → IsValid m → IsPlain (suc (suc deep)) (match_value game m) × (size (match_value game m) ≤ 150)
 unfolding serde_json_on_literals
 match-plain deep game m g v =
@@ -209,6 +194,7 @@ match-plain deep game m g v =
       omega (arith, expulsions.1, score.1, yellows.1, state.1, digits-20 game g, number, reporter),
     )
 
+-- the twelve matches of a board are plain values, and take at most 1,813 bytes in an array
 pub matches-plain : (board : List ℕ) → AreWords board → ArePlain 125 (match_items board match_numbers) × (items_size false (match_items board match_numbers) ≤ 1813)
 matches-plain board w = plain false match_numbers refl
   where
@@ -227,12 +213,12 @@ matches-plain board w = plain false match_numbers refl
         let more = plain true games p.1 in
         ((one.0, more.0), omega (arith, comma later, one.1, more.1))
 
--- ---- the table
-
+-- the difference of two numbers of at most 378 is a plain number, of at most four bytes
 difference-plain : (z : ℤ) (a b : ℕ) → z ≡ pos a -ℤ pos b → a ≤ 378 → b ≤ 378 → IsPlainNumber (of_integer z) × (length (number_text (of_integer z)) ≤ 4)
 difference-plain (pos n) a b e h k = let few : n < 1000 = omega (arith, ints) in (omega arith, omega (arith, digits-3))
 difference-plain (negsuc n) a b e h k = let few : suc n < 1000 = omega (arith, ints) in (omega arith, omega (arith, digits-3))
 
+-- a row of a table is a plain value, of at most 190 bytes
 place-plain : (roster : List NamedClub) (row : Row) → IsRoster roster → IsWithinTable row → row.place ≤ 4
     → IsPlain 125 (place_value roster row) × (size (place_value roster row) ≤ 190)
 unfolding place_value serde_json_on_literals
@@ -258,6 +244,7 @@ place-plain roster row is w four =
       ),
     )
 
+-- the four rows of a table are plain values, and take at most 764 bytes in an array
 pub places-plain : (profile : Profile) (board : List ℕ) (roster : List NamedClub) → IsRoster roster → AreWords board
     → ArePlain 125 (place_items roster (rows_of profile board roster)) × (items_size false (place_items roster (rows_of profile board roster)) ≤ 764)
 unfolding row_of

@@ -1,17 +1,12 @@
 -- The text of a value has no line feed, nor any other byte below the space.
-use Rattle.std.proofs.Common.{Bool, List, [], append-nil, arith, false, inl, inr, le-leb, leb-true, negsuc, pos, refl, subst, suc, sym, true, zero, ℕ}
-use Rattle.std.proofs.Common.{◌%◌, ◌&&◌, ◌++◌, ◌/◌, ◌<◌, ◌==◌, ◌∷◌, ◌≡◌, ◌≢◌, ◌≤◌}
-use Rattle.std.specs.Prelude.{All, nat_le, nat_lt}
-use Rattle.std.proofs.lemmas.Bool.{and_from, and_parts, cases_Bool, cases_eq, cases_lt}
+use Rattle.ucl_json.proofs.Common.{All, All-cons, All-nil, AreLinesOfValues, Data, IsOneLine, Items, List, Members, Num, [], and_from}
+use Rattle.ucl_json.proofs.Common.{and_parts, arith, array, boolean, cases_Bool, cases_eq, cases_lt, comma_if, compact_text, digit_glyph}
+use Rattle.ucl_json.proofs.Common.{digits, digits_onto, escape, escape_byte, escape_byte_plain, false, float, inl, inr, item, items_text}
+use Rattle.ucl_json.proofs.Common.{json_line, le-leb, leb-true, list_all, member, members_text, nat_le, nat_lt, negative, negsuc, no_items}
+use Rattle.ucl_json.proofs.Common.{no_members, null, number, number_text, object, pos, quoted, refl, string, subst, suc, sym, true}
+use Rattle.ucl_json.proofs.Common.{unsigned, zero, ℕ, ◌%◌, ◌&&◌, ◌++◌, ◌/◌, ◌<◌, ◌==◌, ◌∷◌, ◌≡◌, ◌≢◌, ◌≤◌}
+use Rattle.std.proofs.Common.{Bool, append-nil}
 use Rattle.std.proofs.lemmas.Grind.{flat_map-append}
-use Rattle.std.proofs.lemmas.List.Elements.{All-cons, All-nil}
-use Rattle.std.specs.Fmt.{digit_glyph, digits, digits_onto}
-use Rattle.std.specs.List.{list_all}
-use Rattle.json.proofs.Printed.Strings.{escape_byte_plain}
-use Rattle.json.specs.Print.{escape, escape_byte, quoted}
-use Rattle.serde_json.specs.Data.{Data, Items, Members, Num, array, boolean, float, item, member, negative, no_items, no_members, null, number, object, string, unsigned}
-use Rattle.serde_json.specs.Written.{comma_if, compact_text, items_text, members_text, number_text}
-use Rattle.ucl_json.specs.Lines.{AreLinesOfValues, IsOneLine, json_line}
 
 -- each byte is the space or above it
 abbrev ArePrinted : List ℕ → Type 0
@@ -21,8 +16,7 @@ both : (a b : List ℕ) → ArePrinted a → ArePrinted b → ArePrinted (a ++ b
 both [] b h k = k
 both (x ∷ a) b h k = let p = and_parts (nat_le 32 x) (list_all (nat_le 32) a) h in and_from (nat_le 32 x) (list_all (nat_le 32) (a ++ b)) p.0 (both a b p.1 k)
 
--- ---- numbers
-
+-- the decimal digits of a number, put before bytes that are the space or above it, are such bytes too
 onto : (k n : ℕ) (rest : List ℕ) → ArePrinted rest → ArePrinted (digits_onto k 10 false n rest)
 onto zero n rest h = h
 onto (suc k) n rest h =
@@ -39,19 +33,19 @@ digits-at k n e = rw e refl
 counted : (k n : ℕ) → k ≡ 64 → ArePrinted (digits 10 false n)
 counted k n e = subst ArePrinted (digits-at k n e) (onto k n [] refl)
 
+-- the text of a number has no byte below the space
 numeral : (n : Num) → ArePrinted (number_text n)
 numeral (unsigned n) = counted 64 n refl
 numeral (negative (pos n)) = counted 64 n refl
 numeral (negative (negsuc n)) = counted 64 (suc n) refl
 numeral (float x) = refl
 
--- ---- strings
-
 -- whether the bytes below n are written so
 abbrev are_printed_below : ℕ → Bool
 are_printed_below zero = true
 are_printed_below (suc n) = list_all (nat_le 32) (escape_byte n) && are_printed_below n
 
+-- if the bytes below n are written so, each of them is
 below : (n : ℕ) → are_printed_below n ≡ true → (x : ℕ) → x < n → ArePrinted (escape_byte x)
 below zero e x h = absurd (omega arith)
 below (suc n) e x h =
@@ -62,6 +56,7 @@ up-to-backslash : are_printed_below 93 ≡ true
 unfolding escape_byte
 up-to-backslash = refl
 
+-- a text is written so, and in quotes
 escaped : (s : List ℕ) → ArePrinted (escape s)
 escaped [] = refl
 escaped (x ∷ s) = both (escape_byte x) (escape s) byte (escaped s)
@@ -75,8 +70,7 @@ escaped (x ∷ s) = both (escape_byte x) (escape s) byte (escaped s)
 in-quotes : (s : List ℕ) → ArePrinted (quoted s)
 in-quotes s = both (escape s) (34 ∷ []) (escaped s) refl
 
--- ---- values
-
+-- no byte is below the space in a comma before an element, the text of a value, and those of its items and members
 comma : (later : Bool) → ArePrinted (comma_if later)
 comma true = refl
 comma false = refl
@@ -102,12 +96,14 @@ mutual
       both (comma_if later) (quoted k ++ 58 ∷ (compact_text d ++ members_text true ms)) (comma later)
       (both (quoted k) (58 ∷ (compact_text d ++ members_text true ms)) (in-quotes k) (both (compact_text d) (members_text true ms) (printed d) (printed-members true ms)))
 
+-- bytes that are the space or above it have no line feed
 no-feed : (bytes : List ℕ) → ArePrinted bytes → All (λ b. b ≢ 10) bytes
 no-feed [] h = All-nil (λ b. b ≢ 10)
 no-feed (b ∷ bytes) h =
     let p = and_parts (nat_le 32 b) (list_all (nat_le 32) bytes) h in
     let high = leb-true 32 b p.0 in All-cons (λ x. x ≢ 10) b bytes (λ e. omega arith) (no-feed bytes p.1)
 
+-- the text of a value, and a line feed behind it, are one line
 pub one_line : (value : Data) → IsOneLine (json_line value)
 one_line value = record {
   body = compact_text value;
@@ -118,12 +114,12 @@ one_line value = record {
 pub line_is_one : (value : Data) (line : List ℕ) → line ≡ json_line value → IsOneLine line
 line_is_one value line e = subst IsOneLine (sym e) (one_line value)
 
--- ---- lines of values
-
+-- of each value the line is one line
 each : (values : List Data) → All (λ value. IsOneLine (json_line value)) values
 each [] = All-nil (λ value. IsOneLine (json_line value))
 each (value ∷ values) = All-cons (λ v. IsOneLine (json_line v)) value values (one_line value) (each values)
 
+-- no line, the line of one value, and two such texts one after the other are lines of values
 pub no_lines : AreLinesOfValues []
 no_lines = record { values = []; whole = refl; each = each [] }
 

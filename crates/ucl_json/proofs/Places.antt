@@ -1,31 +1,17 @@
 -- Elements that are added one after the other, and answers that have no float and are not nested deep.
-use Rattle.std.proofs.Common.{List, [], ap, arith, false, get_or, length, negsuc, pos, refl, take, ℕ, ℤ, ◌++◌, ◌+◌, ◌-ℤ◌, ◌<◌, ◌∙◌, ◌∷◌, ◌≡◌, ◌≤◌, ◌-◌}
-use Rattle.std.proofs.lemmas.List.{take_all, take_more}
-use Rattle.serde_json.specs.Data.{Data, Items, depth, item, items_depth, no_items, string}
-use Rattle.serde_json.specs.Find.{is_float, of_integer}
-use Rattle.serde_json.specs.Written.{has_float, items_have_float}
-use Rattle.serde_json.specs.View.{items_view, view}
-use Rattle.serde_json.specs.declared.value.Value.{Value}
-use Rattle.std.specs.Prelude.{Err, None, Ok, Option, Result, Some}
+use Rattle.ucl_json.proofs.Common.{BoardHeader, Data, Err, IsFlat, Items, List, MatchRecord, NamedClub, Ok, Profile, Refusal, Result, Row}
+use Rattle.ucl_json.proofs.Common.{Value, [], accepted_value, ap, arith, depth, edition_screen_value, false, found_of, game_at, get_or}
+use Rattle.ucl_json.proofs.Common.{has_float, hex_digits, is_float, item, items_depth, items_have_float, items_of, items_view, length}
+use Rattle.ucl_json.proofs.Common.{match_items, match_numbers, match_value, matches_value, negsuc, no_items, of_integer, place_items}
+use Rattle.ucl_json.proofs.Common.{place_value, pos, refl, refusal_code, refusal_name, refused_by, reply_value, rows_of, screen_value}
+use Rattle.ucl_json.proofs.Common.{serde_json_on_literals, string, take, take_all, take_more, view, with_member, word_items, words_value, ℕ}
+use Rattle.ucl_json.proofs.Common.{ℤ, ◌++◌, ◌+◌, ◌-ℤ◌, ◌-◌, ◌<◌, ◌∙◌, ◌∷◌, ◌≡◌, ◌≤◌}
+use Rattle.std.specs.Prelude.{None, Option, Some}
 use Rattle.ucl_word.specs.declared.event.Accepted.{Accepted}
-use Rattle.ucl_word.specs.declared.record.MatchRecord.{MatchRecord}
-use Rattle.ucl_word.specs.declared.refusal.Refusal.{Refusal}
-use Rattle.ucl_word.specs.Names.{found_of, refusal_code, refusal_name}
-use Rattle.ucl_board.specs.Words.{game_at}
 use Rattle.ucl_screen.specs.declared.night.NightEvent.{NightEvent}
-use Rattle.ucl_order.specs.declared.profile.Profile.{Profile}
-use Rattle.ucl_order.specs.declared.table.Row.{Row}
-use Rattle.ucl_order.specs.Rows.{rows_of}
-use Rattle.ucl_order.specs.Roster.{NamedClub}
-use Rattle.ucl_screen.specs.Numbers.{hex_digits}
-use Rattle.ucl_json.specs.declared.header.BoardHeader.{BoardHeader}
-use Rattle.ucl_json.specs.Values.{accepted_value, items_of, place_items, place_value, refused_by, reply_value, screen_value, word_items, words_value}
-use Rattle.ucl_json.specs.Values.{match_value, with_member, edition_screen_value, match_items, matches_value}
-use Rattle.ucl_json.specs.Lines.{IsFlat}
-use Rattle.serde_json.proofs.OnLiterals.{serde_json_on_literals}
-use Rattle.ucl_board.specs.Fixtures.{match_numbers}
 use Rattle.ucl_screen.proofs.EventsInTurn.{match-numbered}
 
+-- the items of an array with one more at their end
 abbrev pub add : Items → Data → Items
 add no_items d = item d no_items
 add (item e more) d = item e (add more d)
@@ -34,41 +20,43 @@ pub view-add : (xs : List Value) (v : Value) → items_view (xs ++ v ∷ []) ≡
 view-add [] v = refl
 view-add (x ∷ xs) v = ap (item (view x)) (view-add xs v)
 
--- the value of one element more
+-- the items of an array, one element after the other
 module _ {T : Type 0} (value_of : T → Data) where
   items-add : (xs : List T) (x : T) → items_of value_of (xs ++ x ∷ []) ≡ add (items_of value_of xs) (value_of x)
   items-add [] x = refl
   items-add (y ∷ xs) x = ap (item (value_of y)) (items-add xs x)
 
+  -- one value more is the item of the next element
   pub next-item : (old new : List Value) (v : Value) (xs : List T) (i : ℕ) (d : T) → i < length xs → items_view old ≡ items_of value_of (take i xs)
       → view v ≡ value_of (get_or xs i d) → new ≡ old ++ v ∷ [] → items_view new ≡ items_of value_of (take (i + 1) xs)
   next-item old new v xs i d h so_far now e = rw (e, take_more xs i d h, items-add (take i xs) (get_or xs i d), ← so_far, ← now) (view-add old v)
 
+  -- once all were added, the items are those of all elements
   pub all-items : (values : List Value) (xs : List T) (i : ℕ) → length xs ≤ i → items_view values ≡ items_of value_of (take i xs) → items_view values ≡ items_of value_of xs
   all-items values xs i h e = e ∙ ap (items_of value_of) (take_all i xs h)
 
--- one match more
+-- the item of the next match, which has the number n
 pub next-match : (board : List ℕ) (xs ys : List Value) (v : Value) (n game : ℕ) → 1 ≤ n → n ≤ 12 → game ≡ n → items_view xs ≡ match_items board (take (n - 1) match_numbers)
     → view v ≡ match_value game (game_at board game) → ys ≡ xs ++ v ∷ [] → items_view ys ≡ match_items board (take (n + 1 - 1) match_numbers)
 next-match board xs ys v n game low high is so_far now e =
     let at : n + 1 - 1 ≡ n - 1 + 1 = omega arith in
     rw at (next-item (λ (g : ℕ). match_value g (game_at board g)) xs ys v match_numbers (n - 1) 0 (omega arith) so_far (rw (match-numbered n low high, ← is) now) e)
 
--- all twelve
+-- after the twelfth they are those of all matches
 pub all-matches : (board : List ℕ) (xs : List Value) (n : ℕ) → n ≡ 13 → items_view xs ≡ match_items board (take (n - 1) match_numbers) → items_view xs ≡ match_items board match_numbers
 all-matches board xs n last e = rw last at e
 
--- two members more
+-- a value with two members more, one put after the other
 pub both_members : (n k : List ℕ) {whole second mid first base m d b : Data} → whole ≡ with_member n second mid → second ≡ m → mid ≡ with_member k first base → first ≡ d → base ≡ b
     → whole ≡ with_member n m (with_member k d b)
 both_members n k p q r s t = rw (p, q, r, s, t) refl
 
--- ---- no float, and no deep nesting
-
+-- no item has a float, and none is nested deeper than n
 pub record AreFlat (ds : Items) (n : ℕ) : Type 0 where
   pub whole : items_have_float ds ≡ false
   pub shallow : items_depth ds ≤ n
 
+-- if no value is nested deeper than n or has a float, no items of such values are
 pub items-flat : {T : Type 0} (value_of : T → Data) (n : ℕ) → ((x : T) → (has_float (value_of x) ≡ false) × (depth (value_of x) ≤ n)) → (xs : List T) → AreFlat (items_of value_of xs) n
 items-flat value_of n each [] = record { whole = refl; shallow = omega arith }
 items-flat value_of n each (x ∷ xs) =
@@ -78,6 +66,7 @@ items-flat value_of n each (x ∷ xs) =
 pub words-flat : (words : List ℕ) → AreFlat (word_items words) 0
 words-flat words = items-flat (λ (word : ℕ). string (hex_digits word)) 0 (λ word. (refl, omega arith)) words
 
+-- no answer has a float, and each is nested no deeper than can be read back: those with words, a screen, a reply, matches, and all these
 pub words_value_flat : (row : ℕ) (ws : List ℕ) → IsFlat (words_value row ws)
 words_value_flat row ws = let w = words-flat ws in record { whole = rw w.whole refl; shallow = omega (arith, w.shallow) }
 

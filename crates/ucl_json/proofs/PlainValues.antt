@@ -1,34 +1,29 @@
 -- The text of a plain value: it is read back as that value, is UTF-8, and is as long as its parts.
-use Rattle.std.proofs.Common.{Bool, List, Some, [], ap, append-nil, arith, false, inl, inr, leb-true, length, length-append, negsuc, refl, suc, sym, true, ℕ}
-use Rattle.std.proofs.Common.{◌&&◌, ◌*◌, ◌++◌, ◌+◌, ◌<◌, ◌^◌, ◌∙◌, ◌∷◌, ◌≡◌, ◌≤◌}
-use Rattle.std.proofs.lemmas.Bool.{and_parts, cases_eq}
-use Rattle.std.proofs.lemmas.Fmt.{IsAscii-decimal, IsAscii-signed}
-use Rattle.std.proofs.lemmas.Str.{IsUtf8-append, IsUtf8-from_ascii, IsUtf8-nil}
-use Rattle.std.specs.List.{list_all}
-use Rattle.std.specs.Prelude.{decimal, nat_le, option_map, ⊤}
+use Rattle.ucl_json.proofs.Common.{Data, IsAscii-decimal, IsAscii-signed, IsUtf8-append, IsUtf8-from_ascii, IsUtf8-nil, Items, List}
+use Rattle.ucl_json.proofs.Common.{Members, Num, [], and_parts, ap, arith, array, cases_eq, comma_if, compact_text, decimal, escape}
+use Rattle.ucl_json.proofs.Common.{escape_byte, escape_byte_plain, false, inl, inr, is_printed, item, items_outline, items_text, leb-true}
+use Rattle.ucl_json.proofs.Common.{length, length-append, list_all, member, members_outline, members_text, nat_le, negative, negsuc}
+use Rattle.ucl_json.proofs.Common.{no_items, no_members, number, number_of, number_text, object, of_items, of_json, of_members, option_map}
+use Rattle.ucl_json.proofs.Common.{outline, parse_board_line, parse_board_state, printed_utf8, put, quoted, read, refl, string, suc, sym}
+use Rattle.ucl_json.proofs.Common.{true, unsigned, ℕ, ⊤, ◌&&◌, ◌*◌, ◌++◌, ◌+◌, ◌<◌, ◌^◌, ◌∙◌, ◌∷◌, ◌≡◌, ◌≤◌}
+use Rattle.std.proofs.Common.{Bool, Some, append-nil}
 use Rattle.std.specs.Str.{IsUtf8}
 use Rattle.json.proofs.Printed.Decimals.{IsNumber-decimal, IsNumber-signed_decimal}
-use Rattle.json.proofs.Printed.Strings.{escape_byte_plain}
 use Rattle.json.proofs.Printed.Tokens.{tokens-print}
 use Rattle.json.proofs.Printed.Trees.{ArePrintable-json_tokens, value-json_tokens}
 use Rattle.json.proofs.Printed.Utf8.{IsUtf8-are_ascii, IsUtf8-quoted}
 use Rattle.json.specs.Json as json
 use Rattle.json.specs.Lex.{tokens}
-use Rattle.json.specs.Print.{escape, escape_byte, quoted}
 use Rattle.json.specs.Tree as tree
 use Rattle.serde_json.proofs.Numbers.{number_of-decimal, number_of-negative}
 use Rattle.serde_json.proofs.Texts.{print-outline}
-use Rattle.serde_json.specs.Data.{Data, Items, Members, Num, array, item, member, negative, no_items, no_members, number, object, put, string, unsigned}
-use Rattle.serde_json.specs.Read.{number_of, of_items, of_json, of_members, read}
-use Rattle.serde_json.specs.Written.{comma_if, compact_text, items_outline, items_text, members_outline, members_text, number_text, outline}
 use Rattle.ucl_json.proofs.Members.{was-read}
-use Rattle.ucl_json.specs.BoardLines.{parse_board_line, parse_board_state}
-use Rattle.ucl_order.specs.Roster.{is_printed}
-use Rattle.ucl_screen.proofs.Columns.{printed_utf8}
 
+-- a text that is written as it is, but for quotes and backslashes: all its bytes are printed
 abbrev pub IsText : List ℕ → Type 0
 IsText s = list_all is_printed s ≡ true
 
+-- a number that fits in 64 bits, and is no float
 abbrev pub IsPlainNumber : Num → Type 0
 IsPlainNumber (unsigned n) = n < 2 ^ 64
 IsPlainNumber (negative (negsuc n)) = suc n < 2 ^ 63
@@ -39,6 +34,7 @@ abbrev put_all : Members → Members → Members
 put_all no_members found = found
 put_all (member k d ms) found = put_all ms (put k d found)
 
+-- whether the names of all members are such texts
 abbrev have_texts : Members → Bool
 have_texts no_members = true
 have_texts (member k d ms) = list_all is_printed k && have_texts ms
@@ -64,8 +60,7 @@ abbrev mutual
   HavePlain deep no_members = ⊤
   HavePlain deep (member k d ms) = IsPlain deep d × HavePlain deep ms
 
--- ---- reading
-
+-- the text of a plain number is read back as it, and has the form that JSON asks for
 numeral : (n : Num) → IsPlainNumber n → (number_of (number_text n) ≡ Some n) × tree.HasNumbers (json.number (number_text n))
 numeral (unsigned n) h = (number_of-decimal n h, IsNumber-decimal n h)
 numeral (negative (negsuc n)) h = (number_of-negative n (omega arith), IsNumber-signed_decimal (negsuc n) (omega arith))
@@ -100,6 +95,7 @@ mutual
       let q = members-back deep ms (put k d found) h.1 in
       (rw p.0 q.0, (p.1, q.1), (let m = p.2 in let n = q.2 in omega arith))
 
+-- the text of a plain value is read back as that value
 reads : (d : Data) → IsPlain 127 d → read (compact_text d) ≡ Some d
 reads d h =
     let back = value-back 127 d h in
@@ -109,8 +105,7 @@ reads d h =
     ap (json.value 127) (same ∙ sym (append-nil (tree.json_tokens (outline d)))) ∙ value-json_tokens (outline d) 127 [] back.2 in
     rw whole back.0
 
--- ---- UTF-8
-
+-- the comma before an element, if there is one, the text of a plain value, and those of its items and members are UTF-8
 comma : (later : Bool) → IsUtf8 (comma_if later)
 comma true = IsUtf8-are_ascii (44 ∷ []) refl
 comma false = IsUtf8-nil
@@ -138,8 +133,6 @@ mutual
       (IsUtf8-append (58 ∷ []) rest (IsUtf8-are_ascii (58 ∷ []) refl)
       (IsUtf8-append (compact_text d) (members_text true ms) (value-utf8 deep d h.0) (members-utf8 deep true ms p.1 h.1))))
 
--- ---- how long it is
-
 -- of a text: at most two bytes for each of its own, since a quote and a backslash have a backslash before them
 one-byte : (x : ℕ) → 32 ≤ x → length (escape_byte x) ≤ 2
 unfolding escape_byte
@@ -155,9 +148,11 @@ escaped (x ∷ s) h =
     let high = leb-true 32 x (and_parts (nat_le 32 x) (nat_le x 126) p.0).0 in
     omega (arith, length-append (escape_byte x) (escape s), one-byte x high, escaped s p.1)
 
+-- a text in quotes has at most two bytes for each of its own, and two more
 pub quoted-length : (s : List ℕ) → IsText s → length (quoted s) ≤ 2 + 2 * length s
 quoted-length s h = omega (arith, escaped s h, length-append (escape s) (34 ∷ []))
 
+-- how many bytes the text of a value has, by those of its parts
 abbrev mutual
   pub size : Data → ℕ
   size (number n) = length (number_text n)
@@ -175,6 +170,7 @@ abbrev mutual
   members_size later no_members = 1
   members_size later (member k d ms) = length (comma_if later) + (length (quoted k) + (1 + (size d + members_size true ms)))
 
+-- the text of a value has as many bytes as its size says, and so have those of its items and members
 mutual
   pub sized : (d : Data) → length (compact_text d) ≡ size d
   sized (array ds) = let k = items-sized false ds in omega arith
@@ -193,14 +189,15 @@ mutual
       let whole = length-append (comma_if later) (quoted k ++ 58 ∷ rest) in
       omega (arith, whole, length-append (quoted k) (58 ∷ rest), length-append (compact_text d) (members_text true ms), sized d, members-sized true ms)
 
--- ---- a line
-
+-- a plain value whose text has at most 4,096 bytes, as a line that is read may have
 pub record IsShortPlain (d : Data) : Type 0 where
   pub plain : IsPlain 127 d
   pub size : size d ≤ 4096
 
+-- the text of such a value is short enough to be read
 pub line-short : (d : Data) → IsShortPlain d → length (compact_text d) ≤ 4096
 line-short d h = rw (sized d) h.size
 
+-- the board state that it tells as a line is the one that it tells as a value
 pub parsed-line : (d : Data) → IsShortPlain d → parse_board_line (compact_text d) ≡ parse_board_state d
 parsed-line d h = sym (was-read (compact_text d) d (line-short d h) (value-utf8 127 d h.plain) (reads d h.plain))

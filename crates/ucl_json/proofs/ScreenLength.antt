@@ -1,30 +1,20 @@
 -- How long a screen is at most.
-use Rattle.std.proofs.Common.{◌≡◌, ℕ, ◌-◌, ◌<◌, ◌≤◌, ◌^◌, List, [], ◌∷◌, length, length-append, replicate, arith}
-use Rattle.std.specs.Prelude.{decimal}
-use Rattle.std.proofs.lemmas.Fmt.{length-decimal-le}
-use Rattle.std.proofs.lemmas.List.{length-replicate}
-use Rattle.json.specs.Print.{escape_byte}
-use Rattle.serde_json.specs.Written.{compact_text}
-use Rattle.ucl_board.specs.Words.{AreWords, version_of}
-use Rattle.ucl_order.specs.declared.profile.Profile.{Profile}
-use Rattle.ucl_order.specs.declared.table.Row.{Row}
-use Rattle.ucl_order.specs.Roster.{NamedClub, IsRoster, name_of}
-use Rattle.ucl_order.specs.Rows.{row_of, IsWithinTable}
-use Rattle.ucl_order.proofs.KeysFit.{words_valid}
-use Rattle.ucl_order.proofs.Limits.{rows_within}
+use Rattle.ucl_json.proofs.Common.{AreWords, IsGroup, IsRoster, IsWithinTable, List, NamedClub, Profile, Row, [], arith, columns}
+use Rattle.ucl_json.proofs.Common.{compact_text, decimal, escape_byte, in_play, json_line, length, length-append, length-decimal-le}
+use Rattle.ucl_json.proofs.Common.{length-replicate, lines_wide, name_of, replicate, row_line, row_of, rows_within, screen_text}
+use Rattle.ucl_json.proofs.Common.{screen_value, version_of, words_valid, ℕ, ◌-◌, ◌<◌, ◌^◌, ◌∷◌, ◌≡◌, ◌≤◌}
 use Rattle.ucl_screen.specs.Lines.{header, zeros_before}
-use Rattle.ucl_screen.specs.Screen.{columns, in_play, row_line, screen_text, IsGroup}
-use Rattle.ucl_screen.proofs.Columns.{lines_wide}
-use Rattle.ucl_json.specs.Lines.{json_line}
-use Rattle.ucl_json.specs.Values.{screen_value}
-use Rattle.ucl_json.proofs.AnswerSizes.{clubs-plain, digits-2, digits-5, digits-20, few-in-play, group-text, order-text, places-plain, slot-plain, version-fits, words-plain}
+use Rattle.ucl_json.proofs.AnswerSizes.{clubs-plain, digits-2, digits-5, digits-20, few-in-play, group-text, order-text, places-plain}
+use Rattle.ucl_json.proofs.AnswerSizes.{slot-plain, version-fits, words-plain}
 use Rattle.ucl_json.proofs.PlainValues.{size, sized}
 
+-- a number below 100,000 has five digits, with zeros before it
 five_digits : (n : ℕ) → n < 100000 → length (zeros_before 5 n) ≡ 5
 five_digits n low =
     let short = length-decimal-le 5 n (omega arith) (omega arith) (omega arith) in
     omega (arith, length-append (replicate (5 - length (decimal n)) 48) (decimal n), length-replicate {A = ℕ} (5 - length (decimal n)) 48)
 
+-- the first line of a screen has at most 26 bytes
 header_short : (group version playing : ℕ) → version ≤ 49140 → playing ≤ 12 → length (header group version playing) ≤ 26
 unfolding header
 header_short group version playing low few =
@@ -32,11 +22,13 @@ header_short group version playing low few =
     let two = length-decimal-le 2 playing (omega arith) (omega arith) (omega arith) in
     simp length-append (omega arith)
 
+-- the line of a place has at most 54 bytes, its line feed among them
 row_short : (roster : List NamedClub) (row : Row) → IsRoster roster → IsWithinTable row → row.place ≤ 4 → length (row_line roster row) ≤ 54
 row_short roster row is within place =
     let wide = lines_wide.places row (name_of roster row.slot) within place (slot-plain roster is row.slot within.slot).short in
     omega arith
 
+-- a screen has at most 296 bytes
 pub screen_short : (profile : Profile) (board : List ℕ) (roster : List NamedClub) → AreWords board → IsRoster roster → (group : ℕ) → length (screen_text profile board roster group) ≤ 296
 unfolding screen_text row_of
 screen_short profile board roster words is group =
@@ -50,6 +42,7 @@ screen_short profile board roster words is group =
     let four = row_short roster (row 4) is (within 3 (row 1) (omega arith)) (omega arith) in
     simp length-append (omega arith)
 
+-- the value of a screen has at most 1,422 bytes
 screen_size : (row : ℕ) (profile : Profile) (board : List ℕ) (roster : List NamedClub) (group : ℕ) → row < 2 ^ 64 → AreWords board → IsRoster roster → IsGroup group
     → size (screen_value row profile board roster group) ≤ 1422
 unfolding screen_value escape_byte
@@ -68,6 +61,7 @@ screen_size row profile board roster group fits words is letter =
       (words-plain board words).1,
     )
 
+-- the line of a screen in JSON has at most 1,423 bytes
 pub line_short : (row : ℕ) (profile : Profile) (board : List ℕ) (roster : List NamedClub) (group : ℕ) → row < 2 ^ 64 → AreWords board → IsRoster roster → IsGroup group
     → length (json_line (screen_value row profile board roster group)) ≤ 1423
 line_short row profile board roster group fits words is letter =

@@ -4,12 +4,10 @@ use Rattle.ucl_live_board.proofs.Common.{All, IsSome, None, dite, some, get_elem
 use Rattle.ucl_live_board.proofs.Common.{added_by, number_of, history_of, enlisted_by, IsLegalRule, View, Share, whole, Overlap, BoardInvariant, DidAllAlone}
 use Rattle.ucl_live_board.proofs.Common.{WholeIsAlone}
 use Rattle.ucl_board.specs.Log.{LogFacts}
-use Rattle.ucl_board.proofs.Logs.{taken_none, below_more}
-use Rattle.ucl_board.proofs.Logs.{log_facts}
+use Rattle.ucl_board.proofs.Logs.{taken_none, below_more, log_facts}
 use Rattle.ucl_live_board.proofs.Halves.{in_whole}
 
--- the first step of a log
-
+-- the first step of a log is the first of the seat that took it, and is not of another seat
 pub taken_here : (seat : ℕ) (t : Taken) (log : Log) → taken_by seat (logged_by seat t ∷ log) ≡ t ∷ taken_by seat log
 taken_here seat t log = search (arith, eq-eqb)
 
@@ -20,7 +18,7 @@ taken_else seat other t log not = search (arith, ne_eqb)
 pub some_here : (seat : ℕ) (t : Taken) (log : Log) → taken_by seat (logged_by seat t ∷ log) ≢ []
 some_here seat t log none = let l = ap length (sym (taken_here seat t log) ∙ none) in omega arith
 
--- only this seat took steps
+-- if no other seat took steps, the log is the steps of this seat
 pub only_own : (seat : ℕ) (log : Log) → ((j : ℕ) → j ≢ seat → taken_by j log ≡ []) → log ≡ map (logged_by seat) (taken_by seat log)
 only_own seat [] none = refl
 only_own seat (x ∷ log) none = dite (ℕ_discrete x.seat seat)
@@ -47,6 +45,7 @@ history_by : (seat : ℕ) (steps : List Taken) → history_of (map (logged_by se
 history_by seat [] = refl
 history_by seat (t ∷ steps) = ap (λ (l : List Entry). entry_list t.entry ++ l) (history_by seat steps)
 
+-- a pass that has a number took steps
 pub number_some : (n : ℕ) (steps : List Taken) → 1 ≤ n → number_of steps ≡ n → steps ≢ []
 number_some n steps low is none = let e = ap number_of none in omega arith
 
@@ -60,10 +59,12 @@ module _ (words_after : List Entry → ℕ → List ℕ) (May : Log → Logged �
       (u.0, u.1, some_acts u.0.share (λ none. any (sym f.own.1 ∙ f.idle none))))
       (λ over. absurd (any (none_beyond (length views) j r.log (omega (arith, over)) r.seated)))
 
+  -- a pass whose share is the whole board, under a rule that is legal
   module _ (legal : IsLegalRule May) (seat : ℕ) (v : View) (here : get_elem? views seat ≡ some v) (share : v.share ≡ whole) where
     facts : LogFacts r.log
     facts = log_facts r.log r.is_log (legal r.log r.is_log r.follows)
 
+    -- no other seat took steps
     only_it : (j : ℕ) → taken_by j r.log ≢ [] → j ≡ seat
     only_it j any = let u = seat_there j any in r.shared j seat u.0 v u.1 here (subst (λ (t : Share). Overlap u.0.share t) (sym share) (in_whole u.0.share u.2))
 
@@ -80,6 +81,7 @@ module _ (words_after : List Entry → ℕ → List ℕ) (May : Log → Logged �
         let g = facts.given n low high in
         ap number_of (r.fits seat v here).own.1 ∙ (ap (λ (k : ℕ). number_of (taken_by k r.log)) (sym (only_it g.0 (number_some n (taken_by g.0 r.log) low g.1))) ∙ g.1)
 
+    -- a pass with the whole board entered all entries of the log, and no other pass was enlisted
     pub alone_there : DidAllAlone r.log v
     alone_there =
         let f = r.fits seat v here in

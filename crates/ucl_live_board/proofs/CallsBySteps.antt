@@ -10,18 +10,18 @@ use Rattle.ucl_live_board.specs.LiveRecords.{LiveMet}
 use Rattle.ucl_live_board.specs.Passes.{Enlistment}
 use Rattle.ucl_live_board.proofs.StepFacts.{Goes, Sees, Adds, GivesNumber, sound}
 
--- steps, one after another
-
+-- no steps lead from a view to itself; steps from u to v and then steps from v to w lead from u to w
 pub takes_none : (v : View) → Takes v [] v
 takes_none v = record { own = sym (append-nil v.own); copied = refl }
 
 pub takes_on : (u v w : View) (xs ys : List Taken) → Takes u xs v → Takes v ys w → Takes u (xs ++ ys) w
 takes_on u v w xs ys a b = record { own = b.own ∙ (ap (λ (l : List Taken). l ++ ys) a.own ∙ append_assoc u.own xs ys); copied = b.copied ∙ a.copied }
 
+-- after steps a view has so many more
 pub takes_count : (v w : View) (xs : List Taken) → Takes v xs w → count_of w ≡ count_of v + length xs
 takes_count v w xs t = search (arith, length-append v.own xs, length-append v.copied v.own, length-append w.copied w.own)
 
--- a pass after any number of steps that changed nothing else
+-- any number of steps that entered nothing and gave no number: the pass knows no less than before, and has the same share
 pub record Stays (v w : View) : Type 0 where
   pub seen : IsPrefix (history_of v.log) (history_of w.log)
   pub listed : enlisted_by v.log ≤ enlisted_by w.log
@@ -32,31 +32,38 @@ pub record Stays (v w : View) : Type 0 where
 pub stays_none : (v : View) → Stays v v
 stays_none v = record { seen = begins_same (history_of v.log); listed = le_refl (enlisted_by v.log); share = refl; mine = refl; number = refl }
 
+-- such steps, and then one that added no entry and gave no number, are such steps
 pub stays_more : (v w u : View) (target : Target) → Stays v w → Sees target w u → Stays v u
 stays_more v w u target t sees = search (arith, begins_through)
 
--- what contracts see of it: after steps of which the last was this, that gave the pass a number, or that came after a note was taken in
-
+-- `shown` works out from the steps of a pass which versions it has read
 module _ (shown : List Taken → List ℕ) where
+  -- after steps that entered nothing and gave no number contracts see that the pass has seen no less, and has the same share
   pub stays_on : (v w : View) → Stays v w → SeesOn (pass_view_by shown v) (pass_view_by shown w)
   stays_on v w t = record { seen = t.seen; listed = t.listed; share = t.share }
 
+  -- such steps, of which there was one at least, leave what holds of a pass after each call
   pub stays_continue : (v w u : View) → Stays v u → Goes w u → Continues (pass_view_by shown v) (pass_view_by shown u)
   stays_continue v w u t goes = record { sound = sound shown w u goes; on = stays_on v u t; number = t.number }
 
+  -- such steps, and a last one that added an entry, leave what holds of a pass after each call
   pub adds_continue : (v w u : View) (target : Target) (e : Entry) → Stays v w → Adds target e w u → Continues (pass_view_by shown v) (pass_view_by shown u)
   adds_continue v w u target e t adds = search (arith, sound, begins_through)
 
+  -- if the last step gave the pass a number, it was enlisted as contracts say
   pub enlists : (v w u : View) (found : ℕ) → Stays v w → GivesNumber found w u → shown u.own ≡ [] → Enlistment (pass_view_by shown v) (pass_view_by shown u)
   enlists v w u found t gives none = search (arith, sound, begins_through)
 
+  -- the pass v took in a note of the pass a, and then took a step that added no entry and gave no number
   module _ (a v w : View) (target : Target) (sees : Sees target (told_pass v (note_pass a)) w) where
     first : IsPrefix v.log w.log
     first = All-head (λ l. IsPrefix l w.log) v.log (a.log ∷ v.told) sees.goes.heard
 
+    -- a pass that took in a note entered nothing, and knows no less than before
     pub hears : Stays v w
     hears = record { seen = history_on v.log w.log first; listed = enlisted_on v.log w.log first; share = sees.goes.share; mine = sees.mine; number = sees.number }
 
+    -- the passes have met as contracts say, if a is sound and unchanged and no reading was finished
     pub meets : (b : View) → b ≡ a → IsSound (pass_view_by shown a) → shown w.own ≡ shown v.own
         → LiveMet (pass_view_by shown a) (pass_view_by shown b) (pass_view_by shown v) (pass_view_by shown w)
     meets b unchanged first_sound same = record {
@@ -70,8 +77,10 @@ module _ (shown : List Taken → List ℕ) where
       };
     }
 
+-- the pass that is split off a sound pass is sound
 pub sound_second : (shown : List Taken → List ℕ) (v : View) → IsSound (pass_view_by shown v) → IsSound (pass_view_by shown (second_pass v))
 sound_second shown v s = search (arith, none_by_zero, half_acts, half_not_whole)
 
+-- what is left of a sound pass after a split is sound
 pub sound_left : (shown : List Taken → List ℕ) (v : View) → IsSound (pass_view_by shown v) → IsSound (pass_view_by shown (left_pass v))
 sound_left shown v s = search (arith, half_acts, half_not_whole)

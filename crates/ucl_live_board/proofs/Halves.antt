@@ -6,13 +6,14 @@ use Rattle.ucl_live_board.proofs.Common.{begins_through, Share, whole, half_of, 
 pub overlap_swap : (s t : Share) → Overlap s t → Overlap t s
 overlap_swap s t o = search arith
 
--- what begins a longer way, or lies before its last turn
+-- a beginning of a path and the path without its last turn: one of them begins the other
 comparable : (b rest path : List Bool) (side : Bool) → b ++ rest ≡ path ++ side ∷ [] → IsPrefix path b ⊎ IsPrefix b path
 comparable [] rest path side is = inr (begins_none path)
 comparable (x ∷ b) rest [] side is = inl (begins_none (x ∷ b))
 comparable (x ∷ b) rest (y ∷ path) side is =
     let same : x ≡ y = cc in let tail : b ++ rest ≡ path ++ side ∷ [] = cc in search (arith, comparable b rest path side tail)
 
+-- what a half of a share overlaps with, the share overlaps with
 pub half_overlaps : (side : Bool) (s t : Share) → Overlap (half_of side s) t → Overlap s t
 half_overlaps side (Some path) (Some b) o = ⊎_elim
     (λ (p : IsPrefix (path ++ side ∷ []) b). inl (begins_through path (path ++ side ∷ []) b (side ∷ [], refl) p))
@@ -21,10 +22,12 @@ half_overlaps side (Some path) (Some b) o = ⊎_elim
 half_overlaps side (Some path) None o = absurd o
 half_overlaps side None t o = absurd o
 
+-- a path that goes on behind one turn, and is equal to one that ends with a turn at the same place, takes the same turn there
 one_turn : (path rest : List Bool) (a b : Bool) → (path ++ a ∷ []) ++ rest ≡ path ++ b ∷ [] → a ≡ b
 one_turn [] rest a b is = cc
 one_turn (x ∷ path) rest a b is = one_turn path rest a b (cc)
 
+-- the halves of a share do not overlap
 pub halves_apart : (s : Share) → Overlap (second_half s) (first_half s) → ⊥
 halves_apart s o = search (arith, true≢false, one_turn)
 
@@ -46,11 +49,11 @@ half_not_whole side s is = search (arith, no_end, some_same, acts_some)
 pub half_none : (side : Bool) (s : Share) → half_of side s ≡ None → s ≡ None
 half_none side s none = search (arith, acts_some)
 
--- every share lies in the whole, and on one side of each part that it lies in or that lies in it
-
+-- every share overlaps with the whole
 pub in_whole : (s : Share) → IsSome s → Overlap s whole
 in_whole s acts = search (arith, begins_none, true≢false)
 
+-- what overlaps with a share overlaps with its first half or its second
 pub on_a_side : (s : Share) (path : List Bool) → Overlap s (Some path) → Overlap s (Some (path ++ false ∷ [])) ⊎ Overlap s (Some (path ++ true ∷ []))
 on_a_side (Some a) path o = ⊎_elim
     (λ (p : IsPrefix a path). inl (inl (begins_more a path false p)))

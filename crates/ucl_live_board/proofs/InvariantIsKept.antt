@@ -12,21 +12,21 @@ use Rattle.ucl_board.proofs.Logs.{shorter}
 use Rattle.ucl_live_board.specs.PossibleViews.{OccursSomewhere, BothOccur}
 use Rattle.ucl_live_board.proofs.Halves.{overlap_swap, half_overlaps, halves_apart, half_none, acts_some}
 
--- views by their places
-
+-- where a list has an element, the place is below its length
 pub place_below : {X : Type 0} (xs : List X) (at : ℕ) (x : X) → get_elem? xs at ≡ some x → at < length xs
 place_below (y ∷ xs) (suc at) x e = let r = place_below xs at x e in omega arith
 place_below xs at x e = search (arith, some-ne-none)
 
+-- an element of a list with one more at its end is one of the list, or it is that last one
 at_last : (views : List View) (w u : View) (j : ℕ) → get_elem? (views ++ w ∷ []) j ≡ some u → (get_elem? views j ≡ some u) ⊎ ((j ≡ length views) × (w ≡ u))
 at_last (x ∷ views) w u (suc j) e = search (arith, at_last views w u j)
 at_last views w u j e = search (arith, some-injective, some-ne-none)
 
 -- no two passes have a part of the board in common
-
 abbrev ApartShares : List View → Type 0
 ApartShares views = (i j : ℕ) (v w : View) → get_elem? views i ≡ some v → get_elem? views j ≡ some w → Overlap v.share w.share → i ≡ j
 
+-- shares of views stay apart if one view is set to one whose share overlaps with no other's
 apart_set : (views : List View) (seat : ℕ) (w : View) → ((j : ℕ) (u : View) → j ≢ seat → get_elem? views j ≡ some u → Overlap w.share u.share → ⊥)
     → ApartShares views → ApartShares (set views seat w)
 apart_set views seat w lone apart i j a b at bt over = elim (at_set views seat i w a at) [
@@ -40,6 +40,7 @@ apart_set views seat w lone apart i j a b at bt over = elim (at_set views seat i
   ]
 ]
 
+-- shares of views stay apart if a view is added whose share overlaps with none
 apart_last : (views : List View) (w : View) → ((j : ℕ) (u : View) → get_elem? views j ≡ some u → Overlap w.share u.share → ⊥)
     → ApartShares views → ApartShares (views ++ w ∷ [])
 apart_last views w lone apart i j a b at bt over = elim (at_last views w a i at) [
@@ -53,14 +54,17 @@ apart_last views w lone apart i j a b at bt over = elim (at_last views w a i at)
   ]
 ]
 
--- with this share for another one that overlaps with no more
+-- a view among views whose shares are apart
 module _ (views : List View) (seat : ℕ) (v : View) (here : get_elem? views seat ≡ some v) (apart : ApartShares views) where
+  -- a share that overlaps with no more than the share of v overlaps with that of no other view
   lone_by : (w : View) → ((t : Share) → Overlap w.share t → Overlap v.share t) → (j : ℕ) (u : View) → j ≢ seat → get_elem? views j ≡ some u → Overlap w.share u.share → ⊥
   lone_by w less j u not at over = not (sym (apart seat j v u here at (less u.share over)))
 
+  -- the shares stay apart if the view is set to one with the same share
   apart_kept : (w : View) → w.share ≡ v.share → ApartShares (set views seat w)
   apart_kept w same = apart_set views seat w (lone_by w (λ t over. subst (λ (s : Share). Overlap s t) same over)) apart
 
+  -- the shares stay apart after a split
   apart_split : ApartShares (set views seat (left_pass v) ++ second_pass v ∷ [])
   apart_split = apart_last (set views seat (left_pass v)) (second_pass v)
       (λ j u at over. elim (at_set views seat j (left_pass v) u at) [
@@ -69,8 +73,7 @@ module _ (views : List View) (seat : ℕ) (v : View) (here : get_elem? views sea
       ])
       (apart_set views seat (left_pass v) (lone_by (left_pass v) (half_overlaps false v.share)) apart)
 
--- passes that fit
-
+-- a view that fits a log fits it after a step of another seat
 fits_more : (log : Log) (x : Logged) (seat : ℕ) (v : View) → x.seat ≢ seat → ViewInvariant log seat v → ViewInvariant (log ++ x ∷ []) seat v
 fits_more log x seat v not f = record {
   knows = begins_through v.log log (log ++ x ∷ []) f.knows (x ∷ [], refl);
@@ -79,6 +82,7 @@ fits_more log x seat v not f = record {
   idle = f.idle;
 }
 
+-- the view after a step fits the log with that step
 fits_stepped : (log : Log) (seat : ℕ) (x : Taken) (v : View) → v.share ≢ None → ViewInvariant log seat v → ViewInvariant (log ++ logged_by seat x ∷ []) seat (stepped_to log seat x v)
 fits_stepped log seat x v acts f =
     let own : v.own ++ x ∷ [] ≡ taken_by seat (log ++ logged_by seat x ∷ []) = ap (λ (l : List Taken). l ++ x ∷ []) f.own.1 ∙ sym (taken_own seat log x) in
@@ -89,7 +93,7 @@ fits_stepped log seat x v acts f =
       idle = λ none. absurd (acts none);
     }
 
--- one pass more, which took no step
+-- the view of one pass more, which took no step and knows the log that a fitting view knows, fits at the next seat
 fits_last : (log : Log) (n : ℕ) (v w : View) (seat : ℕ) → All (λ (x : Logged). x.seat < n) log → ViewInvariant log seat v → w.log ≡ v.log → w.told ≡ [] → w.own ≡ []
     → ViewInvariant log n w
 fits_last log n v w seat all f same told own =
@@ -103,6 +107,7 @@ fits_last log n v w seat all f same told own =
       idle = λ _. own;
     }
 
+-- a view with the log and the steps of a fitting view fits too, unless it alone has no share
 fits_kept : (log : Log) (seat : ℕ) (v u : View) → u.log ≡ v.log → u.told ≡ v.told → u.own ≡ v.own → (u.share ≡ None → v.share ≡ None) → ViewInvariant log seat v
     → ViewInvariant log seat u
 fits_kept log seat v u log_is told own share f = record {
@@ -112,7 +117,7 @@ fits_kept log seat v u log_is told own share f = record {
   idle = λ none. own ∙ f.idle (share none);
 }
 
--- the longer of two beginnings has all own steps
+-- a view that was told a note's log fits, if that begins this log too: the longer of two beginnings has all own steps
 fits_told : (log : Log) (seat : ℕ) (v note : View) → ViewInvariant log seat v → IsPrefix note.log log → ViewInvariant log seat (told_pass v note)
 fits_told log seat v note f theirs = record {
   knows = by_length (nat_lt (length v.log) (length note.log));
@@ -131,13 +136,13 @@ fits_told log seat v note f theirs = record {
         f.own.1 ∙ sym (between seat v.log note.log log (shorter v.log note.log log f.knows theirs (omega (arith, less))) theirs (sym f.own.0 ∙ f.own.1))
     own_by false is = f.own.0
 
+-- a view that knows nothing fits at a seat that took no step
 fits_spent : (log : Log) (seat : ℕ) → taken_by seat log ≡ [] → ViewInvariant log seat new_pass
 fits_spent log seat none = record { knows = (log, refl); told = All-nil (λ (l : Log). IsPrefix l log); own = (refl, sym none); idle = λ _. refl }
 
--- the invariant
-
 module _ (words_after : List Entry → ℕ → List ℕ) (May : Log → Logged → Type 0) where
   module _ (words : List ℕ) (views : List View) (r : BoardInvariant words_after May words views) (seat : ℕ) (v : View) (here : get_elem? views seat ≡ some v) where
+    -- a step that may come next, of a pass with a share, keeps the invariant if the words are then those after the log with it
     pub step_keeps : (after : List ℕ) (x : Taken) → IsSome v.share → MayBeTaken r.log (logged_by seat x) → May r.log (logged_by seat x)
         → after ≡ words_after (history_of (r.log ++ logged_by seat x ∷ [])) (enlisted_by (r.log ++ logged_by seat x ∷ []))
         → BoardInvariant words_after May after (set views seat (stepped_to r.log seat x v))
@@ -189,7 +194,6 @@ module _ (words_after : List Entry → ℕ → List ℕ) (May : Log → Logged �
         )
 
     -- the words after a step: they stay, or are those of one entry or one reporter more
-
     pub words_stay : (x : Taken) → x.entry ≡ None → length (enlists x.target) ≡ 0
         → words ≡ words_after (history_of (r.log ++ logged_by seat x ∷ [])) (enlisted_by (r.log ++ logged_by seat x ∷ []))
     words_stay x none few =
@@ -208,8 +212,7 @@ module _ (words_after : List Entry → ℕ → List ℕ) (May : Log → Logged �
         let count : enlisted_by (r.log ++ logged_by seat x ∷ []) ≡ enlisted_by r.log + 1 = let e = enlisted_more r.log (logged_by seat x) in omega arith in
         λ i. words_after (sym (history_same r.log (logged_by seat x) none) i) (sym count i)
 
-    -- a split, and a note
-
+    -- one pass more, which knows what v knows and took no step, keeps the invariant, if the shares are then apart
     split_keeps : (u w : View) → u.log ≡ v.log → u.told ≡ v.told → u.own ≡ v.own → (u.share ≡ None → v.share ≡ None) → w.log ≡ v.log → w.told ≡ [] → w.own ≡ []
         → ApartShares (set views seat u ++ w ∷ []) → BoardInvariant words_after May words (set views seat u ++ w ∷ [])
     split_keeps u w log_is told own share log_w told_w own_w apart =
@@ -233,13 +236,16 @@ module _ (words_after : List Entry → ℕ → List ℕ) (May : Log → Logged �
           shared = apart;
         }
 
+    -- a split of a pass keeps the invariant
     pub seconds_keep : BoardInvariant words_after May words (set views seat (left_pass v) ++ second_pass v ∷ [])
     seconds_keep = split_keeps (left_pass v) (second_pass v) refl refl refl (half_none false v.share) refl refl refl (apart_split views seat v here r.shared)
 
+    -- making a note of what a pass knows keeps the invariant
     pub notes_keep : BoardInvariant words_after May words (set views seat v ++ note_pass v ∷ [])
     notes_keep = split_keeps v (note_pass v) refl refl refl (λ e. e) refl refl refl
         (apart_last (set views seat v) (note_pass v) (λ j u at over. over) (apart_kept views seat v here r.shared v refl))
 
+    -- a pass takes in a note from another seat, of which nothing is left there: this keeps the invariant
     pub hears_keep : (other : ℕ) (note : View) → get_elem? views other ≡ some note → other ≢ seat → note.share ≡ None
         → BoardInvariant words_after May words (set (set views seat (told_pass v note)) other new_pass)
     hears_keep other note there apart none =
@@ -272,6 +278,7 @@ module _ (words_after : List Entry → ℕ → List ℕ) (May : Log → Logged �
       | inr t ↦ hears_keep other note t.1 apart none
     ]
 
+  -- the invariant holds of a board that opens with the words of no event and no reporter and with one pass, which has the whole
   pub opens_keep : (words : List ℕ) → words ≡ words_after [] 0 → BoardInvariant words_after May words (first_pass ∷ [])
   opens_keep words are = record {
     log = [];
@@ -292,7 +299,7 @@ module _ (words_after : List Entry → ℕ → List ℕ) (May : Log → Logged �
       only zero v e = refl
       only (suc i) v e = absurd (some-ne-none v (sym e))
 
--- a pass that another was split off still occurs, beside that one
+-- if a pass with a view occurs, the two passes that a split makes of it occur together
 both_there : (words_after : List Entry → ℕ → List ℕ) (May : Log → Logged → Type 0) (v : View) → BothOccur words_after May v (left_pass v) (second_pass v)
 both_there words_after May v seat was =
     let left = set was.views seat (left_pass v) in

@@ -14,6 +14,7 @@ use Rattle.ucl_live_board.specs.Settling.{AreAlone, both_accepted, Settled, IsOf
 pub by_more : (n : ℕ) (s h : List Entry) (p : IsPrefix s h) → entries_by n h ≡ entries_by n s ++ entries_by n p.0
 by_more n s h p = ap (entries_by n) (sym p.1) ∙ filter-append (λ (e : Entry). e.reporter == n) s p.0
 
+-- an entry at the end of a history is the last of its reporter's, and none of another reporter's
 pub by_own : (n : ℕ) (h : List Entry) (e : Entry) → e.reporter ≡ n → entries_by n (followed_by h e) ≡ followed_by (entries_by n h) e
 by_own n h e is = filter-append (λ (x : Entry). x.reporter == n) h (e ∷ []) ∙ ap (λ (b : Bool). entries_by n h ++ cond b (e ∷ []) []) (eq-eqb e.reporter n is)
 
@@ -50,14 +51,17 @@ one_number a b r is said = grind (arith, nat_tests)
 abbrev others : ℕ → ℕ → List Entry → List Entry
 others a b t = filter (λ (e : Entry). not (e.reporter == a) && not (e.reporter == b)) t
 
+-- an element that goes to one of three lists makes all three together longer by one
 one_of_three : {X : Type 0} (p q : Bool) (x : X) (A B C : List X) → (p ≡ true → q ≡ true → ⊥)
     → length (cond p (x ∷ A) A) + length (cond q (x ∷ B) B) + length (cond (not p && not q) (x ∷ C) C) ≡ suc (length A + length B + length C)
 one_of_three p q x A B C apart = search arith
 
+-- the entries of two reporters and those of all others are together as many as there are
 three_counts : (a b : ℕ) → a ≢ b → (t : List Entry) → length (entries_by a t) + length (entries_by b t) + length (others a b t) ≡ length t
 three_counts a b ne [] = refl
 three_counts a b ne (x ∷ t) = search (arith, one_of_three, eqb-true, three_counts a b ne t)
 
+-- an entry is of one of two reporters
 abbrev OfTwo : ℕ → ℕ → Entry → Type 0
 OfTwo a b e = (e.reporter ≡ a) ⊎ (e.reporter ≡ b)
 
@@ -101,9 +105,11 @@ module _ (a b a1 b1 d : PassView) (reading : Reading) (same : a1 ≡ a) (met : M
       let len : length t ≡ reading.version = length-take-le reading.version d.seen read.high in
       record { more_a = entries_by a.number q.0; more_b = entries_by b.number p.0; first = first; second = second; all = omega arith }
 
+  -- if the version is the sum of their accepted events, each entry that was read is of one of the two
   all_theirs : IsSound a → a.number ≢ b.number → reading.version ≡ both_accepted a b → IsOfBoth a b (take reading.version d.seen)
   all_theirs sound ne sum = search (arith, counts, nil_from_length, append-nil, no_others)
 
+  -- if it is another number, it is greater than the sum
   above : IsSound a → a.number ≢ b.number → reading.version ≢ both_accepted a b → both_accepted a b < reading.version
   above sound ne other = let c = counts sound ne in let all = c.all in omega arith
 

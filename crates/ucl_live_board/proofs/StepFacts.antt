@@ -28,6 +28,7 @@ pub record Goes (v w : View) : Type 0 where
   pub acts : IsSome w.share
   pub alone : w.share ≡ whole → (history_of w.log ≡ added_by w.own) × (enlisted_by w.log ≤ number_of w.own) × (number_of w.own ≤ 1)
 
+-- after any step a pass is sound as contracts see it
 pub sound : (shown : List Taken → List ℕ) (v w : View) → Goes v w → IsSound (pass_view_by shown w)
 sound shown v w goes = search arith
 
@@ -62,7 +63,7 @@ pub record GivesNumber (found : ℕ) (v w : View) : Type 0 where
   pub number : number_of w.own ≡ found + 1
   pub mine : added_by w.own ≡ []
 
--- a beginning with as many entries of one reporter as there are entries after it is all
+-- a history is equal to a longer one that is no more than the entries of one reporter in it
 all_seen : (n : ℕ) (h p : List Entry) → IsPrefix h p → entries_by n h ≡ p → h ≡ p
 all_seen n h p b is =
     let d = length-filter_both (λ (e : Entry). e.reporter == n) (λ (e : Entry). not (e.reporter == n)) (λ _. refl) h in
@@ -70,12 +71,15 @@ all_seen n h p b is =
     let l = ap length (sym b.1) ∙ length-append h b.0 in
     sym (append-nil h) ∙ (ap (λ (x : List Entry). h ++ x) (sym (nil_from_length b.0 (omega arith))) ∙ b.1)
 
+-- a step that enlists no one leaves the number of its pass
 keeps_number : (t : Target) (n : ℕ) → length (enlists t) ≡ 0 → number_by t n ≡ n
 keeps_number t n none = search arith
 
+-- what a step finds after a log it finds after any log with the same history and as many reporters, unless it enlists
 there_on : (a b : Log) (t : Target) → history_of a ≡ history_of b → enlisted_by a ≡ enlisted_by b → length (enlists t) ≡ 0 → IsThere a t → IsThere b t
 there_on a b t history count none there = search arith
 
+-- the pass of a seat took one step on this target, from the view v to the view w
 module _ (words_after : List Entry → ℕ → List ℕ) (May : Log → Rattle.ucl_board.specs.Log.Logged → Type 0) (seat : ℕ) (target : Target) (v w : View)
     (s : BoardStep words_after May seat target v w) where
   pub log_is : w.log ≡ s.before ++ logged_by seat s.step ∷ []
@@ -199,7 +203,7 @@ module _ (words_after : List Entry → ℕ → List ℕ) (May : Log → Rattle.u
     enlists_legally = subst (λ (t : Target). MayEnlist (number_of (taken_by seat s.before)) t s.step.entry) s.of
         (may_last IsLegalStep s.before (logged_by seat s.step) (subst HasLegalSteps log_is legal_steps)).enlists
 
--- an enlistment
+-- the enlistment of a pass, where `found` were enlisted, gives it the next number
 pub enlisted : (words_after : List Entry → ℕ → List ℕ) (May : Log → Rattle.ucl_board.specs.Log.Logged → Type 0) (seat found : ℕ) (v w : View)
     (s : BoardStep words_after May seat (Enlists found) v w) → IsLegalRule May → GivesNumber found v w
 enlisted words_after May seat found v w s legal =

@@ -1,38 +1,37 @@
 -- The lines of answers, and what each carries.
-use Rattle.ucl_live_runs.proofs.Common.{All, All-append, All-cons, All-head, All-nil, All-tail, All-weaker, AreWords, BoardState}
-use Rattle.ucl_live_runs.proofs.Common.{Bool, Data, HasNoFeed, HasNumbers, IfSome, IsRoster, IsValid, IsWord, Kind}
-use Rattle.ucl_live_runs.proofs.Common.{List, MatchRecord, NamedClub, NightEvent, None, Option, Refusal, Some, [], and_from}
-use Rattle.ucl_live_runs.proofs.Common.{ap, append_cancel_right, arith, bad_row_value, begun_append}
-use Rattle.ucl_live_runs.proofs.Common.{begun_ended, begun_line, begun_none, cases_Bool, cases_lt, compact_text}
-use Rattle.ucl_live_runs.proofs.Common.{ended_append, ended_line, ended_lines, ended_none, false, field_name, fits, found_of}
-use Rattle.ucl_live_runs.proofs.Common.{if◌then◌else◌, inl, inr, is_printed, json_line, length, length-take, length-take-le}
-use Rattle.ucl_live_runs.proofs.Common.{list_all, map, map-append, matches_value, number_valid, one_line}
-use Rattle.ucl_live_runs.proofs.Common.{parse_board_line, parse_board_state, printed, record_at, refl, refusal_code}
-use Rattle.ucl_live_runs.proofs.Common.{refusal_name, refusal_of, refused_by, refused_value, serde_json_on_literals, shown_text}
-use Rattle.ucl_live_runs.proofs.Common.{subst, sym, take, take_all, too-long, true, word_high, word_valid, words_value, ℕ, ◌++◌}
-use Rattle.ucl_live_runs.proofs.Common.{◌/◌, ◌<◌, ◌^◌, ◌∙◌, ◌∷◌, ◌≡◌, ◌≢◌, ◌≤◌, ◌⊎◌}
+use Rattle.ucl_live_runs.proofs.Common.{All, All-append, All-cons, All-head, All-nil, All-tail, All-weaker, AreWords, BoardState, Bool}
+use Rattle.ucl_live_runs.proofs.Common.{Data, HasNoFeed, HasNumbers, IfSome, IsRoster, IsValid, IsWord, Kind, List, MatchRecord, NamedClub}
+use Rattle.ucl_live_runs.proofs.Common.{NightEvent, None, Option, Refusal, Some, [], and_from, ap, append_cancel_right, arith}
+use Rattle.ucl_live_runs.proofs.Common.{bad_row_value, begun_append, begun_ended, begun_line, begun_none, cases_Bool, cases_lt}
+use Rattle.ucl_live_runs.proofs.Common.{compact_text, ended_append, ended_line, ended_lines, ended_none, escape_byte, false, field_name}
+use Rattle.ucl_live_runs.proofs.Common.{fits, found_of, if◌then◌else◌, inl, inr, is_printed, json_line, length, length-take, length-take-le}
+use Rattle.ucl_live_runs.proofs.Common.{list_all, map, map-append, matches_value, number_valid, one_line, parse_board_line}
+use Rattle.ucl_live_runs.proofs.Common.{parse_board_state, printed, quoted, record_at, refl, refusal_code, refusal_name, refusal_of}
+use Rattle.ucl_live_runs.proofs.Common.{refused_by, refused_value, serde_json_on_literals, shown_text, subst, sym, take, take_all, too-long}
+use Rattle.ucl_live_runs.proofs.Common.{true, word_high, word_valid, words_value, ℕ, ◌++◌, ◌/◌, ◌<◌, ◌^◌, ◌∙◌, ◌∷◌, ◌≡◌, ◌≢◌, ◌≤◌, ◌⊎◌}
 use Rattle.ucl_rows.specs.declared.bad_row.BadField.{BadField}
 use Rattle.ucl_rows.specs.declared.bad_row.BadField.TheVariants.{Count}
-use Rattle.ucl_word.specs.declared.refusal.Refusal.TheVariants.{AlreadyStarted, Finished, LimitReached, NoCaution, NoGoal, NotFinished, NotStarted}
+use Rattle.ucl_word.specs.declared.refusal.Refusal.TheVariants.{AlreadyStarted, Finished, LimitReached, NoCaution, NoGoal, NotFinished}
+use Rattle.ucl_word.specs.declared.refusal.Refusal.TheVariants.{NotStarted}
 use Rattle.ucl_word.specs.declared.refusal.Refusal.TheVariants.{NumberFull, Stale}
-use Rattle.json.specs.Print.{escape_byte, quoted}
 use Rattle.ucl_json.proofs.AnswerSizes.{digits-20, kind-text, match-plain, refusal-text, words-plain}
 use Rattle.ucl_json.proofs.PlainValues.{IsShortPlain, IsText, parsed-line, quoted-length}
 use Rattle.ucl_live_runs.proofs.AnswerValues.{matches-short}
 
--- ==== The lines that a session in JSON answers, and what each tells
-
--- what the lines of a text carry
+-- the board states that the lines of a text carry, one for each line, None for a line that carries none
 abbrev pub carried_in : List ℕ → List (Option BoardState)
 carried_in text = map parse_board_line (ended_lines 4097 [] text)
 
+-- a line carries nothing, or just this
 abbrev pub IsAtMost : Option BoardState → Option BoardState → Type 0
 IsAtMost most o = (o ≡ None) ⊎ (o ≡ most)
 
+-- a text is of whole lines, each of which carries nothing, or just this
 pub record CarriesAtMost (most : Option BoardState) (text : List ℕ) : Type 0 where
   pub begun : begun_line 4097 [] text ≡ []
   pub each : All (IsAtMost most) (carried_in text)
 
+-- two texts of whole lines, one after the other: what they carry, that they are whole, and that they carry at most this
 pub carried-then : (a b : List ℕ) → begun_line 4097 [] a ≡ [] → carried_in (a ++ b) ≡ carried_in a ++ carried_in b
 carried-then a b h =
     ap (map parse_board_line) (ended_append 4097 [] a b ∙ ap (λ (l : List ℕ). ended_lines 4097 [] a ++ ended_lines 4097 l b) h)
@@ -53,7 +52,7 @@ carried-none = ap (map parse_board_line) (ended_none 4097 [])
 pub most-none : (most : Option BoardState) → CarriesAtMost most []
 most-none most = record { begun = begun_none 4097 []; each = rw carried-none (All-nil (IsAtMost most)) }
 
--- what is kept of a line that is too long tells nothing, and neither does the line
+-- what is kept of a line that is too long carries nothing, and neither does the line
 short-told : (body : List ℕ) → parse_board_line (take 4097 body) ≡ parse_board_line body
 short-told body = elim (cases_lt 4097 (length body)) [
   | inl long ↦ sym (too-long (take 4097 body) (let l = length-take-le 4097 body (omega arith) in omega arith)) ∙ too-long body (omega arith)
@@ -69,26 +68,27 @@ text-clean v =
     let whole = one_line v in
     subst HasNoFeed (sym (append_cancel_right (compact_text v) whole.body (10 ∷ []) whole.ends)) (no-feed whole.body whole.unbroken)
 
--- the line of a value
+-- a text is one line, which carries this
 pub record IsLineThat (o : Option BoardState) (text : List ℕ) : Type 0 where
   pub begun : begun_line 4097 [] text ≡ []
   pub carried : carried_in text ≡ o ∷ []
 
+-- the line of a value carries what its text is read as
 pub value-line : (v : Data) (o : Option BoardState) → parse_board_line (compact_text v) ≡ o → IsLineThat o (json_line v)
 value-line v o h = record {
   begun = begun_ended 4097 [] (compact_text v);
   carried = ap (map parse_board_line) (ended_line 4097 [] (compact_text v) (text-clean v) (omega arith)) ∙ ap (λ (p : Option BoardState). p ∷ []) (short-told (compact_text v) ∙ h);
 }
 
+-- a line that carries this carries at most what this is at most
 pub most-as : (most o : Option BoardState) (text : List ℕ) → IsLineThat o text → IsAtMost most o → CarriesAtMost most text
 most-as most o text l h = record { begun = l.begun; each = rw l.carried (All-cons (IsAtMost most) o [] h (All-nil (IsAtMost most))) }
 
--- ---- values that carry nothing
-
+-- the line of a plain, short value that tells no board state carries none
 pub silent-line : (v : Data) (most : Option BoardState) → IsShortPlain v → parse_board_state v ≡ None → CarriesAtMost most (json_line v)
 silent-line v most short none = most-as most None (json_line v) (value-line v None (parsed-line v short ∙ none)) (inl refl)
 
--- the answer to an event that is refused carries no board state
+-- the answer in JSON to an event that is refused carries no board state, if all its numbers fit 64 bits
 refused-by-line : (o : Option BoardState) (row : ℕ) (event : NightEvent) (refusal : Refusal) (found : Option ℕ) (m : MatchRecord)
     → row < 2 ^ 64 → HasNumbers event → IfSome found (λ n. n < 2 ^ 64) → IsValid m
     → CarriesAtMost o (json_line (refused_by row event (refusal_code refusal) (refusal_name refusal) found m))
@@ -109,11 +109,12 @@ refused-by-line o row event refusal (Some n) m r fits f v =
       size = omega (arith, digits-20, kind.1, name.1, name.2, fits.expected, fits.game, fits.reporter, stands.1);
     }) refl
 
--- a row as an answer shows it
+-- what an answer shows of a row: a text, and not long
 pub record IsShown (shown : List ℕ) : Type 0 where
   pub text : IsText shown
   pub short : length (quoted shown) ≤ 130
 
+-- the printed bytes of a text are a text, and no longer
 printed-text : (text : List ℕ) → IsText (printed text) × (length (printed text) ≤ length text)
 unfolding printed
 printed-text [] = (refl, omega arith)
@@ -127,11 +128,13 @@ pub shown-text : (line : List ℕ) → IsShown (shown_text line)
 shown-text line =
     let p = printed-text (take 64 line) in record { text = p.0; short = omega (arith, p.1, length-take 64 line, quoted-length (shown_text line) p.0) }
 
+-- the names of bad fields are texts, and not long
 field-text : (field : BadField) → IsText (field_name field) × (length (quoted (field_name field)) ≤ 10)
 unfolding escape_byte
 field-text Count = (refl, omega arith)
 field-text _ = (refl, omega arith)
 
+-- no board state is carried by the answers to a bad row, to requests of words and matches, and to a refused event
 pub bad-line : (o : Option BoardState) (row : ℕ) (field : BadField) (shown : List ℕ) → row < 2 ^ 64 → IsShown shown → CarriesAtMost o (json_line (bad_row_value row (field_name field) shown))
 unfolding parse_board_state serde_json_on_literals
 bad-line o row field shown r is =
@@ -155,6 +158,7 @@ pub refused-line : (o : Option BoardState) (row : ℕ) (event : NightEvent) (ref
     → row < 2 ^ 64 → HasNumbers event → IfSome (found_of refusal) (λ n. n < 2 ^ 64) → IsValid m → CarriesAtMost o (json_line (refused_value row event refusal m))
 refused-line o row event refusal m r fits f v = refused-by-line o row event refusal (found_of refusal) m r fits f v
 
+-- a refusal, if it is that of a stale event, names an event number that fits 64 bits
 record IsFound (o : Option Refusal) : Type 0 where
   is : IfSome o (λ refusal. IfSome (found_of refusal) (λ n. n < 2 ^ 64))
 
@@ -162,6 +166,7 @@ or-found : (b : Bool) (refusal : Refusal) (o : Option Refusal) → IfSome (found
 or-found true refusal o h k = record { is = h }
 or-found false refusal o h k = k
 
+-- each refusal of a valid record that is stale names an event number that fits 64 bits
 found-is : (m : MatchRecord) (expected : ℕ) (kind : Kind) → m.number < 2 ^ 64 → IsFound (refusal_of m expected kind)
 unfolding refusal_of
 found-is m expected kind h =

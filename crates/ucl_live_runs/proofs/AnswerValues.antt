@@ -1,37 +1,25 @@
 -- The values of answers: the board state that they carry, and that they are plain and short.
-use Rattle.std.proofs.Common.{List, None, Option, Some, [], ap, arith, codes, false, le-leb, length, refl, suc, ℕ, ◌<◌, ◌^◌, ◌∙◌, ◌∷◌, ◌≡◌, ◌≤◌}
-use Rattle.std.proofs.lemmas.Bool.{and_parts, eq-eqb}
-use Rattle.std.proofs.lemmas.List.Elements.{All-head, All-tail}
-use Rattle.std.specs.Prelude.{All, IfSome, decimal, nat_le, option_and_then}
-use Rattle.json.specs.Print.{quoted}
+use Rattle.ucl_live_runs.proofs.Common.{All, All-head, All-tail, AreWords, AwayInTie, BoardState, Data, HasNumbers, IfSome, IsBoardState}
+use Rattle.ucl_live_runs.proofs.Common.{IsClub, IsGroup, IsRoster, List, NamedClub, NightEvent, None, Option, Profile, Some, Uefa, []}
+use Rattle.ucl_live_runs.proofs.Common.{and_parts, ap, arith, codes, compact_text, eq-eqb, false, in_play, is_name, kind_name, le-leb}
+use Rattle.ucl_live_runs.proofs.Common.{length, letter_in, mended_value, mended_with, nat_le, parse_board_line, profile_name, profile_named}
+use Rattle.ucl_live_runs.proofs.Common.{quoted, read_again, read_words, refl, suc, version_of, ℕ, ◌<◌, ◌^◌, ◌∙◌, ◌∷◌, ◌≡◌, ◌≤◌}
+use Rattle.std.specs.Prelude.{decimal, option_and_then}
 use Rattle.serde_json.proofs.OnLiterals.{serde_json_on_literals}
-use Rattle.serde_json.specs.Data.{Data, member, no_members, number, object, string, unsigned}
+use Rattle.serde_json.specs.Data.{member, no_members, number, object, string, unsigned}
 use Rattle.serde_json.specs.Find.{get}
-use Rattle.serde_json.specs.Written.{compact_text}
-use Rattle.ucl_board.specs.Words.{AreWords, read_words, version_of}
-use Rattle.ucl_json.proofs.AnswerSizes.{clubs-plain, digits-2, digits-5, digits-20, few-in-play, group-text, kind-text, matches-plain, order-text, places-plain, version-fits, words-plain}
+use Rattle.ucl_json.proofs.AnswerSizes.{clubs-plain, digits-2, digits-5, digits-20, few-in-play, group-text, kind-text, matches-plain}
+use Rattle.ucl_json.proofs.AnswerSizes.{order-text, places-plain, version-fits, words-plain}
 use Rattle.ucl_json.proofs.PlainValues.{ArePlain, IsShortPlain, IsText, items_size, line-short, parsed-line, size}
-use Rattle.ucl_json.specs.BoardLines.{edition_in, if_read, just, list_at, listed, parse_board_line, parse_club, parse_roster, parse_word, text_at}
+use Rattle.ucl_json.specs.BoardLines.{edition_in, if_read, just, list_at, listed, parse_club, parse_roster, parse_word, text_at}
 unfoldable use Rattle.ucl_json.specs.BoardLines.{parse_board_state, parse_each}
-use Rattle.ucl_json.specs.Mended.{mended_value, mended_with}
 use Rattle.ucl_json.specs.Values.{club_items, number_value, word_items}
 unfoldable use Rattle.ucl_json.specs.Values.{accepted_value, edition_screen_value, matches_value, screen_value}
-use Rattle.ucl_json.specs.declared.board_state.BoardState.{BoardState}
-use Rattle.ucl_live_runs.specs.Follow.{HasNumbers, IsBoardState}
 unfoldable use Rattle.ucl_live_runs.specs.Follow.{AnswersTellTheirBoardState, LinesTellTheirBoardState, MatchesFitTheirLine}
-use Rattle.ucl_order.specs.Names.{profile_name, profile_named}
-use Rattle.ucl_order.specs.Roster.{IsClub, IsRoster, NamedClub, is_name}
 unfoldable use Rattle.ucl_order.specs.Roster.{bad_slot_from, is_club}
-use Rattle.ucl_order.specs.declared.profile.Profile.{Profile}
-use Rattle.ucl_order.specs.declared.profile.Profile.TheVariants.{AwayInTie, Uefa}
 use Rattle.ucl_screen.proofs.HexDigits.{word-back}
-use Rattle.ucl_board.proofs.HistoryTheorems.{read_again}
-use Rattle.ucl_screen.specs.Screen.{IsGroup, in_play, letter_in}
-use Rattle.ucl_screen.specs.declared.night.NightEvent.{NightEvent}
-use Rattle.ucl_word.specs.Names.{kind_name}
 
--- ---- each member of a board state is read back
-
+-- words that were put into JSON are read back, and are as many
 words-back : (words : List ℕ) → All (λ word. word < 2 ^ 64) words
     → (parse_each parse_word (listed (word_items words)) ≡ Some words) × (length (listed (word_items words)) ≡ length words)
 unfolding parse_each
@@ -40,6 +28,7 @@ words-back (word ∷ words) h =
     let more = words-back words (All-tail (λ w. w < 2 ^ 64) word words h) in
     (rw (word-back word (All-head (λ w. w < 2 ^ 64) word words h), more.0) refl, ap suc more.1)
 
+-- a board that was put into JSON is read back, as are, below, clubs, the letter of a group, the order and the edition
 board-back : (board : List ℕ) → AreWords board → All (λ word. word < 2 ^ 64) board
     → option_and_then (λ words. if_read (read_words 1 words)) (just 12 parse_word (listed (word_items board))) ≡ Some board
 board-back board w bits =
@@ -71,8 +60,7 @@ order-back AwayInTie = refl
 edition-back : (edition : ℕ) → edition ≤ 65535 → edition_in (Some (number_value edition)) ≡ Some edition
 edition-back edition h = rw (le-leb edition 65535 h) refl
 
--- ---- a value that has the members of a board state tells it
-
+-- a value has the members by which a board state is told
 pub record Has (value : Data) (m : BoardState) : Type 0 where
   group : text_at (codes "group") value ≡ Some (m.header.group ∷ [])
   order : text_at (codes "order") value ≡ Some (profile_name m.header.profile)
@@ -80,6 +68,7 @@ pub record Has (value : Data) (m : BoardState) : Type 0 where
   clubs : list_at (codes "clubs") value ≡ Some (listed (club_items m.roster))
   words : list_at (codes "words") value ≡ Some (listed (word_items m.board))
 
+-- a value with the members of a board state is read as just that board state
 tells : (value : Data) (m : BoardState) → IsBoardState m → Has value m → parse_board_state value ≡ Some m
 unfolding parse_board_state
 tells value m is has = rw (
@@ -95,6 +84,7 @@ tells value m is has = rw (
   board-back m.board is.words is.bits,
 ) refl
 
+-- the answers to a mend and to an accepted event, and a screen, have the members of the board state after them
 pub mended-has : (without : Option ℕ) (row left_out : ℕ) (m : BoardState) → Has (mended_with without (mended_value row left_out m.header m.board m.roster)) m
 unfolding mended_value serde_json_on_literals
 mended-has None row left_out m = record { group = refl; order = refl; edition = refl; clubs = refl; words = refl }
@@ -117,8 +107,7 @@ answered row event event_number m is = record {
   mended = λ without left_out. tells _ m is (mended-has without row left_out m);
 }
 
--- ---- what a session answers in JSON is plain, and short: so each of its lines carries what its value carries
-
+-- what makes a board state plain and short in JSON: how long its members are at most
 record IsPlainState (m : BoardState) : Type 0 where
   words : ArePlain 125 (word_items m.board) × (items_size false (word_items m.board) ≤ 228)
   clubs : ArePlain 125 (club_items m.roster) × (items_size false (club_items m.roster) ≤ 292)
@@ -127,6 +116,7 @@ record IsPlainState (m : BoardState) : Type 0 where
   version : version_of m.board ≤ 49140
   edition : m.header.edition ≤ 65535
 
+-- the members of each board state that there can be are plain and short in JSON
 state-plain : (m : BoardState) → IsBoardState m → IsPlainState m
 state-plain m is = record {
   words = words-plain m.board is.words;
@@ -137,7 +127,7 @@ state-plain m is = record {
   edition = is.edition;
 }
 
--- an accepted event in JSON fits a line, by the sizes of its parts
+-- an accepted event in JSON fits a line, by how long its parts are at most
 accepted-size : (row : ℕ) (event : NightEvent) (event_number : ℕ) (m : BoardState) (kind order : List ℕ) → kind ≡ kind_name event.call.kind → order ≡ profile_name m.header.profile
     → length (decimal row) ≤ 20 → length (decimal event.call.expected) ≤ 20 → length (decimal event.call.game) ≤ 20 → length (decimal event_number) ≤ 20
     → length (decimal event.reporter) ≤ 20 → length (decimal m.header.edition) ≤ 5 → length (decimal (version_of m.board)) ≤ 5
@@ -162,6 +152,7 @@ accepted-plain row event event_number m is r fits n =
           (digits-5 m.header.edition (omega arith)) (digits-5 (version_of m.board) (omega arith)) p.words.1 p.clubs.1 kind.1 p.group.1 p.order.1;
     }
 
+-- the answer to a mend in JSON is a plain value that fits a line, and so is the one with the matches
 pub mended-plain : (without : Option ℕ) (row left_out : ℕ) (m : BoardState) → IsBoardState m → row < 2 ^ 64 → IfSome without (λ n. n < 2 ^ 64) → left_out < 2 ^ 64
     → IsShortPlain (mended_with without (mended_value row left_out m.header m.board m.roster))
 unfolding mended_value serde_json_on_literals
@@ -214,8 +205,7 @@ screen-plain row m is r =
       );
     }
 
--- ---- so are its lines
-
+-- the line of a plain, short value that has the members of a board state carries it
 pub carried : (value : Data) (m : BoardState) → IsBoardState m → Has value m → IsShortPlain value → parse_board_line (compact_text value) ≡ Some m
 carried value m is has short = parsed-line value short ∙ tells value m is has
 

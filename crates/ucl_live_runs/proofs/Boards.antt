@@ -1,49 +1,38 @@
 -- The events that stand on the board of a session, and what it answers to its lines.
-use Rattle.ucl_live_runs.proofs.Common.{All, All-append, All-cons, All-get_or, All-nil, All-set, AreWords, Attempt, AwaitingClubs, Bad}
-use Rattle.ucl_live_runs.proofs.Common.{BoardHeader, BoardsTakeEvents, Entry, Err, Event, Format, FourFields, IsAttempt, IsClub, IsLegal}
-use Rattle.ucl_live_runs.proofs.Common.{IsRoster, IsValid, IsWord, Json, Kind, List, LiveArgs, MatchRecord, Matches, MayFollow, Mends}
-use Rattle.ucl_live_runs.proofs.Common.{NamedClub, NightEvent, None, NoneMends, Nothing, Ok, Open, Option, OtherGroup, Reached, Refusal}
-use Rattle.ucl_live_runs.proofs.Common.{RefusedSessionsAreSilent, RepliesAreThoseOfFeed, Request, Said, Screen, Session}
-use Rattle.ucl_live_runs.proofs.Common.{SessionsAreSequential, Some, Words, [], after, after_attempt, after_beginning, after_club}
-use Rattle.ucl_live_runs.proofs.Common.{after_header, after_lines, answer_at, answer_by_history, answer_of, answer_said, answers}
-use Rattle.ucl_live_runs.proofs.Common.{answers_by_history, ap, ap₂, arith, asked_by, attempt_of, attempts_from, attempts_in, attempts_of}
-use Rattle.ucl_live_runs.proofs.Common.{bad_field, bad_slot, bad_slot_from, board_after, board_of, cases_Bool, club_said, codes}
-use Rattle.ucl_live_runs.proofs.Common.{cond_both, cond_some, eqb-true, event_of, event_or_mend, events_in, false, fold, fold-append}
-use Rattle.ucl_live_runs.proofs.Common.{game_at, get_or, header_said, if◌then◌else◌, in_range, inl, inr, is_asked, is_club, is_group_row}
-use Rattle.ucl_live_runs.proofs.Common.{is_mend, kind_named, length, length-set, line_by_history, mend_by, mend_or_bad, moved, nat_le}
-use Rattle.ucl_live_runs.proofs.Common.{nat_tests, next, open_at, record_at, record_back, refl, refusal_of, reply_answer}
-use Rattle.ucl_live_runs.proofs.Common.{reply_by_history, request_of, said_on, same_Some, screen_after, sequential_reply, set, shown_by}
-use Rattle.ucl_live_runs.proofs.Common.{shown_text, slot_in, subst, sum_by-set, sym, version_of, with_roster, word_of, word_valid, ℕ, ⊤}
-use Rattle.ucl_live_runs.proofs.Common.{◌&&◌, ◌++◌, ◌+◌, ◌-◌, ◌<◌, ◌==◌, ◌>>=◌, ◌∙◌, ◌∷◌, ◌≡◌, ◌≤◌}
-use Rattle.std.specs.Prelude.{IfErr, IfOk, IfSome, Result, nat_lt, not, option_map, true}
-use Rattle.std.specs.Result.{is_ok}
-use Rattle.ucl_live_runs.proofs.Common.{leb-true}
-use Rattle.ucl_live_runs.proofs.Common.{and_parts}
+use Rattle.ucl_live_runs.proofs.Common.{All, All-append, All-cons, All-get_or, All-nil, All-set, AreWords, As, Attempt, AwaitingClubs, Bad}
+use Rattle.ucl_live_runs.proofs.Common.{BoardHeader, BoardsTakeEvents, Club, Entry, Err, Event, EventCall, Format, FourFields, IfSome}
+use Rattle.ucl_live_runs.proofs.Common.{IsAttempt, IsClub, IsLegal, IsRoster, IsValid, IsWord, Json, Kind, List, LiveArgs, MatchRecord}
+use Rattle.ucl_live_runs.proofs.Common.{Matches, MayFollow, Mend, Mends, NamedClub, NightEvent, None, NoneMends, Nothing, Ok, Open, Option}
+use Rattle.ucl_live_runs.proofs.Common.{OtherGroup, Reached, Refusal, RefusedSessionsAreSilent, RepliesAreThoseOfFeed, Request, Result, Row}
+use Rattle.ucl_live_runs.proofs.Common.{Said, Screen, Session, SessionsAreSequential, Some, StandingEvent, Without, Words, [], after}
+use Rattle.ucl_live_runs.proofs.Common.{after_attempt, after_beginning, after_club, after_header, after_lines, and_parts, answer_at}
+use Rattle.ucl_live_runs.proofs.Common.{answer_by_history, answer_of, answer_said, answers, answers_by_history, ap, ap₂, arith, asked_by}
+use Rattle.ucl_live_runs.proofs.Common.{attempt_of, attempts_from, attempts_in, attempts_of, bad_field, bad_slot, bad_slot_from}
+use Rattle.ucl_live_runs.proofs.Common.{board_after, board_of, cases_Bool, club_said, clubs_after, codes, cond_both, cond_some}
+use Rattle.ucl_live_runs.proofs.Common.{edition_after, edition_by, edition_reply, eqb-true, event_of, event_or_mend, events_after}
+use Rattle.ucl_live_runs.proofs.Common.{events_in, false, fold, fold-append, game_at, get_or, has_row, header_said, history_in}
+use Rattle.ucl_live_runs.proofs.Common.{if◌then◌else◌, in_range, inl, inr, is_asked, is_club, is_group_row, is_mend, is_ok, kind_named}
+use Rattle.ucl_live_runs.proofs.Common.{leb-true, length, length-map, length-set, line_by_history, may_none, mend_by, mend_or_bad, moved}
+use Rattle.ucl_live_runs.proofs.Common.{nat_le, nat_tests, next, open_at, put_at, put_in, record_at, record_back, refl, refusal_of}
+use Rattle.ucl_live_runs.proofs.Common.{reply_answer, reply_by_history, request_of, request_stage, said_on, same_Some, screen_after}
+use Rattle.ucl_live_runs.proofs.Common.{sequential_reply, set, shown_by, shown_text, slot_in, stage, subst, sum_by-set, sym, version_of}
+use Rattle.ucl_live_runs.proofs.Common.{with_roster, word_of, word_valid, ℕ, ⊤, ◌&&◌, ◌++◌, ◌+◌, ◌-◌, ◌<◌, ◌==◌, ◌>>=◌, ◌∙◌, ◌∷◌, ◌≡◌, ◌≤◌}
+use Rattle.std.specs.Prelude.{IfErr, IfOk, nat_lt, not, option_map, true}
 use Rattle.std.specs.Str.{bytes_eq}
-use Rattle.std.proofs.lemmas.List.{length-map}
 use Rattle.ucl_command.specs.declared.options.Format.TheVariants.{Text}
+use Rattle.ucl_order.proofs.Clubs.{good_four}
 use Rattle.ucl_rows.specs.Lines.{reply_line}
-use Rattle.ucl_rows.specs.Rows.{Row}
 use Rattle.ucl_screen.specs.Numbers.{number}
 use Rattle.ucl_screen.specs.Script.{club_of}
 use Rattle.ucl_word.proofs.AcceptedEvents.{accepts, after_number, after_valid}
-use Rattle.ucl_word.proofs.Sequences.{may_none}
-use Rattle.ucl_word.specs.declared.event.EventCall.{EventCall}
-use Rattle.ucl_live_runs.specs.LiveText.{request_stage, stage}
 use Rattle.ucl_live_runs.specs.LiveTheorems.{entered_by}
-use Rattle.ucl_live_runs.specs.Mended.{has_row, history_in}
-use Rattle.ucl_live_runs.specs.Requests.{edition_by, named_mend, names_club, named_row}
-use Rattle.ucl_live_runs.specs.Mends.{clubs_after, edition_after, edition_reply, events_after, put_at, put_in}
+use Rattle.ucl_live_runs.specs.Requests.{named_mend, names_club, named_row}
 unfoldable use Rattle.ucl_live_runs.specs.MendTheorems.{MendsAreLegal}
-use Rattle.ucl_live_runs.specs.declared.request.Mend.{Mend}
-use Rattle.ucl_live_runs.specs.declared.request.Mend.TheVariants.{As, Club, Without}
-use Rattle.ucl_live_runs.specs.declared.standing.StandingEvent.{StandingEvent}
 use Rattle.ucl_live_runs.proofs.Entered.{entered-history}
 use Rattle.ucl_live_runs.proofs.Lines.{is_open, on-board, silent}
 use Rattle.ucl_live_runs.proofs.Mends.{mends_legal}
 
--- ==== The clubs after a mend
-
+-- a roster with a club put in a slot, if a roster takes it, is a roster
 good-put : (slot : ℕ) (clubs : List NamedClub) (o : Option NamedClub) → IsRoster clubs → IsRoster (put_in slot clubs o)
 good-put slot clubs None roster = roster
 good-put slot clubs (Some club) roster = cond_both (is_club club) (set clubs (slot - 1) club) clubs IsRoster
@@ -53,12 +42,12 @@ good-at : (clubs : List NamedClub) (f : FourFields) (o : Option ℕ) → IsRoste
 good-at clubs f None roster = roster
 good-at clubs f (Some slot) roster = good-put slot clubs (club_of slot f) roster
 
+-- the clubs after each mend are a roster
 pub good-clubs : (clubs : List NamedClub) (r : Said) (mend : Mend) → IsRoster clubs → IsRoster (clubs_after clubs r mend)
 good-clubs clubs (Row f) Club roster = good-at clubs f (slot_in f.second) roster
 good-clubs _ _ _ roster = roster
 
--- a club that a roster takes four times over is a club
-
+-- four times the same club are a roster only if it is one that a roster takes
 four-good : (club : NamedClub) → bad_slot (club ∷ club ∷ club ∷ club ∷ []) ≡ None → is_club club ≡ true
 unfolding bad_slot_from
 four-good club h = elim (cases_Bool (is_club club)) [ inl y ↦ y | inr n ↦ cc (rw n at h) ]
@@ -70,16 +59,17 @@ four-bad club slot h = elim (cases_Bool (is_club club)) [ inl y ↦ cc (rw y at 
 abbrev four : NamedClub → List NamedClub
 four club = club ∷ club ∷ club ∷ club ∷ []
 
+-- whether a roster of four times this club was made is whether it is a club that a roster takes
 pub by-four : {B : Type 0} (r : Result (List NamedClub) B) (club : NamedClub) (slot_of : B → ℕ) → IfOk r (λ roster. (roster ≡ four club) × (bad_slot (four club) ≡ None))
     → IfErr r (λ bad. bad_slot (four club) ≡ Some (slot_of bad)) → is_ok r ≡ is_club club
 by-four (Ok roster) club slot_of good bad = sym (four-good club good.1)
 by-four (Err b) club slot_of good bad = sym (four-bad club (slot_of b) bad)
 
--- ==== Boards of valid words, through a session
-
+-- a valid word put among the words of a board leaves the words of a board
 set-words : (words : List ℕ) (i word : ℕ) → AreWords words → IsWord word → AreWords (set words i word)
 set-words words i word w is = record { twelve = length-set words i word ∙ w.twelve; each = All-set IsWord words i word is w.each }
 
+-- an attempt on such a board
 module _ (words : List ℕ) (a : Attempt) (w : AreWords words) (is : IsAttempt a) where
   within : a.call.game - 1 < length words
   within = let t = w.twelve in let r = is.1 in omega (arith, t, r)
@@ -96,9 +86,11 @@ module _ (words : List ℕ) (a : Attempt) (w : AreWords words) (is : IsAttempt a
       rw e (set-words words (a.call.game - 1) (word_of m) w (record { of = m; valid = valid-after e; packed = refl }))
   after-by (Some r) e = rw e w
 
+  -- the board after an attempt has the words of a board
   pub good-after : AreWords (board_after words a)
   good-after = after-by (refusal_of (game_at words a.call.game) a.call.expected a.call.kind) refl
 
+  -- if the event is accepted, the version is one more
   pub version-after : refusal_of (game_at words a.call.game) a.call.expected a.call.kind ≡ None → version_of (board_after words a) ≡ version_of words + 1
   version-after e =
       let n = after (game_at words a.call.game) a.reporter a.call.kind in
@@ -107,10 +99,6 @@ module _ (words : List ℕ) (a : Attempt) (w : AreWords words) (is : IsAttempt a
       ap (λ (r : MatchRecord). r.number) (record_back n (valid-after e)) ∙ after_number (game_at words a.call.game) a.reporter a.call.kind in
       rw e (omega (arith, sum, more))
 
--- ==== The board of a session as that of a legal history
-
--- an event is of a reporter and a match that there are
-
 -- a number that is read within limits is within them
 pub ranged : (low high : ℕ) (o : Option ℕ) (n : ℕ) → in_range low high o ≡ Some n → (low ≤ n) × (n ≤ high)
 ranged low high None n h = cc
@@ -118,6 +106,7 @@ ranged low high (Some m) n h =
     let p = cond_some (nat_le low m && nat_le m high) m n h in
     let within = p.0 in rw (← p.1) (grind (arith, nat_tests), grind (arith, nat_tests))
 
+-- the event that these fields of a row make, if each was read
 abbrev call_made : Option ℕ → Option ℕ → Option Kind → Option EventCall
 call_made b c d = do
   game ← b
@@ -131,6 +120,7 @@ made a b c d = do
   call ← call_made b c d
   Some (record { reporter = reporter; call = call })
 
+-- an event that was made of fields has what was read of them
 parts : (a b c : Option ℕ) (d : Option Kind) (e : NightEvent) → made a b c d ≡ Some e
     → (a ≡ Some e.reporter) × (b ≡ Some e.call.game) × (c ≡ Some e.call.expected)
 parts (Some a) (Some b) (Some c) (Some d) e h =
@@ -138,6 +128,7 @@ parts (Some a) (Some b) (Some c) (Some d) e h =
     (ap (λ (x : NightEvent). Some x.reporter) same, ap (λ (x : NightEvent). Some x.call.game) same, ap (λ (x : NightEvent). Some x.call.expected) same)
 parts a b c d e h = cc
 
+-- an event that a row enters is of a reporter and a match that there are, and expects a number of 16 bits
 pub event-numbers : (f : FourFields) (e : NightEvent) → event_of f ≡ Some e → IsAttempt (attempt_of e) × (e.call.expected ≤ 65535)
 event-numbers f e h =
     let p = parts (in_range 1 255 (number 3 f.first)) (in_range 1 12 (number 2 f.second)) (in_range 0 65535 (number 5 f.third))
@@ -146,7 +137,7 @@ event-numbers f e h =
       (ranged 0 65535 (number 5 f.third) e.call.expected p.2).1,
     )
 
--- an event is of a reporter and a match that there are, and of a number of 16 bits
+-- a request whose numbers there can be: of a reporter, a match, an event of 16 bits, an edition or a row
 abbrev pub IsPossible : Request → Type 0
 IsPossible (Event e) = IsAttempt (attempt_of e) × (e.call.expected ≤ 65535)
 IsPossible (Mends (As edition)) = edition ≤ 65535
@@ -165,6 +156,7 @@ module _ (P : Request → Type 0) where
       (λ _. cond_both (bytes_eq f.first (codes "words")) Words or_bad P (λ _. words)
       (λ _. cond_both (bytes_eq f.first (codes "matches")) Matches (Bad (bad_field f)) P (λ _. matches) (λ _. bad)))) (λ _. event)
 
+-- a mend whose numbers there can be, or none
 abbrev IsNamed : Option Mend → Type 0
 IsNamed None = ⊤
 IsNamed (Some mend) = IsPossible (Mends mend)
@@ -204,10 +196,12 @@ possible-event : (f : FourFields) (o : Option NightEvent) → event_of f ≡ o �
 possible-event f None is = possible-mend f (mend_by f) (named-by f)
 possible-event f (Some e) is = event-numbers f e is
 
+-- each request that a line makes has numbers that there can be
 pub possible : (r : Said) → IsPossible (request_of r)
 possible (Row f) = asked-by IsPossible f tt tt tt tt (possible-event f (event_of f) refl)
 possible _ = tt
 
+-- what a line attempts is of a reporter and a match that there are
 pub of-request : (r : Said) → All IsAttempt (attempts_of (request_of r))
 of-request r = of (request_of r) (possible r)
   where
@@ -220,8 +214,7 @@ unfolding attempts_in
 all-attempts row [] = All-nil IsAttempt
 all-attempts row (line ∷ lines) = All-append IsAttempt (attempts_of (request_of (said_on row line))) (attempts_in (row + 1) lines) (of-request (said_on row line)) (all-attempts (row + 1) lines)
 
--- the events that stand
-
+-- a request that is no mend leaves the board open, with the events that stand after it
 no-mend : (header : BoardHeader) (row : ℕ) (clubs : List NamedClub) (events : List StandingEvent) (r : Said) (q : Request) → is_mend q ≡ false
     → request_stage header row clubs events r q ≡ stage header (open_at clubs (entered_by row events q))
 no-mend header row clubs events r (Mends mend) h = cc
@@ -231,6 +224,7 @@ pub no-mend-on : (e : Session) (r : Said) (clubs : List NamedClub) (events : Lis
     → next e r ≡ moved e (stage e.header (open_at clubs (entered_by e.row events (request_of r))))
 no-mend-on e r clubs events h none = on-board e r clubs events h ∙ ap (moved e) (no-mend e.header e.row clubs events r (request_of r) none)
 
+-- the history of the events that stand after a request or lines is that of the attempts in them, made one after the other
 pub entered-by-history : (row : ℕ) (events : List StandingEvent) (q : Request) → history_in (entered_by row events q) ≡ fold after_attempt (history_in events) (attempts_of q)
 entered-by-history row events (Event event) = entered-history row events event
 entered-by-history _ _ _ = refl
@@ -256,6 +250,7 @@ pub replies : RepliesAreThoseOfFeed
 unfolding reply_line RepliesAreThoseOfFeed
 replies header clubs board history row event = refl
 
+-- the answer with the reply to an event is that which the history gives
 reply-answer : (format : Format) (header : BoardHeader) (row : ℕ) (clubs : List NamedClub) (history : List Entry) (event : NightEvent)
     → reply_answer format header row clubs event (length history) (sequential_reply history event.call) (board_of (after_attempt history (attempt_of event)))
     ≡ reply_by_history format header row clubs history event
@@ -263,8 +258,7 @@ unfolding reply_line
 reply-answer Text header row clubs history event = refl
 reply-answer Json header row clubs history event = refl
 
--- ---- answers
-
+-- the answer to a request, and to a line, that mends nothing is that which the history gives
 event-answer : (options : LiveArgs) (header : BoardHeader) (row : ℕ) (clubs : List NamedClub) (events : List StandingEvent) (r : Said) (event : NightEvent) (shown : List ℕ)
     → answer_of options header row clubs events r (Event event) shown ≡ answer_by_history options header row clubs (history_in events) (Event event) shown
 event-answer options header row clubs events r event shown =
@@ -288,6 +282,7 @@ said-answer e clubs events Nothing shown h none = refl
 said-answer e clubs events r shown h none =
     ap (λ (s : Reached). answer_at e s r shown) h ∙ request-answer e.options e.header e.row clubs events r (request_of r) shown none
 
+-- the answers to lines that mend nothing are those which the history gives
 text-by-history : (e : Session) (lines : List (List ℕ)) (clubs : List NamedClub) (events : List StandingEvent) → e.phase ≡ open_at clubs events → NoneMends e.row lines
     → answers e lines ≡ answers_by_history e.options e.header e.row clubs (history_in events) lines
 unfolding answers answers_by_history NoneMends
@@ -315,22 +310,14 @@ pub silence : RefusedSessionsAreSilent
 unfolding RefusedSessionsAreSilent
 silence e lines fault h = silent e lines (ap is_open h)
 
--- ==== The stages of a session: rosters and boards that there are
-
+-- what a session has reached is good: if its board is open, its clubs are a roster, and its events a legal history
 abbrev pub IsGood : Reached → Type 0
 IsGood (Ok (Open table)) = IsRoster table.roster × IsLegal (history_in table.events)
 IsGood _ = ⊤
 
-all-clubs : (slot : ℕ) (clubs : List NamedClub) → bad_slot_from slot clubs ≡ None → All IsClub clubs
-unfolding bad_slot_from
-all-clubs slot [] h = All-nil IsClub
-all-clubs slot (club ∷ clubs) h = elim (cases_Bool (is_club club)) [
-  | inl y ↦ All-cons IsClub club clubs y (all-clubs (slot + 1) clubs (rw y at h))
-  | inr n ↦ cc (rw n at h)
-]
-
+-- what is reached with four clubs, and after each row that names a club or a group, is good
 good-roster : (clubs : List NamedClub) (slot : Option ℕ) → length clubs ≡ 4 → bad_slot clubs ≡ slot → IsGood (with_roster clubs slot)
-good-roster clubs None four e = (record { four = four; each = all-clubs 1 clubs e }, may_none MayFollow)
+good-roster clubs None four e = (good_four clubs four e, may_none MayFollow)
 good-roster clubs (Some slot) four e = tt
 
 pub good-club : (row : ℕ) (clubs : List NamedClub) (club : Option NamedClub) → IsGood (after_club row clubs club)
@@ -340,6 +327,7 @@ good-club row clubs (Some club) =
     cond_both (length all == 4) (with_roster all (bad_slot all)) (Ok (AwaitingClubs all)) IsGood
     (λ e. good-roster all (bad_slot all) (eqb-true (length all) 4 e) refl) (λ _. tt)
 
+-- the edition after one is later, and fits 16 bits
 after-edition : (edition later : ℕ) → edition ≤ 65535 → edition_after edition ≡ Ok later → (edition < later) × (later ≤ 65535)
 after-edition edition later most h = elim (cases_Bool (edition == 65535)) [
   | inl y ↦ cc (rw y at h)
@@ -367,6 +355,7 @@ later-edition edition events (Without row) later most p h = elim (cases_Bool (ed
       ]
 ]
 
+-- the events after a mend are a legal history again
 pub good-mend : (events : List StandingEvent) (mend : Mend) → IsLegal (history_in events) → IsLegal (history_in (events_after events mend))
 unfolding MendsAreLegal
 good-mend events (Without row) legal = mends_legal row events legal

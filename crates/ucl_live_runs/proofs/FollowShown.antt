@@ -11,9 +11,11 @@ use Rattle.ucl_command.specs.declared.follow.FollowShape.TheVariants.{Text}
 abbrev Lines : Type 0
 Lines = List (List ℕ)
 
+-- the screen of a board state, as text
 abbrev screen_of : BoardState → List ℕ
 screen_of m = screen_text m.header.profile m.board m.roster m.header.group
 
+-- a follower shows this board state of a line, which carries it, and it is as asked for and newer than all before
 record Shows (f : FollowState) (line : List ℕ) (m : BoardState) : Type 0 where
   carried : parse_board_line line ≡ Some m
   asked : IsFollowed f m
@@ -26,7 +28,7 @@ shows f line (Some n) m is h =
     let q = and_parts (is_asked f.group f.profile m.header) (is_newer f.newest m) (subst (λ (x : BoardState). is_shown f x ≡ true) p.1 p.0) in
     record { carried = is ∙ ap Some p.1; asked = q.0; newer = q.1 }
 
--- a line shows nothing, or its board state
+-- what is shown of a line, by cases: nothing, or the board state that it carries
 by-shown : (P : Option BoardState → Type 0) (f : FollowState) (line : List ℕ) → (shown_of f line ≡ None → P None) → ((m : BoardState) → Shows f line m → P (Some m))
     → P (shown_of f line)
 by-shown P f line none some = by (shown_of f line) refl
@@ -35,12 +37,14 @@ by-shown P f line none some = by (shown_of f line) refl
     by None is = none is
     by (Some m) is = some m (shows f line (parse_board_line line) m refl is)
 
+-- each board state that is shown is newer than those before
 rise : (f : FollowState) (lines : Lines) → RiseAbove f.newest (board_states_shown f lines)
 unfolding board_states_shown
 rise f [] = tt
 rise f (line ∷ lines) = by-shown (λ o. RiseAbove f.newest (option_to_list o ++ board_states_shown (after_shown f o) lines)) f line
     (λ _. rise (after_shown f None) lines) (λ m s. (s.newer, rise (after_shown f (Some m)) lines))
 
+-- as text the screens of what is shown are written, one after the other
 text : (f : FollowState) (lines : Lines) → follow_outputs Text f lines ≡ flat_map screen_of (board_states_shown f lines)
 unfolding follow_outputs board_states_shown
 text f [] = refl
@@ -48,8 +52,7 @@ text f (line ∷ lines) = by-shown (λ o. shown_output Text f o ++ follow_output
     ≡ flat_map screen_of (option_to_list o ++ board_states_shown (after_shown f o) lines)) f line
     (λ _. text (after_shown f None) lines) (λ m s. ap (λ (l : List ℕ). screen_of m ++ l) (text (after_shown f (Some m)) lines))
 
--- ---- carried by a line
-
+-- what lines carry is carried with one line more too
 carried-later : (line : List ℕ) (lines : Lines) (m : BoardState) → IsCarriedIn lines m → IsCarriedIn (line ∷ lines) m
 carried-later line lines m h = Contains-append_right (parse_board_line line ∷ []) (map parse_board_line lines) (Some m) h
 
@@ -61,12 +64,13 @@ mapped (line ∷ lines) =
     All-cons P line lines (0, omega arith, refl)
     (All-weaker (λ l. Contains os (parse_board_line l)) P (λ l. Contains-append_right (parse_board_line line ∷ []) os (parse_board_line l)) lines (mapped lines))
 
--- what lines carry that are all among these is among what these carry
+-- what lines carry that are all among others is among what the others carry
 pub among : (lines others : Lines) → All (Contains lines) others → All (Contains (map parse_board_line lines)) (map parse_board_line others)
 among lines others h =
     let P = λ (l : List ℕ). Contains (map parse_board_line lines) (parse_board_line l) in
     All-map (Contains (map parse_board_line lines)) parse_board_line others (All-weaker (Contains lines) P (λ l. All-contains P lines l (mapped lines)) others h)
 
+-- what is shown is carried by one of the lines
 carried : (f : FollowState) (lines : Lines) → All (IsCarriedIn lines) (board_states_shown f lines)
 unfolding board_states_shown
 carried f [] = All-nil (IsCarriedIn [])
@@ -76,8 +80,7 @@ carried f (line ∷ lines) =
     by-shown (λ o. All P (option_to_list o ++ board_states_shown (after_shown f o) lines)) f line (λ _. later None)
     (λ m s. All-cons P m (board_states_shown (after_shown f (Some m)) lines) (0, omega arith, s.carried) (later (Some m)))
 
--- ---- of one group and order
-
+-- two headers are of one group and one order
 abbrev pub IsOfSame : BoardHeader → BoardHeader → Type 0
 IsOfSame a b = (a.group ≡ b.group) × (a.profile ≡ b.profile)
 
@@ -90,6 +93,7 @@ itself : (order : Profile) → is_same_order order order ≡ true
 itself Uefa = refl
 itself AwayInTie = refl
 
+-- if one asks for the group and the order of the other, they are
 pub asked-same : (a b : BoardHeader) → is_asked (Some a.group) (Some a.profile) b ≡ true → IsOfSame a b
 asked-same a b h =
     let p = and_parts (a.group == b.group) (is_same_order a.profile b.profile) h in (eqb-true a.group b.group p.0, same-order a.profile b.profile p.1)
@@ -97,28 +101,32 @@ asked-same a b h =
 pub same-asked : (a b : BoardHeader) → IsOfSame a b → is_asked (Some a.group) (Some a.profile) b ≡ true
 same-asked a b h = let order = itself b.profile in rw (h.0, h.1, order) (grind (arith, nat_tests))
 
--- what is asked of one, is of the other
+-- of two such headers what is asked for is the same
 alike : (a b : BoardHeader) → IsOfSame a b → (group : Option ℕ) (profile : Option Profile) → is_asked group profile a ≡ is_asked group profile b
 alike a b h group profile = rw (h.0, h.1) refl
 
+-- a follower follows the group and the order of this board state
 abbrev Follows : FollowState → BoardState → Type 0
 Follows f m = (f.group ≡ Some m.header.group) × (f.profile ≡ Some m.header.profile)
 
 own : (f : FollowState) (m : BoardState) → Follows f m → IsFollowed f m
 own f m h = rw (h.0, h.1) (same-asked m.header m.header (refl, refl))
 
+-- a follower follows the group and the order of a board state after more lines too
 keeps : (f : FollowState) (lines : Lines) (m : BoardState) → Follows f m → Follows (followed f lines) m
 unfolding followed
 keeps f [] m h = h
 keeps f (line ∷ lines) m h = by-shown (λ o. Follows (followed (after_shown f o) lines) m) f line (λ _. keeps (after_shown f None) lines m h)
     (λ n s. let same = asked-same m.header n.header (rw (h.0, h.1) at s.asked) in keeps (after_shown f (Some n)) lines m (ap Some (sym same.0), ap Some (sym same.1)))
 
+-- what it follows after lines it followed before, if less was asked for then
 narrows : (f : FollowState) (lines : Lines) (m : BoardState) → IsFollowed (followed f lines) m → IsFollowed f m
 unfolding followed
 narrows f [] m h = h
 narrows f (line ∷ lines) m h = by-shown (λ o. IsFollowed (followed (after_shown f o) lines) m → IsFollowed f m) f line (λ _. narrows (after_shown f None) lines m)
     (λ n s k. sym (alike n.header m.header (asked-same n.header m.header (narrows (after_shown f (Some n)) lines m k)) f.group f.profile) ∙ s.asked) h
 
+-- all that is shown is of the group and the order that are followed in the end
 has_header : (f : FollowState) (lines : Lines) → All (IsFollowed (followed f lines)) (board_states_shown f lines)
 unfolding followed board_states_shown
 has_header f [] = All-nil (IsFollowed f)
@@ -137,8 +145,6 @@ versions f lines = record {
   has_header = has_header f lines;
 }
 
--- ---- the latest
-
 -- no board state is later than itself, nor than one that is later
 not-itself : (m : BoardState) → is_later m m ≡ false
 not-itself m = grind (arith, nat_tests)
@@ -146,7 +152,9 @@ not-itself m = grind (arith, nat_tests)
 one-way : (m other : BoardState) → is_later m other ≡ true → is_later other m ≡ false
 one-way m other h = grind (arith, nat_tests)
 
+-- a board state that is as asked for
 module _ (args : FollowArgs) (m : BoardState) (asked : is_asked args.group args.profile m.header ≡ true) where
+  -- a line carries no newer one that is as asked for
   abbrev Fits : Option BoardState → Type 0
   Fits = IsNoNewer args m
 
@@ -162,6 +170,7 @@ module _ (args : FollowArgs) (m : BoardState) (asked : is_asked args.group args.
   abbrev IsOpenTo : FollowState → Type 0
   IsOpenTo f = ((f.group ≡ args.group) × (f.profile ≡ args.profile)) ⊎ Follows f m
 
+  -- such a follower follows it
   takes : (f : FollowState) → IsOpenTo f → IsFollowed f m
   takes f (inl h) = rw (h.0, h.1) asked
   takes f (inr h) = own f m h
@@ -191,6 +200,7 @@ module _ (args : FollowArgs) (m : BoardState) (asked : is_asked args.group args.
         | inr older ↦ cc (rw e at s.newer, one-way m n older.1)
       ]))
 
+  -- a follower shows the board state, if the newest that it has shown is older
   newer : (f : FollowState) → IsOpenTo f → IsBelow f.newest → is_shown f m ≡ true
   newer f h below = rw (takes f h) (than f.newest below)
     where
@@ -198,6 +208,7 @@ module _ (args : FollowArgs) (m : BoardState) (asked : is_asked args.group args.
       than None h = refl
       than (Some other) h = h
 
+  -- the board state is the newest in the end, and was shown last
   abbrev EndsWith : FollowState → List BoardState → Type 0
   EndsWith end ms = (end.newest ≡ Some m) × ((before : List BoardState) × (ms ≡ before ++ m ∷ []))
 
@@ -235,6 +246,7 @@ module _ (args : FollowArgs) (m : BoardState) (asked : is_asked args.group args.
           (ap Some same) later in
           (r.0, ([], ap (λ (ms : List BoardState). n ∷ ms) r.1 ∙ ap (λ (x : BoardState). x ∷ []) same))
 
+  -- the latest board state of some lines is shown last of them
   last : (lines : Lines) → AllFit lines → IsCarriedIn lines m → IsShownLast args m lines
   last lines all is = let p = ends (unseen args) lines (inl (refl, refl)) tt is all in record { before = p.1.0; shown = p.1.1; newest = p.0 }
 

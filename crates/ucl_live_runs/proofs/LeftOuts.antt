@@ -1,11 +1,9 @@
 -- The events that a mend leaves out are at most as many as those that stand.
-use Rattle.std.proofs.Common.{arith, length, length-append, ℕ, List, [], ◌∷◌, ◌≤◌}
-use Rattle.ucl_live_runs.specs.Mended.{fate_of, kept_after, left_by, left_out}
+use Rattle.ucl_live_runs.proofs.Common.{Fate, List, Refused, StandingEvent, [], arith, fate_of, kept_after, left_by, left_out, length}
+use Rattle.ucl_live_runs.proofs.Common.{length-append, ℕ, ◌∷◌, ◌≤◌}
 unfoldable use Rattle.ucl_live_runs.specs.Mended.{left_out_after}
-use Rattle.ucl_live_runs.specs.declared.standing.Fate.{Fate}
-use Rattle.ucl_live_runs.specs.declared.standing.Fate.TheVariants.{Refused}
-use Rattle.ucl_live_runs.specs.declared.standing.StandingEvent.{StandingEvent}
 
+-- of one event at most one is left out, and of events no more than there are
 at-most-one : (event : StandingEvent) (fate : Fate) → length (left_by event fate) ≤ 1
 at-most-one event (Refused refusal) = omega arith
 at-most-one event _ = omega arith

@@ -1,41 +1,31 @@
 -- The lines of a session, one after the other.
-use Rattle.ucl_live_runs.proofs.Common.{Accepted, AreLinesOfValues, Bad, BeginningsAreAnswered, BoardHeader}
-use Rattle.ucl_live_runs.proofs.Common.{Bool, Err, Event, HasNoAnswer, HasNoEnd, Input, Json, JsonAnswersAreLines, LinesAreReadWhole, List, LiveArgs}
-use Rattle.ucl_live_runs.proofs.Common.{LiveFault, Matches, NamedClub, Nothing, Ok, Open, Other, Reached}
-use Rattle.ucl_live_runs.proofs.Common.{Refusal, Request, Result, Run, Said, Screen, Session, Some, Words, [], after_bytes, after_lines}
-use Rattle.ucl_live_runs.proofs.Common.{answer_at, answer_of, answer_said, answers, answers_to, ap, append-nil, append_assoc, arith}
-use Rattle.ucl_live_runs.proofs.Common.{bad_row_value, begun_append, begun_ended, begun_line, cases_Bool, cond_both}
-use Rattle.ucl_live_runs.proofs.Common.{edition_screen_value, end_of, ended, ended_append, ended_lines, false, fault_row, field_name, fits, get_or}
-use Rattle.ucl_live_runs.proofs.Common.{inl, inr, last_lines, length, length-append, line_of_value, lines_of, lines_then, live_text, longer, lt-leb}
-use Rattle.ucl_live_runs.proofs.Common.{matches_value, min, missing, missing_after, missing_at, missing_now, moved, nat_le, nat_tests, next, next_at}
-use Rattle.ucl_live_runs.proofs.Common.{no_lines, open_at, printed, refl, reply_answer, reply_value, request_of, said_by_text}
-use Rattle.ucl_live_runs.proofs.Common.{said_on, screen_after, screen_answer, shown_text, subst, sym, take, take-append-le, true, uncut_after}
+use Rattle.ucl_live_runs.proofs.Common.{Accepted, AreLinesOfValues, Bad, BeginningsAreAnswered, BoardHeader, Bool, Err, Event, HasNoAnswer}
+use Rattle.ucl_live_runs.proofs.Common.{HasNoEnd, Input, Json, JsonAnswersAreLines, LeftOut, LinesAreReadWhole, List, LiveArgs, LiveFault}
+use Rattle.ucl_live_runs.proofs.Common.{Matches, Mend, MendRefusal, Mends, MendsAreDone, NamedClub, Nothing, Ok, Open, Other, Reached}
+use Rattle.ucl_live_runs.proofs.Common.{Refusal, Request, Result, Row, Run, Said, Screen, Session, Some, StandingEvent, Words, []}
+use Rattle.ucl_live_runs.proofs.Common.{after_bytes, after_lines, answer_at, answer_of, answer_said, answers, answers_to, ap, append-nil}
+use Rattle.ucl_live_runs.proofs.Common.{append_assoc, ap₂, arith, bad_row_value, begun_append, begun_ended, begun_line, board_in, both_ways}
+use Rattle.ucl_live_runs.proofs.Common.{cases_Bool, clubs_after, cond_both, edition_reply, edition_screen_value, end_of, ended}
+use Rattle.ucl_live_runs.proofs.Common.{ended_append, ended_lines, entered, events_after, false, fault_row, field_name, fits, get_or}
+use Rattle.ucl_live_runs.proofs.Common.{history_in, inl, inr, json_line, last_lines, left_out_by, left_out_lines, left_out_value, length}
+use Rattle.ucl_live_runs.proofs.Common.{length-append, length-take, line_of_value, lines_of, lines_then, live_text, longer, lt-leb, map}
+use Rattle.ucl_live_runs.proofs.Common.{matches_value, mend_answer, mend_refused_value, mended_answer, mended_stage, mended_value}
+use Rattle.ucl_live_runs.proofs.Common.{mended_with, min, missing, missing_after, missing_at, missing_now, moved, nat_le, nat_tests, next}
+use Rattle.ucl_live_runs.proofs.Common.{next_at, no_lines, open_at, printed, refl, reply_answer, reply_value, request_of, request_stage}
+use Rattle.ucl_live_runs.proofs.Common.{row_named, said_by_text, said_on, screen_after, screen_answer, screen_if, sequential_reply}
+use Rattle.ucl_live_runs.proofs.Common.{shown_text, stage, subst, sym, take, take-append-drop, take-append-le, take_all, true, uncut_after}
 use Rattle.ucl_live_runs.proofs.Common.{uncut_lines, words_value, ℕ, ◌++◌, ◌+◌, ◌-◌, ◌<◌, ◌==◌, ◌^◌, ◌∙◌, ◌∷◌, ◌≡◌, ◌≤◌}
-use Rattle.ucl_rows.specs.Rows.{Row}
-use Rattle.std.proofs.Common.{drop, take-append-drop}
-use Rattle.ucl_live_runs.proofs.Common.{ap₂, length-take, map, take_all}
-use Rattle.ucl_board.specs.History.{sequential_reply}
-use Rattle.ucl_json.specs.Mended.{left_out_value, mend_refused_value, mended_value, mended_with}
-use Rattle.ucl_live_runs.proofs.Common.{MendsAreDone, Mends, json_line}
-use Rattle.ucl_live_runs.specs.LiveText.{mend_answer, mended_stage, request_stage, screen_if, stage}
+use Rattle.std.proofs.Common.{drop}
 use Rattle.ucl_live_runs.specs.LiveTheorems.{IsMended}
 use Rattle.ucl_live_runs.specs.MendNames.{mend_refusal_code, mend_refusal_name}
-use Rattle.ucl_live_runs.specs.Mended.{entered, history_in}
-use Rattle.ucl_live_runs.specs.Mends.{board_in, clubs_after, edition_reply, events_after, left_out_by, left_out_lines, mended_answer, row_named}
-use Rattle.ucl_live_runs.specs.declared.mend_refusal.MendRefusal.{MendRefusal}
-use Rattle.ucl_live_runs.specs.declared.request.Mend.{Mend}
-use Rattle.ucl_live_runs.specs.declared.standing.LeftOut.{LeftOut}
-use Rattle.ucl_live_runs.specs.declared.standing.StandingEvent.{StandingEvent}
 use Rattle.ucl_screen.specs.declared.fault.InputFault.TheVariants.{BadRow}
 
--- ==== A session whose board is not open has answered nothing, and one that is refused stays so
-
+-- a session has reached an open board
 abbrev pub is_open : Reached → Bool
 is_open (Ok (Open table)) = true
 is_open _ = false
 
--- an open board stays open
-
+-- an open board stays open, after a mend, a request and a line
 open-reply : (header : BoardHeader) (clubs : List NamedClub) (events : List StandingEvent) (r : Said) (mend : Mend) (reply : Result ℕ MendRefusal)
     → is_open (mended_stage header clubs events r mend reply).phase ≡ true
 open-reply header clubs events r mend (Ok edition) = refl
@@ -59,7 +49,7 @@ unfolding after_lines
 stays-open e [] h = h
 stays-open e (line ∷ lines) h = stays-open (next e (said_on e.row line)) lines (open-next e (said_on e.row line) h)
 
--- a line is answered by an open board alone
+-- P holds of a session after a line and its answer if it holds of those without an answer, and of those of an open board
 module _ (P : Session → List ℕ → Type 0) where
   pub by-line : (e : Session) (r : Said) (shown : List ℕ) → ((after : Session) → P after [])
       → ((clubs : List NamedClub) (events : List StandingEvent) → e.phase ≡ open_at clubs events
@@ -88,24 +78,21 @@ mends-done e r clubs events mend h q =
     by (Ok edition) = (refl, refl)
     by (Err refusal) = (refl, refl)
 
+-- a board that is not open after lines was not open before
 pub shut-lines : (e : Session) (lines : List (List ℕ)) → is_open (after_lines e lines).phase ≡ false → is_open e.phase ≡ false
 shut-lines e lines h = elim (cases_Bool (is_open e.phase)) [ inl y ↦ cc (stays-open e lines y) | inr n ↦ n ]
 
-no-both : (b : Bool) → b ≡ true → b ≡ false → ⊥
-no-both true h k = cc
-no-both false h k = cc
-
+-- lines after which the board is not open have no answer
 pub silent : (e : Session) (lines : List (List ℕ)) → is_open (after_lines e lines).phase ≡ false → answers e lines ≡ []
 unfolding answers after_lines
 silent e [] h = refl
 silent e (line ∷ lines) h =
     let r = said_on e.row line in
     let a = by-line (λ after text. is_open after.phase ≡ false → text ≡ []) e r (shown_text line) (λ _ _. refl)
-    (λ clubs events _ k. absurd (no-both _ (open-request e.header e.row clubs events r (request_of r)) k)) (shut-lines (next e r) lines h) in
+    (λ clubs events _ k. absurd (both_ways _ k (open-request e.header e.row clubs events r (request_of r)))) (shut-lines (next e r) lines h) in
     let b = silent (next e r) lines h in rw (a, b) refl
 
--- a refused session stays refused
-
+-- a session that is refused stays refused, with the same fault
 refused-next : (e : Session) (r : Said) (fault : LiveFault) → e.phase ≡ Err fault → (next e r).phase ≡ Err fault
 refused-next e Nothing fault h = h
 refused-next e Other fault h = rw h refl
@@ -117,12 +104,12 @@ stays-refused e [] fault h = h
 stays-refused e (line ∷ lines) fault h =
     let r = said_on e.row line in stays-refused (next e r) lines fault (refused-next e r fault h)
 
+-- a session with a club missing, or refused, has no open board
 pub missing-shut : (row : ℕ) (s : Reached) (fault : LiveFault) → missing row s ≡ Some fault → is_open s ≡ false
 missing-shut row (Ok (Open table)) fault h = cc
 missing-shut _ _ _ _ = refl
 
--- ==== Lines that are answered one after the other
-
+-- the answers to two lists of lines are those to the first, and then those to the second from the session after the first
 pub answers-append : (e : Session) (a b : List (List ℕ)) → answers e (a ++ b) ≡ answers e a ++ answers (after_lines e a) b
 unfolding answers after_lines
 answers-append e [] b = refl
@@ -133,6 +120,7 @@ unfolding after_lines
 after-append e [] b = refl
 after-append e (line ∷ a) b = after-append (next e (said_on e.row line)) a b
 
+-- the lines of two parts of an input, of which the first ends with a line feed, are those of the first and those of the second
 lines-append : (xs ys : List ℕ) → begun_line 258 [] xs ≡ [] → lines_of (xs ++ ys) ≡ lines_of xs ++ lines_of ys
 lines-append xs ys e =
     rw (ended_append 258 [] xs ys, begun_append 258 [] xs ys, e)
@@ -144,16 +132,15 @@ unfolding BeginningsAreAnswered
 beginnings e bytes more =
     ap (answers e) (lines-append (ended bytes) more (begun_ended 258 [] bytes)) ∙ answers-append e (lines_of (ended bytes)) (lines_of more)
 
--- ---- a whole input
-
+-- the answers to an input are those to its whole lines, and then to the last line, if it has begun
 pub whole-text : (e : Session) (bytes : List ℕ) → live_text e bytes ≡ answers_to e bytes ++ answers (after_bytes e bytes) (last_lines (begun_line 258 [] bytes))
 whole-text e bytes = answers-append e (ended_lines 258 [] bytes) (last_lines (begun_line 258 [] bytes))
 
+-- what is missing at its end is what is missing after those
 pub whole-missing : (e : Session) (bytes : List ℕ) → missing_after e bytes ≡ missing_at (after_bytes e bytes) (begun_line 258 [] bytes)
 whole-missing e bytes = ap missing_now (after-append e (ended_lines 258 [] bytes) (last_lines (begun_line 258 [] bytes)))
 
--- ---- what has begun of a last line
-
+-- a last line of no bytes has no answer, and changes nothing that is missing
 pub none-answers : (e : Session) (begun : List ℕ) → begun ≡ [] → answers e (last_lines begun) ≡ []
 unfolding answers
 none-answers e begun none = ap (λ (l : List ℕ). answers e (last_lines l)) none
@@ -162,6 +149,7 @@ pub none-missing : (e : Session) (begun : List ℕ) → begun ≡ [] → missing
 unfolding after_lines
 none-missing e begun none = ap (λ (l : List ℕ). missing_at e l) none
 
+-- a last line with a byte is answered as any other
 pub some-answers : (e : Session) (begun : List ℕ) → (begun ≡ [] → ⊥) → answers e (last_lines begun) ≡ answer_said e (said_on e.row begun) (shown_text begun)
 unfolding answers
 some-answers e [] some = absurd (some refl)
@@ -185,12 +173,12 @@ some-missing e f begun some is =
     ap missing_now (some-end e begun some ∙ sym is) ∙ ap (λ (k : Session). missing k.row f.phase) is
     ∙ told-alike (e.row + 1) (min (e.row + 1) (2 ^ 64 - 1)) f.phase (omega arith)
 
+-- if it has no answer as a line, it has none as a last line
 pub some-stops : (e : Session) (begun : List ℕ) (fault : LiveFault) → (begun ≡ [] → ⊥) → HasNoAnswer e (said_on e.row begun) fault → HasNoEnd e begun fault
 some-stops e begun fault some (inl none) = inl none
 some-stops e begun fault some (inr refused) = inr (ap missing_now (some-end e begun some) ∙ ap (missing (e.row + 1)) refused)
 
--- ==== In JSON a session answers by lines of values
-
+-- in JSON the answers with a screen are lines of values, and so are those of a mend and of each request
 module _ (options : LiveArgs) (header : BoardHeader) (row : ℕ) (clubs : List NamedClub) (json : options.format ≡ Json) where
   screen-lines : (board : List ℕ) → AreLinesOfValues (screen_answer options.format header row clubs board)
   screen-lines board = rw json (line_of_value (edition_screen_value row header board clubs))
@@ -241,8 +229,6 @@ json-lines e (line ∷ lines) h =
     (λ clubs events _. request-lines e.options e.header e.row clubs events said h (request_of said) shown) in
     lines_then (answer_said e said shown) (answers (next e said) lines) one (json-lines (next e said) lines h)
 
--- ==== The lines as they are read, and as they came
-
 -- a byte more of a line, of which at most 258 are kept
 kept-one : (line : List ℕ) (b : ℕ) → longer 258 (take 258 line) b ≡ take 258 (line ++ b ∷ [])
 kept-one line b = let kept = length-take 258 line in elim (cases_Bool (nat_le 258 (length (take 258 line)))) [
@@ -254,6 +240,7 @@ kept-one line b = let kept = length-take 258 line in elim (cases_Bool (nat_le 25
       rw less (ap (λ (l : List ℕ). l ++ b ∷ []) (take_all 258 line (omega (arith, h, kept))) ∙ sym (take_all 258 (line ++ b ∷ []) (omega (arith, h, kept, one))))
 ]
 
+-- what is kept of lines is the first 258 bytes of each
 lines-kept : (line bytes : List ℕ) → ended_lines 258 (take 258 line) bytes ++ last_lines (begun_line 258 (take 258 line) bytes) ≡ map (take 258) (uncut_after line bytes)
 unfolding ended_lines begun_line uncut_after
 lines-kept [] [] = refl
@@ -263,8 +250,7 @@ lines-kept line (b ∷ bytes) = elim (cases_Bool (b == 10)) [
   | inr n ↦ rw (n, kept-one line b) (lines-kept (line ++ b ∷ []) bytes)
 ]
 
--- a line that is too long
-
+-- a line of which more than 258 bytes came says nothing that there is, whatever is kept of it
 no-room : (text : List ℕ) → 258 < length text → fits text ≡ false
 no-room text h = elim (cases_Bool (get_or text (length text - 2) 0 == 13)) [
   | inl y ↦ rw y (lt-leb (length text) 258 h)
@@ -287,6 +273,7 @@ same-line row line = elim (cases_Bool (nat_le 258 (length line))) [
   | inr short ↦ let all = take_all 258 line (grind (arith, nat_tests)) in (ap (said_on row) all, ap shown_text all)
 ]
 
+-- a session answers lines alike, whole and as they are kept
 same-lines : (e : Session) (lines : List (List ℕ)) → (answers e (map (take 258) lines) ≡ answers e lines) × (after_lines e (map (take 258) lines) ≡ after_lines e lines)
 unfolding answers after_lines
 same-lines e [] = (refl, refl)

@@ -1,17 +1,10 @@
 -- The lines of JSON that answer a mend: what board state each carries.
-use Rattle.std.proofs.Common.{arith, refl, ℕ, ◌<◌, ◌^◌, ◌≤◌}
-use Rattle.std.specs.Prelude.{IfSome, Option, Some, length}
-use Rattle.json.specs.Print.{escape_byte, quoted}
+use Rattle.ucl_live_runs.proofs.Common.{BoardState, Entry, IfSome, IsBoardState, MendRefusal, Refusal, arith, escape_byte, json_line}
+use Rattle.ucl_live_runs.proofs.Common.{left_out_value, mend_refused_value, mended_value, mended_with, quoted, refl, ℕ, ◌<◌, ◌^◌, ◌≤◌}
+use Rattle.std.specs.Prelude.{Option, Some, length}
 use Rattle.serde_json.proofs.OnLiterals.{serde_json_on_literals}
-use Rattle.ucl_word.specs.declared.refusal.Refusal.{Refusal}
-use Rattle.ucl_board.specs.declared.entry.Entry.{Entry}
-use Rattle.ucl_json.specs.declared.board_state.BoardState.{BoardState}
 use Rattle.ucl_json.specs.BoardLines.{parse_board_state}
-use Rattle.ucl_json.specs.Lines.{json_line}
-use Rattle.ucl_json.specs.Mended.{left_out_value, mend_refused_value, mended_value, mended_with}
-use Rattle.ucl_live_runs.specs.Follow.{IsBoardState}
 use Rattle.ucl_live_runs.specs.MendNames.{mend_refusal_code, mend_refusal_name}
-use Rattle.ucl_live_runs.specs.declared.mend_refusal.MendRefusal.{MendRefusal}
 use Rattle.ucl_live_runs.specs.declared.mend_refusal.MendRefusal.TheVariants.{LastEdition, NoEvent}
 use Rattle.ucl_json.proofs.AnswerSizes.{digits-20, kind-text, refusal-text}
 use Rattle.ucl_json.proofs.PlainValues.{IsText}
@@ -19,15 +12,13 @@ use Rattle.ucl_live_runs.proofs.AnswerLines.{CarriesAtMost, IsLineThat, silent-l
 use Rattle.ucl_live_runs.proofs.AnswerValues.{carried, mended-has, mended-plain}
 
 -- the answer to a mend carries the board state after it
-
 pub mended-line : (without : Option ℕ) (row left_out : ℕ) (m : BoardState) → IsBoardState m → row < 2 ^ 64 → IfSome without (λ n. n < 2 ^ 64) → left_out < 2 ^ 64
     → IsLineThat (Some m) (json_line (mended_with without (mended_value row left_out m.header m.board m.roster)))
 mended-line without row left_out m is r w l =
     value-line (mended_with without (mended_value row left_out m.header m.board m.roster)) (Some m)
     (carried _ m is (mended-has without row left_out m) (mended-plain without row left_out m is r w l))
 
--- ---- an event that is left out, and a mend that is refused, carry none
-
+-- the line of an event that is left out, and that of a mend that is refused, carry no board state
 pub left-out-line : (o : Option BoardState) (row : ℕ) (entry : Entry) (refusal : Refusal) → row < 2 ^ 64 → entry.game < 2 ^ 64 → entry.reporter < 2 ^ 64
     → CarriesAtMost o (json_line (left_out_value row entry refusal))
 unfolding parse_board_state serde_json_on_literals

@@ -1,67 +1,55 @@
 -- What a mend keeps of the events that stand, and what it leaves out.
-use Rattle.std.proofs.Common.{◌≡◌, ◌≢◌, ℕ, ◌+◌, ◌<◌, ◌≤◌, ◌==◌, ◌⊎◌, Bool, true, false, List, [], ◌∷◌, ◌++◌, length, map, Option, Ok, Err}
-use Rattle.std.proofs.Common.{drop, get_or, length-append, set, take}
-use Rattle.std.proofs.Common.{refl, sym, ap, ◌∙◌, subst, arith, append-nil, append_assoc, ne_eqb, inl, inr}
-use Rattle.std.specs.Prelude.{All, Result, if◌then◌else◌}
-use Rattle.std.specs.List.{fold}
-use Rattle.std.specs.Result.{is_ok}
-use Rattle.std.proofs.lemmas.Bool.{cases_Bool, cases_eq}
-use Rattle.std.proofs.lemmas.List.{append_cancel_left, drop-drop, drop-set-lt, drop_all, drop_more, get_or-drop, length-map, length-set, map-append, take_all, take_more}
-use Rattle.std.proofs.lemmas.List.{take_more_set}
-use Rattle.std.proofs.lemmas.List.Elements.{All-cons, All-head, All-nil, All-tail, filter-append}
-use Rattle.std.proofs.lemmas.List.Sums.{fold-append}
+use Rattle.ucl_live_runs.proofs.Common.{Accepted, All, All-cons, All-head, All-nil, All-tail, Bool, Entry, EventCall, Fate, IsAttempt}
+use Rattle.ucl_live_runs.proofs.Common.{IsLegal, IsMatch, IsMendedSoFar, IsReporter, Kept, LeftOut, List, MatchRecord, MayFollow}
+use Rattle.ucl_live_runs.proofs.Common.{MendsOneMore, Named, Option, Refusal, Refused, Result, StandingEvent, [], answer, ap, append-nil}
+use Rattle.ucl_live_runs.proofs.Common.{append_assoc, append_cancel_left, arith, attempts_from, board_of, call_again, cases_Bool, cases_eq}
+use Rattle.ucl_live_runs.proofs.Common.{drop-drop, drop-set-lt, drop_all, drop_more, false, fate_by, fate_of, filter-append, fold}
+use Rattle.ucl_live_runs.proofs.Common.{fold-append, game_after, game_at, get_or, get_or-drop, history_in, if◌then◌else◌, inl, inr, is_ok}
+use Rattle.ucl_live_runs.proofs.Common.{kept_after, kept_by, left_by, left_out, length, length-append, length-map, length-set, map-append}
+use Rattle.ucl_live_runs.proofs.Common.{may_begin, may_last, may_none, mended, ne_eqb, refl, sequential_reply, set, subst, sym, take}
+use Rattle.ucl_live_runs.proofs.Common.{take_more, take_more_set, true, version_of, ℕ, ◌++◌, ◌+◌, ◌<◌, ◌==◌, ◌∙◌, ◌∷◌, ◌≡◌, ◌≤◌, ◌⊎◌}
+use Rattle.std.proofs.Common.{◌≢◌, map, Ok, Err}
+use Rattle.std.proofs.Common.{drop}
 use mathlib.Core.List.{IsPrefix}
-use Rattle.ucl_word.specs.declared.event.Accepted.{Accepted}
-use Rattle.ucl_word.specs.declared.event.EventCall.{EventCall}
-use Rattle.ucl_word.specs.declared.record.MatchRecord.{MatchRecord}
-use Rattle.ucl_word.specs.declared.refusal.Refusal.{Refusal}
 use Rattle.ucl_word.specs.Counts.{GainsOne, MatchEntry, counted_match}
-use Rattle.ucl_word.specs.Record.{IsReporter}
-use Rattle.ucl_word.specs.Rules.{answer, refusal_of}
+use Rattle.ucl_word.specs.Rules.{refusal_of}
 use Rattle.ucl_word.proofs.EntryCounts.{number_of_count}
-use Rattle.ucl_word.proofs.Sequences.{may_begin, may_last, may_none}
-use Rattle.ucl_board.specs.declared.entry.Entry.{Entry}
-use Rattle.ucl_board.specs.Fixtures.{IsMatch}
-use Rattle.ucl_board.specs.History.{IsAttempt, IsLegal, MayFollow, attempted, board_of, entries_of, followed_by, match_after}
-use Rattle.ucl_board.specs.History.{of_match, sequential_reply}
-use Rattle.ucl_board.specs.Words.{game_at, version_of}
-use Rattle.ucl_board.proofs.HistoryTheorems.{attempts_from, game_after, versions}
-use Rattle.ucl_live_runs.specs.declared.standing.Fate.{Fate}
-use Rattle.ucl_live_runs.specs.declared.standing.Fate.TheVariants.{Kept, Named, Refused}
-use Rattle.ucl_live_runs.specs.declared.standing.LeftOut.{LeftOut}
-use Rattle.ucl_live_runs.specs.declared.standing.StandingEvent.{StandingEvent}
-use Rattle.ucl_live_runs.specs.Mended.{call_again, fate_by, fate_of, history_in, kept_after, kept_by, left_by, left_out, mended}
+use Rattle.ucl_board.specs.History.{attempted, entries_of, followed_by, match_after}
+use Rattle.ucl_board.specs.History.{of_match}
+use Rattle.ucl_board.proofs.HistoryTheorems.{versions}
 unfoldable pub use Rattle.ucl_live_runs.specs.Mended.{left_out_after}
 use Rattle.ucl_live_runs.specs.MendTheorems.{events_of}
 unfoldable pub use Rattle.ucl_live_runs.specs.MendTheorems.{LaterEventsGoOn, MendsAreLegal, OtherMatchesStay, WholeHistoriesAreKept}
-use Rattle.ucl_live_runs.specs.Standing.{MendsOneMore, IsMendedSoFar}
 
 pub history-more : (events more : List StandingEvent) → history_in (events ++ more) ≡ history_in events ++ history_in more
 history-more events more = map-append (λ (event : StandingEvent). event.entry) events more
 
+-- what a mend keeps of one event more is what it kept, with that event if it is accepted again and not named
 pub mended-more : (row : ℕ) (events : List StandingEvent) (event : StandingEvent) → mended row (events ++ event ∷ []) ≡ kept_after row (mended row events) event
 mended-more row events event = fold-append (kept_after row) [] events (event ∷ [])
 
--- ---- an event that is entered again
-
+-- the reply to an event that is entered again after those that are kept
 abbrev pub reply-again : List StandingEvent → StandingEvent → Result Accepted Refusal
 reply-again kept event = sequential_reply (history_in kept) (call_again (history_in kept) event.entry)
 
+-- an event of another row than the named one has the fate of that reply
 fate-other : (row : ℕ) (kept : List StandingEvent) (event : StandingEvent) → (event.row == row) ≡ false → fate_of row kept event ≡ fate_by (reply-again kept event)
 fate-other row kept event n = ap (λ (b : Bool). if b then Named else fate_by (reply-again kept event)) n
 
 fate-named : (row : ℕ) (kept : List StandingEvent) (event : StandingEvent) → (event.row == row) ≡ true → fate_of row kept event ≡ Named
 fate-named row kept event y = ap (λ (b : Bool). if b then Named else fate_by (reply-again kept event)) y
 
--- the history that is kept, by the reply
+-- the history of what is kept after that reply
 kept-history : (kept : List StandingEvent) (event : StandingEvent) (reply : Result Accepted Refusal)
     → history_in (kept_by kept event (fate_by reply)) ≡ (if is_ok reply then followed_by (history_in kept) event.entry else history_in kept)
 kept-history kept event (Ok accepted) = history-more kept (event ∷ [])
 kept-history kept event (Err refusal) = refl
 
+-- an event of a reporter and a match that there are
 abbrev IsRanged : StandingEvent → Type 0
 IsRanged event = IsReporter event.entry.reporter × IsMatch event.entry.game
 
+-- what is kept of one event more is legal, and so of all
 step-legal : (row : ℕ) (kept : List StandingEvent) (event : StandingEvent) → IsLegal (history_in kept) → IsRanged event → IsLegal (history_in (kept_after row kept event))
 step-legal row kept event legal is = elim (cases_Bool (event.row == row)) [
   | inl y ↦ subst (λ (f : Fate). IsLegal (history_in (kept_by kept event f))) (sym (fate-named row kept event y)) legal
@@ -76,8 +64,7 @@ all-legal row kept [] legal all = legal
 all-legal row kept (event ∷ events) legal all =
     all-legal row (kept_after row kept event) events (step-legal row kept event legal (All-head IsRanged event events all)) (All-tail IsRanged event events all)
 
--- ---- an event of a legal history may follow those before it
-
+-- an event of a legal history may follow those before it
 may-at : (before : List StandingEvent) (event : StandingEvent) (more : List StandingEvent) → IsLegal (history_in (before ++ event ∷ more)) → MayFollow (history_in before) event.entry
 may-at before event more legal =
     let parts = history-more before (event ∷ more) ∙ sym (append_assoc (history_in before) (event.entry ∷ []) (history_in more)) in
@@ -87,6 +74,7 @@ one-on : (before : List StandingEvent) (event : StandingEvent) (more : List Stan
     → IsLegal (history_in ((before ++ event ∷ []) ++ more))
 one-on before event more legal = subst (λ (l : List StandingEvent). IsLegal (history_in l)) (sym (append_assoc before (event ∷ []) more)) legal
 
+-- each event of a legal history is of a reporter and a match that there are
 all-ranged : (before events : List StandingEvent) → IsLegal (history_in (before ++ events)) → All IsRanged events
 all-ranged before [] legal = All-nil IsRanged
 all-ranged before (event ∷ events) legal =
@@ -97,11 +85,11 @@ pub mends_legal : MendsAreLegal
 unfolding MendsAreLegal
 mends_legal row events legal = all-legal row [] events (may_none MayFollow) (all-ranged [] events legal)
 
--- ---- an event is accepted again after a history with the same entries of its match
-
+-- an event has another row than the named one
 abbrev pub IsOtherRow : ℕ → StandingEvent → Type 0
 IsOtherRow row event = event.row ≢ row
 
+-- an event is kept if those kept before it are, of its match, the same as those before it in a legal history
 same-accepted : (row : ℕ) (kept before : List StandingEvent) (event : StandingEvent)
     → entries_of event.entry.game (history_in kept) ≡ entries_of event.entry.game (history_in before) → MayFollow (history_in before) event.entry
     → IsOtherRow row event → fate_of row kept event ≡ Kept
@@ -112,8 +100,7 @@ same-accepted row kept before event same may other =
     fate-other row kept event (ne_eqb event.row row other)
     ∙ ap (λ (o : Option Refusal). fate_by (answer (match_after (history_in kept) event.entry.game).number o)) none
 
--- ---- without a named row all are kept
-
+-- where no event has the named row all are kept, and none is left out
 keeps-all : (row : ℕ) (kept events : List StandingEvent) → IsLegal (history_in (kept ++ events)) → All (IsOtherRow row) events
     → (fold (kept_after row) kept events ≡ kept ++ events) × (left_out_after row kept events ≡ [])
 unfolding left_out_after
@@ -131,8 +118,6 @@ pub whole : WholeHistoriesAreKept
 unfolding WholeHistoriesAreKept
 whole row events legal all = keeps-all row [] events legal all
 
--- ---- the matches of which no event has the named row
-
 -- the entries of a match, by its events
 entries-in : (game : ℕ) (events : List StandingEvent) → entries_of game (history_in events) ≡ map (λ (event : StandingEvent). of_match event.entry) (events_of game events)
 entries-in game [] = refl
@@ -141,6 +126,7 @@ entries-in game (event ∷ events) = elim (cases_Bool (event.entry.game == game)
   | inr n ↦ rw n (entries-in game events)
 ]
 
+-- two lists with the same events of a match have the same entries of it
 pub same-entries : (game : ℕ) (kept before : List StandingEvent) → events_of game kept ≡ events_of game before
     → entries_of game (history_in kept) ≡ entries_of game (history_in before)
 same-entries game kept before same =
@@ -153,11 +139,13 @@ events-else : (game : ℕ) (kept : List StandingEvent) (event : StandingEvent) �
 events-else game kept event not =
     events-more game kept event ∙ ap (λ (b : Bool). events_of game kept ++ (if b then event ∷ [] else [])) (ne_eqb event.entry.game game not) ∙ append-nil (events_of game kept)
 
+-- an event of another match changes none of these, whatever becomes of it
 fate-else : (game : ℕ) (kept : List StandingEvent) (event : StandingEvent) (fate : Fate) → event.entry.game ≢ game → events_of game (kept_by kept event fate) ≡ events_of game kept
 fate-else game kept event Kept not = events-else game kept event not
 fate-else game kept event Named not = refl
 fate-else game kept event (Refused refusal) not = refl
 
+-- an event of this match does not have the named row
 abbrev IsOther : ℕ → ℕ → StandingEvent → Type 0
 IsOther row game event = event.row ≡ row → event.entry.game ≢ game
 
@@ -173,6 +161,7 @@ one-event row game kept before event same may other = elim (cases_eq event.entry
   | inr not ↦ fate-else game kept event (fate_of row kept event) not ∙ same ∙ sym (events-else game before event not)
 ]
 
+-- all events of a match stay, if none of them has the named row
 all-events : (row game : ℕ) (kept before events : List StandingEvent) → events_of game kept ≡ events_of game before
     → IsLegal (history_in (before ++ events)) → All (IsOther row game) events
     → events_of game (fold (kept_after row) kept events) ≡ events_of game (before ++ events)
@@ -186,8 +175,7 @@ pub other_matches : OtherMatchesStay
 unfolding OtherMatchesStay
 other_matches row game events legal all = all-events row game [] [] events refl legal all
 
--- ---- with more events behind
-
+-- with more events behind, those left out come first, and then those of the events behind
 pub left-more : (row : ℕ) (kept events more : List StandingEvent)
     → left_out_after row kept (events ++ more) ≡ left_out_after row kept events ++ left_out_after row (fold (kept_after row) kept events) more
 unfolding left_out_after
@@ -203,6 +191,7 @@ by-kept kept event Kept = (event ∷ [], refl)
 by-kept kept event Named = ([], append-nil kept)
 by-kept kept event (Refused refusal) = ([], append-nil kept)
 
+-- what was kept stays at the front
 kept-begins : (row : ℕ) (kept more : List StandingEvent) → IsPrefix kept (fold (kept_after row) kept more)
 kept-begins row kept [] = ([], append-nil kept)
 kept-begins row kept (event ∷ more) =
@@ -210,7 +199,7 @@ kept-begins row kept (event ∷ more) =
     let rest = kept-begins row (kept_after row kept event) more in
     (here.0 ++ rest.0, sym (append_assoc kept here.0 rest.0) ∙ ap (λ (l : List StandingEvent). l ++ rest.0) here.1 ∙ rest.1)
 
--- an event that is not left out, and not named, is kept
+-- if no event is left out, and none is named, each is kept
 by-none : (event : StandingEvent) (reply : Result Accepted Refusal) (rest : List LeftOut) → left_by event (fate_by reply) ++ rest ≡ [] → (fate_by reply ≡ Kept) × (rest ≡ [])
 by-none event (Ok accepted) rest h = (refl, h)
 by-none event (Err refusal) rest h = absurd cc
@@ -240,11 +229,7 @@ later_events row events more =
           (append_cancel_left (left_out row events) (left_out_after row (mended row events) more) [] (sym outs ∙ is ∙ sym (append-nil (left_out row events)))) all;
     }
 
--- ==== What the code does
-
-pub none-mended : (row : ℕ) (board : List ℕ) → board ≡ board_of [] → IsMendedSoFar row [] board
-none-mended row board is = record { legal = may_none MayFollow; board_is = sym is }
-
+-- an event is entered again, on the board so far
 module _ (row : ℕ) (event : StandingEvent) (board board2 : List ℕ) where
   -- one event more, by what becomes of it
   one-more : (fate : Fate) (events : List StandingEvent) → fate ≡ fate_of row (mended row events) event
@@ -274,6 +259,7 @@ module _ (row : ℕ) (event : StandingEvent) (board board2 : List ℕ) where
         ap fate_by (sequential history s.legal s.board_is ∙ ap (sequential_reply history) same_call)
         ∙ sym (fate-other row (mended row events) event (ne_eqb event.row row other))
 
+    -- an event that is entered again is kept, if the board accepts it
     pub goes-kept : (accepted : Accepted) → ((history : List Entry) → IsLegal history → board_of history ≡ board → Ok accepted ≡ sequential_reply history call)
         → GainsOne IsLegal board_of event.entry board board2 → MendsOneMore row event Kept board board2
     goes-kept accepted sequential gains events s =
@@ -282,12 +268,12 @@ module _ (row : ℕ) (event : StandingEvent) (board board2 : List ℕ) where
         let more = history-more kept (event ∷ []) in
         one-more Kept events (fate-is events (Ok accepted) s sequential) (subst IsLegal (sym more) g.1) (ap board_of more ∙ sym g.0)
 
+    -- an event that is entered again is left out, if the board refuses it
     pub goes-refused : (refusal : Refusal) → ((history : List Entry) → IsLegal history → board_of history ≡ board → Err refusal ≡ sequential_reply history call)
         → board2 ≡ board → MendsOneMore row event (Refused refusal) board board2
     goes-refused refusal sequential is events s = one-more (Refused refusal) events (fate-is events (Err refusal) s sequential) s.legal (s.board_is ∙ sym is)
 
--- ---- one event more of a list
-
+-- the event at place i of a list, from the front of which a mend has made what it keeps
 module _ (row : ℕ) (events : List StandingEvent) (i : ℕ) (event : StandingEvent) (below : i < length events) (is : event ≡ get_or events i event) where
   pub front-more : take (i + 1) events ≡ take i events ++ event ∷ []
   front-more = take_more events i event below ∙ ap (λ (e : StandingEvent). take i events ++ e ∷ []) (sym is)
@@ -295,6 +281,7 @@ module _ (row : ℕ) (events : List StandingEvent) (i : ℕ) (event : StandingEv
   pub mended-front : mended row (take (i + 1) events) ≡ kept_after row (mended row (take i events)) event
   mended-front = ap (mended row) front-more ∙ mended-more row (take i events) event
 
+  -- what is to be left out from here on is what becomes of this event, and what is left out behind it
   pub told-more : left_out_after row (mended row (take i events)) (drop i events)
       ≡ left_by event (fate_of row (mended row (take i events)) event) ++ left_out_after row (mended row (take (i + 1) events)) (drop (i + 1) events)
   unfolding left_out_after
@@ -303,18 +290,21 @@ module _ (row : ℕ) (events : List StandingEvent) (i : ℕ) (event : StandingEv
       ap (left_out_after row kept) (drop_more events i event below ∙ ap (λ (e : StandingEvent). e ∷ drop (i + 1) events) (sym is))
       ∙ ap (λ (l : List StandingEvent). left_by event (fate_of row kept event) ++ left_out_after row l (drop (i + 1) events)) (sym mended-front)
 
+  -- what is to be left out from an event on is so behind it, if the event is not left out
   pub told-none : (fate : Fate) → left_by event fate ≡ [] → fate ≡ fate_of row (mended row (take i events)) event
       → left_out_after row (mended row (take (i + 1) events)) (drop (i + 1) events) ≡ left_out_after row (mended row (take i events)) (drop i events)
   told-none fate none by =
       let rest = left_out_after row (mended row (take (i + 1) events)) (drop (i + 1) events) in
       sym (told-more ∙ ap (λ (f : Fate). left_by event f ++ rest) (sym by) ∙ ap (λ (l : List LeftOut). l ++ rest) none)
 
+  -- what is to be left out from an event on is this event, and what is so behind it, if the event is left out
   pub told-one : (refusal : Refusal) → Refused refusal ≡ fate_of row (mended row (take i events)) event
       → left_out_after row (mended row (take i events)) (drop i events)
       ≡ record { event = event; refusal = refusal } ∷ left_out_after row (mended row (take (i + 1) events)) (drop (i + 1) events)
   told-one refusal by =
       told-more ∙ ap (λ (f : Fate). left_by event f ++ left_out_after row (mended row (take (i + 1) events)) (drop (i + 1) events)) (sym by)
 
+  -- the mend so far, with this event, is the mend of one event more
   pub so-far-more : (fate : Fate) (board board2 : List ℕ) → IsMendedSoFar row (take i events) board → MendsOneMore row event fate board board2
       → IsMendedSoFar row (take (i + 1) events) board2
   so-far-more fate board board2 s goes = subst (λ (l : List StandingEvent). IsMendedSoFar row l board2) (sym front-more) (goes (take i events) s).1
@@ -322,12 +312,12 @@ module _ (row : ℕ) (events : List StandingEvent) (i : ℕ) (event : StandingEv
 pub not-left : (event : StandingEvent) (fate : Fate) → (fate ≡ Kept) ⊎ (fate ≡ Named) → left_by event fate ≡ []
 not-left event fate is = elim is [ inl k ↦ ap (left_by event) k | inr n ↦ ap (left_by event) n ]
 
+-- at the end of the list no event is left to be left out
 pub all-told : (row : ℕ) (events : List StandingEvent) (i : ℕ) → length events ≤ i → left_out_after row (mended row (take i events)) (drop i events) ≡ []
 unfolding left_out_after
 all-told row events i past = ap (left_out_after row (mended row (take i events))) (drop_all i events past)
 
--- ---- a mend in place: `now` is `before` with what is kept of the first `at` events at its front
-
+-- a mend in place: `now` is `before` with what is kept of the first `at` events at its front
 pub record IsInPlace (row : ℕ) (before now : List StandingEvent) (kept at : ℕ) (board : List ℕ) : Type 0 where
   pub front : take kept now ≡ mended row (take at before)
   pub rest : drop at now ≡ drop at before
@@ -335,9 +325,7 @@ pub record IsInPlace (row : ℕ) (before now : List StandingEvent) (kept at : �
   pub behind : kept ≤ at
   pub so_far : IsMendedSoFar row (take at before) board
 
-pub in-place-none : (row : ℕ) (events : List StandingEvent) (board : List ℕ) → board ≡ board_of [] → IsInPlace row events events 0 0 board
-in-place-none row events board is = record { front = refl; rest = refl; long = refl; behind = omega arith; so_far = none-mended row board is }
-
+-- the next event of a mend in place
 module _ (row : ℕ) (before now : List StandingEvent) (kept at : ℕ) (event : StandingEvent) (board board2 : List ℕ) (s : IsInPlace row before now kept at board)
     (below : at < length now) (is : event ≡ get_or now at event) where
   in-before : at < length before
@@ -352,6 +340,7 @@ module _ (row : ℕ) (before now : List StandingEvent) (kept at : ℕ) (event : 
   next-rest : drop (at + 1) now ≡ drop (at + 1) before
   next-rest = sym (drop-drop 1 at now) ∙ ap (drop 1) s.rest ∙ drop-drop 1 at before
 
+  -- the next event of a mend in place is kept, and put behind those that are kept
   pub in-place-kept : (fate : Fate) → fate ≡ Kept → MendsOneMore row event fate board board2
       → IsInPlace row before (set now kept event) (kept + 1) (at + 1) board2
   in-place-kept fate is_kept goes =
@@ -365,6 +354,7 @@ module _ (row : ℕ) (before now : List StandingEvent) (kept at : ℕ) (event : 
         so_far = so-far-more row before at event in-before same-event fate board board2 s.so_far goes;
       }
 
+  -- the next event of a mend in place is not kept, and stays where it is
   pub in-place-left : (fate : Fate) → ((l : List StandingEvent) → kept_by l event fate ≡ l) → MendsOneMore row event fate board board2
       → IsInPlace row before now kept (at + 1) board2
   in-place-left fate none goes =
@@ -378,15 +368,7 @@ module _ (row : ℕ) (before now : List StandingEvent) (kept at : ℕ) (event : 
         so_far = so-far-more row before at event in-before same-event fate board board2 s.so_far goes;
       }
 
-pub in-place-all : (row : ℕ) (before now : List StandingEvent) (kept at : ℕ) (board : List ℕ) → IsInPlace row before now kept at board → length now ≤ at
-    → (take kept now ≡ mended row before) × IsMendedSoFar row before board
-in-place-all row before now kept at board s past =
-    let long = s.long in
-    let all : take at before ≡ before = take_all at before (omega arith) in
-    (s.front ∙ ap (mended row) all, subst (λ (l : List StandingEvent). IsMendedSoFar row l board) all s.so_far)
-
--- ---- how many events stand
-
+-- the version of the board is how many events stand, at most 49,140
 pub few : (events : List StandingEvent) → IsLegal (history_in events) → (version_of (board_of (history_in events)) ≡ length events) × (length events ≤ 49140)
 few events legal = let v = versions (history_in events) legal in let long = length-map events (λ (event : StandingEvent). event.entry) in (v.0 ∙ long, omega arith)
 

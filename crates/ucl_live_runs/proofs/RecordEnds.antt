@@ -1,25 +1,20 @@
 -- The last board state that the answers of a record tell is its board.
 use Rattle.ucl_live_runs.proofs.Common.{All, All-append, All-contains, All-contains_itself, All-head, All-tail, All-weaker}
 use Rattle.ucl_live_runs.proofs.Common.{AnswersNeverFall, BoardState, Contains, Contains-append_cases, Contains-append_left}
-use Rattle.ucl_live_runs.proofs.Common.{Contains-append_right, FollowArgs, FollowersEndWithTheBoard, IsCarriedIn, IsLatest}
-use Rattle.ucl_live_runs.proofs.Common.{IsNoFall, IsNoNewer, IsOlder, IsRecord, Json, List, LiveArgs, NamedClub, NeverFall, None}
-use Rattle.ucl_live_runs.proofs.Common.{Ok, Open, Option, OthersDoNotMatter, Reached, Said, SameRowsSameTable, Session}
-use Rattle.ucl_live_runs.proofs.Common.{ShownVersionsRise, Some, [], after_lines, after_record, answer_lines, answer_said}
-use Rattle.ucl_live_runs.proofs.Common.{answers, ap, append-nil, append_assoc, arith, begun_line, begun_none, board_state_at}
-use Rattle.ucl_live_runs.proofs.Common.{board_state_now, board_state_with, ended_lines, few_lines, fits, flat_map, inl}
-use Rattle.ucl_live_runs.proofs.Common.{inr, is_later, last_lines, length, length-append, lines_of, map, nat_tests, next}
-use Rattle.ucl_live_runs.proofs.Common.{open_at, parse_board_line, refl, said_on, same_Some, screen_text, shown_text, start_of}
-use Rattle.ucl_live_runs.proofs.Common.{subst, sym, true, unseen, version_of, ℕ, ◌++◌, ◌+◌, ◌<◌, ◌^◌, ◌∙◌, ◌∷◌, ◌≡◌, ◌≤◌}
-use Rattle.ucl_live_runs.proofs.Common.{◌⊎◌}
-use Rattle.std.proofs.lemmas.Grind.{flat_map-append}
-use Rattle.ucl_live_runs.specs.Mends.{board_in}
-use Rattle.ucl_live_runs.specs.declared.standing.StandingEvent.{StandingEvent}
+use Rattle.ucl_live_runs.proofs.Common.{Contains-append_right, FollowArgs, FollowersEndWithTheBoard, IsCarriedIn, IsLatest, IsNoFall}
+use Rattle.ucl_live_runs.proofs.Common.{IsNoNewer, IsOlder, IsRecord, Json, List, LiveArgs, NamedClub, NeverFall, None, Ok, Open, Option}
+use Rattle.ucl_live_runs.proofs.Common.{OthersDoNotMatter, Reached, Said, SameRowsSameTable, Session, ShownVersionsRise, Some}
+use Rattle.ucl_live_runs.proofs.Common.{StandingEvent, [], after_lines, after_record, answer_lines, answer_said, answers, ap, append-nil}
+use Rattle.ucl_live_runs.proofs.Common.{append_assoc, arith, begun_line, begun_none, board_in, board_state_at, board_state_now}
+use Rattle.ucl_live_runs.proofs.Common.{board_state_with, ended_lines, few_lines, fits, flat_map, flat_map-append, inl, inr, is_later}
+use Rattle.ucl_live_runs.proofs.Common.{last_lines, length, length-append, lines_of, map, nat_tests, next, open_at, parse_board_line, refl}
+use Rattle.ucl_live_runs.proofs.Common.{said_on, same_Some, screen_text, shown_text, start_of, subst, sym, true, unseen, version_of, ℕ}
+use Rattle.ucl_live_runs.proofs.Common.{◌++◌, ◌+◌, ◌<◌, ◌^◌, ◌∙◌, ◌∷◌, ◌≡◌, ◌≤◌, ◌⊎◌}
 use Rattle.ucl_live_runs.proofs.AnswerLines.{IsAtMost, IsShown, begun-then, carried-none, carried-then, carried_in, shown-text}
 use Rattle.ucl_live_runs.proofs.FollowShown.{among, others, same-asked, versions}
 use Rattle.ucl_live_runs.proofs.Told.{IsBehind, IsSound, Tells, board-tells, line-tells, sound-next, start-sound}
 
--- ---- older board states
-
+-- a board state that is behind another is older
 older : (m o : BoardState) → IsBehind o m → IsOlder m o
 older m o b = (same-asked m.header o.header (sym b.same.0, sym b.same.1), later m o b.less)
   where
@@ -38,23 +33,25 @@ further a b c (inr p) q = record {
   ];
 }
 
--- ---- what was carried is no newer than the board state of the session
-
 abbrev Lines : Type 0
 Lines = List (List ℕ)
 
+-- what the lines of answers carry, one after the other
 abbrev Carried : Type 0
 Carried = List (Option BoardState)
 
+-- this board state, which was carried, is the board state of the session or behind it, and that was carried too
 record IsNoNewerIn (e : Session) (out : Carried) (o : BoardState) : Type 0 where
   now : BoardState
   stands : board_state_now e ≡ Some now
   behind : (o ≡ now) ⊎ IsBehind o now
   carried : Contains out (Some now)
 
+-- each board state that was carried is no newer than that of the session
 abbrev AreNoNewer : Session → Carried → Type 0
 AreNoNewer e out = (o : BoardState) → Contains out (Some o) → IsNoNewerIn e out o
 
+-- the session has an open board, which is this board state
 record IsAtBoard (e : Session) (m : BoardState) : Type 0 where
   clubs : List NamedClub
   events : List StandingEvent
@@ -66,8 +63,7 @@ at-board e (Ok (Open table)) m h k =
     record { clubs = table.roster; events = table.events; phase = h; same = same_Some (board_state_with e.header table.roster (board_in table.events)) m k }
 at-board e s m h k = cc
 
--- ---- board states that never fall
-
+-- two parts that never fall, where none of the second is older than one of the first, never fall together
 fall-append : (a b : Carried) → NeverFall a → NeverFall b → All (λ o. All (IsNoFall o) b) a → NeverFall (a ++ b)
 unfolding NeverFall
 fall-append [] b p q h = q
@@ -78,6 +74,7 @@ fall-append (o ∷ a) b p q h =
 none-falls : (os : Carried) → All (IsNoFall None) os
 none-falls os = All-weaker (Contains os) (IsNoFall None) (λ _ _. tt) os (All-contains_itself os)
 
+-- of two that carry nothing or just this, the second is no fall from the first
 most-falls : (most o p : Option BoardState) → IsAtMost most o → IsAtMost most p → IsNoFall o p
 most-falls most None p h k = tt
 most-falls most (Some x) None h k = tt
@@ -92,8 +89,7 @@ same-falls most (o ∷ os) h =
     let rest = All-tail (IsAtMost most) o os h in
     (All-weaker (IsAtMost most) (IsNoFall o) (λ p. most-falls most o p (All-head (IsAtMost most) o os h)) os rest, same-falls most os rest)
 
--- ---- one line more
-
+-- one line more of a session that is sound
 module _ (e : Session) (r : Said) (shown : List ℕ) (json : e.options.format ≡ Json) (fits : e.row < 2 ^ 64) (g : IsSound e) (short : IsShown shown) where
   abbrev text : List ℕ
   text = answer_said e r shown
@@ -103,10 +99,12 @@ module _ (e : Session) (r : Said) (shown : List ℕ) (json : e.options.format �
       let at = at-board e e.phase m refl stands in
       subst (λ (x : BoardState). Tells x (board_state_now (next e r)) text) at.same (board-tells e r shown json fits g short at.clubs at.events at.phase)
 
+  -- the board states that were carried before it
   module _ (out : Carried) (told : AreNoNewer e out) where
     abbrev all : Carried
     all = out ++ carried_in text
 
+    -- what the line carries is the board state after it
     stands-now : (o : BoardState) → Contains (carried_in text) (Some o) → board_state_now (next e r) ≡ Some o
     stands-now o is = most (All-contains (IsAtMost (board_state_now (next e r))) (carried_in text) (Some o) (line-tells e r shown json fits g short).each is)
       where
@@ -129,9 +127,11 @@ module _ (e : Session) (r : Said) (shown : List ℕ) (json : e.options.format �
           record { now = m; stands = stands; behind = inr (further o b.now m b.behind behind); carried = Contains-append_right out (carried_in text) (Some m) is }
     ]
 
+    -- with one line more, all that was carried is no newer than the board state of the session
     one-line : AreNoNewer (next e r) all
     one-line o is = elim (Contains-append_cases out (carried_in text) (Some o) is) [ inl before ↦ was-carried o (told o before) | inr now ↦ now-carried o now ]
 
+    -- what a line carries is not older than what was carried before it
     rises : (o : Option BoardState) → Contains out o → All (IsNoFall o) (carried_in text)
     rises None t = none-falls (carried_in text)
     rises (Some x) t = All-weaker (Contains (carried_in text)) (IsNoFall (Some x)) each (carried_in text) (All-contains_itself (carried_in text))
@@ -147,8 +147,7 @@ module _ (e : Session) (r : Said) (shown : List ℕ) (json : e.options.format �
         (same-falls (board_state_now (next e r)) (carried_in text) (line-tells e r shown json fits g short).each)
         (All-weaker (Contains out) (λ o. All (IsNoFall o) (carried_in text)) rises out (All-contains_itself out))
 
--- ---- all lines
-
+-- along lines what was carried is no newer than the board state of the session, and never falls
 record Walks (e : Session) (out : Carried) (lines : Lines) : Type 0 where
   begun : begun_line 4097 [] (answers e lines) ≡ []
   told : AreNoNewer (after_lines e lines) (out ++ carried_in (answers e lines))
@@ -174,6 +173,7 @@ walks e out (line ∷ lines) json fits g told falls =
       falls = subst NeverFall (sym parts) more.falls;
     }
 
+-- the lines of an input are no more than its bytes and one
 last-few : (line : List ℕ) → length (last_lines line) ≤ 1
 last-few [] = omega arith
 last-few (b ∷ line) = omega arith
@@ -186,8 +186,7 @@ lines-few bytes =
     let few = few_lines 258 [] bytes in
     omega (arith, length-append ended (last_lines begun), one, few)
 
--- ---- the record
-
+-- along the rows of a record what its answers carry never falls
 all-walks : (options : LiveArgs) (rows : List ℕ) → options.format ≡ Json → length rows ≤ 2 ^ 62 → Walks (start_of options) [] (lines_of rows)
 unfolding NeverFall
 all-walks options rows json short =
@@ -197,6 +196,7 @@ pub never-fall : AnswersNeverFall
 unfolding AnswersNeverFall
 never-fall options rows json short = (all-walks options rows json short).falls
 
+-- a record, which ends with this board state
 module _ (options : LiveArgs) (rows : List ℕ) (args : FollowArgs) (m : BoardState) (is : IsRecord options rows args m) where
   abbrev lines : Lines
   lines = answer_lines options rows
@@ -204,12 +204,14 @@ module _ (options : LiveArgs) (rows : List ℕ) (args : FollowArgs) (m : BoardSt
   told : AreNoNewer (after_record options rows) (map parse_board_line lines)
   told = (all-walks options rows is.json is.short).told
 
+  -- each board state that its answers carry is no newer
   no-newer : (other : BoardState) → IsCarriedIn lines other → IsNoNewer args m (Some other)
   no-newer other t =
       let b = told other t in
       let same : b.now ≡ m = same_Some b.now m (sym b.stands ∙ is.ends) in
       elim (rw same at b.behind) [ inl this ↦ inr (inl this) | inr behind ↦ inr (inr (older m other behind)) ]
 
+  -- the board state at the end of a record is the latest that its answers carry, if they carry any
   pub is-latest : (other : BoardState) → IsCarriedIn lines other → IsLatest args m lines
   is-latest other t =
       let b = told other t in

@@ -1,21 +1,19 @@
 -- Accepted attempts that are made again, at any places and any number of times.
-use Rattle.ucl_live_runs.proofs.Common.{All, All-drop, All-head, All-nil, All-push, All-tail, All-take, Attempt, Entry, HasRepeats, IsAttempt, IsLegal, LeaveTheSame}
-use Rattle.ucl_live_runs.proofs.Common.{List, RepeatedRowsChangeNothing, WasAccepted, [], after_attempt, ap, attempt_board, attempts_from, board_after, fold}
-use Rattle.ucl_live_runs.proofs.Common.{fold-append, inl, inr, length, refl, subst, sym, ℕ, ◌++◌, ◌∙◌, ◌∷◌, ◌≡◌}
+use Rattle.ucl_live_runs.proofs.Common.{All, All-drop, All-head, All-nil, All-push, All-tail, All-take, Attempt, Entry, HasRepeats}
+use Rattle.ucl_live_runs.proofs.Common.{IsAttempt, IsLegal, LeaveTheSame, List, RepeatedRowsChangeNothing, WasAccepted, [], after_attempt}
+use Rattle.ucl_live_runs.proofs.Common.{ap, attempt_board, attempts_from, board_after, fold, fold-append, go_stale, inl, inr, length, refl}
+use Rattle.ucl_live_runs.proofs.Common.{subst, sym, ℕ, ◌++◌, ◌∙◌, ◌∷◌, ◌≡◌}
 use Rattle.std.proofs.Math.Seq.{drop-append_seam, take-append_seam}
-use Rattle.ucl_board.proofs.HistoryTheorems.{go_stale}
 use Rattle.ucl_board.specs.Theorems.{IsStaleAgain}
 
--- the attempts of a part are attempts
-
+-- the attempts of each part are attempts
 front-all : (xs ys : List Attempt) → All IsAttempt (xs ++ ys) → All IsAttempt xs
 front-all xs ys all = rw take-append_seam at (All-take IsAttempt (length xs) (xs ++ ys) all)
 
 back-all : (xs ys : List Attempt) → All IsAttempt (xs ++ ys) → All IsAttempt ys
 back-all xs ys all = rw drop-append_seam at (All-drop IsAttempt (length xs) (xs ++ ys) all)
 
--- one that was accepted at an earlier place is stale
-
+-- an attempt that was accepted is stale when it is made again
 again : (h : List Entry) (made : List Attempt) (a : Attempt) → IsLegal h → All IsAttempt made → WasAccepted h made a → IsStaleAgain (fold after_attempt h made) a
 again h made a legal all was =
     let parts : All IsAttempt (was.before ++ a ∷ was.since) = subst (All IsAttempt) was.place all in
@@ -24,8 +22,7 @@ again h made a legal all was =
     let here = ap (fold after_attempt h) was.place ∙ fold-append after_attempt h was.before (a ∷ was.since) in
     subst (λ (g : List Entry). IsStaleAgain g a) (sym here) stale
 
--- the same, from a history on that some attempts left
-
+-- with one attempt more at the front of both, two lists still leave the same
 next-same : (h : List Entry) (a : Attempt) (longer rest : List Attempt) → IsLegal h → IsAttempt a → LeaveTheSame (after_attempt h a) longer rest → LeaveTheSame h (a ∷ longer) (a ∷ rest)
 next-same h a longer rest legal is more =
     let board = attempt_board h a legal is in record {
@@ -33,6 +30,7 @@ next-same h a longer rest legal is more =
       board_is = ap (λ (ws : List ℕ). fold board_after ws longer) board ∙ (more.board_is ∙ ap (λ (ws : List ℕ). fold board_after ws rest) (sym board));
     }
 
+-- an attempt that is stale, at the front of one of two lists that leave the same, changes nothing
 again-same : (h : List Entry) (a : Attempt) (longer shorter : List Attempt) → IsStaleAgain h a → LeaveTheSame h longer shorter → LeaveTheSame h (a ∷ longer) shorter
 again-same h a longer shorter stale more = record {
   history_is = ap (λ (g : List Entry). fold after_attempt g longer) stale.history_is ∙ more.history_is;

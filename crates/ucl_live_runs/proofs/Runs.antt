@@ -67,22 +67,26 @@ module _ {M V F S W : Type 0} {R : LineRules M F} {cap : ℕ} {D : Due V F} {m :
     abbrev lines : List (List ℕ)
     lines = ended_lines cap [] p.run.bytes
 
+    -- where all lines were answered the run is of all lines
     all_run : AnsweredAll run → Turns R.line 1 m lines given.text given.handler None
     all_run all =
         let same = p.lines_are ∙ ap (λ (l : List (List ℕ)). given.lines ++ l) all.0 ∙ append-nil given.lines in
         subst (λ (l : List (List ℕ)). Turns R.line 1 m l given.text given.handler None) (sym same) (rw all.1 at p.answered)
 
+    -- the text of a run that answered all lines is what is due of the bytes so far
     all_text : AnsweredAll run → given.text ≡ D.so_far run.bytes
     all_text all = d.turns lines given.text given.handler (all_run all) ∙ sym (d.so_far run.bytes)
 
     only : run.last ≡ [] → given.text ++ run.last ≡ given.text
     only none = ap (λ (l : List ℕ). given.text ++ l) none ∙ append-nil given.text
 
+    -- after the last line the whole text is out, and what is due of a run that ends well holds
     closed : AnswersLast R cap old new run → (given.text ++ run.last ≡ D.whole run.bytes) × D.Ends (v n) run.bytes
     closed e =
         let c = d.closes run.bytes given.text run.last given.handler n (all_run e.all) e.holds in
         (ap (λ (l : List ℕ). l ++ run.last) (all_text e.all) ∙ c.0, c.1)
 
+    -- at each call for bytes the text of the lines until then was out
     prompt : LogsCalls (λ time. source.calls time.0) a.log.times b.log.times (source.calls a.source) (source.calls b.source)
         (λ time. IsOutSoFar D.so_far (source.left a.source) (source.left time.0) (sink.taken a.sink) (sink.taken time.1))
     prompt = logs-as _ _ _ _ _ _ _ (λ time bytes u.
@@ -102,6 +106,7 @@ module _ {M V F S W : Type 0} {R : LineRules M F} {cap : ℕ} {D : Due V F} {m :
         let more = d.parts f.front (f.line ∷ run.rest) in
         (more.0, ap (λ (l : List ℕ). l ++ more.0) (d.turns f.front given.text f.state f.run) ∙ sym (d.so_far run.bytes ∙ ap d.text (front_of f) ∙ more.1))
 
+    -- a run whose sink failed has put a first part of the text
     cut : {written : ℕ} → IsLeft n run ⊎ AnswersLast R cap old new run → StoppedShort 0 after.failed before.taken after.taken (given.text ++ run.last) written
         → StopsInText D run.bytes before after written
     cut {written} (inl (_, none)) s =
@@ -123,6 +128,7 @@ module _ {M V F S W : Type 0} {R : LineRules M F} {cap : ℕ} {D : Due V F} {m :
         fails = tt;
       }
 
+  -- a run that failed ends as its fault says
   why : (f : ServeFault F) (p : ServedBy R cap old new (Err f) Prompt) → FailsAfter D p.run.bytes before after f × SinkEnds {Value = V} before.failed after.failed (Err f)
   why (WriteFailed written) p = (cut p p.ends p.out, p.out.failed_is)
   why (Handler fault) p = (stops p.ends, p.out.1)
@@ -149,6 +155,7 @@ module _ {M V F S W : Type 0} {R : LineRules M F} {cap : ℕ} {D : Due V F} {m :
 
 -- ==== Sessions
 
+-- the rules of a session as a handler of lines, from what it answers to each
 abbrev pub SessionRules : LineRules Held LiveFault
 SessionRules = rules_of
     (λ m row line n text. (session_of n (row + 1) ≡ next (session_of m row) (said_on row line))
@@ -254,6 +261,7 @@ module _ (T : Type 0) (others : writes.Ghosts T) where
   abbrev M : Type 0
   M = Follower T
 
+  -- the rules of a follower as a handler of lines, from what it writes for each
   abbrev pub FollowRules : LineRules M RunFault
   FollowRules = rules_of (λ m row line n text. IsHandled others m n line × (text ≡ line_output m.shape m.follow_state line))
       (λ m row line n fault. (fault ≡ OutOfMemory) × (length line ≤ 4096) × (n ≡ m))

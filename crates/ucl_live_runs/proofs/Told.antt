@@ -1,45 +1,34 @@
 -- What the answers of a session to one line tell.
 use Rattle.ucl_live_runs.proofs.Common.{Accepted, All, All-append, All-cons, All-get_or, All-head, All-nil, All-tail, AreWords}
-use Rattle.ucl_live_runs.proofs.Common.{AwaitingClubs, AwaitingHeader, Bad, BoardHeader, BoardState, Contains}
-use Rattle.ucl_live_runs.proofs.Common.{Contains-append_left, Contains-append_right, Err, Event, Format, FourFields, HasNumbers}
-use Rattle.ucl_live_runs.proofs.Common.{IfSome, IsAttempt, IsBoardState, IsGroup, IsLegal, IsRoster, IsValid, IsWord, Json}
-use Rattle.ucl_live_runs.proofs.Common.{List, LiveArgs, MatchRecord, Matches, Mends, NamedClub}
-use Rattle.ucl_live_runs.proofs.Common.{NightEvent, None, Nothing, Ok, Open, Option, OtherGroup, Profile, Reached, Refusal}
-use Rattle.ucl_live_runs.proofs.Common.{Request, Result, Said, Screen, Session, Some, Words, [], accepted_value, after}
-use Rattle.ucl_live_runs.proofs.Common.{after_beginning, after_club, after_header, and_parts, answer, answer_at, answer_of}
-use Rattle.ucl_live_runs.proofs.Common.{answer_said, ap, arith, asked_header, attempt_of, bad_slot, board_after}
-use Rattle.ucl_live_runs.proofs.Common.{board_state_at, board_state_now, board_state_with, cases_Bool, club_said, cond_both}
-use Rattle.ucl_live_runs.proofs.Common.{edition_by, edition_screen_value, fits, fold, game_at, header_by, header_said, inl, inr}
-use Rattle.ucl_live_runs.proofs.Common.{is_asked, is_group_row, json_line, leb-true, length, letter_in, moved, named, nat_le}
-use Rattle.ucl_live_runs.proofs.Common.{nat_tests, next, next_at, number_valid, open_at, profile_named, refl, refusal_of}
-use Rattle.ucl_live_runs.proofs.Common.{reply_answer, reply_of, reply_value, request_of, screen_after, screen_answer}
-use Rattle.ucl_live_runs.proofs.Common.{sequential_reply, start_of, subst, sym, true, unwrap_or, version_of, with_roster}
-use Rattle.ucl_live_runs.proofs.Common.{word_at, word_valid, ℕ, ⊤, ◌&&◌, ◌++◌, ◌+◌, ◌-◌, ◌<◌, ◌==◌, ◌^◌, ◌∙◌, ◌∷◌, ◌≡◌, ◌≤◌, ◌⊎◌}
-use Rattle.std.specs.Result.{is_ok}
-use Rattle.std.proofs.lemmas.Grind.{flat_map-append}
-use Rattle.ucl_board.proofs.HistoryTheorems.{board_words, reply_is}
+use Rattle.ucl_live_runs.proofs.Common.{AwaitingClubs, AwaitingHeader, Bad, BoardHeader, BoardState, Contains, Contains-append_left}
+use Rattle.ucl_live_runs.proofs.Common.{Contains-append_right, Err, Event, Fate, Format, FourFields, HasNumbers, IfSome, IsAttempt}
+use Rattle.ucl_live_runs.proofs.Common.{IsBoardState, IsGroup, IsLegal, IsRoster, IsValid, IsWord, Json, Kept, LeftOut, List, LiveArgs}
+use Rattle.ucl_live_runs.proofs.Common.{MatchRecord, Matches, Mend, MendRefusal, Mends, NamedClub, NightEvent, None, Nothing, Ok, Open}
+use Rattle.ucl_live_runs.proofs.Common.{Option, OtherGroup, Profile, Reached, Refusal, Refused, Request, Result, Row, Said, Screen, Session}
+use Rattle.ucl_live_runs.proofs.Common.{Some, StandingEvent, Without, Words, [], accepted_value, after, after_beginning, after_club}
+use Rattle.ucl_live_runs.proofs.Common.{after_header, and_parts, answer, answer_at, answer_of, answer_said, ap, arith, asked_header}
+use Rattle.ucl_live_runs.proofs.Common.{attempt_of, bad_answer, bad_slot, board_after, board_in, board_state_at, board_state_now}
+use Rattle.ucl_live_runs.proofs.Common.{board_state_with, board_words, cases_Bool, club_said, clubs_after, cond_both, edition_by}
+use Rattle.ucl_live_runs.proofs.Common.{edition_reply, edition_screen_value, entered, event_answer, events_after, fate_of, fits}
+use Rattle.ucl_live_runs.proofs.Common.{flat_map-append, fold, game_at, header_by, header_said, history_in, inl, inr, is_asked}
+use Rattle.ucl_live_runs.proofs.Common.{is_group_row, is_ok, json_line, kept_after, kept_by, leb-true, left_by, left_out_by, left_out_lines}
+use Rattle.ucl_live_runs.proofs.Common.{left_out_value, length, letter_in, matches_answer, mend_answer, mend_refused_answer, mended_answer}
+use Rattle.ucl_live_runs.proofs.Common.{mended_stage, mended_value, mended_with, moved, named, nat_le, nat_tests, next, next_at}
+use Rattle.ucl_live_runs.proofs.Common.{number_valid, open_at, profile_named, refl, refusal_of, reply_answer, reply_is, reply_of}
+use Rattle.ucl_live_runs.proofs.Common.{reply_value, request_of, request_stage, row_named, row_number, screen_after, screen_answer}
+use Rattle.ucl_live_runs.proofs.Common.{screen_if, sequential_reply, standing_of, start_of, subst, sym, true, unwrap_or, version_of}
+use Rattle.ucl_live_runs.proofs.Common.{with_roster, word_at, word_valid, words_answer, ℕ, ⊤, ◌&&◌, ◌++◌, ◌+◌, ◌-◌, ◌<◌, ◌==◌, ◌>>=◌, ◌^◌}
+use Rattle.ucl_live_runs.proofs.Common.{◌∙◌, ◌∷◌, ◌≡◌, ◌≤◌, ◌⊎◌}
 use Rattle.ucl_command.proofs.Letters.{asked_letter}
 use Rattle.ucl_command.specs.Groups.{may_be_asked}
-use Rattle.ucl_json.specs.Mended.{left_out_value, mended_value, mended_with}
-use Rattle.ucl_rows.specs.Answers.{bad_answer, matches_answer, words_answer}
-use Rattle.ucl_rows.specs.Rows.{Row}
 use Rattle.ucl_screen.specs.Numbers.{number}
-use Rattle.ucl_screen.specs.Events.{◌>>=◌}
-use Rattle.ucl_live_runs.specs.LiveText.{event_answer, mend_answer, mended_stage, request_stage, screen_if}
-use Rattle.ucl_live_runs.specs.Mended.{entered, fate_of, history_in, kept_after, kept_by, left_by, row_number, standing_of}
 unfoldable use Rattle.ucl_live_runs.specs.Mended.{left_out_after}
-use Rattle.ucl_live_runs.specs.Mends.{board_in, clubs_after, edition_reply, events_after, left_out_by, left_out_lines, mend_refused_answer, mended_answer, row_named}
-use Rattle.ucl_live_runs.specs.declared.mend_refusal.MendRefusal.{MendRefusal}
-use Rattle.ucl_live_runs.specs.declared.request.Mend.{Mend}
-use Rattle.ucl_live_runs.specs.declared.request.Mend.TheVariants.{Without}
-use Rattle.ucl_live_runs.specs.declared.standing.Fate.{Fate}
-use Rattle.ucl_live_runs.specs.declared.standing.Fate.TheVariants.{Kept, Refused}
-use Rattle.ucl_live_runs.specs.declared.standing.LeftOut.{LeftOut}
-use Rattle.ucl_live_runs.specs.declared.standing.StandingEvent.{StandingEvent}
-use Rattle.ucl_live_runs.proofs.AnswerLines.{CarriesAtMost, IsLineThat, IsShown, bad-line, begun-then, board-fits, carried-then, carried_in, found-fits}
+use Rattle.ucl_live_runs.proofs.AnswerLines.{CarriesAtMost, IsLineThat, IsShown, bad-line, begun-then, board-fits, carried-then, carried_in}
+use Rattle.ucl_live_runs.proofs.AnswerLines.{found-fits}
 use Rattle.ucl_live_runs.proofs.AnswerLines.{matches-line, most-as, most-none, most-then, refused-line, value-line, words-line}
 use Rattle.ucl_live_runs.proofs.AnswerValues.{accepted-has, accepted-plain, carried, screen-has, screen-plain}
-use Rattle.ucl_live_runs.proofs.Boards.{IsGood, IsPossible, good-after, good-club, good-clubs, good-first, good-mend, later-edition, possible, ranged, version-after}
+use Rattle.ucl_live_runs.proofs.Boards.{IsGood, IsPossible, good-after, good-club, good-clubs, good-first, good-mend, later-edition}
+use Rattle.ucl_live_runs.proofs.Boards.{possible, ranged, version-after}
 use Rattle.ucl_live_runs.proofs.Entered.{entered-board, entered-legal}
 use Rattle.ucl_live_runs.proofs.FollowShown.{IsOfSame}
 use Rattle.ucl_live_runs.proofs.LeftOuts.{few-left}
@@ -47,13 +36,12 @@ use Rattle.ucl_live_runs.proofs.Lines.{by-line}
 use Rattle.ucl_live_runs.proofs.MendLines.{left-out-line, mend-refused-line, mended-line}
 use Rattle.ucl_live_runs.proofs.Mends.{few}
 
--- ==== What the answer to a line tells: nothing, or the board state after the line, which is that before it or a newer one
-
 -- the first is of the group and order of the second, and of an earlier edition, or of the same one and a lower version
 pub record IsBehind (o m : BoardState) : Type 0 where
   pub same : IsOfSame o.header m.header
   pub less : (o.header.edition < m.header.edition) ⊎ ((o.header.edition ≡ m.header.edition) × (version_of o.board < version_of m.board))
 
+-- the text of an answer tells the board state after it, if any: it is the one before, or it is newer, and the text carries it
 pub record Tells (before : BoardState) (after : Option BoardState) (text : List ℕ) : Type 0 where
   pub most : CarriesAtMost after text
   pub moves : (after ≡ Some before) ⊎ ((m : BoardState) × (after ≡ Some m) × IsBehind before m × Contains (carried_in text) (Some m))
@@ -61,12 +49,12 @@ pub record Tells (before : BoardState) (after : Option BoardState) (text : List 
 pub stays-told : (before : BoardState) (after : Option BoardState) (text : List ℕ) → CarriesAtMost after text → after ≡ Some before → Tells before after text
 stays-told before after text most same = record { most = most; moves = inl same }
 
--- ---- headers that there are
-
+-- a header with a group that there is, and an edition of 16 bits
 pub record IsHeader (header : BoardHeader) : Type 0 where
   pub letter : IsGroup header.group
   pub edition : header.edition ≤ 65535
 
+-- a text that is read as a letter is that of a group
 within : (text : List ℕ) (group : ℕ) → letter_in text ≡ Some group → IsGroup group
 within (b ∷ []) group e = elim (cases_Bool (nat_le 65 b && nat_le b 72)) [
   | inl y ↦
@@ -76,6 +64,7 @@ within (b ∷ []) group e = elim (cases_Bool (nat_le 65 b && nat_le b 72)) [
 ]
 within text group e = cc
 
+-- the header that these fields make, if each was read
 abbrev has_header : Option ℕ → Option Profile → Option ℕ → Option BoardHeader
 has_header a b c = do
   group ← a
@@ -89,6 +78,7 @@ by-parts (Some a) (Some b) (Some c) header h =
     (ap (λ (t : BoardHeader). Some t.group) same, ap (λ (t : BoardHeader). Some t.edition) same)
 by-parts a b c header h = cc
 
+-- a header that a row names is such a header, and so is the one that is asked for, and the one after a row
 said-header : (f : FourFields) (header : BoardHeader) → header_by f ≡ Some header → IsHeader header
 said-header f header h =
     let p = by-parts (letter_in f.second) (profile_named f.third) (edition_by f.fourth) header h in
@@ -109,8 +99,7 @@ row-header : (header : BoardHeader) (r : Said) → IsHeader header → IsHeader 
 row-header header (Row f) is = or-header header (header_by f) is (said-header f)
 row-header _ _ is = is
 
--- ---- events that stand, whose numbers have 64 bits
-
+-- an event that stands, of which all numbers fit 64 bits
 pub record IsSmall (event : StandingEvent) : Type 0 where
   pub row : event.row < 2 ^ 64
   pub game : event.entry.game < 2 ^ 64
@@ -119,6 +108,7 @@ pub record IsSmall (event : StandingEvent) : Type 0 where
 small-row : (row : ℕ) → row_number row < 2 ^ 64
 small-row row = cond_both (nat_le row 4294967295) row 0 (λ n. n < 2 ^ 64) (λ y. grind (arith, nat_tests)) (λ _. omega arith)
 
+-- the numbers of each event that is entered, or kept by a mend, fit 64 bits
 small-entered : (row : ℕ) (events : List StandingEvent) (event : NightEvent) → IsPossible (Event event) → All IsSmall events → All IsSmall (entered row events event)
 small-entered row events event p all =
     let one : IsSmall (standing_of row event) = record { row = small-row row; game = omega (arith, p.0.1); reporter = omega (arith, p.0.0) } in
@@ -138,6 +128,7 @@ small-after : (events : List StandingEvent) (mend : Mend) → All IsSmall events
 small-after events (Without row) all = small-mended row [] events (All-nil IsSmall) all
 small-after events _ all = all
 
+-- the lines of events that a mend leaves out carry no board state
 left-tells : (o : Option BoardState) (row : ℕ) (kept events : List StandingEvent) → All IsSmall events → CarriesAtMost o (left_out_lines (left_out_after row kept events))
 unfolding left_out_after
 left-tells o row kept [] all = most-none o
@@ -161,20 +152,22 @@ without-fits : (mend : Mend) → IsPossible (Mends mend) → IfSome (row_named m
 without-fits (Without row) p = omega (arith, p)
 without-fits _ p = tt
 
--- ---- sessions
-
+-- all events that stand, if the board is open, have numbers of 64 bits
 abbrev pub IsSmallAt : Reached → Type 0
 IsSmallAt (Ok (Open table)) = All IsSmall table.events
 IsSmallAt _ = ⊤
 
+-- what a session has reached, with its header, is in range: it is good, and all numbers fit
 pub record AreSound (header : BoardHeader) (reached : Reached) : Type 0 where
   pub phase : IsGood reached
   pub small : IsSmallAt reached
   pub header_is : IsHeader header
 
+-- a session is sound: its header and its phase are in range
 abbrev pub IsSound : Session → Type 0
 IsSound e = AreSound e.header e.phase
 
+-- a session stays sound after a mend, a request and the rows that name a group and clubs
 sound-mend : (header : BoardHeader) (clubs : List NamedClub) (events : List StandingEvent) (r : Said) (mend : Mend) (reply : Result ℕ MendRefusal) → AreSound header (open_at clubs events)
     → IsPossible (Mends mend) → edition_reply header.edition events mend ≡ reply → AreSound (mended_stage header clubs events r mend reply).header (mended_stage header clubs events r mend reply).phase
 sound-mend header clubs events r mend (Ok edition) g p is = record {
@@ -236,6 +229,7 @@ sound-next e r g = sound-at e e.phase r g
 pub start-sound : (options : LiveArgs) → IsSound (start_of options)
 start-sound options = record { phase = tt; small = tt; header_is = first-header options }
 
+-- the board state with such a header, a roster and the words of a board is one that there can be
 board_state-good : (header : BoardHeader) (clubs : List NamedClub) (board : List ℕ) → IsHeader header → IsRoster clubs → AreWords board →
     IsBoardState (board_state_with header clubs board)
 board_state-good header clubs board t is w = record { letter = t.letter; edition = t.edition; clubs = is; words = w; bits = board-fits board w.each }
@@ -243,13 +237,14 @@ board_state-good header clubs board t is w = record { letter = t.letter; edition
 numbers : (e : NightEvent) → IsPossible (Event e) → HasNumbers e
 numbers e p = record { reporter = omega (arith, p.0.0); game = omega (arith, p.0.1); expected = omega (arith, p.1) }
 
--- ---- the answer to a line
-
+-- answers in JSON, on the board of such a header and such clubs
 module _ (options : LiveArgs) (header : BoardHeader) (row : ℕ) (clubs : List NamedClub) (json : options.format ≡ Json) (fits : row < 2 ^ 64) (good : IsHeader header)
     (is : IsRoster clubs) where
+  -- the board state with this header, these clubs and this board
   abbrev Here : List ℕ → Option BoardState
   Here board = Some (board_state_with header clubs board)
 
+  -- a screen carries the board state of its board, or none
   screen-tells : (board : List ℕ) → AreWords board → CarriesAtMost (Here board) (screen_answer options.format header row clubs board)
   screen-tells board w =
       let m = board_state_with header clubs board in
@@ -260,11 +255,13 @@ module _ (options : LiveArgs) (header : BoardHeader) (row : ℕ) (clubs : List N
   screen-if-tells : (board : List ℕ) → AreWords board → CarriesAtMost (Here board) (screen_if options header row clubs board)
   screen-if-tells board w = cond_both options.screens (screen_answer options.format header row clubs board) [] (CarriesAtMost (Here board)) (λ _. screen-tells board w) (λ _. most-none (Here board))
 
+-- answers in JSON to events and mends, on the board of such a header and such clubs
 module _ (options : LiveArgs) (header : BoardHeader) (row : ℕ) (clubs : List NamedClub) (json : options.format ≡ Json) (fits : row < 2 ^ 64) (good : IsHeader header)
     (is : IsRoster clubs) where
   abbrev At : List ℕ → Option BoardState
   At board = Some (board_state_with header clubs board)
 
+  -- an event on such a board
   module _ (board : List ℕ) (w : AreWords board) (event : NightEvent) (attempted : IsAttempt (attempt_of event)) (small : HasNumbers event) where
     abbrev game_of : List ℕ → MatchRecord
     game_of words = game_at words event.call.game
@@ -287,6 +284,7 @@ module _ (options : LiveArgs) (header : BoardHeader) (row : ℕ) (clubs : List N
     abbrev reply-with : Option Refusal → List ℕ
     reply-with o = json_line (reply_value row event (answer (game_of board).number o) header now clubs)
 
+    -- the reply to an event that is accepted carries the board state after it
     accepted-line : IsLineThat (At now) (reply-with None)
     accepted-line =
         let m = board_state_with header clubs now in
@@ -304,6 +302,7 @@ module _ (options : LiveArgs) (header : BoardHeader) (row : ℕ) (clubs : List N
         refused-line (At now) row event refusal (game_of now) fits small
         (found-fits (word_at board event.call.game) event.call.expected event.call.kind refusal (is-word board w) e) (is-valid now good-now)
 
+    -- the reply to an event, and the screen after it, carry that or none
     reply-tells : (before : ℕ) → CarriesAtMost (At now) (reply_answer options.format header row clubs event before (reply_of (game_of board) event.call) now)
     reply-tells before = rw json (reply-by (refusal_of (game_of board) event.call.expected event.call.kind) refl)
 
@@ -332,12 +331,14 @@ module _ (options : LiveArgs) (header : BoardHeader) (row : ℕ) (clubs : List N
           )
       moved-by (Some refusal) some = inl (rw some refl)
 
+      -- the answer to an event tells the board state after it
       event-answer-tells : Tells (board_state_with header clubs board) (At now) (reply ++ screen)
       event-answer-tells = record {
         most = most-then (At now) reply screen (reply-tells before) (after-tells (refusal_of (game_of board) event.call.expected event.call.kind));
         moves = moved-by (refusal_of (game_of board) event.call.expected event.call.kind) refl;
       }
 
+  -- the board of the events that stand
   module _ (events : List StandingEvent) (legal : IsLegal (history_in events)) (small : All IsSmall events) (said : Said) where
     abbrev At_now : BoardState
     At_now = board_state_with header clubs (board_in events)
@@ -359,6 +360,7 @@ module _ (options : LiveArgs) (header : BoardHeader) (row : ℕ) (clubs : List N
     left-few (Without named) = let a = few-left named events in let b = few events legal in omega (arith, a, b.1)
     left-few _ = omega arith
 
+    -- a mend that is not refused, and names a later edition
     module _ (mend : Mend) (edition : ℕ) (p : IsPossible (Mends mend)) (later : (header.edition < edition) × (edition ≤ 65535)) where
       abbrev new : BoardHeader
       new = record header { edition = edition }
@@ -401,6 +403,7 @@ module _ (options : LiveArgs) (header : BoardHeader) (row : ℕ) (clubs : List N
       parts = carried-then (left ++ line) screen_now (begun-then left line left-told.begun that.begun)
           ∙ ap (λ (os : List (Option BoardState)). os ++ carried_in screen_now) (carried-then left line left-told.begun ∙ ap (λ (os : List (Option BoardState)). carried_in left ++ os) that.carried)
 
+      -- the answer to a mend that is not refused tells the board state after it
       mended-tells : Tells At_now (Some m) ((left ++ line) ++ screen_now)
       mended-tells = record {
         most = most-then (Some m) (left ++ line) screen_now (most-then (Some m) left line left-told (most-as (Some m) (Some m) line that (inr refl))) screen-told;
@@ -413,6 +416,7 @@ module _ (options : LiveArgs) (header : BoardHeader) (row : ℕ) (clubs : List N
         );
       }
 
+    -- the answer to each mend tells the board state after it
     mend-tells : (mend : Mend) (reply : Result ℕ MendRefusal) → IsPossible (Mends mend) → edition_reply header.edition events mend ≡ reply
         → Tells At_now
         (board_state_at (mended_stage header clubs events said mend reply).header (mended_stage header clubs events said mend reply).phase)
@@ -442,6 +446,7 @@ module _ (options : LiveArgs) (header : BoardHeader) (row : ℕ) (clubs : List N
     request-tells Matches shown p short =
         stays-told At_now (Some At_now) (matches_answer options.format row clubs (board_in events)) (rw json (matches-line (Some At_now) row (board_in events) clubs fits is words)) refl
 
+-- a line of a session that is sound
 module _ (e : Session) (r : Said) (shown : List ℕ) (json : e.options.format ≡ Json) (fits : e.row < 2 ^ 64) (g : IsSound e) (short : IsShown shown) where
   request-told : (clubs : List NamedClub) (events : List StandingEvent) → e.phase ≡ open_at clubs events → Tells (board_state_with e.header clubs (board_in events))
       (board_state_now (moved e (request_stage e.header e.row clubs events r (request_of r)))) (answer_of e.options e.header e.row clubs events r (request_of r) shown)
@@ -453,6 +458,7 @@ module _ (e : Session) (r : Said) (shown : List ℕ) (json : e.options.format �
   pub line-tells : CarriesAtMost (board_state_now (next e r)) (answer_said e r shown)
   line-tells = by-line (λ after text. CarriesAtMost (board_state_now after) text) e r shown (λ after. most-none (board_state_now after)) (λ clubs events is. (request-told clubs events is).most)
 
+-- on an open board it tells the board state after it
 pub board-tells : (e : Session) (r : Said) (shown : List ℕ) → e.options.format ≡ Json → e.row < 2 ^ 64 → IsSound e → IsShown shown
     → (clubs : List NamedClub) (events : List StandingEvent) → e.phase ≡ open_at clubs events
     → Tells (board_state_with e.header clubs (board_in events)) (board_state_now (next e r)) (answer_said e r shown)

@@ -1,7 +1,7 @@
 -- What the clubs of a roster are known to be.
-use Rattle.ucl_order.proofs.Common.{All-get_or, IsClub, IsRoster, LentClub, List, Member, NamedClub, None, [], and_parts, arith, bad_slot}
+use Rattle.ucl_order.proofs.Common.{All, All-cons, All-get_or, All-nil, IsClub, IsRoster, LentClub, List, Member, NamedClub, None, [], and_parts, arith, bad_slot}
 use Rattle.ucl_order.proofs.Common.{bad_slot_from, club_lent, is_club, is_name, length, length-map, map, member_seen, members_seen, nat_le}
-use Rattle.ucl_order.proofs.Common.{nat_tests, slice_index_or, subst, true, ℕ, ◌<◌, ◌∷◌, ◌≡◌, ◌≤◌}
+use Rattle.ucl_order.proofs.Common.{cases_Bool, inl, inr, nat_tests, slice_index_or, subst, true, ℕ, ◌+◌, ◌<◌, ◌∷◌, ◌≡◌, ◌≤◌}
 use Rattle.std.proofs.lemmas.List.{get_or-map}
 use Rattle.ucl_order.proofs.Slots.{by_four}
 
@@ -57,3 +57,15 @@ four-lent (e ∷ f ∷ g ∷ h ∷ []) p q r s w x y z n a b c d =
     four-taken (club_lent e) (club_lent f) (club_lent g) (club_lent h) w x y z
     (record { good = a.0; same = a.1 }) (record { good = b.0; same = b.1 }) (record { good = c.0; same = c.1 }) (record { good = d.0; same = d.1 })
 four-lent clubs p q r s w x y z n a b c d = absurd (omega arith)
+
+clubs-good : (slot : ℕ) (clubs : List NamedClub) → bad_slot_from slot clubs ≡ None → All IsClub clubs
+unfolding bad_slot_from
+clubs-good slot [] none = All-nil IsClub
+clubs-good slot (club ∷ clubs) none = elim (cases_Bool (is_club club)) [
+  | inl good ↦ All-cons IsClub club clubs good (clubs-good (slot + 1) clubs (rw good at none))
+  | inr bad ↦ cc (rw bad at none)
+]
+
+-- four clubs of which none is bad are a roster
+pub good_four : (clubs : List NamedClub) → length clubs ≡ 4 → bad_slot clubs ≡ None → IsRoster clubs
+good_four clubs four none = record { four = four; each = clubs-good 1 clubs none }

@@ -25,8 +25,7 @@ points_fall profile ms roster a b (higher_in_tie e h) = grind (arith, nat_tests)
 pub order_falls : (profile : Profile) (ms : List Match) (roster : List NamedClub) → Falls (λ c. points c ms) (order_of profile ms roster)
 order_falls profile ms roster i j d h l = points_fall profile ms roster _ _ (order-pairs profile ms roster i j d h l)
 
--- Which clubs stand in the first two of four, of which none has more than the one before it. --
-
+-- which clubs stand in the first two of four, of which none has a greater key than the one before it
 module _ (key : ℕ → ℕ) (club : ℕ) where
   unfoldable pub reaches : ℕ → Bool
   reaches other = not (other == club) && nat_le (key club) (key other)
@@ -45,6 +44,7 @@ module _ (key : ℕ → ℕ) (club : ℕ) where
       two_reach a b c d (down 0 2 0 (omega arith) (omega arith)) (down 1 2 0 (omega arith) (omega arith)) (down 0 3 0 (omega arith) (omega arith))
       (down 1 3 0 (omega arith) (omega arith)) member few
 
+  -- a club stands there if at most one other has as great a key
   pub in_first_two : (o : List ℕ) → length o ≡ 4 → Falls key o → is_in o club ≡ true → count_by reaches o ≤ 1 → is_in (take 2 o) club ≡ true
   in_first_two o long down member few =
       by_four (λ o. Falls key o → is_in o club ≡ true → count_by reaches o ≤ 1 → is_in (take 2 o) club ≡ true)
@@ -60,26 +60,27 @@ module _ (key : ℕ → ℕ) (club : ℕ) where
       one_passes a b c d (down 0 1 0 (omega arith) (omega arith)) (down 0 2 0 (omega arith) (omega arith)) (down 0 3 0 (omega arith) (omega arith))
       (down 1 2 0 (omega arith) (omega arith)) (down 1 3 0 (omega arith) (omega arith)) member
 
+  -- a club does not stand in the first two of four if two others have a greater key
   pub not_in_first_two : (o : List ℕ) → length o ≡ 4 → Falls key o → 2 ≤ count_by passes o → is_in (take 2 o) club ≡ false
   not_in_first_two o long down many =
       false_from_ne_true _ (λ member.
       let few : count_by passes o ≤ 1 = by_four (λ o. Falls key o → is_in (take 2 o) club ≡ true → count_by passes o ≤ 1) few_pass o long down member in
       omega arith)
 
--- ---- what a group can still become: points only rise, and never above what the club can reach
-
+-- a match that is finished has the state of one
 is_done : (s : State) → is_finished s ≡ true → s ≡ Finished
 is_done s h = search arith
 
--- The points so far and those at the end, match by match. --
-
+-- the matches of these numbers on a board
 board_part : List ℕ → List ℕ → List Match
 board_part board games = map (match_at board) games
 
+-- the points of a club in a completion lie between those that are sure and those that it can reach
 record Between (club : ℕ) (games board later : List ℕ) : Type 0 where
   low : points club (finished (board_part board games)) ≤ points club (started (board_part later games))
   high : points club (started (board_part later games)) ≤ points club (finished (board_part board games)) + 3 * played club (unfinished (board_part board games))
 
+-- which club plays in a match is the same whatever is known of it
 plays_alike : (at_home away : Bool) (h v h' v' : Appearance)
     → plays (if at_home then Some h else (if away then Some v else None)) ≡ plays (if at_home then Some h' else (if away then Some v' else None))
 unfolding plays
@@ -117,8 +118,7 @@ between club (game ∷ games) board later are done =
           record { low = rw (open_now, ended) (omega arith); high = rw (open_now, ended) (omega arith) }
     ]
 
--- Where all matches are finished, a completion is the board itself. --
-
+-- in a completion of a board on which all matches are finished each match is as on the board
 all_kept : (games board later : List ℕ) → All IsMatch games → IsCompletion board later
     → list_all has_finished (map (match_at board) games) ≡ true → map (match_at later) games ≡ map (match_at board) games
 all_kept [] board later are done all = refl
@@ -157,8 +157,7 @@ pass_stronger : (last_club last_other reach_club sure_other : ℕ) (b : Bool) �
     → sure_other ≤ last_other → (b && nat_lt reach_club sure_other) ≡ true → (b && nat_lt last_club last_other) ≡ true
 pass_stronger p q r s b l h e = grind (arith, nat_tests, cases_Bool b)
 
--- Sure points never fall, and never pass what the club can reach. --
-
+-- whether a club is among the first two of an order
 through_if : (order : List ℕ) (club : ℕ) → is_in (take 2 order) club ≡ true → Contains (take 2 order) club
 through_if order club h = Contains-from_any {eq = λ x y. y == x} (λ x y e. sym (eqb-true y x e)) club (take 2 order) h
 
@@ -167,6 +166,7 @@ not_through_if order club h found =
     let there : is_in (take 2 order) club ≡ true = list_any_at (λ c. c == club) (take 2 order) found.0 club found.1 (eq-eqb _ _ found.2) in
     absurd (cc)
 
+-- a completion of the board
 module _ (profile : Profile) (board later : List ℕ) (done : IsCompletion board later) (roster : List NamedClub) where
   low : (club : ℕ) → sure_points (matches_of board) club ≤ final_points later club
   unfolding final_points matches_of board_part
@@ -181,6 +181,7 @@ module _ (profile : Profile) (board later : List ℕ) (done : IsCompletion board
       let found = Contains-permutation all_clubs (order_of profile (started_of later) roster) club (order_permutes profile (started_of later) roster) (a_club club slot) in
       list_any_at (λ c. c == club) (order_of profile (started_of later) roster) found.0 club found.1 (eq-eqb _ _ found.2)
 
+  -- a club with at most one rival stands in the first two
   through : (club : ℕ) → IsSlot club → rivals (matches_of board) club ≤ 1 → is_in (take 2 (order_of profile (started_of later) roster)) club ≡ true
   unfolding final_points reaches
   through club slot few =
@@ -196,6 +197,7 @@ module _ (profile : Profile) (board later : List ℕ) (done : IsCompletion board
       in_first_two key club (order_of profile (started_of later) roster) long (order_falls profile (started_of later) roster)
       (member club slot) (omega arith)
 
+  -- a club of which two others are out of reach does not
   out : (club : ℕ) → 2 ≤ out_of_reach (matches_of board) club → is_in (take 2 (order_of profile (started_of later) roster)) club ≡ false
   unfolding final_points passes
   out club many =
@@ -231,13 +233,13 @@ module _ (profile : Profile) (board later : List ℕ) (done : IsCompletion board
         | inr many ↦ out club (leb-true _ _ many)
       ])
 
--- ---- the rows, from what the calls answered
-
+-- the order that the code found, from the matches that it saw, is that of the board
 pub order_is : (profile : Profile) (board : List ℕ) (roster : List NamedClub) (now : List Match) (order : List ℕ)
     → now ≡ started_of board → order ≡ order_of profile now roster → order ≡ order_of profile (started_of board) roster
 unfolding order_of
 order_is profile board roster now order is_now is = rw (is, is_now)
 
+-- the row that the code made of each place is that of the board
 pub row_of_place : (profile : Profile) (board : List ℕ) (roster : List NamedClub) (place : ℕ) (ms given : List Match) (order : List ℕ) (r : Row)
     → ms ≡ matches_of board → given ≡ ms → order ≡ order_of profile (started_of board) roster → (let slot = slice_index order (place - 1) in
     r ≡ row_with place slot (mark_by given order slot) (started given)) → r ≡ row_of profile board roster place
@@ -268,8 +270,7 @@ module _ (profile : Profile) (board : List ℕ) (roster : List NamedClub) where
   pub all_certain : All IsWithinTable (rows_of profile board roster) → All (MarkIsCertain profile board roster) (rows_of profile board roster)
   all_certain within i d below = certain (get_or (rows_of profile board roster) i d) (within i d below) (all_marked i d below)
 
--- ---- the marks, from what the calls answered
-
+-- before all matches are finished the marks of four clubs are early ones
 pub early_marks : (ms : List Match) (order : List ℕ) (a b c d : Mark) → length order ≡ 4 → list_all has_finished ms ≡ false →
     a ≡ early_mark ms (get_or order 0 0) → b ≡ early_mark ms (get_or order 1 0) → c ≡ early_mark ms (get_or order 2 0) → d ≡ early_mark ms (get_or order 3 0) →
     ◌≡◌ {A = List Mark} (a ∷ b ∷ c ∷ d ∷ []) (map (mark_by ms order) order)

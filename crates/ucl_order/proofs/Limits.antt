@@ -12,17 +12,17 @@ use Rattle.ucl_order.proofs.KeysFit.{FitsKeys}
 use Rattle.ucl_order.proofs.Classes.{order_permutes}
 use Rattle.ucl_order.proofs.Slots.{all-four, pairings, slots}
 
--- One match more in front. --
-
 -- how many matches, and how many points, a club has by one match
 unfoldable pub plays : Option Appearance → ℕ
 plays None = 0
 plays (Some a) = 1
 
+-- how many points a club has by one match
 unfoldable pub gains : Option Appearance → ℕ
 gains None = 0
 gains (Some a) = 3 * cond (is_won a) 1 0 + cond (is_drawn a) 1 0
 
+-- with one match more in front a club has played, and won, so much more
 played_one : (o : Option Appearance) (games : List Appearance) → length (cons_option o games) ≡ plays o + length games
 unfolding plays
 played_one o games = search arith
@@ -52,14 +52,13 @@ pub points-le : (club : ℕ) (ms : List Match) → points club ms ≤ 3 * played
 points-le club [] = omega arith
 points-le club (m ∷ ms) = omega (arith, played-cons club m ms, points-cons club m ms, gains-le (seen_by club m), points-le club ms)
 
--- Some of the matches. --
-
 -- where each match adds its part, some of the matches give no more than all
 pub filter-less : (f : List Match → ℕ) (part : Match → ℕ) → ((m : Match) (ms : List Match) → f (m ∷ ms) ≡ part m + f ms)
     → (p : Match → Bool) (ms : List Match) → f (filter p ms) ≤ f ms
 filter-less f part more p [] = omega arith
 filter-less f part more p (m ∷ ms) = search (arith, filter-less f part more p ms, more m ms, more m (filter p ms))
 
+-- some of the matches are no more than all
 pub played-filter : (p : Match → Bool) (club : ℕ) (ms : List Match) → played club (filter p ms) ≤ played club ms
 played-filter p club ms = filter-less (played club) (λ m. plays (seen_by club m)) (played-cons club) p ms
 
@@ -74,15 +73,14 @@ pub six : (board : List ℕ) (club : ℕ) → IsSlot club → played club (match
 unfolding matches_of
 six board club slot = each_slot (λ c. played c (matches_of board) ≡ 6) refl refl refl refl club slot
 
--- Goals and cards. --
-
--- at most 63 goals on either side, 63 yellow cards that stand and 31 expulsions
+-- at most 63 goals on either side, 63 yellow cards that stand and 31 expulsions, which are the numbers of one match of a club
 pub record AreFew (a : Appearance) : Type 0 where
   pub scored : a.scored ≤ 63
   pub conceded : a.conceded ≤ 63
   pub yellows : a.yellows ≤ 63
   pub expulsions : a.expulsions ≤ 31
 
+-- all appearances of a club in matches of valid records have at most these numbers
 few_one : (o : Option Appearance) (games : List Appearance) → ((a : Appearance) → o ≡ Some a → AreFew a) → All AreFew games → All AreFew (cons_option o games)
 few_one o games h rest = search (arith, All-cons AreFew, h, rest)
 
@@ -100,8 +98,7 @@ all_few club [] h = All-nil AreFew
 all_few club (m ∷ ms) h =
     few_one (seen_by club m) (appearances club ms) (λ a e. seen_few club m a (All-head HasScore m ms h) e) (all_few club ms (All-tail HasScore m ms h))
 
--- Away matches. --
-
+-- how many away matches a club has by one match
 unfoldable visits : Option Appearance → ℕ
 visits None = 0
 visits (Some a) = cond a.is_away 1 0
@@ -116,11 +113,10 @@ visits-cons club m ms = visits_one (seen_by club m) (appearances club ms)
 visits-filter : (p : Match → Bool) (club : ℕ) (ms : List Match) → length (away_matches club (filter p ms)) ≤ length (away_matches club ms)
 visits-filter p club ms = filter-less (λ l. length (away_matches club l)) (λ m. visits (seen_by club m)) (visits-cons club) p ms
 
+-- each club has three away matches
 three : (board : List ℕ) (club : ℕ) → IsSlot club → length (away_matches club (matches_of board)) ≡ 3
 unfolding matches_of
 three board club slot = each_slot (λ c. length (away_matches c (matches_of board)) ≡ 3) refl refl refl refl club slot
-
--- Some of a club's matches, each of a valid record. --
 
 few_cards : (y e : ℕ) → y ≤ 63 → e ≤ 31 → y + 3 * e ≤ 156
 few_cards y e h k = omega arith
@@ -145,8 +141,7 @@ fits club ms valid most away =
     let three_each : points club ms ≤ 3 * played club ms = points-le club ms in
     search arith
 
--- Matches of a group. --
-
+-- the matches of a board are of a group: each of two different clubs, each club in six, three of them away
 pub group_of_board : (board : List ℕ) → All HasScore (matches_of board) → AreOfGroup (matches_of board)
 unfolding matches_of
 group_of_board board valid = record {
@@ -188,8 +183,7 @@ module _ (ms : List Match) (group : AreOfGroup ms) where
 pub group_started : (board : List ℕ) → All HasScore (matches_of board) → AreOfGroup (started_of board)
 group_started board valid = group_filter has_started (matches_of board) (group_of_board board valid)
 
--- The rows of the table. --
-
+-- a row of results that fit the fields is within the limits of the table
 within_table : (place slot : ℕ) (mark : Mark) (r : Results) → IsSlot slot → FitsFields r → IsWithinTable (row_by place slot mark r)
 within_table place slot mark r is_slot f = search arith
 
@@ -202,6 +196,7 @@ module _ (profile : Profile) (board : List ℕ) (roster : List NamedClub) (valid
       let slot : IsSlot (slice_index order (place - 1)) = All-permutation IsSlot all_clubs order (order_permutes profile (started_of board) roster) slots (place - 1) 0 (omega arith) in
       within_table place (slice_index order (place - 1)) _ _ slot (fits_group (started_of board) (group_started board valid) (slice_index order (place - 1)) slot)
 
+  -- the four rows of a board of valid words are within the limits of the table
   pub rows_within : All IsWithinTable (rows_of profile board roster)
   rows_within = all-four IsWithinTable _ _ _ _ (row_within 1 (omega arith) (omega arith)) (row_within 2 (omega arith) (omega arith))
       (row_within 3 (omega arith) (omega arith)) (row_within 4 (omega arith) (omega arith))

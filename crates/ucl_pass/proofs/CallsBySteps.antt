@@ -10,8 +10,7 @@ use Rattle.std.proofs.lemmas.List.Sums.{fold-append}
 use Rattle.ucl_board.specs.Log as logs
 use Rattle.ucl_board.specs.Log.{Enlists, Whole}
 use Rattle.ucl_board.specs.declared.reading.Reading.{Reading}
-use Rattle.ucl_board.proofs.Logs.{legal_history}
-use Rattle.ucl_board.proofs.Logs.{history_on}
+use Rattle.ucl_board.proofs.Logs.{legal_history, history_on}
 use Rattle.ucl_live_board.proofs.CallsBySteps.{adds_continue, enlists, meets, stays_continue}
 use Rattle.ucl_live_board.proofs.StepFacts as facts
 use Rattle.ucl_live_board.proofs.StepFacts.{Goes, Sees, Adds, GivesNumber, sound}
@@ -23,7 +22,7 @@ use Rattle.ucl_pass.specs.CellCalls.{Accepts, HasNumberLeft, LoadsAtLast, LostTr
 use Rattle.ucl_pass.specs.CellRecords.{CellSplit, IsCellPassOf}
 use Rattle.ucl_pass.proofs.InvariantIsKept.{match_words, last_word}
 
--- just after a step
+-- a pass took one step, from the view v to the view w: it found the words x, and left the words y
 module _ (target : Target) (entry : Option Entry) (v w : View) (x y : List ℕ) (s : CellStep target entry v x y w) where
   pub goes : Goes v w
   goes = facts.goes words_after IsLegalStep s.seat target v w s.steps (λ log is legal. legal)
@@ -34,6 +33,7 @@ module _ (target : Target) (entry : Option Entry) (v w : View) (x y : List ℕ) 
   pub are_words : AreWords (take 12 y)
   are_words = subst AreWords (sym board_seen) (board_words (history_of w.log) goes.legal)
 
+  -- the last step of the log that it knows is its own
   pub up_to_date : IsUpToDate w
   up_to_date = record {
     before = s.steps.before;
@@ -50,11 +50,13 @@ module _ (target : Target) (entry : Option Entry) (v w : View) (x y : List ℕ) 
   pub one_act : count_of w ≡ count_of v + 1
   one_act = takes_count v w (one_taken.0 ∷ []) one_taken.1
 
+  -- the versions that it has read are those before the step, and what the step made of them
   pub shown_then : versions_loaded w.own ≡ shown_after target s.steps.step.at (versions_loaded v.own)
   shown_then = ap versions_loaded (facts.own_is words_after IsLegalStep s.seat target v w s.steps)
       ∙ (fold-append (λ (shown : List ℕ) (t : Taken). shown_after t.target t.at shown) [] v.own (s.steps.step ∷ [])
       ∙ ap (λ (t : Target). shown_after t s.steps.step.at (versions_loaded v.own)) s.steps.of)
 
+  -- a step that added no entry and enlisted no one saw what is there after it too
   pub sees : entry ≡ None → length (logs.enlists target) ≡ 0 → Sees target v w
   sees none few = facts.sees words_after IsLegalStep s.seat target v w s.steps (λ log is legal. legal) (s.entry_is ∙ none) few
 
@@ -76,6 +78,7 @@ module _ (v w u : View) (x : List ℕ) (before : Looked v w) (looked : LooksOnly
   acts_more : count_of v < count_of u
   acts_more = let a = before.acts in let b = one_act (Whole false) None w u x x looked in omega arith
 
+  -- the pass has made such steps since v then too
   pub looked_more : Looked v u
   looked_more = record {
     stays = stays_more v w u (Whole false) before.stays looks;
@@ -84,6 +87,7 @@ module _ (v w u : View) (x : List ℕ) (before : Looked v w) (looked : LooksOnly
     share = looks.goes.acts;
   }
 
+  -- what holds of a pass after each call holds
   look_continues : Continues (cell_pass_view v) (cell_pass_view u)
   look_continues = stays_continue versions_loaded v w u looked_more.stays looks.goes
 
@@ -93,6 +97,7 @@ pub record Tried (GoesOn : View → Type 0) (v w : View) : Type 0 where
   pub lost : ℕ
   pub tries : LostTries GoesOn lost v w
 
+-- before the first try none was lost
 pub tried_none : (GoesOn : View → Type 0) (v : View) → IsSome v.share → Tried GoesOn v v
 tried_none GoesOn v share = record {
   looked = record { stays = stays_none v; shown = refl; acts = le_refl (count_of v); share = share };
@@ -100,11 +105,11 @@ tried_none GoesOn v share = record {
   tries = refl;
 }
 
--- it replies as a board of one thread
+-- the reply that the rules give to this event on any board of these words
 abbrev Replies : EventCall → List ℕ → Result Accepted Refusal → Type 0
 Replies call x reply = (history : List Entry) → IsLegal history → board_of history ≡ take 12 x → reply ≡ sequential_reply history call
 
--- an exchange that was won, and one that was missed
+-- the exchange of a call that expects the words x: one that answers Ok was won, and one that answers Err was missed
 module _ (Stores : View → List ℕ → List ℕ → View → Type 0) (v w : View) (x next : List ℕ) (r : Result (List ℕ) (List ℕ)) where
   won : Exchanges Stores v x next r w → is_ok r ≡ true → Stores v x next w
   won m is = search (arith, true≢false)
@@ -112,6 +117,7 @@ module _ (Stores : View → List ℕ → List ℕ → View → Type 0) (v w : Vi
   missed : Exchanges Stores v x next r w → is_ok r ≡ false → (y : List ℕ) × (y ≢ x) × LooksOnly v y y w
   missed m is = search (arith, true≢false)
 
+-- an enlistment that was won gave its pass the number after that of the words
 pub reporter_number : (v w : View) (x next : List ℕ) (r : Result (List ℕ) (List ℕ)) → Exchanges StoresReporter v x next r w → is_ok r ≡ true → number_of w.own ≡ slice_index x 12 + 1
 reporter_number v w x next r m ok =
     let s = won StoresReporter v w x next r m ok in (facts.enlisted words_after IsLegalStep s.seat (slice_index x 12) v w s.steps (λ log is legal. legal)).number
@@ -129,6 +135,7 @@ tries_again GoesOn Stores v w u z x next r tried looked goes_on exchanged not =
 
 -- a load of the words x: the reply of the rules after it, and whether a number is left
 module _ (w u : View) (x : List ℕ) (looked : LooksOnly w x x u) where
+  -- the reply is that of the rules after all events that the pass has seen
   pub replied : (call : EventCall) (reply : Result Accepted Refusal) → Replies call x reply → sequential_reply (history_of u.log) call ≡ reply
   replied call reply said =
       sym (said (history_of u.log) (goes (Whole false) None w u x x looked).legal (sym (board_seen (Whole false) None w u x x looked)))
@@ -146,9 +153,9 @@ module _ (w u : View) (x : List ℕ) (looked : LooksOnly w x x u) where
 at_last : (GoesOn : View → Type 0) (v w u : View) (x : List ℕ) → Tried GoesOn v w → LooksOnly w x x u → LoadsAtLast GoesOn v x u
 at_last GoesOn v w u x tried looked = record { lost = tried.lost; between = w; tries = tried.tries; loads = looked }
 
--- the last try of a report by a pass of this board: a load of the words x
+-- the last try of a report by a pass of this board, which loads the words x after tries that were lost
 module _ (board same : TableId) (own : same ≡ board) (call : EventCall) (v w u : View) (x : List ℕ) (tried : Tried (Accepts call) v w) (looked : LooksOnly w x x u) where
-  -- the rules refuse
+  -- if the rules refuse the event on these words, the report is refused as promised
   pub refused_report : (refusal : Refusal) → Replies call x (Err refusal)
       → CellReported (record { board = board; view = v }) call (Err refusal) (record { board = same; view = u })
   refused_report refusal said =
@@ -167,7 +174,7 @@ module _ (board same : TableId) (own : same ≡ board) (call : EventCall) (v w u
         occurs = (looked.seat, looked.steps.occurs);
       }
 
-  -- they accept, and the exchange after the load is won
+  -- if they accept it, and the exchange after the load is won, it is accepted as promised
   pub accepted_report : (z : View) (next : List ℕ) (r : Result (List ℕ) (List ℕ)) (reply : Accepted) → Exchanges (StoresEvent call) u x next r z → is_ok r ≡ true
       → Replies call x (Ok reply) → CellReported (record { board = board; view = v }) call (Ok reply) (record { board = same; view = z })
   accepted_report z next r reply exchanged ok said =
@@ -208,9 +215,9 @@ module _ (board same : TableId) (own : same ≡ board) (call : EventCall) (v w u
         occurs = (stored.seat, stored.steps.occurs);
       }
 
--- and of an enlistment
+-- the last try of an enlistment, which loads the words x after tries that were lost
 module _ (board same : TableId) (own : same ≡ board) (v w u : View) (x : List ℕ) (tried : Tried HasNumberLeft v w) (looked : LooksOnly w x x u) where
-  -- as many are enlisted as there are numbers
+  -- if they count as many reporters as there are numbers, the pass comes back as promised
   pub was_full : 255 ≤ slice_index x 12 → CellFull (record { board = board; view = v }) (record { board = same; view = u })
   was_full many =
       let was = looked_more v w u x tried.looked looked in
@@ -228,7 +235,7 @@ module _ (board same : TableId) (own : same ≡ board) (v w u : View) (x : List 
         occurs = (looked.seat, looked.steps.occurs);
       }
 
-  -- the exchange after the load is won
+  -- if the exchange after the load is won, the pass is enlisted as promised
   pub was_enlisted : (z : View) (next : List ℕ) (r : Result (List ℕ) (List ℕ)) → Exchanges StoresReporter u x next r z → is_ok r ≡ true
       → CellEnlisted (record { board = board; view = v }) (record { board = same; view = z })
   was_enlisted z next r exchanged ok =
@@ -247,13 +254,13 @@ module _ (board same : TableId) (own : same ≡ board) (v w u : View) (x : List 
         occurs = (stored.seat, stored.steps.occurs);
       }
 
--- the words of the next board, with the number of the enlisted
+-- words whose first twelve are those of the next board, and the last the number of the enlisted, are the words after the entry
 pub next_words : (x board next : List ℕ) (e : Entry)
     → ((history : List Entry) → IsLegal history → board_of history ≡ take 12 x → (board ≡ board_of (followed_by history e)) × IsLegal (followed_by history e))
     → next ≡ board ++ slice_index x 12 ∷ [] → IsNextBoard e x next
 next_words x board next e counted is n h legal words = search (arith, match_words, last_word)
 
--- a reading
+-- a reading by one load of the words x, of which the first twelve are its board
 module _ (v w : View) (x : List ℕ) (reading : Reading) (shows : LooksAndShows v x x w) (is : reading ≡ reading_of (take 12 x)) where
   loads : Sees (Whole true) v w
   loads = sees (Whole true) None v w x x shows refl refl
@@ -264,6 +271,7 @@ module _ (v w : View) (x : List ℕ) (reading : Reading) (shows : LooksAndShows 
   version_seen : reading.version ≡ length (history_of w.log)
   version_seen = ap (λ (r : Reading). r.version) is ∙ (ap version_of board_is ∙ (versions (history_of w.log) loads.goes.legal).0)
 
+  -- a reading by one load is what contracts say of every reading
   read_says : SharedReading (cell_pass_view v) reading (cell_pass_view w)
   read_says =
       let low = begins_length (history_of v.log) (history_of w.log) loads.goes.seen in
@@ -279,6 +287,7 @@ module _ (v w : View) (x : List ℕ) (reading : Reading) (shows : LooksAndShows 
             ∙ ap (λ (k : ℕ). versions_loaded v.own ++ k ∷ []) (now_is (Whole true) None v w x x shows refl ∙ sym version_seen);
       }
 
+  -- a reading by one load is what a cell board promises
   pub was_read : (board : TableId) (same : TableId) → same ≡ board → CellRead (record { board = board; view = v }) reading (record { board = same; view = w })
   was_read board same own = record {
     own = own;
@@ -293,7 +302,7 @@ module _ (v w : View) (x : List ℕ) (reading : Reading) (shows : LooksAndShows 
     occurs = (shows.seat, shows.steps.occurs);
   }
 
--- a note of a pass was joined to another, which then loaded the words
+-- a pass k took in a note of the pass a and then loaded the words: the two have met as promised
 pub was_met : (a b k m : CellPass) (x : List ℕ) → b ≡ a → m.board ≡ k.board → IsSound (cell_pass_view a.view) → LooksOnly (told_pass k.view (note_pass a.view)) x x m.view → CellMet a b k m
 was_met a b k m x same own sound_first looked =
     let v = k.view in
@@ -311,7 +320,7 @@ was_met a b k m x same own sound_first looked =
       occurs = (looked.seat, looked.steps.occurs);
     }
 
--- a second pass was split off
+-- a split makes the passes that a cell board promises
 pub was_split : (k m n : CellPass) → IsSound (cell_pass_view k.view) → m.board ≡ k.board → n.board ≡ k.board → m.view ≡ left_pass k.view
     → n.view ≡ second_pass k.view → CellSplit k m n
 was_split k m n sound own other left given = record {

@@ -13,8 +13,7 @@ use Rattle.ucl_live_board.proofs.InvariantIsKept.{takes_step, words_stay, words_
 use Rattle.ucl_live_board.proofs.InvariantIsKept.{opens_keep}
 use Rattle.ucl_pass.specs.CellInvariants.{CellOccurs}
 
--- the thirteen words
-
+-- of the thirteen words the first twelve are the board, and the last says how many reporters are enlisted
 pub match_words : (h : List Entry) (n : ℕ) → take 12 (words_after h n) ≡ board_of h
 unfolding board_of
 match_words h n = refl
@@ -27,17 +26,18 @@ more_words : (h : List Entry) (n : ℕ) → with_one_more (words_after h n) ≡ 
 unfolding board_of
 more_words h n = refl
 
+-- an entry changes the words, and so does one reporter more
 entry_differs : (h : List Entry) (n : ℕ) (e : Entry) → IsLegal (followed_by h e) → words_after h n ≢ words_after (followed_by h e) n
 entry_differs h n e legal same = search (arith, match_words h n, match_words (followed_by h e) n, one_word h e legal)
 
 reporter_differs : (h : List Entry) (n : ℕ) → words_after h n ≢ words_after h (n + 1)
 reporter_differs h n same = let e : n ≡ n + 1 = sym (last_word h n) ∙ (ap (λ (l : List ℕ). slice_index l 12) same ∙ last_word h (n + 1)) in omega arith
 
--- the exchange, by whether the words are those that were expected
+-- P holds after an exchange if it holds where the words were those that were expected, and where they were others
 by_exchange : (current next : List ℕ) (P : List ℕ → List ℕ → Type 0) (x : List ℕ) → (x ≡ current → P x next) → (x ≢ current → P x x) → P x (if pointwise nat_eq x current then next else x)
 by_exchange current next P x hit miss = search (arith, pointwise, nat_eq, bytes_decides, true≢false)
 
--- one pass takes one step
+-- one pass takes one step, at its seat in a state that satisfies the invariant
 module _ (x : List ℕ) (views : List View) (r : CellInvariant x views) (seat : ℕ) (v : View) (here : get_elem? views seat ≡ some v) (acts : IsSome v.share) where
   number_is : number_of v.own ≡ number_of (taken_by seat r.log)
   number_is = ap number_of (r.fits seat v here).own.1
@@ -45,6 +45,7 @@ module _ (x : List ℕ) (views : List View) (r : CellInvariant x views) (seat : 
   abbrev taken : Target → Option Entry → Taken
   taken target entry = step_taken target (length r.log) (length (history_of r.log)) entry
 
+  -- a step that may come next, after which the words fit the log, keeps the invariant
   one_step : (target : Target) (entry : Option Entry) (y : List ℕ) → IsThere r.log target → MayAdd (history_of r.log) (number_of (taken_by seat r.log)) entry
       → MayEnlist (number_of (taken_by seat r.log)) target entry
       → y ≡ words_after (history_of (r.log ++ logged_by seat (taken target entry) ∷ [])) (enlisted_by (r.log ++ logged_by seat (taken target entry) ∷ []))
@@ -54,11 +55,11 @@ module _ (x : List ℕ) (views : List View) (r : CellInvariant x views) (seat : 
       (record { adds = adds; enlists = enlists }) are in
       (t.0, t.1, record { seat = seat; steps = t.2; entry_is = refl; found = r.words_are; left = are })
 
-  -- that stores nothing
+  -- a load, and an exchange that stores nothing, keep it
   load : (shown : Bool) → (w : View) × CellInvariant x (set views seat w) × CellStep (Whole shown) None v x x w
   load shown = one_step (Whole shown) None x tt tt tt (words_stay words_after IsLegalStep x views r seat v here (taken (Whole shown) None) refl refl)
 
-  -- that stores an event
+  -- an exchange that stores an event keeps it, if the words that it puts are those after the entry
   store : (next : List ℕ) (e : EventCall) → IsNextBoard (entry_at v e) x next → (w : View) × CellInvariant next (set views seat w) × MayStore (StoresEvent e) v x next w
   store next e is =
       let h = history_of r.log in
@@ -68,7 +69,7 @@ module _ (x : List ℕ) (views : List View) (r : CellInvariant x views) (seat : 
       (next_is.0 ∙ words_entered words_after IsLegalStep x views r seat v here (taken (Whole false) (Some entry)) entry refl refl) in
       (t.0, t.1, inr (λ same. entry_differs h (enlisted_by r.log) entry next_is.1 (sym r.words_are ∙ (same ∙ next_is.0)), t.2))
 
-  -- that stores an enlistment
+  -- an exchange that stores one reporter more keeps it, for a pass with no number and if fewer than 255 are enlisted
   enlisting : number_of v.own ≡ 0 → slice_index x 12 < 255 → (w : View) × CellInvariant (with_one_more x) (set views seat w) × MayStore StoresReporter v x (with_one_more x) w
   enlisting reader room =
       let h = history_of r.log in
@@ -79,12 +80,14 @@ module _ (x : List ℕ) (views : List View) (r : CellInvariant x views) (seat : 
       (more ∙ words_enlisted words_after IsLegalStep x views r seat v here (taken target None) refl refl) in
       (t.0, t.1, inr (λ same. reporter_differs h (enlisted_by r.log) (sym r.words_are ∙ (same ∙ more)), t.2))
 
+-- the cell allows a pass with a share a load that is no reading, and one that is
 pub looks : (seat : ℕ) (v : View) → IsSome v.share → Turns CellInvariant seat v (λ x. x) LooksOnly
 looks seat v acts x views r here = load x views r seat v here acts false
 
 pub reads : (seat : ℕ) (v : View) → IsSome v.share → Turns CellInvariant seat v (λ x. x) LooksAndShows
 reads seat v acts x views r here = load x views r seat v here acts true
 
+-- the cell allows an exchange of the words before an entry for those after it
 pub adds : (seat : ℕ) (v : View) (e : EventCall) (current next : List ℕ) → IsSome v.share → IsNextBoard (entry_at v e) current next
     → Turns CellInvariant seat v (λ x. if pointwise nat_eq x current then next else x) (MayStore (StoresEvent e))
 adds seat v e current next acts is x views r here =
@@ -92,6 +95,7 @@ adds seat v e current next acts is x views r here =
     (λ same. store x views r seat v here acts next e (subst (λ (ws : List ℕ). IsNextBoard (entry_at v e) ws next) (sym same) is))
     (λ _. let l = load x views r seat v here acts false in (l.0, l.1, inl (refl, l.2)))
 
+-- the cell allows an exchange for the words with one reporter more, for a pass with no number
 pub enlists : (seat : ℕ) (v : View) (current next : List ℕ) → IsSome v.share → number_of v.own ≡ 0 → slice_index current 12 < 255 → next ≡ with_one_more current
     → Turns CellInvariant seat v (λ x. if pointwise nat_eq x current then next else x) (MayStore StoresReporter)
 enlists seat v current next acts reader room is x views r here =
@@ -104,9 +108,11 @@ enlists seat v current next acts reader room is x views r here =
 pub begins : (words : List ℕ) → words ≡ words_after [] 0 → CellInvariant words (first_pass ∷ [])
 begins words are = opens_keep words_after IsLegalStep words are
 
+-- the pass of a board that opens so occurs
 pub opened_occurs : CellOccurs first_pass
 opened_occurs = (0, record { words = words_after [] 0; views = first_pass ∷ []; rule = begins (words_after [] 0) refl; here = refl })
 
+-- a split keeps the invariant, and so do the making of a note and the taking in of a note by another pass
 pub seconds : (seat : ℕ) (v : View) → Forks CellInvariant seat v (left_pass v) (second_pass v)
 seconds seat v x views r here = seconds_keep words_after IsLegalStep x views r seat v here
 
@@ -116,18 +122,20 @@ notes seat v x views r here = notes_keep words_after IsLegalStep x views r seat 
 pub joins : (seat : ℕ) (v : View) (other : ℕ) (a : View) → Merges CellInvariant seat v other (note_pass a) (told_pass v (note_pass a)) new_pass
 joins seat v other a x views r here apart there = joins_keep words_after IsLegalStep x views r seat v here other (note_pass a) apart there refl
 
--- what an exchange says by its answer
-
+-- words that differ by the test differ
 other_words : (x current : List ℕ) → pointwise nat_eq x current ≡ false → x ≢ current
 other_words x current not is = true≢false (sym ((bytes_decides x current).1 is) ∙ not)
 
+-- an exchange that left the words as it found them stored nothing
 missed_by : (Stores : View → List ℕ → List ℕ → View → Type 0) (v w : View) (x : List ℕ) → MayStore Stores v x x w → LooksOnly v x x w
 missed_by Stores v w x (inl t) = t.1
 missed_by Stores v w x (inr t) = absurd (t.0 refl)
 
+-- what is known of an exchange, by its answer: it found the words that it expected and left `next`, or it found others and left them
 abbrev pub Answers : (View → List ℕ → List ℕ → View → Type 0) → View → List ℕ → List ℕ → Result (List ℕ) (List ℕ) → View → Type 0
 Answers tells v current next r w = MatchResult r (λ x. (pointwise nat_eq x current ≡ true) × tells v x next w) (λ x. (pointwise nat_eq x current ≡ false) × tells v x x w)
 
+-- an exchange that is to enter an event entered it if it answers Ok, and else stored nothing
 pub add_says : (e : EventCall) (v w : View) (current next : List ℕ) (r : Result (List ℕ) (List ℕ)) → IsNextBoard (entry_at v e) current next → Answers (MayStore (StoresEvent e)) v current next r w
     → Exchanges (StoresEvent e) v current next r w
 add_says e v w current next (Ok x) is said = by ((bytes_decides x current).0 said.0) said.1
@@ -141,6 +149,7 @@ add_says e v w current next (Ok x) is said = by ((bytes_decides x current).0 sai
     by same (inr t) = (same, subst (λ (y : List ℕ). StoresEvent e v y next w) same t.1)
 add_says e v w current next (Err x) is said = (other_words x current said.0, missed_by (StoresEvent e) v w x said.1)
 
+-- an exchange that is to enlist its pass enlisted it if it answers Ok, and else stored nothing
 pub enlist_says : (v w : View) (current next : List ℕ) (r : Result (List ℕ) (List ℕ)) → next ≡ with_one_more current → Answers (MayStore StoresReporter) v current next r w
     → Exchanges StoresReporter v current next r w
 enlist_says v w current next (Ok x) is said = by ((bytes_decides x current).0 said.0) said.1

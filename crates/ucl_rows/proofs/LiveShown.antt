@@ -20,9 +20,11 @@ ends-at (suc n) (suc at) (b ∷ text) h all e =
     further (inr e) = inr e
 ends-at _ _ _ _ _ _ = refl
 
+-- the first printed bytes of a text, at most 64, are what an answer shows of it
 pub shown_at : (at : ℕ) (text : List ℕ) → at ≤ 64 → list_all is_printed (take at text) ≡ true → (at ≡ 64) ⊎ (is_printed (get_or text at 0) ≡ false) → take at text ≡ shown_text text
 shown_at at text h all e = ends-at 64 at text h all e
 
+-- a text of printed bytes is shown whole, if it has at most 64
 printed-all : (text : List ℕ) → list_all is_printed text ≡ true → printed text ≡ text
 unfolding printed
 printed-all [] h = refl
@@ -34,6 +36,7 @@ shown_all at text h few all =
     let whole = rw (take_all at text h) at all in
     take_all (length text) text (omega arith) ∙ sym (ap printed (take_all 64 text (omega (arith, h, few))) ∙ printed-all text whole)
 
+-- printed bytes are UTF-8
 below : (b : ℕ) → is_printed b ≡ true → b < 128
 below b h = let e = (and_parts (nat_le 0x20 b) (nat_le b 0x7e) h).1 in grind (arith, nat_tests)
 

@@ -1,32 +1,26 @@
 -- The points of rows in one history: each row of two reporters, who report theirs in turn, each on a pass, a thread's permission, of its own.
-use Rattle.ucl_runs.proofs.Common.{Attempt, Bool, ComesFirst, Entry, EventCall, IsEnteredAt, IsPrefix, List, Some, HasLinearizationPoint}
-use Rattle.ucl_runs.proofs.Common.{[], ap, arith, at_below, begins_length, cases_eq, cases_lt, cond, entries_by, eq-eqb, false, false≢true, inl, inr}
-use Rattle.ucl_runs.proofs.Common.{is_ok, length, length-append, none-some, refl, same_Some, sequential_reply, slice_get, suc, sym, take}
-use Rattle.ucl_runs.proofs.Common.{take_beginning, true, zero, ℕ, ◌++◌, ◌<◌, ◌==◌, ◌∙◌, ◌∷◌, ◌≡◌, ◌≢◌, ◌≤◌, Accepted, Continues}
-use Rattle.ucl_runs.proofs.Common.{NightEvent, PassView, Refusal, at_within, attempted, begins_through, entry_of, followed_by}
-use Rattle.ucl_runs.proofs.Common.{if◌then◌else◌, ne_eqb, take-length, ◌⊎◌, All, All-get_or, IsLegal, IsInterleaving, IsOnDuty}
-use Rattle.ucl_runs.proofs.Common.{attempt_by, begins_take, number_of_two, subst}
-use Rattle.std.proofs.lemmas.List.{nil_from_length, same_from_push}
-use Rattle.ucl_board.proofs.HistoryTheorems.{at_beginning}
+use Rattle.ucl_runs.proofs.Common.{Accepted, All, All-get_or, Attempt, Bool, ComesFirst, Continues, Entry, EventCall, HasEnteredAll}
+use Rattle.ucl_runs.proofs.Common.{HasLinearizationPoint, HasReported, IsEnteredAt, IsFresh, IsFreshOn, IsInterleaving, IsLegal, IsOfRow}
+use Rattle.ucl_runs.proofs.Common.{IsOnDuty, IsOneOfTwo, IsPrefix, IsSound, List, NightEvent, PassView, Refusal, Some, [], ap, arith}
+use Rattle.ucl_runs.proofs.Common.{at_beginning, at_below, at_either, at_end, at_within, attempt_by, attempted, begins_length, begins_take}
+use Rattle.ucl_runs.proofs.Common.{begins_through, calls_of, cases_eq, cases_lt, cases_order, cond, entries_by, entry_of, eq-eqb, false}
+use Rattle.ucl_runs.proofs.Common.{false≢true, followed_by, get_or_from_slice_get, get_some, if◌then◌else◌, inl, inr, is_ok, le_refl}
+use Rattle.ucl_runs.proofs.Common.{legal_take, length, length-append, ne_eqb, nil_from_length, none-some, number_of_two, refl, same_Some}
+use Rattle.ucl_runs.proofs.Common.{same_from_push, sequential_reply, slice_get, subst, suc, sym, take, take-append_seam, take-length}
+use Rattle.ucl_runs.proofs.Common.{take_beginning, true, zero, ℕ, ◌++◌, ◌<◌, ◌==◌, ◌∙◌, ◌∷◌, ◌≡◌, ◌≢◌, ◌≤◌, ◌⊎◌}
 use Rattle.ucl_live_board.proofs.Lists.{by_more, by_own, goes_on, unchanged}
-use Rattle.std.proofs.Common.{Result, Ok, Err, le_refl}
-use Rattle.std.proofs.Math.Seq.{take-append_seam}
-use Rattle.ucl_word.proofs.Sequences.{at_end, at_either}
-use Rattle.ucl_live_board.specs.Passes.{IsSound}
+use Rattle.std.proofs.Common.{Result, Ok, Err}
 use Rattle.ucl_live_board.specs.LiveRecords.{LiveReported}
 use Rattle.ucl_live_board.specs.declared.live_board.LiveBoard as boards
-use Rattle.ucl_runs.specs.Nights.{HasEnteredAll, HasReported, IsFresh, IsFreshOn, IsOfRow, IsOneOfTwo, calls_of}
-use Rattle.std.proofs.lemmas.Bool.{cases_order}
-use Rattle.std.proofs.lemmas.Option.{get_or_from_slice_get}
-use Rattle.ucl_board.proofs.HistoryTheorems.{legal_take}
 use Rattle.ucl_live_board.specs.Settling.{Settled, IsOfBoth}
-use Rattle.ucl_runs.proofs.Elements.{get_some}
 
--- the beginning of a history
+-- a history, and one that begins with it
 module _ (s h : List Entry) (on : IsPrefix s h) where
+  -- the reply to an event after entries that both have is of one kind
   reply_on : (call : EventCall) (p : ℕ) → p ≤ length s → is_ok (sequential_reply (take p h) call) ≡ is_ok (sequential_reply (take p s) call)
   reply_on call p within = rw (take_beginning s h p on within)
 
+  -- an attempt that was entered, or has its point, in the first has it in the longer one too
   pub entered_on : {a : Attempt} {p : ℕ} → IsEnteredAt s a p → IsEnteredAt h a p
   entered_on {a} {p} e = record {
     entry = at_beginning s h p _ on e.entry;
@@ -44,6 +38,7 @@ module _ (s h : List Entry) (on : IsPrefix s h) where
   entered_before {a} {p} (inl r) is = absurd (false≢true (sym (reply_on a.call p r.within ∙ r.reply) ∙ is.reply))
   entered_before (inr e) is = e
 
+-- an attempt is entered where an entry stands, and has its point there or at the end
 pub entered_within : {h : List Entry} {a : Attempt} {p : ℕ} → IsEnteredAt h a p → p < length h
 entered_within {h} {p = p} is = at_below h p _ is.entry
 
@@ -63,6 +58,7 @@ none_by n (x ∷ h) zero e none at is =
     false≢true (sym (one_by (x.reporter == n) x (entries_by n h) none).0 ∙ eq-eqb x.reporter n same)
 none_by n (x ∷ h) (suc p) e none at is = none_by n h p e (one_by (x.reporter == n) x (entries_by n h) none).1 at is
 
+-- a place past the first of two histories is a place of the second
 at_rest : (xs ys : List Entry) (p : ℕ) (e : Entry) → length xs ≤ p → slice_get (xs ++ ys) p ≡ Some e → (q : ℕ) × (slice_get ys q ≡ Some e)
 at_rest [] ys p e past at = (p, at)
 at_rest (x ∷ xs) ys zero e past at = absurd (omega arith)
@@ -87,8 +83,7 @@ AllOnDuty rows = (i : ℕ) (row : NightEvent) → slice_get rows i ≡ Some row 
 pub each_on_duty : (rows : List NightEvent) → All IsOnDuty rows → AllOnDuty rows
 each_on_duty rows all i row at = subst IsOnDuty (get_or_from_slice_get rows i row row at) (All-get_or IsOnDuty rows i row (at_below rows i row at) all)
 
--- ---- one report
-
+-- a report, accepted or refused, leaves the versions that its pass has shown
 pub report_shown : (old new : PassView) (call : EventCall) (reply : Result Accepted Refusal) → LiveReported old call reply new → new.shown ≡ old.shown
 report_shown old new call (Ok accepted) says = says.accepted.shown
 report_shown old new call (Err refusal) says = says.refused.shown
@@ -134,8 +129,7 @@ point_of old new call (Err refusal) sound says =
       alone = λ p e at is past. (let below = stands_before old.number old.seen new.seen on none_more at is in absurd (omega arith));
     }
 
--- ---- reports in turn, of the rows of each reporter
-
+-- the calls of a reporter among rows begin with that of a first row of its own, and pass over that of another reporter
 pub own_calls : (r : ℕ) (row : NightEvent) (rows : List NightEvent) → row.reporter ≡ r → calls_of r (row ∷ rows) ≡ row.call ∷ calls_of r rows
 own_calls r row rows is = rw (eq-eqb row.reporter r is) refl
 
@@ -150,11 +144,13 @@ of_two one two reporter = if reporter == 1 then one else two
 abbrev changed : {A : Type 0} → (ℕ → A) → ℕ → A → ℕ → A
 changed f who new reporter = if reporter == who then new else f reporter
 
+-- the points of rows with one more, of the first
 abbrev point_more : ℕ → (ℕ → ℕ) → ℕ → ℕ
 point_more q points zero = q
 point_more q points (suc i) = points i
 
 module _ {B R P : Type 0} (live : boards.Ghosts B R P) where
+  -- calls that were reported, one after the other, leave what holds of a pass after each call, and the versions that it has shown
   pub reported_on : (calls : List EventCall) (old new : P) → HasReported live calls old new → IsSound (live.reporter old)
       → Continues (live.reporter old) (live.reporter new) × ((live.reporter new).shown ≡ (live.reporter old).shown)
   reported_on [] old new same sound = (unchanged _ _ sound (ap live.reporter same), ap (λ (pass : P). (live.reporter pass).shown) same)
@@ -188,6 +184,7 @@ module _ {B R P : Type 0} (live : boards.Ghosts B R P) where
 
     -- the first of the rows, which its reporter's pass reported, and is then `next`
     module _ (row : NightEvent) (rows : List NightEvent) (old : ℕ → P) (duty : IsOnDuty row) (reports : Reports (row ∷ rows) old) where
+      -- the pass reported this row and then its others
       step : HasReported live (row.call ∷ calls_of row.reporter rows) (old row.reporter) (new row.reporter)
       step = subst (λ (calls : List EventCall). HasReported live calls (old row.reporter) (new row.reporter)) (own_calls row.reporter row rows refl)
           (reports.reported row.reporter duty)
@@ -204,6 +201,7 @@ module _ {B R P : Type 0} (live : boards.Ghosts B R P) where
       later_old : (r : ℕ) → r ≢ row.reporter → later r ≡ old r
       later_old r other = rw (ne_eqb r row.reporter other) refl
 
+      -- the rest of the rows is still to be reported, after this one
       rest : Reports rows later
       rest = record {
         reported = λ r duty_r. elim (cases_eq r row.reporter) [
@@ -256,6 +254,7 @@ module _ {B R P : Type 0} (live : boards.Ghosts B R P) where
                   (let below = entered_within (entered_before (seen_of step.0) h seen_on spot.place (rw number_was entered)) in omega arith);
             }
 
+        -- a row with one more in front is one place later
         shifted : (p i : ℕ) → IsOfRow number rows tail.point h p i → IsOfRow number (row ∷ rows) points h p (suc i)
         shifted p i is = record { row = is.row; here = is.here; point_is = is.point_is; entered = is.entered }
 
@@ -300,6 +299,7 @@ module _ {B R P : Type 0} (live : boards.Ghosts B R P) where
                 (comes_first j y at_y (ap (λ (z : NightEvent). z.reporter) (same_Some row x at_x) ∙ same))
             each_order (suc i) (suc j) x y at_x at_y below same = tail.in_order i j x y at_x at_y (omega arith) same
 
+    -- rows that both passes reported have their points in the history
     placed : (rows : List NightEvent) (old : ℕ → P) → AllOnDuty rows → Reports rows old → ArePlaced rows old
     placed [] old duty reports = record {
       point = λ i. 0;
@@ -323,8 +323,6 @@ entered_all live board rows reporter {before} pass end own fresh reported always
   always = always;
   mine = mine;
 }
-
--- ---- two reporters' rows in one history that has the entries of both and no other: a merge
 
 -- the passes k and l of two reporters, which are m and n after they have reported their rows, and a history that goes on from both
 module _ {B R P : Type 0} (live : boards.Ghosts B R P) (k l m n : P) (rows : List NightEvent) (h : List Entry)
@@ -360,6 +358,7 @@ module _ {B R P : Type 0} (live : boards.Ghosts B R P) (k l m n : P) (rows : Lis
   stands a b all on always p e at is =
       stands_before (live.reporter b).number (live.reporter b).seen h on (all ∙ always.sound.own) at (is ∙ sym always.number)
 
+  -- the entries of a reporter come after all that its pass had seen at first
   comes_later : (a b : P) → IsFresh (live.reporter a) → IsPrefix (live.reporter b).seen h → Continues (live.reporter a) (live.reporter b)
       → (p : ℕ) (e : Entry) → slice_get h p ≡ Some e → e.reporter ≡ (live.reporter a).number → length (live.reporter a).seen ≤ p
   comes_later a b fresh on always p e at is = elim (cases_lt p (length (live.reporter a).seen)) [
@@ -379,6 +378,7 @@ module _ {B R P : Type 0} (live : boards.Ghosts B R P) (k l m n : P) (rows : Lis
   later_each = each_of_two (λ r. (p : ℕ) (e : Entry) → slice_get h p ≡ Some e → e.reporter ≡ number r → length (live.reporter (old r)).seen ≤ p)
       (comes_later k m fresh_1 on_first went_1) (comes_later l n fresh_2 on_second went_2)
 
+  -- the rows of both reporters have their points in this history
   placing : ArePlaced live h number new on_each within_each rows old
   placing = placed live h number new on_each within_each rows old duty (record {
     reported = each_of_two (λ r. HasReported live (calls_of r rows) (old r) (new r)) first second;
@@ -396,6 +396,7 @@ module _ {B R P : Type 0} (live : boards.Ghosts B R P) (k l m n : P) (rows : Lis
   one_reporter a b (inr x) (inl y) same = absurd (numbers_apart (sym (ap number y) ∙ (sym same ∙ ap number x)))
   one_reporter a b (inr x) (inr y) same = x ∙ sym y
 
+  -- the entry at place p is that of row i
   abbrev IsRowAt : ℕ → ℕ → Type 0
   IsRowAt p i = IsOfRow number rows placing.point h p i
 
@@ -412,6 +413,7 @@ module _ {B R P : Type 0} (live : boards.Ghosts B R P) (k l m n : P) (rows : Lis
       let y = b.point_is in
       omega arith
 
+  -- an entry is that of one row alone
   alone : (p i j : ℕ) → IsRowAt p i → IsRowAt p j → j ≡ i
   alone p i j a b = elim (cases_order j i) [
     | inl same ↦ same
@@ -422,6 +424,7 @@ module _ {B R P : Type 0} (live : boards.Ghosts B R P) (k l m n : P) (rows : Lis
   of_either p below e at = subst (λ (x : Entry). (x.reporter ≡ (live.reporter m).number) ⊎ (x.reporter ≡ (live.reporter n).number)) (get_or_from_slice_get h p e e at)
       (All-get_or (λ (x : Entry). (x.reporter ≡ (live.reporter m).number) ⊎ (x.reporter ≡ (live.reporter n).number)) h p e below both.no_other)
 
+  -- each entry is that of some row
   some_row : (p : ℕ) → p < length h → (i : ℕ) × IsRowAt p i
   some_row p below =
       let t = get_some h p below in
@@ -430,6 +433,7 @@ module _ {B R P : Type 0} (live : boards.Ghosts B R P) (k l m n : P) (rows : Lis
         | inr is ↦ (let it = is ∙ went_2.number in placing.some_row 2 (inr refl) p t.0 t.1 it (later_each 2 (inr refl) p t.0 t.1 it))
       ]
 
+  -- the history is a merge of the rows
   pub merged : IsInterleaving number rows h
   merged = record {
     legal = legal;

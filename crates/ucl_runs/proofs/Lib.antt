@@ -1,5 +1,4 @@
 pub mod Common
-pub mod Elements
 pub mod RunFacts
 pub mod EnteredRows
 pub mod Merges

@@ -1,18 +1,12 @@
 -- All merges of the rows of a script have one board, where each match has one reporter.
-use Rattle.std.proofs.lemmas.Bool.{cond_both}
-use Rattle.ucl_runs.proofs.Common.{EachMatchHasOneReporter, Entry, EventCall, IsEnteredAt, IsInterleaving, IsRefusedAt, List, MatchEntry, NightEvent, Reading, Some}
-use Rattle.ucl_runs.proofs.Common.{accepted_of, after_attempt, ap, arith, at_below, attempt_by, cases_eq, cases_lt, entries_of, entry_of, false, false≢true, inl}
-use Rattle.ucl_runs.proofs.Common.{inr, is_ok, length, map, match_numbers, refl, reply_of, same_Some, sequential_reply, slice_get, snapshot_at, suc, sym, take}
-use Rattle.ucl_runs.proofs.Common.{take-length, true, word_of, zero, ℕ, ◌+◌, ◌-◌, ◌<◌, ◌∙◌, ◌≡◌, ◌≢◌, ◌≤◌}
-use Rattle.std.proofs.Common.{add-zero}
-use Rattle.std.proofs.lemmas.List.{map_push}
+use Rattle.ucl_runs.proofs.Common.{EachMatchHasOneReporter, Entry, EventCall, IsEnteredAt, IsInterleaving, IsRefusedAt, List, MatchEntry}
+use Rattle.ucl_runs.proofs.Common.{NightEvent, Reading, ScheduleDoesNotMatter, Some, accepted_of, add-zero, after_attempt, ap, arith}
+use Rattle.ucl_runs.proofs.Common.{at_below, attempt_by, board_of, cases_eq, cases_lt, cond_both, counted_match, entries_else, entries_of}
+use Rattle.ucl_runs.proofs.Common.{entries_same, entry_of, false, false≢true, get_some, inl, inr, is_ok, length, map, map_push}
+use Rattle.ucl_runs.proofs.Common.{match_numbers, night_board, refl, reply_of, same_Some, sequential_reply, slice_get, snapshot_at, suc}
+use Rattle.ucl_runs.proofs.Common.{sym, take, take-length, take_one, true, word_of, zero, ℕ, ◌+◌, ◌-◌, ◌<◌, ◌∙◌, ◌≡◌, ◌≢◌, ◌≤◌}
 use Rattle.std.proofs.lemmas.List.Sums.{fold_push}
-use Rattle.ucl_word.specs.Counts.{counted_match}
 use Rattle.ucl_word.proofs.EntryCounts.{entered}
-use Rattle.ucl_board.specs.History.{board_of}
-use Rattle.ucl_board.proofs.HistoryTheorems.{entries_same, entries_else}
-use Rattle.ucl_runs.proofs.Elements.{get_some, take_one}
-use Rattle.ucl_runs.specs.Nights.{ScheduleDoesNotMatter, night_board}
 use Rattle.ucl_runs.proofs.EnteredRows.{entered_within, place_within}
 
 -- a merge of the rows, and a match
@@ -66,6 +60,7 @@ module _ (number : ℕ → ℕ) (rows : List NightEvent) (h : List Entry) (merge
       let e : a + (p - a) ≡ p = omega arith in
       ap entries_at (sym e) ∙ same_until a (p - a) (omega arith) (λ r row least most. none r row least (omega arith))
 
+  -- after one row more, that row was entered or refused
   night_next : (i : ℕ) (row : NightEvent) → slice_get rows i ≡ Some row → night_at (suc i) ≡ after_attempt (night_at i) (attempt_by number row)
   night_next i row at = rw (take_one rows i row at, map_push, fold_push)
 
@@ -79,6 +74,7 @@ module _ (number : ℕ → ℕ) (rows : List NightEvent) (h : List Entry) (merge
   same_reply : (x y : List Entry) (call : EventCall) → call.game ≡ g → entries_of g x ≡ entries_of g y → sequential_reply x call ≡ sequential_reply y call
   same_reply x y call is same = ap (λ (es : List MatchEntry). reply_of (counted_match es) call) (rw is same)
 
+  -- a row that was not entered, or is of another match, fits no less
   fits_skipped : (i p : ℕ) (row : NightEvent) → slice_get rows i ≡ Some row → (row.call.game ≡ g → IsEnteredAt h (attempt_by number row) (merge.point i) → ⊥) → Fits (suc i) p → Fits i p
   fits_skipped i p row at not_there fits = record {
     below = λ j x at_j is entered less. fits.below j x at_j is entered (omega arith);
@@ -111,6 +107,7 @@ module _ (number : ℕ → ℕ) (rows : List NightEvent) (h : List Entry) (merge
         | inr after ↦ (let past = fits.above there.index there.row there.here there.game there.entered after in omega arith)
       ]
 
+  -- at points that fit row i the match has the entries that it has after the first i rows of the script
   abbrev Agrees : ℕ → Type 0
   Agrees i = (p : ℕ) → p ≤ length h → Fits i p → entries_at p ≡ entries_of g (night_at i)
 
@@ -139,6 +136,7 @@ module _ (number : ℕ → ℕ) (rows : List NightEvent) (h : List Entry) (merge
       rw (night_next i row at, not_ok) (agrees p within (fits_skipped i p row at
       (λ game entered. false≢true (sym there.reply ∙ entered.reply)) fits))
 
+  -- if the match has, at points that fit row i, the entries of the first i rows, so it has for one row more
   next_agrees : (i : ℕ) (row : NightEvent) → slice_get rows i ≡ Some row → Agrees i → Agrees (suc i)
   next_agrees i row at agrees = elim (cases_eq row.call.game g) [
     | inl is ↦
@@ -155,6 +153,7 @@ module _ (number : ℕ → ℕ) (rows : List NightEvent) (h : List Entry) (merge
   all_agree zero low = start_agrees
   all_agree (suc i) low = let t = get_some rows i (omega arith) in next_agrees i t.0 t.1 (all_agree i (omega arith))
 
+  -- the match has the entries that it has after all rows of the script
   pub entries_agree : entries_of g h ≡ entries_of g (accepted_of (map (attempt_by number) rows))
   entries_agree =
       let fits : Fits (length rows) (length h) = record {
@@ -168,6 +167,7 @@ same_board : (x y : List Entry) → ((g : ℕ) → entries_of g x ≡ entries_of
 unfolding board_of
 same_board x y same = λ i. map (λ game. word_of (counted_match (same game i))) match_numbers
 
+-- all merges of the rows of a script, where each match has one reporter, have one board
 pub all_merges_agree : ScheduleDoesNotMatter
 all_merges_agree number rows h merge one = same_board h (accepted_of (map (attempt_by number) rows)) (λ g. entries_agree number rows h merge one g)
 

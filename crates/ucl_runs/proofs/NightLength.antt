@@ -1,39 +1,21 @@
 -- The output of a night is short, so the bytes of it that went out are counted exactly.
-use Rattle.ucl_runs.proofs.Common.{All, Entry, IsLegal, List, NightEvent, None, Ok, Option, Profile, Result, Script, Some, [], arith, ap, codes, length, length-append}
-use Rattle.ucl_runs.proofs.Common.{refl, styled, subst, ℕ, ◌++◌, ◌+◌, ◌<◌, ◌∷◌, ◌≡◌, ◌≤◌}
-use Rattle.std.proofs.Common.{◌^◌, inl, inr, take}
-use Rattle.std.proofs.lemmas.Bool.{cases_Bool}
-use Rattle.std.proofs.lemmas.List.Elements.{All-cons, All-nil}
-use Rattle.std.specs.Prelude.{Err}
-use Rattle.ucl_board.proofs.HistoryTheorems.{board_words, legal_take}
-use Rattle.ucl_board.specs.History.{board_of}
-use Rattle.ucl_order.specs.Roster.{IsClub, IsRoster, NamedClub, bad_slot, bad_slot_from, is_club}
+use Rattle.ucl_runs.proofs.Common.{Entry, Err, HasLooked, IsLegal, IsOutputOfNight, IsPlayed, List, NightEvent, None, Ok, Option, Profile}
+use Rattle.ucl_runs.proofs.Common.{Result, Script, Some, Style, [], ap, arith, board_of, board_words, codes, last_text, legal_take, length}
+use Rattle.ucl_runs.proofs.Common.{length-append, refl, styled, styled_screen, subst, take, ℕ, ◌++◌, ◌+◌, ◌<◌, ◌^◌, ◌∷◌, ◌≡◌, ◌≤◌}
+use Rattle.ucl_order.proofs.Clubs.{good_four}
+use Rattle.ucl_order.specs.Roster.{IsRoster, NamedClub, bad_slot}
 use Rattle.ucl_screen.specs.Input.{whole_input}
 use Rattle.ucl_screen.specs.Rows.{Fields, rows_of}
 use Rattle.ucl_screen.specs.Script.{club_at, events_from, first_event_row, if_good, night_of, night_of_rows, roster_at, ◌>>=◌}
 use Rattle.ucl_screen.specs.declared.fault.InputFault.{InputFault}
 use Rattle.ucl_json.proofs.ScreenLength.{screen_short}
-use Rattle.ucl_runs.specs.Nights.{last_text}
-use Rattle.ucl_runs.specs.Program.{HasLooked, IsOutputOfNight, IsPlayed}
-use Rattle.ucl_runs.specs.Show.{Style, styled_screen}
 
--- ---- the clubs of a script are a roster's
-
-all-good : (slot : ℕ) (clubs : List NamedClub) → bad_slot_from slot clubs ≡ None → All IsClub clubs
-unfolding bad_slot_from
-all-good slot [] none = All-nil IsClub
-all-good slot (club ∷ clubs) none = elim (cases_Bool (is_club club)) [
-  | inl good ↦ All-cons IsClub club clubs good (all-good (slot + 1) clubs (rw good at none))
-  | inr bad ↦ cc (rw bad at none)
-]
-
-same-ok : {A : Type 0} (x y : A) → ◌≡◌ {A = Result A InputFault} (Ok x) (Ok y) → x ≡ y
-same-ok x y e = cc
-
+-- four clubs that were read, of which none is bad, are a roster
 good-clubs : (clubs four : List NamedClub) (slot : Option ℕ) → length four ≡ 4 → bad_slot four ≡ slot → if_good four slot ≡ Ok clubs → IsRoster clubs
-good-clubs clubs four None long none is = subst IsRoster (same-ok four clubs is) (record { four = long; each = all-good 1 four none })
+good-clubs clubs four None long none is = let same : four ≡ clubs = cc in subst IsRoster same (good_four four long none)
 good-clubs clubs four (Some slot) long bad is = cc is
 
+-- a result that came of two steps came of a first one that was Ok
 step : {A B : Type 0} (r : Result A InputFault) (f : A → Result B InputFault) (b : B) → (r >>= f) ≡ Ok b → (x : A) × (f x ≡ Ok b)
 step (Ok x) f b is = (x, is)
 step (Err fault) f b is = cc is
@@ -42,6 +24,7 @@ step-of : {A B : Type 0} (r : Result A InputFault) (f : A → Result B InputFaul
 step-of (Ok x) f b is = (x, refl, is)
 step-of (Err fault) f b is = cc is
 
+-- the clubs that a script begins with are a roster, if they were read
 roster-read : (rows : List Fields) (read : List NamedClub × List Fields) → roster_at rows ≡ Ok read → IsRoster read.0
 unfolding roster_at
 roster-read rows read is =
@@ -61,8 +44,7 @@ script-roster bytes night is =
     let events = step (events_from first_event_row roster.0.1) _ night roster.2 in
     subst (λ (n : Script). IsRoster n.clubs) (same-ok (record { clubs = roster.0.0; events = events.0 }) night events.1) (roster-read (rows_of text.0) roster.0 roster.1)
 
--- ---- its screens
-
+-- a last screen, with its heading, has at most 305 bytes
 last-fits : (heading : List ℕ) (style : Style) (history : List Entry) (readings : ℕ) (last : Option (List ℕ)) → length heading ≤ 9 → IsRoster style.roster → IsLegal history
     → HasLooked style history readings last → length (last_text heading last) ≤ 305
 last-fits heading style history readings None head is legal looked = omega arith
@@ -72,6 +54,7 @@ last-fits heading style history readings (Some text) head is legal looked =
     let short = screen_short style.profile board style.roster (board_words _ (legal_take history screen.version legal)) is style.group in
     omega (arith, short, length-append heading text, ap length screen.text_is)
 
+-- the output of a night has fewer than 2^64 bytes
 output-fits : (rows : List NightEvent) (style : Style) (readings : ℕ) (text : List ℕ) → IsRoster style.roster → IsOutputOfNight rows style readings text → length text < 2 ^ 64
 output-fits rows style readings text is out =
     let legal = out.merge.legal in

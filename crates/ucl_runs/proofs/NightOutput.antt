@@ -1,15 +1,12 @@
 -- The output of a night, whose reporter 2 met both readers: all their screens are of beginnings of the one settled history.
-use Rattle.ucl_runs.proofs.Common.{All, Entry, HasShown, IsOnDuty, IsPrefix, List, None, Option, PassView, Reading, Some, [], ap, arith, begins_length, begins_take}
-use Rattle.ucl_runs.proofs.Common.{begins_through, drop, length, length-append, number_of_two, refl, string_bytes, sym, take, take-append-drop, take_beginning, ℕ, ◌≢◌, ◌∙◌, ◌∷◌, ◌≡◌, ◌≤◌}
-use Rattle.std.proofs.lemmas.List.Elements.{All-pop}
-use Rattle.ucl_board.specs.History.{board_of}
+use Rattle.ucl_runs.proofs.Common.{All, All-pop, Entry, FoundStrangers, HasLooked, HasShown, IsNightEnd, IsOnDuty, IsOutputOfNight}
+use Rattle.ucl_runs.proofs.Common.{IsPrefix, List, NightEvent, None, Option, PassView, Reading, Some, Style, [], ap, arith, begins_length}
+use Rattle.ucl_runs.proofs.Common.{begins_take, begins_through, board_of, drop, last_shown, length, length-append, night_text}
+use Rattle.ucl_runs.proofs.Common.{number_of_two, refl, string_bytes, styled_screen, sym, take, take-append-drop, take_beginning, ℕ, ◌∙◌}
+use Rattle.ucl_runs.proofs.Common.{◌∷◌, ◌≡◌, ◌≢◌, ◌≤◌}
 use Rattle.ucl_live_board.specs.declared.live_board.LiveBoard as boards
-use Rattle.ucl_runs.specs.Nights.{FoundStrangers, IsNightEnd, last_shown, night_text}
-use Rattle.ucl_runs.specs.Program.{HasLooked, IsOutputOfNight}
-use Rattle.ucl_runs.specs.Show.{Style, styled_screen}
 use Rattle.ucl_runs.specs.declared.night.NightEnd.{NightEnd}
 use Rattle.ucl_runs.proofs.Merges.{all_merges_agree}
-use Rattle.ucl_screen.specs.declared.night.NightEvent.{NightEvent}
 
 -- a reader whose pass has seen a beginning of a history has looked at that
 looked : (style : Style) (history : List Entry) (old new : PassView) (readings : ℕ) (last : Option (List ℕ)) → IsPrefix new.seen history

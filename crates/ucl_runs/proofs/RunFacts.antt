@@ -1,32 +1,26 @@
 -- How a run ends, from what its calls return; and one step more of its loops: one reply line, one row of a script, one reading.
-use Rattle.ucl_runs.proofs.Common.{All, All-push, Appends, Bool, Continues, Entry, Err, HasShown, IfErr, IfSome, IsFed, IsOnDuty, IsShown, IsStopped, List}
-use Rattle.ucl_runs.proofs.Common.{MeansNight, NightEvent, None, Ok, OnOk, Option, PassView, Profile, Reading, Result, RunFault, Script, SharedReading, Some}
-use Rattle.ucl_runs.proofs.Common.{TextHas, [], after_attempt, ap, append_assoc, arith, attempt_of, begins_length, begins_through, drop, false, first-event, get_or}
-use Rattle.ucl_runs.proofs.Common.{inl, inr, length, length-append, refl, screen_text, styled, subst, suc, sym, take, take-append-drop, zero, ℕ, ⊎_elim, ⊤}
-use Rattle.ucl_runs.proofs.Common.{◌++◌, ◌+◌, ◌-◌, ◌<◌, ◌∙◌, ◌∷◌, ◌≡◌, ◌≤◌, ◌⊎◌}
+use Rattle.ucl_runs.proofs.Common.{All, All-more, All-push, Appends, Bool, Continues, Err, HasShown, IfErr, IfSome, Input, IsDutyTold}
+use Rattle.ucl_runs.proofs.Common.{IsFaultOfNight, IsFed, IsFirstOffDuty, IsOfScript, IsOnDuty, IsOutputOfNight, IsPlayed, IsReadingOf}
+use Rattle.ucl_runs.proofs.Common.{IsRun, IsShown, IsStopped, IsWhyNoNight, List, MeansNight, MeansSheet, NightEvent, None, NotOnDuty, Ok}
+use Rattle.ucl_runs.proofs.Common.{OnOk, Option, OutOfMemory, PassView, Profile, Reading, Result, RunFault, Script, SharedReading, Some}
+use Rattle.ucl_runs.proofs.Common.{Streams, Style, Task, TextHas, WriteFailed, [], ap, arith, begins_length, begins_through, drop, false}
+use Rattle.ucl_runs.proofs.Common.{feed_text, first-event, get_or, inl, inr, length, length-append, length-take-le, night_task, refl}
+use Rattle.ucl_runs.proofs.Common.{screen_text, styled, styled_screen, subst, suc, sym, take, take-append-drop, take_all, zero, ℕ, ⊎_elim}
+use Rattle.ucl_runs.proofs.Common.{⊤, ◌++◌, ◌+◌, ◌-◌, ◌<◌, ◌^◌, ◌∙◌, ◌∷◌, ◌≡◌, ◌≤◌, ◌⊎◌}
 use Rattle.ucl_screen.specs.Script.{WrittenSheet}
-use Rattle.ucl_screen.specs.Parsing.{MeansSheet}
 use Rattle.ucl_screen.specs.Input.{Reads}
 use Rattle.ucl_screen.specs.declared.fault.InputFault.{InputFault}
-use Rattle.ucl_runs.specs.Feed.{feed_text}
-use Rattle.ucl_rows.specs.declared.fault.RunFault.TheVariants.{WriteFailed, Input, NotOnDuty, OutOfMemory}
 use Rattle.ucl_rows.specs.Faults.{handed_on}
 use Rattle.ucl_io.specs.Output.{StoppedShort}
 use Rattle.ucl_io.specs.Stream.{WroteFirst}
 use Rattle.ucl_rows.specs.Run.{CallsWithin, DistinguishesMemory, IfInput, IfWriteFailed, is_read_failed}
-use Rattle.ucl_runs.specs.Nights.{IsDutyTold, IsFirstOffDuty, IsWhyNoNight}
-use Rattle.ucl_runs.specs.Program.{IsFaultOfNight, IsOfScript, IsOutputOfNight, IsPlayed, IsRun, Streams, Task, night_task}
-use Rattle.std.proofs.Common.{take_all, length-take-le, min, ◌^◌}
-use Rattle.std.proofs.lemmas.List.Elements.{All-more}
 use Rattle.std.specs.List.Sorted.{IsNonDecreasing}
 use Rattle.std.proofs.lemmas.List.Sorted.{IsNonDecreasingBy-push}
-use Rattle.ucl_live_board.specs.Passes.{IsReadingOf}
-use Rattle.ucl_runs.specs.Show.{Style, styled_screen}
 use Rattle.ucl_screen.specs.declared.fault.InputFault.TheVariants as input
 use Rattle.ucl_live_board.specs.declared.live_board.LiveBoard as boards
 use Rattle.ucl_io.specs.declared.stream.Sink as writes
 
--- a script's text, and a sheet's screen
+-- the text of `feed` is that of the script that was read, and the text of `show` the screen of the sheet
 pub fed : (known : Option (List ℕ)) (night : Script) (text : List ℕ) → IfSome known (λ bytes. MeansNight bytes (Ok night)) → text ≡ feed_text night.events → IfSome known (λ bytes. IsFed bytes text)
 fed None night text means is = tt
 fed (Some bytes) night text means is = record { night = night; means = means; text_is = is }
@@ -37,6 +31,7 @@ pub shown : (profile : Profile) (known : Option (List ℕ)) (group : ℕ) (sheet
 shown profile None group sheet text means is = tt
 shown profile (Some bytes) group sheet text means is = record { sheet = sheet; means = means; text_is = is }
 
+-- P holds of the text of a run, if it holds of each text that the input calls for
 text-has : (CallsFor : List ℕ → List ℕ → Type 0) (known : Option (List ℕ)) (text : List ℕ) (P : List ℕ → Type 0) → IfSome known (λ bytes. CallsFor bytes text)
     → ((bytes : List ℕ) → CallsFor bytes text → P text) → TextHas CallsFor known P
 text-has CallsFor None text P is h = tt
@@ -109,23 +104,24 @@ module _ {W : Type 0} (known : writes.Ghosts W) (task : Task) (before after : St
   refused Means view input.OutOfMemory reads why may memory same = stopped OutOfMemory tt same reads memory tt (λ bad. absurd (cc))
   refused Means view e reads why may memory same = stopped (Input e) tt same reads.0 (may e) why (λ bad. absurd (cc))
 
--- ---- how a night ends
-
 -- what holds of the events of a script holds if it is read
 pub scripted : (known : Option (List ℕ)) (night : Script) (Q : List NightEvent → Type 0) → IfSome known (λ bytes. MeansNight bytes (Ok night)) → Q night.events → IsOfScript known Q
 scripted None night Q means h = tt
 scripted (Some bytes) night Q means h = (night, means, h)
 
+-- a night that wrote the output of its events wrote what its input calls for
 pub played : (profile : Profile) (group readings : ℕ) (known : Option (List ℕ)) (night : Script) (text : List ℕ) → IfSome known (λ bytes. MeansNight bytes (Ok night))
     → IsOutputOfNight night.events (styled profile night.clubs group) readings text → IfSome known (λ bytes. IsPlayed profile group readings bytes text)
 played profile group readings None night text means is = tt
 played profile group readings (Some bytes) night text means is = record { night = night; means = means; output = is }
 
+-- a night on a board that was opened for the script that was read
 module _ {B R P X : Type 0} (live : boards.Ghosts B R P) (Opens : Result (B × R) X → Type 0) (profile : Profile) (group readings : ℕ)
     (known : Option (List ℕ)) (night : Script) (means : IfSome known (λ bytes. MeansNight bytes (Ok night))) (board : B) (pass : R) (on_it : Opens (Ok (board, pass))) where
   abbrev IsWhy : RunFault → Type 0
   IsWhy f = IsWhyNoNight live board night.events f
 
+  -- the fault of a night that failed is one that a night may end with
   pub fault_of : (f : RunFault) → IsWhy f → IsDutyTold night.events f → IsFaultOfNight live Opens known f
   fault_of (Input e) why duty = tt
   fault_of OutOfMemory why duty = tt
@@ -151,13 +147,12 @@ module _ {B R P X : Type 0} (live : boards.Ghosts B R P) (Opens : Result (B × R
       stopped sink (night_task live Opens profile group readings) (record { left = known; calls = k; read_failed = b; sink = w }) after calls f tt same reads
       (fault_of f why duty) tt (λ bad. absurd (cc))
 
--- ---- rows of reporters on duty
-
 one_or_two : (n : ℕ) → 1 ≤ n → n ≤ 2 → (n ≡ 1) ⊎ (n ≡ 2)
 one_or_two zero low high = absurd (omega arith)
 one_or_two (suc zero) low high = inl (omega arith)
 one_or_two (suc (suc n)) low high = inr (omega arith)
 
+-- the first rows are of reporters 1 and 2, one more too, and so all
 pub duty_more : (i : ℕ) (rows : List NightEvent) (row : NightEvent) → i < length rows → row ≡ get_or rows i row → 1 ≤ row.reporter → row.reporter ≤ 2
     → All IsOnDuty (take i rows) → All IsOnDuty (take (i + 1) rows)
 duty_more i rows row below is low high so_far = All-more IsOnDuty rows i row below so_far (subst IsOnDuty is (one_or_two row.reporter low high))
@@ -165,6 +160,7 @@ duty_more i rows row below is low high so_far = All-more IsOnDuty rows i row bel
 pub duty_all : (i : ℕ) (rows : List NightEvent) → length rows ≤ i → All IsOnDuty (take i rows) → All IsOnDuty rows
 duty_all i rows past all = subst (All IsOnDuty) (take_all i rows past) all
 
+-- the first row of another reporter
 pub first_off_duty : (i : ℕ) (rows : List NightEvent) (event : NightEvent) → i < length rows → event ≡ get_or rows i event → All IsOnDuty (take i rows)
     → 2 < event.reporter → IsFirstOffDuty rows (5 + i)
 first_off_duty i rows event below is so_far high = record {
@@ -177,9 +173,7 @@ first_off_duty i rows event below is so_far high = record {
   row_is = let many : length (take i rows) ≡ i = length-take-le i rows (omega arith) in omega arith;
 }
 
--- ---- the versions that a reader shows, and the history that they are of
-
--- a version that is no lower than what had been seen
+-- versions rise still with one that is no lower than what had been seen
 pub rises_more : (versions : List ℕ) (seen version : ℕ) → IsNonDecreasing versions → All (λ v. v ≤ seen) versions → seen ≤ version → IsNonDecreasing (versions ++ version ∷ [])
 rises_more versions seen version rises high low = IsNonDecreasingBy-push (λ v. v) versions version rises (λ d some. (let last = high (length versions - 1) d (omega arith) in omega arith))
 

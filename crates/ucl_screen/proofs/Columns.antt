@@ -5,6 +5,7 @@ use Rattle.ucl_screen.proofs.Common.{is_name, is_printed, left, length, length-a
 use Rattle.ucl_screen.proofs.Common.{mark_text, nat_le, nat_tests, number, place_line, refl, replicate, right, sym, true, ℕ, ◌++◌, ◌+◌, ◌-◌}
 use Rattle.ucl_screen.proofs.Common.{◌<◌, ◌^◌, ◌∙◌, ◌∷◌, ◌≡◌, ◌≤◌}
 
+-- a text padded to a width that it fits has that width
 wide_left : (width : ℕ) (text : List ℕ) → length text ≤ width → length (left width text) ≡ width
 wide_left width text fits = omega (arith, length-append text (replicate (width - length text) 32), length-replicate {A = ℕ} (width - length text) 32)
 
@@ -14,6 +15,7 @@ wide_right width text fits = omega (arith, length-append (replicate (width - len
 wide_number : (width n : ℕ) → 0 < width → n < 10 ^ width → n < 2 ^ 64 → length (right width (decimal n)) ≡ width
 wide_number width n some fits word = wide_right width (decimal n) (length-decimal-le width n some fits word)
 
+-- a signed number of at most 378 has at most five bytes, sign and all
 signed : (b : Bool) (m n : ℕ) → m ≤ 378 → n ≤ 378 → length (cond b (codes "+" ++ decimal m) (codes "-" ++ decimal n)) ≤ 5
 signed true m n hm hn = let l = length-decimal-le 4 m (omega arith) (omega arith) (omega arith) in omega arith
 signed false m n hm hn = let l = length-decimal-le 4 n (omega arith) (omega arith) (omega arith) in omega arith
@@ -52,8 +54,6 @@ wide_line row name w place fits =
 pub lines_wide : LinesHave53Columns
 lines_wide = record { names = refl; places = wide_line }
 
--- ---- names are text
-
 below : (b : ℕ) → is_printed b ≡ true → b < 128
 below b h = let e = (and_parts (nat_le 0x20 b) (nat_le b 0x7e) h).1 in grind (arith, nat_tests)
 
@@ -61,13 +61,12 @@ printed_ascii : (bs : List ℕ) → list_all is_printed bs ≡ true → IsAscii 
 printed_ascii [] h = IsAscii-nil
 printed_ascii (b ∷ bs) h = let e = and_parts (is_printed b) (list_all is_printed bs) h in IsAscii-cons b bs (below b e.0) (printed_ascii bs e.1)
 
+-- printed bytes are UTF-8, and so is the name of a club
 pub printed_utf8 : (bs : List ℕ) → list_all is_printed bs ≡ true → IsUtf8 bs
 printed_utf8 bs h = IsUtf8-from_ascii bs (printed_ascii bs h)
 
 pub name_text : (name : List ℕ) → is_name name ≡ true → IsUtf8 name
 name_text name h = printed_utf8 name (and_parts _ _ h).1
-
--- ---- the line of a fault, by its parts
 
 -- a line of one part, and of two
 pub one_part : (before : List ℕ) → before ++ [] ++ [] ≡ before

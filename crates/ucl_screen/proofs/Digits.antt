@@ -3,12 +3,14 @@ use Rattle.ucl_screen.proofs.Common.{Bool, List, None, Some, [], add-one, arith,
 use Rattle.ucl_screen.proofs.Common.{hex_after, hex_digit, hex_word, inl, inr, is_digit, length, nat_tests, number, pow-le-pow_right}
 use Rattle.ucl_screen.proofs.Common.{pow-suc, refl, true, zero, ℕ, ◌*◌, ◌+◌, ◌-◌, ◌<◌, ◌==◌, ◌^◌, ◌≡◌, ◌≤◌, ◌⊎◌}
 
+-- a text of at least one byte, and at most so many, is read as a number from its first digit on
 pub number-is : (most : ℕ) (text : List ℕ) → 1 ≤ length text → length text ≤ most → number most text ≡ digits_after 0 text
 number-is most text a b = grind (arith, nat_tests)
 
 digit-true : (b : ℕ) → 48 ≤ b → b ≤ 57 → is_digit b ≡ true
 digit-true b p q = grind (arith, nat_tests)
 
+-- the digits of a text from place i on, after the number n: one digit more, a byte that is none, and the end
 pub more-digits : (n i : ℕ) (text : List ℕ) → i < length text → 48 ≤ get_or text i 0 → get_or text i 0 ≤ 57
     → digits_after n (drop i text) ≡ digits_after (10 * n + (get_or text i 0 - 48)) (drop (i + 1) text)
 unfolding digits_after
@@ -32,11 +34,11 @@ nonempty text r e f = grind (arith, nat_tests)
 pub one-more-digit : (n i d : ℕ) → n < 10 ^ i → d ≤ 9 → 10 * n + d < 10 ^ (i + 1)
 one-more-digit n i d h k = rw (add-one i, pow-suc 10 i) (omega arith)
 
--- ---- words read one hexadecimal digit at a time
-
+-- a text of sixteen bytes is read as the word of its hexadecimal digits
 pub word-is : (text : List ℕ) → length text ≡ 16 → hex_word text ≡ hex_after 0 text
 word-is text e = rw e refl
 
+-- the hexadecimal digits from place i on, after the number n: one digit more, a byte that is none, and the end
 pub more-hex : (n i d : ℕ) (text : List ℕ) → i < length text → hex_digit (get_or text i 0) ≡ Some d
     → hex_after n (drop i text) ≡ hex_after (16 * n + d) (drop (i + 1) text)
 unfolding hex_after

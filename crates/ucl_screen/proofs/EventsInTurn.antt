@@ -10,9 +10,11 @@ unfoldable use Rattle.ucl_screen.specs.Events.{each_in_turn}
 pub past : {X : Type 0} (i : ℕ) (xs : List X) → length xs ≤ i → drop i xs ≡ []
 past i xs h = grind (arith, common_steps)
 
+-- an event that is still to be entered is the first of the rest
 pub first-event : (i : ℕ) (events : List NightEvent) (e : NightEvent) → i < length events → e ≡ get_or events i e → drop i events ≡ e ∷ drop (i + 1) events
 first-event i events e h is = rw (add-one i) (drop-cons events i e h ∙ ap (λ (x : NightEvent). x ∷ drop (suc i) events) (sym is))
 
+-- no board has a version above the greatest
 pub version-bound : (history : List Entry) (words : List ℕ) (version : ℕ) → IsBoardAfter history words version → version ≤ max_version
 version-bound history words version is = rw is.version_is (versions history is.legal).1
 
@@ -44,8 +46,6 @@ module _ {X : Type 0} (each : ℕ → List Entry → NightEvent → List X) (eve
   unfolding each_in_turn
   entered-all h =
       let none = past i events h in (sym (append-nil given) ∙ (rw none at so_far.given_is), sym so_far.board_is.words_are ∙ ap board_of (rw none at so_far.entries))
-
--- ---- the lines of matches, one after the other
 
 pub match-numbered : (n : ℕ) → 1 ≤ n → n ≤ 12 → get_or match_numbers (n - 1) 0 ≡ n
 match-numbered n low high = each_match (λ g. get_or match_numbers (g - 1) 0 ≡ g) refl refl refl refl refl refl refl refl refl refl refl refl n (low, high)

@@ -14,6 +14,7 @@ abbrev pub low : ℕ → ℕ → List ℕ → List ℕ
 low zero n rest = rest
 low (suc k) n rest = low k (n / 16) (digit_glyph false (n % 16) ∷ rest)
 
+-- the last k digits, one of which is put before the others
 pub low-step : (k n : ℕ) (rest : List ℕ) → 0 < k → low k n rest ≡ low (k - 1) (n / 16) (digit_glyph false (n % 16) ∷ rest)
 low-step zero n rest h = absurd (omega arith)
 low-step (suc k) n rest h = let e : suc k - 1 ≡ k = omega arith in rw e refl
@@ -22,6 +23,7 @@ zeros-then : (k : ℕ) (rest : List ℕ) → replicate k 48 ++ 48 ∷ rest ≡ 4
 zeros-then zero rest = refl
 zeros-then (suc k) rest = ap (λ (l : List ℕ). 48 ∷ l) (zeros-then k rest)
 
+-- the last k digits of 0 are zeros
 low-zero : (k : ℕ) (rest : List ℕ) → low k 0 rest ≡ replicate k 48 ++ rest
 low-zero zero rest = refl
 low-zero (suc k) rest = low-zero k (48 ∷ rest) ∙ zeros-then k rest
@@ -33,6 +35,7 @@ record Spelled (k n : ℕ) (rest text : List ℕ) : Type 0 where
   short : length spelt ≤ suc k
   filled : replicate (suc k - length spelt) 48 ++ (spelt ++ rest) ≡ low (suc k) n rest
 
+-- a number below 16 is spelled by one digit
 alone : (k j n : ℕ) (rest : List ℕ) → (n / 16 == 0) ≡ true → Spelled k n rest (digits_onto (suc j) 16 false n rest)
 alone k j n rest y =
     let none : n / 16 ≡ 0 = grind (arith, nat_tests) in
@@ -68,6 +71,7 @@ digits-at : (k n : ℕ) → k ≡ 64 → digits_onto k 16 false n [] ≡ digits 
 unfolding digits
 digits-at k n e = rw e refl
 
+-- a word is spelled by at most sixteen
 spelled-word : (j n : ℕ) → suc j ≡ 64 → n < 2 ^ 64 → Spelled 15 n [] (digits 16 false n)
 spelled-word j n e small = subst (Spelled 15 n []) (digits-at (suc j) n e) (spelled 15 j n [] (omega arith) (omega arith))
 
@@ -90,11 +94,11 @@ digits-step word place rest old new digit some short is e so_far =
     ap (drop (place - 1)) e ∙ drop-set old (place - 1) digit within ∙ ap (λ (n : ℕ). digit ∷ drop n old) back ∙ ap (λ (d : ℕ). d ∷ drop place old) is in
     ap (low (place - 1) (rest / 16)) tail ∙ sym (low-step place rest (drop place old) some) ∙ so_far
 
+-- after the sixteenth digit they are those of the word
 pub digits-end : (word place rest : ℕ) (digits : List ℕ) → place ≡ 0 → word < 2 ^ 64 → low place rest (drop place digits) ≡ low 16 word [] → digits ≡ hex_digits word
 digits-end word place rest digits none small so_far = (rw none at so_far) ∙ sym (word-digits word small)
 
--- ---- read back
-
+-- the byte of a digit is read back as it
 glyph-back : (d : ℕ) → d < 16 → hex_digit (digit_glyph false d) ≡ Some d
 glyph-back (suc (suc (suc (suc (suc (suc (suc (suc (suc (suc (suc (suc (suc (suc (suc (suc d)))))))))))))))) h = absurd (omega arith)
 glyph-back _ _ = refl
@@ -102,6 +106,7 @@ glyph-back _ _ = refl
 spell : (before last power next n : ℕ) → next ≡ 16 * power → n ≡ 16 * before + last → (a : ℕ) → 16 * (a * power + before) + last ≡ a * next + n
 spell before last power next n e f a = rw (e, f) (omega arith)
 
+-- the last k digits of a number below 16^k, read after a, make a * 16^k and the number
 low-back : (k n a : ℕ) (rest : List ℕ) → n < 16 ^ k → hex_after a (low k n rest) ≡ hex_after (a * 16 ^ k + n) rest
 unfolding hex_after
 low-back zero n a rest h = ap (λ (m : ℕ). hex_after m rest) (omega arith)
@@ -118,6 +123,7 @@ low-length (suc k) n rest = low-length k (n / 16) (digit_glyph false (n % 16) �
 of-sixteen : (text : List ℕ) (n : ℕ) → length text ≡ 16 → hex_after 0 text ≡ Some n → hex_word text ≡ Some n
 of-sixteen text n e h = rw (eq-eqb (length text) 16 e) h
 
+-- the sixteen digits of a word are read back as it
 pub word-back : (word : ℕ) → word < 2 ^ 64 → hex_word (hex_digits word) ≡ Some word
 unfolding hex_after
 word-back word h =

@@ -11,6 +11,7 @@ pub known : (old : Option (List ℕ)) (bytes : List ℕ) (P : Result (List ℕ) 
 known None bytes P h p = tt
 known (Some xs) bytes P h p = subst P (sym h) p
 
+-- what a script was read as is what the bytes of its source mean
 pub night-reads : (r : Result Night InputFault) (old new : Option (List ℕ)) (failed : Bool) (bytes : List ℕ) → failed ≡ false
     → IfSome old (λ xs. whole_input xs ≡ Ok bytes) → IfErr r IsFaultOfScript → AnswersAsSaid night_seen r (night_of_rows (rows_of bytes)) → Reads MeansNight night_seen old new failed r
 night-reads (Ok night) old new failed bytes f h kinds g = (f, known old bytes (λ w. (w >>= λ text. night_of_rows (rows_of text)) ≡ Ok (night_seen night)) h g)
@@ -24,10 +25,12 @@ night-reads (Err e) old new failed bytes f h kinds g = absurd kinds
 abbrev pub rows_say : List ℕ → Result WrittenSheet InputFault → Type 0
 rows_say bytes said = sheet_of_rows (rows_of bytes) ≡ said
 
+-- what the rows of a text say of a sheet, the bytes of its source say
 sheet-known : (old : Option (List ℕ)) (bytes : List ℕ) (said : Result WrittenSheet InputFault) → IfSome old (λ xs. whole_input xs ≡ Ok bytes) → rows_say bytes said
     → IfSome old (λ xs. sheet_of xs ≡ said)
 sheet-known old bytes said h g = known old bytes (λ w. (w >>= λ text. sheet_of_rows (rows_of text)) ≡ said) h g
 
+-- a sheet that is refused for its rows is refused for what the bytes mean
 pub sheet-refused : (e : InputFault) (old new : Option (List ℕ)) (failed : Bool) (bytes : List ℕ) → failed ≡ false
     → IfSome old (λ xs. whole_input xs ≡ Ok bytes) → IsFaultOfScript e → Refuses e (sheet_of_rows (rows_of bytes)) → Reads MeansSheet sheet_seen old new failed (Err e)
 sheet-refused (fault.BadRow row) old new failed bytes f h kinds g = (f, sheet-known old bytes (Err (fault.BadRow row)) h g)
@@ -36,10 +39,12 @@ sheet-refused fault.OutOfMemory old new failed bytes f h kinds g = f
 sheet-refused fault.TooLong old new failed bytes f h kinds g = (f, sheet-known old bytes (Err fault.TooLong) h g)
 sheet-refused e old new failed bytes f h kinds g = absurd kinds
 
+-- P, and so Q, holds of the bytes that a source had, if they are known
 both-known : (old : Option (List ℕ)) (P Q : List ℕ → Type 0) → IfSome old P → ((xs : List ℕ) → P xs → Q xs) → IfSome old Q
 both-known None P Q p q = tt
 both-known (Some xs) P Q p q = q xs p
 
+-- a sheet whose words are read as a board is taken, and one with a bad word is refused for it
 pub sheet-taken : (sheet : Sheet) (words : List ℕ) (old new : Option (List ℕ)) (failed : Bool) (bytes : List ℕ) → failed ≡ false
     → IfSome old (λ xs. whole_input xs ≡ Ok bytes) → rows_say bytes (Ok (record { clubs = sheet.roster; words = words }))
     → read_words 1 words ≡ Ok sheet.board → Reads MeansSheet sheet_seen old new failed (Ok sheet)

@@ -10,8 +10,7 @@ use Rattle.ucl_board.specs.declared.reading.Reading.{Reading}
 use Rattle.ucl_steps.proofs.Histories.{get_some, number_expected, read_back, squeezed, board_from}
 use Rattle.ucl_board.specs.Log.{Look, Swap}
 
--- accesses along a history
-
+-- accesses that follow a history from one length of it to another: the second is no less
 pub follows_ends : (h : List Entry) (low high : ℕ) (ms : List Access) → Follows h low ms high → low ≤ high
 follows_ends h low high [] f = f
 follows_ends h low high (m ∷ ms) f = let a = f.0 in let b = follows_ends h m.at high ms f.2 in omega arith
@@ -26,6 +25,7 @@ pub follows_wider : (h : List Entry) (low low' high high' : ℕ) (ms : List Acce
 follows_wider h low low' high high' [] l u f = let a : low ≤ high = f in omega arith
 follows_wider h low low' high high' (m ∷ ms) l u f = let a = f.0 in (omega arith, f.1, follows_wider h m.at m.at high high' ms (le_refl m.at) u f.2)
 
+-- accesses to a length, and then others from it, follow the history one after the other
 pub follows_append : (h : List Entry) (low middle high : ℕ) (ms ns : List Access) → Follows h low ms middle → Follows h middle ns high → Follows h low (ms ++ ns) high
 follows_append h low middle high [] ns f g = follows_wider h middle low high high ns f (le_refl high) g
 follows_append h low middle high (m ∷ ms) ns f g = (f.0, f.1, follows_append h m.at middle high ms ns f.2 g)
@@ -46,12 +46,12 @@ pub record Parts (h : List Entry) (low high : ℕ) (ms ns : List Access) : Type 
   pub latter : Follows h middle ns high
   pub ends : (k : ℕ) (m : Access) → slice_get ms k ≡ Some m → k + 1 ≡ length ms → m.at ≡ middle
 
+-- accesses of two parts follow the history part by part
 pub follows_parts : (h : List Entry) (low high : ℕ) (ms ns : List Access) → Follows h low (ms ++ ns) high → Parts h low high ms ns
 follows_parts h low high (m ∷ n ∷ ms) ns f = search (arith, follows_parts h m.at high (n ∷ ms) ns f.2)
 follows_parts h low high ms ns f = search (arith, le_refl, none-some, same_Some)
 
--- collects
-
+-- no access is a collect, and one more that finds the next word
 pub collect_none : (kind : AccessKind) (words : List ℕ) → IsCollect kind words []
 collect_none kind words k m e = absurd (none-some m e)
 
@@ -62,8 +62,6 @@ collect_more kind words ms m c does found k x e = search (arith, at_either)
 -- the words past the collect may change
 pub collect_set : (kind : AccessKind) (words : List ℕ) (ms : List Access) (i n : ℕ) → length ms ≤ i → IsCollect kind words ms → IsCollect kind (slice_set words i n) ms
 collect_set kind words ms i n le c k m e = let t = c k m e in let l = at_below ms k m e in (t.0, t.1 ∙ sym (get_or-set_other words i k n 0 (λ z. omega arith)))
-
--- tries
 
 -- the last Second of an unclean try was overtaken by an entry since the First of its match
 overtaken : (h : List Entry) (low high : ℕ) (ms : List Access) → Follows h low ms high → (try : IsUnclean ms) (first : Access)
@@ -78,6 +76,7 @@ overtaken h low high ms f try first at =
     let c = try.collected k first at in
     search (arith, x, y, c, try.broken.kind, try.broken.differs)
 
+-- the last access of an unclean try comes when the history is longer than at the first load of that match
 pub broken_later : UncleanTriesSeeMore
 broken_later h low high ms f try first at = (overtaken h low high ms f try first at).1
 
@@ -87,6 +86,7 @@ unclean_try h low high ms f try =
     let first = get_some try.firsts (length try.broken.equal) (omega arith) in
     search (arith, overtaken h low high ms f try first.0 first.1, try.accesses, try.broken.accesses, length-append)
 
+-- unclean tries have no more than 24 accesses each, and are no more than the entries that came
 pub tries_bound : (h : List Entry) (low high : ℕ) (tries : List (List Access)) → Follows h low (accesses_of tries) high → AllByRecursion IsUnclean tries
     → (low + length tries ≤ high) × (length (accesses_of tries) ≤ 24 * length tries)
 tries_bound h low high [] f all = (omega arith, omega arith)
@@ -123,6 +123,7 @@ clean_shows h low high reading ms legal f clean =
     let high_ok = follows_ends h parts.middle high clean.seconds parts.latter in
     search (arith, board_from, length-append, parts.middle, reading.board, clean.twelve.0, clean.accesses, clean.firsts, clean.seconds)
 
+-- a reading is the board at one length of the history that its accesses follow, within the bounds of its tries
 pub reading_whole : ReadingsAreSnapshots
 reading_whole h low high reading ms legal le f accesses =
     let parts = follows_parts h low high (accesses_of accesses.tries) accesses.last (subst (λ (z : List Access). Follows h low z high) accesses.accesses f) in
@@ -133,8 +134,7 @@ reading_whole h low high reading ms legal le f accesses =
     let long = (versions h legal).1 in
     search (arith, follows_parts, tries_bound, clean_shows, versions, length-append)
 
--- reports
-
+-- if a reply accepts an event, the rules refuse it for nothing
 pub none_of_ok : (n : ℕ) (o : Option Refusal) → IsOk (answer n o) → o ≡ None
 none_of_ok n o is = search (arith, false≢true)
 

@@ -23,13 +23,13 @@ abbrev pub LiesWithin : CallRecord → ℕ → Reply → ℕ → Type 0
 LiesWithin c k (Accepted a) len = (c.begun ≤ k) × (k < len) × IfSome c.ended (λ ended. k < ended)
 LiesWithin c k reply len = (c.begun ≤ k) × (k ≤ len) × IfSome c.ended (λ ended. k ≤ ended)
 
--- the call has a reply at a point between its beginning and its end, and it is the sequential one; or it has neither, and goes on
+-- the call has a point between its beginning and its end, and the sequential reply there; or it has neither, and goes on
 abbrev pub Explains : List Entry → CallRecord → Option ℕ → Option Reply → Type 0
 Explains history c (Some k) (Some reply) = LiesWithin c k reply (length history) × IsSequential history k c.caller c.call reply
 Explains history c None None = c.ended ≡ None
 Explains history c point reply = ⊥
 
--- a reporter asks for an event of a match
+-- call a is that of a reporter who enters the event e of a match, and has no reply yet
 pub record Asks (a : CallRecord) (e : EventCall) : Type 0 where
   pub call : a.call ≡ Event e
   pub reporter : ℕ
@@ -40,7 +40,7 @@ pub record Asks (a : CallRecord) (e : EventCall) : Type 0 where
   pub point : a.point ≡ None
   pub reply : a.reply ≡ None
 
--- the word that it found there once, on which the rules accept
+-- call a enters the event e: once it found the word `old` of its match, on which the rules accept e, and `new` is to take its place
 pub record Offers (h : List Entry) (a : CallRecord) (e : EventCall) (old new : ℕ) : Type 0 where
   pub asks : Asks a e
   pub place : ℕ
@@ -49,24 +49,27 @@ pub record Offers (h : List Entry) (a : CallRecord) (e : EventCall) (old new : �
   pub accepted : refusal_of (record_at old) e.expected e.kind ≡ None
   pub next : new ≡ word_of (after (record_at old) asks.reporter e.kind)
 
--- each word was that of its match at a place, at the latest this one
+-- each of these words was that of its match at some length of the history, at the latest this one
 abbrev pub Loaded : List Entry → List ℕ → ℕ → Type 0
 Loaded h words latest = (i : ℕ) → i < length words → (p : ℕ) × (p ≤ latest) × (get_or words i 0 ≡ word_of (match_after (take p h) (i + 1)))
 
--- the first n words are those at this place
+-- the first n of these words are those of their matches at this length of the history
 abbrev pub AreAt : List Entry → List ℕ → ℕ → ℕ → Type 0
 AreAt h words n point = (i : ℕ) → i < n → get_or words i 0 ≡ word_of (match_after (take point h) (i + 1))
 
+-- call a is a reading, and has no reply yet
 pub record Reads (a : CallRecord) : Type 0 where
   pub call : a.call ≡ Reading
   pub point : a.point ≡ None
   pub reply : a.reply ≡ None
 
+-- a reading that has loaded these words, fewer than twelve, in its first collect
 pub record Collects (h : List Entry) (a : CallRecord) (words : List ℕ) : Type 0 where
   pub reads : Reads a
   pub few : length words < 12
   pub loaded : Loaded h words (length h)
 
+-- a reading that has loaded twelve words, by the length `point` of the history, and found so many of them again
 pub record Checks (h : List Entry) (a : CallRecord) (words : List ℕ) (checked point : ℕ) : Type 0 where
   pub reads : Reads a
   pub twelve : length words ≡ 12
@@ -76,12 +79,14 @@ pub record Checks (h : List Entry) (a : CallRecord) (words : List ℕ) (checked 
   pub loaded : Loaded h words point
   pub same : AreAt h words checked point
 
+-- the call that a caller is in, if it is in one
 abbrev pub in_call : CallerState → Option ℕ
 in_call Idle = None
 in_call (Wanting k e) = Some k
 in_call (Within k held) = Some k
 in_call (Answered k) = Some k
 
+-- what a caller holds says truly how far its call a is
 abbrev pub Sees : List Entry → CallRecord → CallerState → Type 0
 Sees h a Idle = Unit {0}
 Sees h a (Wanting k e) = Asks a e
@@ -99,6 +104,7 @@ pub record Knows (h : List Entry) (calls : List CallRecord) (c : Caller) (x : Ca
   pub unended : call.ended ≡ None
   pub sees : Sees h call x
 
+-- what is known of calls over a history is known over a longer one
 module _ (h h' : List Entry) (b : IsPrefix h h') where
   moved_word : (words : List ℕ) (i k : ℕ) → k ≤ length h → get_or words i 0 ≡ word_of (match_after (take k h) (i + 1)) → get_or words i 0 ≡ word_of (match_after (take k h') (i + 1))
   moved_word words i k l e = e ∙ ap (λ (z : List Entry). word_of (match_after z (i + 1))) (sym (take_beginning h h' k b l))
@@ -136,6 +142,7 @@ IsDecided call k reply = (call.point ≡ Some k) × (call.reply ≡ Some reply)
 abbrev IsWhole : CallRecord → Option ℕ → Option Reply → Type 0
 IsWhole c point reply = (IsSome c.ended → IsSome reply) × (IsSome point ↔ IsSome reply)
 
+-- an explained call that has ended has its reply, and it has a point exactly if it has one
 whole_by : (history : List Entry) (c : CallRecord) (point : Option ℕ) (reply : Option Reply) → Explains history c point reply → IsWhole c point reply
 whole_by history c point reply s = search (arith, false≢true)
 
@@ -152,8 +159,6 @@ module _ (history : List Entry) (c : CallRecord) (explained : Explains history c
 
   pub decided : (k : ℕ) (reply : Reply) → IsDecided c k reply → Explains history c (Some k) (Some reply)
   decided k reply is = subst (λ (p : Option ℕ). Explains history c p (Some reply)) is.0 (subst (λ (r : Option Reply). Explains history c c.point r) is.1 explained)
-
--- calls that have their replies, in time
 
 -- the reply to a call is that of the board of one thread at its point
 abbrev pub IsSettled : List Entry → FinishedCall → Type 0
@@ -212,9 +217,7 @@ module _ {I : Type 0} (h : List Entry) (IsCall : I → FinishedCall → Type 0) 
         grind (arith, version_is h a read (explained i a at) is_read, version_is h b again (explained j b bt) is_again, real i j a b at bt turn, (explained i a at).within, (explained j b bt).within);
   }
 
--- which call made an entry
-
--- whether a call has a reply, and it is that its event was accepted
+-- whether a reply is there, and it is that an event was accepted
 abbrev pub is_accepted : Option Reply → Bool
 is_accepted (Some reply) = accepts reply
 is_accepted None = false
@@ -233,21 +236,25 @@ and_some o P p = search arith
 pub some_and : {A : Type 0} (o : Option A) (P : A → Type 0) (x : A) → o ≡ Some x → P x → IsSomeAnd o P
 some_and {A = A} o P x e p = subst (λ (z : Option A). IsSomeAnd z P) (sym e) p
 
+-- an accepted call whose point is place m of the history
 abbrev pub IsMaker : ℕ → CallRecord → Type 0
 IsMaker m c = (is_accepted c.reply ≡ true) × (c.point ≡ Some m)
 
+-- the reply and the point of a call, by which it is known which entry it made
 abbrev pub decision : CallRecord → Option Reply × Option ℕ
 decision c = (c.reply, c.point)
 
 made_alike : (xs ys : List CallRecord) (i m : ℕ) → map decision xs ≡ map decision ys → Makes xs i m → Makes ys i m
 made_alike xs ys i m same made = search (arith, and_some, slice_get-map decision xs i, slice_get-map decision ys i, some_and)
 
+-- lists of calls that make the same entries: if each entry has one call in the first, so it has in the second
 once_same : (h : List Entry) (xs ys : List CallRecord) → ((i m : ℕ) → Makes xs i m → Makes ys i m) → ((i m : ℕ) → Makes ys i m → Makes xs i m) → EntryHasOneCall h xs → EntryHasOneCall h ys
 once_same h xs ys to from once m l = let t = once m l in (t.0, to t.0 m t.1, λ j made. t.2 j (from j m made))
 
 undecided : (c : CallRecord) (m : ℕ) → c.reply ≡ None → IsMaker m c → ⊥
 undecided c m none made = false≢true (ap is_accepted (sym none) ∙ made.0)
 
+-- call k of a list is changed by f
 module _ (xs : List CallRecord) (k : ℕ) (f : CallRecord → CallRecord) where
   made_else : (i m : ℕ) → i ≢ k → Makes (change_at k f xs) i m → Makes xs i m
   made_else i m not made = search (arith, and_some, get-change_at, some_and)
@@ -260,6 +267,7 @@ module _ (xs : List CallRecord) (k : ℕ) (f : CallRecord → CallRecord) where
   once_kept h same = let all = map_unseen decision k f same xs in
       once_same h xs (change_at k f xs) (λ i m. made_alike xs (change_at k f xs) i m (sym all)) (λ i m. made_alike (change_at k f xs) xs i m all)
 
+  -- call a has no reply before the change
   module _ (a : CallRecord) (here : slice_get xs k ≡ Some a) (none : a.reply ≡ None) where
     not_made : (i m : ℕ) → Makes xs i m → i ≢ k
     not_made i m made is = search (arith, and_some, undecided, same_Some)

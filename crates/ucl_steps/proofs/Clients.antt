@@ -15,14 +15,14 @@ use Rattle.ucl_steps.specs.ClientState.{ClientState, FollowsProtocol, IsNextFor,
 use Rattle.ucl_steps.specs.ClientState.{call_answered, client_at, client_of, entry_by, first_place, new_client, outcome, point_of}
 use Rattle.ucl_steps.specs.LogHistory.{IsCall, entries_before}
 
--- one step more
-
+-- a step of its own is added to what a pass has done; a step of another seat leaves it
 pub client_own : (log : Log) (x : Logged) → client_at x.seat (log ++ x ∷ []) ≡ with_step (client_at x.seat log) x.step
 client_own log x = ap client_of (taken_own x.seat log x.step) ∙ fold-append with_step new_client (taken_by x.seat log) (x.step ∷ [])
 
 pub client_other : (log : Log) (x : Logged) (seat : ℕ) → x.seat ≢ seat → client_at seat (log ++ x ∷ []) ≡ client_at seat log
 client_other log x seat not = ap client_of (taken_other seat log x not)
 
+-- P holds of what each pass has done after a step if it holds of what the step's own pass has done, and of the others as before
 pub by_seat : (log : Log) (x : Logged) (P : ℕ → ClientState → Type 0) (d : ClientState) → with_step (client_at x.seat log) x.step ≡ d → P x.seat d
     → ((seat : ℕ) → x.seat ≢ seat → P seat (client_at seat log)) → (seat : ℕ) → P seat (client_at seat (log ++ x ∷ []))
 by_seat log x P d is own other seat = elim (cases_eq x.seat seat) [
@@ -30,8 +30,7 @@ by_seat log x P d is own other seat = elim (cases_eq x.seat seat) [
   | inr not ↦ subst (P seat) (sym (client_other log x seat not)) (other seat not)
 ]
 
--- how many entries there were
-
+-- the entries before a place of a log are no more than its history, the same in a longer log, and rise with the place
 pub entries_low : (log : Log) (place : ℕ) → entries_before log place ≤ length (history_of log)
 entries_low log place =
     let e = ap (λ (l : Log). length (history_of l)) (sym (take-append-drop place log))
@@ -52,7 +51,7 @@ entries_rise log p q le =
 pub entries_all : (log : Log) → entries_before log (length log) ≡ length (history_of log)
 entries_all log = ap (λ (l : Log). length (history_of l)) (take-length log)
 
--- what is added where
+-- no step adds an entry but an exchange of a match word, whatever its pass holds
 pub look_none : (h : Pending) (number game found : ℕ) (e : EventCall) → entry_by number h (Match (Look e) game found) ≡ None
 look_none h number game found e = search arith
 
@@ -69,7 +68,6 @@ pub enlist_none : (h : Pending) (number found : ℕ) → entry_by number h (Enli
 enlist_none h number found = search arith
 
 -- the number of a pass is the one that its steps gave it
-
 outcome_number : (o : Outcome) (y : Taken) (d : ClientState) → (with_outcome o y d).number ≡ d.number
 outcome_number o y d = search arith
 
@@ -81,6 +79,7 @@ number_from : (d : ClientState) (n : ℕ) → d.number ≡ n → (steps : List T
 number_from d n is [] = is
 number_from d n is (x ∷ steps) = number_from (with_step d x) (number_by x.target n) (number_after x.target x d ∙ ap (number_by x.target) is) steps
 
+-- the number of a pass is that of all its steps, at most how many are enlisted, and no two seats have one but 0
 pub client_number : (steps : List Taken) → (client_of steps).number ≡ number_of steps
 client_number steps = number_from new_client 0 refl steps
 
@@ -90,13 +89,11 @@ numbers_low log facts seat = let low = facts.low seat in let is = client_number 
 pub numbers_apart : (log : Log) → LogFacts log → (i j : ℕ) → 0 < (client_at i log).number → (client_at i log).number ≡ (client_at j log).number → i ≡ j
 numbers_apart log facts i j pos same = let n = client_number (taken_by i log) in let m = client_number (taken_by j log) in facts.apart i j (omega arith) (omega arith)
 
--- each step is legal
-
+-- a step that the protocol lets come next enlists only a pass that has no number, and adds no entry then
 pub may_enlist : (d : ClientState) (number : ℕ) (t : Target) (entry : Option Entry) → d.number ≡ number → IsNextFor d t → entry ≡ entry_by d.number d.held t → MayEnlist number t entry
 may_enlist d number t entry same next is = search (arith, enlist_none)
 
--- what is held within a call
-
+-- a pass that holds an event, or words, is in a call
 pub holding : (e : EventCall) (old new : ℕ) → Holding e old new ≢ NoCall
 holding e old new is = cc
 
@@ -130,12 +127,12 @@ adds_by number (Checking words checked point) (Match Second game found) now = by
     by a b = search arith
 adds_by number h t now = search arith
 
--- the point that a reading noted comes after its first step
-
+-- a reading that has its words noted its point after its first step, and not in the future
 abbrev Noted : Log → ℕ → Pending → Type 0
 Noted log first (Checking words checked point) = (entries_before log first ≤ point) × (point ≤ length (history_of log))
 Noted log first held = Unit {0}
 
+-- the point that a reading noted by a step with this outcome comes after its first step, and not in the future
 abbrev NotedBy : Log → ℕ → Outcome → Type 0
 NotedBy log first (GoesOn held) = Noted log first held
 NotedBy log first (Answers reply) = Unit {0}
@@ -144,14 +141,15 @@ noted_by : (log : Log) (first place number now : ℕ) (h : Pending) (t : Target)
     → now ≤ length (history_of log) → Noted log first h → NotedBy log (first_place h first place) (outcome number h t now)
 noted_by log first place number now h t low high s = search arith
 
--- where a call begins and what its point is, by what is held
-
+-- all before the present step, and before the call under way, is before the call's first step
 first_after : (h : Pending) (first place last : ℕ) → last < place → (h ≢ NoCall → last < first) → last < first_place h first place
 first_after h first place last now was = search (arith, holding, collecting, checking)
 
+-- the first step of a call is no later than the present step
 first_low : (h : Pending) (first place : ℕ) → (h ≢ NoCall → first < place) → first_place h first place ≤ place
 first_low h first place was = search (arith, le_refl, holding, collecting, checking)
 
+-- the entries before it are as many as there were when the call began
 begun_by : (log : Log) (h : Pending) (begun first place now : ℕ) → now ≡ length (history_of log) → place ≡ length log
     → (h ≢ NoCall → begun ≡ entries_before log first) → first_place h begun now ≡ entries_before log (first_place h first place)
 begun_by log h begun first place now is here was = search (arith, holding, collecting, checking, entries_all)
@@ -187,11 +185,12 @@ pub record InTurn (log : Log) (seat : ℕ) (d : ClientState) : Type 0 where
   begun : d.held ≢ NoCall → d.begun ≡ entries_before log d.first
   noted : Noted log d.first d.held
 
--- an entry is of a call
+-- some call made the entry at this place of the history
 pub record IsMade (log : Log) (place : ℕ) : Type 0 where
   pub call : ℕ × ℕ
   pub by : MadeBy (λ (i : ℕ × ℕ). IsCall log i.0 i.1) place call
 
+-- in a log the calls of each pass come one after another, and each entry is of some call
 pub record AllInTurn (log : Log) : Type 0 where
   pub turn : (seat : ℕ) → InTurn log seat (client_at seat log)
   pub made : (place : ℕ) → place < length (history_of log) → IsMade log place
@@ -210,10 +209,12 @@ one_seat log i j a b s t is =
 under_below : (log : Log) (seat : ℕ) (d : ClientState) → InTurn log seat d → d.held ≢ NoCall → d.first < length log
 under_below log seat d t some = let own = (t.under some).0 in at_below log d.first own.0 own.1
 
+-- a log with one step more
 module _ (log : Log) (x : Logged) where
   pub begins : IsPrefix (history_of log) (history_of (log ++ x ∷ []))
   begins = (entry_list x.step.entry, sym (history_more log x))
 
+  -- an entry that the step added makes the history longer by one
   grown : (e : Entry) → x.step.entry ≡ Some e → length (history_of (log ++ x ∷ [])) ≡ length (history_of log) + 1
   grown e is = ap length (history_more log x ∙ ap (λ (o : Option Entry). history_of log ++ entry_list o) is) ∙ length_push (history_of log) e
 
@@ -238,6 +239,7 @@ module _ (log : Log) (x : Logged) where
         by_end = λ made. ((t.by_end made).0 ∙ sym same_last, (t.by_end made).1);
       }
 
+  -- a point that was noted stays noted, and the calls of a pass stay in turn
   noted_later : (first : ℕ) (h : Pending) → (h ≢ NoCall → first < length log) → Noted log first h → Noted (log ++ x ∷ []) first h
   noted_later first h low s = search (arith, checking, entries_same log (x ∷ []) first, begins_length (history_of log) (history_of (log ++ x ∷ [])) begins)
 
@@ -252,9 +254,7 @@ module _ (log : Log) (x : Logged) where
 
   -- a step of one seat
   module _ (place_is : x.step.place ≡ length log) (at_is : x.step.at ≡ length (history_of log)) (d : ClientState) (t : InTurn log x.seat d) where
-    abbrev log' : Log
-    log' = log ++ x ∷ []
-
+    -- the first step of the call under way is no later than this step, and of this seat
     first_is : first_place d.held d.first x.step.place ≤ x.step.place
     first_is = first_low d.held d.first x.step.place (λ some. let low = under_below log x.seat d t some in omega arith)
 
@@ -262,6 +262,7 @@ module _ (log : Log) (x : Logged) where
     begins_here = first_own (log ++ x ∷ []) x.seat d.held d.first x.step.place (x, ap (slice_get (log ++ x ∷ [])) place_is ∙ at_end log x, refl)
         (λ some. own_later x.seat d.first (t.under some).0)
 
+    -- all calls that were finished ended before it
     after_all : (k : ℕ) (a : FinishedCall) → slice_get d.calls k ≡ Some a → a.last < first_place d.held d.first x.step.place
     after_all k a at = let below = last_below log x.seat a (t.timed k a at) in
         first_after d.held d.first x.step.place a.last (omega arith) (λ some. (t.under some).1 k a at)
@@ -270,6 +271,7 @@ module _ (log : Log) (x : Logged) where
     since = let low = first_is in begun_by log d.held d.begun d.first x.step.place x.step.at at_is place_is t.begun
         ∙ sym (entries_same log (x ∷ []) (first_place d.held d.first x.step.place) (omega arith))
 
+    -- a call that is accepted by this step has its entry, and its point now
     added : (reply : Reply) → AddsBy d.held x.step.at x.step.entry (Answers reply) → accepts reply ≡ true
         → ((e : Entry) × (x.step.entry ≡ Some e)) × (point_of d.held x.step.at ≡ x.step.at)
     added (Accepted accepted) adds made = adds
@@ -332,11 +334,13 @@ module _ (log : Log) (x : Logged) where
     Then y = InTurn (log ++ x ∷ []) x.seat y × ((e : Entry) → x.step.entry ≡ Some e
         → (c : FinishedCall) × (slice_get y.calls (length d.calls) ≡ Some c) × (accepts c.reply ≡ true) × (c.point ≡ length (history_of log)))
 
+    -- if the step added an entry, it ended a call that was accepted, with its point there
     made_by : (o : Outcome) → AddsBy d.held x.step.at x.step.entry o → (e : Entry) → x.step.entry ≡ Some e
         → (c : FinishedCall) × (slice_get (with_outcome o x.step d).calls (length d.calls) ≡ Some c) × (accepts c.reply ≡ true) × (c.point ≡ length (history_of log))
     made_by (Answers (Accepted accepted)) adds e is = let c = call_answered (Accepted accepted) x.step d in (c, at_end d.calls c, refl, adds.1 ∙ at_is)
     made_by o adds e is = absurd (none-some e (sym adds ∙ is))
 
+    -- after a step the calls of its pass are in turn, and the entry that came is of a call, by the step's outcome
     by_outcome : (target : Target) → x.step.entry ≡ entry_by d.number d.held target → Then (with_outcome (outcome d.number d.held target x.step.at) x.step d)
     by_outcome target is =
         let o = outcome d.number d.held target x.step.at in
@@ -360,6 +364,7 @@ module _ (log : Log) (x : Logged) where
         (record { timed = u.timed; turns = u.turns; under = u.under; begun = u.begun; noted = u.noted }, λ e some. absurd (none-some e (sym (is ∙ enlist_none d.held d.number found) ∙ some)))
     step_in_turn (Whole shown) next is = absurd next
 
+-- a finished call stays where it is among those of its pass
 pub calls_kept : (target : Target) (y : Taken) (d : ClientState) (k : ℕ) (a : FinishedCall) → slice_get d.calls k ≡ Some a → slice_get (with_target target y d).calls k ≡ Some a
 calls_kept target y d k a at = search (arith, at_longer)
 
@@ -394,6 +399,7 @@ next_in_turn log x r may next =
               | inr other ↦ old place (omega arith)
             ]
 
+-- in each log that follows the protocol the calls of each pass come in turn, and each entry is of some call
 pub all_in_turn : (log : Log) → IsLog log → FollowsProtocol log → AllInTurn log
 all_in_turn log = may_induction MayBeTaken (λ l. FollowsProtocol l → AllInTurn l)
     (λ f. record {

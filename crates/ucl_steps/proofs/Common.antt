@@ -1,7 +1,7 @@
 -- The words and lemmas from elsewhere that the proofs of this crate share.
 pub use Rattle.std.proofs.Common.{Bool, Err, List, None, Ok, Option, Some, [], add-one, ap, append-nil, append_assoc, arith, cond, drop, eq-eqb, false}
 pub use Rattle.std.proofs.Common.{get_or, get_or-set_other, inl, inr, le_refl, length, length-append, length-take, map, nat_le, ne_eqb, refl, rules, set}
-pub use Rattle.std.proofs.Common.{subst, suc, sym, take, true, zero, ℕ, ◌&&◌, ◌*◌, ◌++◌, ◌+◌, ◌-◌, ◌<◌, ◌==◌, ◌∙◌, ◌∷◌, ◌≡◌, ◌≢◌, ◌≤◌, ◌⊎◌}
+pub use Rattle.std.proofs.Common.{subst, suc, sym, take, true, zero, ℕ, ◌*◌, ◌++◌, ◌+◌, ◌-◌, ◌<◌, ◌==◌, ◌∙◌, ◌∷◌, ◌≡◌, ◌≢◌, ◌≤◌, ◌⊎◌}
 pub use Rattle.std.proofs.Math.Seq.{take-append_seam, take-length}
 pub use Rattle.std.proofs.lemmas.Bool.{and_parts, cases_eq, cases_lt, cases_order, eqb-false, eqb-true, false≢true, le-leb, leb-true, not-false}
 pub use Rattle.std.proofs.lemmas.List.{ext_get_or, get_or_append_left, get_or_default, get_or_push, length-map, length-set, length-take-le, length_push}
@@ -22,7 +22,7 @@ pub use Rattle.ucl_board.specs.declared.entry.Entry.{Entry}
 pub use Rattle.ucl_steps.specs.Theorems.{ReadingsAreSnapshots, ReportsAreSequential, RunsAreLinearizable, UncleanTriesAreFew, UncleanTriesSeeMore}
 pub use Rattle.ucl_steps.specs.Theorems.{WordsAreOfTheHistory}
 pub use Rattle.ucl_steps.specs.Linearizable.{FinishedCall, GoesBefore, IsExplained, IsLinearizable, MadeBy, MakesEntry, accepts, sequential_answer}
-pub use Rattle.ucl_steps.specs.RunHistory.{BeginsAt, EndedBySteps, EndsAs, EndsAt, IsReplied, IsLinearizableRun, IsRecorded, begun_in, caller_and_call}
+pub use Rattle.ucl_steps.specs.RunHistory.{BeginsAt, EndedBySteps, EndsAs, EndsAt, IsReplied, IsLinearizableRun, begun_in, caller_and_call}
 pub use Rattle.ucl_steps.specs.RunHistory.{caller_number}
 pub use Rattle.ucl_steps.specs.Machine.{Answered, Callers, CallerState, Idle, MachineState, Wanting, Within, after_begin, after_end, after_outcome}
 pub use Rattle.ucl_steps.specs.Machine.{after_reply, after_step, after_step_holding, after_steps, caller_of, change_at, held_at_begin, held_by, initial_state}

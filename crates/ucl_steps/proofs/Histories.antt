@@ -8,6 +8,7 @@ use Rattle.ucl_word.specs.declared.event.Kind.{Kind}
 use Rattle.ucl_word.specs.Rules.{refusal_of}
 use Rattle.ucl_word.proofs.AcceptedEvents.{accepts, after_number}
 use Rattle.ucl_word.proofs.EntryCounts.{legal_balanced, legal_case, record_next, number_of_count}
+pub use Rattle.ucl_word.proofs.Sequences.{get_some, take_one}
 use Rattle.ucl_word.proofs.Words.{record_back}
 use Rattle.ucl_board.proofs.HistoryTheorems as low
 
@@ -15,19 +16,11 @@ module _ {A : Type 0} where
   pub if_some : (o : Option A) (P : A → Type 0) → ((x : A) → o ≡ Some x → P x) → IfSome o P
   if_some o P f = search arith
 
-  pub get_some : (xs : List A) (k : ℕ) → k < length xs → (x : A) × (slice_get xs k ≡ Some x)
-  get_some [] k l = absurd (omega arith)
-  get_some (x ∷ xs) zero l = (x, refl)
-  get_some (x ∷ xs) (suc k) l = get_some xs k (omega arith)
-
-  pub take_one : (xs : List A) (k : ℕ) (x : A) → slice_get xs k ≡ Some x → take (suc k) xs ≡ take k xs ++ x ∷ []
-  take_one (y ∷ xs) (suc k) x e = ap (λ (z : List A). y ∷ z) (take_one xs k x e)
-  take_one xs k x e = search (arith, none-some, same_Some)
-
   pub take_split : (xs : List A) (a b : ℕ) → a ≤ b → take b xs ≡ take a xs ++ drop a (take b xs)
   take_split xs a b l = sym (take-append-drop a (take b xs)) ∙ ap (λ (z : List A). z ++ drop a (take b xs)) (take-take a b xs l)
 
 module _ {X : Type 0} where
+  -- an element of a list with one changed is the changed one, or was there before
   pub get-change_at : (k : ℕ) (f : X → X) (xs : List X) (i : ℕ) (y : X) → slice_get (change_at k f xs) i ≡ Some y
       → ((i ≡ k) × (x : X) × (slice_get xs k ≡ Some x) × (f x ≡ y)) ⊎ ((i ≢ k) × (slice_get xs i ≡ Some y))
   get-change_at k f [] i y e = absurd (none-some y e)
@@ -49,6 +42,7 @@ module _ {X : Type 0} where
   change_at_else (suc k) f (x ∷ xs) (suc i) y not e = change_at_else k f xs i y (λ is. not (ap suc is)) e
 
 module _ {X Y : Type 0} where
+  -- a function that goes along with the change of an element, or does not see it
   pub map-change_at : (g : X → Y) (k : ℕ) (f : X → X) (f' : Y → Y) → ((x : X) → g (f x) ≡ f' (g x)) → (xs : List X) → map g (change_at k f xs) ≡ change_at k f' (map g xs)
   map-change_at g k f f' each [] = refl
   map-change_at g zero f f' each (x ∷ xs) = ap (λ (z : Y). z ∷ map g xs) (each x)
@@ -59,6 +53,7 @@ module _ {X Y : Type 0} where
   map_unseen g zero f each (x ∷ xs) = ap (λ (z : Y). z ∷ map g xs) (each x)
   map_unseen g (suc k) f each (x ∷ xs) = ap (λ (z : List Y). g x ∷ z) (map_unseen g k f each xs)
 
+-- an element that was set is there, and the others are as before
 get_set_here : {X : Type 0} (xs : List X) (k : ℕ) (x y : X) → slice_get xs k ≡ Some x → slice_get (slice_set xs k y) k ≡ Some y
 get_set_here (z ∷ xs) (suc k) x y e = get_set_here xs k x y e
 get_set_here xs k x y e = search arith
@@ -70,6 +65,7 @@ get_set_else xs k i y not = search arith
 pub same_caller : (c d : Caller) → (c ≡ d) ⊎ (c ≢ d)
 same_caller c d = search (arith, cases_eq)
 
+-- a caller that was set to hold y holds y, and others hold what they held
 pub held_here : (cs : Callers) (c : Caller) (x y : CallerState) → held_by cs c ≡ Some x → held_by (set_held y c cs) c ≡ Some y
 held_here cs c x y e = search (arith, none-some, get_set_here)
 
@@ -80,12 +76,15 @@ held_else cs c d y x e not = search (arith, none-some, get_set_else)
 pub number_expected : (m : MatchRecord) (expected : ℕ) (kind : Kind) → refusal_of m expected kind ≡ None → expected ≡ m.number
 number_expected m expected kind e = eqb-true expected m.number (not-false (expected == m.number) (accepts m expected kind e).current)
 
+-- a legal history with an entry that may follow is legal
 pub legal_snoc : (h : List Entry) (e : Entry) → IsLegal h → MayFollow h e → IsLegal (h ++ e ∷ [])
 legal_snoc h e legal may = may_next MayFollow h e legal may
 
+-- the event number of a match is how many entries it has
 pub number_is : (h : List Entry) (g : ℕ) → (match_after h g).number ≡ length (entries_of g h)
 number_is h g = number_of_count (entries_of g h)
 
+-- after an entry its match is as the rules say, and the others are as before
 pub match_next : (h : List Entry) (e : Entry) → IsLegal h → MayFollow h e → match_after (h ++ e ∷ []) e.game ≡ after (match_after h e.game) e.reporter e.kind
 match_next h e legal may = search (arith, entries_same, record_next, legal_balanced, legal_match, legal_case, accepts)
 
@@ -97,6 +96,7 @@ read_back h g legal = record_back (match_after h g) (match_valid g h legal)
 pub number_next : (h : List Entry) (e : Entry) → IsLegal h → MayFollow h e → (record_at (word_of (after (match_after h e.game) e.reporter e.kind))).number ≡ (match_after h e.game).number + 1
 number_next h e legal may = search (arith, match_next h e legal may, read_back, legal_snoc, after_number, e.game, e.reporter, e.kind)
 
+-- event numbers never fall along a history
 numbers_rise : (g : ℕ) (h : List Entry) (a b : ℕ) → a ≤ b → length (entries_of g (take a h)) ≤ length (entries_of g (take b h))
 numbers_rise g h a b l = search (arith, take_split h a b l, entries-append, length-append)
 
@@ -105,6 +105,7 @@ pub squeezed : (g x : ℕ) (h : List Entry) (a p b : ℕ) → IsLegal h → a �
     → x ≡ word_of (match_after (take p h) g)
 squeezed g x h a p b legal low high is_a is_b = search (arith, same_word, numbers_rise, number_is, same_number)
 
+-- the words of the board of a history are those of its matches, and an entry changes the word of its match alone
 pub board_get : (h : List Entry) (k : ℕ) → k < 12 → get_or (board_of h) k 0 ≡ word_of (match_after h (k + 1))
 board_get h k l = let e : k ≡ k + 1 - 1 = omega arith in ap (λ (z : ℕ). get_or (board_of h) z 0) e ∙ word_after h (k + 1) (omega arith, omega arith)
 

@@ -11,15 +11,18 @@ use Rattle.ucl_steps.proofs.Histories.{get_some}
 use Rattle.ucl_steps.specs.ClientState.{ClientState, FollowsProtocol, client_at, client_of, new_client, with_step}
 use Rattle.ucl_steps.specs.LogHistory.{IsCall}
 
+-- more steps leave the finished calls of a pass where they are
 steps_keep : (steps : List Taken) (d : ClientState) (k : ℕ) (c : FinishedCall) → slice_get d.calls k ≡ Some c → slice_get (fold with_step d steps).calls k ≡ Some c
 steps_keep [] d k c at = at
 steps_keep (x ∷ steps) d k c at = steps_keep steps (with_step d x) k c (calls_kept x.target x d k c at)
 
+-- a longer log leaves the finished calls of a pass where they are
 pub calls_stay : (log later : Log) (seat k : ℕ) (c : FinishedCall) → IsPrefix log later → IsCall log seat k c → IsCall later seat k c
 calls_stay log later seat k c p at =
     let is = ap client_of (taken_append seat log p.0) ∙ fold-append with_step new_client (taken_by seat log) (taken_by seat p.0) in
     subst (λ (l : Log). IsCall l seat k c) p.1 (subst (λ (d : ClientState). slice_get d.calls k ≡ Some c) (sym is) (steps_keep (taken_by seat p.0) (client_at seat log) k c at))
 
+-- a call that began after all that its pass knew began after all of a log in which the pass took no more steps
 pub begins_after : (known log later : Log) (seat k : ℕ) (c : FinishedCall) → IsLog later → FollowsProtocol later → IsPrefix log later → IsPrefix known log
     → taken_by seat known ≡ taken_by seat log → IsCall later seat k c → length known ≤ c.first → length log ≤ c.first
 begins_after known log later seat k c is follows p q same at since = elim (cases_lt c.first (length log)) [

@@ -20,16 +20,17 @@ pub record Offers (number : ℕ) (e : EventCall) (old new : ℕ) : Type 0 where
   pub accepted : refusal_of (record_at old) e.expected e.kind ≡ None
   pub next : new ≡ word_of (after (record_at old) number e.kind)
 
+-- what a pass with this number holds of an event is what it offered (Offers)
 abbrev pub Sees : ℕ → Pending → Type 0
 Sees number (Holding e old new) = Offers number e old new
 Sees number held = Unit {0}
 
+-- the steps of a log are legal, and each pass holds of an event what it offered
 pub record IsSound (log : Log) : Type 0 where
   pub steps : HasLegalSteps log
   pub sees : (seat : ℕ) → Sees (client_at seat log).number (client_at seat log).held
 
--- the entry of a step may come next
-
+-- the entry of an exchange may come next in the history
 swap_adds : (log : Log) (number : ℕ) (h : Pending) (game found : ℕ) → IsLegal (history_of log) → Sees number h
     → found ≡ word_of (match_after (history_of log) game) → game ≡ next_game Swap h → MayAdd (history_of log) number (entry_by number h (Match Swap game found))
 swap_adds log number (Holding e old new) game found legal o there next = by (found == old) refl
@@ -43,13 +44,13 @@ swap_adds log number (Holding e old new) game found legal o there next = by (fou
     by false is = tt
 swap_adds log number h game found legal sees there next = search arith
 
+-- the entry of each step that the protocol lets come next may come next in the history
 may_add : (log : Log) (d : ClientState) (t : Target) → IsLegal (history_of log) → Sees d.number d.held → IsThere log t → IsNextFor d t
     → MayAdd (history_of log) d.number (entry_by d.number d.held t)
 may_add log d (Match Swap game found) legal sees there next = swap_adds log d.number d.held game found legal sees there.1 next
 may_add log d t legal sees there next = search (arith, look_none, first_none, second_none, count_none, enlist_none)
 
--- what is held after it
-
+-- what a pass holds of an event after this outcome is what it offered
 abbrev SeesBy : ℕ → Outcome → Type 0
 SeesBy number (GoesOn held) = Sees number held
 SeesBy number (Answers reply) = Unit {0}
@@ -59,6 +60,7 @@ abbrev IsAsked : ℕ → Target → Type 0
 IsAsked number (Match (Look e) game found) = IsReporter number × IsMatch e.game
 IsAsked number target = Unit {0}
 
+-- what a pass holds of an event after a step is what it offered, if what it held before is
 sees_by : (number : ℕ) (h : Pending) (t : Target) (now : ℕ) → Sees number h → IsAsked number t → SeesBy number (outcome number h t now)
 sees_by number h (Match (Look e) game found) now sees asked = by (refusal_of (record_at found) e.expected e.kind) refl
   where
@@ -87,6 +89,7 @@ sees_next : (log : Log) (y : Taken) (d : ClientState) (t : Target) → Sees d.nu
 sees_next log y d (Match kind game found) sees there next = search (arith, sees_then, sees_by, is_asked log d kind game found there next)
 sees_next log y d t sees there next = search (arith, sees_then, sees_by)
 
+-- a log is sound with one step more
 sound_next : (log : Log) (x : Logged) → MayBeTaken log x → IsNextOfProtocol log x → IsSound log → IsSound (log ++ x ∷ [])
 sound_next log x may next was =
     let d = client_at x.seat log in
@@ -102,12 +105,14 @@ sound_next log x may next was =
           (sees_next log x.step d x.step.target (was.sees x.seat) may.there next.next) (λ seat not. was.sees seat);
     }
 
+-- each log that follows the protocol is sound: its steps are legal, and what is held was offered
 pub logs_sound : (log : Log) → IsLog log → FollowsProtocol log → IsSound log
 logs_sound log = may_induction MayBeTaken (λ l. FollowsProtocol l → IsSound l)
     (λ f. record { steps = may_none IsLegalStep; sees = λ seat. tt })
     (λ xs x before may was f. sound_next xs x may (may_last IsNextOfProtocol xs x f) (was (may_begin IsNextOfProtocol xs (x ∷ []) f)))
     log
 
+-- the rule of the protocol is legal: so the history is, and numbers and entries fit one another
 pub legal_steps : IsLegalRule IsNextOfProtocol
 legal_steps log is follows = (logs_sound log is follows).steps
 
@@ -117,8 +122,7 @@ logs_legal log is follows = legal_history log (legal_steps log is follows)
 pub logs_facts : (log : Log) → IsLog log → FollowsProtocol log → LogFacts log
 logs_facts log is follows = log_facts log is (legal_steps log is follows)
 
--- finished calls are of numbers that their pass had, which only rise
-
+-- the calls of a pass have no greater number than it has
 abbrev LowCalls : ClientState → Type 0
 LowCalls d = All (λ (c : FinishedCall). c.number ≤ d.number) d.calls
 
@@ -135,6 +139,7 @@ low_step (Match kind game found) y d next low = low_outcome (outcome d.number d.
 low_step (Whole shown) y d next low = absurd next
 low_step (Enlisted found) y d next low = low_outcome (outcome d.number d.held (Enlisted found) y.at) y d low
 
+-- the finished calls of each pass of a log have no greater number than it has
 pub calls_low : (log : Log) → IsLog log → FollowsProtocol log → (seat : ℕ) → LowCalls (client_at seat log)
 calls_low log = may_induction MayBeTaken (λ l. FollowsProtocol l → (seat : ℕ) → LowCalls (client_at seat l))
     (λ f seat. All-nil (λ (c : FinishedCall). c.number ≤ 0))

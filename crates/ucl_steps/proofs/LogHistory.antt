@@ -13,6 +13,7 @@ module _ (log : Log) (is : IsLog log) (follows : FollowsProtocol log) where
   all : AllInTurn log
   all = all_in_turn log is follows
 
+  -- c is call number i.1 of the pass of seat i.0
   abbrev Is : ℕ × ℕ → FinishedCall → Type 0
   Is i c = IsCall log i.0 i.1 c
 
@@ -23,11 +24,11 @@ module _ (log : Log) (is : IsLog log) (follows : FollowsProtocol log) where
       explained_by (history_of log) c ((run_of log is follows).settled i.0 i.1 c at) t.first
       (grind (arith, t.within, t.entries, entries_low log (c.last + 1))) (λ made. (t.by_end made).1)
 
+  -- a call that ended before another began ended with no more entries than there were then
   real : (i j : ℕ × ℕ) (a b : FinishedCall) → Is i a → Is j b → a.last < b.first → a.ended ≤ b.begun
   real i j a b at bt less = grind (arith, entries_rise log (a.last + 1) b.first, ((all.turn i.0).timed i.1 a at).entries, ((all.turn j.0).timed j.1 b bt).entries)
 
   -- two calls that made one entry ended with one step, and so are one call
-
   not_later : (i j : ℕ × ℕ) (a b : FinishedCall) → Is i a → Is j b → accepts a.reply ≡ true → accepts b.reply ≡ true → a.point ≡ b.point → a.last < b.last → ⊥
   not_later i j a b at bt made_a made_b same less =
       let s = (all.turn i.0).timed i.1 a at in

@@ -1,5 +1,5 @@
 -- A log is a run of the machine, with one caller for each pass; a longer log is a longer run.
-use Rattle.ucl_steps.proofs.Common.{◌≡◌, ◌≢◌, inl, inr, ℕ, zero, suc, ◌+◌, ◌-◌, ◌<◌, ◌≤◌, ◌==◌, ◌&&◌, nat_le, Bool, true, false, cond, List, ◌∷◌, ◌++◌}
+use Rattle.ucl_steps.proofs.Common.{◌≡◌, ◌≢◌, inl, inr, ℕ, zero, suc, ◌+◌, ◌-◌, ◌<◌, ◌≤◌, ◌==◌, nat_le, Bool, true, false, cond, List, ◌∷◌, ◌++◌}
 use Rattle.ucl_steps.proofs.Common.{length, get_or_append_left, get_or_push, length_push, Option, Some, None, refl, sym, ap, ◌∙◌, subst, arith, []}
 use Rattle.ucl_steps.proofs.Common.{append-nil, append_assoc, le-leb, same_Some, option_and_then, option_and_then_some, slice_get, slice_index, All, Entry}
 use Rattle.ucl_steps.proofs.Common.{EventCall, IsMatch, IsReporter, word_of, word_at, match_after, board_of, word_after, entry_of, Caller, Reporter, Reader}
@@ -8,6 +8,7 @@ use Rattle.ucl_steps.proofs.Common.{with_held, held_at_begin, after_begin, after
 use Rattle.ucl_steps.proofs.Common.{after_steps, Pending, NoCall, Holding, Collecting, Checking, Outcome, GoesOn, Answers, looked, swapped, loaded, compared}
 use Rattle.ucl_steps.proofs.Common.{FinishedCall, IsLinearizableRun, replicate, at_end, at_either, none-some}
 use Rattle.ucl_steps.proofs.Common.{All-nil, All-cons, CallRecord, with_reply, with_end, begins_length}
+use Rattle.std.proofs.lemmas.Bool.{and_from}
 use Rattle.ucl_word.proofs.Sequences.{may_induction, may_begin, may_last}
 use Rattle.ucl_steps.specs.declared.step.Step.TheVariants as machine
 use Rattle.ucl_steps.specs.Machine as rules
@@ -27,11 +28,11 @@ use Rattle.ucl_steps.specs.LogHistory.{IsCall}
 use Rattle.ucl_steps.specs.LogRuns.{caller_for, cast_for, ends_by, steps_on, steps_after, machine_steps, LongerLogsAreLongerRuns}
 use Rattle.ucl_steps.specs.LogRuns.{HoldsAs, LogsAreRuns}
 
--- the steps of a log, one step more, and of a longer log
-
+-- the machine's steps for one step more of a log
 abbrev own_steps : Log → Logged → List Step
 own_steps log x = let d = client_at x.seat log in steps_on (caller_for x.seat d.number) d.number d.held x.step.target x.step.at
 
+-- the machine's steps for two parts of a log are those for the first, and then those for the second after it
 steps_append : (before xs ys : Log) → steps_after before (xs ++ ys) ≡ steps_after before xs ++ steps_after (before ++ xs) ys
 steps_append before [] ys = ap (λ (l : Log). steps_after l ys) (sym (append-nil before))
 steps_append before (x ∷ xs) ys =
@@ -46,8 +47,7 @@ steps_more log x = steps_append [] log (x ∷ []) ∙ ap (λ (l : List Step). ma
 pub longer_logs : LongerLogsAreLongerRuns
 longer_logs log later p = (steps_after log p.0, sym (steps_append [] log p.0) ∙ ap machine_steps p.1)
 
--- steps of the machine, one after another
-
+-- a step and then the steps after it lead where these lead
 one_then : (s : Step) (steps : List Step) (w v u : MachineState) → after_step w s ≡ Some v → after_steps steps v ≡ Some u → after_steps (s ∷ steps) w ≡ Some u
 one_then s steps w v u one rest = ap (option_and_then (after_steps steps)) one ∙ rest
 
@@ -141,17 +141,13 @@ leaves_begun c call w steps point o history idle may l =
 begun_now : (c : Caller) (call : Call) (w : MachineState) → IsCallOf (after_begin c call w).calls (length w.calls) c call
 begun_now c call w = let b = begun_call c call (length w.history) in record { record_is = b; at = at_end w.calls b; caller = refl; asked = refl }
 
-and_true : (a b : Bool) → a ≡ true → b ≡ true → (a && b) ≡ true
-and_true a b p q = ap (λ (z : Bool). z && b) p ∙ q
-
 may_report : (number : ℕ) (e : EventCall) → IsReporter number → IsMatch e.game → rules.may_begin (Reporter number) (Event e) ≡ true
-may_report number e reporter is = search (arith, and_true, nat_le, le-leb)
+may_report number e reporter is = search (arith, and_from, nat_le, le-leb)
 
 may_read : (c : Caller) → rules.may_begin c Reading ≡ true
 may_read c = search arith
 
--- one step of a pass on a match word, by its caller
-
+-- the board before one step of a pass on a match word, which finds the word that is there
 module _ (steps : List Step) (w : MachineState) (kept : Keeps steps w) (number game found at : ℕ) (is : IsMatch game)
     (there : found ≡ word_of (match_after w.history game)) (now : at ≡ length w.history) where
   word_here : word_at w.words game ≡ found
@@ -160,6 +156,7 @@ module _ (steps : List Step) (w : MachineState) (kept : Keeps steps w) (number g
   word_in : (k : ℕ) → game ≡ k + 1 → slice_index w.words k ≡ found
   word_in k of = let same : k ≡ game - 1 = omega arith in ap (slice_index w.words) same ∙ word_here
 
+  -- the caller's steps for that lead on, with these entries behind the history
   abbrev Gives : Caller → AccessKind → Pending → List Entry → Type 0
   Gives c act h entries = Leaves c w (steps_on c number h (Match act game found) at) (call_asked h (Match act game found)) (point_of h at)
       (outcome number h (Match act game found) at) (w.history ++ entries)
@@ -168,6 +165,7 @@ module _ (steps : List Step) (w : MachineState) (kept : Keeps steps w) (number g
       → Leaves c v steps call point o (w.history ++ [])
   kept_history {c} {v} {steps} {call} {point} {o} l = subst (Leaves c v steps call point o) (sym (append-nil w.history)) l
 
+  -- the load that begins a report leads on, by a reporter that is idle
   look_gives : (e : EventCall) → IsReporter number → game ≡ e.game → held_by w.callers (Reporter number) ≡ Some Idle → Gives (Reporter number) (Look e) NoCall []
   look_gives e reporter of idle =
       let c = Reporter number in
@@ -209,6 +207,7 @@ module _ (steps : List Step) (w : MachineState) (kept : Keeps steps w) (number g
           (Event e) (swapped old new found) holds refl known (step_is false is))
 
   module _ (c : Caller) where
+    -- the load of one word of a first collect, in a state with the same words and history
     loads : (v : MachineState) (ws : List ℕ) (k : ℕ) → v.words ≡ w.words → v.history ≡ w.history
         → held_by v.callers c ≡ Some (Within k (Collecting ws)) → IsCallOf v.calls k c Reading → game ≡ length ws + 1
         → Leaves c v (machine.First c ∷ ends_by (loaded ws found at) c) Reading at (loaded ws found at) w.history
@@ -221,6 +220,7 @@ module _ (steps : List Step) (w : MachineState) (kept : Keeps steps w) (number g
         subst (Leaves c v (machine.First c ∷ ends_by (loaded ws found at) c) Reading at (loaded ws found at)) same_history
         (leaves_by c v v (machine.First c) k at (Within k (Collecting ws)) Reading (loaded ws found at) holds refl known one)
 
+    -- the load of one word of a first collect leads on from a caller that is idle, and from one that has loaded words
     first_begins : game ≡ 1 → held_by w.callers c ≡ Some Idle → Gives c First NoCall []
     first_begins next idle =
         let v = after_begin c Reading w in
@@ -232,6 +232,7 @@ module _ (steps : List Step) (w : MachineState) (kept : Keeps steps w) (number g
         let m = kept.knows c (Within k (Collecting ws)) k holds refl in
         kept_history (loads w ws k refl refl holds (record { record_is = m.call; at = m.at; caller = m.caller; asked = m.sees.reads.call }) next)
 
+    -- the load of one word of a second collect leads on
     second_gives : (ws : List ℕ) (checked point k : ℕ) → game ≡ checked + 1 → held_by w.callers c ≡ Some (Within k (Checking ws checked point))
         → Gives c Second (Checking ws checked point) []
     second_gives ws checked point k next holds =
@@ -242,12 +243,12 @@ module _ (steps : List Step) (w : MachineState) (kept : Keeps steps w) (number g
         kept_history (leaves_by c w w (machine.Second c) k point (Within k (Checking ws checked point)) Reading (compared ws checked point found) holds refl
         (record { record_is = m.call; at = m.at; caller = m.caller; asked = m.sees.reads.call }) one)
 
--- what a pass holds then
-
+-- what a pass holds after an outcome
 abbrev held_after : Outcome → Pending
 held_after (GoesOn held) = held
 held_after (Answers reply) = NoCall
 
+-- after an outcome a pass has the number that it had, and holds what the outcome says
 outcome_held : (o : Outcome) (y : Taken) (d : ClientState) → ((with_outcome o y d).number ≡ d.number) × ((with_outcome o y d).held ≡ held_after o)
 outcome_held o y d = search arith
 
@@ -256,26 +257,26 @@ holds_within : (steps : List Step) (w : MachineState) → Keeps steps w → (c :
     → HoldsAs h (held_by w.callers c)
 holds_within steps w kept c k h holds = search (arith, (kept.knows c (Within k h) k holds refl).sees)
 
+-- what a caller holds after an outcome is what the pass holds then
 holds_then : (steps : List Step) (w : MachineState) → Keeps steps w → (c : Caller) (k : ℕ) (o : Outcome) → HeldThen c k o w
     → HoldsAs (held_after o) (held_by w.callers c)
 holds_then steps w kept c k o holds = search (arith, holds_within)
 
--- the callers of passes
-
+-- the caller of a pass with a number is the reporter of that number
 reporter_is : (seat number : ℕ) → IsReporter number → caller_for seat number ≡ Reporter number
 reporter_is seat number reporter = search arith
 
 same_reader : (n m : ℕ) → Reader n ≡ Reader m → n ≡ m
 same_reader n m e = cc
 
+-- different passes have different callers
 callers_apart : (i j n m : ℕ) → i ≢ j → (0 < n → n ≡ m → i ≡ j) → caller_for i n ≢ caller_for j m
 callers_apart i j n m not numbers e = search (arith, same_reader, same_reporter)
 
 not_reporter : (n seat number : ℕ) → number < n → Reporter n ≢ caller_for seat number
 not_reporter n seat number less e = search (arith, same_reporter)
 
--- the replies to calls
-
+-- a call that is settled by a history is settled by a longer one
 settled_later : (log : Log) (x : Logged) (c : FinishedCall) → IsSettled (history_of log) c → IsSettled (history_of (log ++ x ∷ [])) c
 settled_later log x c s =
     let p = begins log x in
@@ -301,6 +302,7 @@ settled_now steps w kept seat number k call point reply a =
           (subst (λ (d : Caller). IsSequential w.history point d i.record_is.call reply) i.caller s.1)),
     )
 
+-- a log leads to this state of the machine: with its history, its calls answered as by the board of one thread, and what each pass holds
 pub record Leads (readers : ℕ) (log : Log) : Type 0 where
   pub state : MachineState
   pub run : after_steps (machine_steps log) (initial_state (cast_for readers)) ≡ Some state
@@ -309,11 +311,11 @@ pub record Leads (readers : ℕ) (log : Log) : Type 0 where
   pub each : (seat : ℕ) → seat < readers → HoldsAs (client_at seat log).held (held_by state.callers (caller_for seat (client_at seat log).number))
   unnumbered : (n : ℕ) → enlisted_by log < n → n ≤ 255 → held_by state.callers (Reporter n) ≡ Some Idle
 
+-- the state that a log leads to has what a run keeps
 keeps_log : (readers : ℕ) (log : Log) (r : Leads readers log) → Keeps (machine_steps log) r.state
 keeps_log readers log r = run_kept (machine_steps log) [] (initial_state (cast_for readers)) r.state (kept_at_start (cast_for readers)) r.run
 
--- one step of a log
-
+-- a log that leads to a state, and one step more of it
 module _ (readers : ℕ) (log : Log) (r : Leads readers log) (facts : LogFacts log) (x : Logged) where
   abbrev d : ClientState
   d = client_at x.seat log
@@ -324,6 +326,7 @@ module _ (readers : ℕ) (log : Log) (r : Leads readers log) (facts : LogFacts l
   abbrev log' : Log
   log' = log ++ x ∷ []
 
+  -- the steps of its caller lead on with this outcome
   abbrev Comes : Outcome → Type 0
   Comes o = Leaves c r.state (own_steps log x) (call_asked d.held x.step.target) (point_of d.held x.step.at) o (r.state.history ++ entry_list x.step.entry)
 
@@ -348,6 +351,7 @@ module _ (readers : ℕ) (log : Log) (r : Leads readers log) (facts : LogFacts l
             (settled_now (machine_steps log') l.last kept x.seat d.number l.place new.call new.point reply l.answered))
       ]
 
+  -- the caller of a seat holds then what its pass holds
   abbrev EachHolds : MachineState → ℕ → ClientState → Type 0
   EachHolds last seat y = seat < readers → HoldsAs y.held (held_by last.callers (caller_for seat y.number))
 
@@ -390,6 +394,7 @@ module _ (readers : ℕ) (log : Log) (r : Leads readers log) (facts : LogFacts l
     unnumbered = λ n above few. r.unnumbered n (omega arith) few;
   }
 
+-- the step of a seat on this target
 abbrev placed : ℕ → Target → ℕ → ℕ → Option Entry → Logged
 placed seat target place at entry = record { seat = seat; step = record { target = target; place = place; at = at; entry = entry } }
 
@@ -405,6 +410,7 @@ module _ (readers : ℕ) (log : Log) (r : Leads readers log) (is_log : IsLog log
   abbrev caller : Caller
   caller = caller_for seat (client_at seat log).number
 
+  -- what the caller of the seat holds is what its pass holds
   holds_now : (h : Pending) → held ≡ h → HoldsAs h (held_by r.state.callers caller)
   holds_now h is = subst (λ (k : Pending). HoldsAs k (held_by r.state.callers caller)) is (r.each seat seated)
 
@@ -431,6 +437,7 @@ module _ (readers : ℕ) (log : Log) (r : Leads readers log) (is_log : IsLog log
     at_now : at ≡ length r.state.history
     at_now = now ∙ ap length (sym r.history_is)
 
+    -- a look leads on, and so do an exchange and the loads of both collects
     leads_look : (e : EventCall) → held ≡ NoCall → game ≡ e.game → IsReporter number → entry ≡ None
         → Leads readers (log ++ placed seat (Match (Look e) game found) place at entry ∷ [])
     leads_look e nothing of reporter none =
@@ -469,6 +476,7 @@ module _ (readers : ℕ) (log : Log) (r : Leads readers log) (is_log : IsLog log
         (second_gives (machine_steps log) r.state kept number game found at is there_now at_now caller ws checked point u.0 next u.1)
     leads_second h is_held next none = absurd (let low = is.0 in omega arith)
 
+  -- a load of the number of reporters leaves the call as it is
   count_does : (found : ℕ) (h : Pending) → outcome number h (Enlisted found) at ≡ GoesOn h
   count_does found h = search arith
 
@@ -497,8 +505,7 @@ module _ (readers : ℕ) (log : Log) (r : Leads readers log) (is_log : IsLog log
       leads_same readers log r (logs_facts log is_log follows) x refl (is ∙ enlist_none held number found) refl (omega arith)
       (λ below. subst (λ (h : Pending). HoldsAs h (held_by r.state.callers (caller_for seat (found + 1)))) (sym next.0) (ap (held_by r.state.callers) same ∙ free))
 
--- before any step
-
+-- at first each caller is idle
 idle_in : (n k : ℕ) → k < n → slice_get (replicate n Idle) k ≡ Some Idle
 idle_in (suc n) (suc k) l = idle_in n k (omega arith)
 idle_in n k l = search arith
@@ -521,6 +528,7 @@ leads_none readers = record {
     reporter_idle zero some few = absurd (omega arith)
     reporter_idle (suc m) some few = idle_in 255 m (omega arith)
 
+-- each log that follows the protocol leads to a state of the machine
 pub leads_all : (readers : ℕ) (log : Log) → IsLog log → FollowsProtocol log → All (λ (x : Logged). x.seat < readers) log → Leads readers log
 leads_all readers log =
     may_induction MayBeTaken (λ l. FollowsProtocol l → All (λ (x : Logged). x.seat < readers) l → Leads readers l)
@@ -547,12 +555,12 @@ logs_run readers log is follows seated =
       linearizable = subst (λ (h : List Entry). IsLinearizableRun (machine_steps log) h l.state.calls) l.history_is (linearizable (machine_steps log) l.state kept);
     }
 
--- as many readers as a log has seats
-
+-- more readers than each seat that took a step in a log
 pub seats_below : (log : Log) → (n : ℕ) × All (λ (x : Logged). x.seat < n) log
 seats_below [] = (0, All-nil (λ (x : Logged). x.seat < 0))
 seats_below (x ∷ log) = let t = seats_below log in let n = t.0 + (x.seat + 1) in
     (n, All-cons (λ (y : Logged). y.seat < n) x log (omega arith) (below_more t.0 n log (omega arith) t.1))
 
+-- with so many it leads to a state of the machine
 pub run_of : (log : Log) → IsLog log → FollowsProtocol log → Leads (seats_below log).0 log
 run_of log is follows = leads_all (seats_below log).0 log is follows (seats_below log).1

@@ -13,6 +13,7 @@ use Rattle.ucl_steps.specs.declared.machine.Held.TheVariants as has
 use Rattle.ucl_steps.proofs.Runs.{Keeps, word_now, kept_at_start, run_kept}
 use Rattle.ucl_steps.proofs.Calls.{in_call}
 
+-- a state that steps lead to has what a run keeps: so its history is short enough, and each word that of a valid record
 pub reached_kept : (w : MachineState) (r : IsReachable w) → Keeps r.1 w
 reached_kept w r = run_kept r.1 [] (initial_state r.0) w (kept_at_start r.0) r.2
 
@@ -28,6 +29,7 @@ change_at-set k f [] d l = absurd (omega arith)
 change_at-set zero f (x ∷ xs) d l = refl
 change_at-set {X = X} (suc k) f (x ∷ xs) d l = ap (λ (z : List X). x ∷ z) (change_at-set k f xs d (omega arith))
 
+-- callers of the program that are idle stand for idle callers of the machine
 pub idle_all : (n : ℕ) → map holds_of (replicate n has.Idle) ≡ replicate n Idle
 idle_all zero = refl
 idle_all (suc n) = ap (λ (z : List CallerState). Idle ∷ z) (idle_all n)
@@ -39,6 +41,7 @@ held_reporter cs r l = search arith
 pub held_reader : (cs : Callers) (r : ℕ) → 1 ≤ r → held_by cs (Reader r) ≡ slice_get cs.readers (r - 1)
 held_reader cs r l = search arith
 
+-- what a caller of the program holds stands for what the machine's caller holds; past all callers there is none
 pub held_at : (hs : List Held) (k : ℕ) (x d : Held) → k < length hs → x ≡ get_or hs k d → Some (holds_of x) ≡ slice_get (map holds_of hs) k
 held_at hs k x d l e = sym (slice_get-map holds_of hs k ∙ (ap (option_map holds_of) (slice_get-get_or hs k d l) ∙ ap (λ (z : Held). Some (holds_of z)) (sym e)))
 
@@ -48,6 +51,7 @@ held_past hs k l = sym (slice_get-map holds_of hs k ∙ ap (option_map holds_of)
 abbrev state : List ℕ → List Entry → List CallRecord → List CallerState → List CallerState → MachineState
 state words history calls reporters readers = record { words = words; history = history; calls = calls; callers = record { reporters = reporters; readers = readers } }
 
+-- a caller of the program that holds y then: the machine's state with that held
 module _ (words : List ℕ) (history : List Entry) (calls : List CallRecord) where
   pub hold_reporter : (hs : List Held) (readers : List CallerState) (c : Caller) (r k : ℕ) (y : Held) → c ≡ Reporter r → k ≡ r - 1
       → state words history calls (map holds_of (set hs k y)) readers ≡ with_held (holds_of y) c (state words history calls (map holds_of hs) readers)
@@ -60,6 +64,7 @@ module _ (words : List ℕ) (history : List Entry) (calls : List CallRecord) whe
 pub set-change_at : (calls : List CallRecord) (k : ℕ) (x : CallRecord) (f : CallRecord → CallRecord) → k < length calls → x ≡ get_or calls k x → set calls k (f x) ≡ change_at k f calls
 set-change_at calls k x f l is = ap (λ (z : CallRecord). set calls k (f z)) is ∙ sym (change_at-set k f calls x l)
 
+-- the load of word n of a first collect, by a caller of the program
 module _ (w : MachineState) (c : Caller) (k : ℕ) (ws : List ℕ) (n : ℕ) (twelve : length ws ≡ 12) (few : n < 12) where
   taken_long : length (take n ws) ≡ n
   taken_long = length-take-le n ws (omega arith)
@@ -70,12 +75,14 @@ module _ (w : MachineState) (c : Caller) (k : ℕ) (ws : List ℕ) (n : ℕ) (tw
   long : length (take (n + 1) (set ws n (get_or w.words n 0))) ≡ n + 1
   long = let l = length-set ws n (get_or w.words n 0) in length-take-le (n + 1) (set ws n (get_or w.words n 0)) (omega arith)
 
+  -- with the twelfth word it holds all, to compare them; before, it holds one more
   pub first_last : n ≡ 11 → with_held (Within k (Checking (set ws n (get_or w.words n 0)) 0 (length w.history))) c w ≡ state_after_first c k (take n ws) w
   first_last is = search (arith, length-set, take_all, eq-eqb, long, one_longer)
 
   pub first_more : (n ≡ 11 → ⊥) → with_held (Within k (Collecting (take (n + 1) (set ws n (get_or w.words n 0))))) c w ≡ state_after_first c k (take n ws) w
   first_more not = search (arith, long, ne_eqb, one_longer)
 
+-- the program begins in the machine's first state
 pub start_is : (cast : Cast) (words : List ℕ) (history : List Entry) (calls : List CallRecord) (reporters readers : List CallerState) → words ≡ board_of [] → history ≡ [] → calls ≡ []
     → reporters ≡ replicate cast.reporters Idle → readers ≡ replicate cast.readers Idle
     → state words history calls reporters readers ≡ initial_state cast
@@ -85,10 +92,12 @@ start_is cast words history calls reporters readers w a b c d = search (arith, b
 pub step_is : (s : Step) (w w' : MachineState) (x : CallerState) → held_by w.callers (caller_of s) ≡ Some x → after_step_holding s (Some x) w ≡ Some w' → after_step w s ≡ Some w'
 step_is s w w' x holds e = ap (λ (o : Option CallerState). after_step_holding s o w) holds ∙ e
 
+-- what a caller holds in a state that steps lead to, as the program has it
 module _ (w : MachineState) (r : IsReachable w) (c : Caller) (o : Option Held) (told : option_map holds_of o ≡ held_by w.callers c) where
   pub holds : (h : Held) → o ≡ Some h → held_by w.callers c ≡ Some (holds_of h)
   holds h is = sym told ∙ ap (option_map holds_of) is
 
+  -- a call that it is in is one of the calls; it has loaded and checked fewer than twelve words
   pub call_below : (h : Held) (k : ℕ) → o ≡ Some h → in_call (holds_of h) ≡ Some k → k < length w.calls
   call_below h k is within = let t = (reached_kept w r).knows c (holds_of h) k (holds h is) within in at_below w.calls k t.call t.at
 
@@ -109,6 +118,7 @@ module _ (w : MachineState) (r : IsReachable w) (c : Caller) (o : Option Held) (
             search (arith, match_valid (i + 1) (take t.0 w.history) (legal_take w.history t.0 kept.legal), legal_take w.history t.0 kept.legal, get_or_default ws i 0 d below);
       }
 
+  -- the word that a report loads is that of a valid record
   pub wanted_word : (k : ℕ) (e : EventCall) → o ≡ Some (has.Wanting k e) → IsWord (word_at w.words e.game)
   wanted_word k e is = word_is w r e.game ((reached_kept w r).knows c (Wanting k e) k (holds (has.Wanting k e) is) refl).sees.game
 

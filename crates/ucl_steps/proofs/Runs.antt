@@ -19,11 +19,11 @@ use Rattle.ucl_steps.proofs.Calls.{Explains, IsSequential, in_call, Sees, Knows,
 use Rattle.ucl_steps.proofs.Calls.{EntryHasOneCall, IsDecided, IsMaker, and_some, by_number, decided, explained_by, has_reply, is_accepted, lies, linear}
 use Rattle.ucl_steps.proofs.Calls.{made_within, once_accepted, once_begun, once_kept, once_refused, some_and, whole}
 use Rattle.ucl_steps.proofs.Turns.{Time, Turns, IsInner, turns_inner, turns_begin, turns_end, ended_at, told, EndedBy, turns_none, earlier_place, one_place, place_of}
-use Rattle.ucl_board.proofs.HistoryTheorems.{is_stale}
-use Rattle.ucl_board.proofs.HistoryTheorems.{board_none}
+use Rattle.ucl_board.proofs.HistoryTheorems.{is_stale, board_none}
 use Rattle.ucl_steps.specs.declared.trace.Trace.{Trace}
 use Rattle.ucl_steps.specs.Traces.{IsLeftBy}
 
+-- who made a call, which, and when it began and ended
 abbrev pub time_of : CallRecord → Time
 time_of c = record { caller = c.caller; call = c.call; begun = c.begun; ended = c.ended }
 
@@ -33,6 +33,7 @@ pub record IsHeld (cs : Callers) (c : Caller) (k : ℕ) : Type 0 where
   pub held_is : held_by cs c ≡ Some holds
   pub in_it : in_call holds ≡ Some k
 
+-- what each run keeps: its history is legal, gives the words and explains the calls, which come in turn; and what callers hold is so
 pub record Keeps (steps : List Step) (w : MachineState) : Type 0 where
   pub legal : IsLegal w.history
   pub words : w.words ≡ board_of w.history
@@ -54,6 +55,7 @@ some_or_none o = search arith
 explained_closed : (h : List Entry) (c : CallRecord) (p : Option ℕ) (r : Option Reply) → Explains h c p r → IsSome r → Explains h (with_end (length h) c) p r
 explained_closed h c p r s some = search (arith, false≢true)
 
+-- caller c, which holds x, takes one more step
 module _ (steps : List Step) (w : MachineState) (kept : Keeps steps w) (c : Caller) (x : CallerState) (holds : held_by w.callers c ≡ Some x) where
   -- what callers know, where this one then holds y, and knows what that says
   knows_all : (h' : List Entry) (calls : List CallRecord) (y : CallerState) → IsPrefix w.history h'
@@ -76,6 +78,7 @@ module _ (steps : List Step) (w : MachineState) (kept : Keeps steps w) (c : Call
     abbrev pub mine : Knows w.history w.calls c x k
     mine = kept.knows c x k holds within
 
+    -- a call of another caller is not this one
     other_call : (d : Caller) (i : ℕ) (b : CallRecord) → d ≢ c → slice_get w.calls i ≡ Some b → b.caller ≡ d → i ≢ k
     other_call d i b not at is same = search (arith, same_Some b (kept.knows c x k holds within).call (sym at ∙ (ap (slice_get w.calls) same ∙ (kept.knows c x k holds within).at)))
 
@@ -153,17 +156,19 @@ module _ (steps : List Step) (w : MachineState) (kept : Keeps steps w) (c : Call
           let a = get_some w.calls i (omega arith) in
           search (arith, slice_get-map time_of w.calls i, a, at, own, closed_all i a.0 a.1, some_or_none t.ended, same_Some)
 
--- an entry of this event
+-- the entry of this event by reporter r
 abbrev entered : EventCall → ℕ → Entry
 entered e r = record { game = e.game; reporter = r; kind = e.kind }
 
 pub same_reporter : (n m : ℕ) → Reporter n ≡ Reporter m → n ≡ m
 same_reporter n m e = cc
 
+-- a reading of these words, with this version, is sequential at that length of the history
 sequential_reading : (h : List Entry) (k : ℕ) (c : Caller) (board : List ℕ) (version : ℕ) → board ≡ board_of (take k h) → version ≡ k
     → IsSequential h k c Reading (Copied (record { board = board; version = version }))
 sequential_reading h k c board version same is = search arith
 
+-- a state that has what a run keeps
 module _ (steps : List Step) (w : MachineState) (kept : Keeps steps w) where
   abbrev now : ℕ
   now = length w.history
@@ -192,6 +197,7 @@ module _ (steps : List Step) (w : MachineState) (kept : Keeps steps w) where
       moved steps w kept c x holds k within s (Answered k) h w.words f inner (begins_same h) kept.legal kept.words (λ a. refl)
       (once_refused w.calls k f m.call m.at asks.reply h refl kept.once) (told, refl) refl
 
+  -- a look keeps what a run keeps, whether the rules refuse the event or not
   look_kept : (n k : ℕ) (e : EventCall) (holds : held_by w.callers (Reporter n) ≡ Some (Wanting k e)) (o : Option Refusal) → refusal_of (record_at (word_at w.words e.game)) e.expected e.kind ≡ o
       → Keeps (steps ++ Look (Reporter n) ∷ []) (after_outcome (Reporter n) k now (by_rules n e (word_at w.words e.game) o) w)
   look_kept n k e holds (Some refusal) is =
@@ -207,7 +213,9 @@ module _ (steps : List Step) (w : MachineState) (kept : Keeps steps w) where
       record { asks = m.sees; place = now; within = le_refl now; found = search (arith, word_now e.game m.sees.game, take-length); accepted = is; next = search (arith, r_is) } in
       stayed steps w kept (Reporter n) (Wanting k e) holds k refl (Look (Reporter n)) (Within k (Holding e word new)) tt offers refl
 
+  -- the exchange of a report
   module _ (n k : ℕ) (e : EventCall) (old new : ℕ) (holds : held_by w.callers (Reporter n) ≡ Some (Within k (Holding e old new))) where
+    -- an exchange that finds another word keeps what a run keeps, and leaves the report stale
     missed : (word_at w.words e.game == old) ≡ false → Keeps (steps ++ Swap (Reporter n) ∷ []) (after_reply (Reporter n) k now (Refused (Stale (record_at (word_at w.words e.game)).number)) w)
     missed differs =
         let m = kept.knows (Reporter n) (Within k (Holding e old new)) k holds refl in
@@ -231,6 +239,7 @@ module _ (steps : List Step) (w : MachineState) (kept : Keeps steps w) where
       accepted_now : refusal_of (match_after w.history e.game) e.expected e.kind ≡ None
       accepted_now = ap (λ (z : MatchRecord). refusal_of z e.expected e.kind) (sym match_is) ∙ sees_it.accepted
 
+      -- the entry may follow, and makes the word that is to be put
       may_follow : MayFollow w.history (entered e n)
       may_follow =
           let m = kept.knows (Reporter n) (Within k (Holding e old new)) k holds refl in
@@ -265,6 +274,7 @@ module _ (steps : List Step) (w : MachineState) (kept : Keeps steps w) where
           (λ a. refl)
           (once_accepted w.calls k f m.call m.at o.asks.reply h (entered e n) refl refl (made_within h w.calls kept.explained) kept.once) (told, refl) refl
 
+    -- the exchange of a report keeps what a run keeps
     swap_kept : (b : Bool) → (word_at w.words e.game == old) ≡ b → Keeps (steps ++ Swap (Reporter n) ∷ []) (after_reply (Reporter n) k now
         (cond b (Accepted (record { number = (record_at new).number })) (Refused (Stale (record_at (word_at w.words e.game)).number))) (cond b (stored n e new w) w))
     swap_kept b is = search (arith, won, missed)
@@ -272,11 +282,13 @@ module _ (steps : List Step) (w : MachineState) (kept : Keeps steps w) where
   word_at_place : (i : ℕ) → i < 12 → get_or w.words i 0 ≡ word_of (match_after (take now w.history) (i + 1))
   word_at_place i few = ap (λ (z : List ℕ). get_or z i 0) kept.words ∙ (board_get w.history i few ∙ ap (λ (z : List Entry). word_of (match_after z (i + 1))) (sym (take-length w.history)))
 
+  -- a word that is loaded now is one of its match by now
   loaded_more : (loaded : List ℕ) → length loaded < 12 → Loaded w.history loaded now → Loaded w.history (loaded ++ slice_index w.words (length loaded) ∷ []) now
   loaded_more loaded few before i less =
       let long = length_push loaded (slice_index w.words (length loaded)) in
       search (arith, cases_lt i (length loaded), long, before i, get_or_append_left, le_refl now, word_at_place i, get_or_push)
 
+  -- a load of a first collect keeps what a run keeps
   first_kept : (c : Caller) (k : ℕ) (loaded : List ℕ) (holds : held_by w.callers c ≡ Some (Within k (Collecting loaded))) (b : Bool)
       → (length (loaded ++ slice_index w.words (length loaded) ∷ []) == 12) ≡ b → Keeps (steps ++ First c ∷ []) (with_held
       (Within k (cond b (Checking (loaded ++ slice_index w.words (length loaded) ∷ []) 0 now) (Collecting (loaded ++ slice_index w.words (length loaded) ∷ [])))) c w)
@@ -289,12 +301,15 @@ module _ (steps : List Step) (w : MachineState) (kept : Keeps steps w) where
       let sees : Sees w.history m.call (Within k (cond b (Checking more 0 now) (Collecting more))) = search (arith, eqb-true, eqb-false, m.sees, long, all, early) in
       stayed steps w kept c (Within k (Collecting loaded)) holds k refl (First c) (Within k (cond b (Checking more 0 now) (Collecting more))) tt sees refl
 
+  -- the load of a second collect
   module _ (c : Caller) (k : ℕ) (words : List ℕ) (checked point : ℕ) (holds : held_by w.callers c ≡ Some (Within k (Checking words checked point))) where
+    -- a load of a second collect that finds another word lets the reading begin anew
     start_again : Keeps (steps ++ Second c ∷ []) (with_held (Within k (Collecting [])) c w)
     start_again =
         let m = kept.knows c (Within k (Checking words checked point)) k holds refl in
         stayed steps w kept c (Within k (Checking words checked point)) holds k refl (Second c) (Within k (Collecting [])) tt (search (arith, m.sees)) refl
 
+    -- a load of a second collect that finds its word again: one more was there at the point of the reading
     pub one_more : (slice_index w.words checked == slice_index words checked) ≡ true → AreAt w.history words (checked + 1) point
     one_more same i less =
         let o = (kept.knows c (Within k (Checking words checked point)) k holds refl).sees in
@@ -306,6 +321,7 @@ module _ (steps : List Step) (w : MachineState) (kept : Keeps steps w) where
               squeezed (i + 1) (get_or words i 0) w.history t.0 point now kept.legal t.1 o.late t.2 (there ∙ word_at_place i (omega arith))
         ]
 
+    -- if it was not the twelfth, the reading goes on
     goes_on : (slice_index w.words checked == slice_index words checked) ≡ true → (checked == 11) ≡ false
         → Keeps (steps ++ Second c ∷ []) (with_held (Within k (Checking words (checked + 1) point)) c w)
     goes_on same other =
@@ -313,6 +329,7 @@ module _ (steps : List Step) (w : MachineState) (kept : Keeps steps w) where
         let checks : Checks w.history m.call words (checked + 1) point = search (arith, eqb-false checked 11 other, m.sees, one_more same) in
         stayed steps w kept c (Within k (Checking words checked point)) holds k refl (Second c) (Within k (Checking words (checked + 1) point)) tt checks refl
 
+    -- if it was the twelfth, the words are the board at the point
     module _ (same : (slice_index w.words checked == slice_index words checked) ≡ true) (last : (checked == 11) ≡ true) where
       copied_board : words ≡ board_of (take point w.history)
       copied_board =
@@ -338,10 +355,12 @@ module _ (steps : List Step) (w : MachineState) (kept : Keeps steps w) where
           moved steps w kept c (Within k (Checking words checked point)) holds k refl (Second c) (Answered k) h w.words f tt (begins_same h) kept.legal kept.words (λ a. refl)
           (once_refused w.calls k f m.call m.at o.reads.reply h refl kept.once) (told, refl) refl
 
+    -- a load of a second collect keeps what a run keeps
     second_kept : (a b : Bool) → (slice_index w.words checked == slice_index words checked) ≡ a → (checked == 11) ≡ b
         → Keeps (steps ++ Second c ∷ []) (after_outcome c k point (cond a (cond b (Answers (Copied (reading_of words))) (GoesOn (Checking words (checked + 1) point))) (GoesOn (Collecting []))) w)
     second_kept a b same last = search (arith, copied, goes_on, start_again)
 
+  -- the beginning of a call keeps what a run keeps, and so does each step
   begin_kept : (c : Caller) (call : Call) → held_by w.callers c ≡ Some Idle → may_begin c call ≡ true → Keeps (steps ++ Begin c call ∷ []) (after_begin c call w)
   begin_kept (Reporter (suc n)) (Event e) holds may =
       begun steps w kept (Reporter (suc n)) Idle holds refl (Event e) (Wanting (length w.calls) e) (search (arith, and_parts, leb-true)) refl
@@ -358,6 +377,7 @@ module _ (steps : List Step) (w : MachineState) (kept : Keeps steps w) where
   step_kept (End c) (Some (Answered k)) w' holds done = search (arith, ended steps w kept c (Answered k) holds k refl (kept.knows c (Answered k) k holds refl).sees, same_Some)
   step_kept s o w' holds done = absurd (none-some w' done)
 
+-- at first each caller is idle, and what a run keeps is there
 idle_all : (n k : ℕ) (x : CallerState) → slice_get (replicate n Idle) k ≡ Some x → x ≡ Idle
 idle_all (suc n) (suc k) x e = idle_all n k x e
 idle_all n k x e = search (arith, none-some, same_Some)
@@ -368,6 +388,7 @@ idle_at_start cast c x e = search (arith, none-some, idle_all)
 pub kept_at_start : (cast : Cast) → Keeps [] (initial_state cast)
 kept_at_start cast = search (arith, may_none MayFollow, board_none, none-some, turns_none, in_call, idle_at_start)
 
+-- what a run keeps is so after each list of enabled steps
 pub run_kept : (steps done : List Step) (w w' : MachineState) → Keeps done w → after_steps steps w ≡ Some w' → Keeps (done ++ steps) w'
 run_kept [] done w w' kept e = subst (λ (z : List Step). Keeps z w') (sym (append-nil done)) (subst (Keeps done) (same_Some w w' e) kept)
 run_kept (s ∷ steps) done w w' kept e = option_and_then_some (after_steps steps) (after_step w s) w' e (λ v is then.
@@ -381,6 +402,7 @@ told_caller_and_call (a ∷ xs) = ap (λ (z : List (Caller × Call)). caller_and
 accepted_some : (o : Option Reply) → is_accepted o ≡ true → IsSome o
 accepted_some o made = search (arith, false≢true)
 
+-- what it says of the calls, as linearizability asks for
 module _ (steps : List Step) (w : MachineState) (kept : Keeps steps w) where
   timed : (i : ℕ) (a : CallRecord) → slice_get w.calls i ≡ Some a → slice_get (map time_of w.calls) i ≡ Some (time_of a)
   timed i a at = slice_get-map time_of w.calls i ∙ ap (option_map time_of) at
@@ -389,6 +411,7 @@ module _ (steps : List Step) (w : MachineState) (kept : Keeps steps w) where
   calls_ended i = if_some (slice_get w.calls i) (λ c. IsSome c.ended ↔ ((p : ℕ) × EndsAt steps p i c.caller)) (λ a at.
       (λ some. kept.turns.closed i (time_of a) (timed i a at) some, λ e. kept.turns.finished e.0 i a.caller (time_of a) e.1 (timed i a at)))
 
+  -- c is call i, which has its reply
   abbrev Is : ℕ → FinishedCall → Type 0
   Is i c = IsReplied steps w.history w.calls i c
 
@@ -414,6 +437,7 @@ module _ (steps : List Step) (w : MachineState) (kept : Keeps steps w) where
           let ends = subst (λ (o : Option ℕ). EndsAs steps w.history i r.caller o c) (sym some) (refl, t.1) in
           (c, record { recorded = r; at = at; asked = (refl, refl); decided = is; begins = (refl, start.1); ends = ends }, refl, refl)
 
+  -- a call ends when it is recorded as ended, or when the last entry came
   end_of : (i : ℕ) (c : FinishedCall) (r : CallRecord) → slice_get w.calls i ≡ Some r → BeginsAt steps c.first i r.caller
       → (o : Option ℕ) → r.ended ≡ o → EndsAs steps w.history i r.caller o c
       → ((r.ended ≡ Some c.ended) ⊎ (c.ended ≡ length w.history)) × (c.ended ≤ length w.history) × (c.first ≤ c.last)
@@ -430,6 +454,7 @@ module _ (steps : List Step) (w : MachineState) (kept : Keeps steps w) where
       let l = lies r c.point (length w.history) c.ended c.reply s.0 e.0 in
       explained_by w.history c (grind (arith, l, e), search (arith, by_number w.history c.point r.caller c.call c.reply, s.1, a.asked)) e.2 (grind (arith, l, e, a.begins.0)) l.2
 
+  -- a call that ended before another began ended with no more entries than there were then
   real : (i j : ℕ) (a b : FinishedCall) → Is i a → Is j b → a.last < b.first → a.ended ≤ b.begun
   real i j a b x y turn = by x.recorded.ended refl x.ends
     where
@@ -463,6 +488,7 @@ module _ (steps : List Step) (w : MachineState) (kept : Keeps steps w) where
             | inr not ↦ elim not [ inl after ↦ after | inr before ↦ absurd (e.1.last b.first y.begins.1.call early before there) ]
           ]
 
+  -- each entry of the history was made by exactly one call
   once : (place : ℕ) → place < length w.history → (i : ℕ) × MadeBy Is place i × ((j : ℕ) → MadeBy Is place j → j ≡ i)
   once place low =
       let t = kept.once place low in
@@ -476,6 +502,7 @@ module _ (steps : List Step) (w : MachineState) (kept : Keeps steps w) where
             (some_and (slice_get w.calls j) (IsMaker place) made.1.recorded made.1.at (ap is_accepted made.1.decided.1 ∙ made.2, made.1.decided.0 ∙ ap Some made.3)),
       )
 
+  -- the calls of a run are linearizable
   pub linearizable : IsLinearizableRun steps w.history w.calls
   linearizable = record {
     calls_begun = sym (kept.turns.same ∙ told_caller_and_call w.calls);

@@ -6,10 +6,12 @@ use Rattle.ucl_steps.proofs.Common.{append-nil, le_refl, IfSome, IsSome, slice_g
 use Rattle.ucl_steps.proofs.Common.{Second, End, option_map, change_at}
 use Rattle.ucl_steps.proofs.Histories.{take_one, take_split, get_some, get-change_at, map_unseen}
 
+-- the calls that steps begin are those of the first part, and then those of the second
 pub begun_in-append : (xs ys : List Step) → begun_in (xs ++ ys) ≡ begun_in xs ++ begun_in ys
 begun_in-append [] ys = refl
 begun_in-append (s ∷ xs) ys = search (arith, begun_in-append xs ys)
 
+-- a step that begins call i adds it to the calls as number i
 pub begins_call : (steps : List Step) (p i : ℕ) (c : Caller) (b : BeginsAt steps p i c) → slice_get (begun_in steps) i ≡ Some (c, b.call)
 begins_call steps p i c b =
     let cut = take-append-drop (suc p) steps in
@@ -17,6 +19,7 @@ begins_call steps p i c b =
     let here = at_end (begun_in (take p steps)) (c, b.call) in
     search (arith, cut, one, here, begun_in-append, at_longer)
 
+-- with a step in front that begins no call, a call is begun one place later
 later : (s : Step) (steps : List Step) (p i : ℕ) (c : Caller) → begun_in (s ∷ []) ≡ [] → BeginsAt steps p i c → BeginsAt (s ∷ steps) (suc p) i c
 later s steps p i c none b = search (arith, begun_in-append)
 
@@ -27,6 +30,7 @@ place_of (Begin d other ∷ steps) zero c call e = (0, record { call = other; be
 place_of (Begin d other ∷ steps) (suc i) c call e = let t = place_of steps i c call e in (suc t.0, record { call = t.1.call; begins = t.1.begins; number = ap suc t.1.number })
 place_of (s ∷ steps) i c call e = let t = place_of steps i c call e in (suc t.0, later s steps t.0 i c refl t.1)
 
+-- no fewer calls are begun in more steps
 begun_more : (steps : List Step) (p q : ℕ) → p ≤ q → length (begun_in (take p steps)) ≤ length (begun_in (take q steps))
 begun_more steps p q l = search (arith, take_split steps p q l, begun_in-append, length-append)
 
@@ -48,6 +52,7 @@ one_place steps p q i c d a b = elim (cases_order p q) [
   ]
 ]
 
+-- steps with one more at their end: what is begun or ended before it is so in both
 module _ (steps : List Step) (s : Step) where
   pub back_begins : (p i : ℕ) (c : Caller) → p < length steps → BeginsAt (steps ++ s ∷ []) p i c → BeginsAt steps p i c
   back_begins p i c l b = search (arith, get_back, take-append-le)
@@ -76,14 +81,16 @@ pub record Time : Type 0 where
   pub begun : ℕ
   pub ended : Option ℕ
 
+-- the caller and the call of a time
 abbrev pub told : Time → Caller × Call
 told t = (t.caller, t.call)
 
+-- a call has ended, by this length of the history
 abbrev pub EndedBy : Option ℕ → ℕ → Type 0
 EndedBy None n = ⊥
 EndedBy (Some e) n = e ≤ n
 
--- n is the length of the history
+-- the order of calls in time: they begin and end where the steps say, in turn for each caller; the history has n entries
 pub record Turns (steps : List Step) (n : ℕ) (ts : List Time) : Type 0 where
   pub same : begun_in steps ≡ map told ts
   pub past : (i : ℕ) (t : Time) → slice_get ts i ≡ Some t → (t.begun ≤ n) × IfSome t.ended (λ e. e ≤ n)
@@ -92,6 +99,7 @@ pub record Turns (steps : List Step) (n : ℕ) (ts : List Time) : Type 0 where
   pub closed : (i : ℕ) (a : Time) → slice_get ts i ≡ Some a → IsSome a.ended → (p : ℕ) × EndsAt steps p i a.caller
   pub real : (p q i j : ℕ) (c d : Caller) (a b : Time) → EndsAt steps p i c → BeginsAt steps q j d → p < q → slice_get ts i ≡ Some a → slice_get ts j ≡ Some b → EndedBy a.ended b.begun
 
+-- no steps and no calls are in order
 pub turns_none : Turns [] 0 []
 turns_none = search (arith, none-some)
 
@@ -107,6 +115,7 @@ IsInner (End c) = ⊥
 inner_none : (s : Step) → IsInner s → begun_in (s ∷ []) ≡ []
 inner_none x0 x1 = search arith
 
+-- what ended by a length of the history ended by each greater one
 if_more : (o : Option ℕ) (n m : ℕ) → n ≤ m → IfSome o (λ e. e ≤ n) → IfSome o (λ e. e ≤ m)
 if_more x0 x1 x2 x3 x4 = search arith
 
@@ -119,6 +128,7 @@ not_ended o n e p = search (arith, none-some)
 not_some : (o : Option ℕ) → o ≡ None → IsSome o → ⊥
 not_some o e p = search (arith, false≢true, none-some)
 
+-- a step within a call keeps the order
 pub turns_inner : (steps : List Step) (n m : ℕ) (ts : List Time) (s : Step) → IsInner s → n ≤ m → Turns steps n ts → Turns (steps ++ s ∷ []) m ts
 turns_inner steps n m ts s inner le k = record {
   same = begun_in-append steps (s ∷ []) ∙ (ap (λ (z : List (Caller × Call)). begun_in steps ++ z) (inner_none s inner) ∙ (append-nil (begun_in steps) ∙ k.same));
@@ -164,6 +174,7 @@ turns_begin steps n ts c call idle k =
     apart : {c d : Caller} {call : Call} → Begin c call ≡ End d → ⊥
     apart e = cc
 
+-- the time of a call that ends when the history has n entries
 abbrev pub ended_at : ℕ → Time → Time
 ended_at n t = record t { ended = Some n }
 
@@ -181,9 +192,11 @@ record TimeBefore (k n : ℕ) (ts : List Time) (i : ℕ) (after : Time) : Type 0
   ended : (time.ended ≡ after.ended) ⊎ (time.ended ≡ None)
   which : ((i ≡ k) × (after.ended ≡ Some n)) ⊎ ((i ≢ k) × (time ≡ after))
 
+-- a call that had ended by then still has
 still_ended : (before after : Time) → (before.ended ≡ after.ended) ⊎ (before.ended ≡ None) → (m : ℕ) → EndedBy before.ended m → EndedBy after.ended m
 still_ended before after is m by = search (arith, not_ended)
 
+-- the caller of call k, which has not ended and is its last, ends it
 module _ (steps : List Step) (n : ℕ) (ts : List Time) (c : Caller) (k : ℕ) (held : Time) (here : slice_get ts k ≡ Some held) (own : held.caller ≡ c) (open_call : held.ended ≡ None)
     (kept : Turns steps n ts) where
   -- the call that ends is the one that its caller holds

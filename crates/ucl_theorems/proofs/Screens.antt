@@ -21,6 +21,7 @@ pub screens_show : ScreensShowTheHistory
 unfolding screen_text
 screens_show history point legal within profile roster group = rw ((versions (take point history) (legal_take history point legal)).0 ∙ length-take-le point history within)
 
+-- the theorems of running boards, and of the machine, on one history
 pub boards_have : BoardsHaveOneHistory TableInvariant
 boards_have s r = record {
   log = r.log;
@@ -33,6 +34,7 @@ boards_have s r = record {
   linearizable = logs_linearizable r.log r.is_log r.follows;
 }
 
+-- a later state has a log that goes on from that of the earlier one
 logs_go_on : (s t : State Entry View) (r : TableInvariant s) (q : TableInvariant t) → LaterState s t → LogGoesOn s r.log q.log
 logs_go_on s t r q later = record {
   begins = more;

@@ -5,12 +5,13 @@ use Rattle.ucl_word.proofs.Common.{changed_by, eq-eqb, false, if◌then◌else�
 use Rattle.ucl_word.proofs.Common.{lacks_caution, lacks_goal, nat_le, nat_tests, not, refl, refusal_of, suits_state, sym, true, ℕ, ◌+◌, ◌-◌}
 use Rattle.ucl_word.proofs.Common.{◌<◌, ◌==◌, ◌∙◌, ◌≡◌, ◌≤◌}
 use Rattle.std.proofs.Common.{Option}
+use Rattle.std.proofs.Math.Bool.{and-false}
 use Rattle.ucl_word.specs.Record.{max_number_in_play}
 use Rattle.ucl_word.specs.Rules.{is_scheduled, is_in_play, is_finished, passes_limit}
 use Rattle.std.specs.Prelude.{◌&&◌, nat_lt}
 use Rattle.ucl_word.proofs.ValidRecords.{parts, whole}
 
--- no condition of a refusal holds
+-- an event of this kind, which expects this number, is accepted on the record m: no condition of a refusal holds
 pub record Accepts (m : MatchRecord) (expected : ℕ) (kind : Kind) : Type 0 where
   pub current : not (expected == m.number) ≡ false
   pub unfinished : (is_finished m.state && not (is_reopen kind)) ≡ false
@@ -26,6 +27,7 @@ skip : (b : Bool) (r : Refusal) (o : Option Refusal) → (if b then Some r else 
 skip true r o h = absurd cc
 skip false r o h = (refl, h)
 
+-- an event that the rules refuse for nothing is accepted so
 pub accepts : (m : MatchRecord) (expected : ℕ) (kind : Kind) → refusal_of m expected kind ≡ None → Accepts m expected kind
 unfolding refusal_of
 accepts m expected kind h =
@@ -43,6 +45,7 @@ accepts m expected kind h =
 pub expects_number : (m : MatchRecord) (expected : ℕ) (kind : Kind) → Accepts m expected kind → expected ≡ m.number
 expects_number m expected kind a = let is = a.current in grind (arith, nat_tests)
 
+-- what the tests of a refusal leave of the state: in play, scheduled or finished
 pub begun : (s : State) → (is_finished s && true) ≡ false → (is_scheduled s && true) ≡ false → s ≡ InPlay
 begun s f h = search arith
 
@@ -51,9 +54,6 @@ unbegun s f h = search arith
 
 pub over : (s : State) → (not (is_finished s) && true) ≡ false → s ≡ Finished
 over s h = search arith
-
-pub under : (k n : ℕ) → nat_le k n ≡ false → n < k
-under k n h = grind (arith, nat_tests)
 
 room_left : (n : ℕ) → (nat_le max_number_in_play n && true) ≡ false → n < max_number_in_play
 room_left n h = grind (arith, nat_tests)
@@ -71,6 +71,7 @@ suits_in_play s m e low high r = let a = r.0 in let b = r.1 in rw e (grind (arit
 pub state_kept : (kind : Kind) (m : MatchRecord) → is_kick_off kind ≡ false → is_full_time kind ≡ false → is_reopen kind ≡ false → (changed_by kind m).state ≡ m.state
 state_kept kind m a b c = search arith
 
+-- an accepted event leaves the numbers of the record within their limits
 module _ (m : MatchRecord) (reporter expected : ℕ) where
   after_within : (kind : Kind) → is_within_limits m ≡ true → Accepts m expected kind → is_within_limits (after m reporter kind) ≡ true
   unfolding after
@@ -81,7 +82,7 @@ module _ (m : MatchRecord) (reporter expected : ℕ) where
   after_within (Red Home) w a = let l = a.limit in grind (arith, nat_tests)
   after_within kind w a = let l = a.limit in grind (arith, nat_tests)
 
-  -- a match that goes on
+  -- a match that goes on after an event has numbers that suit its state
   goes_on : (m' : MatchRecord) → IsValid m → IsReporter reporter → (is_finished m.state && true) ≡ false → (is_scheduled m.state && true) ≡ false →
       (nat_le max_number_in_play m.number && true) ≡ false
       → m'.state ≡ m.state → m'.number ≡ m.number + 1 → m'.reporter ≡ reporter → suits_state m'.state m' ≡ true
@@ -91,6 +92,7 @@ module _ (m : MatchRecord) (reporter expected : ℕ) where
       let room = room_left m.number n in
       suits_in_play m'.state m' (is_state ∙ e) (omega arith) (omega arith) (rw is_reporter r)
 
+  -- after each accepted event the numbers of the record suit its state
   after_suits : (kind : Kind) → IsValid m → IsReporter reporter → Accepts m expected kind → suits_state (after m reporter kind).state (after m reporter kind) ≡ true
   unfolding after
   after_suits KickOff v r a =
@@ -106,15 +108,14 @@ module _ (m : MatchRecord) (reporter expected : ℕ) where
       suits_in_play InPlay (after m reporter Reopen) refl (omega arith) (omega arith) r
   after_suits kind v r a = goes_on (after m reporter kind) v r a.unfinished a.started a.room (state_kept kind m refl refl refl) refl refl
 
+  -- the record after an accepted event is valid
   pub after_valid : (kind : Kind) → IsValid m → IsReporter reporter → Accepts m expected kind → IsValid (after m reporter kind)
   after_valid kind v r a = whole (after m reporter kind) (after_within kind (parts m v).0 a) (after_suits kind v r a)
 
-and_no : (b : Bool) → (b && false) ≡ false
-and_no b = search arith
-
+-- full time of a match in play is accepted
 pub full_time : (m : MatchRecord) → IsValid m → m.state ≡ InPlay → refusal_of m m.number FullTime ≡ None
 unfolding refusal_of
-full_time m v e = rw (eq-eqb m.number m.number refl, e, and_no (nat_le max_number_in_play m.number)) refl
+full_time m v e = rw (eq-eqb m.number m.number refl, e, and-false (nat_le max_number_in_play m.number)) refl
 
 -- what is reopened can be ended
 pub ends_again : (m : MatchRecord) (reporter : ℕ) → IsValid m → IsReporter reporter → refusal_of m m.number Reopen ≡ None
@@ -125,8 +126,6 @@ ends_again m reporter v is none = let valid = after_valid m reporter m.number Re
 pub after_number : (m : MatchRecord) (reporter : ℕ) (kind : Kind) → (after m reporter kind).number ≡ m.number + 1
 unfolding after
 after_number m reporter kind = refl
-
--- ---- which event was entered follows from the record before it and the record after it
 
 -- the kind of event that leads from one record to another
 kind_between : MatchRecord → MatchRecord → Kind
@@ -157,6 +156,7 @@ less n stands = grind (arith, nat_tests)
 no_less : (n : ℕ) → nat_lt n (n - 1) ≡ false
 no_less n = grind (arith, nat_tests)
 
+-- the kind that leads from a record to the one after an accepted event is that of the event
 kind_back : (m : MatchRecord) (reporter expected : ℕ) (kind : Kind) → Accepts m expected kind → kind_between m (after m reporter kind) ≡ kind
 unfolding kind_between after
 kind_back m r n KickOff a = rw (unbegun m.state a.unfinished a.not_started) refl

@@ -1,8 +1,9 @@
 -- What each change of a word does to its record, and that the next word is that of the record after the event.
 use Rattle.ucl_word.proofs.Common.{Disallow, Err, Finished, FullTime, Goal, InPlay, IsReporter, IsValid, IsWord, KickOff, Kind}
 use Rattle.ucl_word.proofs.Common.{MatchRecord, None, Ok, Red, Refusal, Reopen, Result, Scheduled, SecondYellow, Side, Yellow, after, ap}
-use Rattle.ucl_word.proofs.Common.{arith, bits_at, changed_by, false, layout, nat_le, nat_tests, record_at, refl, refusal_of, state_code}
-use Rattle.ucl_word.proofs.Common.{true, word_of, ℕ, ◌*◌, ◌+◌, ◌-◌, ◌<◌, ◌==◌, ◌^◌, ◌≡◌, ◌≤◌}
+use Rattle.ucl_word.proofs.Common.{arith, bits_at, changed_by, false, layout, nat_tests, record_at, refl, refusal_of, state_code}
+use Rattle.ucl_word.proofs.Common.{word_of, ℕ, ◌*◌, ◌+◌, ◌-◌, ◌<◌, ◌==◌, ◌^◌, ◌≡◌, ◌≤◌}
+use Rattle.std.proofs.lemmas.Bool.{eq-eqb, le-leb, lt-leb}
 use Rattle.ucl_word.specs.Rules.{goals, yellows, expulsions}
 use Rattle.ucl_word.specs.declared.refusal.Refusal.TheVariants.{NoGoal, NoCaution, LimitReached}
 use Rattle.ucl_word.specs.Changes.{goals_field, yellows_field, expulsions_field, Raises, Lowers, Changes}
@@ -12,20 +13,21 @@ use Rattle.ucl_word.proofs.AcceptedEvents.{accepts, after_valid}
 pub word_below : (word : ℕ) → IsWord word → word < 2 ^ 62
 word_below word is = let high = word_high word is in omega arith
 
--- the fields of a side
+-- the goals, yellow cards and expulsions of a side are what the fields of the side hold
 held : (side : Side) (word : ℕ) → (goals side (record_at word) ≡ bits_at word (goals_field side).low layout.home_goals.width)
     × (yellows side (record_at word) ≡ bits_at word (yellows_field side).low layout.home_yellows.width)
     × (expulsions side (record_at word) ≡ bits_at word (expulsions_field side).low layout.home_expulsions.width)
 unfolding record_at
 held side word = (search arith, search arith, search arith)
 
--- each kind's change of the record, as a sum
+-- a goal, a yellow card and an expulsion each raise the word by a power of two, and a kick-off and full time do so too
 added : (side : Side) (m : MatchRecord) → (word_of (changed_by (Goal side) m) ≡ word_of m + 2 ^ (goals_field side).low)
     × (word_of (changed_by (Yellow side) m) ≡ word_of m + 2 ^ (yellows_field side).low)
     × (word_of (changed_by (Red side) m) ≡ word_of m + 2 ^ (expulsions_field side).low)
 unfolding word_of
 added side m = (search arith, search arith, search arith)
 
+-- a goal that is disallowed, a reopening and a second yellow card lower it
 goal_taken : (side : Side) (m : MatchRecord) → 0 < goals side m → word_of (changed_by (Disallow side) m) + 2 ^ (goals_field side).low ≡ word_of m
 unfolding word_of
 goal_taken side m some = search arith
@@ -47,24 +49,14 @@ yellow_turned : (side : Side) (m : MatchRecord) → 0 < yellows side m
 unfolding word_of
 yellow_turned side m some = search arith
 
--- tests on what a field holds
-under_limit : (most n : ℕ) → n < most → nat_le most n ≡ false
-under_limit most n below = grind (arith, nat_tests)
-
-at_limit : (most n : ℕ) → most ≤ n → nat_le most n ≡ true
-at_limit most n le = grind (arith, nat_tests)
-
 is_some : (n : ℕ) → 0 < n → (n == 0) ≡ false
 is_some n some = grind (arith, nat_tests)
-
-is_none : (n : ℕ) → n ≡ 0 → (n == 0) ≡ true
-is_none n none = grind (arith, nat_tests)
 
 -- a kind's change leaves the number and the reporter
 kept : (kind : Kind) (m : MatchRecord) → ((changed_by kind m).number ≡ m.number) × ((changed_by kind m).reporter ≡ m.reporter)
 kept kind m = search arith
 
--- the number and the reporter, as a sum
+-- the next word is the changed one with one event more, and another reporter
 entered_word : (kind : Kind) (m : MatchRecord) (reporter : ℕ)
     → word_of (after m reporter kind) + m.reporter * 2 ^ layout.reporter.low ≡ word_of (changed_by kind m) + 1 + reporter * 2 ^ layout.reporter.low
 unfolding word_of after
@@ -81,6 +73,7 @@ pub record Entered (changed before reporter : ℕ) (next : MatchRecord) : Type 0
   pub above : reporter * 2 ^ layout.reporter.low < word_of next
   pub below : word_of next < 2 ^ 62
 
+-- the word of a valid record
 module _ (word : ℕ) (is : IsWord word) where
   abbrev m : MatchRecord
   m = record_at word
@@ -88,6 +81,7 @@ module _ (word : ℕ) (is : IsWord word) where
   again : word_of m ≡ word
   again = word_packed word is
 
+  -- a word that is greater, or less, by d is that of a record whose word is
   module _ (d next : ℕ) (n : MatchRecord) where
     by_sum : next ≡ word + d → word_of n ≡ word_of m + d → next ≡ word_of n
     by_sum is_next sum = let a = again in omega arith
@@ -95,6 +89,7 @@ module _ (word : ℕ) (is : IsWord word) where
     by_difference : next + d ≡ word → word_of n + d ≡ word_of m → next ≡ word_of n
     by_difference is_next sum = let a = again in omega arith
 
+  -- what a kind of event changes in the word, by what its fields hold, is what the definition says
   pub kick_off_changes : m.state ≡ Scheduled → Changes word KickOff (Ok (word + 2 ^ layout.state.low))
   kick_off_changes state = (refl, by_sum (2 ^ layout.state.low) _ (changed_by KickOff m) refl ((moved_on m).0 state))
 
@@ -108,40 +103,41 @@ module _ (word : ℕ) (is : IsWord word) where
   reopen_changes state = let below = reopen_below state in (refl, by_difference (2 ^ layout.state.low) _ (changed_by Reopen m) (omega arith) (reopened m state))
 
   pub goal_changes : (side : Side) (result : Result ℕ Refusal) → Raises word (goals_field side).low layout.home_goals.width 63 result → Changes word (Goal side) result
-  goal_changes side (Ok next) r = (rw ((held side word).0, under_limit _ _ r.0) refl, by_sum _ next _ r.1 (added side m).0)
-  goal_changes side (Err refusal) r = rw ((held side word).0, at_limit _ _ r.0, r.1) refl
+  goal_changes side (Ok next) r = (rw ((held side word).0, lt-leb _ _ r.0) refl, by_sum _ next _ r.1 (added side m).0)
+  goal_changes side (Err refusal) r = rw ((held side word).0, le-leb _ _ r.0, r.1) refl
 
   pub disallow_changes : (side : Side) (result : Result ℕ Refusal) → Lowers word (goals_field side).low layout.home_goals.width NoGoal result → Changes word (Disallow side) result
   disallow_changes side (Ok next) l =
       let some : 0 < goals side m = rw (held side word).0 l.0 in
       (rw (is_some _ some) refl, by_difference _ next _ l.1 (goal_taken side m some))
-  disallow_changes side (Err refusal) l = rw ((held side word).0, is_none _ l.0, l.1) refl
+  disallow_changes side (Err refusal) l = rw ((held side word).0, eq-eqb _ 0 l.0, l.1) refl
 
   pub yellow_changes : (side : Side) (result : Result ℕ Refusal) → Raises word (yellows_field side).low layout.home_yellows.width 63 result → Changes word (Yellow side) result
-  yellow_changes side (Ok next) r = (rw ((held side word).1, under_limit _ _ r.0) refl, by_sum _ next _ r.1 (added side m).1)
-  yellow_changes side (Err refusal) r = rw ((held side word).1, at_limit _ _ r.0, r.1) refl
+  yellow_changes side (Ok next) r = (rw ((held side word).1, lt-leb _ _ r.0) refl, by_sum _ next _ r.1 (added side m).1)
+  yellow_changes side (Err refusal) r = rw ((held side word).1, le-leb _ _ r.0, r.1) refl
 
   pub red_changes : (side : Side) (result : Result ℕ Refusal) → Raises word (expulsions_field side).low layout.home_expulsions.width 31 result → Changes word (Red side) result
-  red_changes side (Ok next) r = (rw ((held side word).2, under_limit _ _ r.0) refl, by_sum _ next _ r.1 (added side m).2)
-  red_changes side (Err refusal) r = rw ((held side word).2, at_limit _ _ r.0, r.1) refl
+  red_changes side (Ok next) r = (rw ((held side word).2, lt-leb _ _ r.0) refl, by_sum _ next _ r.1 (added side m).2)
+  red_changes side (Err refusal) r = rw ((held side word).2, le-leb _ _ r.0, r.1) refl
 
   -- no second yellow where none stands
   pub no_caution : (side : Side) (refusal : Refusal) → bits_at word (yellows_field side).low layout.home_yellows.width ≡ 0 → refusal ≡ NoCaution → Changes word (SecondYellow side) (Err refusal)
-  no_caution side refusal none missing = rw ((held side word).1, is_none _ none, missing) refl
+  no_caution side refusal none missing = rw ((held side word).1, eq-eqb _ 0 none, missing) refl
 
+  -- a second yellow card, where a yellow one stands
   module _ (side : Side) (some : 0 < bits_at word (yellows_field side).low layout.home_yellows.width) where
     cautioned : 0 < yellows side m
     cautioned = rw (held side word).1 some
 
     pub no_expulsion : (refusal : Refusal) → (31 ≤ bits_at word (expulsions_field side).low layout.home_expulsions.width) × (refusal ≡ LimitReached)
         → Changes word (SecondYellow side) (Err refusal)
-    no_expulsion refusal r = rw (is_some _ cautioned, (held side word).2, at_limit _ _ r.0, r.1) refl
+    no_expulsion refusal r = rw (is_some _ cautioned, (held side word).2, le-leb _ _ r.0, r.1) refl
 
     pub second_yellow_changes : (fewer more : ℕ) → fewer + 2 ^ (yellows_field side).low ≡ word
         → (bits_at word (expulsions_field side).low layout.home_expulsions.width < 31) × (more ≡ word + 2 ^ (expulsions_field side).low)
         → Changes word (SecondYellow side) (Ok (fewer + (more - word)))
     second_yellow_changes fewer more less r = (
-      rw (is_some _ cautioned, (held side word).2, under_limit _ _ r.0) refl,
+      rw (is_some _ cautioned, (held side word).2, lt-leb _ _ r.0) refl,
       let a = again in let sum = yellow_turned side m cautioned in let one = r.1 in omega arith,
     )
 

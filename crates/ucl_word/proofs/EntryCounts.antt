@@ -12,10 +12,11 @@ use Rattle.ucl_word.proofs.ValidRecords.{has_reporter, scheduled_valid}
 use Rattle.ucl_word.proofs.AcceptedEvents.{Accepts, accepts, expects_number, begun, unbegun, over, after_valid, state_kept}
 use Rattle.ucl_word.proofs.Sequences.{may_induction, may_next}
 
--- one entry more
+-- the entries with one more, of this reporter and this kind
 abbrev pub entered : List MatchEntry → ℕ → Kind → List MatchEntry
 entered es reporter kind = es ++ record { reporter = reporter; kind = kind } ∷ []
 
+-- of each kind there are as many entries as before, or one more if the entry is of it
 pub count_next : (kind : Kind) (es : List MatchEntry) (e : MatchEntry) → count kind (es ++ e ∷ []) ≡ count kind es + cond (is_kind kind e.kind) 1 0
 count_next kind es e = sum_by-append (λ e. cond (is_kind kind e.kind) 1 0) es (e ∷ []) ∙ ap (λ (n : ℕ). count kind es + n) (zero-add (cond (is_kind kind e.kind) 1 0))
 
@@ -40,6 +41,7 @@ more_left a b = omega arith
 abbrev state_by : ℕ → ℕ → ℕ → State
 state_by kicks ends reopens = if kicks == 0 then Scheduled else (if ends == reopens then InPlay else Finished)
 
+-- a kick-off, full time and a reopening lead from the case of one state to that of the next
 kicked_off : (kicks ends reopens : ℕ) → CaseOf Scheduled kicks ends reopens → state_by (kicks + 1) ends reopens ≡ InPlay
 kicked_off kicks ends reopens c = rw (c.0, c.1, c.2) refl
 
@@ -108,6 +110,7 @@ balanced_none = record { goals = λ side. le_refl 0; yellows = λ side. le_refl 
 stands : (given taken : ℕ) → (given - taken == 0) ≡ false → taken < given
 stands given taken h = grind (arith, nat_tests)
 
+-- an accepted disallowed goal follows a goal that stands, and a second yellow card a yellow one that stands
 goal_stands : (es : List MatchEntry) (side : Side) (kind : Kind) → lacks_goal (counted_match es) kind ≡ false → is_kind (Disallow side) kind ≡ true → count (Disallow side) es < count (Goal side) es
 unfolding counted_match
 goal_stands es Home (Disallow Home) h is = stands _ _ h
@@ -124,6 +127,7 @@ yellow_stands es side kind h is = absurd cc
 stays : (taken given : ℕ) (takes gives : Bool) → taken ≤ given → (takes ≡ true → taken < given) → taken + cond takes 1 0 ≤ given + cond gives 1 0
 stays taken given takes gives le lt = search (arith, lt)
 
+-- after one accepted entry more still no side has more disallowed goals than goals, or second yellow cards than yellow ones
 balanced_next : (es : List MatchEntry) (e : MatchEntry) → IsBalanced es → Accepts (counted_match es) (length es) e.kind → IsBalanced (es ++ e ∷ [])
 balanced_next es e b a = record {
   goals = λ side. rw (count_next (Disallow side) es e, count_next (Goal side) es e)
@@ -132,6 +136,7 @@ balanced_next es e b a = record {
       (stays _ _ (is_kind (SecondYellow side) e.kind) (is_kind (Yellow side) e.kind) (b.yellows side) (yellow_stands es side e.kind a.caution));
 }
 
+-- in each legal list no side has more disallowed goals than goals, or second yellow cards than yellow ones
 pub legal_balanced : (es : List MatchEntry) → IsLegalMatch es → IsBalanced es
 legal_balanced = may_induction IsAccepted IsBalanced balanced_none (λ es e legal may b. balanced_next es e b (accepts (counted_match es) (length es) e.kind may.accepted))
 
@@ -143,6 +148,7 @@ state_is : (es : List MatchEntry) → (counted_match es).state ≡ state_of es
 unfolding counted_match
 state_is es = refl
 
+-- a legal list has as many kick-offs, full times and reopenings as its state says
 pub legal_case : (es : List MatchEntry) → IsLegalMatch es → IsCase (state_of es) es
 legal_case = may_induction IsAccepted (λ es. IsCase (state_of es) es) (refl, refl, refl) (λ es e legal may h.
     let a = accepts (counted_match es) (length es) e.kind may.accepted in
@@ -163,6 +169,7 @@ legal_valid = may_induction IsAccepted (λ es. IsValid (counted_match es))
     (λ es e legal may v. let a = accepts (counted_match es) (length es) e.kind may.accepted in
     rw (record_next es e.reporter e.kind (legal_balanced es legal) (legal_case es legal) a) (after_valid (counted_match es) e.reporter (length es) e.kind v may.reporter a))
 
+-- the event number that is counted is how many entries there are
 pub number_of_count : (es : List MatchEntry) → (counted_match es).number ≡ length es
 unfolding counted_match
 number_of_count es = refl

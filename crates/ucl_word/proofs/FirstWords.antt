@@ -11,9 +11,11 @@ unfoldable use Rattle.ucl_word.specs.Migration.{first_record_at, read_word}
 use Rattle.ucl_word.specs.Theorems.{LayoutsDiffer}
 use Rattle.ucl_word.proofs.Words.{Tells, bounds, record_told, told_back, word_high, word_packed, word_valid}
 
+-- an event number that the first layout has room for fits its field there
 most_numbers : (s : State) (n : ℕ) → n ≤ max_number_in_play_of_first_layout s → n < 2 ^ first_layout.number.width
 most_numbers s n h = search arith
 
+-- what the word of a record in the first layout tells is this record
 module _ (m : MatchRecord) (is : IsFirstValid m) where
   pub first_told : Tells first_layout.number.width 0 (first_word_of m) m
   unfolding first_word_of
@@ -32,15 +34,18 @@ pub moved_from : (word : ℕ) (m : MatchRecord) → m.number ≤ max_number_in_p
 unfolding first_word_of word_of
 moved_from word m room is = let below = most_numbers m.state m.number room in omega arith
 
+-- the moved word of the first layout is a word of the present one
 pub word_moves : (word : ℕ) → (first : IsFirstWord word) → word_of first.of ≡ moved_up word
 word_moves word first = sym (first_moves first.of first.valid) ∙ ap (λ (w : ℕ). moved_up w) first.packed
 
 pub moves_to_word : (word : ℕ) → IsFirstWord word → IsWord (moved_up word)
 moves_to_word word first = record { of = first.of; valid = first.valid.valid; packed = word_moves word first }
 
+-- above its fields a word of the first layout has its tag, which is 0
 pub first_high : (word : ℕ) → IsFirstWord word → HasLayoutTag first_layout word
 first_high word is = rw (← is.packed) (first_told is.of is.valid).high_is
 
+-- two records with one word in the first layout are one, and no word is of both layouts
 pub first_apart : (m n : MatchRecord) → IsFirstValid m → IsFirstValid n → first_word_of m ≡ first_word_of n → m ≡ n
 first_apart m n v w e = sym (first_back m v) ∙ (ap (record_told first_layout.number.width) e ∙ first_back n w)
 
@@ -56,7 +61,7 @@ pub word_refused : (r : Result MatchRecord BadWord) (word : ℕ) → IfErr r (λ
 word_refused (Ok m) word refused is = absurd (true≢false is)
 word_refused (Err bad) word refused is = refused
 
--- the tests of the two layouts
+-- the tests of the two layouts hold just of their words
 pub word_tested : (word : ℕ) → (is_word word ≡ true) ↔ IsWord word
 word_tested word = (
   λ h. let p = and_parts (is_valid (record_at word)) (word_of (record_at word) == word) h in
@@ -64,6 +69,7 @@ word_tested word = (
   λ is. rw (word_valid word is, eq-eqb (word_of (record_at word)) word (word_packed word is)) refl,
 )
 
+-- a word of the first layout is unpacked to the record that it was packed from
 pub record_of_first : (word : ℕ) (is : IsFirstWord word) → first_record_at word ≡ is.of
 unfolding first_record_at
 record_of_first word is = ap (record_told first_layout.number.width) (sym is.packed) ∙ first_back is.of is.valid

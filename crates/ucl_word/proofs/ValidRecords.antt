@@ -12,8 +12,7 @@ pub whole : (m : MatchRecord) → is_within_limits m ≡ true → suits_state m.
 unfolding is_valid
 whole m w s = and_from (is_within_limits m) (suits_state m.state m) w s
 
--- ---- its numbers
-
+-- the numbers of a valid record are within their limits
 module _ (m : MatchRecord) (v : IsValid m) where
   within : is_within_limits m ≡ true
   within = (parts m v).0
@@ -51,8 +50,6 @@ has_reporter m v some = ((number_within m.state m (parts m v).1).2 some, reporte
 
 pub ruleset limits = (home_goals_valid, away_goals_valid, home_yellows_valid, away_yellows_valid, home_expulsions_valid, away_expulsions_valid, number_valid)
 
--- ---- before kick-off
-
 pub scheduled_valid : IsValid scheduled
 unfolding is_valid
 scheduled_valid = refl
@@ -73,6 +70,7 @@ default_is m d = λ i. record {
   reporter = d.1.1.1.1.1.1.1.1 i;
 }
 
+-- a valid record of a scheduled match has no number but 0
 pub untouched : (m : MatchRecord) → m.state ≡ Scheduled → IsValid m → m ≡ scheduled
 untouched m s v =
     let h : is_untouched m ≡ true = rw s at (parts m v).1 in

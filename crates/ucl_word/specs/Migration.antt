@@ -1,6 +1,6 @@
 -- Words of the first layout, in which older boards were saved, and the words of the present layout that they are read as.
 -- A word is a match packed into 64 bits, and a layout says where its fields stand. A record of a match is valid if a match can have it.
--- The event number of a match is how many events it accepted. The mark is a number above the fields of a word of the present layout.
+-- The event number of a match is how many events it accepted. A layout's tag is a number above the fields of its words.
 use Rattle.std.specs.Prelude.{◌≡◌, ℕ, ◌≤◌, ◌+◌, ◌*◌, ◌/◌, ◌%◌, ◌^◌, ◌==◌, ◌&&◌, nat_le, if◌then◌else◌, Bool, Option, Some, None}
 use Rattle.ucl_word.specs.declared.record.MatchRecord.{MatchRecord}
 use Rattle.ucl_word.specs.declared.record.State.{State}
@@ -46,9 +46,9 @@ is_first_word word =
 unfoldable pub read_word : ℕ → Option ℕ
 read_word word = if is_word word then Some word else (if is_first_word word then Some (word_of (first_record_at word)) else None)
 
--- a word of the first layout with its fields moved to the present one: the event number stays, all above it moves up, and the mark is added
+-- a word of the first layout with its fields moved to the present one: the event number stays, all above it moves up, and the tag is added
 abbrev pub moved_up : ℕ → ℕ
 moved_up word =
     word % 2 ^ first_layout.number.width
     + word / 2 ^ first_layout.number.width * 2 ^ layout.number.width
-    + layout.marked * 2 ^ layout.mark.low
+    + layout.tag_value * 2 ^ layout.tag.low

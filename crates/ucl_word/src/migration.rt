@@ -1,5 +1,5 @@
 //! Words of the first layout, in which older boards were saved, and how they become words of the present one. A *word* is a match packed
-//! into 64 bits, and a *layout* says where its fields stand. Above its fields a word of the present layout has a *mark*, the number 2, and
+//! into 64 bits, and a *layout* says where its fields stand. Above its fields a word of the present layout has the *layout tag* 2, and
 //! one of the first only zeros. The *event number* of a match is how many events it accepted; a record is *valid* if a match can have it.
 
 ghost use Rattle.std.specs.Prelude.{◌≡◌, ◌≤◌, ◌↔◌, IsTrue, Ok, IfOk, IfErr};
@@ -32,14 +32,14 @@ fn has_room(game: &MatchRecord) -> bool
     }
 }
 
-/// Returns whether the bits of a word above the fields of the first layout are zero, as in each word of that layout, which had no mark.
+/// Returns whether the bits of a word above the fields of the first layout are zero, as in each word of that layout, whose layout tag is 0.
 fn has_no_layout_tag(word: u64) -> bool
     ensures { IsTrue result ↔ HasLayoutTag first_layout word }
 {
     word >> FIRST_FIELDS_END == 0
 }
 
-/// Returns a word of the first layout with its fields moved to their places in the present layout, and with the mark of that one added.
+/// Returns a word of the first layout with its fields moved to their places in the present layout, and with its layout tag added.
 fn moved(word: u64) -> u64
     requires { HasLayoutTag first_layout word }
     ensures { result ≡ moved_up word }

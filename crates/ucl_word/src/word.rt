@@ -1,6 +1,6 @@
 //! A match as one word of 64 bits: where its fields stand, and how a record is packed and unpacked. What an event changes in a word is in
 //! `rules`. Bits are counted from 0. The *event number* of a match is how many events it accepted; a record is *valid* if a match can have
-//! it. Above its fields a word has the *mark*, a number that tells words of this *layout*, as the fields stand now, from older words.
+//! it. Above its fields a word has the *layout tag*, a number that tells words of this *layout*, as the fields stand now, from older words.
 
 ghost use Rattle.std.specs.Prelude.{◌≡◌, ◌*◌, ◌+◌, ◌^◌, ◌<◌, ◌≤◌, ◌/◌, ◌↔◌, IsTrue, IfOk, IfErr};
 ghost use Rattle.ucl_word.specs.Record.{max_number, IsValid};
@@ -51,13 +51,13 @@ pub(crate) const REPORTER_LOW: u32 = 48;
 /// How many bits the number of the reporter who entered the last event has.
 pub(crate) const REPORTER_WIDTH: u32 = 8;
 
-/// The first bit above all fields. From it on a word holds the mark of the layout and nothing else.
+/// The first bit above all fields. From it on a word holds the layout tag and nothing else.
 const FIELDS_END: u32 = 56;
 
-/// The lowest bit of the mark of the layout.
+/// The lowest bit of the layout tag.
 pub(crate) const LAYOUT_TAG_LOW: u32 = 60;
 
-/// The mark of the layout: the number that a word holds from bit `LAYOUT_TAG_LOW` on.
+/// The layout tag: the number that a word holds from bit `LAYOUT_TAG_LOW` on.
 pub(crate) const LAYOUT_TAG: u64 = 2;
 
 /// Returns the number that stands for a state in a word.
@@ -81,10 +81,10 @@ pub(crate) fn put_at(value: u64, low: u32, below: u64) -> u64
     value << low | below
 }
 
-/// Packs a valid record into its word: the sum of its fields and the mark of the layout, each times two to the power of its lowest bit.
+/// Packs a valid record into its word: the sum of its fields and the layout tag, each times two to the power of its lowest bit.
 ///
 /// From the lowest bits on these are the event number, the state (0 scheduled, 1 in play, 2 finished), the goals of the
-/// home and the visiting side, their yellow cards that led to no expulsion, their expulsions, the reporter, and the mark, where the
+/// home and the visiting side, their yellow cards that led to no expulsion, their expulsions, the reporter, and the layout tag, where the
 /// constants of this module have them. Distinct valid records have distinct words.
 #[tactic(auto, using(crate::proofs::ValidRecords::limits))]
 pub fn pack(game: &MatchRecord) -> u64
@@ -135,7 +135,7 @@ pub(crate) fn state_in(word: u64) -> State
     }
 }
 
-/// Returns whether the bits of a word above its fields hold the mark of the layout and nothing else.
+/// Returns whether the bits of a word above its fields hold the layout tag and nothing else.
 fn has_layout_tag(word: u64) -> bool
     ensures { IsTrue result ↔ HasLayoutTag layout word }
 {
@@ -171,8 +171,8 @@ fn is_packed(word: u64, fields: &MatchRecord) -> bool
 ///
 /// # Errors
 ///
-/// [`BadWord`] if no valid record packs to the word: if its bits from `FIELDS_END` on are not the mark, its state is 3, or its fields are
-/// those of no match.
+/// [`BadWord`] if no valid record packs to the word: if its bits from `FIELDS_END` on are not the layout tag, its state is 3, or its
+/// fields are those of no match.
 pub fn unpack(word: u64) -> Result<MatchRecord, BadWord>
     ensures valid { IfOk result IsValid }
     ensures packed { IfOk result (λ m. word_of m ≡ word) }

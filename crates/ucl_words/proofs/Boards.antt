@@ -3,28 +3,26 @@
 use Rattle.ucl_words.proofs.Common.{Access, Bool, CountsReporters, DoneAsBefore, EnlistStep, EnlistTries, Enlisted, EnlistedStep, Enlisting}
 use Rattle.ucl_words.proofs.Common.{Enlists, FindsEnlisted, Follows, FoundEnlisted, Goes, HasTrail, IsConsistent, IsLog, IsNextOfProtocol}
 use Rattle.ucl_words.proofs.Common.{IsPrefix, IsSound, IsThere, JoinIsMonotone, LaterBoardsExtend, LaterState, LaterStatesCompose, List, []}
-use Rattle.ucl_words.proofs.Common.{Log, Logged, Match, MayBeTaken, None, NumbersRiseInTime, Occurs, Sees, Some, ap, subst}
-use Rattle.ucl_words.proofs.Common.{SplitIsMonotone, Stays, Steps, Taken, Takes, Target, View, Whole, WordEnlisted, WordFull, WordMet}
-use Rattle.ucl_words.proofs.Common.{WordPass, WordSplit, accesses_in, acts_some, append-nil, append_assoc, arith, at_longer}
-use Rattle.ucl_words.proofs.Common.{begins_same, begins_through, by_seat, cases_eq, cond, count_of, enlisted_by, enlisted_on}
-use Rattle.ucl_words.proofs.Common.{false, get_elem?, half_acts, hears, history_of, inl, inr, left_pass, length, log_begins, logs_facts}
-use Rattle.ucl_words.proofs.Common.{ltb-true, may_begin, may_last, meets, nat_lt, new_pass, note_pass, number_by, number_more, number_of}
-use Rattle.ucl_words.proofs.Common.{pass_view_of, place_below, refl, seat_there, second_pass, set, set_else, set_here, shorter, since}
-use Rattle.ucl_words.proofs.Common.{slice_index, some, some-injective, some_acts, sound, sound_left, sound_second}
-use Rattle.ucl_words.proofs.Common.{stays_more, stays_none, step, step_taken, steps_of, sym, taken_by, taken_on, takes_count}
-use Rattle.ucl_words.proofs.Common.{takes_none, takes_on, told_pass, trail_of, true, versions_shown, words_after, ◌++◌, ◌+◌, ◌<◌, ◌==◌, ◌∙◌}
-use Rattle.ucl_words.proofs.Common.{◌∷◌, ◌≡◌, ◌≢◌, ◌≤◌, ◌⊎◌, ℕ}
-use Rattle.ucl_words.proofs.Steps.{EnlistWon, Position, count_there, enlist_won, loads_enlisted}
-use Rattle.ucl_words.proofs.Steps.{takes_trail, trail_longer}
+use Rattle.ucl_words.proofs.Common.{Log, Logged, Match, MayBeTaken, None, NumbersRiseInTime, Occurs, Sees, Some, ap, subst, SplitIsMonotone}
+use Rattle.ucl_words.proofs.Common.{Stays, Steps, Taken, Takes, Target, View, Whole, WordEnlisted, WordFull, WordMet, WordPass, WordSplit}
+use Rattle.ucl_words.proofs.Common.{accesses_in, acts_some, append-nil, append_assoc, arith, at_longer, begins_same, begins_through}
+use Rattle.ucl_words.proofs.Common.{by_seat, cases_eq, cond, count_of, enlisted_by, enlisted_on, false, get_elem?, half_acts, hears}
+use Rattle.ucl_words.proofs.Common.{history_of, inl, inr, left_pass, length, log_begins, logs_facts, ltb-true, may_begin, may_last, meets}
+use Rattle.ucl_words.proofs.Common.{nat_lt, new_pass, note_pass, number_by, number_more, number_of, pass_view_of, place_below, refl}
+use Rattle.ucl_words.proofs.Common.{seat_there, second_pass, set, set_else, set_here, shorter, since, slice_index, some, some-injective}
+use Rattle.ucl_words.proofs.Common.{some_acts, sound, sound_left, sound_second, stays_more, stays_none, step, step_taken, steps_of, sym}
+use Rattle.ucl_words.proofs.Common.{taken_by, taken_on, takes_count, takes_none, takes_on, told_pass, trail_of, true, versions_shown}
+use Rattle.ucl_words.proofs.Common.{words_after, ◌++◌, ◌+◌, ◌<◌, ◌==◌, ◌∙◌, ◌∷◌, ◌≡◌, ◌≢◌, ◌≤◌, ◌⊎◌, ℕ}
+use Rattle.ucl_words.proofs.Steps.{EnlistWon, Position, count_there, enlist_won, loads_enlisted, takes_trail, trail_longer}
 use Rattle.ucl_words.proofs.Clients.{counted_does, done_shown}
 use Rattle.ucl_live_board.proofs.CallsBySteps.{enlists, stays_on as stays_seen}
 use Rattle.ucl_live_board.proofs.InvariantIsKept.{split_occurs}
 
--- a step on the number of reporters leaves no access
+-- a step that leaves no access leaves the trail as it was
 no_access : (v w : View) (x : Taken) → accesses_in (x ∷ []) ≡ [] → Takes v (x ∷ []) w → trail_of w ≡ trail_of v
 no_access v w x none t = takes_trail v w (x ∷ []) t ∙ (ap (λ (l : List Access). trail_of v ++ l) none ∙ append-nil (trail_of v))
 
--- a pass after a step that leaves no access
+-- a pass is consistent after such a step
 after_count : (v w : View) (x : Taken) → HasTrail v → Goes v w → accesses_in (x ∷ []) ≡ [] → Takes v (x ∷ []) w → IsConsistent w
 after_count v w x was goes none takes = record {
   sound = sound versions_shown v w goes;
@@ -33,22 +31,25 @@ after_count v w x was goes none takes = record {
       (trail_longer (history_of v.log) (history_of w.log) (trail_of v) goes.seen was);
 }
 
--- exchanges that were all missed, from one number to another
+-- exchanges of the number of reporters, all missed: the first expected `known`, each later one what the last had found, n at the end
 abbrev pub MissedTries : ℕ → List Taken → ℕ → Type 0
 MissedTries known [] n = known ≡ n
 MissedTries known (x ∷ steps) n = (found : ℕ) × FoundEnlisted found x × (known < 255) × (found ≢ known) × MissedTries found steps n
 
+-- an exchange that expected n and found another number is one missed try more
 tries_more : (known n found place at : ℕ) (steps : List Taken) → MissedTries known steps n → n < 255 → found ≢ n
     → MissedTries known (steps ++ step_taken (Enlisted found) place at None ∷ []) found
 tries_more known n found place at [] same less other = (found, (inl refl, refl), (let e = same in omega arith), (λ z. other (z ∙ same)), refl)
 tries_more known n found place at (x ∷ steps) t less other = (t.0, t.1, t.2, t.3, tries_more t.0 n found place at steps t.4 less other)
 
+-- an exchange that expected n and found it is won: the tries give the number n + 1
 tries_won : (known n found place at : ℕ) (steps : List Taken) → MissedTries known steps n → n < 255 → found ≡ n
     → Enlisting known (steps ++ step_taken (Enlists found) place at None ∷ []) (Some (n + 1))
 tries_won known n found place at [] same less won =
     (found, (inr refl, refl), (let e = same in omega arith), inl (won ∙ sym same, refl, ap (λ (k : ℕ). Some (k + 1)) (sym same)))
 tries_won known n found place at (x ∷ steps) t less won = (t.0, t.1, t.2, inr (t.3, tries_won t.0 n found place at steps t.4 less won))
 
+-- if 255 or more were found, no number is given
 tries_full : (known n : ℕ) (steps : List Taken) → MissedTries known steps n → 255 ≤ n → Enlisting known steps None
 tries_full known n [] same high = ((let e = same in omega arith), refl)
 tries_full known n (x ∷ steps) t high = (t.0, t.1, t.2, inr (t.3, tries_full t.0 n steps t.4 high))
@@ -64,6 +65,7 @@ pub record Missed (v x : View) (n : ℕ) : Type 0 where
   pub trail : trail_of x ≡ trail_of v
   pub taken : count_of x ≤ count_of v + n
 
+-- before the first try nothing was missed
 pub missed_none : (v : View) → IsConsistent v → Missed v v 0
 missed_none v consistent = record {
   consistent = consistent;
@@ -76,11 +78,12 @@ missed_none v consistent = record {
   taken = omega arith;
 }
 
--- one that was missed again has found a higher number
+-- one exchange more that was missed, since it found another number than n
 module _ (v x w : View) (n found : ℕ) (was : Missed v x n) (other : found ≢ n) (missed : Sees (Enlisted found) x w) where
   pub missed_higher : (n < found) × (found ≤ 255)
   missed_higher = let a = was.known in let b = missed.goes.listed in let c = missed.there in let d = missed.goes.few in (omega arith, omega arith)
 
+  -- an exchange that was missed is one missed try more, of which the last found that number
   pub missed_more : n < 255 → Missed v w found
   missed_more below =
       let there = missed.there in
@@ -99,7 +102,7 @@ module _ (v x w : View) (n found : ℕ) (was : Missed v x n) (other : found ≢ 
         taken = omega arith;
       }
 
--- one that was won
+-- an exchange that was won, since it found n
 module _ (v x w : View) (n found : ℕ) (was : Missed v x n) (same : found ≡ n) (won : EnlistWon x found w) where
   abbrev last : Taken
   last = step_taken (Enlists found) won.gives.place (length (history_of w.log)) None
@@ -110,6 +113,7 @@ module _ (v x w : View) (n found : ℕ) (was : Missed v x n) (same : found ≡ n
   pub won_number : number_of w.own ≡ n + 1
   won_number = won.gives.number ∙ ap (λ (k : ℕ). k + 1) same
 
+  -- the tries gave the pass this number, by the exchanges that were missed and this one
   won_tries : n < 255 → EnlistTries v (Some (number_of w.own)) w
   won_tries below = record {
     steps = was.steps ++ last ∷ [];
@@ -130,6 +134,7 @@ second_consistent v consistent = record {
 pub left_consistent : (v : View) → IsConsistent v → IsConsistent (left_pass v)
 left_consistent v consistent = record { sound = sound_left versions_shown v consistent.sound; told = consistent.told; trail = consistent.trail }
 
+-- a split says what a word board promises of it
 pub was_split : (k m n : WordPass) → IsSound (pass_view_of k.pass) → m.board ≡ k.board → n.board ≡ k.board → m.seat ≡ k.seat
     → m.pass ≡ left_pass k.pass → n.pass ≡ second_pass k.pass → WordSplit k m n
 was_split k m n sound own other seat left given = record {
@@ -141,7 +146,7 @@ was_split k m n sound own other seat left given = record {
   occurs = split_occurs words_after IsNextOfProtocol k.pass m.pass n.pass left given;
 }
 
--- a note of the pass a was joined to k, which then loaded the number of reporters
+-- a note of the pass a was taken in by k, which then loaded the number of reporters, and is m
 module _ (a b k m : WordPass) (n : ℕ) (consistent : IsConsistent k.pass) (s : Steps m.seat (Enlisted n) (told_pass k.pass (note_pass a.pass)) m.pass) where
   abbrev told : View
   told = told_pass k.pass (note_pass a.pass)
@@ -161,6 +166,7 @@ module _ (a b k m : WordPass) (n : ℕ) (consistent : IsConsistent k.pass) (s : 
   met_trail : trail_of m.pass ≡ trail_of k.pass
   met_trail = no_access k.pass m.pass counted refl met_takes
 
+  -- the pass is consistent after that
   pub met_consistent : IsConsistent m.pass
   met_consistent = record {
     sound = sound versions_shown told m.pass loads.goes;
@@ -169,6 +175,7 @@ module _ (a b k m : WordPass) (n : ℕ) (consistent : IsConsistent k.pass) (s : 
         (trail_longer (history_of k.pass.log) (history_of m.pass.log) (trail_of k.pass) stays.seen consistent.trail);
   }
 
+  -- two passes that met have done so as a word board promises
   pub was_met : b ≡ a → m.board ≡ k.board → m.seat ≡ k.seat → IsSound (pass_view_of a.pass) → WordMet a b k m
   was_met same own seat first_sound =
       let done = counted_does m.seat n told m.pass s in
@@ -185,9 +192,9 @@ module _ (a b k m : WordPass) (n : ℕ) (consistent : IsConsistent k.pass) (s : 
         occurs = s.occurs;
       }
 
--- exchanges of the number of reporters were missed, the last of which found n
+-- exchanges of the number of reporters were missed, the last of which found n, and what the pass k did before stays
 module _ (k m : WordPass) (own : m.board ≡ k.board) (seat : m.seat ≡ k.seat) (does : DoneAsBefore k.pass m.pass) (occurs : Occurs m.seat m.pass) where
-  -- the next one was won
+  -- if the next one was won, the pass is enlisted as promised
   pub was_enlisted : (x : View) (n found : ℕ) → Missed k.pass x n → n < 255 → found ≡ n → EnlistWon x found m.pass → WordEnlisted k m
   was_enlisted x n found was less same won =
       let one = takes_count x m.pass _ won.gives.takes in
@@ -204,7 +211,7 @@ module _ (k m : WordPass) (own : m.board ≡ k.board) (seat : m.seat ≡ k.seat)
         occurs = occurs;
       }
 
-  -- there was no room for another
+  -- if n is 255 or more, there is no number left, and the pass comes back as promised
   pub was_full : (n : ℕ) → Missed k.pass m.pass n → n ≤ 255 → 255 ≤ n → WordFull k m
   was_full n was few many =
       let low = was.known in
@@ -224,10 +231,7 @@ module _ (k m : WordPass) (own : m.board ≡ k.board) (seat : m.seat ≡ k.seat)
         occurs = occurs;
       }
 
--- Every board, and later states of one. --
-
--- logs of later states go on
-
+-- the log of a later state begins with that of an earlier one
 pub later_go_on : LaterBoardsExtend
 later_go_on s t r q later = log_begins r.log q.log r.is_log q.is_log (λ j. by j (taken_by j r.log) refl)
   where
@@ -240,14 +244,14 @@ later_go_on s t r q later = log_begins r.log q.log r.is_log q.is_log (λ j. by j
         let g = q.fits j w.0 w.1 in
         subst (λ (l : List Taken). IsPrefix l (taken_by j q.log)) (sym f.own.0 ∙ f.own.1) (subst (IsPrefix (taken_by j u.0.log)) (sym g.own.0 ∙ g.own.1) (taken_on j u.0.log w.0.log w.3))
 
--- what happens on a board leads to later states
-
+-- a state that is later than a later one is later than the first
 pub compose : LaterStatesCompose
 compose s t u first second seat v here acts =
     let w = first seat v here acts in
     let x = second seat w.0 w.1 w.2 in
     (x.0, x.1, x.2, begins_through v.log w.0.log x.0.log w.3 x.3)
 
+-- a state in which one pass knows more, and keeps its share if it had one, is later
 later_set : (s : Position) (seat : ℕ) (v u : View) (words : List ℕ) → get_elem? s.views seat ≡ some v → IsPrefix v.log u.log → (v.share ≢ None → u.share ≢ None)
     → LaterState s (record s { words = words; views = set s.views seat u })
 later_set s seat v u words here p still j w at acts = elim (cases_eq j seat) [
@@ -261,6 +265,7 @@ later_set s seat v u words here p still j w at acts = elim (cases_eq j seat) [
   | inr not ↦ (w, set_else s.views seat j u not ∙ at, acts, begins_same w.log)
 ]
 
+-- a step of any kind leads to a later state
 pub steps_on : (seat : ℕ) (target : Target) (s : Position) (place : ℕ) (v w : View) (words : List ℕ) → get_elem? s.views place ≡ some v → Steps seat target v w
     → LaterState s (record s { words = words; views = set s.views place w })
 steps_on seat target s place v w words here t =
@@ -269,11 +274,13 @@ steps_on seat target s place v w words here t =
 pub left_acts : (v : View) → v.share ≢ None → (left_pass v).share ≢ None
 left_acts v acts = acts_some (left_pass v).share (half_acts false v.share (some_acts v.share acts))
 
+-- a split leads to a later state, if the pass that is left knows as much and keeps a share
 pub splits_on : (left right : View → View) → ((v : View) → (left v).log ≡ v.log) → ((v : View) → v.share ≢ None → (left v).share ≢ None) → SplitIsMonotone left right
 splits_on left right log still s seat v here j w at acts =
     let t = later_set s seat v (left v) s.words here (subst (IsPrefix v.log) (sym (log v)) (begins_same v.log)) (still v) j w at acts in
     (t.0, at_longer (set s.views seat (left v)) (right v ∷ []) j t.0 t.1, t.2, t.3)
 
+-- a join leads to a later state
 pub hears_on : JoinIsMonotone told_pass new_pass
 hears_on s r seat other v note here there apart none j w at acts =
     let f = r.fits seat v here in
@@ -286,8 +293,6 @@ hears_on s r seat other v note here there apart none j w at acts =
     told_longer : (b : Bool) → nat_lt (length v.log) (length note.log) ≡ b → IsPrefix v.log (cond b note.log v.log)
     told_longer true is = let less = ltb-true (length v.log) (length note.log) is in shorter v.log note.log r.log (r.fits seat v here).knows (r.fits other note there).knows (omega (arith, less))
     told_longer false is = begins_same v.log
-
--- numbers rise in time
 
 -- by one step a seat keeps its number, or is given the next one
 one_number : (log : Log) (x : Logged) → MayBeTaken log x → (seat : ℕ)
@@ -302,6 +307,7 @@ one_number log x may = by_seat log x (λ k steps. (number_of steps ≡ number_of
     by_target (Enlisted found) there is = inl is
     by_target (Whole shown) there is = inl is
 
+-- over more steps of a log a seat keeps its number, or is given one above all numbers given before
 number_given : (since log : Log) (seat : ℕ) → IsLog (log ++ since)
     → (number_of (taken_by seat (log ++ since)) ≡ number_of (taken_by seat log)) ⊎ (enlisted_by log < number_of (taken_by seat (log ++ since)))
 number_given [] log seat is = inl (ap (λ (l : Log). number_of (taken_by seat l)) (append-nil log))
@@ -318,6 +324,7 @@ number_given (x ∷ since) log seat is =
       | inr more ↦ inr (omega arith)
     ]
 
+-- the number that a pass is given between two states is above all that were given by the first
 pub numbers_rise : NumbersRiseInTime
 numbers_rise s t r q later seat v w here none there some_number =
     let on = later_go_on s t r q later in
@@ -333,11 +340,11 @@ numbers_rise s t r q later seat v w here none there some_number =
       others = λ j u at. let low = (logs_facts r.log r.is_log r.follows).low j in let number = ap number_of (r.fits j u at).own.1 in omega arith;
     }
 
--- what steps on the enlist word find
-
+-- a step on the number of reporters that found k counts k reporters
 counts_reporters : (k n : ℕ) (v w : View) → n ≡ k → Sees (Enlisted n) v w → CountsReporters k v w
 counts_reporters k n v w is l = subst (λ (j : ℕ). CountsReporters j v w) is (record { step = _; takes = l.takes; found_is = (inl refl, refl) })
 
+-- a load of the number of reporters finds as many as the log has
 pub counts_find : (place : ℕ) → FindsEnlisted (EnlistedStep place)
 counts_find place s r st m m' l =
     let n = slice_index s.words st.word in
@@ -348,6 +355,7 @@ enlists_by place k n v w is true step =
     subst (λ (j : ℕ). CountsReporters j v w) is (record { step = _; takes = (enlist_won place n v w step).gives.takes; found_is = (inr refl, refl) })
 enlists_by place k n v w is false step = counts_reporters k n v w is (loads_enlisted place n v w step)
 
+-- an exchange of the number of reporters finds as many as the log has
 pub enlists_find : (place : ℕ) → FindsEnlisted (EnlistStep place)
 enlists_find place s r st m m' l =
     let n = slice_index s.words st.word in

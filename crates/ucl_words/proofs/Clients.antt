@@ -1,31 +1,32 @@
 -- What the steps of a call leave as done and as held.
-use Rattle.ucl_words.proofs.Common.{AccessKind, Bool, Call, Checking, ClientState, Collecting, CompletesCall, DoneAsBefore, []}
-use Rattle.ucl_words.proofs.Common.{Enlisted, Enlists, EventCall, FinishedCall, Finishes, First, GoesOn, Holding, IsAnswered, IsBegun}
-use Rattle.ucl_words.proofs.Common.{IsNextOfProtocol, List, Look, Match, MayCollect, NoCall, None, Outcome, Pending, Refusal}
-use Rattle.ucl_words.proofs.Common.{Reply, Second, Some, Stale, StaysIn, Steps, Swap, View, after, ap, append-nil, arith, at_is, by_rules}
-use Rattle.ucl_words.proofs.Common.{call_answered, call_asked, checking, client_number, client_of, collected, collecting, cond, entry_by}
-use Rattle.ucl_words.proofs.Common.{entry_of, eq-eqb, false, first_later, first_place, flat_map, flat_map-append, history_of, inl, inr}
-use Rattle.ucl_words.proofs.Common.{legal_steps, length, length-take-le, log_long, ne_eqb, next_game, number_of, outcome, reading_of, subst}
-use Rattle.ucl_words.proofs.Common.{record_at, refl, refusal_of, set, slice_index, suc, sym, take, take-length, true}
-use Rattle.ucl_words.proofs.Common.{version_in, versions_shown, with_outcome, with_target, word_of, words_after, zero, ◌++◌, ◌+◌, ◌<◌, ◌==◌}
-use Rattle.ucl_words.proofs.Common.{◌∙◌, ◌∷◌, ◌≡◌, ◌≢◌, ◌≤◌, ◌⊎◌, ℕ}
+use Rattle.ucl_words.proofs.Common.{AccessKind, Bool, Call, Checking, ClientState, Collecting, CompletesCall, DoneAsBefore, [], Enlisted}
+use Rattle.ucl_words.proofs.Common.{Enlists, EventCall, FinishedCall, Finishes, First, GoesOn, Holding, IsAnswered, IsBegun}
+use Rattle.ucl_words.proofs.Common.{IsNextOfProtocol, List, Look, Match, MayCollect, NoCall, None, Outcome, Pending, Refusal, Reply, Second}
+use Rattle.ucl_words.proofs.Common.{Some, Stale, StaysIn, Steps, Swap, View, after, ap, append-nil, arith, at_is, by_rules, call_answered}
+use Rattle.ucl_words.proofs.Common.{call_asked, checking, client_number, client_of, collected, collecting, cond, entry_by, entry_of, eq-eqb}
+use Rattle.ucl_words.proofs.Common.{false, first_later, first_place, flat_map, flat_map-append, history_of, inl, inr, legal_steps, length}
+use Rattle.ucl_words.proofs.Common.{length-take-le, log_long, ne_eqb, next_game, number_of, outcome, reading_of, subst, record_at, refl}
+use Rattle.ucl_words.proofs.Common.{refusal_of, set, slice_index, sym, take, take-length, true, version_in, versions_shown, with_outcome}
+use Rattle.ucl_words.proofs.Common.{with_target, word_of, words_after, ◌++◌, ◌+◌, ◌<◌, ◌==◌, ◌∙◌, ◌∷◌, ◌≡◌, ◌≢◌, ◌≤◌, ◌⊎◌, ℕ}
+use Rattle.std.proofs.lemmas.List.{take_more_set}
 use Rattle.ucl_words.proofs.Steps.{ExchangeMissed, ExchangeWon, LoadsMatch, adds_none, client_is, count_stays, exchange_won, loads_match}
 use Rattle.ucl_words.proofs.Steps.{shown_of}
 use Rattle.ucl_steps.specs.declared.step.Call.TheVariants as calls
 use Rattle.ucl_steps.specs.declared.trace.Reply.TheVariants as replies
 use Rattle.ucl_steps.specs.Protocol as protocol
 
+-- the first step of a call is at this place if none was under way before it, and else where the call began
 begun_place : (h : Pending) (known was place : ℕ) → known ≤ place → IsBegun h known was (first_place h was place)
 begun_place h known was place le = search arith
 
--- one step on a match word, by what comes of it
-
+-- one step of a pass on a match word, by what comes of it
 module _ (seat game n : ℕ) (kind : AccessKind) (v w : View) (s : Steps seat (Match kind game n) v w) where
+  -- if this comes of the step, it is added to what the pass has done
   pub done : (o : Outcome) → outcome (client_of v.own).number (client_of v.own).held (Match kind game n) s.step.at ≡ o
       → client_of w.own ≡ with_outcome o s.step (client_of v.own)
   done o comes = client_is seat (Match kind game n) v w s ∙ ap (λ (z : Outcome). with_outcome z s.step (client_of v.own)) comes
 
-  -- the call goes on
+  -- if the call goes on, the pass stays in it, and holds this
   pub goes_on : (held : Pending) → outcome (client_of v.own).number (client_of v.own).held (Match kind game n) s.step.at ≡ GoesOn held → StaysIn v held w
   goes_on held comes =
       let is = done (GoesOn held) comes in
@@ -36,7 +37,7 @@ module _ (seat game n : ℕ) (kind : AccessKind) (v w : View) (s : Steps seat (M
             (begun_place (client_of v.own).held (length v.log) (client_of v.own).first s.step.place (first_later words_after IsNextOfProtocol seat (Match kind game n) v w s));
       }
 
-  -- the call is answered
+  -- if the call is answered, it is the last that the pass has finished
   abbrev pub answered : (reply : Reply) → outcome (client_of v.own).number (client_of v.own).held (Match kind game n) s.step.at ≡ protocol.Answers reply
       → (call : Call) → call_asked (client_of v.own).held (Match kind game n) ≡ call → IsAnswered v call reply w
   answered reply comes call asked = record {
@@ -47,11 +48,11 @@ module _ (seat game n : ℕ) (kind : AccessKind) (v w : View) (s : Steps seat (M
     held = ap (λ (z : ClientState). z.held) (done (protocol.Answers reply) comes);
   }
 
--- what a pass has shown, by the calls that it has finished
-
+-- a pass with the same finished calls and the same number has shown the same versions
 pub done_shown : (v w : View) → (client_of w.own).calls ≡ (client_of v.own).calls → number_of w.own ≡ number_of v.own → versions_shown w.own ≡ versions_shown v.own
 done_shown v w calls same = λ i. flat_map (shown_of ((client_number w.own ∙ (same ∙ sym (client_number v.own))) i)) (calls i)
 
+-- a call that was answered adds the version of its reply, if it was a reading, to those that its pass has shown
 pub answered_shown : (v w : View) (call : Call) (reply : Reply) → IsAnswered v call reply w → number_of w.own ≡ number_of v.own
     → versions_shown w.own ≡ versions_shown v.own ++ version_in reply
 answered_shown v w call reply a same =
@@ -61,11 +62,11 @@ answered_shown v w call reply a same =
     (append-nil (shown_of d.number a.last) ∙ ((λ i. cond (a.asked.2 i == d.number) (version_in (a.asked.1 i)) [])
     ∙ ap (λ (b : Bool). cond b (version_in reply) []) (eq-eqb d.number d.number refl))))
 
--- steps of one call, one after another
-
+-- if a pass holds something, the call under way is the one that it had begun
 under_way : (h : Pending) (known was first : ℕ) → h ≢ NoCall → IsBegun h known was first → first ≡ was
 under_way h known was first any begun = search arith
 
+-- a pass that stays in a call from u to v, holding something there, and from v to w, stays in it from u to w
 pub stays_on : (u v w : View) (h k : Pending) → h ≢ NoCall → StaysIn u h v → StaysIn v k w → StaysIn u k w
 stays_on u v w h k any a b =
     let same = under_way (client_of v.own).held (length v.log) (client_of v.own).first (client_of w.own).first (λ none. any (sym a.held_is ∙ none)) b.begun in
@@ -75,7 +76,7 @@ stays_on u v w h k any a b =
       begun = subst (IsBegun (client_of u.own).held (length u.log) (client_of u.own).first) (sym same) a.begun;
     }
 
--- a call that began after all that its pass had known, and that was answered
+-- a call whose pass held nothing before, stayed in it and then finished it, was begun and answered in between
 pub stays_answered : (v u w : View) (held : Pending) (call : Call) (reply : Reply) → (client_of v.own).held ≡ NoCall → number_of u.own ≡ number_of v.own
     → StaysIn v held u → Finishes u call reply w → CompletesCall v call reply w
 stays_answered v u w held call reply nothing number stays finishes =
@@ -93,12 +94,12 @@ stays_answered v u w held call reply nothing number stays finishes =
       since = omega arith;
     }
 
--- a report's load, where nothing was held
-
+-- the load by which a pass that held nothing begins a report
 module _ (seat n : ℕ) (e : EventCall) (v w : View) (s : Steps seat (Match (Look e) e.game n) v w) (nothing : (client_of v.own).held ≡ NoCall) where
   pub look_loads : LoadsMatch (Look e) e.game v n w
   look_loads = loads_match seat e.game n (Look e) v w s (adds_none seat e.game n (Look e) v w s tt)
 
+  -- if the rules refuse the event on the word found, the report is answered with this refusal
   module _ (refusal : Refusal) (refused : refusal_of (record_at n) e.expected e.kind ≡ Some refusal) where
     look_comes : outcome (client_of v.own).number (client_of v.own).held (Match (Look e) e.game n) s.step.at ≡ protocol.Answers (replies.Refused refusal)
     look_comes = ap (by_rules (client_of v.own).number e n) refused
@@ -109,6 +110,7 @@ module _ (seat n : ℕ) (e : EventCall) (v w : View) (s : Steps seat (Match (Loo
         let low = first_later words_after IsNextOfProtocol seat (Match (Look e) e.game n) v w s in
         record { answers = answered seat e.game n (Look e) v w s (replies.Refused refusal) look_comes (calls.Event e) refl; since = omega arith }
 
+  -- if they accept it, the pass stays in the report and holds what is to be exchanged
   module _ (accepts : refusal_of (record_at n) e.expected e.kind ≡ None) where
     look_goes : outcome (client_of v.own).number (client_of v.own).held (Match (Look e) e.game n) s.step.at ≡ GoesOn
         (Holding e n (word_of (after (record_at n) (client_of v.own).number e.kind)))
@@ -117,9 +119,9 @@ module _ (seat n : ℕ) (e : EventCall) (v w : View) (s : Steps seat (Match (Loo
     pub look_holds : StaysIn v (Holding e n (word_of (after (record_at n) (client_of v.own).number e.kind))) w
     look_holds = goes_on seat e.game n (Look e) v w s (Holding e n (word_of (after (record_at n) (client_of v.own).number e.kind))) look_goes
 
--- the exchange
-
+-- the exchange of a report, which found the word n and expected the word `old`
 module _ (seat game n old new : ℕ) (e : EventCall) (v w : View) (s : Steps seat (Match Swap game n) v w) (held : (client_of v.own).held ≡ Holding e old new) (of : game ≡ e.game) where
+  -- the reply, by whether it found the word that it expected: accepted, or stale
   abbrev pub reply_by : Bool → Reply
   reply_by b = cond b (replies.Accepted (record { number = (record_at new).number })) (replies.Refused (Stale (record_at n).number))
 
@@ -133,12 +135,14 @@ module _ (seat game n old new : ℕ) (e : EventCall) (v w : View) (s : Steps sea
     comes_as : outcome (client_of v.own).number (client_of v.own).held (Match Swap game n) s.step.at ≡ protocol.Answers (reply_by b)
     comes_as = swap_comes ∙ ap (λ (c : Bool). protocol.Answers (reply_by c)) is
 
+    -- the exchange finishes the report with this reply
     pub swap_finishes : Finishes v (calls.Event e) (reply_by b) w
     swap_finishes = record {
       answers = answered seat game n Swap v w s (reply_by b) comes_as (calls.Event e) swap_asked;
       first = ap (λ (h : Pending). first_place h (client_of v.own).first s.step.place) held;
     }
 
+  -- the exchange of a report that found another word stored nothing
   pub swap_missed : n ≢ old → ExchangeMissed e.game v n w
   swap_missed other =
       let none : s.step.entry ≡ None = s.next.entry ∙ ((λ i. entry_by (client_of (sym s.own i)).number (client_of (sym s.own i)).held (s.of i))
@@ -146,21 +150,16 @@ module _ (seat game n old new : ℕ) (e : EventCall) (v w : View) (s : Steps sea
       ∙ ap (λ (b : Bool). cond b (Some (Rattle.ucl_board.specs.History.entry_of (client_of v.own).number e)) None) (ne_eqb n old other))) in
       subst (λ (g : ℕ). ExchangeMissed g v n w) of (loads_match seat game n Swap v w s none)
 
+  -- the exchange of a report that found the word that it expected added the entry
   pub swap_won : n ≡ old → ExchangeWon (Rattle.ucl_board.specs.History.entry_of (number_of v.own) e) v n w
   swap_won same = subst (λ (k : ℕ). ExchangeWon (Rattle.ucl_board.specs.History.entry_of (number_of v.own) e) v k w) (sym same)
       (exchange_won seat game old new e v w (subst (λ (k : ℕ). Steps seat (Match Swap game k) v w) same s) held of)
 
--- a first collect
-
-take_set : (ws : List ℕ) (i n : ℕ) → i < length ws → take (i + 1) (set ws i n) ≡ take i ws ++ n ∷ []
-take_set [] i n less = absurd (omega arith)
-take_set (x ∷ ws) zero n less = refl
-take_set (x ∷ ws) (suc i) n less = let e : suc i + 1 ≡ suc (i + 1) = omega arith in ap (λ (k : ℕ). take k (x ∷ set ws i n)) e ∙ ap (λ (l : List ℕ). x ∷ l) (take_set ws i n (omega arith))
-
--- after so many loads
+-- from v to x the pass has loaded the first i words of a first collect and holds them, or there are none and it is as it was
 abbrev pub Firsts : View → List ℕ → ℕ → View → Type 0
 Firsts v words i x = ((i ≡ 0) × (x ≡ v)) ⊎ ((0 < i) × StaysIn v (collected (take i words) (length (history_of x.log))) x)
 
+-- a first collect of a pass that may begin one has loaded i words, fewer than twelve
 module _ (v x : View) (words : List ℕ) (i : ℕ) (less : i < 12) (long : length words ≡ 12) (may : MayCollect (client_of v.own).held) where
   some_words : length (take i words) ≡ i
   some_words = length-take-le i words (omega arith)
@@ -168,7 +167,7 @@ module _ (v x : View) (words : List ℕ) (i : ℕ) (less : i < 12) (long : lengt
   collecting_still : (now : ℕ) → collected (take i words) now ≡ Collecting (take i words)
   collecting_still now = ap (λ (b : Bool). cond b (Checking (take i words) 0 now) (Collecting (take i words))) (ne_eqb (length (take i words)) 12 (λ full. let l = some_words in omega arith))
 
-  -- what is held before the next load
+  -- before the next load the pass holds no call, and no word is loaded, or it holds the words that it has loaded
   abbrev IsBefore : Pending → Type 0
   IsBefore h = ((h ≡ NoCall) × (take i words ≡ [])) ⊎ (h ≡ Collecting (take i words))
 
@@ -181,6 +180,7 @@ module _ (v x : View) (words : List ℕ) (i : ℕ) (less : i < 12) (long : lengt
   held_before (inl t) = subst (λ (z : View). IsBefore (client_of z.own).held) (sym t.1) (begins_with t.0 (client_of v.own).held may)
   held_before (inr t) = inr (t.1.held_is ∙ collecting_still (length (history_of x.log)))
 
+  -- the next load is of the next match
   pub first_next : Firsts v words i x → i + 1 ≡ next_game First (client_of x.own).held
   first_next so_far = elim (held_before so_far) [
     | inl t ↦ ap (λ (k : ℕ). k + 1) (sym some_words ∙ ap length t.1) ∙ ap (next_game First) (sym t.0)
@@ -195,7 +195,7 @@ module _ (v x : View) (words : List ℕ) (i : ℕ) (less : i < 12) (long : lengt
     more = collected (take (i + 1) (set words i n)) (length (history_of w.log))
 
     words_on : take i words ++ n ∷ [] ≡ take (i + 1) (set words i n)
-    words_on = sym (take_set words i n (omega arith))
+    words_on = sym (take_more_set words i n (omega arith))
 
     comes : Firsts v words i x → outcome (client_of x.own).number (client_of x.own).held (Match First (i + 1) n) s.step.at ≡ GoesOn more
     comes so_far =
@@ -209,6 +209,7 @@ module _ (v x : View) (words : List ℕ) (i : ℕ) (less : i < 12) (long : lengt
     pub first_loads : LoadsMatch First (i + 1) x n w
     first_loads = loads_match seat (i + 1) n First x w s (adds_none seat (i + 1) n First x w s tt)
 
+    -- after that load one word more is loaded
     pub first_on : Firsts v words i x → Firsts v (set words i n) (i + 1) w
     first_on so_far = inr (omega arith, by so_far)
       where
@@ -217,6 +218,7 @@ module _ (v x : View) (words : List ℕ) (i : ℕ) (less : i < 12) (long : lengt
         by (inr t) = stays_on v x w (collected (take i words) (length (history_of x.log))) more
             (λ none. collecting (take i words) (sym (collecting_still (length (history_of x.log))) ∙ none)) t.1 (goes_on seat (i + 1) n First x w s more (comes so_far))
 
+-- after the twelfth load the pass holds all words, to compare them
 pub firsts_all : (v x : View) (words : List ℕ) (i : ℕ) → length words ≡ 12 → i ≡ 12 → Firsts v words i x → StaysIn v (Checking words 0 (length (history_of x.log))) x
 firsts_all v x words i long all (inl t) = absurd (let e = t.0 in omega arith)
 firsts_all v x words i long all (inr t) =
@@ -225,13 +227,14 @@ firsts_all v x words i long all (inr t) =
     (ap (λ (l : List ℕ). collected l (length (history_of x.log))) whole
     ∙ ap (λ (b : Bool). cond b (Checking words 0 (length (history_of x.log))) (Collecting words)) (eq-eqb (length words) 12 long)) t.1
 
--- a second collect, of which so many loads have found their word again
+-- a second collect has found the first `count` words again, which the first collect loaded by the length `point` of the history
 abbrev pub Seconds : View → List ℕ → ℕ → ℕ → View → Type 0
 Seconds v words point count x = client_of x.own ≡ record (client_of v.own) { held = Checking words count point }
 
 pub seconds_none : (v : View) (words : List ℕ) (point : ℕ) → (client_of v.own).held ≡ Checking words 0 point → Seconds v words point 0 v
 seconds_none v words point is = λ i. record (client_of v.own) { held = is i }
 
+-- the next load of a second collect, of the word at place i
 module _ (v x w : View) (words : List ℕ) (point i seat n : ℕ) (so_far : Seconds v words point i x) (s : Steps seat (Match Second (i + 1) n) x w) where
   pub second_loads : LoadsMatch Second (i + 1) x n w
   second_loads = loads_match seat (i + 1) n Second x w s (adds_none seat (i + 1) n Second x w s tt)
@@ -247,9 +250,11 @@ module _ (v x w : View) (words : List ℕ) (point i seat n : ℕ) (so_far : Seco
   second_is same last by end = client_is seat (Match Second (i + 1) n) x w s
       ∙ (ap (with_target (Match Second (i + 1) n) s.step) so_far ∙ (λ j. with_outcome (compared_by (by j) (end j)) s.step checking_before))
 
+  -- if it finds the word again, and that was not the twelfth, one word more is found again
   pub second_on : n ≡ slice_index words i → i < 11 → Seconds v words point (i + 1) w
   second_on same less = second_is true false (eq-eqb n (slice_index words i) same) (ne_eqb i 11 (λ z. omega arith))
 
+  -- if it was the twelfth, the reading is answered with these words
   pub second_last : n ≡ slice_index words i → i ≡ 11 → Finishes v calls.Reading (replies.Copied (reading_of words)) w
   second_last same eleven =
       let is = second_is true true (eq-eqb n (slice_index words i) same) (eq-eqb i 11 eleven) in
@@ -264,6 +269,7 @@ module _ (v x w : View) (words : List ℕ) (point i seat n : ℕ) (so_far : Seco
         first = refl;
       }
 
+  -- if it finds another word, the reading begins anew with no words
   pub second_other : n ≢ slice_index words i → (client_of v.own).held ≡ Checking words 0 point → StaysIn v (Collecting []) w
   second_other other was =
       let is = second_is false (i == 11) (ne_eqb n (slice_index words i) other) refl in
@@ -275,7 +281,6 @@ module _ (v x w : View) (words : List ℕ) (point i seat n : ℕ) (so_far : Seco
       }
 
 -- tries of a reading
-
 abbrev pub Tries : View → View → Type 0
 Tries v x = (x ≡ v) ⊎ StaysIn v (Collecting []) x
 
@@ -284,14 +289,16 @@ module _ (v x : View) (none : (client_of v.own).held ≡ NoCall) where
   tries_may (inl same) = subst MayCollect (sym (ap (λ (z : View). (client_of z.own).held) same ∙ none)) tt
   tries_may (inr t) = subst MayCollect (sym t.held_is) refl
 
+  -- what it holds after such tries and more steps of the reading it holds since v
   pub tries_on : (h : Pending) (u : View) → Tries v x → StaysIn x h u → StaysIn v h u
   tries_on h u (inl same) stays = subst (λ (z : View). StaysIn z h u) same stays
   tries_on h u (inr t) stays = stays_on v x u (Collecting []) h (collecting []) t stays
 
+-- a try whose second collect found another word leads from v back to no words
 pub tries_again : (v u w : View) (words : List ℕ) (point : ℕ) → StaysIn v (Checking words 0 point) u → StaysIn u (Collecting []) w → StaysIn v (Collecting []) w
 tries_again v u w words point a b = stays_on v u w (Checking words 0 point) (Collecting []) (checking words 0 point) a b
 
--- a step on the enlist word leaves what was done
+-- a step on the number of reporters, enlisting or not, leaves what a pass has finished and holds
 pub counted_does : (seat n : ℕ) (v w : View) → Steps seat (Enlisted n) v w → DoneAsBefore v w
 counted_does seat n v w s =
     let is = client_is seat (Enlisted n) v w s

@@ -3,7 +3,7 @@ pub use Rattle.atomic_table.proofs.Lists.{at_longer, exchanged, set_else, set_he
 pub use Rattle.atomic_table.specs.Table.{Allows, Joins, Me, Splits, State, Valid, carried_after, keeps, opening, step, stepped}
 pub use Rattle.std.proofs.Common.{Bool, List, None, Option, Some, [], ap, append-nil, append_assoc, arith, cond, eq-eqb, false, get_or}
 pub use Rattle.std.proofs.Common.{get_or-set_same, inl, inr, le_refl, length, length-append, length-set, map, ne_eqb, refl, rules, set}
-pub use Rattle.std.proofs.Common.{subst, suc, sym, take, true, zero, ℕ, ◌++◌, ◌+◌, ◌-◌, ◌<◌, ◌==◌, ◌∙◌, ◌∷◌, ◌≡◌, ◌≢◌, ◌≤◌, ◌⊎◌}
+pub use Rattle.std.proofs.Common.{subst, sym, take, true, ℕ, ◌++◌, ◌+◌, ◌-◌, ◌<◌, ◌==◌, ◌∙◌, ◌∷◌, ◌≡◌, ◌≢◌, ◌≤◌, ◌⊎◌}
 pub use Rattle.std.proofs.Math.Seq.{take-append_seam, take-length}
 pub use Rattle.std.proofs.lemmas.Bool.{cases_eq, ltb-true}
 pub use Rattle.std.proofs.lemmas.List.{length-take-le, map-append, set-get_or}
@@ -44,9 +44,8 @@ pub use Rattle.ucl_steps.proofs.Accesses.{follows_wider, reading_whole, report_w
 pub use Rattle.ucl_steps.proofs.Histories.{board_next, read_back}
 pub use Rattle.ucl_steps.proofs.Clients.{checking, client_number, collecting, count_none, enlist_none, first_none, look_none, second_none}
 pub use Rattle.ucl_steps.proofs.LogFacts.{calls_low, legal_steps, logs_facts, logs_legal, logs_sound}
-pub use Rattle.ucl_steps.specs.ClientState.{ClientState, IsNextFor, IsNextOfProtocol, call_answered, call_asked, client_at}
-pub use Rattle.ucl_steps.specs.ClientState.{client_of, entry_by, first_place, new_client, next_game, outcome, with_outcome, with_step}
-pub use Rattle.ucl_steps.specs.ClientState.{with_target}
+pub use Rattle.ucl_steps.specs.ClientState.{ClientState, IsNextFor, IsNextOfProtocol, call_answered, call_asked, client_at, client_of}
+pub use Rattle.ucl_steps.specs.ClientState.{entry_by, first_place, new_client, next_game, outcome, with_outcome, with_step, with_target}
 pub use Rattle.ucl_steps.specs.Linearizable.{FinishedCall}
 pub use Rattle.ucl_steps.specs.Protocol.{Checking, Collecting, GoesOn, Holding, MayAsk, NoCall, Outcome, Pending, by_rules, collected}
 pub use Rattle.ucl_steps.specs.Protocol.{report_reply}

@@ -5,9 +5,11 @@ use Rattle.ucl_live_board.proofs.InvariantIsKept.{both_occur}
 use Rattle.ucl_words.specs.WordViews.{WordPass}
 use Rattle.ucl_words.specs.WordRecords.{WordSplit, WordMet, IsWordPassOf}
 
+-- a pass that stays on its board, and occurs at its seat, is one of the board's
 pub own_after : (board : TableId) (k m : WordPass) → k.board ≡ board → m.board ≡ k.board → Occurs m.seat m.pass → IsWordPassOf board m
 own_after board k m is own occurs = (own ∙ is, (m.seat, occurs))
 
+-- a split and a meeting make passes of the board out of passes of it
 pub split_own : (board : TableId) (k m n : WordPass) → IsWordPassOf board k → WordSplit k m n → IsWordPassOf board m × IsWordPassOf board n
 split_own board k m n is split =
     let both = both_occur words_after IsNextOfProtocol k.pass m.pass n.pass split.occurs is.1 in

@@ -17,12 +17,12 @@ use Rattle.ucl_words.proofs.Clients.{swap_missed, swap_won}
 use Rattle.ucl_steps.specs.declared.step.Call.TheVariants as calls
 use Rattle.ucl_steps.specs.declared.trace.Reply.TheVariants as replies
 
--- what the rules accept
+-- where the rules accept an event on a word, the reply has the event number of the word that takes its place
 accepts_by : (word next number reporter : ℕ) (call : EventCall) → refusal_of (record_at word) call.expected call.kind ≡ None
     → record_at next ≡ after (record_at word) reporter call.kind → number ≡ (record_at next).number → reply_of (record_at word) call ≡ Ok (record { number = number })
 accepts_by word next number reporter call none is said = search (arith, accepted_reply, after_number)
 
--- what a report says
+-- what a report says of its pass, v before and w after it
 pub record Reported (v : View) (call : EventCall) (reply : Result Accepted Refusal) (w : View) : Type 0 where
   pub consistent : IsConsistent w
   pub always : Continues (pass_view_of v) (pass_view_of w)
@@ -31,7 +31,7 @@ pub record Reported (v : View) (call : EventCall) (reply : Result Accepted Refus
   pub steps : ReportSteps v call reply w
   pub answers : CompletesCall v (calls.Event call) (report_reply reply) w
 
--- a report shows nothing
+-- a report adds no version to those that its pass has shown
 report_shown : (v w : View) (call : EventCall) (reply : Result Accepted Refusal) → CompletesCall v (calls.Event call) (report_reply reply) w
     → number_of w.own ≡ number_of v.own → versions_shown w.own ≡ versions_shown v.own
 report_shown v w call reply c same = answered_shown v w (calls.Event call) (report_reply reply) c.answers same
@@ -41,7 +41,7 @@ report_shown v w call reply c same = answered_shown v w (calls.Event call) (repo
     none (Ok accepted) = refl
     none (Err refusal) = refl
 
--- the load of a report
+-- the load by which the pass of a seat begins a report, from the view v to the view u
 module _ (v u : View) (call : EventCall) (reporter loaded seat : ℕ) (game : IsMatch call.game)
     (me : (0 < reporter) × (reporter ≤ 255) × (number_of v.own ≡ reporter)) (consistent : IsConsistent v)
     (nothing : (client_of v.own).held ≡ NoCall) (s : Steps seat (Match (Look call) call.game loaded) v u) where
@@ -57,7 +57,7 @@ module _ (v u : View) (call : EventCall) (reporter loaded seat : ℕ) (game : Is
   look_walks : Walks v (look_access ∷ []) u
   look_walks = walks_load (Look call) call.game loaded v u consistent looked
 
-  -- a report that was refused after these accesses
+  -- a report of which all accesses stored nothing, and whose reply is this refusal, says what it should
   refused_by : (ms : List Access) (w : View) (refusal : Refusal) → Walks v ms w → ReportAccesses call (Err refusal) ms (length (history_of w.log))
       → CompletesCall v (calls.Event call) (replies.Refused refusal) w → Reported v call (Err refusal) w
   refused_by ms w refusal walks report answers = record {
@@ -75,14 +75,14 @@ module _ (v u : View) (call : EventCall) (reporter loaded seat : ℕ) (game : Is
     answers = answers;
   }
 
-  -- the rules refuse
+  -- if the rules refuse the event on the word that was loaded, this load was the whole report
   pub refused_report : (refusal : Refusal) → refusal_of (record_at loaded) call.expected call.kind ≡ Some refusal → Reported v call (Err refusal) u
   refused_report refusal refused =
       let reply = sym (refused_reply (record_at loaded) (record_at loaded) call refusal refl refused) in
       refused_by (look_access ∷ []) u refusal look_walks (inl (record { looked = loaded; place = looked.place; accesses = refl; answer = reply }))
       (look_answers seat loaded call v u s nothing refusal refused)
 
-  -- they accept
+  -- if they accept it on that word, an exchange follows, by which `next` is to take its place
   module _ (accepts : refusal_of (record_at loaded) call.expected call.kind ≡ None) (next : ℕ) (valid : IsWord next) (next_is : record_at next ≡ after (record_at loaded) reporter call.kind) where
     abbrev next_held : Pending
     next_held = Holding call loaded (word_of (after (record_at loaded) (client_of v.own).number call.kind))
@@ -90,6 +90,7 @@ module _ (v u : View) (call : EventCall) (reporter loaded seat : ℕ) (game : Is
     stays : StaysIn v next_held u
     stays = look_holds seat loaded call v u s nothing accepts
 
+    -- the word that the pass holds for the exchange is `next`
     word_is : word_of (after (record_at loaded) (client_of v.own).number call.kind) ≡ next
     word_is = ap (λ (k : ℕ). word_of (after (record_at loaded) k call.kind)) (client_number v.own ∙ me.2) ∙ (ap word_of (sym next_is) ∙ word_packed next valid)
 
@@ -102,14 +103,14 @@ module _ (v u : View) (call : EventCall) (reporter loaded seat : ℕ) (game : Is
     accepted_as : (number : ℕ) → number ≡ (record_at next).number → reply_of (record_at loaded) call ≡ Ok (record { number = number })
     accepted_as number is = accepts_by loaded next number reporter call accepts next_is is
 
-    -- and an exchange was made
+    -- the exchange of the report found `found`, and led to the view z
     module _ (z : View) (found place : ℕ) (t : Steps place (Match Swap call.game found) u z) where
       answered_as : (reply : Result Accepted Refusal) (b : Bool) → (found == loaded) ≡ b
           → report_reply reply ≡ reply_by place call.game found loaded next call u z t held_then refl b → CompletesCall v (calls.Event call) (report_reply reply) z
       answered_as reply b is same = subst (λ (r : Reply). CompletesCall v (calls.Event call) r z) (sym same)
           (stays_answered v u z next_held (calls.Event call) _ nothing looked.number stays (swap_finishes place call.game found loaded next call u z t held_then refl b is))
 
-      -- that was missed
+      -- an exchange that found another word was missed: the event is refused as stale
       pub missed_report : found ≢ loaded → (number : ℕ) → number ≡ (record_at found).number → Reported v call (Err (Stale number)) z
       missed_report other number is =
           let lost = swap_missed place call.game found loaded next call u z t held_then refl other in
@@ -127,7 +128,7 @@ module _ (v u : View) (call : EventCall) (reporter loaded seat : ℕ) (game : Is
           }))
           (answered_as (Err (Stale number)) false (ne_eqb found loaded other) (ap (λ (n : ℕ). replies.Refused (Stale n)) is))
 
-      -- that was won
+      -- an exchange that found the word that was loaded: it was won
       module _ (same : found ≡ loaded) where
         abbrev entry : Entry
         entry = entry_of (number_of v.own) call
@@ -153,6 +154,7 @@ module _ (v u : View) (call : EventCall) (reporter loaded seat : ℕ) (game : Is
         one_longer : length seen ≡ length before + 1
         one_longer = ap length won.last ∙ length-append before (entry ∷ [])
 
+        -- the accesses of the report, a load and an exchange that was won, follow the history from what the pass had seen
         won_follows : Follows seen (length (history_of v.log)) (look_access ∷ won_access ∷ []) (length seen)
         won_follows =
             let n = one_longer in
@@ -177,6 +179,7 @@ module _ (v u : View) (call : EventCall) (reporter loaded seat : ℕ) (game : Is
         won_whole = subst (λ (t : List Access). Follows seen 0 t (length seen)) (sym won_trail)
             (trail_on (history_of v.log) seen (trail_of v) (look_access ∷ won_access ∷ []) (begins_through (history_of v.log) before seen since_seen begun) consistent.trail won_follows)
 
+        -- a report whose exchange was won: the event is accepted, with the event number of the word that it left
         pub accepted_report : (number : ℕ) → number ≡ (record_at next).number → Reported v call (Ok (record { number = number })) z
         accepted_report number is =
             let ok = accepted_as number is in
@@ -226,6 +229,7 @@ module _ (v u : View) (call : EventCall) (reporter loaded seat : ℕ) (game : Is
 report_few : (call : EventCall) (reply : Result Accepted Refusal) (ms : List Access) (now : ℕ) → ReportAccesses call reply ms now → length ms ≤ 2
 report_few call reply ms now r = search arith
 
+-- a report that says this of its pass is what a word board promises of one, if its pass stays on its board and at its seat
 pub was_reported : (k m : WordPass) (call : EventCall) (reply : Result Accepted Refusal) → Reported k.pass call reply m.pass
     → m.board ≡ k.board → m.seat ≡ k.seat → Occurs m.seat m.pass → WordReported k call reply m
 was_reported k m call reply r own seat occurs =

@@ -3,48 +3,52 @@ use Rattle.ucl_words.proofs.Common.{Access, AccessKind, Adds, All, All-head, All
 use Rattle.ucl_words.proofs.Common.{Enlisted, EnlistedStep, Enlists, Entry, EventCall, ExchangeStep, FinishedCall, First, FirstStep, ap}
 use Rattle.ucl_words.proofs.Common.{Follows, GivesNumber, GoesOn, HasTrail, Holding, IsConsistent, IsMatch, IsNextFor, IsNextOfProtocol}
 use Rattle.ucl_words.proofs.Common.{IsPrefix, IsReporter, IsSome, IsThere, IsWord, Joins, List, Look, LookStep, Match, MatchRecord, subst}
-use Rattle.ucl_words.proofs.Common.{MayFollow, Me, NoCall, None, Occurs, Option, Pending, Second, SecondStep}
-use Rattle.ucl_words.proofs.Common.{Sees, Some, Splits, State, Steps, Swap, TableInvariant, Taken, Takes, Target, Valid, View, Walks}
-use Rattle.ucl_words.proofs.Common.{access, accesses_append, accesses_in, adds, after, append-nil, append_assoc, arith}
-use Rattle.ucl_words.proofs.Common.{attempted, begins_length, begins_same, begins_through, board_next, board_of, calls_low}
-use Rattle.ucl_words.proofs.Common.{carried_after, client_at, client_number, client_of, cond, count_none, either, enlist_none, enlisted}
-use Rattle.ucl_words.proofs.Common.{enlisted_by, entry_by, entry_of, eq-eqb, exchanged, first_none, first_pass, flat_map, fold-append}
-use Rattle.ucl_words.proofs.Common.{follows_append, follows_longer, follows_one, follows_wider, get_elem?, get_or, history_of, joins_keep}
-use Rattle.ucl_words.proofs.Common.{keeps, le_refl, left_pass, legal_steps, length, length-append, logged_by, logs_legal, logs_sound}
-use Rattle.ucl_words.proofs.Common.{look_none, map, map-append, match_after, match_valid, may_attempt, ne_eqb, new_client, new_pass}
-use Rattle.ucl_words.proofs.Common.{next_game, note_pass, notes_keep, number_of, opening, opens_keep, outcome, own_is, pass_view_of}
-use Rattle.ucl_words.proofs.Common.{read_back, record_at, refl, refusal_of, second_none, second_pass, seconds_keep, sees, set}
-use Rattle.ucl_words.proofs.Common.{set-get_or, some, sound, step, step_taken, stepped, takes_step}
-use Rattle.ucl_words.proofs.Common.{steps_with, sym, takes_count, takes_none, takes_on, there_before, told_pass, trail_of}
-use Rattle.ucl_words.proofs.Common.{version_in, versions_by, versions_shown, with_step, with_target, word_after, word_of, words_after}
-use Rattle.ucl_words.proofs.Common.{words_enlisted, words_entered, words_stay, ◌++◌, ◌+◌, ◌-◌, ◌<◌, ◌==◌, ◌∙◌, ◌∷◌, ◌≡◌, ◌≢◌, ◌≤◌, ℕ}
+use Rattle.ucl_words.proofs.Common.{MayFollow, Me, NoCall, None, Occurs, Option, Pending, Second, SecondStep, Sees, Some, Splits, State}
+use Rattle.ucl_words.proofs.Common.{Steps, Swap, TableInvariant, Taken, Takes, Target, Valid, View, Walks, access, accesses_append}
+use Rattle.ucl_words.proofs.Common.{accesses_in, adds, after, append-nil, append_assoc, arith, attempted, begins_length, begins_same}
+use Rattle.ucl_words.proofs.Common.{begins_through, board_next, board_of, calls_low, carried_after, client_at, client_number, client_of}
+use Rattle.ucl_words.proofs.Common.{cond, count_none, either, enlist_none, enlisted, enlisted_by, entry_by, entry_of, eq-eqb, exchanged}
+use Rattle.ucl_words.proofs.Common.{first_none, first_pass, flat_map, fold-append, follows_append, follows_longer, follows_one}
+use Rattle.ucl_words.proofs.Common.{follows_wider, get_elem?, get_or, history_of, joins_keep, keeps, le_refl, left_pass, legal_steps}
+use Rattle.ucl_words.proofs.Common.{length, length-append, logged_by, logs_legal, logs_sound, look_none, map, map-append, match_after}
+use Rattle.ucl_words.proofs.Common.{match_valid, may_attempt, ne_eqb, new_client, new_pass, next_game, note_pass, notes_keep, number_of}
+use Rattle.ucl_words.proofs.Common.{opening, opens_keep, outcome, own_is, pass_view_of, read_back, record_at, refl, refusal_of, second_none}
+use Rattle.ucl_words.proofs.Common.{second_pass, seconds_keep, sees, set, set-get_or, some, sound, step, step_taken, stepped, takes_step}
+use Rattle.ucl_words.proofs.Common.{steps_with, sym, takes_count, takes_none, takes_on, there_before, told_pass, trail_of, version_in}
+use Rattle.ucl_words.proofs.Common.{versions_by, versions_shown, with_step, with_target, word_after, word_of, words_after, words_enlisted}
+use Rattle.ucl_words.proofs.Common.{words_entered, words_stay, ◌++◌, ◌+◌, ◌-◌, ◌<◌, ◌==◌, ◌∙◌, ◌∷◌, ◌≡◌, ◌≢◌, ◌≤◌, ℕ}
 use mathlib.Core.Option as core
 use Rattle.ucl_board.specs.Log.{enlists}
 use Rattle.ucl_steps.proofs.LogFacts.{Offers, Sees as SeesPending}
 
+-- the words of a board and the views of its passes, between two steps
 abbrev pub Position : Type 0
 Position = State Entry View
 
+-- behind word 0, the number of reporters, the word of a match is at the place that is its number, and is set there
 get_match : (n : ℕ) (b : List ℕ) (game : ℕ) → 1 ≤ game → get_or (n ∷ b) game 0 ≡ get_or b (game - 1) 0
 get_match n b game low = search arith
 
 set_match : (n : ℕ) (b : List ℕ) (game x : ℕ) → 1 ≤ game → set (n ∷ b) game x ≡ n ∷ set b (game - 1) x
 set_match n b game x low = search arith
 
--- a load, and no exchange
+-- a step on a match word is a load, and no exchange
 abbrev pub IsLoad : AccessKind → Type 0
 IsLoad Swap = ⊥
 IsLoad act = Unit {0}
 
+-- no load adds an entry, whatever its pass holds
 load_none : (act : AccessKind) → IsLoad act → (h : Pending) (number game found : ℕ) → entry_by number h (Match act game found) ≡ None
 load_none (Look e) is h number game found = look_none h number game found e
 load_none Swap is h number game found = absurd is
 load_none First is h number game found = first_none h number game found
 load_none Second is h number game found = second_none h number game found
 
+-- word 0 of a board is how many reporters its log has enlisted
 pub count_there : (s : Position) (r : TableInvariant s) → get_or s.words 0 0 ≡ enlisted_by r.log
 count_there s r = ap (λ (ws : List ℕ). get_or ws 0 0) r.words_are
 
+-- a pass with a share, at a seat of a state that satisfies the invariant
 module _ (s : Position) (r : TableInvariant s) (seat : ℕ) (v : View) (here : get_elem? s.views seat ≡ some v) (acts : IsSome v.share) where
   word_there : (game : ℕ) → IsMatch game → get_or s.words game 0 ≡ word_of (match_after (history_of r.log) game)
   word_there game is = ap (λ (ws : List ℕ). get_or ws game 0) r.words_are ∙ (get_match (enlisted_by r.log) (board_of (history_of r.log)) game is.0 ∙ word_after (history_of r.log) game is)
@@ -55,7 +59,7 @@ module _ (s : Position) (r : TableInvariant s) (seat : ℕ) (v : View) (here : g
   abbrev taken : Target → Option Entry → Taken
   taken target entry = step_taken target (length r.log) (length (history_of r.log)) entry
 
-  -- any step that the invariant lets come next
+  -- a step on what is there, of which the protocol may come next and after which the words fit the log, keeps the invariant
   one_step : (target : Target) (entry : Option Entry) → IsThere r.log target → IsNextFor (client_of v.own) target
       → entry ≡ entry_by (client_of v.own).number (client_of v.own).held target → (i n : ℕ) (cs : List (ℕ × Entry)) (place : ℕ) → place ≡ seat
       → set s.words i n ≡ words_after (history_of (r.log ++ logged_by seat (taken target entry) ∷ [])) (enlisted_by (r.log ++ logged_by seat (taken target entry) ∷ []))
@@ -69,7 +73,7 @@ module _ (s : Position) (r : TableInvariant s) (seat : ℕ) (v : View) (here : g
       }) are in
       (t.0, t.1, subst (λ (k : ℕ). Steps k target v t.0) (sym is_seat) t.2)
 
-  -- one that leaves the words as they are
+  -- a step that adds no entry and enlists no one leaves the words as they are, and keeps the invariant
   one_look : (target : Target) → IsThere r.log target → IsNextFor (client_of v.own) target → entry_by (client_of v.own).number (client_of v.own).held target ≡ None
       → length (enlists target) ≡ 0 → (i : ℕ) (cs : List (ℕ × Entry)) (place : ℕ) → place ≡ seat
       → (w : View) × TableInvariant (stepped s i (get_or s.words i 0) seat cs w keeps) × Steps place target v w
@@ -88,6 +92,7 @@ module _ (s : Position) (r : TableInvariant s) (seat : ℕ) (v : View) (here : g
   count_by cs place is_seat =
       one_look (Enlisted (get_or s.words 0 0)) (count_there s r) tt (count_none (client_of v.own).held (client_of v.own).number (get_or s.words 0 0)) refl 0 cs place is_seat
 
+-- the table allows a load of a match word by a pass with a share for which the protocol lets it come next
 pub loads : (slots seat game place : ℕ) (act : AccessKind) (m : Me Entry View) → place ≡ seat → IsLoad act → IsSome m.0.share → IsMatch game →
     ((n : ℕ) → IsNextFor (client_of m.0.own) (Match act game n))
     → Allows TableInvariant slots seat m game (λ n. n) (λ n m'. Steps place (Match act game n) m.0 m'.0)
@@ -96,25 +101,30 @@ loads slots seat game place act m is_seat load acts is next s r _ here _ =
     let t = load_by s r seat m.0 here acts act game m.1 place is_seat is (next n) (load_none act load (client_of m.0.own).held (client_of m.0.own).number game n) in
     (t.0, keeps, tt, t.1, t.2)
 
+-- the table allows the load by which a reporter's pass that holds no call begins a report
 pub looks : (slots seat game place : ℕ) (m : Me Entry View) (e : EventCall) → place ≡ seat → IsSome m.0.share → IsMatch game → e.game ≡ game → IsReporter (number_of m.0.own)
     → (client_of m.0.own).held ≡ NoCall → Allows TableInvariant slots seat m game (λ n. n) (LookStep place e (step slots game 0 0 core.none) m)
 looks slots seat game place m e is_seat acts is of reporter nothing =
     loads slots seat game place (Look e) m is_seat tt acts is (λ n. (nothing, sym of, subst IsReporter (sym (client_number m.0.own)) reporter))
 
+-- the table allows the next load of a first collect
 pub firsts : (slots seat game : ℕ) (m : Me Entry View) → IsSome m.0.share → IsMatch game → game ≡ next_game First (client_of m.0.own).held
     → Allows TableInvariant slots seat m game (λ n. n) (FirstStep (step slots game 0 0 core.none) m)
 firsts slots seat game m acts is next s r hs here small =
     let t = loads slots seat game seat First m refl tt acts is (λ n. next) s r hs here small in
     (t.0, t.1, t.2, t.3, (seat, t.4))
 
+-- the table allows the next load of a second collect
 pub again : (slots seat game place : ℕ) (m : Me Entry View) → place ≡ seat → IsSome m.0.share → IsMatch game → game ≡ next_game Second (client_of m.0.own).held
     → Allows TableInvariant slots seat m game (λ n. n) (SecondStep place (step slots game 0 0 core.none) m)
 again slots seat game place m is_seat acts is next = loads slots seat game place Second m is_seat tt acts is (λ n. next)
 
+-- the table allows a load of the number of reporters
 pub counts : (slots seat place : ℕ) (m : Me Entry View) → place ≡ seat → IsSome m.0.share →
     Allows TableInvariant slots seat m 0 (λ n. n) (EnlistedStep place (step slots 0 0 0 core.none) m)
 counts slots seat place m is_seat acts s r _ here _ = let t = count_by s r seat m.0 here acts m.1 place is_seat in (t.0, keeps, tt, t.1, (refl, t.2))
 
+-- the table allows the exchange of an enlistment, by a reader's pass that holds no call and expects fewer than 255 reporters
 pub enlisting : (slots seat place : ℕ) (m : Me Entry View) (old : ℕ) → place ≡ seat → IsSome m.0.share → number_of m.0.own ≡ 0 → (client_of m.0.own).held ≡ NoCall → old < 255
     → Allows TableInvariant slots seat m 0 (λ n. either (n == old) (old + 1) n) (EnlistStep place (step slots 0 old (old + 1) core.none) m)
 enlisting slots seat place m old is_seat acts reader nothing room s r _ here _ =
@@ -137,7 +147,7 @@ enlisting slots seat place m old is_seat acts reader nothing room s r _ here _ =
     let t = count_by s r seat m.0 here acts m.1 place is_seat in
     (t.0, keeps, tt, t.1, (refl, subst (λ (b : Bool). Steps place (cond b (Enlists n) (Enlisted n)) m.0 t.0) (sym (ne_eqb n old miss)) t.2)))
 
--- an exchange that adds an entry
+-- the exchange of a report, which may add an entry: the pass holds the event, and is at a seat of a state that satisfies the invariant
 module _ (s : Position) (r : TableInvariant s) (seat : ℕ) (m : Me Entry View) (here : get_elem? s.views seat ≡ some m.0) (acts : IsSome m.0.share) (game old new : ℕ) (e : EventCall)
     (holds : (client_of m.0.own).held ≡ Holding e old new) (of : game ≡ e.game) where
   abbrev number : ℕ
@@ -156,6 +166,7 @@ module _ (s : Position) (r : TableInvariant s) (seat : ℕ) (m : Me Entry View) 
   next : IsNextFor (client_of m.0.own) (Match Swap game found)
   next = of ∙ ap (λ (h : Pending). next_game Swap h) (sym holds)
 
+  -- the exchange adds the entry of the event exactly if it finds the word that was loaded
   adds_by : entry_by number (client_of m.0.own).held (Match Swap game found) ≡ cond (found == old) (Some (entry_of number e)) None
   adds_by = ap (λ (h : Pending). entry_by number h (Match Swap game found)) holds
 
@@ -171,7 +182,7 @@ module _ (s : Position) (r : TableInvariant s) (seat : ℕ) (m : Me Entry View) 
   abbrev won_step : Taken
   won_step = step_taken (Match Swap game found) (length r.log) (length (history_of r.log)) (Some made)
 
-  -- the words then
+  -- if it finds that word, the words with the new one in its place are those after the log with this step
   won_words : found ≡ old
       → set s.words game new ≡ words_after (history_of (r.log ++ logged_by seat won_step ∷ [])) (enlisted_by (r.log ++ logged_by seat won_step ∷ []))
   won_words hit =
@@ -188,10 +199,12 @@ module _ (s : Position) (r : TableInvariant s) (seat : ℕ) (m : Me Entry View) 
       ap (λ (ws : List ℕ). set ws game new) r.words_are ∙ (set_match (enlisted_by r.log) (board_of h) game new is_match.0
       ∙ (ap (λ (l : List ℕ). enlisted_by r.log ∷ l) board ∙ words_entered words_after IsNextOfProtocol s.words s.views r seat m.0 here won_step made refl refl))
 
+  -- the exchange of a report that is won keeps the invariant
   won_by : found ≡ old → (place : ℕ) → place ≡ seat → (w : View) × TableInvariant (stepped s game new seat m.1 w keeps) × Steps place (Match Swap game found) m.0 w
   won_by hit place is_seat = one_step s r seat m.0 here acts (Match Swap game found) (Some made) (is_match, word_there s r seat m.0 here acts game is_match)
       next (won_some hit) game new m.1 place is_seat (won_words hit)
 
+-- the table allows the exchange of a report, won or missed, by a pass that holds its event
 pub swaps : (slots seat place game : ℕ) (m : Me Entry View) (e : EventCall) (entry : Entry) (old new : ℕ) → place ≡ seat → IsSome m.0.share
     → (client_of m.0.own).held ≡ Holding e old new → game ≡ e.game
     → Allows TableInvariant slots seat m game (λ n. either (n == old) new n) (ExchangeStep place (step slots game old new (core.some entry)) m)
@@ -206,6 +219,7 @@ swaps slots seat place game m e entry old new is_seat acts holds of s r _ here _
     (missed_none s r seat m here acts game old new e holds of miss) in
     (t.0, keeps, tt, t.1, t.2))
 
+-- a split of a pass keeps the invariant, and so do the making of a note of it and the taking in of a note by another pass
 pub seconds : (seat : ℕ) (v : View) → Splits TableInvariant seat v (left_pass v) (second_pass v)
 seconds seat v s r here = seconds_keep words_after IsNextOfProtocol s.words s.views r seat v here
 
@@ -219,10 +233,9 @@ joins seat v other a s r here apart there = joins_keep words_after IsNextOfProto
 pub opens : (words : List ℕ) → words ≡ words_after [] 0 → TableInvariant (opening words [] first_pass)
 opens words are = opens_keep words_after IsNextOfProtocol words are
 
+-- the pass of a board that opens so occurs, at seat 0
 pub opened_occurs : (words : List ℕ) → words ≡ words_after [] 0 → Occurs 0 first_pass
 opened_occurs words are = record { words = words; views = first_pass ∷ []; rule = opens words are; here = refl }
-
--- What a step of the table tells of what its pass knows and has shown. --
 
 -- a load of the word of a match, or an exchange of it that was missed
 abbrev pub LoadsMatch : AccessKind → ℕ → View → ℕ → View → Type 0
@@ -232,21 +245,21 @@ LoadsMatch kind game v n w = Sees (Match kind game n) v w
 abbrev pub ExchangeMissed : ℕ → View → ℕ → View → Type 0
 ExchangeMissed = LoadsMatch Swap
 
--- an exchange of a match word that was won: its entry is the last that the pass has seen
+-- an exchange of a match word that was won: it added this entry, the last that the pass has seen
 abbrev pub ExchangeWon : Entry → View → ℕ → View → Type 0
 ExchangeWon e v n w = Adds (Match Swap e.game n) e v w
 
--- an exchange of the enlist word that was won: the pass is a reporter's
+-- an exchange of the enlist word that was won: the pass is a reporter's, and no reading counts as shown under its number yet
 pub record EnlistWon (v : View) (n : ℕ) (w : View) : Type 0 where
   pub gives : GivesNumber n v w
   pub shown : versions_shown w.own ≡ []
 
--- what the pass has done
+-- what a pass has done after a step is what the protocol makes of the step's target and of what it had done before
 pub client_is : (seat : ℕ) (target : Target) (v w : View) (s : Steps seat target v w) → client_of w.own ≡ with_target target s.step (client_of v.own)
 client_is seat target v w s = ap client_of (own_is words_after IsNextOfProtocol seat target v w s)
     ∙ (fold-append with_step new_client v.own (s.step ∷ []) ∙ ap (λ (t : Target). with_target t s.step (client_of v.own)) s.of)
 
--- what finished calls show under a number
+-- the version that a finished call shows under a number, as a list: that of a reading under this number, else none
 abbrev pub shown_of : ℕ → FinishedCall → List ℕ
 shown_of number c = cond (c.number == number) (version_in c.reply) []
 
@@ -257,16 +270,16 @@ found_word seat game n kind v w s =
     let legal = logs_legal s.before s.is_log s.follows in
     record { of = match_after (history_of s.before) game; valid = match_valid game (history_of s.before) legal; packed = sym there.1 }
 
--- a step on a match word that added nothing
+-- a step on a match word that added no entry found the word that is there after it too
 pub loads_match : (seat game n : ℕ) (kind : AccessKind) (v w : View) (s : Steps seat (Match kind game n) v w) → s.step.entry ≡ None → LoadsMatch kind game v n w
 loads_match seat game n kind v w s none = sees words_after IsNextOfProtocol seat (Match kind game n) v w s legal_steps none refl
 
--- a load of a match word adds nothing
+-- a load of a match word adds no entry
 pub adds_none : (seat game n : ℕ) (kind : AccessKind) (v w : View) (s : Steps seat (Match kind game n) v w) → IsLoad kind → s.step.entry ≡ None
 adds_none seat game n kind v w s load = s.next.entry ∙ (ap (entry_by (client_at seat s.before).number (client_at seat s.before).held) s.of
     ∙ load_none kind load (client_at seat s.before).held (client_at seat s.before).number game n)
 
--- an exchange that was won
+-- the exchange of a report that found the word that was loaded added its entry
 pub exchange_won : (seat game old new : ℕ) (e : EventCall) (v w : View) (s : Steps seat (Match Swap game old) v w) → (client_of v.own).held ≡ Holding e old new → game ≡ e.game
     → ExchangeWon (entry_of (number_of v.own) e) v old w
 exchange_won seat game old new e v w s held of =
@@ -278,16 +291,16 @@ exchange_won seat game old new e v w s held of =
     subst (λ (g : ℕ). Adds (Match Swap g old) (entry_of (number_of v.own) e) v w) of
     (adds words_after IsNextOfProtocol seat (Match Swap game old) v w s legal_steps (entry_of (number_of v.own) e) entry refl)
 
--- a step on the enlist word
-
+-- a load of the number of reporters leaves what a pass holds of its call
 pub count_stays : (number found now : ℕ) (k : Pending) → outcome number k (Enlisted found) now ≡ GoesOn k
 count_stays number found now k = search arith
 
--- a load, or an exchange that was missed: the pass then knows how many it found
+-- a step on the number of reporters that enlisted no one: the pass knows how many it found
 pub loads_enlisted : (seat n : ℕ) (v w : View) → Steps seat (Enlisted n) v w → Sees (Enlisted n) v w
 loads_enlisted seat n v w s = sees words_after IsNextOfProtocol seat (Enlisted n) v w s legal_steps
     (s.next.entry ∙ (ap (entry_by (client_at seat s.before).number (client_at seat s.before).held) s.of ∙ count_none (client_at seat s.before).held (client_at seat s.before).number n)) refl
 
+-- an exchange of the enlist word that was won made the pass a reporter's, which has shown no reading under its number
 pub enlist_won : (seat n : ℕ) (v w : View) → Steps seat (Enlists n) v w → EnlistWon v n w
 enlist_won seat n v w s =
     let d = client_of v.own in
@@ -307,17 +320,15 @@ enlist_won seat n v w s =
         ap (λ (b : Bool). cond b (version_in c.reply) [] ++ flat_map (shown_of k) cs) (ne_eqb c.number k (λ same. omega (arith, same, less)))
         ∙ none_shown k cs (All-tail (λ (a : FinishedCall). a.number < k) c cs low)
 
--- Steps on match words, one after another. --
-
--- accesses that follow what a trail has, over a history that is longer
+-- a trail over a history, and then accesses over what a longer history has more, are a trail over the longer one
 pub trail_on : (s h : List Entry) (old new : List Access) → IsPrefix s h → Follows s 0 old (length s) → Follows h (length s) new (length h) → Follows h 0 (old ++ new) (length h)
 trail_on s h old new p was more = follows_append h 0 (length s) (length h) old new (follows_longer s h 0 (length s) old p (le_refl (length s)) was) more
 
--- the same trail over a longer history
+-- a trail that follows a history follows it also when it is longer
 pub trail_longer : (s h : List Entry) (trail : List Access) → IsPrefix s h → Follows s 0 trail (length s) → Follows h 0 trail (length h)
 trail_longer s h trail p was = follows_wider h 0 0 (length s) (length h) trail (le_refl 0) (begins_length s h p) (follows_longer s h 0 (length s) trail p (le_refl (length s)) was)
 
--- the trail after some steps
+-- after steps a trail has their accesses more
 pub takes_trail : (v w : View) (steps : List Taken) → Takes v steps w → trail_of w ≡ trail_of v ++ accesses_in steps
 takes_trail v w steps t = search (arith, append_assoc, accesses_append)
 
@@ -325,6 +336,7 @@ takes_trail v w steps t = search (arith, append_assoc, accesses_append)
 abbrev plain : Access → Taken
 plain m = step_taken (Match m.kind m.game m.found) m.place m.at None
 
+-- accesses of which none added an entry are such steps, one for each
 all_plain : (ms : List Access) → steps_with None ms ≡ map plain ms
 all_plain [] = refl
 all_plain (m ∷ []) = refl
@@ -333,6 +345,7 @@ all_plain (m ∷ n ∷ ms) = ap (λ (l : List Taken). plain m ∷ l) (all_plain 
 pub plain_append : (ms ns : List Access) → steps_with None (ms ++ ns) ≡ steps_with None ms ++ steps_with None ns
 plain_append ms ns = all_plain (ms ++ ns) ∙ (map-append plain ms ns ∙ sym (λ i. all_plain ms i ++ all_plain ns i))
 
+-- a consistent pass walks by no accesses to itself
 pub walks_none : (v : View) → IsConsistent v → Walks v [] v
 walks_none v consistent = record {
   consistent = consistent;
@@ -348,6 +361,7 @@ walks_none v consistent = record {
   };
 }
 
+-- a pass that walks by accesses from u to v, and by others from v to w, walks by both from u to w
 pub walks_on : (u v w : View) (ms ns : List Access) → Walks u ms v → Walks v ns w → Walks u (ms ++ ns) w
 walks_on u v w ms ns a b =
     let listed = a.on.listed in
@@ -371,7 +385,7 @@ walks_on u v w ms ns a b =
       };
     }
 
--- one load of a match word
+-- a consistent pass loads one match word, from the view v to the view w
 module _ (kind : AccessKind) (game n : ℕ) (v w : View) (consistent : IsConsistent v) (l : LoadsMatch kind game v n w) where
   abbrev loaded : Access
   loaded = access kind game n l.place (length (history_of w.log))
@@ -401,5 +415,6 @@ module _ (kind : AccessKind) (game n : ℕ) (v w : View) (consistent : IsConsist
     };
   }
 
+-- after accesses that stored nothing what holds of a pass after each call holds
 pub walks_continue : (v w : View) (ms : List Access) → Walks v ms w → Continues (pass_view_of v) (pass_view_of w)
 walks_continue v w ms walk = record { sound = walk.consistent.sound; on = walk.on; number = walk.number }

@@ -62,6 +62,7 @@ returns-in_err-enter-in-Some-clause-served g c =
     rw (e.1, e.2) (run_stopped c.pieces.invariant.so_far (c.take.new.self.source, c.enter.new.sink, c.enter.new.handler) c.take.ensures.log c.take.ensures.counts _ _ _ _
     c.in-Some.ensures.moves _ (rw (c.take.ensures.sink, c.pieces.invariant.cap) at c.in_err-enter-in-Some.ensures.answered))
 
+-- a call that gave bytes, whose lines were all answered, keeps the loop's invariant
 pub pieces-preserved : goal.pieces-preserved
 pieces-preserved g c =
     let so_far = c.pieces.invariant.so_far in

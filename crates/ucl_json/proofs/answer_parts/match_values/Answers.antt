@@ -1,4 +1,4 @@
-use Rattle.std.proofs.Common.{◌≡◌, arith, rules}
+use Rattle.ucl_json.proofs.Common.{arith, rules, ◌≡◌}
 use Rattle.ucl_json.proofs.Places.{all-matches, next-match}
 use Rattle.ucl_json.proofs.answer_parts.match_values.Goals as goal
 use Rattle.ucl_json.proofs.answer_parts.match_values.Goals.{in-Some+in_ok-match_value+in_ok-push, in_default}

@@ -1,7 +1,4 @@
-use Rattle.std.proofs.Common.{◌≡◌, ◌-◌, take}
-use Rattle.serde_json.specs.View.{items_view}
-use Rattle.ucl_board.specs.Fixtures.{match_numbers}
-use Rattle.ucl_json.specs.Values.{match_items}
+use Rattle.ucl_json.proofs.Common.{items_view, match_items, match_numbers, take, ◌-◌, ◌≡◌}
 use Rattle.ucl_json.proofs.answer_parts.match_values.Given as goal
 
 abbrev pub invariant-loop-number : goal.invariant-loop-number

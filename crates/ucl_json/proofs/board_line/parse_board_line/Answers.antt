@@ -1,5 +1,5 @@
+use Rattle.ucl_json.proofs.Common.{arith, sym, true≢false, ◌∙◌}
 use Rattle.ucl_json.proofs.Members.{not-read, too-long, was-read}
-use Rattle.std.proofs.Common.{◌∙◌, arith, true≢false, sym}
 use Rattle.ucl_json.proofs.board_line.parse_board_line.Goals as goal
 
 pub returns-then-line-gt-MAX_ANSWER_BYTES-clause-parsed : goal.returns-then-line-gt-MAX_ANSWER_BYTES-clause-parsed

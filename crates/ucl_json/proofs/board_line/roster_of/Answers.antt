@@ -1,8 +1,4 @@
-use Rattle.std.proofs.Common.{◌∙◌, ap, List}
-use Rattle.std.specs.Prelude.{map}
-use Rattle.serde_json.specs.View.{view}
-use Rattle.serde_json.specs.declared.value.Value.{Value}
-use Rattle.ucl_json.specs.BoardLines.{parse_roster}
+use Rattle.ucl_json.proofs.Common.{List, Value, ap, map, parse_roster, view, ◌∙◌}
 use Rattle.ucl_json.proofs.Members.{just-four}
 use Rattle.ucl_json.proofs.board_line.roster_of.Goals as goal
 

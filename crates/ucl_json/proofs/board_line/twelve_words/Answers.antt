@@ -1,5 +1,4 @@
-use Rattle.std.proofs.Common.{◌∙◌, ◌≡◌, ℕ, length, sym, ap, arith}
-use Rattle.ucl_json.specs.BoardLines.{parse_word}
+use Rattle.ucl_json.proofs.Common.{ap, arith, length, parse_word, sym, ℕ, ◌∙◌, ◌≡◌}
 use Rattle.ucl_json.proofs.Members.{inner-ok, just-each, read-all, read-next, read-none, read-not}
 use Rattle.ucl_json.proofs.board_line.twelve_words.Goals as goal
 

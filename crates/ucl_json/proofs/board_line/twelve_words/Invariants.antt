@@ -1,7 +1,4 @@
-use Rattle.std.proofs.Common.{◌≡◌, drop, length}
-use Rattle.std.specs.Prelude.{map}
-use Rattle.serde_json.specs.View.{view}
-use Rattle.ucl_json.specs.BoardLines.{parse_each, parse_word}
+use Rattle.ucl_json.proofs.Common.{drop, length, map, parse_each, parse_word, view, ◌≡◌}
 use Rattle.ucl_json.proofs.Members.{read_with}
 use Rattle.ucl_json.proofs.board_line.twelve_words.Given as goal
 

@@ -1,6 +1,5 @@
-use Rattle.std.proofs.Common.{None, rules, ◌≡◌}
-use Rattle.serde_json.specs.View.{view}
-use Rattle.ucl_json.specs.Values.{number_value}
+use Rattle.ucl_json.proofs.Common.{number_value, rules, view, ◌≡◌}
+use Rattle.std.proofs.Common.{None}
 use Rattle.ucl_json.proofs.MendedFlat.{mended_flat, named_flat}
 use Rattle.ucl_json.proofs.mended.mended_json.Goals as goal
 

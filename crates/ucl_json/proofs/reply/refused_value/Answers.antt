@@ -1,8 +1,5 @@
-use Rattle.std.proofs.Common.{◌≡◌, Some, codes, rules}
-use Rattle.ucl_word.specs.Names.{found_of}
-use Rattle.ucl_board.specs.Words.{game_at}
-use Rattle.serde_json.specs.View.{view}
-use Rattle.ucl_json.specs.Values.{match_value}
+use Rattle.ucl_json.proofs.Common.{codes, found_of, game_at, match_value, rules, view, ◌≡◌}
+use Rattle.std.proofs.Common.{Some}
 use Rattle.ucl_json.proofs.Places.{both_members}
 use Rattle.ucl_json.proofs.reply.refused_value.Goals as goal
 

@@ -1,4 +1,4 @@
-use Rattle.std.specs.Prelude.{Ok, Err}
+use Rattle.ucl_json.proofs.Common.{Err, Ok}
 use Rattle.ucl_json.proofs.Places.{reply_flat}
 use Rattle.ucl_json.proofs.reply.reply_json.Goals as goal
 use Rattle.ucl_json.proofs.reply.reply_json.Goals.{in-Ok+in_ok-value-in-Ok, in-Err+in_ok-value-in-Err}

@@ -1,10 +1,5 @@
-use Rattle.std.proofs.Common.{◌≡◌, codes, rules}
-use Rattle.serde_json.specs.Data.{array}
-use Rattle.serde_json.specs.View.{view}
-use Rattle.serde_json.specs.declared.value.Value.{the_lemmas}
+use Rattle.ucl_json.proofs.Common.{array, codes, edition_screen_value, match_items, match_numbers, rules, the_lemmas, view, ◌≡◌}
 use Rattle.serde_json.specs.declared.value.Value.TheVariants.{Array}
-use Rattle.ucl_board.specs.Fixtures.{match_numbers}
-use Rattle.ucl_json.specs.Values.{edition_screen_value, match_items}
 use Rattle.ucl_json.proofs.Places.{both_members}
 use Rattle.ucl_json.proofs.screen.edition_screen_value.Goals as goal
 

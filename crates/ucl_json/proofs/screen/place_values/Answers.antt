@@ -1,4 +1,4 @@
-use Rattle.ucl_json.specs.Values.{place_value}
+use Rattle.ucl_json.proofs.Common.{place_value}
 use Rattle.ucl_json.proofs.Places.{all-items, next-item}
 use Rattle.ucl_json.proofs.screen.place_values.Goals as goal
 

@@ -1,6 +1,4 @@
-use Rattle.std.proofs.Common.{◌≡◌, take}
-use Rattle.serde_json.specs.View.{items_view}
-use Rattle.ucl_json.specs.Values.{place_items}
+use Rattle.ucl_json.proofs.Common.{items_view, place_items, take, ◌≡◌}
 use Rattle.ucl_json.proofs.screen.place_values.Given as goal
 
 abbrev pub invariant-loop-row : goal.invariant-loop-row

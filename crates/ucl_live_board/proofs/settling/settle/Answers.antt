@@ -3,6 +3,7 @@ use Rattle.ucl_live_board.proofs.Lists.{unchanged, through, settled, alone, of_b
 use Rattle.ucl_live_board.proofs.settling.settle.Goals as goal
 use Rattle.ucl_live_board.proofs.settling.settle.Goals.{else-ne-via-then-ne+else-from-accepted, else-ne-via-else-ne}
 
+-- the two numbers differ, and the version is the sum of their accepted events: settling answers the reading
 pub returns-then-from-accepted-clause-says : goal.returns-then-from-accepted-clause-says
 returns-then-from-accepted-clause-says g c =
     let k = g.B.LiveBoard.reporter in

@@ -1,5 +1,4 @@
-use Rattle.ucl_live_runs.proofs.Common.{◌∙◌}
-use Rattle.ucl_order.specs.Roster.{club_lent}
+use Rattle.ucl_live_runs.proofs.Common.{club_lent, ◌∙◌}
 use Rattle.ucl_live_runs.proofs.Boards.{by-four}
 use Rattle.ucl_live_runs.proofs.request.is_good.Goals as goal
 

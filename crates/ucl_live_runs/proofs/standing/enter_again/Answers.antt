@@ -1,6 +1,4 @@
-use Rattle.std.proofs.Common.{ap}
-use Rattle.ucl_word.specs.declared.record.MatchRecord.{MatchRecord}
-use Rattle.ucl_board.specs.Fixtures.{IsMatch}
+use Rattle.ucl_live_runs.proofs.Common.{IsMatch, MatchRecord, ap}
 use Rattle.ucl_live_runs.proofs.Mends.{goes-kept, goes-refused}
 use Rattle.ucl_live_runs.proofs.standing.enter_again.Goals as goal
 

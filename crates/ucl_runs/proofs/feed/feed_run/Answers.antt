@@ -1,7 +1,5 @@
-use Rattle.ucl_runs.proofs.Common.{MeansNight, arith, err_from_is_err_and, night_seen, refl, ◌∙◌}
-use Rattle.ucl_rows.specs.declared.fault.RunFault.TheVariants.{OutOfMemory}
+use Rattle.ucl_runs.proofs.Common.{MeansNight, OutOfMemory, arith, err_from_is_err_and, feed_task, night_seen, refl, ◌∙◌}
 use Rattle.ucl_runs.proofs.RunFacts.{fed, refused, stopped, wrote}
-use Rattle.ucl_runs.specs.Program.{feed_task}
 use Rattle.ucl_runs.proofs.feed.feed_run.Goals as goal
 
 pub returns-in_err-night : goal.returns-in_err-night

@@ -1,6 +1,4 @@
-use Rattle.std.proofs.Common.{ap, append_assoc, arith, refl, sym, ◌∙◌}
-use Rattle.ucl_screen.proofs.EventsInTurn.{entered-all, entered-one, version-bound}
-use Rattle.ucl_runs.specs.Feed.{line_of_event}
+use Rattle.ucl_runs.proofs.Common.{arith, entered-all, entered-one, line_of_event, version-bound}
 use Rattle.ucl_runs.proofs.feed.feed_text.Goals as goal
 
 pub push_reply-requires : goal.push_reply-requires

@@ -1,6 +1,4 @@
-use Rattle.std.proofs.Common.{◌+◌, ◌≡◌}
-use Rattle.ucl_screen.proofs.EventsInTurn.{AreEntered}
-use Rattle.ucl_runs.specs.Feed.{line_of_event}
+use Rattle.ucl_runs.proofs.Common.{AreEntered, line_of_event, ◌+◌, ◌≡◌}
 use Rattle.ucl_runs.proofs.feed.feed_text.Given as goal
 
 abbrev pub invariant-loop-event : goal.invariant-loop-event

@@ -1,10 +1,8 @@
-use Rattle.ucl_runs.proofs.Common.{HasShown, IsPrefix, List, PassView, [], ap, begins_take, begins_through, err_from_is_err_and, number_of_two, option_map, refl, rules}
-use Rattle.ucl_runs.proofs.Common.{string_bytes, styled, subst, sym, ℕ, ◌++◌, ◌∙◌, ◌∷◌}
-use Rattle.std.proofs.Common.{true≢false}
+use Rattle.ucl_runs.proofs.Common.{HasShown, IsPrefix, List, PassView, [], ap, begins_take, begins_through, calls_of, err_from_is_err_and}
+use Rattle.ucl_runs.proofs.Common.{kept_pass, number_of_two, option_map, refl, rules, split_pass, string_bytes, styled, subst, sym}
+use Rattle.ucl_runs.proofs.Common.{true≢false, ℕ, ◌++◌, ◌∙◌, ◌∷◌}
 use Rattle.std.specs.Prelude.{take}
-use Rattle.ucl_live_board.specs.Passes.{kept_pass, split_pass}
 use Rattle.ucl_runs.proofs.EnteredRows.{each_on_duty, entered_all, merged_by_settlers, reported_on}
-use Rattle.ucl_runs.specs.Nights.{calls_of}
 use Rattle.ucl_runs.proofs.Merges.{night_board_read}
 use Rattle.ucl_runs.proofs.night.night_run.Goals as goal
 

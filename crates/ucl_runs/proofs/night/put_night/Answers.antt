@@ -1,8 +1,7 @@
-use Rattle.ucl_runs.proofs.Common.{Appends, List, arith, codes, err_from_is_err_and, last_shown, length, length-append, string_bytes, ℕ, ◌++◌, ◌+◌, ◌-◌, ◌≡◌}
-use Rattle.std.proofs.Common.{◌^◌, min}
+use Rattle.ucl_runs.proofs.Common.{Appends, List, arith, codes, err_from_is_err_and, last_shown, last_text, length, length-append, min}
+use Rattle.ucl_runs.proofs.Common.{string_bytes, ℕ, ◌++◌, ◌+◌, ◌-◌, ◌^◌, ◌≡◌}
 use Rattle.std.proofs.lemmas.Grind.{common_steps}
 use Rattle.ucl_rows.proofs.NightParts.{stopped_second}
-use Rattle.ucl_runs.specs.Nights.{last_text}
 use Rattle.ucl_runs.proofs.night.put_night.Goals as goal
 
 pub returns-in_err-put_under-clause-part : goal.returns-in_err-put_under-clause-part

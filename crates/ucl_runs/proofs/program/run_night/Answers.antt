@@ -1,7 +1,4 @@
-use Rattle.ucl_runs.proofs.Common.{All, Err, IsOnDuty, MeansNight, night_seen, refl}
-use Rattle.ucl_rows.specs.declared.fault.RunFault.TheVariants.{OutOfMemory}
-use Rattle.ucl_runs.specs.Nights.{night_output}
-use Rattle.ucl_runs.specs.Program.{night_task}
+use Rattle.ucl_runs.proofs.Common.{All, Err, IsOnDuty, MeansNight, OutOfMemory, night_output, night_seen, night_task, refl}
 use Rattle.ucl_runs.proofs.NightLength.{played_fits}
 use Rattle.ucl_runs.proofs.RunFacts.{failed_night, played, refused, scripted, stopped, wrote}
 use Rattle.ucl_runs.proofs.program.run_night.Goals as goal
@@ -24,6 +21,7 @@ returns-in-Err-opening g c =
       c.ended-in-Err-opening.ensures,
     )
 
+-- a night that was played ended as its result says
 pub returns-in-Ok-play : goal.returns-in-Ok-play
 returns-in-Ok-play g c =
     let opens = g.O.FnOnce.post c.args.opening tt in

@@ -1,8 +1,5 @@
-use Rattle.ucl_runs.proofs.Common.{arith, err_from_is_err_and, refl, ◌∙◌}
-use Rattle.ucl_screen.specs.Parsing.{MeansSheet, sheet_seen}
-use Rattle.ucl_rows.specs.declared.fault.RunFault.TheVariants.{OutOfMemory}
+use Rattle.ucl_runs.proofs.Common.{MeansSheet, OutOfMemory, arith, err_from_is_err_and, refl, sheet_seen, show_task, ◌∙◌}
 use Rattle.ucl_runs.proofs.RunFacts.{refused, shown, stopped, wrote}
-use Rattle.ucl_runs.specs.Program.{show_task}
 use Rattle.ucl_runs.proofs.show.show_run.Goals as goal
 
 pub returns-in_err-sheet : goal.returns-in_err-sheet

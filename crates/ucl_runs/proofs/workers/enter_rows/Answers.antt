@@ -1,7 +1,4 @@
-use Rattle.ucl_runs.proofs.Common.{List, ap, drop, first-event, refl, subst, sym, ◌+◌, ◌∙◌, ◌≢◌}
-use Rattle.ucl_screen.proofs.EventsInTurn.{past}
-use Rattle.ucl_word.specs.declared.event.EventCall.{EventCall}
-use Rattle.ucl_runs.specs.Nights.{HasReported, calls_of}
+use Rattle.ucl_runs.proofs.Common.{EventCall, HasReported, List, ap, calls_of, drop, first-event, past, refl, subst, sym, ◌+◌, ◌∙◌, ◌≢◌}
 use Rattle.ucl_runs.proofs.EnteredRows.{other_calls, own_calls}
 use Rattle.ucl_runs.proofs.workers.enter_rows.Goals.{then-get-reporter, else-get-reporter}
 use Rattle.ucl_runs.proofs.workers.enter_rows.Goals as goal

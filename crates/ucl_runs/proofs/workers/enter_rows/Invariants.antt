@@ -1,5 +1,4 @@
-use Rattle.ucl_runs.proofs.Common.{drop}
-use Rattle.ucl_runs.specs.Nights.{HasReported, calls_of}
+use Rattle.ucl_runs.proofs.Common.{HasReported, calls_of, drop}
 use Rattle.ucl_runs.proofs.workers.enter_rows.Given as goal
 
 abbrev pub invariant-loop-row : goal.invariant-loop-row

@@ -1,5 +1,4 @@
-use Rattle.ucl_runs.proofs.Common.{string_bytes, ◌∙◌}
-use Rattle.ucl_runs.specs.Nights.{style_of}
+use Rattle.ucl_runs.proofs.Common.{string_bytes, style_of, ◌∙◌}
 use Rattle.ucl_runs.proofs.RunFacts.{just_read, shown_more}
 use Rattle.ucl_runs.proofs.workers.show_screens.Goals as goal
 

@@ -1,6 +1,5 @@
 use Rattle.ucl_word.proofs.Common.{Ok, ap, sym, word_of, ◌∙◌}
-use Rattle.ucl_word.proofs.FirstWords.{first_apart, layouts_apart, reads_first, reads_none, reads_word, word_refused}
-use Rattle.ucl_word.proofs.FirstWords.{word_unpacked}
+use Rattle.ucl_word.proofs.FirstWords.{first_apart, layouts_apart, reads_first, reads_none, reads_word, word_refused, word_unpacked}
 use Rattle.ucl_word.proofs.migration.migrate.Goals as goal
 
 pub returns-then-is_ok-clause-moved : goal.returns-then-is_ok-clause-moved

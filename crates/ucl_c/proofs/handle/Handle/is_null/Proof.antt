@@ -15,6 +15,7 @@ use Rattle.ucl_c.proofs.handle.Handle.TheLaws.{lowers}
 abbrev stayed : Stays f.ended.signature.params f.ended.kept
 stayed = (stay_ref (0 ∷ []) tt (plain (λ _. R)), tt)
 
+-- the body of `is_null` meets its contract, by a walk over its statements: one branch where the pointer is null, one where it is not
 pub is_null_spec : {M : Type 1} → statement M
 is_null_spec 𝓤 𝓛 𝓜 𝓡 wired =
     let c = f.clauses 𝓛 𝓜.mem 𝓡.returns in let W = walk_of 𝓛 f.ended stayed c in let 𝓣 = tables 𝓤 𝓛.H 𝓜 𝓡 𝓡.env in

@@ -28,6 +28,7 @@ P = parts.the_row inner.the_row heap.the_row ghosts
 abbrev put_lowers : denote.Struct.OwningLaws.Lowered (parts.the_type inner.the_row heap.the_row ghosts)
 put_lowers = parts_laws.lowers inner.the_row heap.the_row ghosts inner_laws.the_row_laws heap_laws.the_row_laws heap_laws.the_told
 
+-- the body of `put` meets its contract, by a walk over its statements
 pub put_spec : {M : Type 1} → statement M
 put_spec 𝓤 𝓛 𝓜 𝓡 wired =
     let c = f.clauses 𝓛 𝓜.mem 𝓡.returns in let W = walk_of 𝓛 f.ended stayed c in let 𝓣 = tables 𝓤 𝓛.H 𝓜 𝓡 𝓡.env in

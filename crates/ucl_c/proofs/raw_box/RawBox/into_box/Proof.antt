@@ -19,6 +19,7 @@ use Rattle.ucl_c.proofs.raw_box.RawBox.into_box.Code as code
 abbrev rest : Body
 rest = seq (assign (place 0 []) (rv_opd (copy (place 4 [])))) return
 
+-- the body of `into_box` meets its contract, by a walk over its statements
 pub into_box_spec : {M : Type 1} → statement M
 into_box_spec 𝓤 𝓛 𝓜 𝓡 wired X Z LX LZ g d dd allocator md =
     let E : Bx = record { row = X; laws = LX; al = record { row = Z; laws = LZ; g = g; d = d; drops = dd } } in

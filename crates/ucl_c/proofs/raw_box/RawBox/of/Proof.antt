@@ -19,6 +19,7 @@ use Rattle.ucl_c.specs.contracts.raw_box.RawBox.of as F
 use Rattle.ucl_c.proofs.raw_box.RawBox.of.Statement.{statement}
 use Rattle.ucl_c.proofs.raw_box.RawBox.of.Code as code
 
+-- the body of `of` meets its contract, by a walk over its statements
 pub of_spec : {M : Type 1} → statement M
 of_spec 𝓤 𝓛 𝓜 𝓡 wired X Z LX LZ g d dd dx allocator md glue =
     let E : Bx = record { row = X; laws = LX; al = record { row = Z; laws = LZ; g = g; d = d; drops = dd } } in

@@ -24,6 +24,7 @@ use Rattle.ucl_io.specs.contracts.call_log.CallLog.logged as F
 use Rattle.ucl_io.proofs.call_log.CallLog.logged.Statement.{statement}
 use Rattle.ucl_io.proofs.call_log.CallLog.logged.Code as code
 
+-- the body of `logged` meets its contract, by a walk over its statements
 pub logged_spec : {M : Type 1} → statement M
 logged_spec 𝓤 𝓛 𝓜 𝓡 wired S W N T LS LW LN LT =
     let f = F.ended S W N T in let c = F.clauses S W N T 𝓛 𝓜.mem 𝓡.returns in let 𝓣 = tables 𝓤 𝓛.H 𝓜 𝓡 𝓡.env in

@@ -1,5 +1,5 @@
-use Rattle.ucl_live_runs.proofs.Common.{List, BoardState, Some, arith, cases_Bool, err_from_is_err_and, inl, inr, length, nat_le, nat_tests, refl, sym, ℕ, ◌∙◌, ◌≡◌, ◌≤◌}
-use Rattle.ucl_json.specs.BoardLines.{parse_board_line}
+use Rattle.ucl_live_runs.proofs.Common.{BoardState, List, Some, arith, cases_Bool, err_from_is_err_and, inl, inr, length, nat_le, nat_tests}
+use Rattle.ucl_live_runs.proofs.Common.{parse_board_line, refl, sym, ℕ, ◌∙◌, ◌≡◌, ◌≤◌}
 use Rattle.ucl_live_runs.proofs.follower.FollowerLineHandler.answer.Goals as goal
 
 told_short : (line : List ℕ) (m : BoardState) → parse_board_line line ≡ Some m → length line ≤ 4096

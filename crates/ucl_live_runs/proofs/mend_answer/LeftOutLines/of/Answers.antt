@@ -1,5 +1,4 @@
-use Rattle.std.proofs.Common.{arith, ap, length, ◌∙◌}
-use Rattle.ucl_live_runs.specs.Mends.{left_out_lines}
+use Rattle.ucl_live_runs.proofs.Common.{ap, arith, left_out_lines, length, ◌∙◌}
 use Rattle.ucl_live_runs.proofs.LeftOuts.{few-left}
 use Rattle.ucl_live_runs.proofs.mend_answer.LeftOutLines.of.Goals as goal
 

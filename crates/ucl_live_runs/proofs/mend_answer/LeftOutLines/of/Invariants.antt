@@ -1,6 +1,5 @@
+use Rattle.ucl_live_runs.proofs.Common.{left_out, left_out_lines}
 use Rattle.std.specs.Prelude.{◌≡◌, ◌+◌, ◌++◌, ◌≤◌, length, string_bytes}
-use Rattle.ucl_live_runs.specs.Mended.{left_out}
-use Rattle.ucl_live_runs.specs.Mends.{left_out_lines}
 use Rattle.ucl_live_runs.proofs.mend_answer.LeftOutLines.of.Given as goal
 
 abbrev pub invariant-loop-left : goal.invariant-loop-left

@@ -1,6 +1,6 @@
-use Rattle.ucl_live_runs.proofs.Common.{Bool, List, Ok, [], ap, eqb-true, false, length, true, ◌==◌, ◌≡◌, err_from_is_err_and, inr, missing, session_of, sym, ℕ, ◌∙◌}
+use Rattle.ucl_live_runs.proofs.Common.{Bool, List, Ok, [], ap, eqb-true, err_from_is_err_and, false, inr, length, missing, nil_from_length}
+use Rattle.ucl_live_runs.proofs.Common.{session_of, sym, true, ℕ, ◌==◌, ◌∙◌, ◌≡◌}
 use Rattle.ucl_live_runs.proofs.Lines.{none-answers, none-missing, some-answers, some-missing, some-stops}
-use Rattle.std.proofs.lemmas.List.{nil_from_length}
 use Rattle.ucl_live_runs.proofs.session.SessionLineHandler.end.Goals as goal
 
 empty-list : (b : Bool) (xs : List ℕ) → b ≡ (length xs == 0) → b ≡ true → xs ≡ []

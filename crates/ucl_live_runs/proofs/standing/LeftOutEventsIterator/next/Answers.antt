@@ -1,4 +1,4 @@
-use Rattle.std.proofs.Common.{◌≤◌, ap, arith, get_or, length, sym, take, ◌∙◌}
+use Rattle.ucl_live_runs.proofs.Common.{ap, arith, get_or, length, sym, take, ◌∙◌, ◌≤◌}
 use Rattle.ucl_live_runs.proofs.Mends.{all-told, not-left, so-far-more, told-none, told-one}
 use Rattle.ucl_live_runs.proofs.standing.LeftOutEventsIterator.next.Goals as goal
 

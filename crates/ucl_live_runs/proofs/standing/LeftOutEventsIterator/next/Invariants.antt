@@ -1,6 +1,5 @@
-use Rattle.std.proofs.Common.{◌≡◌, ◌-◌, drop, length, take}
-use Rattle.ucl_live_runs.specs.Mended.{left_out_after, mended}
-use Rattle.ucl_live_runs.specs.Standing.{IsMendedSoFar}
+use Rattle.ucl_live_runs.proofs.Common.{IsMendedSoFar, left_out_after, length, mended, take, ◌-◌, ◌≡◌}
+use Rattle.std.proofs.Common.{drop}
 use Rattle.ucl_live_runs.proofs.standing.LeftOutEventsIterator.next.Given as goal
 
 abbrev pub invariant-loop-self : goal.invariant-loop-self

@@ -1,7 +1,5 @@
-use Rattle.std.proofs.Common.{◌<◌, ap, arith, length}
-use Rattle.ucl_live_runs.specs.declared.standing.StandingEvent.{StandingEvent}
+use Rattle.ucl_live_runs.proofs.Common.{StandingEvent, ap, arith, kept_by, length, ◌<◌}
 use Rattle.std.specs.Prelude.{List}
-use Rattle.ucl_live_runs.specs.Mended.{kept_by}
 use Rattle.ucl_live_runs.proofs.Mends.{in-place-kept, in-place-left}
 use Rattle.ucl_live_runs.proofs.standing.StandingEvents.mend.Goals as goal
 use Rattle.ucl_live_runs.proofs.standing.StandingEvents.mend.Goals.{in-Kept, in-Named, in-Refused}

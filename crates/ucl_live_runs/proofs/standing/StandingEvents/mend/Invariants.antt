@@ -1,4 +1,4 @@
-use Rattle.std.proofs.Common.{◌≤◌}
+use Rattle.ucl_live_runs.proofs.Common.{◌≤◌}
 use Rattle.std.specs.Vec.{vec_capacity}
 use Rattle.ucl_live_runs.proofs.Mends.{IsInPlace}
 use Rattle.ucl_live_runs.proofs.standing.StandingEvents.mend.Given as goal

@@ -1,6 +1,5 @@
-use Rattle.std.proofs.Common.{arith}
+use Rattle.ucl_live_runs.proofs.Common.{arith, history_in}
 use Rattle.ucl_board.specs.History.{entry_of}
-use Rattle.ucl_live_runs.specs.Mended.{history_in}
 use Rattle.ucl_live_runs.proofs.Mends.{has-room}
 use Rattle.ucl_live_runs.proofs.standing.StandingEvents.report.Goals as goal
 

@@ -1,4 +1,4 @@
-use Rattle.std.proofs.Common.{arith}
+use Rattle.ucl_live_runs.proofs.Common.{arith}
 use Rattle.ucl_live_runs.proofs.Mends.{few}
 use Rattle.ucl_live_runs.proofs.standing.StandingEvents.version.Goals as goal
 

@@ -24,6 +24,7 @@ compare_exchange_as-added-requires g c =
     c.if-enlisted-ge-MAX_REPORTERS.false c.one_more_reporter-next.ensures in
     (search rules, (search rules, (search rules, kept)))
 
+-- an exchange that was missed keeps the loop's invariant
 pub retry-preserved : goal.retry-preserved
 retry-preserved g c =
     let u = cell_view c.load-words.new.seat in

@@ -35,6 +35,7 @@ store_event-stored-requires-clause-next g c =
     (next_words c.load-words.result c.report.new.self c.words_with-next.result (entry_of c.retry.pass-inside.number c.args.call.now)
     (λ h legal is. c.in_ok-accepted.ensures.counted h legal (is ∙ sym c.board_at-board.ensures)) c.words_with-next.ensures)
 
+-- an exchange that was missed keeps the loop's invariant
 pub retry-preserved : goal.retry-preserved
 retry-preserved g c =
     let own = c.store_event-stored.ensures.own ∙ (c.load-words.ensures.own ∙ c.retry.invariant.own) in

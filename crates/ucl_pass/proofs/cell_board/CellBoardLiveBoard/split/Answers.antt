@@ -4,6 +4,7 @@ use Rattle.ucl_pass.proofs.InvariantIsKept.{seconds}
 use Rattle.ucl_pass.proofs.CallsBySteps.{split_own, was_split}
 use Rattle.ucl_pass.proofs.cell_board.CellBoardLiveBoard.split.Goals as goal
 
+-- a sound pass of a reader
 abbrev IsReader : View → Type 0
 IsReader v = IsSound (cell_pass_view v) × (number_of v.own ≡ 0)
 

@@ -14,6 +14,7 @@ load-requires c = search (
       (first_next c.args.seat.now.me.0 c.loop-i.seat.me.0 c.loop-i.words c.loop-i.i (omega arith) c.loop-i.invariant.long c.requires.next c.loop-i.invariant.does),
 )
 
+-- one load more, of the next match, keeps the loop's invariant
 pub loop-i-preserved : goal.loop-i-preserved
 loop-i-preserved c =
     let v = c.args.seat.now.me.0 in

@@ -14,6 +14,7 @@ tries-init c = record {
   occurs = inl refl;
 }
 
+-- a number was won: the pass is a reporter's, and satisfies the invariant of one
 pub invariant_of-result : goal.invariant_of-result
 invariant_of-result c =
     let same = c.if-found-known.true in
@@ -32,6 +33,7 @@ invariant_of-result c =
       (enlisted_does m.id n x m.me.0 step).held ∙ (was.does.held ∙ c.pass.invariant.2),
     )
 
+-- what the enlistment says then
 pub returns-in-Some : goal.returns-in-Some
 returns-in-Some c =
     let k = c.pass.inside.seat in
@@ -60,6 +62,7 @@ tries-smaller c =
     let higher = (missed_higher c.pass.inside.seat.me.0 x m.me.0 c.tries.known n c.tries.invariant.missed other missed).0 in
     omega arith
 
+-- an exchange that was missed keeps the loop's invariant, with the number that it found
 pub tries-preserved : goal.tries-preserved
 tries-preserved c =
     let other = c.if-found-known.false in

@@ -24,6 +24,7 @@ load_again-requires-clause-word c = (omega arith, omega arith)
 pub load_again-requires-clause-next : goal.load_again-requires-clause-next
 load_again-requires-clause-next c = ap (λ (d : ClientState). next_game Second d.held) (sym (c.loop-checked.invariant.so_far (omega arith)).1)
 
+-- a load that found its word again keeps the loop's invariant
 pub loop-checked-preserved : goal.loop-checked-preserved
 loop-checked-preserved c =
     let v = c.args.seat.now.me.0 in

@@ -48,6 +48,7 @@ tries-preserved c =
 pub returns-then-is_clean-clause-consistent : goal.returns-then-is_clean-clause-consistent
 returns-then-is_clean-clause-consistent c = c.if-is_clean.ensures.compared.walks.consistent
 
+-- the reading that a clean try ends says what it should
 pub returns-then-is_clean-clause-read : goal.returns-then-is_clean-clause-read
 returns-then-is_clean-clause-read c =
     let v = c.args.seat.now.me.0 in

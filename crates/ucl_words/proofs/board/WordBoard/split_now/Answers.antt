@@ -3,6 +3,7 @@ use Rattle.ucl_words.proofs.Steps.{seconds}
 use Rattle.ucl_words.proofs.Boards.{left_consistent, second_consistent, was_split}
 use Rattle.ucl_words.proofs.board.WordBoard.split_now.Goals as goal
 
+-- a consistent pass of a reader, which holds no call
 abbrev IsReader : View → Type 0
 IsReader v = IsConsistent v × (number_of v.own ≡ 0) × ((client_of v.own).held ≡ NoCall)
 
