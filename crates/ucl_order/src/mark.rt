@@ -84,7 +84,7 @@ impl PointBounds {
         ensures { (matches : List Match) → ArePointBounds matches self.now
             → result ≡ is_rival matches club other }
     {
-        other != club && self.sure_points(club) <= self.reach(other)
+        (other != club) & (self.sure_points(club) <= self.reach(other))
     }
 
     /// Returns whether the other club has more points from finished matches than the club can reach.
@@ -94,7 +94,7 @@ impl PointBounds {
         ensures { (matches : List Match) → ArePointBounds matches self.now
             → result ≡ is_out_of_reach matches club other }
     {
-        other != club && self.reach(club) < self.sure_points(other)
+        (other != club) & (self.reach(club) < self.sure_points(other))
     }
 
     /// Counts the other clubs that can still have as many points as the club has from finished matches.
