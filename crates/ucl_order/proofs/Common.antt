@@ -36,12 +36,12 @@ pub use Rattle.std.specs.Prelude.{◌↔◌}
 pub use Rattle.ucl_board.proofs.HistoryTheorems.{each_match, each_slot, number_listed}
 pub use Rattle.ucl_board.specs.Fixtures.{IsMatch, IsSlot, fixture_of, match_numbers}
 pub use Rattle.ucl_board.specs.Words.{AreWords, game_at}
-pub use Rattle.ucl_order.specs.Counting.{AreOfGroup, FitsFields, IsWithin, row_by, with_match}
+pub use Rattle.ucl_order.specs.Counting.{AreOfGroup, FitsFields, HasSixEach, IsWithin, row_by, together, with_match}
 pub use Rattle.ucl_order.specs.Keys.{HasRoom, overall_of, tie_number, triple_number}
 unfoldable pub use Rattle.ucl_order.specs.Keys.{overall_key, slots_in, tie_key}
-pub use Rattle.ucl_order.specs.Marks.{GoesThrough, IsCompletion, early_mark, mark_by, out_of_reach, reach, rivals, sure_points}
+pub use Rattle.ucl_order.specs.Marks.{GoesThrough, IsCompletion, early_mark, final_mark, mark_by, out_of_reach, reach, rivals, sure_points}
 unfoldable pub use Rattle.ucl_order.specs.Marks.{mark_of}
-pub use Rattle.ucl_order.specs.Matches.{HasScore, IsPairing, IsScore, counts, disciplinary_points, finished, has_finished, has_started, is_drawn}
+pub use Rattle.ucl_order.specs.Matches.{HasScore, IsPairing, IsScore, disciplinary_points, in_play, is_in_play, finished, has_finished, has_started, is_drawn}
 pub use Rattle.ucl_order.specs.Matches.{is_lost, is_won, match_at, score_of, seen_by, seen_from_away, seen_from_home, started, started_of}
 pub use Rattle.ucl_order.specs.Matches.{unfinished}
 unfoldable pub use Rattle.ucl_order.specs.Matches.{matches_of}
@@ -54,7 +54,7 @@ unfoldable pub use Rattle.ucl_order.specs.Results.{totals}
 pub use Rattle.ucl_order.specs.Roster.{IsClub, IsRoster, NamedClub, bad_slot, club_lent, club_seen, coefficient_of, coefficients_in}
 pub use Rattle.ucl_order.specs.Roster.{is_name, member_seen, members_seen}
 unfoldable pub use Rattle.ucl_order.specs.Roster.{bad_slot_from, is_club}
-pub use Rattle.ucl_order.specs.Rounds.{AreLast, is_level, key_at, results_of_clubs, tied_results}
+pub use Rattle.ucl_order.specs.Rounds.{AreLast, counted, is_level, key_at, results_of_clubs, tied_results}
 unfoldable pub use Rattle.ucl_order.specs.Rounds.{keys_after, next_key, next_keys, tied_pairs, tied_with}
 pub use Rattle.ucl_order.specs.Rows.{IsWithinTable, MarkIsCertain, row_with, rows_of}
 unfoldable pub use Rattle.ucl_order.specs.Rows.{row_of}

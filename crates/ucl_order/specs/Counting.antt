@@ -1,5 +1,5 @@
 -- What a club has done, counted one match at a time as the code counts it, and the limits of the numbers.
-use Rattle.std.specs.Prelude.{ℕ, ◌+◌, ◌*◌, ◌≤◌, ◌&&◌, if◌then◌else◌, All, List, length}
+use Rattle.std.specs.Prelude.{◌≡◌, ℕ, ◌+◌, ◌*◌, ◌≤◌, ◌&&◌, if◌then◌else◌, All, List, length}
 use Rattle.ucl_board.specs.Fixtures.{IsSlot}
 use Rattle.ucl_order.specs.declared.game.Match.{Match}
 use Rattle.ucl_order.specs.declared.game.Appearance.{Appearance}
@@ -21,6 +21,20 @@ with_match before game = record {
   away_goals = before.away_goals + (if game.is_away then game.scored else 0);
   away_wins = before.away_wins + (if game.is_away && is_won game then 1 else 0);
   discipline = before.discipline + disciplinary_points game;
+}
+
+-- the results of a club in two lists of matches together
+abbrev pub together : Results → Results → Results
+together a b = record {
+  played = a.played + b.played;
+  wins = a.wins + b.wins;
+  draws = a.draws + b.draws;
+  losses = a.losses + b.losses;
+  goals_for = a.goals_for + b.goals_for;
+  goals_against = a.goals_against + b.goals_against;
+  away_goals = a.away_goals + b.away_goals;
+  away_wins = a.away_wins + b.away_wins;
+  discipline = a.discipline + b.discipline;
 }
 
 -- the row of the table for the club in a slot, with its place and mark, and with the numbers of its results
@@ -63,6 +77,10 @@ pub record FitsFields (results : Results) : Type 0 where
   pub losses : results.losses ≤ 6
   pub away_wins : results.away_wins ≤ 3
   pub discipline : results.discipline ≤ 936
+
+-- each club plays six of the matches
+abbrev pub HasSixEach : List Match → Type 0
+HasSixEach matches = (club : ℕ) → IsSlot club → played club matches ≡ 6
 
 -- matches of one group, all or some of them: each is of two different clubs, its score is within the limits of a match record, and no club
 -- plays more than six, or more than three away
