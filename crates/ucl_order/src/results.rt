@@ -11,19 +11,19 @@ use crate::game::{Appearance, Match, WIN};
 use ucl_board::Board;
 use ucl_word::MatchNo;
 
-/// What a club has done in some matches.
+/// What a club has done in some matches. The fields stand by their width, so that results are read in few pieces as they were written.
 #[derive(Clone, Copy, Debug, PartialEq, Eq)]
 pub(crate) struct Results {
-    pub(crate) played: u8,
+    pub(crate) goals_for: u16,
+    pub(crate) goals_against: u16,
+    /// The disciplinary total: 1 for each yellow card that no second one turned into an expulsion, 3 for each expulsion.
+    pub(crate) discipline: u16,
+    pub(crate) away_goals: u16,
+    pub(crate) away_wins: u8,
     pub(crate) wins: u8,
     pub(crate) draws: u8,
     pub(crate) losses: u8,
-    pub(crate) goals_for: u16,
-    pub(crate) goals_against: u16,
-    pub(crate) away_goals: u16,
-    pub(crate) away_wins: u8,
-    /// The disciplinary total: 1 for each yellow card that no second one turned into an expulsion, 3 for each expulsion.
-    pub(crate) discipline: u16,
+    pub(crate) played: u8,
 }
 
 impl Results {
