@@ -12,11 +12,11 @@ pub use Rattle.std.proofs.lemmas.Bool.{leb-true, true_from_ne_false}
 pub use Rattle.std.proofs.lemmas.Bool.Decides.{Decides-eqb, nat_tests}
 pub use Rattle.std.proofs.lemmas.Cmp.{alike_right, back_total, int_cmp_total, int_ranked, nat_cmp_total, on_total, then_total, tied_itself}
 pub use Rattle.std.proofs.lemmas.Int.{ints}
-pub use Rattle.std.proofs.lemmas.List.{get_or-set_other, get_or_default, length-map, length-set, length_push, map-append, map-set, take_all}
+pub use Rattle.std.proofs.lemmas.List.{get_or-set_other, get_or_default, length-map, length-set, length_push, map-append, map-set}
 pub use Rattle.std.proofs.lemmas.List.{take_more}
 pub use Rattle.std.proofs.lemmas.List.Elements.{All-append, All-cons, All-contains, All-contains_itself, All-filter, All-get_or, All-head}
 pub use Rattle.std.proofs.lemmas.List.Elements.{All-map, All-nil, All-push, All-same, All-set, All-tail, All-weaker, filter-append}
-pub use Rattle.std.proofs.lemmas.List.Elements.{filter_map-append, filter_more, filter_passes}
+pub use Rattle.std.proofs.lemmas.List.Elements.{filter_map-append, filter_passes}
 pub use Rattle.std.proofs.lemmas.List.Folds.{list_any_at}
 pub use Rattle.std.proofs.lemmas.List.Kept.{AllPairs-cons, AllPairs-filter}
 pub use Rattle.std.proofs.lemmas.List.Sorted.{All-permutation, Contains-permutation, IsPermutation-append, IsPermutation-append_right}
@@ -36,7 +36,7 @@ pub use Rattle.std.specs.Prelude.{◌↔◌}
 pub use Rattle.ucl_board.proofs.HistoryTheorems.{each_match, each_slot, number_listed}
 pub use Rattle.ucl_board.specs.Fixtures.{IsMatch, IsSlot, fixture_of, match_numbers}
 pub use Rattle.ucl_board.specs.Words.{AreWords, game_at}
-pub use Rattle.ucl_order.specs.Counting.{AreOfGroup, FitsFields, HasSixEach, IsWithin, row_by, together, with_match}
+pub use Rattle.ucl_order.specs.Counting.{AreOfGroup, FitsFields, HasSixEach, IsWithin, row_by, with_match}
 pub use Rattle.ucl_order.specs.Keys.{HasRoom, overall_of, tie_number, triple_number}
 unfoldable pub use Rattle.ucl_order.specs.Keys.{overall_key, slots_in, tie_key}
 pub use Rattle.ucl_order.specs.Marks.{GoesThrough, IsCompletion, early_mark, final_mark, mark_by, out_of_reach, reach, rivals, sure_points}

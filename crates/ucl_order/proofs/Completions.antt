@@ -233,11 +233,6 @@ module _ (profile : Profile) (board later : List ℕ) (done : IsCompletion board
 
 -- ---- the rows, from what the calls answered
 
-pub order_is : (profile : Profile) (board : List ℕ) (roster : List NamedClub) (now : List Match) (order : List ℕ)
-    → now ≡ started_of board → order ≡ order_of profile now roster → order ≡ order_of profile (started_of board) roster
-unfolding order_of
-order_is profile board roster now order is_now is = rw (is, is_now)
-
 pub row_of_place : (profile : Profile) (board : List ℕ) (roster : List NamedClub) (place : ℕ) (ms given : List Match) (order : List ℕ) (r : Row)
     → ms ≡ matches_of board → given ≡ ms → order ≡ order_of profile (started_of board) roster → (let slot = slice_index order (place - 1) in
     r ≡ row_with place slot (mark_by given order slot) (started given)) → r ≡ row_of profile board roster place

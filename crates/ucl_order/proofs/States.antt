@@ -1,11 +1,11 @@
 -- What the clubs have done in the matches in play, in the finished ones, and in both.
 use Rattle.ucl_order.proofs.Common.{All, All-head, All-tail, Appearance, Bool, HasSixEach, IsPairing, IsSlot, List, Match, None, Option, Results, Some}
-use Rattle.ucl_order.proofs.Common.{[], all_clubs, and_parts, ap, append-nil, appearances, arith, cases_Bool, cond, cons_option, counted, disciplinary_points}
+use Rattle.ucl_order.proofs.Common.{[], and_parts, ap, append-nil, appearances, arith, cases_Bool, cond, cons_option, counted, disciplinary_points}
 use Rattle.ucl_order.proofs.Common.{each_slot, eq-eqb, eqb-true, false, false_from_ne_true, filter, filter-append, finished, get_or, has_finished, has_started, in_play, inl, inr, is_drawn}
-use Rattle.ucl_order.proofs.Common.{is_in_play, is_lost, is_won, length, list_all, map, not, played, refl, results_of, results_of_clubs, seen_by, set, started}
-use Rattle.ucl_order.proofs.Common.{sum_by, sum_by-cons, sym, together, totals, true, true≢false, unfinished, ℕ, ◌&&◌, ◌++◌, ◌+◌, ◌==◌, ◌∙◌, ◌∷◌, ◌≡◌}
+use Rattle.ucl_order.proofs.Common.{is_in_play, is_lost, is_won, length, list_all, not, played, refl, results_of, results_of_clubs, seen_by, set}
+use Rattle.ucl_order.proofs.Common.{sum_by, sum_by-cons, sym, totals, true, true≢false, unfinished, ℕ, ◌&&◌, ◌++◌, ◌+◌, ◌==◌, ◌∙◌, ◌∷◌, ◌≡◌}
 use Rattle.ucl_order.proofs.Limits.{played-cons, played-parts, plays}
-use Rattle.ucl_order.proofs.Slots.{each-same, slots}
+use Rattle.ucl_order.proofs.Slots.{slots}
 
 -- One match more at the end. --
 
@@ -24,6 +24,20 @@ counted_more ms m false new begun over e = rw (e, filter_taken is_in_play ms m (
 pub counted_at : (ms : List Match) (over : Bool) (none : List Results) → get_or (counted ms) (cond over 1 0) none ≡ results_of_clubs (cond over (finished ms) (in_play ms))
 counted_at ms true none = refl
 counted_at ms false none = refl
+
+-- the results of a club in two lists of matches together
+abbrev together : Results → Results → Results
+together a b = record {
+  played = a.played + b.played;
+  wins = a.wins + b.wins;
+  draws = a.draws + b.draws;
+  losses = a.losses + b.losses;
+  goals_for = a.goals_for + b.goals_for;
+  goals_against = a.goals_against + b.goals_against;
+  away_goals = a.away_goals + b.away_goals;
+  away_wins = a.away_wins + b.away_wins;
+  discipline = a.discipline + b.discipline;
+}
 
 -- Those in play and those that are finished are all that have begun. --
 
@@ -80,7 +94,7 @@ together_same e f = rw (e, f)
 ended_begun : (m : Match) → has_finished m ≡ true → has_started m ≡ true
 ended_begun m h = search arith
 
-parts : (club : ℕ) (ms : List Match)
+pub parts : (club : ℕ) (ms : List Match)
     → results_of club (filter has_started ms) ≡ together (results_of club (filter is_in_play ms)) (results_of club (filter has_finished ms))
 unfolding totals
 parts club [] = refl
@@ -89,10 +103,6 @@ parts club (m ∷ ms) =
     in_front has_started club m ms
     ∙ (ap (λ r. cond (has_started m) (together one r) r) (parts club ms)
     ∙ (part_one one _ _ (has_started m) (has_finished m) (ended_begun m) ∙ sym (together_same (in_front is_in_play club m ms) (in_front has_finished club m ms))))
-
-pub parts_of_clubs : (ms : List Match)
-    → results_of_clubs (started ms) ≡ map (λ c. together (results_of c (in_play ms)) (results_of c (finished ms))) all_clubs
-parts_of_clubs ms = each-same (λ c. results_of c (started ms)) _ (λ c slot. parts c ms)
 
 -- All are finished just where each club has played its six. --
 

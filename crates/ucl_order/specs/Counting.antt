@@ -23,20 +23,6 @@ with_match before game = record {
   discipline = before.discipline + disciplinary_points game;
 }
 
--- the results of a club in two lists of matches together
-abbrev pub together : Results → Results → Results
-together a b = record {
-  played = a.played + b.played;
-  wins = a.wins + b.wins;
-  draws = a.draws + b.draws;
-  losses = a.losses + b.losses;
-  goals_for = a.goals_for + b.goals_for;
-  goals_against = a.goals_against + b.goals_against;
-  away_goals = a.away_goals + b.away_goals;
-  away_wins = a.away_wins + b.away_wins;
-  discipline = a.discipline + b.discipline;
-}
-
 -- the row of the table for the club in a slot, with its place and mark, and with the numbers of its results
 abbrev pub row_by : ℕ → ℕ → Mark → Results → Row
 row_by place slot mark results = record {

@@ -1,6 +1,6 @@
 //! Marks: which clubs are sure of a place among the first two, or sure of none, by finished matches only.
 
-ghost use Rattle.std.specs.Prelude.{◌≡◌, ℕ, All, List, map};
+ghost use Rattle.std.specs.Prelude.{◌≡◌, All, List, map};
 ghost use Rattle.std.specs.List.{list_all};
 ghost use Rattle.ucl_board.specs.Fixtures.{IsSlot};
 ghost use Rattle.ucl_order.specs.declared.game.Match.{Match};

@@ -1,18 +1,17 @@
-use Rattle.ucl_order.proofs.Common.{All, FitsFields, finished, has_finished, has_started, matches_of, started, subst, sym}
+use Rattle.ucl_order.proofs.Common.{All, FitsFields, finished, has_finished, has_started, matches_of, refl, started, subst, sym}
 use Rattle.ucl_order.proofs.Limits.{group_filter, results_fit}
-use Rattle.ucl_order.proofs.States.{parts_of_clubs}
 use Rattle.ucl_order.proofs.results.Results.of_clubs.Goals as goal
 
 pub returns-clause-all : goal.returns-clause-all
 returns-clause-all c =
+    let ms = matches_of c.args.board.now in
+    let is = c.of_states.ensures.value in
     rw (
-      c.together.ensures,
-      c.together-2.ensures,
-      c.together-3.ensures,
-      c.together-4.ensures,
-      c.of_states.ensures.value,
+      c.together.ensures 1 ms (rw is refl) (rw is refl),
+      c.together-2.ensures 2 ms (rw is refl) (rw is refl),
+      c.together-3.ensures 3 ms (rw is refl) (rw is refl),
+      c.together-4.ensures 4 ms (rw is refl) (rw is refl),
     )
-    (sym (parts_of_clubs (matches_of c.args.board.now)))
 
 pub returns-clause-fits : goal.returns-clause-fits
 returns-clause-fits c =
