@@ -1,8 +1,8 @@
 -- What the clubs have done in the matches in play, in the finished ones, and in both.
 use Rattle.ucl_order.proofs.Common.{All, All-head, All-tail, Appearance, Bool, HasSixEach, IsPairing, IsSlot, List, Match, None, Option, Results, Some}
 use Rattle.ucl_order.proofs.Common.{[], and_parts, ap, append-nil, appearances, arith, cases_Bool, cond, cons_option, counted, disciplinary_points}
-use Rattle.ucl_order.proofs.Common.{each_slot, eq-eqb, eqb-true, false, false_from_ne_true, filter, filter-append, finished, get_or, has_finished, has_started, in_play, inl, inr, is_drawn}
-use Rattle.ucl_order.proofs.Common.{is_in_play, is_lost, is_won, length, list_all, not, played, refl, results_of, results_of_clubs, seen_by, set}
+use Rattle.ucl_order.proofs.Common.{each_slot, eq-eqb, eqb-true, false, false_from_ne_true, filter, filter-append, finished, get_or, has_finished, has_started, under_way, inl, inr, is_drawn}
+use Rattle.ucl_order.proofs.Common.{is_under_way, is_lost, is_won, length, list_all, not, played, refl, results_of, results_of_clubs, seen_by, set}
 use Rattle.ucl_order.proofs.Common.{sum_by, sum_by-cons, sym, totals, true, true≢false, unfinished, ℕ, ◌&&◌, ◌++◌, ◌+◌, ◌==◌, ◌∙◌, ◌∷◌, ◌≡◌}
 use Rattle.ucl_order.proofs.Limits.{played-cons, played-parts, plays}
 use Rattle.ucl_order.proofs.Slots.{slots}
@@ -17,11 +17,11 @@ filter_left p ms m e = rw (filter-append p ms (m ∷ []), e, append-nil (filter 
 
 -- a match that has begun is counted at the place of its state
 pub counted_more : (ms : List Match) (m : Match) (over : Bool) (new : List Results) → has_started m ≡ true → has_finished m ≡ over
-    → new ≡ results_of_clubs (cond over (finished ms) (in_play ms) ++ m ∷ []) → set (counted ms) (cond over 1 0) new ≡ counted (ms ++ m ∷ [])
-counted_more ms m true new begun over e = rw (e, filter_left is_in_play ms m (rw (begun, over) refl), filter_taken has_finished ms m over)
-counted_more ms m false new begun over e = rw (e, filter_taken is_in_play ms m (rw (begun, over) refl), filter_left has_finished ms m over)
+    → new ≡ results_of_clubs (cond over (finished ms) (under_way ms) ++ m ∷ []) → set (counted ms) (cond over 1 0) new ≡ counted (ms ++ m ∷ [])
+counted_more ms m true new begun over e = rw (e, filter_left is_under_way ms m (rw (begun, over) refl), filter_taken has_finished ms m over)
+counted_more ms m false new begun over e = rw (e, filter_taken is_under_way ms m (rw (begun, over) refl), filter_left has_finished ms m over)
 
-pub counted_at : (ms : List Match) (over : Bool) (none : List Results) → get_or (counted ms) (cond over 1 0) none ≡ results_of_clubs (cond over (finished ms) (in_play ms))
+pub counted_at : (ms : List Match) (over : Bool) (none : List Results) → get_or (counted ms) (cond over 1 0) none ≡ results_of_clubs (cond over (finished ms) (under_way ms))
 counted_at ms true none = refl
 counted_at ms false none = refl
 
@@ -95,14 +95,14 @@ ended_begun : (m : Match) → has_finished m ≡ true → has_started m ≡ true
 ended_begun m h = search arith
 
 pub parts : (club : ℕ) (ms : List Match)
-    → results_of club (filter has_started ms) ≡ together (results_of club (filter is_in_play ms)) (results_of club (filter has_finished ms))
+    → results_of club (filter has_started ms) ≡ together (results_of club (filter is_under_way ms)) (results_of club (filter has_finished ms))
 unfolding totals
 parts club [] = refl
 parts club (m ∷ ms) =
     let one : Results = totals (cons_option (seen_by club m) []) in
     in_front has_started club m ms
     ∙ (ap (λ r. cond (has_started m) (together one r) r) (parts club ms)
-    ∙ (part_one one _ _ (has_started m) (has_finished m) (ended_begun m) ∙ sym (together_same (in_front is_in_play club m ms) (in_front has_finished club m ms))))
+    ∙ (part_one one _ _ (has_started m) (has_finished m) (ended_begun m) ∙ sym (together_same (in_front is_under_way club m ms) (in_front has_finished club m ms))))
 
 -- All are finished just where each club has played its six. --
 

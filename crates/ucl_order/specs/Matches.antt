@@ -50,8 +50,8 @@ abbrev pub has_finished : Match → Bool
 has_finished game = is_finished game.score.state
 
 -- the match is in play
-abbrev pub is_in_play : Match → Bool
-is_in_play game = has_started game && not (has_finished game)
+abbrev pub is_under_way : Match → Bool
+is_under_way game = has_started game && not (has_finished game)
 
 -- two different clubs of the group play the match
 abbrev pub IsPairing : Match → Type 0
@@ -70,8 +70,8 @@ abbrev pub finished : List Match → List Match
 finished matches = filter has_finished matches
 
 -- those of the matches that are in play
-abbrev pub in_play : List Match → List Match
-in_play matches = filter is_in_play matches
+abbrev pub under_way : List Match → List Match
+under_way matches = filter is_under_way matches
 
 -- those of the matches that are scheduled or in play
 abbrev pub unfinished : List Match → List Match

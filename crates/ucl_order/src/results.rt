@@ -2,7 +2,7 @@
 
 ghost use Rattle.std.specs.Prelude.{◌≡◌, ℕ, ◌≤◌, ◌+◌, ◌++◌, ◌∷◌, [], All, List, filter};
 ghost use Rattle.ucl_order.specs.declared.game.Match.{Match};
-ghost use Rattle.ucl_order.specs.Matches.{IsPairing, finished, in_play, matches_of, started, started_of};
+ghost use Rattle.ucl_order.specs.Matches.{IsPairing, finished, matches_of, started, started_of, under_way};
 ghost use Rattle.ucl_order.specs.Results.{points_for, results_of};
 ghost use Rattle.ucl_order.specs.Counting.{AreOfGroup, FitsFields, IsWithin, with_match};
 ghost use Rattle.ucl_order.specs.Rounds.{counted, is_level, results_of_clubs, tied_results};
@@ -120,7 +120,7 @@ impl Results {
     fn together(playing: &Results, ended: &Results) -> Results
         requires playing { IsWithin 12 playing.now }
         requires ended { IsWithin 12 ended.now }
-        ensures { (club : ℕ) → (matches : List Match) → playing.now ≡ results_of club (in_play matches)
+        ensures { (club : ℕ) → (matches : List Match) → playing.now ≡ results_of club (under_way matches)
             → ended.now ≡ results_of club (finished matches) → result ≡ results_of club (started matches) }
     {
         Results {
