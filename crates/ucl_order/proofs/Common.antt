@@ -41,7 +41,8 @@ pub use Rattle.ucl_order.specs.Keys.{HasRoom, overall_of, tie_number, triple_num
 unfoldable pub use Rattle.ucl_order.specs.Keys.{overall_key, slots_in, tie_key}
 pub use Rattle.ucl_order.specs.Marks.{GoesThrough, IsCompletion, early_mark, final_mark, mark_by, out_of_reach, reach, rivals, sure_points}
 unfoldable pub use Rattle.ucl_order.specs.Marks.{mark_of}
-pub use Rattle.ucl_order.specs.Matches.{HasScore, IsPairing, IsScore, disciplinary_points, under_way, is_under_way, finished, has_finished, has_started, is_drawn}
+pub use Rattle.ucl_order.specs.Matches.{HasScore, IsPairing, IsScore, disciplinary_points, under_way, is_under_way, finished}
+pub use Rattle.ucl_order.specs.Matches.{has_finished, has_started, is_drawn}
 pub use Rattle.ucl_order.specs.Matches.{is_lost, is_won, match_at, score_of, seen_by, seen_from_away, seen_from_home, started, started_of}
 pub use Rattle.ucl_order.specs.Matches.{unfinished}
 unfoldable pub use Rattle.ucl_order.specs.Matches.{matches_of}

@@ -1,5 +1,6 @@
 -- The matches of a board with their scores. An appearance is a match from the side of one of its clubs.
-use Rattle.std.specs.Prelude.{◌≢◌, ◌≤◌, ℕ, not, Bool, List, map, filter, ◌+◌, ◌*◌, ◌==◌, ◌&&◌, nat_lt, true, false, if◌then◌else◌, Option, Some, None}
+use Rattle.std.specs.Prelude.{◌≢◌, ◌≤◌, ℕ, not, Bool, List, map, filter, ◌+◌, ◌*◌, ◌==◌, ◌&&◌, nat_lt, true, false, if◌then◌else◌}
+use Rattle.std.specs.Prelude.{Option, Some, None}
 use Rattle.ucl_word.specs.declared.record.MatchRecord.{MatchRecord}
 use Rattle.ucl_word.specs.Rules.{is_scheduled, is_finished}
 use Rattle.ucl_board.specs.Fixtures.{IsSlot, fixture_of, match_numbers}

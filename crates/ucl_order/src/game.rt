@@ -3,7 +3,8 @@
 ghost use Rattle.std.specs.Prelude.{◌≡◌, ◌≤◌};
 ghost use Rattle.ucl_word.specs.Record.{IsValid};
 ghost use Rattle.ucl_order.specs.Rounds.{is_level};
-ghost use Rattle.ucl_order.specs.Matches.{HasScore, IsPairing, IsScore, has_finished, has_started, match_at, score_of, is_drawn, is_lost, is_won, disciplinary_points, seen_from_away, seen_from_home};
+ghost use Rattle.ucl_order.specs.Matches.{HasScore, IsPairing, IsScore, has_finished, has_started, match_at, score_of, is_drawn, is_lost};
+ghost use Rattle.ucl_order.specs.Matches.{is_won, disciplinary_points, seen_from_away, seen_from_home};
 
 use ucl_board::{Board, away_of, home_of};
 use ucl_word::{MatchNo, MatchRecord, State};

@@ -10,7 +10,8 @@ returns-clause-rows c =
     let ms = matches_of board in
     let marks = c.marks_of-marks.ensures ms (pairings board) (six board) c.of_clubs.ensures.ended in
     let results = c.of_clubs.ensures.all in
-    let row = λ (place : ℕ) (r : Row). row_of_place c.args.profile board c.args.roster.now place ms ms c.order-order.result r refl refl c.order-order.ensures.value in
+    let row = λ (place : ℕ) (r : Row). row_of_place c.args.profile board c.args.roster.now place ms ms c.order-order.result r refl refl
+    c.order-order.ensures.value in
     four_rows (row 1 c.row_at.result (c.row_at.ensures ms marks results)) (row 2 c.row_at-2.result (c.row_at-2.ensures ms marks results))
     (row 3 c.row_at-3.result (c.row_at-3.ensures ms marks results)) (row 4 c.row_at-4.result (c.row_at-4.ensures ms marks results))
 
@@ -26,5 +27,7 @@ returns-clause-within c =
 pub returns-clause-certain : goal.returns-clause-certain
 returns-clause-certain c =
     let board = c.args.board.now in
-    All-same (MarkIsCertain c.args.profile board c.args.roster.now) _ (rows_of c.args.profile board c.args.roster.now) (returns-clause-rows c)
-    (all_certain c.args.profile board c.args.roster.now (rows_within c.args.profile board c.args.roster.now c.of_clubs.ensures.group.scores))
+    All-same (MarkIsCertain c.args.profile board c.args.roster.now) _ (rows_of c.args.profile board c.args.roster.now)
+    (returns-clause-rows c)
+    (all_certain c.args.profile board c.args.roster.now
+    (rows_within c.args.profile board c.args.roster.now c.of_clubs.ensures.group.scores))

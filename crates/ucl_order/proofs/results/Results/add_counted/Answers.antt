@@ -1,4 +1,5 @@
-use Rattle.ucl_order.proofs.Common.{All, All-set, IsWithin, [], arith, cond, finished, has_finished, under_way, refl, rules, sym, ◌+◌, ◌∙◌, ◌≡◌}
+use Rattle.ucl_order.proofs.Common.{All, All-set, IsWithin, [], arith, cond, finished, has_finished, under_way, refl, rules, sym, ◌+◌}
+use Rattle.ucl_order.proofs.Common.{◌∙◌, ◌≡◌}
 use Rattle.ucl_order.proofs.LevelMatches.{within_all_later}
 use Rattle.ucl_order.proofs.States.{counted_at, counted_more}
 use Rattle.ucl_order.proofs.results.Results.add_counted.Goals as goal
@@ -12,5 +13,6 @@ returns-then-has_started-clause-value c ms is =
 
 pub returns-then-has_started-clause-within : goal.returns-then-has_started-clause-within
 returns-then-has_started-clause-within c n all =
-    All-set (All (IsWithin (n + 1))) c.args.states.now c.from.result _ (c.add_to_clubs.ensures.within n (all c.from.result [] (search rules)))
+    All-set (All (IsWithin (n + 1))) c.args.states.now c.from.result _
+    (c.add_to_clubs.ensures.within n (all c.from.result [] (search rules)))
     (λ k d h. within_all_later n (n + 1) _ (omega arith) (all k d h))

@@ -1,4 +1,5 @@
-use Rattle.ucl_order.proofs.Common.{All, HasScore, IsWithin, filter, is_level, map, match_at, match_numbers, results_of_clubs, take, ◌-◌, ◌≡◌}
+use Rattle.ucl_order.proofs.Common.{All, HasScore, IsWithin, filter, is_level, map, match_at, match_numbers, results_of_clubs, take, ◌-◌}
+use Rattle.ucl_order.proofs.Common.{◌≡◌}
 use Rattle.ucl_order.proofs.results.Results.of_level.Given as goal
 
 abbrev pub invariant-loop-number : goal.invariant-loop-number
