@@ -3,7 +3,8 @@ use Rattle.ucl_order.proofs.Common.{All, All-head, All-tail, AllPairs, Appearanc
 use Rattle.ucl_order.proofs.Common.{Contains-permutation, Finished, GoesThrough, IsCompletion, IsMatch, IsSlot, IsWithinTable, List, Mark}
 use Rattle.ucl_order.proofs.Common.{MarkIsCertain, Match, Minus, NamedClub, None, Plus, Profile, Row, Some, StandsAbove, State, []}
 use Rattle.ucl_order.proofs.Common.{all_clubs, and_parts, ap, arith, cases_Bool, count_by, early_mark, eq-eqb, eqb-true, false}
-use Rattle.ucl_order.proofs.Common.{false_from_ne_true, finished, fixture_of, game_at, get_or, has_finished, higher_in_tie, if◌then◌else◌}
+use Rattle.ucl_order.proofs.Common.{false_from_ne_true, final_mark, finished, fixture_of, game_at, get_or, has_finished, higher_in_tie}
+use Rattle.ucl_order.proofs.Common.{if◌then◌else◌}
 use Rattle.ucl_order.proofs.Common.{inl, inr, is_finished, is_in, leb-true, length, length_permutation, list_all, list_any_at, map, mark_by}
 use Rattle.ucl_order.proofs.Common.{mark_of, match_at, match_numbers, matches_of, nat_le, nat_lt, nat_tests, not, order_of, out_of_reach}
 use Rattle.ucl_order.proofs.Common.{played, points, points_higher, reach, refl, rivals, row_of, row_with, rows_of, seen_by, slice_index}
@@ -233,11 +234,7 @@ module _ (profile : Profile) (board later : List ℕ) (done : IsCompletion board
         | inr many ↦ out club (leb-true _ _ many)
       ])
 
--- the order that the code found, from the matches that it saw, is that of the board
-pub order_is : (profile : Profile) (board : List ℕ) (roster : List NamedClub) (now : List Match) (order : List ℕ)
-    → now ≡ started_of board → order ≡ order_of profile now roster → order ≡ order_of profile (started_of board) roster
-unfolding order_of
-order_is profile board roster now order is_now is = rw (is, is_now)
+-- ---- the rows, from what the calls answered
 
 -- the row that the code made of each place is that of the board
 pub row_of_place : (profile : Profile) (board : List ℕ) (roster : List NamedClub) (place : ℕ) (ms given : List Match) (order : List ℕ) (r : Row)
@@ -269,6 +266,15 @@ module _ (profile : Profile) (board : List ℕ) (roster : List NamedClub) where
 
   pub all_certain : All IsWithinTable (rows_of profile board roster) → All (MarkIsCertain profile board roster) (rows_of profile board roster)
   all_certain within i d below = certain (get_or (rows_of profile board roster) i d) (within i d below) (all_marked i d below)
+
+-- ---- the marks, from what the calls answered
+
+pub final_marks : (ms : List Match) (order : List ℕ) (a b c d : Mark) → length order ≡ 4 → list_all has_finished ms ≡ true →
+    a ≡ final_mark order (get_or order 0 0) → b ≡ final_mark order (get_or order 1 0) → c ≡ final_mark order (get_or order 2 0) → d
+    ≡ final_mark order (get_or order 3 0) →
+    ◌≡◌ {A = List Mark} (a ∷ b ∷ c ∷ d ∷ []) (map (mark_by ms order) order)
+final_marks ms (w ∷ x ∷ y ∷ z ∷ []) a b c d long all is_a is_b is_c is_d = rw (all, is_a, is_b, is_c, is_d)
+final_marks ms order a b c d long all is_a is_b is_c is_d = absurd (omega arith)
 
 -- before all matches are finished the marks of four clubs are early ones
 pub early_marks : (ms : List Match) (order : List ℕ) (a b c d : Mark) → length order ≡ 4 → list_all has_finished ms ≡ false →

@@ -9,3 +9,4 @@ pub mod KeysFit
 pub mod Rounds
 pub mod LevelMatches
 pub mod Coefficients
+pub mod States

@@ -1,5 +1,5 @@
 -- What a club has done, counted one match at a time as the code counts it, and the limits of the numbers.
-use Rattle.std.specs.Prelude.{ℕ, ◌+◌, ◌*◌, ◌≤◌, ◌&&◌, if◌then◌else◌, All, List, length}
+use Rattle.std.specs.Prelude.{◌≡◌, ℕ, ◌+◌, ◌*◌, ◌≤◌, ◌&&◌, if◌then◌else◌, All, List, length}
 use Rattle.ucl_board.specs.Fixtures.{IsSlot}
 use Rattle.ucl_order.specs.declared.game.Match.{Match}
 use Rattle.ucl_order.specs.declared.game.Appearance.{Appearance}
@@ -63,6 +63,10 @@ pub record FitsFields (results : Results) : Type 0 where
   pub losses : results.losses ≤ 6
   pub away_wins : results.away_wins ≤ 3
   pub discipline : results.discipline ≤ 936
+
+-- each club plays six of the matches
+abbrev pub HasSixEach : List Match → Type 0
+HasSixEach matches = (club : ℕ) → IsSlot club → played club matches ≡ 6
 
 -- matches of one group, all or some of them: each is of two different clubs, its score is within the limits of a match record, and no club
 -- plays more than six, or more than three away

@@ -1,5 +1,6 @@
 -- The matches of a board with their scores. An appearance is a match from the side of one of its clubs.
-use Rattle.std.specs.Prelude.{◌≢◌, ◌≤◌, ℕ, not, Bool, List, map, filter, ◌+◌, ◌*◌, ◌==◌, nat_lt, true, false, if◌then◌else◌, Option, Some, None}
+use Rattle.std.specs.Prelude.{◌≢◌, ◌≤◌, ℕ, not, Bool, List, map, filter, ◌+◌, ◌*◌, ◌==◌, ◌&&◌, nat_lt, true, false, if◌then◌else◌}
+use Rattle.std.specs.Prelude.{Option, Some, None}
 use Rattle.ucl_word.specs.declared.record.MatchRecord.{MatchRecord}
 use Rattle.ucl_word.specs.Rules.{is_scheduled, is_finished}
 use Rattle.ucl_board.specs.Fixtures.{IsSlot, fixture_of, match_numbers}
@@ -49,9 +50,9 @@ has_started game = not (is_scheduled game.score.state)
 abbrev pub has_finished : Match → Bool
 has_finished game = is_finished game.score.state
 
--- the match is finished or, unless only finished matches count, in play
-abbrev pub counts : Bool → Match → Bool
-counts finished_only game = if finished_only then has_finished game else has_started game
+-- the match is in play
+abbrev pub is_under_way : Match → Bool
+is_under_way game = has_started game && not (has_finished game)
 
 -- two different clubs of the group play the match
 abbrev pub IsPairing : Match → Type 0
@@ -68,6 +69,10 @@ started_of board = started (matches_of board)
 -- those of the matches that are finished
 abbrev pub finished : List Match → List Match
 finished matches = filter has_finished matches
+
+-- those of the matches that are in play
+abbrev pub under_way : List Match → List Match
+under_way matches = filter is_under_way matches
 
 -- those of the matches that are scheduled or in play
 abbrev pub unfinished : List Match → List Match

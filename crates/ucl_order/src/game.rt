@@ -1,14 +1,11 @@
 //! The matches of a group with their scores. An appearance is a match from the side of one of its clubs.
 
-ghost use Rattle.std.specs.Prelude.{◌≡◌, ℕ, ◌≤◌, []};
+ghost use Rattle.std.specs.Prelude.{◌≡◌, ◌≤◌};
 ghost use Rattle.ucl_word.specs.Record.{IsValid};
-ghost use Rattle.ucl_board.specs.Fixtures.{IsSlot};
-ghost use Rattle.ucl_order.specs.Counting.{AreOfGroup};
-ghost use Rattle.ucl_order.specs.Results.{played};
 ghost use Rattle.ucl_order.specs.Rounds.{is_level};
-ghost use Rattle.ucl_order.specs.Matches.{IsPairing, IsScore, has_finished, has_started, matches_of, score_of, is_drawn, is_lost, is_won, counts, disciplinary_points, seen_from_away, seen_from_home};
+ghost use Rattle.ucl_order.specs.Matches.{HasScore, IsPairing, IsScore, has_finished, has_started, match_at, score_of, is_drawn, is_lost};
+ghost use Rattle.ucl_order.specs.Matches.{is_won, disciplinary_points, seen_from_away, seen_from_home};
 
-use arrayvec::ArrayVec;
 use ucl_board::{Board, away_of, home_of};
 use ucl_word::{MatchNo, MatchRecord, State};
 
@@ -71,6 +68,19 @@ impl Score {
 }
 
 impl Match {
+    /// Returns the match of a board with this number.
+    pub(crate) fn of(board: &Board, number: MatchNo) -> Match
+        ensures value { result ≡ match_at board.now number }
+        ensures pairing { IsPairing result }
+        ensures score { HasScore result }
+    {
+        Match {
+            home: home_of(number),
+            away: away_of(number),
+            score: Score::of(board.game(number)),
+        }
+    }
+
     /// Returns the match from the side of the home club.
     pub(crate) fn seen_from_home(&self) -> Appearance
         ensures { result ≡ seen_from_home self.now }
@@ -100,7 +110,7 @@ impl Match {
     }
 
     /// Returns whether the match is in play or finished.
-    fn has_started(&self) -> bool
+    pub(crate) fn has_started(&self) -> bool
         ensures { result ≡ has_started self.now }
     {
         match self.score.state {
@@ -124,17 +134,6 @@ impl Match {
         match self.score.state {
             State::Scheduled | State::InPlay => false,
             State::Finished => true,
-        }
-    }
-
-    /// Returns whether the match is finished or, unless only finished matches count, in play.
-    pub(crate) fn counts(&self, finished_only: bool) -> bool
-        ensures { result ≡ counts finished_only self.now }
-    {
-        if finished_only {
-            self.has_finished()
-        } else {
-            self.has_started()
         }
     }
 }
@@ -168,24 +167,5 @@ impl Appearance {
         ensures few { result ≤ 1020 }
     {
         u16::from(self.yellows) + 3 * u16::from(self.expulsions)
-    }
-}
-
-/// Puts the twelve matches of the board into an empty list. The list is filled in place, which is
-/// faster than to return it.
-pub(crate) fn fill_matches(board: &Board, matches: &mut ArrayVec<Match, 12>)
-    requires { matches.old.items ≡ [] }
-    ensures value { matches.new.items ≡ matches_of board.now }
-    ensures group { AreOfGroup matches.new.items }
-    ensures six { (club : ℕ) → IsSlot club → played club matches.new.items ≡ 6 }
-{
-    for number in 1..13 {
-        if let Some(game) = MatchNo::new(number) {
-            matches.push(Match {
-                home: home_of(game),
-                away: away_of(game),
-                score: Score::of(board.game(game)),
-            });
-        }
     }
 }

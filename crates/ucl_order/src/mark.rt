@@ -1,15 +1,15 @@
 //! Marks: which clubs are sure of a place among the first two, or sure of none, by finished matches only.
 
-ghost use Rattle.std.specs.Prelude.{◌≡◌, ℕ, All, List, map};
+ghost use Rattle.std.specs.Prelude.{◌≡◌, All, List, map};
 ghost use Rattle.std.specs.List.{list_all};
 ghost use Rattle.ucl_board.specs.Fixtures.{IsSlot};
 ghost use Rattle.ucl_order.specs.declared.game.Match.{Match};
-ghost use Rattle.ucl_order.specs.Counting.{AreOfGroup};
-ghost use Rattle.ucl_order.specs.Matches.{has_finished};
-ghost use Rattle.ucl_order.specs.Results.{played};
+ghost use Rattle.ucl_order.specs.Counting.{FitsFields, HasSixEach};
+ghost use Rattle.ucl_order.specs.Matches.{IsPairing, finished, has_finished};
+ghost use Rattle.ucl_order.specs.Rounds.{results_of_clubs};
 ghost use Rattle.ucl_order.specs.Marks.{early_mark, out_of_reach, final_mark, is_out_of_reach, is_rival, mark_by, reach, rivals, sure_points, ArePointBounds};
 
-use crate::game::{Match, WIN};
+use crate::game::WIN;
 use crate::results::Results;
 
 /// How many matches each club of a group plays.
@@ -36,25 +36,24 @@ struct PointBounds {
 }
 
 impl PointBounds {
-    /// Returns the bounds of the clubs' points after these matches. Each club plays six of them, and all but its finished ones are left.
+    /// Returns the bounds of the clubs' points, from what they have done in finished matches. Each club plays six, and the others are left.
     #[tactic(auto, unfolding(crate::specs::Results::totals))]
-    fn of(matches: &[Match]) -> PointBounds
-        requires group { AreOfGroup matches.now }
-        requires six { (club : ℕ) → IsSlot club → played club matches.now ≡ 6 }
-        ensures { ArePointBounds matches.now result }
+    fn of(ended: &[Results; 4]) -> PointBounds
+        requires { All FitsFields ended.now }
+        ensures { (matches : List Match) → HasSixEach matches
+            → ended.now ≡ results_of_clubs (finished matches) → ArePointBounds matches result }
     {
-        let finished = Results::of_finished(matches);
-        let first = finished[0].points();
-        let second = finished[1].points();
-        let third = finished[2].points();
-        let fourth = finished[3].points();
+        let first = ended[0].points();
+        let second = ended[1].points();
+        let third = ended[2].points();
+        let fourth = ended[3].points();
         PointBounds {
             sure: [first, second, third, fourth],
             reach: [
-                first + WIN * (MATCHES - finished[0].played),
-                second + WIN * (MATCHES - finished[1].played),
-                third + WIN * (MATCHES - finished[2].played),
-                fourth + WIN * (MATCHES - finished[3].played),
+                first + WIN * (MATCHES - ended[0].played),
+                second + WIN * (MATCHES - ended[1].played),
+                third + WIN * (MATCHES - ended[2].played),
+                fourth + WIN * (MATCHES - ended[3].played),
             ],
         }
     }
@@ -84,7 +83,7 @@ impl PointBounds {
         ensures { (matches : List Match) → ArePointBounds matches self.now
             → result ≡ is_rival matches club other }
     {
-        other != club && self.sure_points(club) <= self.reach(other)
+        (other != club) & (self.sure_points(club) <= self.reach(other))
     }
 
     /// Returns whether the other club has more points from finished matches than the club can reach.
@@ -94,7 +93,7 @@ impl PointBounds {
         ensures { (matches : List Match) → ArePointBounds matches self.now
             → result ≡ is_out_of_reach matches club other }
     {
-        other != club && self.reach(club) < self.sure_points(other)
+        (other != club) & (self.reach(club) < self.sure_points(other))
     }
 
     /// Counts the other clubs that can still have as many points as the club has from finished matches.
@@ -138,11 +137,15 @@ impl PointBounds {
     }
 }
 
-/// Returns whether all matches are finished.
-fn are_all_finished(matches: &[Match]) -> bool
-    ensures { result ≡ list_all has_finished matches.now }
+/// Returns whether all matches are finished, from what the clubs have done in finished ones.
+fn are_all_finished(ended: &[Results; 4]) -> bool
+    ensures { (matches : List Match) → All IsPairing matches → HasSixEach matches
+        → ended.now ≡ results_of_clubs (finished matches) → result ≡ list_all has_finished matches }
 {
-    matches.iter().all(|game| game.has_finished())
+    (ended[0].played == MATCHES)
+        & (ended[1].played == MATCHES)
+        & (ended[2].played == MATCHES)
+        & (ended[3].played == MATCHES)
 }
 
 /// Returns the mark of a club when all matches are finished: plus if it is among the first two. `order` has the slots by place.
@@ -156,16 +159,17 @@ fn final_mark(order: &[u8; 4], club: u8) -> Mark
     }
 }
 
-/// Returns the marks of the clubs, by place: the final ones if all matches are finished, else those by points. `order` has the slots by place.
+/// Returns the marks of the clubs, by place: the final ones if all matches are finished, else those by points. `ended` is what the clubs
+/// have done in finished matches, by slot, and `order` has the slots by place.
 #[tactic(auto, using(crate::proofs::Completions::early_marks))]
-pub(crate) fn marks_of(matches: &[Match], order: &[u8; 4]) -> [Mark; 4]
-    requires group { AreOfGroup matches.now }
-    requires six { (club : ℕ) → IsSlot club → played club matches.now ≡ 6 }
+pub(crate) fn marks_of(ended: &[Results; 4], order: &[u8; 4]) -> [Mark; 4]
+    requires fits { All FitsFields ended.now }
     requires slots { All IsSlot order.now }
-    ensures { result ≡ map (mark_by matches.now order.now) order.now }
+    ensures { (matches : List Match) → All IsPairing matches → HasSixEach matches
+        → ended.now ≡ results_of_clubs (finished matches) → result ≡ map (mark_by matches order.now) order.now }
 {
     let [a, b, c, d] = *order;
-    if are_all_finished(matches) {
+    if are_all_finished(ended) {
         return [
             final_mark(order, a),
             final_mark(order, b),
@@ -173,7 +177,7 @@ pub(crate) fn marks_of(matches: &[Match], order: &[u8; 4]) -> [Mark; 4]
             final_mark(order, d),
         ];
     }
-    let bounds = PointBounds::of(matches);
+    let bounds = PointBounds::of(ended);
     [
         bounds.early_mark(a),
         bounds.early_mark(b),

@@ -9,13 +9,11 @@ ghost use Rattle.ucl_order.specs.Matches.{started};
 ghost use Rattle.ucl_order.specs.Rounds.{results_of_clubs};
 ghost use Rattle.ucl_order.specs.Rows.{IsWithinTable, MarkIsCertain, row_with, rows_of};
 
-use crate::game::fill_matches;
 use crate::mark::{Mark, marks_of};
 use crate::order::order;
 use crate::profile::Profile;
 use crate::results::Results;
 use crate::roster::Roster;
-use arrayvec::ArrayVec;
 use ucl_board::Board;
 
 /// A club at its place of the table. All numbers but the slot, the place and the mark are of the matches in play and finished.
@@ -99,11 +97,9 @@ pub fn standings(board: &Board, roster: &Roster, profile: Profile) -> [Row; 4]
     ensures within { All IsWithinTable result }
     ensures certain { All (MarkIsCertain profile board.now roster.now) result }
 {
-    let mut matches = ArrayVec::new();
-    fill_matches(board, &mut matches);
-    let results = Results::of_clubs(&matches);
-    let order = order(&matches, &results, roster, profile);
-    let marks = marks_of(&matches, &order);
+    let (results, ended) = Results::of_clubs(board);
+    let order = order(board, &results, roster, profile);
+    let marks = marks_of(&ended, &order);
     [
         row_at(1, &order, &marks, &results),
         row_at(2, &order, &marks, &results),

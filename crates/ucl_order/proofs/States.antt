@@ -1,0 +1,172 @@
+-- What the clubs have done in the matches in play, in the finished ones, and in both.
+use Rattle.ucl_order.proofs.Common.{All, All-head, All-tail, Appearance, Bool, HasSixEach, IsPairing, IsSlot, List, Match, None, Option}
+use Rattle.ucl_order.proofs.Common.{Results, Some}
+use Rattle.ucl_order.proofs.Common.{[], and_parts, ap, append-nil, appearances, arith, cases_Bool, cond, cons_option, counted}
+use Rattle.ucl_order.proofs.Common.{disciplinary_points}
+use Rattle.ucl_order.proofs.Common.{each_slot, eq-eqb, eqb-true, false, false_from_ne_true, filter, filter-append, finished, get_or}
+use Rattle.ucl_order.proofs.Common.{has_finished, has_started, under_way, inl, inr, is_drawn}
+use Rattle.ucl_order.proofs.Common.{is_under_way, is_lost, is_won, length, list_all, not, played, refl, results_of, results_of_clubs}
+use Rattle.ucl_order.proofs.Common.{seen_by, set}
+use Rattle.ucl_order.proofs.Common.{sum_by, sum_by-cons, sym, totals, true, true≢false, unfinished, ℕ, ◌&&◌, ◌++◌, ◌+◌, ◌==◌, ◌∙◌, ◌∷◌, ◌≡◌}
+use Rattle.ucl_order.proofs.Limits.{played-cons, played-parts, plays}
+use Rattle.ucl_order.proofs.Slots.{slots}
+
+-- One match more at the end. --
+
+pub filter_taken : (p : Match → Bool) (ms : List Match) (m : Match) → p m ≡ true → filter p (ms ++ m ∷ []) ≡ filter p ms ++ m ∷ []
+filter_taken p ms m e = rw (filter-append p ms (m ∷ []), e)
+
+pub filter_left : (p : Match → Bool) (ms : List Match) (m : Match) → p m ≡ false → filter p (ms ++ m ∷ []) ≡ filter p ms
+filter_left p ms m e = rw (filter-append p ms (m ∷ []), e, append-nil (filter p ms))
+
+-- a match that has begun is counted at the place of its state
+pub counted_more : (ms : List Match) (m : Match) (over : Bool) (new : List Results) → has_started m ≡ true → has_finished m ≡ over
+    → new ≡ results_of_clubs (cond over (finished ms) (under_way ms) ++ m ∷ []) → set (counted ms) (cond over 1 0) new
+    ≡ counted (ms ++ m ∷ [])
+counted_more ms m true new begun over e = rw (e, filter_left is_under_way ms m (rw (begun, over) refl), filter_taken has_finished ms m over)
+counted_more ms m false new begun over e = rw
+    (e, filter_taken is_under_way ms m (rw (begun, over) refl), filter_left has_finished ms m over)
+
+pub counted_at : (ms : List Match) (over : Bool) (none : List Results) → get_or (counted ms) (cond over 1 0) none
+    ≡ results_of_clubs (cond over (finished ms) (under_way ms))
+counted_at ms true none = refl
+counted_at ms false none = refl
+
+-- the results of a club in two lists of matches together
+abbrev together : Results → Results → Results
+together a b = record {
+  played = a.played + b.played;
+  wins = a.wins + b.wins;
+  draws = a.draws + b.draws;
+  losses = a.losses + b.losses;
+  goals_for = a.goals_for + b.goals_for;
+  goals_against = a.goals_against + b.goals_against;
+  away_goals = a.away_goals + b.away_goals;
+  away_wins = a.away_wins + b.away_wins;
+  discipline = a.discipline + b.discipline;
+}
+
+-- Those in play and those that are finished are all that have begun. --
+
+length_one : (o : Option Appearance) (games : List Appearance) → length (cons_option o games) ≡ length (cons_option o []) + length games
+length_one None games = omega arith
+length_one (Some a) games = omega arith
+
+sum_one : (f : Appearance → ℕ) (o : Option Appearance) (games : List Appearance) → sum_by f (cons_option o games)
+    ≡ sum_by f (cons_option o []) + sum_by f games
+sum_one f None games = omega arith
+sum_one f (Some a) games = omega (arith, sum_by-cons f a games, sum_by-cons f a [])
+
+away_at : (away : Bool) (f : Appearance → ℕ) (a : Appearance) (games : List Appearance) → sum_by f (cond away (a ∷ games) games)
+    ≡ sum_by f (cond away (a ∷ []) []) + sum_by f games
+away_at true f a games = sum_one f (Some a) games
+away_at false f a games = omega arith
+
+away_one : (f : Appearance → ℕ) (o : Option Appearance) (games : List Appearance) →
+    sum_by f (filter (λ a. a.is_away) (cons_option o games))
+    ≡ sum_by f (filter (λ a. a.is_away) (cons_option o [])) + sum_by f (filter (λ a. a.is_away) games)
+away_one f None games = omega arith
+away_one f (Some a) games = away_at a.is_away f a (filter (λ a. a.is_away) games)
+
+totals_one : (o : Option Appearance) (games : List Appearance) → totals (cons_option o games)
+    ≡ together (totals (cons_option o [])) (totals games)
+unfolding totals
+totals_one o games = rw (
+  length_one o games,
+  sum_one (λ x. cond (is_won x) 1 0) o games,
+  sum_one (λ x. cond (is_drawn x) 1 0) o games,
+  sum_one (λ x. cond (is_lost x) 1 0) o games,
+  sum_one (λ x. x.scored) o games,
+  sum_one (λ x. x.conceded) o games,
+  sum_one disciplinary_points o games,
+  away_one (λ x. x.scored) o games,
+  away_one (λ x. cond (is_won x) 1 0) o games,
+)
+
+-- one match in front, at the tests of its state
+part_one : (x p q : Results) (begun over : Bool) → (over ≡ true → begun ≡ true)
+    → cond begun (together x (together p q)) (together p q)
+    ≡ together (cond (begun && not over) (together x p) p) (cond over (together x q) q)
+part_one x p q true true h = search arith
+part_one x p q true false h = search arith
+part_one x p q false true h = absurd (true≢false (sym (h refl)))
+part_one x p q false false h = refl
+
+in_front : (p : Match → Bool) (club : ℕ) (m : Match) (ms : List Match) → results_of club (filter p (m ∷ ms))
+    ≡ cond (p m) (together (totals (cons_option (seen_by club m) [])) (results_of club (filter p ms))) (results_of club (filter p ms))
+in_front p club m ms = elim (cases_Bool (p m)) [
+  | inl passes ↦ rw passes (totals_one (seen_by club m) (appearances club (filter p ms)))
+  | inr fails ↦ rw fails refl
+]
+
+together_same : {a b c d : Results} → a ≡ b → c ≡ d → together a c ≡ together b d
+together_same e f = rw (e, f)
+
+ended_begun : (m : Match) → has_finished m ≡ true → has_started m ≡ true
+ended_begun m h = search arith
+
+pub parts : (club : ℕ) (ms : List Match)
+    → results_of club (filter has_started ms)
+    ≡ together (results_of club (filter is_under_way ms)) (results_of club (filter has_finished ms))
+unfolding totals
+parts club [] = refl
+parts club (m ∷ ms) =
+    let one : Results = totals (cons_option (seen_by club m) []) in
+    in_front has_started club m ms
+    ∙ (ap (λ r. cond (has_started m) (together one r) r) (parts club ms)
+    ∙ (part_one one _ _ (has_started m) (has_finished m) (ended_begun m)
+    ∙ sym (together_same (in_front is_under_way club m ms) (in_front has_finished club m ms))))
+
+-- All are finished just where each club has played its six. --
+
+none-left : (ms : List Match) (club : ℕ) → list_all has_finished ms ≡ true → played club (unfinished ms) ≡ 0
+none-left [] club h = refl
+none-left (m ∷ ms) club h = let parts = and_parts (has_finished m) (list_all has_finished ms) h in rw parts.0 (none-left ms club parts.1)
+
+all-over : (ms : List Match) → All IsPairing ms → ((club : ℕ) → IsSlot club → played club (unfinished ms) ≡ 0) → list_all has_finished ms
+    ≡ true
+unfolding plays
+all-over [] pairs none = refl
+all-over (m ∷ ms) pairs none =
+    elim (cases_Bool (has_finished m)) [
+      | inl over ↦ rw over (all-over ms (All-tail IsPairing m ms pairs) (λ club slot. rw over at (none club slot)))
+      | inr left ↦
+          let pair = All-head IsPairing m ms pairs in
+          let one = rw left at (none m.home pair.0) in
+          let more = played-cons m.home m (unfinished ms) in
+          let here : plays (seen_by m.home m) ≡ 1 = rw (eq-eqb m.home m.home refl) refl in
+          absurd (omega arith)
+    ]
+
+six-left : (ms : List Match) (club : ℕ) → IsSlot club → HasSixEach ms → (played club (finished ms) ≡ 6 → played club (unfinished ms) ≡ 0)
+    × (played club (unfinished ms) ≡ 0 → played club (finished ms) ≡ 6)
+six-left ms club slot six = (
+  (λ e. omega (arith, six club slot, played-parts has_finished club ms)),
+  (λ e. omega (arith, six club slot, played-parts has_finished club ms)),
+)
+
+-- all matches are finished just where each club has six finished ones
+pub all_six : (ms : List Match) → All IsPairing ms → HasSixEach ms →
+    (((played 1 (finished ms) == 6) && (played 2 (finished ms) == 6)) && (played 3 (finished ms) == 6)) && (played 4 (finished ms) == 6)
+    ≡ list_all has_finished ms
+all_six ms pairs six = elim (cases_Bool (list_all has_finished ms)) [
+  | inl all ↦
+      let each : (club : ℕ) → IsSlot club → (played club (finished ms) == 6)
+      ≡ true = λ club slot. eq-eqb _ _ ((six-left ms club slot six).1 (none-left ms club all)) in
+      rw (
+        all,
+        each 1 (slots 0 0 (omega arith)),
+        each 2 (slots 1 0 (omega arith)),
+        each 3 (slots 2 0 (omega arith)),
+        each 4
+            (slots 3 0 (omega arith)),
+      )
+  | inr some ↦ rw some (false_from_ne_true _ (λ four.
+      let last = and_parts _ _ four in
+      let third = and_parts _ _ last.0 in
+      let two = and_parts _ _ third.0 in
+      let none : (club : ℕ) → IsSlot club → played club (unfinished ms) ≡ 0 =
+      (λ club slot. (six-left ms club slot six).0 (each_slot (λ c. played c (finished ms) ≡ 6) (eqb-true _ _ two.0) (eqb-true _ _ two.1)
+      (eqb-true _ _ third.1) (eqb-true _ _ last.1) club slot)) in
+      true≢false (sym (all-over ms pairs none) ∙ some)))
+]
