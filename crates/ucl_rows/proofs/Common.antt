@@ -17,7 +17,6 @@ pub use Rattle.ucl_io.proofs.Cuts.{rest_of}
 pub use Rattle.ucl_order.specs.Roster.{is_printed}
 pub use Rattle.ucl_rows.specs.BadRows.{shown_text}
 pub use Rattle.ucl_rows.specs.Lines.{word_lines, word_line}
-pub use Rattle.ucl_rows.specs.Reading.{AreJoining, EndsRow, IsFieldBefore, is_joining, is_line_end}
 pub use Rattle.ucl_rows.specs.Rows.{Row, fits, of_rows, said_on}
 pub use Rattle.ucl_rows.specs.Run.{IsStopped}
 pub use Rattle.ucl_rows.specs.declared.fault.RunFault.{RunFault}

@@ -1,5 +1,5 @@
 pub mod Common
 pub mod Texts
 pub mod NightParts
-pub mod PlainRows
+pub mod LinesSaid
 pub mod LiveShown

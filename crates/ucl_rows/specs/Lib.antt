@@ -6,5 +6,4 @@ pub mod Lines
 pub mod InputLines
 pub mod Rows
 pub mod BadRows
-pub mod Reading
 pub mod Answers

@@ -9,7 +9,6 @@ mod ending;
 mod fault;
 mod line;
 mod output;
-mod plain;
 mod words;
 
 pub use answer::{

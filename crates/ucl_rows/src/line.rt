@@ -4,13 +4,12 @@
 ghost use Rattle.std.specs.Prelude.{◌≡◌, ◌+◌, ◌≤◌, ◌∷◌, [], ◌++◌, IfOk, IfSome, length, true};
 ghost use Rattle.csv.specs.Reading.{default_config, records};
 ghost use Rattle.ucl_screen.specs.Rows.{four_seen, rows_of};
-ghost use Rattle.ucl_rows.specs.Rows.{Row, fits, line_seen, of_rows, said_on};
+ghost use Rattle.ucl_rows.specs.Rows.{Row, fits, line_seen, of_rows, rows_on, said_on};
 
-use crate::plain::{ends_length, has_no_quote, plain_four, unmarked};
 use arrayvec::ArrayVec;
 use csv::ByteRecord;
 use std::alloc::{AllocError, Global};
-use ucl_screen::{Four, four_fields, next_row, open_rows};
+use ucl_screen::{FirstRow, Four, first_row, four_fields, next_row, open_rows, without_mark};
 
 /// The most bytes of a line before its end.
 const MAX_ROW_BYTES: usize = 256;
@@ -40,33 +39,41 @@ fn fits(line: &[u8]) -> bool
     }
 }
 
-/// Returns the fields of the line with this number, if it is a row of four fields without quotes. For any other line, and for line 1, which
-/// may begin with a byte order mark, the answer is `None`.
-#[tactic(auto, using(crate::proofs::PlainRows::said_plain))]
-pub fn plain_row(row: u64, line: &[u8]) -> Option<Four<'_>>
-    ensures { IfSome result (λ four. said_on row line.now ≡ Row (four_seen four)) }
-{
-    if row > 1 && fits(line) {
-        plain_four(line)
-    } else {
-        None
-    }
-}
-
-/// Returns what a text says, given without its line feed, `None` if it has no row; or `None` if it has a quote, so that `csv` has to read it.
+/// Returns what a text says, given without its line feed, `None` if it has no row; or `None` if only `csv` can read one of its rows.
 fn plain_text(text: &[u8]) -> Option<Option<RowFields<'_>>>
     ensures { IfSome result (λ said.
         line_seen said ≡ of_rows (records default_config (text.now ++ 10 ∷ []))) }
 {
-    let row = &text[ends_length(text)..];
-    if row.is_empty() {
-        return Some(None);
+    match first_row(text) {
+        FirstRow::None => Some(None),
+        FirstRow::Four(four, rest) => match first_row(rest) {
+            FirstRow::None => Some(Some(RowFields::Four(four))),
+            FirstRow::Four(_, _) | FirstRow::Other => Some(Some(RowFields::Other)),
+            FirstRow::Unread => None,
+        },
+        FirstRow::Other => Some(Some(RowFields::Other)),
+        FirstRow::Unread => None,
     }
-    match plain_four(row) {
-        Some(four) => Some(Some(RowFields::Four(four))),
-        None if has_no_quote(row) => Some(Some(RowFields::Other)),
-        None => None,
+}
+
+/// Returns the fields of the line with this number, if it is a row of four fields that lie in the line as they are, also in quotes. For any
+/// other line, and for line 1, which may begin with a byte order mark, the answer is `None`.
+pub fn plain_row(row: u64, line: &[u8]) -> Option<Four<'_>>
+    ensures { IfSome result (λ four. said_on row line.now ≡ Row (four_seen four)) }
+{
+    if row > 1 && fits(line) {
+        if let Some(Some(RowFields::Four(four))) = plain_text(line) {
+            return Some(four);
+        }
     }
+    None
+}
+
+/// Returns the line with this number, given without its line feed, without the byte order mark that line 1 may begin with.
+fn unmarked(row: u64, line: &[u8]) -> &[u8]
+    ensures { rows_on row (line.now ++ 10 ∷ []) ≡ records default_config (result.now ++ 10 ∷ []) }
+{
+    if row == 1 { without_mark(line) } else { line }
 }
 
 /// Returns some bytes, and then a line with its line feed.
@@ -107,8 +114,9 @@ fn read_text<'a>(
 ///
 /// # Errors
 ///
-/// If there is no memory. Only a line with a quote needs any.
-#[tactic(auto, using(crate::proofs::PlainRows::rows_after_feed), unfolding(crate::specs::Rows::said_by_text))]
+/// If there is no memory. Only a line needs any in which a field begins with a quote and `csv` has to read it: another quote is within, none
+/// closes it, or something else than a comma or the end of the line is behind it.
+#[tactic(auto, using(ucl_screen::proofs::PlainRows::rows_after_feed), unfolding(crate::specs::Rows::said_by_text))]
 pub fn read_row<'a>(
     alloc: Global,
     row: u64,

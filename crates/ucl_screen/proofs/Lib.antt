@@ -1,5 +1,6 @@
 pub mod Common
 pub mod RowFacts
+pub mod PlainRows
 pub mod Digits
 pub mod RowFaults
 pub mod Columns

@@ -1,5 +1,7 @@
 pub mod Input
 pub mod Rows
+pub mod PlainRows
+pub mod RowsAhead
 pub mod Numbers
 pub mod Events
 pub mod Script

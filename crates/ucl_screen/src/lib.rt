@@ -21,6 +21,7 @@ mod fields;
 mod games;
 mod lines;
 mod night;
+mod plain;
 mod reading;
 mod rows;
 mod sheet;
@@ -33,6 +34,7 @@ pub use fault_line::FaultLine;
 pub use fields::{call_of_fields, expected_of_field, hex_word, match_of_field, reporter_of_field};
 pub use games::{matches, state_name};
 pub use night::{Night, NightEvent};
+pub use plain::{FirstRow, first_row, without_mark};
 pub use reading::{
     FIRST_EVENT_ROW, club_of_fields, event_of_fields, lent_club, night_of_bytes, read_night,
     read_words,

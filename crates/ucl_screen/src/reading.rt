@@ -3,22 +3,22 @@
 //! contracts `gives` says that the result is the defined one unless memory ran out, and `kinds` which faults there can be: `BadRow`,
 //! `BadRoster`, `TooLong` and `OutOfMemory`.
 
-ghost use Rattle.std.specs.Prelude.{◌≡◌, ◌+◌, ◌≤◌, length, Some, option_map, IfErr, IfOk, OnOk};
-ghost use Rattle.csv.specs.Records.{fields_of};
+ghost use Rattle.std.specs.Prelude.{◌≡◌, ◌+◌, ◌≤◌, length, Some, option_and_then, option_map, IfErr, IfOk, OnOk};
 ghost use Rattle.ucl_order.specs.Roster.{club_lent, club_seen};
 ghost use Rattle.ucl_screen.specs.Input.{Reads, CallsRead, max_bytes};
-ghost use Rattle.ucl_screen.specs.Rows.{IsReading, four_seen, rows_left, rows_of};
+ghost use Rattle.ucl_screen.specs.Rows.{four_seen, rows_of};
+ghost use Rattle.ucl_screen.specs.RowsAhead.{IsOpen, rows_ahead};
 ghost use Rattle.ucl_screen.specs.Events.{event_of};
-ghost use Rattle.ucl_screen.specs.Script.{said_by, club_of, club_at, roster_at, events_from, first_event_row, word_of_row, words_from, night_of, night_of_rows, sheet_of_rows, IsFaultOfScript};
+ghost use Rattle.ucl_screen.specs.Script.{club_of, club_at, roster_at, events_from, first_event_row, word_of_row, words_from, night_of, night_of_rows, sheet_of_rows, IsFaultOfScript};
 ghost use Rattle.ucl_screen.specs.Parsing.{AnswersAsSaid, MeansNight, MeansSheet, night_seen, sheet_seen};
 
 use crate::fault::InputFault;
 use crate::fields::{call_of_fields, hex_word, number, reporter_of_field};
 use crate::night::{Night, NightEvent};
-use crate::rows::{Four, four_fields, next_row, open_rows};
+use crate::rows::{Four, Rows};
 use crate::sheet::Sheet;
 use crate::transfer::{MAX_INPUT_BYTES, read_all};
-use csv::{ByteRecord, Reader};
+use csv::ByteRecord;
 use std::alloc::{AllocError, Global};
 use ucl_board::Board;
 use ucl_io::Source;
@@ -57,23 +57,20 @@ pub fn club_of_fields(alloc: Global, row: u8, fields: &Four<'_>) -> Result<Optio
 
 /// Reads the next row, which has this number, 1 to 4, and parses its club. `BadRow` with the number, if the row is missing or is no club.
 #[tactic(auto, unfolding(crate::specs::Script::club_at))]
-fn club_at(alloc: Global, number: u8, rows: &mut Reader<&[u8]>) -> Result<Club, InputFault>
+fn club_at(alloc: Global, number: u8, rows: &mut Rows<'_>) -> Result<Club, InputFault>
     requires digit { number ≤ 9 }
-    requires reading { IsReading rows.old }
-    ensures reading { OnOk result (IsReading rows.new) }
-    ensures shorter { OnOk result (length (rows_left rows.new) ≤ length (rows_left rows.old)) }
-    ensures gives { AnswersAsSaid (λ club. (club_seen club, rows_left rows.new)) result
-        (club_at number (rows_left rows.old)) }
+    requires open { IsOpen rows.old }
+    ensures open { OnOk result (IsOpen rows.new) }
+    ensures shorter { OnOk result (length (rows_ahead rows.new) ≤ length (rows_ahead rows.old)) }
+    ensures gives { AnswersAsSaid (λ club. (club_seen club, rows_ahead rows.new)) result
+        (club_at number (rows_ahead rows.old)) }
     ensures kinds { IfErr result IsFaultOfScript }
 {
     let bad = InputFault::BadRow {
         row: u32::from(number),
     };
-    let mut row = ByteRecord::new(alloc);
-    if !next_row(rows, &mut row)? {
-        return Err(bad);
-    }
-    let Some(fields) = four_fields(&row) else {
+    let mut record = ByteRecord::new(alloc);
+    let Some(Some(fields)) = rows.next(alloc, &mut record)? else {
         return Err(bad);
     };
     match club_of_fields(alloc, number, &fields)? {
@@ -85,12 +82,12 @@ fn club_at(alloc: Global, number: u8, rows: &mut Reader<&[u8]>) -> Result<Club, 
 /// Reads the next four rows, which are rows 1 to 4, and makes the roster of their clubs. `BadRow` if one is missing or is no club,
 /// `BadRoster` if a name or a coefficient is out of range.
 #[tactic(auto, unfolding(crate::specs::Script::roster_at))]
-fn roster_at(alloc: Global, rows: &mut Reader<&[u8]>) -> Result<Roster, InputFault>
-    requires { IsReading rows.old }
-    ensures reading { OnOk result (IsReading rows.new) }
-    ensures shorter { OnOk result (length (rows_left rows.new) ≤ length (rows_left rows.old)) }
-    ensures gives { AnswersAsSaid (λ roster. (roster, rows_left rows.new)) result
-        (roster_at (rows_left rows.old)) }
+fn roster_at(alloc: Global, rows: &mut Rows<'_>) -> Result<Roster, InputFault>
+    requires { IsOpen rows.old }
+    ensures open { OnOk result (IsOpen rows.new) }
+    ensures shorter { OnOk result (length (rows_ahead rows.new) ≤ length (rows_ahead rows.old)) }
+    ensures gives { AnswersAsSaid (λ roster. (roster, rows_ahead rows.new)) result
+        (roster_at (rows_ahead rows.old)) }
     ensures kinds { IfErr result IsFaultOfScript }
 {
     let first = club_at(alloc, 1, rows)?;
@@ -113,26 +110,26 @@ pub fn event_of_fields(fields: &Four<'_>) -> Option<NightEvent>
 }
 
 /// Parses the event of a row of a script; `None` if the row has not four fields or they are no event.
-fn event_of(row: &ByteRecord) -> Option<NightEvent>
-    ensures { result ≡ said_by event_of (fields_of row.now) }
+fn event_of(row: Option<Four<'_>>) -> Option<NightEvent>
+    ensures { result ≡ option_and_then event_of (option_map four_seen row.entry) }
 {
-    event_of_fields(&four_fields(row)?)
+    event_of_fields(&row?)
 }
 
 /// Reads the rows that are left, which are those of a script from row 5 on, and parses their events. `BadRow` with the first that is none.
-fn events_at(alloc: Global, rows: &mut Reader<&[u8]>) -> Result<Vec<NightEvent>, InputFault>
-    requires reading { IsReading rows.old }
-    requires few { length (rows_left rows.old) ≤ max_bytes }
+fn events_at(alloc: Global, rows: &mut Rows<'_>) -> Result<Vec<NightEvent>, InputFault>
+    requires open { IsOpen rows.old }
+    requires few { length (rows_ahead rows.old) ≤ max_bytes }
     ensures gives { AnswersAsSaid (λ v. v.items) result
-        (events_from first_event_row (rows_left rows.old)) }
+        (events_from first_event_row (rows_ahead rows.old)) }
     ensures kinds { IfErr result IsFaultOfScript }
     ensures few { IfOk result (λ v. length v.items ≤ max_bytes) }
 {
-    let mut row = ByteRecord::new(alloc);
+    let mut record = ByteRecord::new(alloc);
     let mut events = Vec::new(alloc);
     let mut number = u32::from(FIRST_EVENT_ROW);
-    'rows: while next_row(rows, &mut row)? {
-        match event_of(&row) {
+    'rows: while let Some(row) = rows.next(alloc, &mut record)? {
+        match event_of(row) {
             None => return Err(InputFault::BadRow { row: number }),
             Some(event) => events.push(event)?,
         }
@@ -142,14 +139,14 @@ fn events_at(alloc: Global, rows: &mut Reader<&[u8]>) -> Result<Vec<NightEvent>,
 }
 
 /// Parses a script: clubs in rows 1 to 4, and then a row for each event. An error is the first fault of a row or a club, or `OutOfMemory`.
-#[tactic(auto, unfolding(crate::specs::Script::night_of_rows))]
+#[tactic(auto, using(crate::proofs::RowFacts::few_rows), unfolding(crate::specs::Script::night_of_rows))]
 fn night_of(alloc: Global, text: &[u8]) -> Result<Night, InputFault>
     requires { length text.now ≤ max_bytes }
     ensures gives { AnswersAsSaid night_seen result (night_of_rows (rows_of text.now)) }
     ensures kinds { IfErr result IsFaultOfScript }
     ensures few { IfOk result (λ night. length night.events.items ≤ max_bytes) }
 {
-    let mut rows = open_rows(alloc, text);
+    let mut rows = Rows::Plain(text);
     let roster = roster_at(alloc, &mut rows)?;
     let events = events_at(alloc, &mut rows)?;
     Ok(Night { roster, events })
@@ -210,37 +207,37 @@ fn word_of_fields(game: u8, fields: &Four<'_>) -> Option<u64>
 }
 
 /// Parses the match word of a row, which is that of this match, 1 to 12; `None` if the row has not four fields or they are not of the form.
-fn word_of_row(game: u8, row: &ByteRecord) -> Option<u64>
-    ensures { result ≡ said_by (word_of_row game) (fields_of row.now) }
+fn word_of_row(game: u8, row: Option<Four<'_>>) -> Option<u64>
+    ensures { result ≡ option_and_then (word_of_row game) (option_map four_seen row.entry) }
 {
-    word_of_fields(game, &four_fields(row)?)
+    word_of_fields(game, &row?)
 }
 
 /// Reads the rows that are left, which are rows 5 to 16, and parses the match words of matches 1 to 12. `BadRow` with the first row that is
 /// missing or bad, or 17 if there is a row more.
-fn words_at(alloc: Global, rows: &mut Reader<&[u8]>) -> Result<[u64; 12], InputFault>
-    requires { IsReading rows.old }
-    ensures gives { AnswersAsSaid (λ words. words) result (words_from 12 1 (rows_left rows.old)) }
+fn words_at(alloc: Global, rows: &mut Rows<'_>) -> Result<[u64; 12], InputFault>
+    requires { IsOpen rows.old }
+    ensures gives { AnswersAsSaid (λ words. words) result (words_from 12 1 (rows_ahead rows.old)) }
     ensures kinds { IfErr result IsFaultOfScript }
 {
-    let mut row = ByteRecord::new(alloc);
+    let mut record = ByteRecord::new(alloc);
     let mut words = [0; 12];
     'games: for game in 1..13u8 {
         let bad = InputFault::BadRow {
             row: u32::from(game) + 4,
         };
-        if !next_row(rows, &mut row)? {
+        let Some(row) = rows.next(alloc, &mut record)? else {
             return Err(bad);
-        }
-        match word_of_row(game, &row) {
+        };
+        match word_of_row(game, row) {
             Some(word) => words[usize::from(game - 1)] = word,
             None => return Err(bad),
         }
     }
-    if next_row(rows, &mut row)? {
-        return Err(InputFault::BadRow { row: 17 });
+    match rows.next(alloc, &mut record)? {
+        Some(_) => Err(InputFault::BadRow { row: 17 }),
+        None => Ok(words),
     }
-    Ok(words)
 }
 
 /// Parses the clubs, in rows 1 to 4, and the match words, in rows 5 to 16, of a sheet. An error is the first fault, or `OutOfMemory`.
@@ -250,7 +247,7 @@ fn roster_and_words(alloc: Global, text: &[u8]) -> Result<(Roster, [u64; 12]), I
         (sheet_of_rows (rows_of text.now)) }
     ensures kinds { IfErr result IsFaultOfScript }
 {
-    let mut rows = open_rows(alloc, text);
+    let mut rows = Rows::Plain(text);
     let roster = roster_at(alloc, &mut rows)?;
     let words = words_at(alloc, &mut rows)?;
     Ok((roster, words))

@@ -1,10 +1,12 @@
 //! The rows of an input, which are the records that the crate `csv` reads of it, one after the other. A row has fields, which are bytes.
-//! In contracts `rows_left` is the list of the rows that a reader has not read yet.
+//! In contracts `rows_left` is the list of the rows that a reader of `csv` has not read yet, and `rows_ahead` that of the rows of an input.
 
-ghost use Rattle.std.specs.Prelude.{◌≡◌, ◌≤◌, length, option_map, IfOk, true};
+ghost use Rattle.std.specs.Prelude.{◌≡◌, ◌≤◌, length, option_map, IfOk, IsSome, true};
 ghost use Rattle.csv.specs.Records.{fields_of};
-ghost use Rattle.ucl_screen.specs.Rows.{IsReading, rows_of, rows_left, ReadsRow, four_of, four_seen};
+ghost use Rattle.ucl_screen.specs.Rows.{IsReading, ReadsRow, four_of, four_seen, rows_left, rows_of};
+ghost use Rattle.ucl_screen.specs.RowsAhead.{IsOpen, ReadsNext, rows_ahead};
 
+use crate::plain::{FirstRow, first_row, without_mark};
 use csv::{ByteRecord, Reader, ReaderBuilder};
 use std::alloc::{AllocError, Global};
 
@@ -64,5 +66,63 @@ pub fn four_fields(row: &ByteRecord) -> Option<Four<'_>>
             third,
             fourth,
         }),
+    }
+}
+
+/// Reads the next row by `csv` into `record`: `None` if there is none, else its four fields, or `None` if it has more or fewer.
+fn next_by_csv<'r>(
+    rows: &mut Reader<&[u8]>,
+    record: &'r mut ByteRecord,
+) -> Result<Option<Option<Four<'r>>>, AllocError>
+    requires { IsReading rows.old }
+    ensures reading { IfOk result (λ row. IsSome row → IsReading rows.new) }
+    ensures reads { IfOk result (λ row. ReadsNext row (rows_left rows.old) (rows_left rows.new)) }
+{
+    if next_row(rows, record)? {
+        Ok(Some(four_fields(record)))
+    } else {
+        Ok(None)
+    }
+}
+
+/// The rows of an input that are ahead. They are read where they lie, up to the first that only `csv` can read, and from there on by `csv`.
+#[derive(Drop)]
+pub(crate) enum Rows<'a> {
+    /// The rows of this text.
+    Plain(&'a [u8]),
+    /// The rows that this reader has left.
+    Csv(Reader<&'a [u8]>),
+}
+
+impl<'a> Rows<'a> {
+    /// Reads the next row, which `csv` reads into `record`: `None` if there is none, else its four fields, or `None` if it has more or fewer.
+    /// It fails only if an allocation is refused.
+    pub fn next<'r>(
+        &mut self,
+        alloc: Global,
+        record: &'r mut ByteRecord,
+    ) -> Result<Option<Option<Four<'r>>>, AllocError>
+    where
+        'a: 'r,
+        requires { IsOpen self.old }
+        ensures open { IfOk result (λ row. IsSome row → IsOpen self.new) }
+        ensures reads { IfOk result (λ row. ReadsNext row (rows_ahead self.old) (rows_ahead self.new)) }
+    {
+        match self {
+            Rows::Plain(text) => match first_row(without_mark(*text)) {
+                FirstRow::None => Ok(None),
+                FirstRow::Four(four, rest) => {
+                    *text = rest;
+                    Ok(Some(Some(four)))
+                }
+                FirstRow::Other | FirstRow::Unread => {
+                    let mut reader = open_rows(alloc, *text);
+                    let row = next_by_csv(&mut reader, record)?;
+                    *self = Rows::Csv(reader);
+                    Ok(row)
+                }
+            },
+            Rows::Csv(reader) => next_by_csv(reader, record),
+        }
     }
 }

@@ -1,0 +1,21 @@
+-- What a line says, behind which there is a line feed.
+use Rattle.ucl_rows.proofs.Common.{List, Row, [], ap, arith, default_config, fits, of_rows, records, refl, said_on, sym, true, ℕ, ◌++◌}
+use Rattle.ucl_rows.proofs.Common.{◌<◌, ◌∙◌, ◌∷◌, ◌≡◌}
+use Rattle.std.proofs.Common.{ne_eqb}
+use Rattle.ucl_screen.specs.Rows.{Fields, FourFields}
+use Rattle.ucl_screen.specs.PlainRows.{BeginsWithRow, fields_of_four}
+use Rattle.ucl_screen.proofs.PlainRows.{no_rows_fed}
+use Rattle.ucl_rows.specs.Rows.{Nothing, Said, said_by_text}
+
+
+pub says_nothing : (text : List ℕ) → ((tail : List ℕ) → records default_config (text ++ tail) ≡ records default_config tail) → Nothing ≡ of_rows (records default_config (text ++ 10 ∷ []))
+says_nothing text none = sym (ap of_rows (none (10 ∷ []) ∙ no_rows_fed))
+
+pub says_four : (text rest : List ℕ) (f : FourFields) → BeginsWithRow text (fields_of_four f) rest → ((tail : List ℕ) → records default_config (rest ++ tail) ≡ records default_config tail)
+    → Row f ≡ of_rows (records default_config (text ++ 10 ∷ []))
+says_four text rest f b none = sym (ap of_rows (b.rows (10 ∷ []) refl ∙ ap (λ (rows : List Fields). fields_of_four f ∷ rows) (none (10 ∷ []) ∙ no_rows_fed)))
+
+-- a line that is not the first, and not too long
+pub says_later : (row : ℕ) (line : List ℕ) (said : Said) → 1 < row → fits (line ++ 10 ∷ []) ≡ true → said ≡ of_rows (records default_config (line ++ 10 ∷ [])) → said_on row line ≡ said
+unfolding said_by_text
+says_later row line said later short is = rw (short, ne_eqb row 1 (λ e. omega arith)) (sym is)

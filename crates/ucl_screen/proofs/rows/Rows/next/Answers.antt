@@ -1,0 +1,14 @@
+use Rattle.ucl_screen.proofs.Common.{refl}
+use Rattle.ucl_screen.proofs.PlainRows.{none_ahead, row_ahead}
+use Rattle.ucl_screen.specs.PlainRows.{fields_of_four}
+use Rattle.ucl_screen.specs.Rows.{four_seen}
+use Rattle.ucl_screen.proofs.rows.Rows.next.Goals as goal
+
+pub returns-in-None-clause-reads : goal.returns-in-None-clause-reads
+returns-in-None-clause-reads c =
+    rw c.in-Plain.is (none_ahead c.in-Plain.text.now c.without_mark.result.now c.without_mark.ensures c.in-None.ensures)
+
+pub returns-in-Four-clause-reads : goal.returns-in-Four-clause-reads
+returns-in-Four-clause-reads c =
+    let row = fields_of_four (four_seen c.in-Four.four) in
+    (row, rw c.in-Plain.is (row_ahead c.in-Plain.text.now c.without_mark.result.now c.in-Four.rest.now row c.without_mark.ensures c.in-Four.ensures), refl)

@@ -1,0 +1,21 @@
+-- The rows of an input that are ahead, and what reading one of them does.
+use Rattle.std.specs.Prelude.{◌≡◌, ⊤, List, [], ◌∷◌, Option, Some, None, option_map}
+use Rattle.ucl_screen.specs.declared.rows.Four.{Four}
+use Rattle.ucl_screen.specs.declared.rows.Rows.{Rows}
+use Rattle.ucl_screen.specs.declared.rows.Rows.TheVariants.{Plain, Csv}
+use Rattle.ucl_screen.specs.Rows.{Fields, IsReading, four_of, four_seen, rows_left, rows_of}
+
+-- the rows that are ahead: those of a text, or those that `csv` has left to read
+abbrev pub rows_ahead : Rows → List Fields
+rows_ahead (Plain text) = rows_of text.now
+rows_ahead (Csv reader) = rows_left reader
+
+-- rows can be read
+abbrev pub IsOpen : Rows → Type 0
+IsOpen (Plain text) = ⊤
+IsOpen (Csv reader) = IsReading reader
+
+-- a read found no row, or the next one: its four fields, or None if it has more or fewer; `old` and `new` are the rows ahead before and after
+abbrev pub ReadsNext : Option (Option Four) → List Fields → List Fields → Type 0
+ReadsNext None old new = old ≡ []
+ReadsNext (Some row) old new = (fields : Fields) × (old ≡ fields ∷ new) × (option_map four_seen row ≡ four_of fields)
