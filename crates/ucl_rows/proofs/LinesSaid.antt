@@ -7,7 +7,6 @@ use Rattle.ucl_screen.specs.PlainRows.{BeginsWithRow, fields_of_four}
 use Rattle.ucl_screen.proofs.PlainRows.{no_rows_fed}
 use Rattle.ucl_rows.specs.Rows.{Nothing, Said, said_by_text}
 
-
 pub says_nothing : (text : List ℕ) → ((tail : List ℕ) → records default_config (text ++ tail) ≡ records default_config tail) → Nothing ≡ of_rows (records default_config (text ++ 10 ∷ []))
 says_nothing text none = sym (ap of_rows (none (10 ∷ []) ∙ no_rows_fed))
 
