@@ -213,8 +213,8 @@ no_rows_fed = skip-end 10 [] refl ∙ no-rows
 pub rows_after_feed : (text : List ℕ) → rows_of (10 ∷ text) ≡ records default_config text
 rows_after_feed text = ap (records default_config) (unmarked [] (10 ∷ text) refl (λ few. absurd (omega arith))) ∙ skip-end 10 text refl
 
-pub none_ahead : (text bare : List ℕ) → ((tail : List ℕ) → AtLineEnd tail → strip_bom (text ++ tail) ≡ bare ++ tail) → ((tail : List ℕ) → records default_config (bare ++ tail) ≡ records default_config tail)
-    → rows_of text ≡ []
+pub none_ahead : (text bare : List ℕ) → ((tail : List ℕ) → AtLineEnd tail → strip_bom (text ++ tail) ≡ bare ++ tail)
+    → ((tail : List ℕ) → records default_config (bare ++ tail) ≡ records default_config tail) → rows_of text ≡ []
 none_ahead text bare mark none = ap (records default_config) (rw (append-nil text) at (mark [] refl)) ∙ none [] ∙ no-rows
 
 pub row_ahead : (text bare rest : List ℕ) (row : Fields) → ((tail : List ℕ) → AtLineEnd tail → strip_bom (text ++ tail) ≡ bare ++ tail) → BeginsWithRow bare row rest
