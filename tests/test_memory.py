@@ -108,10 +108,10 @@ def test_a_thread_that_did_not_start_is_told_before_a_screen_without_memory(prog
 
 
 ROWS = "two_matches.csv", "screen,,,\nwords,,,\nmatches,,,\n"
-BAD_ROWS = "one_goal.csv", "1,1\n\n1,1,0,kickoff,\n\r1,1,0,kickoff\r\r\n1,2,0,kickoff\r3,4\n,\n" + "x" * 300 + "\n1,1,2,goal-away"
+BAD_ROWS = "one_goal.csv", "1,1\n\n1,1,0,kickoff,\n\r1,1,0,kickoff\r\r\n1,2,0,kickoff\r3,4\n,\n" + "x" * 300 + '\n"1",1,"0","kickoff"\n1,1,2,goal-away'
 MORE_ROWS = "one_goal.csv", "group,A,uefa,1\nclub,1,Echo,7\n1,1,0,kickoff\nscreen,,,\n1,1,0,kickoff\n"
 # Each run of a program with its input and its status, and how many lines of its output may be out where want of memory is told: in an evening the
-# clubs ask for memory, the screen, the words, the matches, a screen after an accepted event, and all in JSON. A line without quotes asks for none.
+# clubs ask for memory, the screen, the words, the matches, a screen after an accepted event, and all in JSON. Other lines ask for none, also in quotes.
 RUNS = {
     "ucl_night --help": ([], 0, [0]),
     "ucl_night feed": (["two_matches.csv"], 0, [0]),

@@ -29,8 +29,8 @@ pub struct Session {
     phase: Phase,
 }
 
-/// Returns what the line with this number says, `None` if it has no row: by `csv`, which reads it into `record`, unless it is a row of four
-/// fields without quotes. Fails only if out of memory.
+/// Returns what the line with this number says, `None` if it has no row: where it lies, or by `csv`, which reads it into `record`. Fails
+/// only if out of memory.
 fn fields_on<'a>(
     alloc: Global,
     row: u64,
@@ -146,8 +146,8 @@ impl LineHandler for Session {
 ///
 /// If the source fails, the answers before are out. If the sink fails, the error says how many bytes of the answers are out. If there is no
 /// memory for the answer to a line, those before it are out, whole. Memory is needed only for the names of clubs, for screens and matches,
-/// for each answer in JSON, and to read a line with a quote. If the clubs have a fault, nothing is out. `TooLong` comes after more than 2^62
-/// bytes, which no session has.
+/// for each answer in JSON, and to read a line with a field that begins with a quote and does not end at the next one. If the clubs have a
+/// fault, nothing is out. `TooLong` comes after more than 2^62 bytes, which no session has.
 pub fn live_run<S: Source, W: Sink>(
     alloc: Global,
     options: LiveArgs,
