@@ -4,7 +4,7 @@
 ghost use Rattle.std.specs.Prelude.{◌≡◌, ◌+◌, ⊤, IfErr, IfOk, OnOk};
 ghost use Rattle.ucl_rows.specs.Answers.{bytes_of};
 ghost use Rattle.ucl_rows.specs.BadRows.{shown_text};
-ghost use Rattle.ucl_rows.specs.Rows.{line_seen, said_on};
+ghost use Rattle.ucl_rows.specs.Rows.{said_on};
 ghost use Rattle.ucl_live_runs.specs.SessionRuns.{Closes, HasNoAnswer, HasNoEnd, session_due, session_of};
 ghost use Rattle.ucl_live_runs.specs.LiveText.{answer_said, next, start_of};
 ghost use Rattle.ucl_live_runs.specs.Driven.{IsDriven};
@@ -14,7 +14,7 @@ use crate::header::{HeaderState, asked_header};
 use crate::live_fault::LiveFault;
 use crate::phase::{Phase, with_club, with_first};
 use csv::ByteRecord;
-use std::alloc::{AllocError, Global};
+use std::alloc::Global;
 use std::mem;
 use ucl_command::LiveArgs;
 use ucl_io::{LineHandler, LoggedIo, ServeFault, serve_lines};
@@ -27,22 +27,6 @@ pub struct Session {
     config: Config,
     heading: HeaderState,
     phase: Phase,
-}
-
-/// Returns what the line with this number says, `None` if it has no row: where it lies, or by `csv`, which reads it into `record`. Fails
-/// only if out of memory.
-fn fields_on<'a>(
-    alloc: Global,
-    row: u64,
-    text: &'a [u8],
-    record: &'a mut ByteRecord,
-) -> Result<Option<RowFields<'a>>, AllocError>
-    ensures { IfOk result (λ said. line_seen said ≡ said_on row text.now) }
-{
-    match plain_row(row, text) {
-        Some(four) => Ok(Some(RowFields::Four(four))),
-        None => read_row(alloc, row, text, record),
-    }
 }
 
 impl Session {
@@ -68,7 +52,7 @@ impl Session {
         ensures stops { IfErr result (HasNoAnswer (session_of self.old row) (said_on row text.now)) }
     {
         let mut record = ByteRecord::new(self.config.alloc);
-        let Some(said) = fields_on(self.config.alloc, row, text, &mut record)? else {
+        let Some(said) = read_row(self.config.alloc, row, text, &mut record)? else {
             *answer = Answer::nothing();
             return Ok(());
         };
