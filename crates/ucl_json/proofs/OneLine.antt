@@ -27,7 +27,7 @@ onto (suc k) n rest h =
     glyph : 32 ≤ digit_glyph false (n % 10)
     glyph = elim (cases_Bool (nat_lt (n % 10) 10)) [ inl y ↦ rw y (omega arith) | inr more ↦ rw more (omega arith) ]
 
--- the decimal digits of a number of at most 64 digits, put before no bytes, are its digits
+-- with room for 64 digits the decimal digits of a number, put before no bytes, are the digits of the number
 digits-at : (k n : ℕ) → k ≡ 64 → digits_onto k 10 false n [] ≡ digits 10 false n
 unfolding digits
 digits-at k n e = rw e refl
@@ -43,12 +43,12 @@ numeral (negative (pos n)) = counted 64 n refl
 numeral (negative (negsuc n)) = counted 64 (suc n) refl
 numeral (float x) = refl
 
--- whether the bytes below n are written so
+-- whether each byte below n is written in a JSON text as bytes that are the space or above it
 abbrev are_printed_below : ℕ → Bool
 are_printed_below zero = true
 are_printed_below (suc n) = list_all (nat_le 32) (escape_byte n) && are_printed_below n
 
--- if the bytes below n are written so, each of them is
+-- if the test for all bytes below n holds, each of them is written as bytes that are the space or above it
 below : (n : ℕ) → are_printed_below n ≡ true → (x : ℕ) → x < n → ArePrinted (escape_byte x)
 below zero e x h = absurd (omega arith)
 below (suc n) e x h =
@@ -60,7 +60,7 @@ up-to-backslash : are_printed_below 93 ≡ true
 unfolding escape_byte
 up-to-backslash = refl
 
--- a text is written so, and in quotes
+-- no byte of a text, as it is written in JSON, is below the space
 escaped : (s : List ℕ) → ArePrinted (escape s)
 escaped [] = refl
 escaped (x ∷ s) = both (escape_byte x) (escape s) byte (escaped s)
