@@ -40,6 +40,7 @@ good-roster clubs roster same none =
     let four : (length clubs == 4) ≡ true = both_good.0 in
     rw same (good_four clubs (grind (arith, nat_tests, four)) both_good.1)
 
+-- the coefficients of clubs that were made with these are these
 pub coefficients-with : (coefficients : List ℕ) → coefficients_in (map club_with coefficients) ≡ coefficients
 coefficients-with [] = refl
 coefficients-with (coefficient ∷ coefficients) = ap (λ (later : List ℕ). coefficient ∷ later) (coefficients-with coefficients)

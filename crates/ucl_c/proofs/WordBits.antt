@@ -19,6 +19,7 @@ fields_within : (word : ℕ) → is_within_limits (record_at word) ≡ true
 unfolding record_at
 fields_within word = grind (arith, nat_tests)
 
+-- the reporter in any word is at most 255
 byte_low : (word : ℕ) → (record_at word).reporter ≤ 255
 unfolding record_at
 byte_low word = grind arith
@@ -31,6 +32,7 @@ suited word (suc zero) is h = let l = h.low in let u = h.high in let r = h.repor
 suited word (suc (suc zero)) is h = let l = h.low in let u = h.high in let r = h.reporter in let b = byte_low word in grind (arith, nat_tests)
 suited word (suc (suc (suc n))) is h = absurd (let k = h.known in omega arith)
 
+-- a word that holds what that of a begun match does holds a valid record
 begun_valid : (word : ℕ) → IsOfBegunMatch word → IsValid (record_at word)
 unfolding record_at
 begun_valid word h = whole (record_at word) (fields_within word) (suited word (held_at word layout.state) refl h)
@@ -42,10 +44,12 @@ begun_word word h =
     let known : held_at word layout.state < 3 = let k = h.known in omega arith in
     record { of = record_at word; valid = valid; packed = held_word word (record { tag = h.tag; state = known; valid = valid }) }
 
+-- the word of the record of a match before its kick-off is `untouched`
 scheduled_packed : word_of scheduled ≡ untouched
 unfolding word_of
 scheduled_packed = refl
 
+-- the word `untouched` is that of a valid record
 untouched_word : (word : ℕ) → word ≡ untouched → IsWord word
 untouched_word word is = record { of = scheduled; valid = scheduled_valid; packed = scheduled_packed ∙ sym is }
 
@@ -59,6 +63,7 @@ told_by word (suc (suc zero)) is holds s =
     inl (record { tag = holds.tag; reporter = grind (arith, nat_tests); not_scheduled = omega arith; known = omega arith; low = grind (arith, nat_tests); high = grind (arith, nat_tests) })
 told_by word (suc (suc (suc n))) is holds s = absurd (let k = holds.state in omega arith)
 
+-- the word of a valid record holds what that of a begun match does, or is `untouched`
 word_begun : (word : ℕ) → IsWord word → IsOfBegunMatch word ⊎ (word ≡ untouched)
 unfolding record_at
 word_begun word is =

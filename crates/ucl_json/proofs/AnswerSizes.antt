@@ -66,6 +66,7 @@ low-plain (suc k) n rest h =
     let more = low-plain k (n / 16) (digit_glyph false (n % 16) ∷ rest) (and_from (is_printed (digit_glyph false (n % 16))) (list_all is_printed rest) glyph.0 h) in
     (more.0, more.1 ∙ rw glyph.1 (omega arith))
 
+-- the last k hexadecimal digits of a number are a text, of k + 2 bytes when quoted
 low-quoted : (k n : ℕ) → IsText (low k n []) × (length (quoted (low k n [])) ≡ k + 2)
 low-quoted k n = let plain = low-plain k n [] refl in (plain.0, omega (arith, plain.1, length-append (escape (low k n [])) (34 ∷ [])))
 
@@ -96,6 +97,7 @@ version-fits board w =
     sum_by-le (λ word. (record_at word).number) 4095 board (λ k d less. number_valid (record_at (slice_index_or board k d)) (word_valid (slice_index_or board k d) (w.each k d less))) in
     let t = w.twelve in omega (arith, t, most)
 
+-- no board has more than twelve matches in play
 pub few-in-play : (board : List ℕ) → AreWords board → in_play board ≤ 12
 few-in-play board w = let t = w.twelve in omega (arith, t, count_by-le-length (λ word. is_in_play (record_at word).state) board)
 
@@ -106,6 +108,7 @@ pub record IsPlainClub (club : NamedClub) : Type 0 where
   pub coefficient : club.coefficient ≤ 999999
   pub in_quotes : length (quoted club.name) ≤ 42
 
+-- a club that a roster takes has a printed name, of at most 42 bytes in quotes, and a coefficient of at most 999,999
 club-plain : (club : NamedClub) → IsClub club → IsPlainClub club
 unfolding is_club
 club-plain club h =
@@ -144,11 +147,13 @@ group-text group h =
     let low = h.0 in let high = h.1 in
     (rw (le-leb 32 group (omega arith), le-leb group 126 (omega arith)) refl, rw (escape_byte_plain group (λ e. omega arith) (λ e. omega arith) (omega arith)) refl)
 
+-- the name of a tie-break order is a text, of at most 13 bytes in quotes
 pub order-text : (profile : Profile) → IsText (profile_name profile) × (length (quoted (profile_name profile)) ≤ 13)
 unfolding escape_byte
 order-text Uefa = (refl, omega arith)
 order-text AwayInTie = (refl, omega arith)
 
+-- the name of a kind of event is a text, of at most 20 bytes in quotes
 pub kind-text : (kind : Kind) → IsText (kind_name kind) × (length (quoted (kind_name kind)) ≤ 20)
 unfolding escape_byte
 kind-text (Goal Home) = (refl, omega arith)
@@ -158,16 +163,19 @@ kind-text (SecondYellow Home) = (refl, omega arith)
 kind-text (Red Home) = (refl, omega arith)
 kind-text _ = (refl, omega arith)
 
+-- the name of a refusal is a text, of at most 22 bytes in quotes, and its code fits 64 bits
 pub refusal-text : (refusal : Refusal) → IsText (refusal_name refusal) × (length (quoted (refusal_name refusal)) ≤ 22) × (refusal_code refusal < 2 ^ 64)
 unfolding escape_byte
 refusal-text (Stale found) = (refl, omega arith, omega arith)
 refusal-text _ = (refl, omega arith, omega arith)
 
+-- the name of the state of a match is a text, of at most 11 bytes in quotes
 state-text : (s : State) → IsText (state_name s) × (length (quoted (state_name s)) ≤ 11)
 unfolding escape_byte
 state-text Scheduled = (refl, omega arith)
 state-text _ = (refl, omega arith)
 
+-- the mark of a row of a table is a text, of at most 3 bytes in quotes
 mark-text : (mark : Mark) → IsText (mark_name mark) × (length (quoted (mark_name mark)) ≤ 3)
 unfolding escape_byte
 mark-text Plus = (refl, omega arith)

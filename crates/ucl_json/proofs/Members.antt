@@ -54,6 +54,7 @@ module _ {T : Type 0} (parsed : Data → Option T) where
   pub just-each : (n : ℕ) (values : List Value) → length values ≡ n → just n parsed (map view values) ≡ parse_each parsed (map view values)
   just-each n values long = rw (length-map values view, long, eq-eqb n n refl) refl
 
+-- a result that is Ok, and x if it is Ok, is x as an option
 pub inner-ok : {A E : Type 0} (r : Result A E) (x : A) → IsOk r → IfOk r (λ a. a ≡ x) → result_ok r ≡ Some x
 inner-ok {A} (Ok a) x ok e = ap (λ (y : A). Some y) e
 inner-ok (Err f) x ok e = absurd (search rules)
@@ -62,6 +63,7 @@ inner-ok (Err f) x ok e = absurd (search rules)
 pub roster_good : (roster clubs : List NamedClub) → roster ≡ clubs → bad_slot clubs ≡ None → Some roster ≡ unless_bad clubs (bad_slot clubs)
 roster_good roster clubs e h = rw (e, h) refl
 
+-- clubs of which one is bad are not read as a roster
 pub roster_bad : (clubs : List NamedClub) (slot : ℕ) → bad_slot clubs ≡ Some slot → None ≡ unless_bad clubs (bad_slot clubs)
 roster_bad clubs slot h = rw h refl
 
@@ -75,6 +77,7 @@ just-four _ w x y z some few i j k l = absurd (omega arith)
 pub words_read : (words board : List ℕ) → read_words 1 words ≡ Ok board → Some board ≡ if_read (read_words 1 words)
 words_read words board is = rw is refl
 
+-- words of which one is bad are not read as a board
 pub words_bad : (words : List ℕ) (index : ℕ) → read_words 1 words ≡ Err index → None ≡ if_read (read_words 1 words)
 words_bad words index is = rw is refl
 
@@ -83,6 +86,7 @@ pub too-long : (line : List ℕ) → 4096 < length line → None ≡ parse_board
 unfolding parse_board_line
 too-long line h = rw (lt-leb (length line) 4096 h) refl
 
+-- a line of at most 4,096 bytes in UTF-8 tells the board state, if any, of the value that is read of it
 pub was-read : (line : List ℕ) (d : Data) → length line ≤ 4096 → IsUtf8 line → read line ≡ Some d → parse_board_state d ≡ parse_board_line line
 unfolding parse_board_line
 was-read line d h u e = rw (le-leb (length line) 4096 h, is_utf8-from_IsUtf8 line u, e) refl

@@ -12,6 +12,7 @@ use Rattle.std.proofs.lemmas.Grind.{flat_map-append}
 abbrev ArePrinted : List ℕ → Type 0
 ArePrinted bytes = list_all (nat_le 32) bytes ≡ true
 
+-- if two lists have no byte below the space, neither have the two, one after the other
 both : (a b : List ℕ) → ArePrinted a → ArePrinted b → ArePrinted (a ++ b)
 both [] b h k = k
 both (x ∷ a) b h k = let p = and_parts (nat_le 32 x) (list_all (nat_le 32) a) h in and_from (nat_le 32 x) (list_all (nat_le 32) (a ++ b)) p.0 (both a b p.1 k)
@@ -26,10 +27,12 @@ onto (suc k) n rest h =
     glyph : 32 ≤ digit_glyph false (n % 10)
     glyph = elim (cases_Bool (nat_lt (n % 10) 10)) [ inl y ↦ rw y (omega arith) | inr more ↦ rw more (omega arith) ]
 
+-- with room for 64 digits the decimal digits of a number, put before no bytes, are the digits of the number
 digits-at : (k n : ℕ) → k ≡ 64 → digits_onto k 10 false n [] ≡ digits 10 false n
 unfolding digits
 digits-at k n e = rw e refl
 
+-- no byte of the decimal digits of a number is below the space
 counted : (k n : ℕ) → k ≡ 64 → ArePrinted (digits 10 false n)
 counted k n e = subst ArePrinted (digits-at k n e) (onto k n [] refl)
 
@@ -40,23 +43,24 @@ numeral (negative (pos n)) = counted 64 n refl
 numeral (negative (negsuc n)) = counted 64 (suc n) refl
 numeral (float x) = refl
 
--- whether the bytes below n are written so
+-- whether each byte below n is written in a JSON text as bytes that are the space or above it
 abbrev are_printed_below : ℕ → Bool
 are_printed_below zero = true
 are_printed_below (suc n) = list_all (nat_le 32) (escape_byte n) && are_printed_below n
 
--- if the bytes below n are written so, each of them is
+-- if the test for all bytes below n holds, each of them is written as bytes that are the space or above it
 below : (n : ℕ) → are_printed_below n ≡ true → (x : ℕ) → x < n → ArePrinted (escape_byte x)
 below zero e x h = absurd (omega arith)
 below (suc n) e x h =
     let p = and_parts (list_all (nat_le 32) (escape_byte n)) (are_printed_below n) e in
     elim (cases_eq x n) [ inl same ↦ rw same p.0 | inr other ↦ below n p.1 x (omega arith) ]
 
+-- each byte up to the backslash is written in a JSON text as bytes of which none is below the space
 up-to-backslash : are_printed_below 93 ≡ true
 unfolding escape_byte
 up-to-backslash = refl
 
--- a text is written so, and in quotes
+-- no byte of a text, as it is written in JSON, is below the space
 escaped : (s : List ℕ) → ArePrinted (escape s)
 escaped [] = refl
 escaped (x ∷ s) = both (escape_byte x) (escape s) byte (escaped s)
@@ -67,6 +71,7 @@ escaped (x ∷ s) = both (escape_byte x) (escape s) byte (escaped s)
       | inr high ↦ rw (escape_byte_plain x (λ e. omega arith) (λ e. omega arith) (omega arith), le-leb 32 x (omega arith)) refl
     ]
 
+-- no byte of a text in quotes is below the space
 in-quotes : (s : List ℕ) → ArePrinted (quoted s)
 in-quotes s = both (escape s) (34 ∷ []) (escaped s) refl
 
@@ -111,6 +116,7 @@ one_line value = record {
   unbroken = no-feed (compact_text value) (printed value);
 }
 
+-- a text that is equal to the JSON line of a value is one line
 pub line_is_one : (value : Data) (line : List ℕ) → line ≡ json_line value → IsOneLine line
 line_is_one value line e = subst IsOneLine (sym e) (one_line value)
 
@@ -123,9 +129,11 @@ each (value ∷ values) = All-cons (λ v. IsOneLine (json_line v)) value values 
 pub no_lines : AreLinesOfValues []
 no_lines = record { values = []; whole = refl; each = each [] }
 
+-- the JSON line of one value is a text of lines of values
 pub line_of_value : (value : Data) → AreLinesOfValues (json_line value)
 line_of_value value = record { values = value ∷ []; whole = sym (append-nil (json_line value)); each = each (value ∷ []) }
 
+-- two texts of lines of values, one after the other, are a text of lines of values
 pub lines_then : (a b : List ℕ) → AreLinesOfValues a → AreLinesOfValues b → AreLinesOfValues (a ++ b)
 lines_then a b p q = record {
   values = p.values ++ q.values;

@@ -16,6 +16,7 @@ abbrev pub add : Items → Data → Items
 add no_items d = item d no_items
 add (item e more) d = item e (add more d)
 
+-- the items of an array with one more value at its end are those of the array with the item of that value added
 pub view-add : (xs : List Value) (v : Value) → items_view (xs ++ v ∷ []) ≡ add (items_view xs) (view v)
 view-add [] v = refl
 view-add (x ∷ xs) v = ap (item (view x)) (view-add xs v)
@@ -63,6 +64,7 @@ items-flat value_of n each (x ∷ xs) =
     let one = each x in
     let more = items-flat value_of n each xs in record { whole = rw (one.0, more.whole) refl; shallow = omega (arith, one.1, more.shallow) }
 
+-- the JSON items of the words of a board have no float, and are not nested
 pub words-flat : (words : List ℕ) → AreFlat (word_items words) 0
 words-flat words = items-flat (λ (word : ℕ). string (hex_digits word)) 0 (λ word. (refl, omega arith)) words
 
@@ -70,28 +72,34 @@ words-flat words = items-flat (λ (word : ℕ). string (hex_digits word)) 0 (λ 
 pub words_value_flat : (row : ℕ) (ws : List ℕ) → IsFlat (words_value row ws)
 words_value_flat row ws = let w = words-flat ws in record { whole = rw w.whole refl; shallow = omega (arith, w.shallow) }
 
+-- an integer put into JSON is no float
 int-whole : (z : ℤ) → is_float (of_integer z) ≡ false
 int-whole (pos n) = refl
 int-whole (negsuc n) = refl
 
+-- the JSON value of a row of a table has no float, and is nested one deep at most
 place-flat : (roster : List NamedClub) (row : Row) → (has_float (place_value roster row) ≡ false) × (depth (place_value roster row) ≤ 1)
 unfolding place_value
 place-flat roster row = (rw (int-whole (pos row.goals_for -ℤ pos row.goals_against)) refl, omega arith)
 
+-- the JSON items of the rows of a table have no float, and are nested one deep at most
 pub places-flat : (roster : List NamedClub) (rows : List Row) → AreFlat (place_items roster rows) 1
 places-flat roster rows = items-flat (place_value roster) 1 (place-flat roster) rows
 
+-- the JSON value of a screen has no float, and is nested no deeper than can be read back
 pub screen_flat : (row : ℕ) (profile : Profile) (board : List ℕ) (roster : List NamedClub) (group : ℕ) → IsFlat (screen_value row profile board roster group)
 unfolding screen_value
 screen_flat row profile board roster group =
     let p = places-flat roster (rows_of profile board roster) in
     let w = words-flat board in record { whole = rw (p.whole, w.whole) refl; shallow = omega (arith, p.shallow, w.shallow) }
 
+-- the JSON answer to an event that is refused has no float, and is nested no deeper than can be read back
 refused-flat : (row : ℕ) (event : NightEvent) (code : ℕ) (name : List ℕ) (found : Option ℕ) (m : MatchRecord) → IsFlat (refused_by row event code name found m)
 unfolding serde_json_on_literals
 refused-flat row event code name None m = record { whole = refl; shallow = omega arith }
 refused-flat row event code name (Some found) m = record { whole = refl; shallow = omega arith }
 
+-- the JSON answer to an event, accepted or refused, has no float, and is nested no deeper than can be read back
 pub reply_flat : (row : ℕ) (event : NightEvent) (reply : Result Accepted Refusal) (header : BoardHeader) (board : List ℕ) (roster : List NamedClub)
     → IsFlat (reply_value row event reply header board roster)
 unfolding accepted_value
@@ -99,9 +107,11 @@ reply_flat row event (Ok accepted) header board roster = let w = words-flat boar
 reply_flat row event (Err refusal) header board roster =
     refused-flat row event (refusal_code refusal) (refusal_name refusal) (found_of refusal) (game_at board event.call.game)
 
+-- the JSON items of the matches of a board have no float, and are nested two deep at most
 games-flat : (board games : List ℕ) → AreFlat (match_items board games) 2
 games-flat board games = items-flat (λ (g : ℕ). match_value g (game_at board g)) 2 (λ g. (refl, omega arith)) games
 
+-- the JSON answer that shows the matches of a board has no float, and is nested no deeper than can be read back
 pub matches_flat : (row : ℕ) (board : List ℕ) (roster : List NamedClub) → IsFlat (matches_value row board roster)
 unfolding matches_value
 matches_flat row board roster = let m = games-flat board match_numbers in record { whole = rw m.whole refl; shallow = omega (arith, m.shallow) }

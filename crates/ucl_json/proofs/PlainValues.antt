@@ -141,6 +141,7 @@ one-byte x h = elim (cases_eq x 34) [
   | inr a ↦ elim (cases_eq x 92) [ inl b ↦ rw b (omega arith) | inr c ↦ rw (escape_byte_plain x a c h) (omega arith) ]
 ]
 
+-- a text, escaped for JSON, has at most two bytes for each of its own
 escaped : (s : List ℕ) → IsText s → length (escape s) ≤ 2 * length s
 escaped [] h = omega arith
 escaped (x ∷ s) h =

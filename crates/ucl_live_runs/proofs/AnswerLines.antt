@@ -37,18 +37,22 @@ carried-then a b h =
     ap (map parse_board_line) (ended_append 4097 [] a b ∙ ap (λ (l : List ℕ). ended_lines 4097 [] a ++ ended_lines 4097 l b) h)
     ∙ map-append parse_board_line (ended_lines 4097 [] a) (ended_lines 4097 [] b)
 
+-- if each of two texts is of whole lines, so are the two, one after the other
 pub begun-then : (a b : List ℕ) → begun_line 4097 [] a ≡ [] → begun_line 4097 [] b ≡ [] → begun_line 4097 [] (a ++ b) ≡ []
 begun-then a b h k = begun_append 4097 [] a b ∙ ap (λ (l : List ℕ). begun_line 4097 l b) h ∙ k
 
+-- if each line of two texts carries nothing or this board state, so does each line of the two, one after the other
 pub most-then : (most : Option BoardState) (a b : List ℕ) → CarriesAtMost most a → CarriesAtMost most b → CarriesAtMost most (a ++ b)
 most-then most a b p q = record {
   begun = begun-then a b p.begun q.begun;
   each = rw (carried-then a b p.begun) (All-append (IsAtMost most) (carried_in a) (carried_in b) p.each q.each);
 }
 
+-- an empty text has no lines, so it carries no board states
 pub carried-none : carried_in [] ≡ []
 carried-none = ap (map parse_board_line) (ended_none 4097 [])
 
+-- an empty text has no line that carries a board state
 pub most-none : (most : Option BoardState) → CarriesAtMost most []
 most-none most = record { begun = begun_none 4097 []; each = rw carried-none (All-nil (IsAtMost most)) }
 
@@ -59,10 +63,12 @@ short-told body = elim (cases_lt 4097 (length body)) [
   | inr short ↦ ap parse_board_line (take_all 4097 body short)
 ]
 
+-- bytes that all differ from 10 have no line feed
 no-feed : (bytes : List ℕ) → All (λ b. b ≢ 10) bytes → HasNoFeed bytes
 no-feed [] h = tt
 no-feed (b ∷ bytes) h = (All-head (λ x. x ≢ 10) b bytes h, no-feed bytes (All-tail (λ x. x ≢ 10) b bytes h))
 
+-- the compact JSON text of a value has no line feed in it
 pub text-clean : (v : Data) → HasNoFeed (compact_text v)
 text-clean v =
     let whole = one_line v in
@@ -124,6 +130,7 @@ printed-text (b ∷ text) =
       | inr n ↦ rw n (refl, omega arith)
     ]
 
+-- what an answer shows of a line is a text, of at most 130 bytes when quoted
 pub shown-text : (line : List ℕ) → IsShown (shown_text line)
 shown-text line =
     let p = printed-text (take 64 line) in record { text = p.0; short = omega (arith, p.1, length-take 64 line, quoted-length (shown_text line) p.0) }
@@ -143,17 +150,20 @@ bad-line o row field shown r is =
     silent-line (bad_row_value row (field_name field) shown) o
     (record { plain = ((refl, refl), (code, (name.0, (refl, (refl, (r, (is.text, tt))))))); size = omega (arith, digits-20, name.1, is.short) }) refl
 
+-- the JSON answer to a request of words carries no board state, if the row fits 64 bits and the words are those of a board
 pub words-line : (o : Option BoardState) (row : ℕ) (board : List ℕ) → row < 2 ^ 64 → AreWords board → CarriesAtMost o (json_line (words_value row board))
 unfolding parse_board_state serde_json_on_literals
 words-line o row board r are =
     let w = words-plain board are in
     silent-line (words_value row board) o (record { plain = ((refl, refl), (refl, (r, (w.0, tt)))); size = omega (arith, digits-20, w.1) }) refl
 
+-- the JSON answer to a request of matches carries none, if the row fits 64 bits, and the clubs and words are a roster and a board
 pub matches-line : (o : Option BoardState) (row : ℕ) (board : List ℕ) (clubs : List NamedClub) → row < 2 ^ 64 → IsRoster clubs → AreWords board →
     CarriesAtMost o (json_line (matches_value row board clubs))
 unfolding matches_value parse_board_state serde_json_on_literals
 matches-line o row board clubs r is w = silent-line (matches_value row board clubs) o (matches-short row board clubs r is w) refl
 
+-- the JSON answer to a refused event carries no board state, if all its numbers fit 64 bits and its match record is valid
 pub refused-line : (o : Option BoardState) (row : ℕ) (event : NightEvent) (refusal : Refusal) (m : MatchRecord)
     → row < 2 ^ 64 → HasNumbers event → IfSome (found_of refusal) (λ n. n < 2 ^ 64) → IsValid m → CarriesAtMost o (json_line (refused_value row event refusal m))
 refused-line o row event refusal m r fits f v = refused-by-line o row event refusal (found_of refusal) m r fits f v
@@ -162,6 +172,7 @@ refused-line o row event refusal m r fits f v = refused-by-line o row event refu
 record IsFound (o : Option Refusal) : Type 0 where
   is : IfSome o (λ refusal. IfSome (found_of refusal) (λ n. n < 2 ^ 64))
 
+-- if this refusal and that of `o` name no event number above 64 bits, neither does the one of them that `b` chooses
 or-found : (b : Bool) (refusal : Refusal) (o : Option Refusal) → IfSome (found_of refusal) (λ n. n < 2 ^ 64) → IsFound o → IsFound (if b then Some refusal else o)
 or-found true refusal o h k = record { is = h }
 or-found false refusal o h k = k
@@ -174,14 +185,17 @@ found-is m expected kind h =
     (or-found _ AlreadyStarted _ tt (or-found _ NumberFull _ tt (or-found _ NoGoal _ tt (or-found _ NoCaution _ tt
     (or-found _ LimitReached None tt (record { is = tt })))))))))
 
+-- a refusal of an event by the match of a valid word names, if it is stale, an event number that fits 64 bits
 pub found-fits : (word expected : ℕ) (kind : Kind) (refusal : Refusal) → IsWord word → refusal_of (record_at word) expected kind ≡ Some refusal → IfSome (found_of refusal) (λ n. n < 2 ^ 64)
 found-fits word expected kind refusal is e =
     let m = record_at word in
     let few : m.number < 2 ^ 64 = let n = number_valid m (word_valid word is) in omega arith in
     let h : IsFound (Some refusal) = subst IsFound e (found-is m expected kind few) in h.is
 
+-- a valid word is less than 2 ^ 64
 word-fits : (word : ℕ) → IsWord word → word < 2 ^ 64
 word-fits word is = let high : word / 2 ^ 56 ≡ 32 = word_high word is in omega (arith, high)
 
+-- if each word of a board is valid, each is less than 2 ^ 64
 pub board-fits : (board : List ℕ) → All IsWord board → All (λ word. word < 2 ^ 64) board
 board-fits board h = All-weaker IsWord (λ word. word < 2 ^ 64) word-fits board h

@@ -35,11 +35,13 @@ board-back board w bits =
     let back = words-back board bits in
     rw (back.1, eq-eqb (length board) 12 w.twelve, back.0, read_again board w) refl
 
+-- a club that a roster takes, put into JSON, is read back as just that club
 club-back : (club : NamedClub) → IsClub club →
     parse_club (object (member (codes "club") (string club.name) (member (codes "coefficient") (number (unsigned club.coefficient)) no_members))) ≡ Some club
 unfolding is_club serde_json_on_literals
 club-back club h = let p = and_parts (is_name club.name) (nat_le club.coefficient 999999) h in rw p.1 refl
 
+-- a roster, put into JSON, is read back as just that roster
 clubs-back : (clubs : List NamedClub) → IsRoster clubs → parse_roster (listed (club_items clubs)) ≡ Some clubs
 unfolding parse_each bad_slot_from
 clubs-back (a ∷ b ∷ c ∷ d ∷ []) is =
@@ -50,13 +52,16 @@ clubs-back (a ∷ b ∷ c ∷ d ∷ []) is =
     rw (club-back a p, club-back b q, club-back c r, club-back d s, p, q, r, s) refl
 clubs-back _ is = absurd (let t = is.four in omega arith)
 
+-- the letter of a group from A to H is read back as just that group
 letter-back : (group : ℕ) → IsGroup group → letter_in (group ∷ []) ≡ Some group
 letter-back group h = rw (le-leb 65 group h.0, le-leb group 72 h.1) refl
 
+-- the name of a tie-break order is read back as just that order
 order-back : (profile : Profile) → profile_named (profile_name profile) ≡ Some profile
 order-back Uefa = refl
 order-back AwayInTie = refl
 
+-- an edition of 16 bits, put into JSON, is read back as just that edition
 edition-back : (edition : ℕ) → edition ≤ 65535 → edition_in (Some (number_value edition)) ≡ Some edition
 edition-back edition h = rw (le-leb edition 65535 h) refl
 
@@ -90,10 +95,12 @@ unfolding mended_value serde_json_on_literals
 mended-has None row left_out m = record { group = refl; order = refl; edition = refl; clubs = refl; words = refl }
 mended-has (Some n) row left_out m = record { group = refl; order = refl; edition = refl; clubs = refl; words = refl }
 
+-- the JSON value of a screen has the members of the board state that it was made from
 pub screen-has : (row : ℕ) (m : BoardState) → Has (edition_screen_value row m.header m.board m.roster) m
 unfolding edition_screen_value screen_value serde_json_on_literals
 screen-has row m = record { group = refl; order = refl; edition = refl; clubs = refl; words = refl }
 
+-- the JSON answer to an accepted event has the members of the board state that it was made from
 pub accepted-has : (row : ℕ) (event : NightEvent) (event_number : ℕ) (m : BoardState) → Has (accepted_value row event event_number m.header m.board m.roster) m
 unfolding accepted_value serde_json_on_literals
 accepted-has row event event_number m = record { group = refl; order = refl; edition = refl; clubs = refl; words = refl }
@@ -167,6 +174,7 @@ mended-plain (Some n) row left_out m is r w l =
       size = omega (arith, digits-20, p.words.1, p.clubs.1, p.group.1, p.order.1);
     }
 
+-- the JSON value of the matches is plain and fits a line, if the row fits 64 bits, and clubs and words are a roster and a board
 pub matches-short : (row : ℕ) (board : List ℕ) (clubs : List NamedClub) → row < 2 ^ 64 → IsRoster clubs → AreWords board → IsShortPlain (matches_value row board clubs)
 unfolding matches_value serde_json_on_literals
 matches-short row board clubs r is w =
@@ -174,6 +182,7 @@ matches-short row board clubs r is w =
     let games = matches-plain board w in
     record { plain = ((refl, refl), (c.0, (games.0, (refl, (r, tt))))); size = omega (arith, digits-20 row r, c.1, games.1) }
 
+-- the JSON line that shows the twelve matches of a board has at most 4,096 bytes
 pub matches-fit : MatchesFitTheirLine
 unfolding MatchesFitTheirLine
 matches-fit row m is r = line-short (matches_value row m.board m.roster) (matches-short row m.board m.roster r is.clubs is.words)
@@ -209,6 +218,7 @@ screen-plain row m is r =
 pub carried : (value : Data) (m : BoardState) → IsBoardState m → Has value m → IsShortPlain value → parse_board_line (compact_text value) ≡ Some m
 carried value m is has short = parsed-line value short ∙ tells value m is has
 
+-- the JSON lines of an accepted event, a mend and a screen each parse to just the board state that they were made from
 pub told-lines : LinesTellTheirBoardState
 unfolding LinesTellTheirBoardState
 told-lines row event event_number m is r fits n = record {

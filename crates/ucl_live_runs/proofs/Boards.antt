@@ -38,6 +38,7 @@ good-put slot clubs None roster = roster
 good-put slot clubs (Some club) roster = cond_both (is_club club) (set clubs (slot - 1) club) clubs IsRoster
     (λ y. record { four = length-set clubs (slot - 1) club ∙ roster.four; each = All-set IsClub clubs (slot - 1) club y roster.each }) (λ _. roster)
 
+-- a roster stays a roster when the club of a row is put in the slot that the row names, if it names one
 good-at : (clubs : List NamedClub) (f : FourFields) (o : Option ℕ) → IsRoster clubs → IsRoster (put_at clubs f o)
 good-at clubs f None roster = roster
 good-at clubs f (Some slot) roster = good-put slot clubs (club_of slot f) roster
@@ -52,10 +53,12 @@ four-good : (club : NamedClub) → bad_slot (club ∷ club ∷ club ∷ club ∷
 unfolding bad_slot_from
 four-good club h = elim (cases_Bool (is_club club)) [ inl y ↦ y | inr n ↦ cc (rw n at h) ]
 
+-- if four times the same club has a bad slot, it is no club that a roster takes
 four-bad : (club : NamedClub) (slot : ℕ) → bad_slot (club ∷ club ∷ club ∷ club ∷ []) ≡ Some slot → is_club club ≡ false
 unfolding bad_slot_from
 four-bad club slot h = elim (cases_Bool (is_club club)) [ inl y ↦ cc (rw y at h) | inr n ↦ n ]
 
+-- four times this club
 abbrev four : NamedClub → List NamedClub
 four club = club ∷ club ∷ club ∷ club ∷ []
 
@@ -114,6 +117,7 @@ call_made b c d = do
   kind ← d
   Some (record { game = game; expected = expected; kind = kind })
 
+-- the event and its reporter that these fields of a row make, if each was read
 abbrev made : Option ℕ → Option ℕ → Option ℕ → Option Kind → Option NightEvent
 made a b c d = do
   reporter ← a
@@ -161,19 +165,23 @@ abbrev IsNamed : Option Mend → Type 0
 IsNamed None = ⊤
 IsNamed (Some mend) = IsPossible (Mends mend)
 
+-- a number that is read within limits, if any, is at most the upper limit
 small-in : (low high : ℕ) (o : Option ℕ) → IfSome (in_range low high o) (λ n. n ≤ high)
 small-in low high None = tt
 small-in low high (Some n) = cond_both (nat_le low n && nat_le n high) (Some n) None (λ (x : Option ℕ). IfSome x (λ k. k ≤ high))
     (λ y. leb-true n high (and_parts (nat_le low n) (nat_le n high) y).1) (λ _. tt)
 
+-- a mend without a row of 32 bits, or no mend, has numbers that there can be
 named-row : (o : Option ℕ) → IfSome o (λ n. n ≤ 4294967295) → IsNamed (option_map Without o)
 named-row None h = tt
 named-row (Some n) h = h
 
+-- a mend to an edition of 16 bits, or no mend, has numbers that there can be
 named-edition : (o : Option ℕ) → IfSome o (λ n. n ≤ 65535) → IsNamed (option_map As o)
 named-edition None h = tt
 named-edition (Some n) h = h
 
+-- the mend that a row of the kind `mend` names, by a row or an edition, if any, has numbers that there can be
 named : (f : FourFields) → IsNamed (named_mend f)
 named f =
     let to_edition = if length f.second == 0 then option_map As (edition_by f.third) else None in
@@ -181,6 +189,7 @@ named f =
     (λ _. named-row (named_row f.second) (small-in 1 4294967295 (number 10 f.second)))
     (λ _. cond_both (length f.second == 0) (option_map As (edition_by f.third)) None IsNamed (λ _. named-edition (edition_by f.third) (small-in 0 65535 (number 5 f.third))) (λ _. tt))
 
+-- the mend that a row of four fields makes, if any, has numbers that there can be
 named-by : (f : FourFields) → IsNamed (mend_by f)
 named-by f =
     let club : Option Mend = if names_club f then Some Club else None in
@@ -188,10 +197,12 @@ named-by f =
     cond_both (bytes_eq f.first (codes "club")) club mend IsNamed (λ _. cond_both (names_club f) (Some Club) None IsNamed (λ _. tt) (λ _. tt))
     (λ _. cond_both (bytes_eq f.first (codes "mend") && (length f.fourth == 0)) (named_mend f) None IsNamed (λ _. named f) (λ _. tt))
 
+-- the request of a row that mends, or else is bad, has numbers that there can be, if the mend has
 possible-mend : (f : FourFields) (o : Option Mend) → IsNamed o → IsPossible (mend_or_bad f o)
 possible-mend f None h = tt
 possible-mend f (Some mend) h = h
 
+-- the request of a row that enters an event, or else mends or is bad, has numbers that there can be
 possible-event : (f : FourFields) (o : Option NightEvent) → event_of f ≡ o → IsPossible (event_or_mend f o)
 possible-event f None is = possible-mend f (mend_by f) (named-by f)
 possible-event f (Some e) is = event-numbers f e is
@@ -209,6 +220,7 @@ of-request r = of (request_of r) (possible r)
     of (Event e) p = All-cons IsAttempt (attempt_of e) [] p.0 (All-nil IsAttempt)
     of _ p = All-nil IsAttempt
 
+-- each attempt that these lines make is of a reporter and a match that there are
 all-attempts : (row : ℕ) (lines : List (List ℕ)) → All IsAttempt (attempts_in row lines)
 unfolding attempts_in
 all-attempts row [] = All-nil IsAttempt
@@ -220,6 +232,7 @@ no-mend : (header : BoardHeader) (row : ℕ) (clubs : List NamedClub) (events : 
 no-mend header row clubs events r (Mends mend) h = cc
 no-mend _ _ _ _ _ _ h = refl
 
+-- a line that mends nothing leaves an open board open, with the same header and clubs, and the events that stand after its request
 pub no-mend-on : (e : Session) (r : Said) (clubs : List NamedClub) (events : List StandingEvent) → e.phase ≡ open_at clubs events → is_mend (request_of r) ≡ false
     → next e r ≡ moved e (stage e.header (open_at clubs (entered_by e.row events (request_of r))))
 no-mend-on e r clubs events h none = on-board e r clubs events h ∙ ap (moved e) (no-mend e.header e.row clubs events r (request_of r) none)
@@ -229,6 +242,7 @@ pub entered-by-history : (row : ℕ) (events : List StandingEvent) (q : Request)
 entered-by-history row events (Event event) = entered-history row events event
 entered-by-history _ _ _ = refl
 
+-- the history of the events that stand after these lines is that after the attempts in them, made one after the other
 lines-history : (row : ℕ) (events : List StandingEvent) (lines : List (List ℕ)) → history_in (events_in row events lines) ≡ fold after_attempt (history_in events) (attempts_in row lines)
 unfolding events_in attempts_in
 lines-history row events [] = refl
@@ -238,6 +252,7 @@ lines-history row events (line ∷ lines) =
     ∙ ap (λ (h : List Entry). fold after_attempt h (attempts_in (row + 1) lines)) (entered-by-history row events q)
     ∙ sym (fold-append after_attempt (history_in events) (attempts_of q) (attempts_in (row + 1) lines))
 
+-- after lines of which none mends, the events that stand are those of before and those that the lines enter, in their order
 pub boards : BoardsTakeEvents
 unfolding after_lines events_in NoneMends BoardsTakeEvents
 boards e [] clubs events h none = h
@@ -246,6 +261,7 @@ boards e (line ∷ lines) clubs events h none =
     let step = no-mend-on e r clubs events h none.0 in
     boards (next e r) lines clubs (entered_by e.row events (request_of r)) (ap (λ (k : Session). k.phase) step) none.1
 
+-- the reply to an event after a history, as text, is the line that `ucl_night feed` writes for it
 pub replies : RepliesAreThoseOfFeed
 unfolding reply_line RepliesAreThoseOfFeed
 replies header clubs board history row event = refl
@@ -270,12 +286,14 @@ event-answer options header row clubs events r event shown =
     ∙ reply-answer options.format header row clubs history event in
     ap₂ (λ (a b : List ℕ). a ++ b) line (ap (screen_after options header row clubs reply) after)
 
+-- the answer to a request that mends nothing is the one that the history of the events that stand gives
 request-answer : (options : LiveArgs) (header : BoardHeader) (row : ℕ) (clubs : List NamedClub) (events : List StandingEvent) (r : Said) (q : Request) (shown : List ℕ) → is_mend q ≡ false
     → answer_of options header row clubs events r q shown ≡ answer_by_history options header row clubs (history_in events) q shown
 request-answer options header row clubs events r (Event event) shown h = event-answer options header row clubs events r event shown
 request-answer options header row clubs events r (Mends mend) shown h = cc
 request-answer _ _ _ _ _ _ _ _ h = refl
 
+-- on an open board the answer to a line that mends nothing is the one that the history of the events that stand gives
 said-answer : (e : Session) (clubs : List NamedClub) (events : List StandingEvent) (r : Said) (shown : List ℕ) → e.phase ≡ open_at clubs events → is_mend (request_of r) ≡ false
     → answer_said e r shown ≡ line_by_history e.options e.header e.row clubs (history_in events) r shown
 said-answer e clubs events Nothing shown h none = refl
@@ -296,6 +314,7 @@ text-by-history e (line ∷ lines) clubs events h none =
     ap₂ (λ (a b : List ℕ). a ++ b) (said-answer e clubs events r (shown_text line) h none.0)
     (rest ∙ ap₂ (λ (t : BoardHeader) (h : List Entry). answers_by_history e.options t (e.row + 1) clubs h lines) (ap (λ (k : Session). k.header) step) (entered-by-history e.row events q))
 
+-- a session in which the events that stand are a legal history is sequential, for any lines of which none mends
 pub sequential : SessionsAreSequential
 unfolding SessionsAreSequential BoardsTakeEvents
 sequential e lines clubs events legal h none =
@@ -306,6 +325,7 @@ sequential e lines clubs events legal h none =
       text = text-by-history e lines clubs events h none;
     }
 
+-- a session that is refused after some lines has answered nothing to them
 pub silence : RefusedSessionsAreSilent
 unfolding RefusedSessionsAreSilent
 silence e lines fault h = silent e lines (ap is_open h)
@@ -320,6 +340,7 @@ good-roster : (clubs : List NamedClub) (slot : Option ℕ) → length clubs ≡ 
 good-roster clubs None four e = (good_four clubs four e, may_none MayFollow)
 good-roster clubs (Some slot) four e = tt
 
+-- what is reached by a row in the place of a club is good, whether it names a club or not
 pub good-club : (row : ℕ) (clubs : List NamedClub) (club : Option NamedClub) → IsGood (after_club row clubs club)
 good-club row clubs None = tt
 good-club row clubs (Some club) =
@@ -361,10 +382,12 @@ unfolding MendsAreLegal
 good-mend events (Without row) legal = mends_legal row events legal
 good-mend _ _ legal = legal
 
+-- what is reached by a row in the place of a group is good, whether it names a group or not
 good-header : (options : LiveArgs) (row : ℕ) (header : Option BoardHeader) → IsGood (after_header options row header)
 good-header options row None = tt
 good-header options row (Some header) = cond_both (is_asked options.group options.profile header) (Ok (AwaitingClubs [])) (Err OtherGroup) IsGood (λ _. tt) (λ _. tt)
 
+-- what is reached by the first row is good, whether it names a group or a club
 pub good-first : (options : LiveArgs) (row : ℕ) (r : Said) → IsGood (after_beginning options row r)
 good-first options row r =
     cond_both (is_group_row r) (after_header options row (header_said r)) (after_club row [] (club_said 1 r)) IsGood

@@ -17,6 +17,7 @@ pub entered-legal : (row : ℕ) (events : List StandingEvent) (event : NightEven
 entered-legal row events event legal is =
     subst IsLegal (sym (entered-history row events event)) (attempts_from (history_in events) (attempt_of event ∷ []) legal (All-cons IsAttempt (attempt_of event) [] is (All-nil IsAttempt))).0
 
+-- after an event is entered, the board of a legal history of events is that after the attempt, if its reporter and match exist
 pub entered-board : (row : ℕ) (events : List StandingEvent) (event : NightEvent) → IsLegal (history_in events) → IsAttempt (attempt_of event)
     → board_of (history_in (entered row events event)) ≡ board_after (board_of (history_in events)) (attempt_of event)
 entered-board row events event legal is = ap board_of (entered-history row events event) ∙ sym (attempt_board (history_in events) (attempt_of event) legal is)

@@ -8,6 +8,7 @@ use Rattle.ucl_live_runs.proofs.Common.{option_to_list, parse_board_line, refl, 
 use Rattle.ucl_live_runs.proofs.Common.{unseen, ℕ, ⊤, ◌++◌, ◌==◌, ◌∙◌, ◌∷◌, ◌≡◌, ◌⊎◌}
 use Rattle.ucl_command.specs.declared.follow.FollowShape.TheVariants.{Text}
 
+-- lines, each as its bytes
 abbrev Lines : Type 0
 Lines = List (List ℕ)
 
@@ -21,6 +22,7 @@ record Shows (f : FollowState) (line : List ℕ) (m : BoardState) : Type 0 where
   asked : IsFollowed f m
   newer : is_newer f.newest m ≡ true
 
+-- if what is shown of a line is a board state, the line carries it, and it is as asked for and newer than all before
 shows : (f : FollowState) (line : List ℕ) (o : Option BoardState) (m : BoardState) → parse_board_line line ≡ o → shown_if f o ≡ Some m → Shows f line m
 shows f line None m is h = cc
 shows f line (Some n) m is h =
@@ -56,6 +58,7 @@ text f (line ∷ lines) = by-shown (λ o. shown_output Text f o ++ follow_output
 carried-later : (line : List ℕ) (lines : Lines) (m : BoardState) → IsCarriedIn lines m → IsCarriedIn (line ∷ lines) m
 carried-later line lines m h = Contains-append_right (parse_board_line line ∷ []) (map parse_board_line lines) (Some m) h
 
+-- what each of these lines carries is among what all of them carry
 mapped : (lines : Lines) → All (λ line. Contains (map parse_board_line lines) (parse_board_line line)) lines
 mapped [] = All-nil (λ line. Contains [] (parse_board_line line))
 mapped (line ∷ lines) =
@@ -84,11 +87,13 @@ carried f (line ∷ lines) =
 abbrev pub IsOfSame : BoardHeader → BoardHeader → Type 0
 IsOfSame a b = (a.group ≡ b.group) × (a.profile ≡ b.profile)
 
+-- two tie-break orders that compare as the same are equal
 same-order : (one other : Profile) → is_same_order one other ≡ true → one ≡ other
 same-order Uefa AwayInTie h = cc
 same-order AwayInTie Uefa h = cc
 same-order _ _ _ = refl
 
+-- a tie-break order compares as the same as itself
 itself : (order : Profile) → is_same_order order order ≡ true
 itself Uefa = refl
 itself AwayInTie = refl
@@ -98,6 +103,7 @@ pub asked-same : (a b : BoardHeader) → is_asked (Some a.group) (Some a.profile
 asked-same a b h =
     let p = and_parts (a.group == b.group) (is_same_order a.profile b.profile) h in (eqb-true a.group b.group p.0, same-order a.profile b.profile p.1)
 
+-- if two headers are of one group and one order, a follower that asks for those of the first asks for the second
 pub same-asked : (a b : BoardHeader) → IsOfSame a b → is_asked (Some a.group) (Some a.profile) b ≡ true
 same-asked a b h = let order = itself b.profile in rw (h.0, h.1, order) (grind (arith, nat_tests))
 
@@ -109,6 +115,7 @@ alike a b h group profile = rw (h.0, h.1) refl
 abbrev Follows : FollowState → BoardState → Type 0
 Follows f m = (f.group ≡ Some m.header.group) × (f.profile ≡ Some m.header.profile)
 
+-- a board state is as a follower asks for, if the follower follows its group and its order
 own : (f : FollowState) (m : BoardState) → Follows f m → IsFollowed f m
 own f m h = rw (h.0, h.1) (same-asked m.header m.header (refl, refl))
 
@@ -135,6 +142,7 @@ has_header f (line ∷ lines) = by-shown (λ o. All (IsFollowed (followed (after
     (λ m s. let g = after_shown f (Some m) in
     All-cons (IsFollowed (followed g lines)) m (board_states_shown g lines) (own (followed g lines) m (keeps g lines m (refl, refl))) (has_header g lines))
 
+-- of any lines a follower shows board states that they carry, of the group and order that it follows, each newer than all before
 pub versions : ShownVersionsRise
 unfolding ShownVersionsRise
 versions f lines = record {
@@ -149,6 +157,7 @@ versions f lines = record {
 not-itself : (m : BoardState) → is_later m m ≡ false
 not-itself m = grind (arith, nat_tests)
 
+-- if one board state is later than another, the other is not later than it
 one-way : (m other : BoardState) → is_later m other ≡ true → is_later other m ≡ false
 one-way m other h = grind (arith, nat_tests)
 
@@ -250,10 +259,12 @@ module _ (args : FollowArgs) (m : BoardState) (asked : is_asked args.group args.
   last : (lines : Lines) → AllFit lines → IsCarriedIn lines m → IsShownLast args m lines
   last lines all is = let p = ends (unseen args) lines (inl (refl, refl)) tt is all in record { before = p.1.0; shown = p.1.1; newest = p.0 }
 
+-- the latest board state that lines carry, of those asked for, is the last that a follower shows of them
 pub latest : LatestIsShownLast
 unfolding LatestIsShownLast
 latest args m lines h = last args m h.asked lines h.newest h.carried
 
+-- the latest board state of `lines` is shown last of some of these lines, in any order, if one of them carries it
 pub others : OthersDoNotMatter
 unfolding OthersDoNotMatter
 others args m lines those h these told =

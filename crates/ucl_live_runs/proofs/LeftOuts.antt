@@ -8,6 +8,7 @@ at-most-one : (event : StandingEvent) (fate : Fate) → length (left_by event fa
 at-most-one event (Refused refusal) = omega arith
 at-most-one event _ = omega arith
 
+-- of events that a mend enters again after those that it has kept, it leaves out no more than there are
 few-after : (row : ℕ) (kept events : List StandingEvent) → length (left_out_after row kept events) ≤ length events
 unfolding left_out_after
 few-after row kept [] = omega arith
@@ -18,5 +19,6 @@ few-after row kept (event ∷ events) =
     let both = length-append (left_by event fate) (left_out_after row (kept_after row kept event) events) in
     omega (arith, one, more, both)
 
+-- a mend leaves out no more events than stand
 pub few-left : (row : ℕ) (events : List StandingEvent) → length (left_out row events) ≤ length events
 few-left row events = few-after row [] events

@@ -31,19 +31,23 @@ open-reply : (header : BoardHeader) (clubs : List NamedClub) (events : List Stan
 open-reply header clubs events r mend (Ok edition) = refl
 open-reply header clubs events r mend (Err refusal) = refl
 
+-- after any request on an open board the board is open
 open-request : (header : BoardHeader) (row : ℕ) (clubs : List NamedClub) (events : List StandingEvent) (r : Said) (q : Request)
     → is_open (request_stage header row clubs events r q).phase ≡ true
 open-request header row clubs events r (Mends mend) = open-reply header clubs events r mend (edition_reply header.edition events mend)
 open-request _ _ _ _ _ _ = refl
 
+-- if the board is open, it is open after any row
 open-at : (e : Session) (s : Reached) (r : Said) → is_open s ≡ true → is_open (next_at e s r).phase ≡ true
 open-at e (Ok (Open table)) r h = open-request e.header e.row table.roster table.events r (request_of r)
 open-at e s r h = cc
 
+-- a session with an open board has an open board after any line
 open-next : (e : Session) (r : Said) → is_open e.phase ≡ true → is_open (next e r).phase ≡ true
 open-next e Nothing h = h
 open-next e r h = open-at e e.phase r h
 
+-- a session with an open board has an open board after any lines
 pub stays-open : (e : Session) (lines : List (List ℕ)) → is_open e.phase ≡ true → is_open (after_lines e lines).phase ≡ true
 unfolding after_lines
 stays-open e [] h = h
@@ -68,6 +72,7 @@ pub on-board : (e : Session) (r : Said) (clubs : List NamedClub) (events : List 
 on-board e Nothing clubs events h = ap (λ (s : Reached). moved e (stage e.header s)) h
 on-board e r clubs events h = ap (λ (s : Reached). moved e (next_at e s r)) h
 
+-- after a mend an open board is that of the events which the mend makes of those that stand, or it stays, if the mend is refused
 pub mends-done : MendsAreDone
 unfolding MendsAreDone
 mends-done e r clubs events mend h q =
@@ -98,6 +103,7 @@ refused-next e Nothing fault h = h
 refused-next e Other fault h = rw h refl
 refused-next e (Row f) fault h = rw h refl
 
+-- a session that is refused stays refused after any lines, with the same fault
 pub stays-refused : (e : Session) (lines : List (List ℕ)) (fault : LiveFault) → e.phase ≡ Err fault → (after_lines e lines).phase ≡ Err fault
 unfolding after_lines
 stays-refused e [] fault h = h
@@ -115,6 +121,7 @@ unfolding answers after_lines
 answers-append e [] b = refl
 answers-append e (line ∷ a) b = rw (answers-append (next e (said_on e.row line)) a b, append_assoc)
 
+-- the session after two lists of lines is the one after the second, from the session after the first
 pub after-append : (e : Session) (a b : List (List ℕ)) → after_lines e (a ++ b) ≡ after_lines (after_lines e a) b
 unfolding after_lines
 after-append e [] b = refl
@@ -127,6 +134,7 @@ lines-append xs ys e =
     (append_assoc (ended_lines 258 [] xs) (ended_lines 258 [] ys) (last_lines (begun_line 258 [] ys))
     ∙ ap (λ (l : List (List ℕ)). l ++ lines_of ys) (sym (append-nil (ended_lines 258 [] xs))))
 
+-- the answers to an input cut after a line feed are those to its first part, then those to the rest from the session reached
 pub beginnings : BeginningsAreAnswered
 unfolding BeginningsAreAnswered
 beginnings e bytes more =
@@ -145,6 +153,7 @@ pub none-answers : (e : Session) (begun : List ℕ) → begun ≡ [] → answers
 unfolding answers
 none-answers e begun none = ap (λ (l : List ℕ). answers e (last_lines l)) none
 
+-- a last line of no bytes changes nothing of what is missing at the end
 pub none-missing : (e : Session) (begun : List ℕ) → begun ≡ [] → missing_at e begun ≡ missing e.row e.phase
 unfolding after_lines
 none-missing e begun none = ap (λ (l : List ℕ). missing_at e l) none
@@ -190,6 +199,7 @@ module _ (options : LiveArgs) (header : BoardHeader) (row : ℕ) (clubs : List N
   after-lines (Ok accepted) board = if-lines board
   after-lines (Err refusal) board = no_lines
 
+-- the JSON lines of the events that a mend leaves out are values, each on a line of its own
 left-lines : (left : List LeftOut) → AreLinesOfValues (left_out_lines left)
 left-lines [] = no_lines
 left-lines (out ∷ left) =
@@ -219,6 +229,7 @@ module _ (options : LiveArgs) (header : BoardHeader) (row : ℕ) (clubs : List N
   request-lines Matches shown = rw json (line_of_value (matches_value row (board_in events) clubs))
   request-lines (Mends mend) shown = mend-lines mend (edition_reply header.edition events mend)
 
+-- if the format is JSON, the answers to any lines are values, each on a line of its own
 pub json-lines : JsonAnswersAreLines
 unfolding answers JsonAnswersAreLines
 json-lines e [] h = no_lines
@@ -257,6 +268,7 @@ no-room text h = elim (cases_Bool (get_or text (length text - 2) 0 == 13)) [
   | inr n ↦ rw n (lt-leb (length text) 257 (omega (arith, h)))
 ]
 
+-- a line of 258 bytes or more is neither a row of four fields nor empty
 too-long : (row : ℕ) (line : List ℕ) → 258 ≤ length line → said_on row line ≡ Other
 unfolding said_by_text
 too-long row line h = rw (no-room (line ++ 10 ∷ []) (let m = length-append line (10 ∷ []) in omega (arith, h, m))) refl
@@ -285,6 +297,7 @@ same-lines e (line ∷ lines) =
       ap (λ (r : Said). after_lines (next e r) (map (take 258) lines)) same.0 ∙ more.1,
     )
 
+-- a session, which keeps 258 bytes of a line, answers an input as if its lines, of any length, were kept whole
 pub read-whole : LinesAreReadWhole
 unfolding LinesAreReadWhole
 read-whole e bytes =

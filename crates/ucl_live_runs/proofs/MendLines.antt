@@ -30,11 +30,13 @@ left-out-line o row entry refusal r game reporter =
       size = omega (arith, digits-20, kind.1, name.1, name.2);
     }) refl
 
+-- the name of the refusal of a mend is a text, of at most 22 bytes when quoted, and its code fits 64 bits
 mend-name : (refusal : MendRefusal) → IsText (mend_refusal_name refusal) × (length (quoted (mend_refusal_name refusal)) ≤ 22) × (mend_refusal_code refusal < 2 ^ 64)
 unfolding escape_byte
 mend-name NoEvent = (refl, omega arith, omega arith)
 mend-name LastEdition = (refl, omega arith, omega arith)
 
+-- the JSON answer to a mend that is refused carries no board state, if its row fits 64 bits
 pub mend-refused-line : (o : Option BoardState) (row : ℕ) (refusal : MendRefusal) → row < 2 ^ 64
     → CarriesAtMost o (json_line (mend_refused_value row (mend_refusal_code refusal) (mend_refusal_name refusal)))
 unfolding parse_board_state serde_json_on_literals

@@ -21,6 +21,7 @@ unfoldable pub use Rattle.ucl_live_runs.specs.Mended.{left_out_after}
 use Rattle.ucl_live_runs.specs.MendTheorems.{events_of}
 unfoldable pub use Rattle.ucl_live_runs.specs.MendTheorems.{LaterEventsGoOn, MendsAreLegal, OtherMatchesStay, WholeHistoriesAreKept}
 
+-- the history of events with more behind them is the history of the first, then that of the others
 pub history-more : (events more : List StandingEvent) → history_in (events ++ more) ≡ history_in events ++ history_in more
 history-more events more = map-append (λ (event : StandingEvent). event.entry) events more
 
@@ -36,6 +37,7 @@ reply-again kept event = sequential_reply (history_in kept) (call_again (history
 fate-other : (row : ℕ) (kept : List StandingEvent) (event : StandingEvent) → (event.row == row) ≡ false → fate_of row kept event ≡ fate_by (reply-again kept event)
 fate-other row kept event n = ap (λ (b : Bool). if b then Named else fate_by (reply-again kept event)) n
 
+-- an event of the row that a mend names has the fate `Named`
 fate-named : (row : ℕ) (kept : List StandingEvent) (event : StandingEvent) → (event.row == row) ≡ true → fate_of row kept event ≡ Named
 fate-named row kept event y = ap (λ (b : Bool). if b then Named else fate_by (reply-again kept event)) y
 
@@ -59,6 +61,7 @@ step-legal row kept event legal is = elim (cases_Bool (event.row == row)) [
       subst IsLegal (sym (ap (λ (f : Fate). history_in (kept_by kept event f)) (fate-other row kept event n) ∙ kept-history kept event (reply-again kept event))) made
 ]
 
+-- if those kept so far are a legal history, so is what is kept of more events, each of a reporter and a match that there are
 all-legal : (row : ℕ) (kept events : List StandingEvent) → IsLegal (history_in kept) → All IsRanged events → IsLegal (history_in (fold (kept_after row) kept events))
 all-legal row kept [] legal all = legal
 all-legal row kept (event ∷ events) legal all =
@@ -70,6 +73,7 @@ may-at before event more legal =
     let parts = history-more before (event ∷ more) ∙ sym (append_assoc (history_in before) (event.entry ∷ []) (history_in more)) in
     may_last MayFollow (history_in before) event.entry (may_begin MayFollow (followed_by (history_in before) event.entry) (history_in more) (subst IsLegal parts legal))
 
+-- a legal history stays legal when it is cut one event later
 one-on : (before : List StandingEvent) (event : StandingEvent) (more : List StandingEvent) → IsLegal (history_in (before ++ event ∷ more))
     → IsLegal (history_in ((before ++ event ∷ []) ++ more))
 one-on before event more legal = subst (λ (l : List StandingEvent). IsLegal (history_in l)) (sym (append_assoc before (event ∷ []) more)) legal
@@ -81,6 +85,7 @@ all-ranged before (event ∷ events) legal =
     let may = may-at before event events legal in
     All-cons IsRanged event events (may.accepted.reporter, may.game) (all-ranged (before ++ event ∷ []) events (one-on before event events legal))
 
+-- what a mend of a legal history keeps is a legal history
 pub mends_legal : MendsAreLegal
 unfolding MendsAreLegal
 mends_legal row events legal = all-legal row [] events (may_none MayFollow) (all-ranged [] events legal)
@@ -114,6 +119,7 @@ keeps-all row kept (event ∷ events) legal all =
           ∙ ap (λ (l : List StandingEvent). left_out_after row l events) is ∙ rest.1,
     )
 
+-- if no event has the row that is named, a mend of a legal history keeps all, and leaves out none
 pub whole : WholeHistoriesAreKept
 unfolding WholeHistoriesAreKept
 whole row events legal all = keeps-all row [] events legal all
@@ -132,9 +138,11 @@ pub same-entries : (game : ℕ) (kept before : List StandingEvent) → events_of
 same-entries game kept before same =
     entries-in game kept ∙ ap (map (λ (event : StandingEvent). of_match event.entry)) same ∙ sym (entries-in game before)
 
+-- the events of a match among these and one more are those among these, and this one, if it is of the match
 events-more : (game : ℕ) (kept : List StandingEvent) (event : StandingEvent) → events_of game (kept ++ event ∷ []) ≡ events_of game kept ++ events_of game (event ∷ [])
 events-more game kept event = filter-append (λ (event : StandingEvent). event.entry.game == game) kept (event ∷ [])
 
+-- one more event of another match adds none to the events of this match
 events-else : (game : ℕ) (kept : List StandingEvent) (event : StandingEvent) → event.entry.game ≢ game → events_of game (kept ++ event ∷ []) ≡ events_of game kept
 events-else game kept event not =
     events-more game kept event ∙ ap (λ (b : Bool). events_of game kept ++ (if b then event ∷ [] else [])) (ne_eqb event.entry.game game not) ∙ append-nil (events_of game kept)
@@ -171,6 +179,7 @@ all-events row game kept before (event ∷ events) same legal all =
     all-events row game (kept_after row kept event) (before ++ event ∷ []) events one (one-on before event events legal) (All-tail (IsOther row game) event events all)
     ∙ ap (events_of game) (append_assoc before (event ∷ []) events)
 
+-- a mend of a legal history keeps all events of each match of which no event has the row that is named
 pub other_matches : OtherMatchesStay
 unfolding OtherMatchesStay
 other_matches row game events legal all = all-events row game [] [] events refl legal all
@@ -186,6 +195,7 @@ left-more row kept (event ∷ events) more =
     ap (λ (l : List LeftOut). here ++ l) (left-more row next events more)
     ∙ sym (append_assoc here (left_out_after row next events) (left_out_after row (fold (kept_after row) next events) more))
 
+-- what was kept stays at the front after one event more, whatever the fate of the event
 by-kept : (kept : List StandingEvent) (event : StandingEvent) (fate : Fate) → IsPrefix kept (kept_by kept event fate)
 by-kept kept event Kept = (event ∷ [], refl)
 by-kept kept event Named = ([], append-nil kept)
@@ -204,6 +214,7 @@ by-none : (event : StandingEvent) (reply : Result Accepted Refusal) (rest : List
 by-none event (Ok accepted) rest h = (refl, h)
 by-none event (Err refusal) rest h = absurd cc
 
+-- if none of more events is left out, and none has the named row, all of them are kept behind those kept before
 none-left : (row : ℕ) (kept more : List StandingEvent) → left_out_after row kept more ≡ [] → All (IsOtherRow row) more → fold (kept_after row) kept more ≡ kept ++ more
 unfolding left_out_after
 none-left row kept [] none all = sym (append-nil kept)
@@ -216,6 +227,7 @@ none-left row kept (event ∷ more) none all =
     ∙ none-left row (kept ++ event ∷ []) more (ap (λ (l : List StandingEvent). left_out_after row l more) (sym is) ∙ by.1) (All-tail (IsOtherRow row) event more all)
     ∙ append_assoc kept (event ∷ []) more
 
+-- events that are entered later leave what a mend makes of those before as it was
 pub later_events : LaterEventsGoOn
 unfolding LaterEventsGoOn
 later_events row events more =
@@ -309,6 +321,7 @@ module _ (row : ℕ) (events : List StandingEvent) (i : ℕ) (event : StandingEv
       → IsMendedSoFar row (take (i + 1) events) board2
   so-far-more fate board board2 s goes = subst (λ (l : List StandingEvent). IsMendedSoFar row l board2) (sym front-more) (goes (take i events) s).1
 
+-- an event that is kept or named adds none to those left out
 pub not-left : (event : StandingEvent) (fate : Fate) → (fate ≡ Kept) ⊎ (fate ≡ Named) → left_by event fate ≡ []
 not-left event fate is = elim is [ inl k ↦ ap (left_by event) k | inr n ↦ ap (left_by event) n ]
 
@@ -372,6 +385,7 @@ module _ (row : ℕ) (before now : List StandingEvent) (kept at : ℕ) (event : 
 pub few : (events : List StandingEvent) → IsLegal (history_in events) → (version_of (board_of (history_in events)) ≡ length events) × (length events ≤ 49140)
 few events legal = let v = versions (history_in events) legal in let long = length-map events (λ (event : StandingEvent). event.entry) in (v.0 ∙ long, omega arith)
 
+-- if an entry may follow the events that stand, as a legal history, they are fewer than 49,140
 pub has-room : (events : List StandingEvent) (entry : Entry) → IsLegal (followed_by (history_in events) entry) → length events < 49140
 has-room events entry legal =
     let v = versions (followed_by (history_in events) entry) legal in

@@ -33,6 +33,7 @@ further a b c (inr p) q = record {
   ];
 }
 
+-- lines, each as its bytes
 abbrev Lines : Type 0
 Lines = List (List ℕ)
 
@@ -58,6 +59,7 @@ record IsAtBoard (e : Session) (m : BoardState) : Type 0 where
   phase : e.phase ≡ open_at clubs events
   same : board_state_with e.header clubs (board_in events) ≡ m
 
+-- a session whose phase has a board state has an open board, which is this board state
 at-board : (e : Session) (s : Reached) (m : BoardState) → e.phase ≡ s → board_state_at e.header s ≡ Some m → IsAtBoard e m
 at-board e (Ok (Open table)) m h k =
     record { clubs = table.roster; events = table.events; phase = h; same = same_Some (board_state_with e.header table.roster (board_in table.events)) m k }
@@ -71,6 +73,7 @@ fall-append (o ∷ a) b p q h =
     let Q = λ (o : Option BoardState). All (IsNoFall o) b in
     (All-append (IsNoFall o) a b p.0 (All-head Q o a h), fall-append a b p.1 q (All-tail Q o a h))
 
+-- after an answer that carries no board state, no other is a fall from it
 none-falls : (os : Carried) → All (IsNoFall None) os
 none-falls os = All-weaker (Contains os) (IsNoFall None) (λ _ _. tt) os (All-contains_itself os)
 
@@ -82,6 +85,7 @@ most-falls most (Some x) (Some y) (inr same) (inr other) = inl (same_Some x y (s
 most-falls most (Some x) (Some y) (inl none) k = cc
 most-falls most (Some x) (Some y) (inr same) (inl none) = cc
 
+-- answers of which each carries nothing or this board state never fall
 same-falls : (most : Option BoardState) (os : Carried) → All (IsAtMost most) os → NeverFall os
 unfolding NeverFall
 same-falls most [] h = tt
@@ -178,6 +182,7 @@ last-few : (line : List ℕ) → length (last_lines line) ≤ 1
 last-few [] = omega arith
 last-few (b ∷ line) = omega arith
 
+-- an input has at most one line more than it has bytes
 lines-few : (bytes : List ℕ) → length (lines_of bytes) ≤ length bytes + 1
 lines-few bytes =
     let ended = ended_lines 258 [] bytes in
@@ -192,6 +197,7 @@ unfolding NeverFall
 all-walks options rows json short =
     walks (start_of options) [] (lines_of rows) json (omega (arith, lines-few rows, short)) (start-sound options) (λ o none. absurd (omega (arith, none.1))) tt
 
+-- the board states that the JSON answers to a record carry, one after the other, never fall
 pub never-fall : AnswersNeverFall
 unfolding AnswersNeverFall
 never-fall options rows json short = (all-walks options rows json short).falls
@@ -228,13 +234,16 @@ module _ (options : LiveArgs) (rows : List ℕ) (args : FollowArgs) (m : BoardSt
       each None t = tt
       each (Some other) t = no-newer other t
 
+-- the board state at the end of a record is the latest that its answers carry, if they carry any
 pub ends-with-the-board : FollowersEndWithTheBoard
 unfolding FollowersEndWithTheBoard
 ends-with-the-board options rows args m other is told = is-latest options rows args m is other told
 
+-- the screen of a board state, as text
 abbrev screen_at : BoardState → List ℕ
 screen_at m = screen_text m.header.profile m.board m.roster m.header.group
 
+-- of answers to a record, in any order and number, the table at its end is shown last, if one carries the board state of it
 pub same-table : SameRowsSameTable
 unfolding SameRowsSameTable OthersDoNotMatter ShownVersionsRise
 same-table options rows args m lines is all told =

@@ -6,10 +6,11 @@ use Rattle.ucl_live_runs.proofs.Common.{subst, sym, ℕ, ◌++◌, ◌∙◌, �
 use Rattle.std.proofs.Math.Seq.{drop-append_seam, take-append_seam}
 use Rattle.ucl_board.specs.Theorems.{IsStaleAgain}
 
--- the attempts of each part are attempts
+-- if all attempts of two lists are of a reporter and a match that there are, so are those of the first
 front-all : (xs ys : List Attempt) → All IsAttempt (xs ++ ys) → All IsAttempt xs
 front-all xs ys all = rw take-append_seam at (All-take IsAttempt (length xs) (xs ++ ys) all)
 
+-- if all attempts of two lists are of a reporter and a match that there are, so are those of the second
 back-all : (xs ys : List Attempt) → All IsAttempt (xs ++ ys) → All IsAttempt ys
 back-all xs ys all = rw drop-append_seam at (All-drop IsAttempt (length xs) (xs ++ ys) all)
 
@@ -37,13 +38,15 @@ again-same h a longer shorter stale more = record {
   board_is = ap (λ (ws : List ℕ). fold board_after ws longer) stale.board_is ∙ more.board_is;
 }
 
--- once these were made
+-- two lists of attempts, made after those in `made`, lead from this history to the same history and the same board
 abbrev LeaveAfter : List Entry → List Attempt → List Attempt → List Attempt → Type 0
 LeaveAfter h made longer shorter = LeaveTheSame (fold after_attempt h made) longer shorter
 
+-- the history after these attempts and one more is that after the one, from the history after these
 one-more : (h : List Entry) (made : List Attempt) (a : Attempt) → fold after_attempt h (made ++ a ∷ []) ≡ after_attempt (fold after_attempt h made) a
 one-more h made a = fold-append after_attempt h made (a ∷ [])
 
+-- attempts with repeats of those accepted before, made after those in `made`, lead to the same history and board as without repeats
 pub all-same : (h : List Entry) (made longer shorter : List Attempt) → IsLegal h → All IsAttempt made → All IsAttempt longer → HasRepeats h made longer shorter → LeaveAfter h made longer shorter
 unfolding HasRepeats
 all-same h made [] shorter legal before all none = rw none (record { history_is = refl; board_is = refl })
@@ -59,6 +62,7 @@ all-same h made (a ∷ longer) shorter legal before all (inr twice) =
     let then = subst (λ (g : List Entry). LeaveTheSame g longer shorter) (one-more h made a ∙ stale.history_is) more in
     again-same (fold after_attempt h made) a longer shorter stale then
 
+-- attempts with repeats of accepted ones lead to the same history and the same board as without these
 pub repeated : RepeatedRowsChangeNothing
 unfolding RepeatedRowsChangeNothing
 repeated h longer shorter legal all has = all-same h [] longer shorter legal (All-nil IsAttempt) all has

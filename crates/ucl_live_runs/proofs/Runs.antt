@@ -251,6 +251,7 @@ module _ (m : Held) where
 
 -- ==== Followers
 
+-- what a follower writes for two lists of lines is what it writes for the first, then for the second, from the state after the first
 follow_outputs-then : (shape : FollowShape) (f : FollowState) (a b : List (List ℕ))
     → follow_outputs shape f (a ++ b) ≡ follow_outputs shape f a ++ follow_outputs shape (followed f a) b
 unfolding follow_outputs followed

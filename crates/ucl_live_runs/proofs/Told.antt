@@ -46,6 +46,7 @@ pub record Tells (before : BoardState) (after : Option BoardState) (text : List 
   pub most : CarriesAtMost after text
   pub moves : (after ≡ Some before) ⊎ ((m : BoardState) × (after ≡ Some m) × IsBehind before m × Contains (carried_in text) (Some m))
 
+-- an answer that carries nothing or the board state after it tells that one, if it is the one before
 pub stays-told : (before : BoardState) (after : Option BoardState) (text : List ℕ) → CarriesAtMost after text → after ≡ Some before → Tells before after text
 stays-told before after text most same = record { most = most; moves = inl same }
 
@@ -72,6 +73,7 @@ has_header a b c = do
   edition ← c
   Some (record { group = group; profile = profile; edition = edition })
 
+-- a header that was made of fields has the group and the edition that were read of them
 by-parts : (a : Option ℕ) (b : Option Profile) (c : Option ℕ) (header : BoardHeader) → has_header a b c ≡ Some header → (a ≡ Some header.group) × (c ≡ Some header.edition)
 by-parts (Some a) (Some b) (Some c) header h =
     let same : ◌≡◌ {A = BoardHeader} (record { group = a; profile = b; edition = c }) header = cc in
@@ -84,17 +86,21 @@ said-header f header h =
     let p = by-parts (letter_in f.second) (profile_named f.third) (edition_by f.fourth) header h in
     record { letter = within f.second header.group p.0; edition = (ranged 0 65535 (number 5 f.fourth) header.edition p.1).1 }
 
+-- the group that is asked for, if it may be asked for, or else A, is a group that there is
 letter-of : (asked : Option ℕ) → may_be_asked asked ≡ true → IsGroup (unwrap_or asked 65)
 letter-of None h = (omega arith, omega arith)
 letter-of (Some group) h = asked_letter group h
 
+-- the header with which a session begins has a group that there is and an edition of 16 bits
 pub first-header : (options : LiveArgs) → IsHeader (asked_header options)
 first-header options = record { letter = letter-of options.group options.letter; edition = omega arith }
 
+-- the header of a row, or else the one before it, has a group that there is and an edition of 16 bits, if both have
 or-header : (header : BoardHeader) (o : Option BoardHeader) → IsHeader header → ((other : BoardHeader) → o ≡ Some other → IsHeader other) → IsHeader (unwrap_or o header)
 or-header header None is more = is
 or-header header (Some other) is more = more other refl
 
+-- the header after a row has a group that there is and an edition of 16 bits, if the one before it has
 row-header : (header : BoardHeader) (r : Said) → IsHeader header → IsHeader (unwrap_or (header_said r) header)
 row-header header (Row f) is = or-header header (header_by f) is (said-header f)
 row-header _ _ is = is
@@ -105,6 +111,7 @@ pub record IsSmall (event : StandingEvent) : Type 0 where
   pub game : event.entry.game < 2 ^ 64
   pub reporter : event.entry.reporter < 2 ^ 64
 
+-- the row number that an event keeps, which is 0 above 32 bits, fits 64 bits
 small-row : (row : ℕ) → row_number row < 2 ^ 64
 small-row row = cond_both (nat_le row 4294967295) row 0 (λ n. n < 2 ^ 64) (λ y. grind (arith, nat_tests)) (λ _. omega arith)
 
@@ -115,15 +122,18 @@ small-entered row events event p all =
     cond_both (is_ok (sequential_reply (history_in events) event.call)) (events ++ standing_of row event ∷ []) events (All IsSmall)
     (λ _. All-append IsSmall events (standing_of row event ∷ []) all (All-cons IsSmall (standing_of row event) [] one (All-nil IsSmall))) (λ _. all)
 
+-- if the numbers of the events kept so far and of one more fit 64 bits, so do those of the events kept after it
 small-kept : (kept : List StandingEvent) (event : StandingEvent) (fate : Fate) → All IsSmall kept → IsSmall event → All IsSmall (kept_by kept event fate)
 small-kept kept event Kept all one = All-append IsSmall kept (event ∷ []) all (All-cons IsSmall event [] one (All-nil IsSmall))
 small-kept kept event _ all one = all
 
+-- if the numbers of the events kept so far and of more events fit 64 bits, so do those of all events kept after them
 small-mended : (row : ℕ) (kept events : List StandingEvent) → All IsSmall kept → All IsSmall events → All IsSmall (fold (kept_after row) kept events)
 small-mended row kept [] small all = small
 small-mended row kept (event ∷ events) small all =
     small-mended row (kept_after row kept event) events (small-kept kept event (fate_of row kept event) small (All-head IsSmall event events all)) (All-tail IsSmall event events all)
 
+-- if the numbers of all events that stand fit 64 bits, so do those of the events that stand after a mend
 small-after : (events : List StandingEvent) (mend : Mend) → All IsSmall events → All IsSmall (events_after events mend)
 small-after events (Without row) all = small-mended row [] events (All-nil IsSmall) all
 small-after events _ all = all
@@ -143,6 +153,7 @@ left-tells o row kept (event ∷ events) all =
     one (Refused refusal) s = most-then o (json_line (left_out_value event.row event.entry refusal)) [] (left-out-line o event.row event.entry refusal s.row s.game s.reporter) (most-none o)
     one _ s = most-none o
 
+-- the JSON lines of the events that a mend leaves out carry no board state, if all numbers of those that stand fit 64 bits
 left-by-tells : (o : Option BoardState) (events : List StandingEvent) (mend : Mend) → All IsSmall events → CarriesAtMost o (left_out_lines (left_out_by events mend))
 left-by-tells o events (Without row) all = left-tells o row [] events all
 left-by-tells o events _ all = most-none o
@@ -177,6 +188,7 @@ sound-mend header clubs events r mend (Ok edition) g p is = record {
 }
 sound-mend header clubs events r mend (Err refusal) g p is = g
 
+-- an open board that is sound stays sound after a request whose numbers there can be
 sound-request : (header : BoardHeader) (row : ℕ) (clubs : List NamedClub) (events : List StandingEvent) (r : Said) (q : Request) → AreSound header (open_at clubs events)
     → IsPossible q → AreSound (request_stage header row clubs events r q).header (request_stage header row clubs events r q).phase
 sound-request header row clubs events r (Event event) g p = record {
@@ -188,25 +200,30 @@ sound-request header row clubs events r (Mends mend) g p =
     sound-mend header clubs events r mend (edition_reply header.edition events mend) g p refl
 sound-request header row clubs events r _ g p = g
 
+-- all numbers of the events that stand, which are none, fit 64 bits when four clubs were named
 small-roster : (clubs : List NamedClub) (slot : Option ℕ) → IsSmallAt (with_roster clubs slot)
 small-roster clubs None = All-nil IsSmall
 small-roster clubs (Some slot) = tt
 
+-- all numbers of the events that stand, which are none, fit 64 bits after a row in the place of a club
 small-club : (row : ℕ) (clubs : List NamedClub) (club : Option NamedClub) → IsSmallAt (after_club row clubs club)
 small-club row clubs None = tt
 small-club row clubs (Some club) =
     let all = clubs ++ club ∷ [] in
     cond_both (length all == 4) (with_roster all (bad_slot all)) (Ok (AwaitingClubs all)) IsSmallAt (λ _. small-roster all (bad_slot all)) (λ _. tt)
 
+-- all numbers of the events that stand, which are none, fit 64 bits after a row in the place of a group
 small-header : (options : LiveArgs) (row : ℕ) (header : Option BoardHeader) → IsSmallAt (after_header options row header)
 small-header options row None = tt
 small-header options row (Some header) = cond_both (is_asked options.group options.profile header) (Ok (AwaitingClubs [])) (Err OtherGroup) IsSmallAt (λ _. tt) (λ _. tt)
 
+-- all numbers of the events that stand, which are none, fit 64 bits after the first row
 small-first : (options : LiveArgs) (row : ℕ) (r : Said) → IsSmallAt (after_beginning options row r)
 small-first options row r =
     cond_both (is_group_row r) (after_header options row (header_said r)) (after_club row [] (club_said 1 r)) IsSmallAt
     (λ _. small-header options row (header_said r)) (λ _. small-club row [] (club_said 1 r))
 
+-- what a session has reached stays sound after any row
 sound-at : (e : Session) (s : Reached) (r : Said) → AreSound e.header s → AreSound (next_at e s r).header (next_at e s r).phase
 sound-at e (Ok AwaitingHeader) r g = record {
   phase = good-first e.options e.row r;
@@ -221,6 +238,7 @@ sound-at e (Ok (AwaitingClubs clubs)) r g = record {
 sound-at e (Ok (Open table)) r g = sound-request e.header e.row table.roster table.events r (request_of r) g (possible r)
 sound-at e (Err fault) r g = g
 
+-- a sound session stays sound after any line
 pub sound-next : (e : Session) (r : Said) → IsSound e → IsSound (next e r)
 sound-next e Nothing g = g
 sound-next e r g = sound-at e e.phase r g
@@ -234,6 +252,7 @@ board_state-good : (header : BoardHeader) (clubs : List NamedClub) (board : List
     IsBoardState (board_state_with header clubs board)
 board_state-good header clubs board t is w = record { letter = t.letter; edition = t.edition; clubs = is; words = w; bits = board-fits board w.each }
 
+-- the reporter, the match and the expected number of an event that there can be fit 64 bits
 numbers : (e : NightEvent) → IsPossible (Event e) → HasNumbers e
 numbers e p = record { reporter = omega (arith, p.0.0); game = omega (arith, p.0.1); expected = omega (arith, p.1) }
 

@@ -7,9 +7,11 @@ use Rattle.ucl_screen.specs.PlainRows.{BeginsWithRow, fields_of_four}
 use Rattle.ucl_screen.proofs.PlainRows.{no_rows_fed}
 use Rattle.ucl_rows.specs.Rows.{Nothing, Said, said_by_text}
 
+-- a text that adds no row, whatever comes behind it, says nothing as a line
 pub says_nothing : (text : List ℕ) → ((tail : List ℕ) → records default_config (text ++ tail) ≡ records default_config tail) → Nothing ≡ of_rows (records default_config (text ++ 10 ∷ []))
 says_nothing text none = sym (ap of_rows (none (10 ∷ []) ∙ no_rows_fed))
 
+-- a text that begins with a row of four fields, and adds no other row, says just this row as a line
 pub says_four : (text rest : List ℕ) (f : FourFields) → BeginsWithRow text (fields_of_four f) rest → ((tail : List ℕ) → records default_config (rest ++ tail) ≡ records default_config tail)
     → Row f ≡ of_rows (records default_config (text ++ 10 ∷ []))
 says_four text rest f b none = sym (ap of_rows (b.rows (10 ∷ []) refl ∙ ap (λ (rows : List Fields). fields_of_four f ∷ rows) (none (10 ∷ []) ∙ no_rows_fed)))

@@ -31,18 +31,21 @@ printed-all [] h = refl
 printed-all (b ∷ text) h =
     let p = and_parts (is_printed b) (list_all is_printed text) h in rw p.0 (ap (λ (l : List ℕ). b ∷ l) (printed-all text p.1))
 
+-- a text of at most 64 bytes, all of them printed, is shown whole by an answer
 pub shown_all : (at : ℕ) (text : List ℕ) → length text ≤ at → at ≤ 64 → list_all is_printed (take at text) ≡ true → take (length text) text ≡ shown_text text
 shown_all at text h few all =
     let whole = rw (take_all at text h) at all in
     take_all (length text) text (omega arith) ∙ sym (ap printed (take_all 64 text (omega (arith, h, few))) ∙ printed-all text whole)
 
--- printed bytes are UTF-8
+-- a printed byte is less than 128
 below : (b : ℕ) → is_printed b ≡ true → b < 128
 below b h = let e = (and_parts (nat_le 0x20 b) (nat_le b 0x7e) h).1 in grind (arith, nat_tests)
 
+-- printed bytes are ASCII
 ascii : (bytes : List ℕ) → list_all is_printed bytes ≡ true → IsAscii bytes
 ascii [] h = IsAscii-nil
 ascii (b ∷ bytes) h = let e = and_parts (is_printed b) (list_all is_printed bytes) h in IsAscii-cons b bytes (below b e.0) (ascii bytes e.1)
 
+-- printed bytes are UTF-8
 pub shown_utf8 : (bytes : List ℕ) → list_all is_printed bytes ≡ true → IsUtf8 bytes
 shown_utf8 bytes h = IsUtf8-from_ascii bytes (ascii bytes h)

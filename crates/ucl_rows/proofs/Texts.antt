@@ -13,6 +13,7 @@ words_step index i words out new whole h so_far line =
     let split : drop i words ≡ get_or words i 0 ∷ drop (i + 1) words = rw (add-one i) (drop-cons words i 0 h) in
     rw (line, append_assoc out (word_line index (get_or words i 0)) (word_lines (index + 1) (drop (i + 1) words))) (rw split at so_far)
 
+-- once all words are written, what was written is the whole text of word lines
 pub words_end : (index i : ℕ) (words out whole : List ℕ) → length words ≤ i → out ++ word_lines index (drop i words) ≡ whole → out ≡ whole
 unfolding word_lines
 words_end index i words out whole h so_far = sym (append-nil out) ∙ (rw (past i words h) at so_far)

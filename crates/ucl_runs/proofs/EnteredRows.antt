@@ -42,10 +42,12 @@ module _ (s h : List Entry) (on : IsPrefix s h) where
 pub entered_within : {h : List Entry} {a : Attempt} {p : ℕ} → IsEnteredAt h a p → p < length h
 entered_within {h} {p = p} is = at_below h p _ is.entry
 
+-- the linearization point of an attempt is at most the length of the history
 pub place_within : {h : List Entry} {a : Attempt} {p : ℕ} → HasLinearizationPoint h a p → p ≤ length h
 place_within (inl r) = r.within
 place_within (inr e) = let x = entered_within e in omega arith
 
+-- if a list, with x before it if b holds, is empty, then b does not hold, and the list is empty
 one_by : (b : Bool) (x : Entry) (xs : List Entry) → cond b (x ∷ xs) xs ≡ [] → (b ≡ false) × (xs ≡ [])
 one_by true x xs none = absurd cc
 one_by false x xs none = (refl, none)
@@ -80,6 +82,7 @@ stands_before n s h on same {p} {e} at is = elim (cases_lt p (length s)) [
 abbrev pub AllOnDuty : List NightEvent → Type 0
 AllOnDuty rows = (i : ℕ) (row : NightEvent) → slice_get rows i ≡ Some row → IsOnDuty row
 
+-- if all rows are of reporters 1 and 2, so is the row at each place
 pub each_on_duty : (rows : List NightEvent) → All IsOnDuty rows → AllOnDuty rows
 each_on_duty rows all i row at = subst IsOnDuty (get_or_from_slice_get rows i row row at) (All-get_or IsOnDuty rows i row (at_below rows i row at) all)
 
@@ -129,10 +132,11 @@ point_of old new call (Err refusal) sound says =
       alone = λ p e at is past. (let below = stands_before old.number old.seen new.seen on none_more at is in absurd (omega arith));
     }
 
--- the calls of a reporter among rows begin with that of a first row of its own, and pass over that of another reporter
+-- the calls of a reporter among rows begin with that of a first row of its own
 pub own_calls : (r : ℕ) (row : NightEvent) (rows : List NightEvent) → row.reporter ≡ r → calls_of r (row ∷ rows) ≡ row.call ∷ calls_of r rows
 own_calls r row rows is = rw (eq-eqb row.reporter r is) refl
 
+-- the calls of a reporter among rows pass over a first row of another reporter
 pub other_calls : (r : ℕ) (row : NightEvent) (rows : List NightEvent) → row.reporter ≢ r → calls_of r (row ∷ rows) ≡ calls_of r rows
 other_calls r row rows other = rw (ne_eqb row.reporter r other) refl
 

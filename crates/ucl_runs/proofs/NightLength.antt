@@ -20,6 +20,7 @@ step : {A B : Type 0} (r : Result A InputFault) (f : A → Result B InputFault) 
 step (Ok x) f b is = (x, is)
 step (Err fault) f b is = cc is
 
+-- a result that came of two steps came of a first one that was Ok, and is what the second makes of its value
 step-of : {A B : Type 0} (r : Result A InputFault) (f : A → Result B InputFault) (b : B) → (r >>= f) ≡ Ok b → (x : A) × (r ≡ Ok x) × (f x ≡ Ok b)
 step-of (Ok x) f b is = (x, refl, is)
 step-of (Err fault) f b is = cc is
@@ -36,6 +37,7 @@ roster-read rows read is =
     let clubs = step-of (if_good four (bad_slot four)) _ read fourth.1 in
     subst (λ (r : List NamedClub × List Fields). IsRoster r.0) (same-ok (clubs.0, fourth.0.1) read clubs.2) (good-clubs clubs.0 four (bad_slot four) refl refl clubs.1)
 
+-- the clubs of a script that was read are a roster
 script-roster : (bytes : List ℕ) (night : Script) → night_of bytes ≡ Ok night → IsRoster night.clubs
 unfolding night_of_rows
 script-roster bytes night is =
@@ -66,5 +68,6 @@ output-fits rows style readings text is out =
     let closing = styled_screen style (board_of out.history) in
     omega (arith, one-fits, two-fits, short, length-append (one ++ two) (codes "FINAL\n" ++ closing), length-append one two, length-append (codes "FINAL\n") closing, ap length out.text_is)
 
+-- the output of a night that was played has fewer than 2^64 bytes
 pub played_fits : (profile : Profile) (group readings : ℕ) (bytes text : List ℕ) → IsPlayed profile group readings bytes text → length text < 2 ^ 64
 played_fits profile group readings bytes text is = output-fits is.night.events (styled profile is.night.clubs group) readings text (script-roster bytes is.night is.means) is.output

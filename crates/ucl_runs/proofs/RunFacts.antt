@@ -25,6 +25,7 @@ pub fed : (known : Option (List ℕ)) (night : Script) (text : List ℕ) → IfS
 fed None night text means is = tt
 fed (Some bytes) night text means is = record { night = night; means = means; text_is = is }
 
+-- if the input, as far as it is known, means this sheet, its screen is the text that `show` writes for the input
 pub shown : (profile : Profile) (known : Option (List ℕ)) (group : ℕ) (sheet : WrittenSheet) (text : List ℕ) → IfSome known (λ bytes. MeansSheet bytes (Ok sheet))
     → text ≡ screen_text profile sheet.words sheet.clubs group
     → IfSome known (λ bytes. IsShown profile group bytes text)
@@ -157,6 +158,7 @@ pub duty_more : (i : ℕ) (rows : List NightEvent) (row : NightEvent) → i < le
     → All IsOnDuty (take i rows) → All IsOnDuty (take (i + 1) rows)
 duty_more i rows row below is low high so_far = All-more IsOnDuty rows i row below so_far (subst IsOnDuty is (one_or_two row.reporter low high))
 
+-- if the first i rows are of reporters 1 and 2, and there are no more than i, all rows are
 pub duty_all : (i : ℕ) (rows : List NightEvent) → length rows ≤ i → All IsOnDuty (take i rows) → All IsOnDuty rows
 duty_all i rows past all = subst (All IsOnDuty) (take_all i rows past) all
 

@@ -55,6 +55,7 @@ follows_parts h low high ms ns f = search (arith, le_refl, none-some, same_Some)
 pub collect_none : (kind : AccessKind) (words : List ℕ) → IsCollect kind words []
 collect_none kind words k m e = absurd (none-some m e)
 
+-- a collect, and one more access of its kind to the next match that finds the next word, are a collect
 pub collect_more : (kind : AccessKind) (words : List ℕ) (ms : List Access) (m : Access) → IsCollect kind words ms → Does kind (length ms + 1) m → m.found ≡ slice_index words (length ms)
     → IsCollect kind words (ms ++ m ∷ [])
 collect_more kind words ms m c does found k x e = search (arith, at_either)
@@ -95,6 +96,7 @@ tries_bound h low high (ms ∷ tries) f all =
     let rest = tries_bound h parts.middle high tries parts.latter all.1 in
     search (arith, rest, unclean_try h low parts.middle ms parts.former all.0, length-append)
 
+-- if the accesses of unclean tries follow a history, there are no more tries than entries that came meanwhile
 pub tries_few : UncleanTriesAreFew
 tries_few h low high tries f all = (tries_bound h low high tries f all).0
 

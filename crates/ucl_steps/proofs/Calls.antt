@@ -146,6 +146,7 @@ IsWhole c point reply = (IsSome c.ended → IsSome reply) × (IsSome point ↔ I
 whole_by : (history : List Entry) (c : CallRecord) (point : Option ℕ) (reply : Option Reply) → Explains history c point reply → IsWhole c point reply
 whole_by history c point reply s = search (arith, false≢true)
 
+-- a call with a reply that a history explains has a point too
 decided_by : (history : List Entry) (c : CallRecord) (point : Option ℕ) (reply : Option Reply) → Explains history c point reply → IsSome reply
     → (k : ℕ) × (r : Reply) × (point ≡ Some k) × (reply ≡ Some r)
 decided_by history c point reply s some = search (arith, false≢true)
@@ -164,23 +165,28 @@ module _ (history : List Entry) (c : CallRecord) (explained : Explains history c
 abbrev pub IsSettled : List Entry → FinishedCall → Type 0
 IsSettled history c = (c.point ≤ length history) × IsSequential history c.point (Reporter c.number) c.call c.reply
 
+-- what is sequential for a caller is so for the reporter with the caller's number, which is 0 for a reader
 pub by_number : (h : List Entry) (k : ℕ) (c : Caller) (call : Call) (reply : Reply) → IsSequential h k c call reply
     → IsSequential h k (Reporter (caller_number c)) call reply
 by_number h k (Reporter number) call reply s = s
 by_number h k (Reader number) call reply s = search arith
 
+-- a point that lies within a call is not before its beginning, nor after its end, and before its end if the event was accepted
 pub lies : (c : CallRecord) (k n ended : ℕ) (reply : Reply) → LiesWithin c k reply n → (c.ended ≡ Some ended) ⊎ (ended ≡ n)
     → (c.begun ≤ k) × (k ≤ ended) × (accepts reply ≡ true → k < ended)
 lies c k n ended reply s is = search (arith, false≢true)
 
+-- a reply that is sequential for a reporter is the answer of the board of one thread
 answered_by : (h : List Entry) (k number : ℕ) (call : Call) (reply : Reply) → IsSequential h k (Reporter number) call reply
     → reply ≡ sequential_answer h k call
 answered_by h k number call reply s = search arith
 
+-- an accepted call with a sequential reply, which ended after its point, made the entry at its point
 made_by : (h : List Entry) (c : FinishedCall) → c.point < c.ended → (call : Call) (reply : Reply) → c.call ≡ call → accepts reply ≡ true
     → IsSequential h c.point (Reporter c.number) call reply → MakesEntry h c
 made_by h c end call reply is made s = search (arith, false≢true)
 
+-- a settled call that began by its point, and ended after it if it was accepted and else not before it, is explained
 pub explained_by : (h : List Entry) (c : FinishedCall) → IsSettled h c → c.first ≤ c.last → (c.begun ≤ c.point) × (c.point ≤ c.ended) × (c.ended ≤ length h)
     → (accepts c.reply ≡ true → c.point < c.ended) → IsExplained h c
 explained_by h c s turn within by_end = record {
@@ -192,14 +198,17 @@ explained_by h c s turn within by_end = record {
 
 -- a reading is the snapshot at its point
 
+-- a reading that is the answer of the board of one thread after k entries is the snapshot of the board then
 copied_by : (h : List Entry) (k : ℕ) (call : Call) (read : board.Reading) → Copied read ≡ sequential_answer h k call → read ≡ snapshot_at h k
 copied_by h k call read is = search arith
 
+-- the version of a reading that a history explains is the point of its call
 version_is : (h : List Entry) (c : FinishedCall) (read : board.Reading) → IsExplained h c → c.reply ≡ Copied read → read.version ≡ c.point
 version_is h c read s copied = ap (λ (r : board.Reading). r.version) (copied_by h c.point c.call read (sym copied ∙ s.answer))
 
 -- calls that are explained, of which those that end before others begin have all their entries by then, are linearizable if each entry is of one
 
+-- of two explained calls the first comes before the second, if its end, in steps and in entries, is before the second's beginning
 goes_before : (h : List Entry) (a b : FinishedCall) → IsExplained h a → IsExplained h b → a.last < b.first → a.ended ≤ b.begun → GoesBefore a b
 goes_before h a b x y turn le = grind arith
 
@@ -230,9 +239,11 @@ Makes calls i k = IsSomeAnd (slice_get calls i) (λ c. (is_accepted c.reply ≡ 
 abbrev pub EntryHasOneCall : List Entry → List CallRecord → Type 0
 EntryHasOneCall history calls = (k : ℕ) → k < length history → (i : ℕ) × Makes calls i k × ((j : ℕ) → Makes calls j k → j ≡ i)
 
+-- if an option has something for which P holds, there is an x that it has, and P holds of x
 pub and_some : {A : Type 0} (o : Option A) (P : A → Type 0) → IsSomeAnd o P → (x : A) × (o ≡ Some x) × P x
 and_some o P p = search arith
 
+-- if an option has x, and P holds of x, then it has something for which P holds
 pub some_and : {A : Type 0} (o : Option A) (P : A → Type 0) (x : A) → o ≡ Some x → P x → IsSomeAnd o P
 some_and {A = A} o P x e p = subst (λ (z : Option A). IsSomeAnd z P) (sym e) p
 
@@ -244,6 +255,7 @@ IsMaker m c = (is_accepted c.reply ≡ true) × (c.point ≡ Some m)
 abbrev pub decision : CallRecord → Option Reply × Option ℕ
 decision c = (c.reply, c.point)
 
+-- if two lists of calls have the same replies and points, a call that made entry m in the first made it in the second
 made_alike : (xs ys : List CallRecord) (i m : ℕ) → map decision xs ≡ map decision ys → Makes xs i m → Makes ys i m
 made_alike xs ys i m same made = search (arith, and_some, slice_get-map decision xs i, slice_get-map decision ys i, some_and)
 
@@ -251,6 +263,7 @@ made_alike xs ys i m same made = search (arith, and_some, slice_get-map decision
 once_same : (h : List Entry) (xs ys : List CallRecord) → ((i m : ℕ) → Makes xs i m → Makes ys i m) → ((i m : ℕ) → Makes ys i m → Makes xs i m) → EntryHasOneCall h xs → EntryHasOneCall h ys
 once_same h xs ys to from once m l = let t = once m l in (t.0, to t.0 m t.1, λ j made. t.2 j (from j m made))
 
+-- a call that has no reply made no entry
 undecided : (c : CallRecord) (m : ℕ) → c.reply ≡ None → IsMaker m c → ⊥
 undecided c m none made = false≢true (ap is_accepted (sym none) ∙ made.0)
 
@@ -295,8 +308,10 @@ once_begun h xs new none = once_same h xs (xs ++ new ∷ [])
     (λ i m made. let t = and_some (slice_get xs i) (IsMaker m) made in some_and (slice_get (xs ++ new ∷ []) i) (IsMaker m) t.0 (at_longer xs (new ∷ []) i t.0 t.1) t.2)
     (λ i m made. search (arith, and_some, at_either, some_and, undecided))
 
+-- an accepted call that a history explains has its point at an entry of the history
 accepted_within : (h : List Entry) (c : CallRecord) (p : Option ℕ) (r : Option Reply) (m : ℕ) → Explains h c p r → is_accepted r ≡ true → p ≡ Some m → m < length h
 accepted_within h c p r m s made is = search (arith, same_Some, false≢true, none-some)
 
+-- if a history explains each of these calls, each entry that one of them made is an entry of the history
 pub made_within : (h : List Entry) (xs : List CallRecord) → ((i : ℕ) (a : CallRecord) → slice_get xs i ≡ Some a → Explains h a a.point a.reply) → (i m : ℕ) → Makes xs i m → m < length h
 made_within h xs each i m made = let t = and_some (slice_get xs i) (IsMaker m) made in accepted_within h t.0 t.0.point t.0.reply m (each i t.0 t.1) t.2.0 t.2.1

@@ -19,6 +19,7 @@ use Rattle.ucl_steps.specs.LogHistory.{IsCall, entries_before}
 pub client_own : (log : Log) (x : Logged) → client_at x.seat (log ++ x ∷ []) ≡ with_step (client_at x.seat log) x.step
 client_own log x = ap client_of (taken_own x.seat log x.step) ∙ fold-append with_step new_client (taken_by x.seat log) (x.step ∷ [])
 
+-- a step of one seat leaves what the pass of another seat has done
 pub client_other : (log : Log) (x : Logged) (seat : ℕ) → x.seat ≢ seat → client_at seat (log ++ x ∷ []) ≡ client_at seat log
 client_other log x seat not = ap client_of (taken_other seat log x not)
 
@@ -38,9 +39,11 @@ entries_low log place =
     ∙ length-append (history_of (take place log)) (history_of (drop place log))) in
     omega arith
 
+-- the entries before a place of a log are as many in a longer log
 pub entries_same : (log more : Log) (place : ℕ) → place ≤ length log → entries_before (log ++ more) place ≡ entries_before log place
 entries_same log more place le = ap (λ (l : Log). length (history_of l)) (take-append-le place log more le)
 
+-- before a later place of a log there are no fewer entries
 pub entries_rise : (log : Log) (p q : ℕ) → p ≤ q → entries_before log p ≤ entries_before log q
 entries_rise log p q le =
     let e : take p (take q log) ≡ take p log = take-take p q log le in
@@ -48,6 +51,7 @@ entries_rise log p q le =
     let same = ap (λ (l : Log). length (history_of l)) e in
     omega arith
 
+-- before the end of a log there are all entries of its history
 pub entries_all : (log : Log) → entries_before log (length log) ≡ length (history_of log)
 entries_all log = ap (λ (l : Log). length (history_of l)) (take-length log)
 
@@ -55,15 +59,19 @@ entries_all log = ap (λ (l : Log). length (history_of l)) (take-length log)
 pub look_none : (h : Pending) (number game found : ℕ) (e : EventCall) → entry_by number h (Match (Look e) game found) ≡ None
 look_none h number game found e = search arith
 
+-- a load of the first collect of a reading adds no entry
 pub first_none : (h : Pending) (number game found : ℕ) → entry_by number h (Match First game found) ≡ None
 first_none h number game found = search arith
 
+-- a load of the second collect of a reading adds no entry
 pub second_none : (h : Pending) (number game found : ℕ) → entry_by number h (Match Second game found) ≡ None
 second_none h number game found = search arith
 
+-- a load of the number of enlisted reporters adds no entry
 pub count_none : (h : Pending) (number found : ℕ) → entry_by number h (Enlisted found) ≡ None
 count_none h number found = search arith
 
+-- an enlistment adds no entry
 pub enlist_none : (h : Pending) (number found : ℕ) → entry_by number h (Enlists found) ≡ None
 enlist_none h number found = search arith
 
@@ -71,9 +79,11 @@ enlist_none h number found = search arith
 outcome_number : (o : Outcome) (y : Taken) (d : ClientState) → (with_outcome o y d).number ≡ d.number
 outcome_number o y d = search arith
 
+-- after a step a pass has the number that the step's target makes of the one it had
 pub number_after : (target : Target) (y : Taken) (d : ClientState) → (with_target target y d).number ≡ number_by target d.number
 number_after target y d = search (arith, outcome_number)
 
+-- after steps from a state with number n a pass has the number that their targets make of n, one after the other
 number_from : (d : ClientState) (n : ℕ) → d.number ≡ n → (steps : List Taken)
     → (fold with_step d steps).number ≡ fold (λ (number : ℕ) (x : Taken). number_by x.target number) n steps
 number_from d n is [] = is
@@ -83,9 +93,11 @@ number_from d n is (x ∷ steps) = number_from (with_step d x) (number_by x.targ
 pub client_number : (steps : List Taken) → (client_of steps).number ≡ number_of steps
 client_number steps = number_from new_client 0 refl steps
 
+-- in a log with these facts no pass has a greater number than there are enlisted reporters
 pub numbers_low : (log : Log) → LogFacts log → (seat : ℕ) → (client_at seat log).number ≤ enlisted_by log
 numbers_low log facts seat = let low = facts.low seat in let is = client_number (taken_by seat log) in omega arith
 
+-- in a log with these facts two passes that have one number, which is not 0, have one seat
 pub numbers_apart : (log : Log) → LogFacts log → (i j : ℕ) → 0 < (client_at i log).number → (client_at i log).number ≡ (client_at j log).number → i ≡ j
 numbers_apart log facts i j pos same = let n = client_number (taken_by i log) in let m = client_number (taken_by j log) in facts.apart i j (omega arith) (omega arith)
 
@@ -97,9 +109,11 @@ may_enlist d number t entry same next is = search (arith, enlist_none)
 pub holding : (e : EventCall) (old new : ℕ) → Holding e old new ≢ NoCall
 holding e old new is = cc
 
+-- a pass that holds the words of its first collect is in a call
 pub collecting : (words : List ℕ) → Collecting words ≢ NoCall
 collecting words is = cc
 
+-- a pass that holds the words that its second collect compares is in a call
 pub checking : (words : List ℕ) (checked point : ℕ) → Checking words checked point ≢ NoCall
 checking words checked point is = cc
 
@@ -137,6 +151,7 @@ abbrev NotedBy : Log → ℕ → Outcome → Type 0
 NotedBy log first (GoesOn held) = Noted log first held
 NotedBy log first (Answers reply) = Unit {0}
 
+-- the point that a reading notes by a step lies between its first step and the present, if `now` does, and the point noted before
 noted_by : (log : Log) (first place number now : ℕ) (h : Pending) (t : Target) → entries_before log (first_place h first place) ≤ now
     → now ≤ length (history_of log) → Noted log first h → NotedBy log (first_place h first place) (outcome number h t now)
 noted_by log first place number now h t low high s = search arith

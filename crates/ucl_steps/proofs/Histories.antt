@@ -69,6 +69,7 @@ same_caller c d = search (arith, cases_eq)
 pub held_here : (cs : Callers) (c : Caller) (x y : CallerState) → held_by cs c ≡ Some x → held_by (set_held y c cs) c ≡ Some y
 held_here cs c x y e = search (arith, none-some, get_set_here)
 
+-- a caller that was set to hold something leaves what each other caller holds
 pub held_else : (cs : Callers) (c d : Caller) (y x : CallerState) → held_by cs c ≡ Some x → d ≢ c → held_by (set_held y c cs) d ≡ held_by cs d
 held_else cs c d y x e not = search (arith, none-some, get_set_else)
 
@@ -109,6 +110,7 @@ squeezed g x h a p b legal low high is_a is_b = search (arith, same_word, number
 pub board_get : (h : List Entry) (k : ℕ) → k < 12 → get_or (board_of h) k 0 ≡ word_of (match_after h (k + 1))
 board_get h k l = let e : k ≡ k + 1 - 1 = omega arith in ap (λ (z : ℕ). get_or (board_of h) z 0) e ∙ word_after h (k + 1) (omega arith, omega arith)
 
+-- an entry that may come next in a legal history sets, on the board, the word of its match to the next one by the rules
 pub board_next : (h : List Entry) (e : Entry) → IsLegal h → MayFollow h e → board_of (h ++ e ∷ []) ≡ slice_set (board_of h) (e.game - 1) (word_of (after (match_after h e.game) e.reporter e.kind))
 board_next h e legal may = low.board_next h e may.game ∙ ap (λ (m : MatchRecord). set (board_of h) (e.game - 1) (word_of m)) (match_next h e legal may)
 

@@ -77,13 +77,16 @@ sees_by number (Checking words checked point) (Match Second game found) now sees
     by a b = search arith
 sees_by number h t now sees asked = search arith
 
+-- if a pass holds what it offered by an outcome, it does so in its state after that outcome
 sees_then : (o : Outcome) (y : Taken) (d : ClientState) → SeesBy d.number o → Sees (with_outcome o y d).number (with_outcome o y d).held
 sees_then o y d sees = search arith
 
+-- a step on a match word that there is, and that the protocol lets come next, is a reporter's and of a match if it is a Look
 is_asked : (log : Log) (d : ClientState) (kind : AccessKind) (game found : ℕ) → IsThere log (Match kind game found) → IsNextFor d (Match kind game found)
     → IsAsked d.number (Match kind game found)
 is_asked log d kind game found there next = search arith
 
+-- a pass that holds what it offered does so after each step that the protocol lets come next
 sees_next : (log : Log) (y : Taken) (d : ClientState) (t : Target) → Sees d.number d.held → IsThere log t → IsNextFor d t
     → Sees (with_target t y d).number (with_target t y d).held
 sees_next log y d (Match kind game found) sees there next = search (arith, sees_then, sees_by, is_asked log d kind game found there next)
@@ -116,9 +119,11 @@ logs_sound log = may_induction MayBeTaken (λ l. FollowsProtocol l → IsSound l
 pub legal_steps : IsLegalRule IsNextOfProtocol
 legal_steps log is follows = (logs_sound log is follows).steps
 
+-- a log that follows the protocol has a legal history
 pub logs_legal : (log : Log) → IsLog log → FollowsProtocol log → IsLegal (history_of log)
 logs_legal log is follows = legal_history log (legal_steps log is follows)
 
+-- in a log that follows the protocol the numbers of passes and the entries fit one another
 pub logs_facts : (log : Log) → IsLog log → FollowsProtocol log → LogFacts log
 logs_facts log is follows = log_facts log is (legal_steps log is follows)
 
@@ -126,6 +131,7 @@ logs_facts log is follows = log_facts log is (legal_steps log is follows)
 abbrev LowCalls : ClientState → Type 0
 LowCalls d = All (λ (c : FinishedCall). c.number ≤ d.number) d.calls
 
+-- no finished call of a pass has a greater number than the pass after an outcome, if none had before it
 low_outcome : (o : Outcome) (y : Taken) (d : ClientState) → LowCalls d → LowCalls (with_outcome o y d)
 low_outcome (GoesOn held) y d low = low
 low_outcome (Answers reply) y d low =
@@ -133,6 +139,7 @@ low_outcome (Answers reply) y d low =
     All-append (λ (a : FinishedCall). a.number ≤ d.number) d.calls (c ∷ []) low
     (All-cons (λ (a : FinishedCall). a.number ≤ d.number) c [] (le_refl d.number) (All-nil (λ (a : FinishedCall). a.number ≤ d.number)))
 
+-- no finished call of a pass has a greater number than the pass after a step of the protocol, if none had before it
 low_step : (t : Target) (y : Taken) (d : ClientState) → IsNextFor d t → LowCalls d → LowCalls (with_target t y d)
 low_step (Enlists found) y d next low = λ k c at. let was = low k c at in let none = next.1 in omega arith
 low_step (Match kind game found) y d next low = low_outcome (outcome d.number d.held (Match kind game found) y.at) y d low

@@ -63,6 +63,7 @@ module _ (log : Log) (is : IsLog log) (follows : FollowsProtocol log) where
             ]
           ]
 
+-- each log of steps that the protocol lets come one after another is linearizable
 pub logs_linearizable : LogsAreLinearizable
 logs_linearizable log is follows = record {
   linearizable = linear (history_of log) (λ (i : ℕ × ℕ). IsCall log i.0 i.1) (logs_legal log is follows) (explained log is follows) (once log is follows) (real log is follows);

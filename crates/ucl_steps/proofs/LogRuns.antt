@@ -41,9 +41,11 @@ steps_append before (x ∷ xs) ys =
     ∙ (sym (append_assoc own (steps_after (before ++ x ∷ []) xs) (steps_after ((before ++ x ∷ []) ++ xs) ys))
     ∙ ap (λ (l : Log). (own ++ steps_after (before ++ x ∷ []) xs) ++ steps_after l ys) (append_assoc before (x ∷ []) xs))
 
+-- the machine's steps for a log with one step more are those for the log, and then those for that step
 steps_more : (log : Log) (x : Logged) → machine_steps (log ++ x ∷ []) ≡ machine_steps log ++ own_steps log x
 steps_more log x = steps_append [] log (x ∷ []) ∙ ap (λ (l : List Step). machine_steps log ++ l) (append-nil (own_steps log x))
 
+-- if a log is a prefix of a later one, the machine's steps for it are a prefix of those for the later one
 pub longer_logs : LongerLogsAreLongerRuns
 longer_logs log later p = (steps_after log p.0, sym (steps_append [] log p.0) ∙ ap machine_steps p.1)
 
@@ -141,9 +143,11 @@ leaves_begun c call w steps point o history idle may l =
 begun_now : (c : Caller) (call : Call) (w : MachineState) → IsCallOf (after_begin c call w).calls (length w.calls) c call
 begun_now c call w = let b = begun_call c call (length w.history) in record { record_is = b; at = at_end w.calls b; caller = refl; asked = refl }
 
+-- each reporter may begin to enter an event of a match that there is
 may_report : (number : ℕ) (e : EventCall) → IsReporter number → IsMatch e.game → rules.may_begin (Reporter number) (Event e) ≡ true
 may_report number e reporter is = search (arith, and_from, nat_le, le-leb)
 
+-- each caller may begin a reading
 may_read : (c : Caller) → rules.may_begin c Reading ≡ true
 may_read c = search arith
 
@@ -273,6 +277,7 @@ same_reader n m e = cc
 callers_apart : (i j n m : ℕ) → i ≢ j → (0 < n → n ≡ m → i ≡ j) → caller_for i n ≢ caller_for j m
 callers_apart i j n m not numbers e = search (arith, same_reader, same_reporter)
 
+-- a pass with a number less than n does not have the reporter with number n as its caller
 not_reporter : (n seat number : ℕ) → number < n → Reporter n ≢ caller_for seat number
 not_reporter n seat number less e = search (arith, same_reporter)
 
@@ -284,10 +289,12 @@ settled_later log x c s =
     let low = s.0 in
     (omega arith, sequential_later (history_of log) (history_of (log ++ x ∷ [])) p c.point (Reporter c.number) c.call c.reply s.0 s.1)
 
+-- what is sequential for the caller of a pass is so for the reporter with the number of the pass, which is 0 for a reader
 by_reporter : (h : List Entry) (seat number k : ℕ) (call : Call) (reply : Reply) → IsSequential h k (caller_for seat number) call reply
     → IsSequential h k (Reporter number) call reply
 by_reporter h seat number k call reply s = search arith
 
+-- the point of a call that lies within a history of n entries is at most n
 lies_low : (c : CallRecord) (k : ℕ) (reply : Reply) (n : ℕ) → LiesWithin c k reply n → k ≤ n
 lies_low c k reply n s = search arith
 
@@ -542,6 +549,7 @@ leads_all readers log =
     x.step.place x.step.at x.step.entry may.place.1 x.step.target may.there p.next p.entry)
     log
 
+-- each log that follows the protocol, with seats below `readers`, is a run of the machine with so many readers
 pub logs_run : LogsAreRuns
 logs_run readers log is follows seated =
     let l = leads_all readers log is follows seated in

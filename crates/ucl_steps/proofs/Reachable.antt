@@ -17,9 +17,11 @@ use Rattle.ucl_steps.proofs.Calls.{in_call}
 pub reached_kept : (w : MachineState) (r : IsReachable w) → Keeps r.1 w
 reached_kept w r = run_kept r.1 [] (initial_state r.0) w (kept_at_start r.0) r.2
 
+-- a state that steps lead to has a history no longer than the greatest version
 pub reached_short : (w : MachineState) → IsReachable w → length w.history ≤ max_version
 reached_short w r = (versions w.history (reached_kept w r).legal).1
 
+-- in a state that steps lead to the word of each match is valid
 pub word_is : (w : MachineState) (r : IsReachable w) (g : ℕ) → IsMatch g → IsWord (word_at w.words g)
 word_is w r g within = let k = reached_kept w r in record { of = match_after w.history g; valid = match_valid g w.history k.legal; packed = sym (word_now r.1 w k g within) }
 
@@ -34,10 +36,11 @@ pub idle_all : (n : ℕ) → map holds_of (replicate n has.Idle) ≡ replicate n
 idle_all zero = refl
 idle_all (suc n) = ap (λ (z : List CallerState). Idle ∷ z) (idle_all n)
 
--- a caller's place
+-- what reporter r holds is at place r - 1 of what the reporters hold
 pub held_reporter : (cs : Callers) (r : ℕ) → 1 ≤ r → held_by cs (Reporter r) ≡ slice_get cs.reporters (r - 1)
 held_reporter cs r l = search arith
 
+-- what reader r holds is at place r - 1 of what the readers hold
 pub held_reader : (cs : Callers) (r : ℕ) → 1 ≤ r → held_by cs (Reader r) ≡ slice_get cs.readers (r - 1)
 held_reader cs r l = search arith
 
@@ -45,9 +48,11 @@ held_reader cs r l = search arith
 pub held_at : (hs : List Held) (k : ℕ) (x d : Held) → k < length hs → x ≡ get_or hs k d → Some (holds_of x) ≡ slice_get (map holds_of hs) k
 held_at hs k x d l e = sym (slice_get-map holds_of hs k ∙ (ap (option_map holds_of) (slice_get-get_or hs k d l) ∙ ap (λ (z : Held). Some (holds_of z)) (sym e)))
 
+-- past the callers of the program there is no caller of the machine
 pub held_past : (hs : List Held) (k : ℕ) → length hs ≤ k → None ≡ slice_get (map holds_of hs) k
 held_past hs k l = sym (slice_get-map holds_of hs k ∙ ap (option_map holds_of) (slice_get_past hs k l))
 
+-- the machine's state of these words, history and calls, and of what its reporters and its readers hold
 abbrev state : List ℕ → List Entry → List CallRecord → List CallerState → List CallerState → MachineState
 state words history calls reporters readers = record { words = words; history = history; calls = calls; callers = record { reporters = reporters; readers = readers } }
 
@@ -61,6 +66,7 @@ module _ (words : List ℕ) (history : List Entry) (calls : List CallRecord) whe
       → state words history calls reporters (map holds_of (set hs k y)) ≡ with_held (holds_of y) c (state words history calls reporters (map holds_of hs))
   hold_reader hs reporters c r k y is at = search (arith, map-set)
 
+-- to set call k to f of that call is to change it by f
 pub set-change_at : (calls : List CallRecord) (k : ℕ) (x : CallRecord) (f : CallRecord → CallRecord) → k < length calls → x ≡ get_or calls k x → set calls k (f x) ≡ change_at k f calls
 set-change_at calls k x f l is = ap (λ (z : CallRecord). set calls k (f z)) is ∙ sym (change_at-set k f calls x l)
 

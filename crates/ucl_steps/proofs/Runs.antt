@@ -43,6 +43,7 @@ pub record Keeps (steps : List Step) (w : MachineState) : Type 0 where
   pub knows : (c : Caller) (x : CallerState) (k : ℕ) → held_by w.callers c ≡ Some x → in_call x ≡ Some k → Knows w.history w.calls c x k
   pub unended : (i : ℕ) (a : CallRecord) → slice_get w.calls i ≡ Some a → a.ended ≡ None → IsHeld w.callers a.caller i
 
+-- a list of calls with one changed to itself is the list
 change_at_same : (k : ℕ) (xs : List CallRecord) → change_at k (λ a. a) xs ≡ xs
 change_at_same k [] = refl
 change_at_same zero (a ∷ xs) = refl
@@ -382,9 +383,11 @@ idle_all : (n k : ℕ) (x : CallerState) → slice_get (replicate n Idle) k ≡ 
 idle_all (suc n) (suc k) x e = idle_all n k x e
 idle_all n k x e = search (arith, none-some, same_Some)
 
+-- each caller of the machine is idle in the initial state
 idle_at_start : (cast : Cast) (c : Caller) (x : CallerState) → held_by (initial_state cast).callers c ≡ Some x → x ≡ Idle
 idle_at_start cast c x e = search (arith, none-some, idle_all)
 
+-- the initial state, after no steps, has what a run keeps
 pub kept_at_start : (cast : Cast) → Keeps [] (initial_state cast)
 kept_at_start cast = search (arith, may_none MayFollow, board_none, none-some, turns_none, in_call, idle_at_start)
 
@@ -395,10 +398,12 @@ run_kept (s ∷ steps) done w w' kept e = option_and_then_some (after_steps step
     subst (λ (z : List Step). Keeps z w') (append_assoc done (s ∷ []) steps)
     (run_kept steps (done ++ s ∷ []) v w' (step_kept done w kept s (held_by w.callers (caller_of s)) v refl is) then))
 
+-- the times of calls tell the caller and the call that each call has
 told_caller_and_call : (xs : List CallRecord) → map told (map time_of xs) ≡ map caller_and_call xs
 told_caller_and_call [] = refl
 told_caller_and_call (a ∷ xs) = ap (λ (z : List (Caller × Call)). caller_and_call a ∷ z) (told_caller_and_call xs)
 
+-- an accepted reply is a reply
 accepted_some : (o : Option Reply) → is_accepted o ≡ true → IsSome o
 accepted_some o made = search (arith, false≢true)
 
@@ -522,6 +527,7 @@ module _ (steps : List Step) (w : MachineState) (kept : Keeps steps w) where
 pub linearizable_run : RunsAreLinearizable
 linearizable_run cast steps w e = linearizable steps w (run_kept steps [] (initial_state cast) w (kept_at_start cast) e)
 
+-- after every list of enabled steps the match words are those of the board of the history
 pub words_of_run : WordsAreOfTheHistory
 words_of_run cast steps w e = (run_kept steps [] (initial_state cast) w (kept_at_start cast) e).words
 

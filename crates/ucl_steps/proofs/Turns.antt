@@ -38,6 +38,7 @@ begun_more steps p q l = search (arith, take_split steps p q l, begun_in-append,
 pub earlier_place : (steps : List Step) (p q i j : ℕ) (c d : Caller) → BeginsAt steps p i c → BeginsAt steps q j d → i < j → p < q
 earlier_place steps p q i j c d a b l = elim (cases_lt p q) [ inl before ↦ before | inr after ↦ let more = begun_more steps q p after in let x = a.number in let y = b.number in absurd (omega arith) ]
 
+-- a call that is begun at an earlier place is an earlier call
 pub earlier_call : (steps : List Step) (p q i j : ℕ) (c d : Caller) → BeginsAt steps p i c → BeginsAt steps q j d → p < q → i < j
 earlier_call steps p q i j c d a b l =
     search (arith, begun_more steps (suc p) q (omega arith), take_one steps p (Begin c a.call) a.begins, begun_in-append, length-append, a.call, a.begins, a.number, b.number)
@@ -112,6 +113,7 @@ IsInner (First c) = Unit {0}
 IsInner (Second c) = Unit {0}
 IsInner (End c) = ⊥
 
+-- a step within a call begins no call
 inner_none : (s : Step) → IsInner s → begun_in (s ∷ []) ≡ []
 inner_none x0 x1 = search arith
 
@@ -119,9 +121,11 @@ inner_none x0 x1 = search arith
 if_more : (o : Option ℕ) (n m : ℕ) → n ≤ m → IfSome o (λ e. e ≤ n) → IfSome o (λ e. e ≤ m)
 if_more x0 x1 x2 x3 x4 = search arith
 
+-- a call that has ended, and not after length n of the history, has ended by n
 ended_by : (o : Option ℕ) (n : ℕ) → IsSome o → IfSome o (λ e. e ≤ n) → EndedBy o n
 ended_by o n some p = search (arith, false≢true)
 
+-- a call with no end has not ended by any length of the history
 not_ended : (o : Option ℕ) (n : ℕ) → o ≡ None → EndedBy o n → ⊥
 not_ended o n e p = search (arith, none-some)
 

@@ -10,10 +10,12 @@ use Rattle.ucl_c.specs.contracts.board_pass.BoardPass as inner
 use Rattle.ucl_c.proofs.board_pass.BoardPass.TheSendSync.{the_send}
 use Rattle.ucl_c.specs.contracts.handle.Handle.{the_row, the_type}
 
+-- if what is owned at each pointer is keyless, so is what a handle owns there, which at null is nothing
 owned_keyless : (owned : Ptr → Fml) → ((p : Ptr) → Keyless (owned p)) → (p : Ptr) → Keyless (owned_at owned p)
 owned_keyless owned k null_ptr = tt
 owned_keyless owned k (block_ptr b o) = k (block_ptr b o)
 
+-- a handle may be sent to another thread
 pub send : IsSend the_row
 send = let ps : IsSend RawPtr = search sendable in
     owning_send the_type (ps, tt) (λ d. owned_keyless (λ p. box_owns freed inner.the_row p d.value)

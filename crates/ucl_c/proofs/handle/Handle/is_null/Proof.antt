@@ -12,6 +12,7 @@ use Rattle.ucl_c.proofs.handle.Handle.is_null.Code as code
 use Rattle.ucl_c.specs.contracts.handle.Handle.{the_row as R}
 use Rattle.ucl_c.proofs.handle.Handle.TheLaws.{lowers}
 
+-- what `is_null` leaves of its parameter: the handle behind a borrow
 abbrev stayed : Stays f.ended.signature.params f.ended.kept
 stayed = (stay_ref (0 ∷ []) tt (plain (λ _. R)), tt)
 

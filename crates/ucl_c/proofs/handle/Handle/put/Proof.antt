@@ -19,12 +19,15 @@ use Rattle.ucl_c.proofs.handle.Handle.put.Code as code
 use Rattle.ucl_c.specs.contracts.handle.Handle.{the_row as R}
 use Rattle.ucl_c.proofs.handle.Handle.TheLaws.{lowers}
 
+-- what `put` leaves of its parameters: the handle behind a borrow, and nothing of the parts
 abbrev stayed : Stays f.ended.signature.params f.ended.kept
 stayed = (stay_ref (0 ∷ []) tt (plain (λ _. R)), (stay_dropped _ yes, tt))
 
+-- the type of the parts of a box with a pass
 abbrev P : RattleType
 P = parts.the_row inner.the_row heap.the_row ghosts
 
+-- the value in memory of the parts of a box with a pass is given by what they denote
 abbrev put_lowers : denote.Struct.OwningLaws.Lowered (parts.the_type inner.the_row heap.the_row ghosts)
 put_lowers = parts_laws.lowers inner.the_row heap.the_row ghosts inner_laws.the_row_laws heap_laws.the_row_laws heap_laws.the_told
 

@@ -17,6 +17,7 @@ use Rattle.ucl_c.proofs.handle.Handle.take.Code as code
 use Rattle.ucl_c.specs.contracts.handle.Handle.{the_row as R}
 use Rattle.ucl_c.proofs.handle.Handle.TheLaws.{lowers}
 
+-- what `take` leaves of its parameters: the handle behind a borrow, and nothing of the allocator
 abbrev stayed : Stays f.ended.signature.params f.ended.kept
 stayed = (stay_ref (0 ∷ []) tt (plain (λ _. R)), (stay_dropped _ yes, tt))
 

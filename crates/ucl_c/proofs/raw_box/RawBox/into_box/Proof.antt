@@ -16,6 +16,7 @@ use Rattle.ucl_c.specs.contracts.raw_box.RawBox.into_box as F
 use Rattle.ucl_c.proofs.raw_box.RawBox.into_box.Statement.{statement}
 use Rattle.ucl_c.proofs.raw_box.RawBox.into_box.Code as code
 
+-- what is left of the body of `into_box` after its call: the box goes to the place of the result, and the body returns
 abbrev rest : Body
 rest = seq (assign (place 0 []) (rv_opd (copy (place 4 [])))) return
 

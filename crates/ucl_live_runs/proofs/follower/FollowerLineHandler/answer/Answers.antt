@@ -2,6 +2,7 @@ use Rattle.ucl_live_runs.proofs.Common.{BoardState, List, Some, arith, cases_Boo
 use Rattle.ucl_live_runs.proofs.Common.{parse_board_line, refl, sym, ℕ, ◌∙◌, ◌≡◌, ◌≤◌}
 use Rattle.ucl_live_runs.proofs.follower.FollowerLineHandler.answer.Goals as goal
 
+-- a line that carries a board state has at most 4,096 bytes
 told_short : (line : List ℕ) (m : BoardState) → parse_board_line line ≡ Some m → length line ≤ 4096
 unfolding parse_board_line
 told_short line m h = elim (cases_Bool (nat_le (length line) 4096)) [

@@ -3,9 +3,11 @@ use Rattle.ucl_live_runs.proofs.Common.{session_of, sym, true, ℕ, ◌==◌, �
 use Rattle.ucl_live_runs.proofs.Lines.{none-answers, none-missing, some-answers, some-missing, some-stops}
 use Rattle.ucl_live_runs.proofs.session.SessionLineHandler.end.Goals as goal
 
+-- a list whose length was compared to 0, with the result `true`, is empty
 empty-list : (b : Bool) (xs : List ℕ) → b ≡ (length xs == 0) → b ≡ true → xs ≡ []
 empty-list b xs e h = nil_from_length xs (eqb-true (length xs) 0 (sym e ∙ h))
 
+-- a list whose length was compared to 0, with the result `false`, is not empty
 full-list : (b : Bool) (xs : List ℕ) → b ≡ (length xs == 0) → b ≡ false → (xs ≡ []) → ⊥
 full-list b xs e h none = let k : false ≡ (length xs == 0) = sym h ∙ e in let t = rw none at k in cc
 
